@@ -1,0 +1,55 @@
+-- Choices: a version number for each unit, and what they cost.
+use Rattle.std.specs.Prelude.{◌≡◌, ◌≢◌, ℕ, ◌+◌, ◌-◌, ◌<◌, ◌≤◌, ◌⊎◌, List, [], ◌∷◌, length, map, min, sum, slice_index_or}
+use Rattle.version_table.specs.declared.table.Version.{Version}
+use Rattle.version_table.specs.declared.table.Unit.{Unit as CodedUnit}
+use Rattle.version_table.specs.declared.table.Table.{Table}
+use Rattle.version_table.specs.Table.{units_of}
+
+-- there is one number for each unit, and the relation holds of each unit and its number
+abbrev pub EachUnit : (CodedUnit → ℕ → Type 0) → List CodedUnit → List ℕ → Type 0
+EachUnit R [] [] = Unit {0}
+EachUnit R (coded ∷ units) (k ∷ choice) = R coded k × EachUnit R units choice
+EachUnit R [] (k ∷ choice) = ⊥
+EachUnit R (coded ∷ units) [] = ⊥
+
+-- the unit has a version of this number
+abbrev pub HasVersion : CodedUnit → ℕ → Type 0
+HasVersion coded k = k < length coded.versions.items
+
+-- the choice names an existing version for each unit
+abbrev pub Fits : Table → List ℕ → Type 0
+Fits table choice = EachUnit HasVersion (units_of table) choice
+
+-- version k of a unit; where it has none, no bytes without distortion
+abbrev pub version_at : CodedUnit → ℕ → Version
+version_at coded k = slice_index_or coded.versions.items k (record { bytes = 0; distortion = 0 })
+
+-- the distortions of the chosen versions, one for each unit
+abbrev pub chosen_distortions : List CodedUnit → List ℕ → List ℕ
+chosen_distortions (coded ∷ units) (k ∷ choice) = (version_at coded k).distortion ∷ chosen_distortions units choice
+chosen_distortions [] choice = []
+chosen_distortions (coded ∷ units) [] = []
+
+-- the distortion of a choice: the sum over all units
+abbrev pub distortion_of_choice : Table → List ℕ → ℕ
+distortion_of_choice table choice = sum (chosen_distortions (units_of table) choice)
+
+-- one version goes before another in size: fewer bytes, or as many and less distortion, or both alike and a lower number
+abbrev pub GoesBefore : Version → ℕ → Version → ℕ → Type 0
+GoesBefore a j b k =
+    (a.bytes < b.bytes)
+    ⊎ ((a.bytes ≡ b.bytes) × (a.distortion < b.distortion))
+    ⊎ ((a.bytes ≡ b.bytes) × (a.distortion ≡ b.distortion) × (j < k))
+
+-- version k of the unit goes before each of its other versions
+pub record IsSmallestVersion (coded : CodedUnit) (k : ℕ) : Type 0 where
+  pub exists : HasVersion coded k
+  pub first : (j : ℕ) → HasVersion coded j → j ≢ k → GoesBefore (version_at coded k) k (version_at coded j) j
+
+-- the smallest choice: of each unit the smallest version
+abbrev pub IsSmallestChoice : Table → List ℕ → Type 0
+IsSmallestChoice table choice = EachUnit IsSmallestVersion (units_of table) choice
+
+-- the level choice: of each unit version `level`, or its last where it has fewer
+abbrev pub level_choice : Table → ℕ → List ℕ
+level_choice table level = map (λ coded. min level (length coded.versions.items - 1)) (units_of table)

@@ -1,0 +1,13 @@
+//! Tables of pictures: what the planner is given, as text and as values.
+//!
+//! A table holds, for each program, its coded pictures with the sizes and distortions of their versions, and the
+//! packets of its audio streams, each with the times at which a decoder wants them. Here stand the types, what a
+//! valid table is, the choices over it, and the table text, read and written by one spelling.
+//! Stands on `list_types`.
+#![tactic(auto)]
+
+pub mod limits;
+mod table;
+
+pub use list_types::{ListOf, OutOfMemory};
+pub use table::{AudioPacket, Choice, ProgramRow, Table, Unit, Version};
