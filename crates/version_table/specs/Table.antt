@@ -1,5 +1,5 @@
 -- What a table holds, and which tables are valid.
-use Rattle.std.specs.Prelude.{◌≡◌, ℕ, ◌*◌, ◌<◌, ◌≤◌, List, length, map, All}
+use Rattle.std.specs.Prelude.{ℕ, ◌*◌, ◌<◌, ◌≤◌, List, length, map, All}
 use Rattle.std.specs.List.{flat_map}
 use Rattle.std.specs.List.Sorted.{IsNonDecreasing, IsStrictlyIncreasing}
 use Rattle.version_table.specs.declared.limits.TheConstants.{SLOT_LEAST, SLOT_MOST, NODES_MOST, EVALUATIONS_MOST, PROGRAMS_MOST, AUDIOS_MOST, UNITS_MOST, VERSIONS_MOST, VBV_MOST, VERSION_BYTES_MOST, DISTORTION_LIMIT, TIME_SLOTS_MOST, PAYLOAD_MOST, AUDIO_PACKETS_LIMIT}

@@ -1,0 +1,4 @@
+pub mod Buffers
+pub mod Schedule
+pub mod Streams
+pub mod Timetable

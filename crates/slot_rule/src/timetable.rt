@@ -1,0 +1,38 @@
+ghost use Rattle.std.specs.Prelude.{◌≡◌, ◌≤◌};
+ghost use Rattle.version_table.specs.declared.limits.TheConstants.{SLOT_LEAST, SLOT_MOST, PROGRAMS_MOST};
+ghost use Rattle.slot_rule.specs.Timetable.{reserved};
+
+use crate::constants::PERIOD_TICKS;
+use crate::sent::Sent;
+
+/// Which slots are reserved.
+#[derive(Clone, Copy, Debug, PartialEq, Eq)]
+pub struct Timetable {
+    /// Ticks of a slot.
+    pub slot: u32,
+    /// The number of programs.
+    pub programs: u8,
+}
+
+impl Timetable {
+    /// What slot `n` is reserved for; none where it is free.
+    pub fn at(&self, n: u32) -> Option<Sent>
+        requires least { SLOT_LEAST ≤ self.now.slot }
+        requires most { self.now.slot ≤ SLOT_MOST }
+        requires programs { self.now.programs ≤ PROGRAMS_MOST }
+        ensures { result ≡ reserved self.now.slot self.now.programs n }
+    {
+        let period = PERIOD_TICKS / self.slot;
+        let offset = n % period;
+        let programs = u32::from(self.programs);
+        if offset == 0 {
+            Some(Sent::Pat)
+        } else if offset <= programs {
+            Some(Sent::Pmt((offset - 1) as u8))
+        } else if offset <= 2 * programs {
+            Some(Sent::Pcr((offset - programs - 1) as u8))
+        } else {
+            None
+        }
+    }
+}
