@@ -12,7 +12,7 @@ fn scales_are_mapped_to_the_least_that_reaches(rt: HostRuntime) {
 fn levels_shrink_towards_zero(rt: HostRuntime) {
     assert_eq!(rt; inverse(1, 16, 2, false), 3);
     assert_eq!(rt; coarser_level(1, 16, 2, 4, false), 0);
-    assert_eq!(rt; coarser_level(-9, 16, 2, 4, false), -4);
+    assert_eq!(rt; coarser_level(-9, 16, 8, 16, false), -4);
 }
 
 #[test]
