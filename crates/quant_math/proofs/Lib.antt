@@ -1,0 +1,4 @@
+pub mod Products
+pub mod Signs
+pub mod Tables
+pub mod WorkedExamples

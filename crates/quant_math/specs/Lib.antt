@@ -1,0 +1,4 @@
+pub mod Levels
+pub mod Matrices
+pub mod Scales
+pub mod Scans
