@@ -1,24 +1,23 @@
 -- Choices: a version number for each unit, and what they cost.
-use Rattle.std.specs.Prelude.{◌≡◌, ◌≢◌, ℕ, ◌-◌, ◌<◌, ◌⊎◌, List, [], ◌∷◌, length, map, min, sum, slice_index_or}
+use Rattle.std.specs.Prelude.{◌≡◌, ◌≢◌, ℕ, ◌-◌, ◌<◌, ◌≤◌, ◌⊎◌, List, [], ◌∷◌, ◌++◌, length, fold, map, min, sum, slice_index_or}
+use Rattle.std.specs.List.{AllZip}
+use Rattle.version_table.specs.declared.limits.TheConstants.{VERSIONS_MOST}
 use Rattle.version_table.specs.declared.table.Version.{Version}
 use Rattle.version_table.specs.declared.table.Unit.{Unit as CodedUnit}
 use Rattle.version_table.specs.declared.table.Table.{Table}
 use Rattle.version_table.specs.Table.{units_of}
 
--- there is one number for each unit, and the relation holds of each unit and its number
-abbrev pub EachUnit : (CodedUnit → ℕ → Type 0) → List CodedUnit → List ℕ → Type 0
-EachUnit R [] [] = Unit {0}
-EachUnit R (coded ∷ units) (k ∷ choice) = R coded k × EachUnit R units choice
-EachUnit R [] (k ∷ choice) = ⊥
-EachUnit R (coded ∷ units) [] = ⊥
-
 -- the unit has a version of this number
 abbrev pub HasVersion : CodedUnit → ℕ → Type 0
 HasVersion coded k = k < length coded.versions.items
 
+-- the unit has versions, and their numbers are below 256
+abbrev pub HasFewVersions : CodedUnit → Type 0
+HasFewVersions coded = (1 ≤ length coded.versions.items) × (length coded.versions.items ≤ VERSIONS_MOST)
+
 -- the choice names an existing version for each unit
 abbrev pub Fits : Table → List ℕ → Type 0
-Fits table choice = EachUnit HasVersion (units_of table) choice
+Fits table choice = AllZip HasVersion (units_of table) choice
 
 -- version k of a unit; where it has none, no bytes without distortion
 abbrev pub version_at : CodedUnit → ℕ → Version
@@ -48,8 +47,29 @@ pub record IsSmallestVersion (coded : CodedUnit) (k : ℕ) : Type 0 where
 
 -- the smallest choice: of each unit the smallest version
 abbrev pub IsSmallestChoice : Table → List ℕ → Type 0
-IsSmallestChoice table choice = EachUnit IsSmallestVersion (units_of table) choice
+IsSmallestChoice table choice = AllZip IsSmallestVersion (units_of table) choice
 
--- the level choice: of each unit version `level`, or its last where it has fewer
+-- the number of a unit's version at a level: the level, or its last version where it has fewer
+abbrev pub level_version : ℕ → CodedUnit → ℕ
+level_version level coded = min level (length coded.versions.items - 1)
+
+-- the level choice: of each unit the version at that level
 abbrev pub level_choice : Table → ℕ → List ℕ
-level_choice table level = map (λ coded. min level (length coded.versions.items - 1)) (units_of table)
+level_choice table level = map (level_version level) (units_of table)
+
+-- the least of these numbers; of none 0
+abbrev pub least : List ℕ → ℕ
+least [] = 0
+least (n ∷ numbers) = fold min n numbers
+
+-- the least distortion of a unit, over its versions
+abbrev pub least_distortion : CodedUnit → ℕ
+least_distortion coded = least (map (λ version. version.distortion) coded.versions.items)
+
+-- what the units of a table cost at least: the sum of their least distortions
+abbrev pub least_distortions : Table → ℕ
+least_distortions table = sum (map least_distortion (units_of table))
+
+-- the new choice is the old one with a number for each unit at its end, of which the relation holds
+abbrev pub AppendsEach : (CodedUnit → ℕ → Type 0) → List CodedUnit → List ℕ → List ℕ → Type 0
+AppendsEach R units old new = (added : List ℕ) × (new ≡ old ++ added) × AllZip R units added

@@ -6,8 +6,10 @@
 //! Stands on `list_types`.
 #![tactic(auto)]
 
+mod choices;
 pub mod limits;
 mod table;
 
+pub use choices::{distortion_of, least_distortions_bound, least_total, level, smallest};
 pub use list_types::{ListOf, OutOfMemory};
 pub use table::{AudioPacket, Choice, ProgramRow, Table, Unit, Version};
