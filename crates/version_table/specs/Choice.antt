@@ -33,12 +33,13 @@ chosen_distortions (coded ∷ units) [] = []
 abbrev pub distortion_of_choice : Table → List ℕ → ℕ
 distortion_of_choice table choice = sum (chosen_distortions (units_of table) choice)
 
--- one version goes before another in size: fewer bytes, or as many and less distortion, or both alike and a lower number
+-- one version is smaller than another: fewer bytes, or as many and less distortion
+abbrev pub IsSmaller : Version → Version → Type 0
+IsSmaller a b = (a.bytes < b.bytes) ⊎ ((a.bytes ≡ b.bytes) × (a.distortion < b.distortion))
+
+-- version j goes before version k: it is smaller, or of the same size and distortion with a lower number
 abbrev pub GoesBefore : Version → ℕ → Version → ℕ → Type 0
-GoesBefore a j b k =
-    (a.bytes < b.bytes)
-    ⊎ ((a.bytes ≡ b.bytes) × (a.distortion < b.distortion))
-    ⊎ ((a.bytes ≡ b.bytes) × (a.distortion ≡ b.distortion) × (j < k))
+GoesBefore a j b k = IsSmaller a b ⊎ ((a.bytes ≡ b.bytes) × (a.distortion ≡ b.distortion) × (j < k))
 
 -- version k of the unit goes before each of its other versions
 pub record IsSmallestVersion (coded : CodedUnit) (k : ℕ) : Type 0 where

@@ -1,10 +1,10 @@
-ghost use Rattle.std.specs.Prelude.{◌≡◌, ℕ, ◌+◌, ◌*◌, ◌^◌, ◌<◌, ◌≤◌, List, ◌++◌, length, sum, map, All, IfOk, OnOk};
+ghost use Rattle.std.specs.Prelude.{◌≡◌, ℕ, ◌+◌, ◌*◌, ◌^◌, ◌<◌, ◌≤◌, ◌↔◌, IsTrue, List, ◌++◌, length, sum, map, All, IfOk, OnOk};
 ghost use Rattle.std.specs.List.{AllZip};
-ghost use Rattle.version_table.specs.declared.table.Table.{Table as AnyTable};
+ghost use Rattle.version_table.specs.declared.table.Table.{Table};
 ghost use Rattle.version_table.specs.Table.{IsValidTable};
-ghost use Rattle.version_table.specs.Choice.{Fits, HasVersion, IsSmallestChoice, IsSmallestVersion, HasFewVersions, AppendsEach, chosen_distortions, distortion_of_choice, level_version, level_choice, least_distortion, least_distortions};
+ghost use Rattle.version_table.specs.Choice.{Fits, HasVersion, IsSmaller, IsSmallestChoice, IsSmallestVersion, HasFewVersions, AppendsEach, chosen_distortions, distortion_of_choice, level_version, level_choice, least_distortion, least_distortions};
 
-use crate::table::{Choice, Table, Unit};
+use crate::table::{Choice, Table, Unit, Version};
 use list_types::{ListOf, OutOfMemory};
 use std::alloc::Global;
 
@@ -66,9 +66,8 @@ pub fn least_total(table: &Table) -> u64
 
 /// A law: no choice that fits has less distortion than the sum of the least distortions of all units.
 pub fn least_distortions_bound()
-    ensures { (table : AnyTable) (choice : List ℕ) → Fits table choice → least_distortions table ≤ distortion_of_choice table choice }
-{
-}
+    ensures { (table : Table) (choice : List ℕ) → Fits table choice → least_distortions table ≤ distortion_of_choice table choice }
+{}
 
 /// The sum of the distortions of the chosen versions of these units.
 fn distortion_of_units(units: &[Unit], choice: &[u8]) -> u64
@@ -126,11 +125,19 @@ fn smallest_version(unit: &Unit) -> u8
     let versions = unit.versions.as_slice();
     let mut best = 0;
     for k in 1..versions.len() {
-        if (versions[k].bytes, versions[k].distortion) < (versions[best].bytes, versions[best].distortion) {
+        if is_smaller(&versions[k], &versions[best]) {
             best = k;
         }
     }
     best as u8
+}
+
+/// Whether a version has fewer bytes than another, or as many and less distortion.
+fn is_smaller(version: &Version, other: &Version) -> bool
+    ensures { IsTrue result ↔ IsSmaller version.now other.now }
+{
+    version.bytes < other.bytes
+        || (version.bytes == other.bytes && version.distortion < other.distortion)
 }
 
 /// The least distortion of a unit's versions.
@@ -138,8 +145,9 @@ fn least_of_versions(unit: &Unit) -> u64
     requires { HasFewVersions unit.now }
     ensures { result ≡ least_distortion unit.now }
 {
-    let mut least = unit.versions[0].distortion;
-    for version in &unit.versions {
+    let versions = unit.versions.as_slice();
+    let mut least = versions[0].distortion;
+    for version in &versions[1..] {
         least = least.min(version.distortion);
     }
     least

@@ -1,0 +1,135 @@
+-- Choices, unit by unit.
+use Rattle.std.proofs.Common.{◌≡◌, ℕ, ◌+◌, ◌-◌, ◌*◌, ◌^◌, ◌<◌, ◌≤◌, List, [], ◌∷◌, ◌++◌, length, take, drop, get_or, sum, map, All, sym, ap, subst, ◌∙◌, append_assoc, arith}
+use Rattle.std.specs.List.{AllZip, flat_map}
+use Rattle.std.proofs.lemmas.List.{drop_more, drop_all, take_more, take_all, append-nil}
+use Rattle.std.proofs.lemmas.List.Concat.{flat_map-append}
+use Rattle.std.proofs.lemmas.List.Elements.{All-head, All-tail}
+use Rattle.std.proofs.lemmas.List.Sums.{sum_by-cons}
+use Rattle.version_table.specs.declared.limits.TheConstants.{DISTORTION_LIMIT}
+use Rattle.version_table.specs.declared.table.Unit.{Unit as CodedUnit}
+use Rattle.version_table.specs.declared.table.ProgramRow.{ProgramRow}
+use Rattle.version_table.specs.declared.table.Table.{Table}
+use Rattle.version_table.specs.Table.{IsValidTable, IsValidUnit, units_of}
+use Rattle.version_table.specs.Choice.{HasVersion, Fits, AppendsEach, HasFewVersions, IsSmallestVersion, IsSmallestChoice, version_at, chosen_distortions, distortion_of_choice, level_version, level_choice}
+use Rattle.version_table.proofs.ValidUnits.{valid_units, few_versions}
+
+-- the numbers for some units, and those for others after them, from the numbers for all
+pub record InParts (R : CodedUnit → ℕ → Type 0) (whole first others : List CodedUnit) (choice front back : List ℕ) : Type 0 where
+  pub of_first : AllZip R first front
+  pub of_others : AllZip R others back
+  pub total : sum (chosen_distortions whole choice) ≡ sum (chosen_distortions first front) + sum (chosen_distortions others back)
+
+in_parts : (R : CodedUnit → ℕ → Type 0) (first others : List CodedUnit) (choice : List ℕ) → AllZip R (first ++ others) choice
+    → InParts R (first ++ others) first others choice (take (length first) choice) (drop (length first) choice)
+in_parts R [] others choice fits = record { of_first = tt; of_others = fits; total = omega arith }
+in_parts R (coded ∷ first) others [] fits = absurd fits
+in_parts R (coded ∷ first) others (k ∷ choice) fits =
+    let rest = in_parts R first others choice fits.1 in
+    let d = (version_at coded k).distortion in
+    record {
+      of_first = (fits.0, rest.of_first);
+      of_others = rest.of_others;
+      total = omega (arith, rest.total, sum_by-cons (λ x. x) d (chosen_distortions (first ++ others) choice), sum_by-cons (λ x. x) d (chosen_distortions first (take (length first) choice)));
+    }
+
+enough_for : (R : CodedUnit → ℕ → Type 0) (first others : List CodedUnit) (choice : List ℕ) → AllZip R (first ++ others) choice → length first ≤ length choice
+enough_for R [] others choice fits = omega arith
+enough_for R (coded ∷ first) others [] fits = absurd fits
+enough_for R (coded ∷ first) others (k ∷ choice) fits = omega (arith, enough_for R first others choice fits.1)
+
+-- the units of the programs from i on
+abbrev pub units_from : List ProgramRow → ℕ → List CodedUnit
+units_from programs i = flat_map (λ program. program.units) (drop i programs)
+
+-- the units of program i stand first among those of the programs from i on
+pub units_from_more : (programs : List ProgramRow) (i : ℕ) (program : ProgramRow) → i < length programs → program ≡ get_or programs i program
+    → units_from programs i ≡ program.units ++ units_from programs (i + 1)
+units_from_more programs i program lt is =
+    ap (flat_map (λ (p : ProgramRow). p.units)) (drop_more programs i program lt) ∙ ap (λ (p : ProgramRow). p.units ++ units_from programs (i + 1)) (sym is)
+
+-- none are left after the last program
+pub units_from_all : (programs : List ProgramRow) (i : ℕ) → length programs ≤ i → units_from programs i ≡ []
+units_from_all programs i all = ap (flat_map (λ (p : ProgramRow). p.units)) (drop_all i programs all)
+
+-- the units of the first programs and one more
+pub units_before_more : (programs : List ProgramRow) (i : ℕ) (program : ProgramRow) → i < length programs → program ≡ get_or programs i program
+    → flat_map (λ p. p.units) (take (i + 1) programs) ≡ flat_map (λ p. p.units) (take i programs) ++ program.units
+units_before_more programs i program lt is =
+    rw (take_more programs i program lt, ← is, flat_map-append (λ (p : ProgramRow). p.units) (take i programs) (program ∷ []))
+    (ap (λ (units : List CodedUnit). flat_map (λ (p : ProgramRow). p.units) (take i programs) ++ units) (append-nil program.units))
+
+-- the units of the first programs are all units once no program is left
+pub units_before_all : (table : Table) (programs : List ProgramRow) (i : ℕ) → programs ≡ table.programs → length programs ≤ i → flat_map (λ p. p.units) (take i programs) ≡ units_of table
+units_before_all table programs i is all = ap (flat_map (λ (p : ProgramRow). p.units)) (take_all i programs all ∙ is)
+
+pub enough_at : (R : CodedUnit → ℕ → Type 0) (programs : List ProgramRow) (i : ℕ) (program : ProgramRow) (choice : List ℕ) → i < length programs → program ≡ get_or programs i program
+    → AllZip R (units_from programs i) choice → length program.units ≤ length choice
+enough_at R programs i program choice lt is fits =
+    enough_for R program.units (units_from programs (i + 1)) choice (subst (λ (whole : List CodedUnit). AllZip R whole choice) (units_from_more programs i program lt is) fits)
+
+pub parts_at : (R : CodedUnit → ℕ → Type 0) (programs : List ProgramRow) (i : ℕ) (program : ProgramRow) (choice : List ℕ) → i < length programs → program ≡ get_or programs i program
+    → AllZip R (units_from programs i) choice → (first : List CodedUnit) (n : ℕ) (front back : List ℕ) → first ≡ program.units → n ≡ length program.units → front ≡ take n choice → back ≡ drop n choice
+    → InParts R (units_from programs i) first (units_from programs (i + 1)) choice front back
+parts_at R programs i program choice lt is fits first n front back first-is long front-is back-is =
+    let others = units_from programs (i + 1) in
+    let e = units_from_more programs i program lt is in
+    let parts = in_parts R program.units others choice (subst (λ (whole : List CodedUnit). AllZip R whole choice) e fits) in
+    rw (e, first-is, front-is, back-is, long) parts
+
+-- each version's distortion is below the limit, so the sum is too, so many times
+chosen_small : (slot : ℕ) (units : List CodedUnit) (choice : List ℕ) → All (IsValidUnit slot) units → AllZip HasVersion units choice
+    → sum (chosen_distortions units choice) ≤ length units * (DISTORTION_LIMIT - 1)
+chosen_small slot [] choice valid fits = omega arith
+chosen_small slot (coded ∷ units) [] valid fits = absurd fits
+chosen_small slot (coded ∷ units) (k ∷ choice) valid fits =
+    let rest = chosen_small slot units choice (All-tail (IsValidUnit slot) coded units valid) fits.1 in
+    let here = (All-head (IsValidUnit slot) coded units valid).versions k (record { bytes = 0; distortion = 0 }) fits.0 in
+    omega (arith, rest, here.distortion, sum_by-cons (λ x. x) (version_at coded k).distortion (chosen_distortions units choice))
+
+-- the distortion of a choice is a number of 64 bits
+pub distortion_fits : (table : Table) (choice : List ℕ) → IsValidTable table → Fits table choice → distortion_of_choice table choice < 2 ^ 64
+distortion_fits table choice valid fits =
+    omega (arith, chosen_small table.slot (units_of table) choice (valid_units table valid) fits, valid.units)
+
+pub AllZip-append : (R : CodedUnit → ℕ → Type 0) (first others : List CodedUnit) (front back : List ℕ) → AllZip R first front → AllZip R others back → AllZip R (first ++ others) (front ++ back)
+AllZip-append R [] others [] back f b = b
+AllZip-append R [] others (k ∷ front) back f b = absurd f
+AllZip-append R (coded ∷ first) others [] back f b = absurd f
+AllZip-append R (coded ∷ first) others (k ∷ front) back f b = (f.0, AllZip-append R first others front back f.1 b)
+
+pub AllZip-weaker : (R Q : CodedUnit → ℕ → Type 0) → ((coded : CodedUnit) (k : ℕ) → R coded k → Q coded k) → (units : List CodedUnit) (choice : List ℕ) → AllZip R units choice → AllZip Q units choice
+AllZip-weaker R Q leads [] [] h = tt
+AllZip-weaker R Q leads [] (k ∷ choice) h = absurd h
+AllZip-weaker R Q leads (coded ∷ units) [] h = absurd h
+AllZip-weaker R Q leads (coded ∷ units) (k ∷ choice) h = (leads coded k h.0, AllZip-weaker R Q leads units choice h.1)
+
+-- the smallest versions are versions
+pub smallest_fits : (table : Table) (choice : List ℕ) → IsSmallestChoice table choice → Fits table choice
+smallest_fits table choice smallest = AllZip-weaker IsSmallestVersion HasVersion (λ coded k h. h.exists) (units_of table) choice smallest
+
+levels_fit : (level : ℕ) (units : List CodedUnit) → All HasFewVersions units → AllZip HasVersion units (map (level_version level) units)
+levels_fit level [] each = tt
+levels_fit level (coded ∷ units) each =
+    let here = All-head HasFewVersions coded units each in
+    (omega (arith, here.0), levels_fit level units (All-tail HasFewVersions coded units each))
+
+pub level_fits : (table : Table) (level : ℕ) → IsValidTable table → Fits table (level_choice table level)
+level_fits table level valid = levels_fit level (units_of table) (few_versions table.slot (units_of table) (valid_units table valid))
+
+-- one more number for one more unit
+pub AppendsEach-more : (R : CodedUnit → ℕ → Type 0) (units : List CodedUnit) (i : ℕ) (coded : CodedUnit) (k : ℕ) (old new newer : List ℕ) → i < length units → coded ≡ get_or units i coded
+    → AppendsEach R (take i units) old new → R coded k → newer ≡ new ++ k ∷ [] → AppendsEach R (take (i + 1) units) old newer
+AppendsEach-more R units i coded k old new newer lt is so_far here appended = (
+  so_far.0 ++ k ∷ [],
+  appended ∙ ap (λ (numbers : List ℕ). numbers ++ k ∷ []) so_far.1 ∙ append_assoc old so_far.0 (k ∷ []),
+  rw (take_more units i coded lt, ← is) (AllZip-append R (take i units) (coded ∷ []) so_far.0 (k ∷ []) so_far.2 (here, tt)),
+)
+
+-- numbers for one more program
+pub AllZip-more : (R : CodedUnit → ℕ → Type 0) (programs : List ProgramRow) (i : ℕ) (program : ProgramRow) (units : List CodedUnit) (old new : List ℕ) → i < length programs → program ≡ get_or programs i program
+    → units ≡ program.units → AllZip R (flat_map (λ p. p.units) (take i programs)) old → AppendsEach R units old new → AllZip R (flat_map (λ p. p.units) (take (i + 1) programs)) new
+AllZip-more R programs i program units old new lt is units-is so_far added =
+    let front = flat_map (λ (p : ProgramRow). p.units) (take i programs) in
+    let both = AllZip-append R front units old added.0 so_far added.2 in
+    subst (λ (numbers : List ℕ). AllZip R (flat_map (λ p. p.units) (take (i + 1) programs)) numbers) (sym added.1)
+    (subst (λ (whole : List CodedUnit). AllZip R whole (old ++ added.0)) (ap (λ (us : List CodedUnit). front ++ us) units-is ∙ sym (units_before_more programs i program lt is)) both)
