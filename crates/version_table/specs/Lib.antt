@@ -1,2 +1,6 @@
 pub mod Choice
+pub mod Limits
+pub mod Lines
+pub mod Order
 pub mod Table
+pub mod Text

@@ -7,9 +7,19 @@
 #![tactic(auto)]
 
 mod choices;
+mod fault;
 pub mod limits;
+mod laws;
+mod line;
+mod read;
+mod write;
 mod table;
 
 pub use choices::{distortion_of, least_distortions_bound, least_total, level, smallest};
+pub use fault::{Limit, TableFault};
+pub use laws::{one_reading, some_reading, spelling_is_read};
+pub use line::{Line, StatedVersion};
+pub use read::read_table;
+pub use write::write_table;
 pub use list_types::{ListOf, OutOfMemory};
 pub use table::{AudioPacket, Choice, ProgramRow, Table, Unit, Version};
