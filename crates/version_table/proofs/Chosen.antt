@@ -1,11 +1,12 @@
 -- Choices, unit by unit.
-use Rattle.std.proofs.Common.{◌≡◌, ℕ, ◌+◌, ◌-◌, ◌*◌, ◌^◌, ◌<◌, ◌≤◌, List, [], ◌∷◌, ◌++◌, length, take, drop, get_or, sum, map, All, sym, ap, subst, ◌∙◌, append_assoc, arith}
+use Rattle.std.proofs.Common.{◌≡◌, ℕ, ◌+◌, ◌-◌, ◌*◌, ◌^◌, ◌<◌, ◌≤◌, List, [], ◌∷◌, ◌++◌, length, take, drop, get_or, sum, map, All, refl, sym, ap, subst, ◌∙◌, append_assoc, arith, inl, inr}
 use Rattle.std.specs.List.{AllZip, flat_map}
 use Rattle.std.proofs.lemmas.List.{drop_more, drop_all, take_more, take_all, append-nil}
 use Rattle.std.proofs.lemmas.List.Concat.{flat_map-append}
 use Rattle.std.proofs.lemmas.List.Elements.{All-head, All-tail}
+use Rattle.std.proofs.lemmas.Bool.{cases_eq}
 use Rattle.std.proofs.lemmas.List.Sums.{sum_by-cons}
-use Rattle.version_table.specs.declared.limits.TheConstants.{DISTORTION_LIMIT}
+use Rattle.version_table.specs.declared.limits.TheConstants.{DISTORTION_LIMIT, VERSIONS_MOST}
 use Rattle.version_table.specs.declared.table.Unit.{Unit as CodedUnit}
 use Rattle.version_table.specs.declared.table.ProgramRow.{ProgramRow}
 use Rattle.version_table.specs.declared.table.Table.{Table}
@@ -133,3 +134,40 @@ AllZip-more R programs i program units old new lt is units-is so_far added =
     let both = AllZip-append R front units old added.0 so_far added.2 in
     subst (λ (numbers : List ℕ). AllZip R (flat_map (λ p. p.units) (take (i + 1) programs)) numbers) (sym added.1)
     (subst (λ (whole : List CodedUnit). AllZip R whole (old ++ added.0)) (ap (λ (us : List CodedUnit). front ++ us) units-is ∙ sym (units_before_more programs i program lt is)) both)
+
+-- of two numbers of a smallest version neither goes before the other
+smallest_version_is_one : (coded : CodedUnit) (j k : ℕ) → IsSmallestVersion coded j → IsSmallestVersion coded k → j ≡ k
+smallest_version_is_one coded j k a b =
+    elim (cases_eq j k) [
+      | inl same ↦ same
+      | inr other ↦
+          let one = a.first k b.exists (λ e. other (sym e)) in
+          let two = b.first j a.exists other in
+          absurd (grind (arith, one, two))
+    ]
+
+smallest_are_one : (units : List CodedUnit) (a b : List ℕ) → AllZip IsSmallestVersion units a → AllZip IsSmallestVersion units b → a ≡ b
+smallest_are_one [] [] [] f g = refl
+smallest_are_one [] (j ∷ a) b f g = absurd f
+smallest_are_one [] [] (k ∷ b) f g = absurd g
+smallest_are_one (coded ∷ units) [] b f g = absurd f
+smallest_are_one (coded ∷ units) (j ∷ a) [] f g = absurd g
+smallest_are_one (coded ∷ units) (j ∷ a) (k ∷ b) f g =
+    let head = smallest_version_is_one coded j k f.0 g.0 in
+    let tail = smallest_are_one units a b f.1 g.1 in
+    cc
+
+pub smallest_is_one : (table : Table) (a b : List ℕ) → IsSmallestChoice table a → IsSmallestChoice table b → a ≡ b
+smallest_is_one table a b = smallest_are_one (units_of table) a b
+
+last_levels : (level : ℕ) (units : List CodedUnit) → VERSIONS_MOST - 1 ≤ level → All HasFewVersions units → map (level_version level) units ≡ map (level_version (VERSIONS_MOST - 1)) units
+last_levels level [] high each = refl
+last_levels level (coded ∷ units) high each =
+    let here = All-head HasFewVersions coded units each in
+    let head : level_version level coded ≡ level_version (VERSIONS_MOST - 1) coded = omega (arith, here.1) in
+    let tail = last_levels level units high (All-tail HasFewVersions coded units each) in
+    cc
+
+-- no unit of a valid table has more versions
+pub levels_end : (table : Table) (level : ℕ) → IsValidTable table → VERSIONS_MOST - 1 ≤ level → level_choice table level ≡ level_choice table (VERSIONS_MOST - 1)
+levels_end table level valid high = last_levels level (units_of table) high (few_versions table.slot (units_of table) (valid_units table valid))

@@ -1,5 +1,5 @@
 -- Worked examples, computed from the definitions.
-use Rattle.std.proofs.Common.{◌≡◌, ℕ, List, [], ◌∷◌, ◌++◌, Some, None, codes, refl}
+use Rattle.std.proofs.Common.{◌≡◌, [], ◌∷◌, Some, None, codes, refl}
 use Rattle.std.specs.Fmt.{digits}
 use Rattle.version_table.specs.declared.fault.Limit.TheVariants as limits
 use Rattle.version_table.specs.declared.line.Line.TheVariants.{Title, Slot, Nodes, Evaluations, Program, Coded, Audio, Packet}
@@ -21,7 +21,7 @@ example = record {
 }
 
 spelling_example : spelling example ≡ codes "remux table 1\nslot 4000\nnodes 1\nevaluations 0\nprogram 112\nunit 27200 552:0 368:10\naudio\npacket 71352 71353 184\naudio\n"
-unfolding text_of_line, digits, example
+unfolding text_of_line digits example
 spelling_example = refl
 
 -- a slot of 1015 ticks is too short, one of 1016 isn't

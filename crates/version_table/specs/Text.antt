@@ -1,5 +1,5 @@
 -- The table text: its one spelling, and what else a text can be.
-use Rattle.std.specs.Prelude.{◌≡◌, ◌≢◌, ℕ, ◌+◌, ◌<◌, ◌≤◌, ◌⊎◌, List, [], ◌∷◌, ◌++◌, length, Result, Ok, Err}
+use Rattle.std.specs.Prelude.{◌≡◌, ◌≢◌, ℕ, ◌+◌, ◌<◌, ◌≤◌, ◌⊎◌, List, [], ◌++◌, length, Result, Ok, Err}
 use Rattle.std.specs.List.{flat_map}
 use Rattle.version_table.specs.declared.limits.TheConstants.{TABLE_TEXT_MOST, TEXT_AUDIO_PACKETS_MOST}
 use Rattle.version_table.specs.declared.fault.Limit.{Limit}

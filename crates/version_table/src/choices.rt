@@ -64,11 +64,6 @@ pub fn least_total(table: &Table) -> u64
     total
 }
 
-/// A law: no choice that fits has less distortion than the sum of the least distortions of all units.
-pub fn least_distortions_bound()
-    ensures { (table : Table) (choice : List ℕ) → Fits table choice → least_distortions table ≤ distortion_of_choice table choice }
-{}
-
 /// The sum of the distortions of the chosen versions of these units.
 fn distortion_of_units(units: &[Unit], choice: &[u8]) -> u64
     requires fits { AllZip HasVersion units.now choice.now }

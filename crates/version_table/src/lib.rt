@@ -6,20 +6,19 @@
 //! Stands on `list_types`.
 #![tactic(auto)]
 
+mod choice_laws;
 mod choices;
 mod fault;
 pub mod limits;
-mod laws;
 mod line;
-mod read;
-mod write;
 mod table;
 
-pub use choices::{distortion_of, least_distortions_bound, least_total, level, smallest};
+pub use choice_laws::{
+    least_distortions_bound, level_choices_end, level_choices_fit, smallest_choice_fits,
+    smallest_choice_is_one,
+};
+pub use choices::{distortion_of, least_total, level, smallest};
 pub use fault::{Limit, TableFault};
-pub use laws::{one_reading, some_reading, spelling_is_read};
 pub use line::{Line, StatedVersion};
-pub use read::read_table;
-pub use write::write_table;
 pub use list_types::{ListOf, OutOfMemory};
 pub use table::{AudioPacket, Choice, ProgramRow, Table, Unit, Version};

@@ -31,5 +31,9 @@ pub enum Line {
     /// Begins an audio stream.
     Audio,
     /// The payload of one transport packet of an audio stream.
-    Packet { due: u64, gone: u64, bytes: u64 },
+    Packet {
+        due: u64,
+        gone: u64,
+        bytes: u64,
+    },
 }
