@@ -1,0 +1,6 @@
+pub mod Bits
+pub mod CoefficientTables
+pub mod Entry
+pub mod MacroblockTables
+pub mod Row
+pub mod TableName

@@ -1,0 +1,18 @@
+-- How the program keeps an entry.
+use Rattle.std.specs.Prelude.{◌^◌, ◌&&◌, Bool, nat_lt, nat_le}
+use Rattle.prefix_codes.specs.declared.code.Code.{Code}
+use Rattle.prefix_codes.specs.declared.lookup.TheConstants.{WINDOW_BITS}
+use Rattle.prefix_codes.specs.declared.tables.Row.{Row}
+use Rattle.prefix_codes.specs.Bits.{bits_of}
+use Rattle.prefix_codes.specs.Entry.{Entry}
+
+-- the entry that a row stands for
+abbrev pub entry_of : Row → Entry
+entry_of row = record { symbol = row.symbol; code = bits_of row.code.len row.code.bits }
+
+-- the code has no more bits than its length says, and fits a window
+abbrev pub is_code : Code → Bool
+is_code code = nat_lt code.bits (2 ^ code.len) && nat_le code.len WINDOW_BITS
+
+abbrev pub fits : Row → Bool
+fits row = is_code row.code

@@ -1,0 +1,19 @@
+//! The variable length codes of a picture, the tables of ISO/IEC 13818-2, Annex B (B-1 to B-4, B-9, B-10 and B-12 to B-15).
+//!
+//! `find` reads the code at the front of some bits, and `code_of` gives the code that a symbol is written by. A table is
+//! a list of pairs of a symbol and a code, and no code of a table begins another one of it, so both have one answer.
+//! Neither call takes memory. Stands on the standard library alone.
+#![tactic(auto)]
+
+mod code;
+mod lookup;
+pub mod symbol;
+mod table_name;
+mod tables;
+
+pub use code::Code;
+pub use lookup::{WINDOW_BITS, code_of, find};
+pub use table_name::TableName;
+
+#[cfg(test)]
+mod tests;
