@@ -1,2 +1,5 @@
+pub mod BitsLemmas
 pub mod Computing
 pub mod Examples
+pub mod RowLemmas
+pub mod TableLemmas

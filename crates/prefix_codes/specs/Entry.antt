@@ -5,16 +5,15 @@ use Rattle.std.specs.List.{filter}
 use Rattle.prefix_codes.specs.declared.symbol.TheConstants.{LEVELS_PER_RUN}
 
 -- a symbol and the bits of its code
-pub record Entry : Type 0 where
-  pub symbol : ℕ
-  pub code : List ℕ
+abbrev pub Entry : Type 0
+Entry = ℕ × List ℕ
 
--- the bits of a code as the standard prints it, in groups of four: a space is the character 32 and '0' is 48
+-- the bits of a code as the standard prints it, in groups of four: a space is the character 32, and a 0 is 48
 abbrev pub printed_bits : String → List ℕ
 printed_bits text = map (λ c. c - 48) (filter (λ c. not (c == 32)) (codes text))
 
 abbrev pub entry : ℕ → String → Entry
-entry symbol text = record { symbol = symbol; code = printed_bits text }
+entry symbol text = (symbol, printed_bits text)
 
 -- the symbol of a run and the size of a level
 abbrev pub coefficient_symbol : ℕ → ℕ → ℕ

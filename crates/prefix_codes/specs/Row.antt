@@ -8,7 +8,7 @@ use Rattle.prefix_codes.specs.Entry.{Entry}
 
 -- the entry that a row stands for
 abbrev pub entry_of : Row → Entry
-entry_of row = record { symbol = row.symbol; code = bits_of row.code.len row.code.bits }
+entry_of row = (row.symbol, bits_of row.code.len row.code.bits)
 
 -- the code has no more bits than its length says, and fits a window
 abbrev pub is_code : Code → Bool

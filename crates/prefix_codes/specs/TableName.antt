@@ -1,7 +1,6 @@
 -- The code tables by name (ISO/IEC 13818-2, Annex B).
-use Rattle.std.specs.Prelude.{◌≡◌, ℕ, ◌&&◌, ◌==◌, nat_lt, Option, Some, None, List, length, if◌then◌else◌}
-use Rattle.std.specs.List.{find}
-use Rattle.std.specs.Option.{option_map}
+use Rattle.std.specs.Prelude.{◌≡◌, ℕ, ◌&&◌, nat_eq, nat_lt, Option, Some, None, List, length, if◌then◌else◌}
+use Rattle.std.specs.Map.{lookup}
 use Rattle.prefix_codes.specs.declared.symbol.TheConstants.{LEVELS_PER_RUN, RUNS}
 use Rattle.prefix_codes.specs.declared.table_name.TableName.{TableName}
 use Rattle.prefix_codes.specs.declared.table_name.TableName.TheVariants.{Address, TypeI, TypeP, TypeB, Pattern, Motion, DcLuma, DcChroma, CoeffZero, CoeffFirst, CoeffOne}
@@ -26,7 +25,7 @@ entries CoeffOne = dct_coefficients_one
 
 -- the code of a symbol, if the table has one
 unfoldable pub code_in : TableName → ℕ → Option (List ℕ)
-code_in table symbol = option_map (λ e. e.code) (find (λ e. e.symbol == symbol) (entries table))
+code_in table symbol = lookup (nat_eq symbol) (entries table)
 
 -- the code of a run and the size of a level, if the table has one
 unfoldable pub coefficient_code : TableName → ℕ → ℕ → Option (List ℕ)
