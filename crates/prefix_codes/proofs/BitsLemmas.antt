@@ -1,5 +1,5 @@
 -- Lists of bits: the front of a window, and when a code begins it.
-use Rattle.std.proofs.Common.{◌≡◌, ℕ, zero, suc, ◌+◌, ◌-◌, ◌*◌, ◌/◌, ◌%◌, ◌^◌, ◌<◌, ◌≤◌, min, ◌↔◌, List, [], ◌∷◌, length, take, refl, sym, ap, ap₂, subst, ◌∙◌, arith}
+use Rattle.std.proofs.Common.{◌≡◌, ℕ, zero, suc, ◌+◌, ◌-◌, ◌*◌, ◌/◌, ◌%◌, ◌^◌, ◌<◌, ◌≤◌, ◌↔◌, List, ◌∷◌, length, take, refl, sym, ap, ap₂, subst, ◌∙◌, arith}
 use Rattle.std.proofs.Math.Nat.{div-div-eq-div-mul, mod-mod, mod-lt, mod-eq_of_lt}
 use Rattle.std.proofs.Math.Pow.{mod-mod-pow}
 use Rattle.std.proofs.lemmas.List.{length-take, take-take}
@@ -18,7 +18,7 @@ take-bits_of zero m v = refl
 take-bits_of (suc k) m v =
     let more : suc k + m ≡ suc (k + m) = omega arith in
     let split : v / 2 ^ (k + m) ≡ v / 2 ^ m / 2 ^ k =
-      (let swap : k + m ≡ m + k = omega arith in ap (λ n. v / 2 ^ n) swap) ∙ ap (λ n. v / n) (pow-add 2 m k) ∙ sym (div-div-eq-div-mul v (2 ^ m) (2 ^ k)) in
+    (let swap : k + m ≡ m + k = omega arith in ap (λ n. v / 2 ^ n) swap) ∙ ap (λ n. v / n) (pow-add 2 m k) ∙ sym (div-div-eq-div-mul v (2 ^ m) (2 ^ k)) in
     rw more (ap₂ (λ (b : ℕ) (bs : List ℕ). b ∷ bs) (ap (λ n. n % 2) split) (take-bits_of k m v))
 
 -- the number that a number's bits spell
@@ -57,10 +57,9 @@ window_high n m w = ap (λ x. x / 2 ^ m) (mod-pow-add w n m) ∙ shr_high (w / 2
 IsPrefix-front_of : (n m w known bits : ℕ) → n ≤ known → bits < 2 ^ n → IsPrefix (bits_of n bits) (front_of (n + m) w known) ↔ (w % 2 ^ (n + m) / 2 ^ m ≡ bits)
 IsPrefix-front_of n m w known bits le fits =
     let front : take (length (bits_of n bits)) (front_of (n + m) w known) ≡ bits_of n (w / 2 ^ m) =
-      ap (λ k. take k (front_of (n + m) w known)) (length-bits_of n bits) ∙ front_of-take n m w known le in
-    (
+    ap (λ k. take k (front_of (n + m) w known)) (length-bits_of n bits) ∙ front_of-take n m w known le in (
       λ begins. window_high n m w ∙ bits_of-same n (w / 2 ^ m) bits (sym front ∙ begins) ∙ mod-eq_of_lt fits,
-      λ same. front ∙ sym (bits_of-mod n (w / 2 ^ m)) ∙ ap (bits_of n) (sym (window_high n m w) ∙ same)
+      λ same. front ∙ sym (bits_of-mod n (w / 2 ^ m)) ∙ ap (bits_of n) (sym (window_high n m w) ∙ same),
     )
 
 pub IsPrefix-known : (n size w known bits : ℕ) → n ≤ size → n ≤ known → bits < 2 ^ n → IsPrefix (bits_of n bits) (front_of size w known) ↔ (w % 2 ^ size / 2 ^ (size - n) ≡ bits)

@@ -1,4 +1,5 @@
 pub mod BitsLemmas
+pub mod CoefficientLemmas
 pub mod Computing
 pub mod Examples
 pub mod RowLemmas

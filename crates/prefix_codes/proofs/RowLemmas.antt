@@ -1,5 +1,5 @@
 -- What the rows of a table say of its codes, and the answers of a search among them.
-use Rattle.std.proofs.Common.{◌≡◌, ℕ, ◌<◌, ◌↔◌, List, length, map, get_or, Option, Some, None, slice_get, refl, sym, ap, ap₂, subst, ◌∙◌, arith}
+use Rattle.std.proofs.Common.{◌≡◌, ℕ, ◌<◌, ◌↔◌, List, length, map, get_or, Option, Some, None, slice_get, refl, sym, ap, ap₂, subst, ◌∙◌}
 use Rattle.std.specs.Option.{option_map}
 use Rattle.std.proofs.lemmas.Option.{slice_get-map, slice_get-get_or, slice_get_within}
 use Rattle.std.proofs.lemmas.List.{length-map}
@@ -35,7 +35,7 @@ module _ (table : TableName) (rows : List Row) (is : map entry_of rows ≡ entri
   row-code_in s code found =
       let place = entry-code_in table s code found in
       let within : place.0 < length rows =
-        subst (λ n. place.0 < n) (ap length (sym is) ∙ length-map rows entry_of) (slice_get_within (entries table) place.0 (s, code) place.1) in
+      subst (λ n. place.0 < n) (ap length (sym is) ∙ length-map rows entry_of) (slice_get_within (entries table) place.0 (s, code) place.1) in
       let both : Some (entry_of (row_at rows place.0)) ≡ Some (s, code) = sym (entry_at_row place.0 within) ∙ place.1 in
       let same : entry_of (row_at rows place.0) ≡ (s, code) = cc in
       (place.0, within, same)
@@ -54,22 +54,20 @@ module _ (table : TableName) (rows : List Row) (is : map entry_of rows ≡ entri
           code = (entry_of row).1;
           listed = code_in-row i lt;
           counted = length-bits_of row.code.len row.code.bits;
-          first = first
-        } in
-        (
+          first = first;
+        } in (
           λ e.
-            let both : ◌≡◌ {A = ℕ × ℕ} (row.symbol, row.code.len) (s, n) = cc in
-            subst (λ (answer : ℕ × ℕ). Begins table bits answer.0 answer.1) both here,
+              let both : ◌≡◌ {A = ℕ × ℕ} (row.symbol, row.code.len) (s, n) = cc in
+              subst (λ (answer : ℕ × ℕ). Begins table bits answer.0 answer.1) both here,
           λ other.
-            let same = Begins-same table bits row.symbol s row.code.len n here other in
-            ap₂ (λ (x y : ℕ). Some (x, y)) same.0 same.1
+              let same = Begins-same table bits row.symbol s row.code.len n here other in
+              ap₂ (λ (x y : ℕ). Some (x, y)) same.0 same.1,
         )
 
     pub IsAnswer-none : ((k : ℕ) → k < length rows → IsPrefix (entry_of (row_at rows k)).1 bits → ⊥) → IsAnswer None table bits
-    IsAnswer-none none s n =
-        (
-          λ e. cc,
-          λ other.
-            let row = row-code_in s other.code other.listed in
-            absurd (none row.0 row.1 (subst (λ (entry : Entry). IsPrefix entry.1 bits) (sym row.2) other.first))
-        )
+    IsAnswer-none none s n = (
+      λ e. cc,
+      λ other.
+          let row = row-code_in s other.code other.listed in
+          absurd (none row.0 row.1 (subst (λ (entry : Entry). IsPrefix entry.1 bits) (sym row.2) other.first)),
+    )

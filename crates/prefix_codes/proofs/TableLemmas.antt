@@ -1,9 +1,9 @@
 -- No code of a table begins another one, and each symbol has one code.
-use Rattle.std.proofs.Common.{◌≡◌, ℕ, suc, ◌≤◌, Bool, true, false, not, ◌&&◌, nat_eq, List, [], ◌∷◌, length, take, Option, Some, None, slice_get, refl, sym, ap, ap₂, subst, eq-eqb, ◌∙◌, arith, inl, inr}
+use Rattle.std.proofs.Common.{◌≡◌, ℕ, ◌≤◌, Bool, true, false, not, ◌&&◌, nat_eq, List, [], ◌∷◌, length, take, Some, slice_get, refl, sym, ap, ap₂, subst, eq-eqb, ◌∙◌, arith, inl, inr}
 use Rattle.std.specs.List.{list_all, IsDistinct, AllByRecursion}
 use Rattle.std.specs.Cmp.{nat_eq_equiv}
 use Rattle.std.specs.Map.{lookup, keys_of}
-use Rattle.std.proofs.lemmas.Bool.{and_parts, and_from, eqb-true, cond-true, cond-false, cases_Bool, cases_lt, not-true, both_ways}
+use Rattle.std.proofs.lemmas.Bool.{and_parts, and_from, eqb-true, cases_Bool, cases_lt, not-true, both_ways}
 use Rattle.std.proofs.lemmas.List.{take-take}
 use Rattle.std.proofs.lemmas.Map.Entries.{lookup_head, lookup_tail, lookup_from_place, place_from_lookup}
 use Rattle.prefix_codes.specs.Bits.{IsPrefix}
@@ -73,10 +73,9 @@ passes_from_lookup p s (e ∷ es) code all found =
 no_later_begins : (e : Entry) (es : List Entry) (t : ℕ) (d : List ℕ) → list_all (is_apart e) es ≡ true → lookup (nat_eq t) es ≡ Some d → (IsPrefix e.1 d → ⊥) × (IsPrefix d e.1 → ⊥)
 no_later_begins e es t d test other =
     let codes = (and_parts (not (nat_eq e.0 t)) _ (passes_from_lookup (is_apart e) t es d test other)).1 in
-    let parts = and_parts (not (begins e.1 d)) (not (begins d e.1)) codes in
-    (
+    let parts = and_parts (not (begins e.1 d)) (not (begins d e.1)) codes in (
       λ h. both_ways (begins e.1 d) (not-true (begins e.1 d) parts.0) (begins_from_IsPrefix e.1 d h),
-      λ h. both_ways (begins d e.1) (not-true (begins d e.1) parts.1) (begins_from_IsPrefix d e.1 h)
+      λ h. both_ways (begins d e.1) (not-true (begins d e.1) parts.1) (begins_from_IsPrefix d e.1 h),
     )
 
 -- no code begins that of another symbol
@@ -86,22 +85,22 @@ prefix_free_from_test [] s t c d test found other h = cc
 prefix_free_from_test (e ∷ es) s t c d test found other h =
     let parts = and_parts (list_all (is_apart e) es) (all_apart es) test in
     let at_head = λ (q : ℕ) (b : List ℕ) (here : nat_eq q e.0 ≡ true) (f : lookup (nat_eq q) (e ∷ es) ≡ Some b).
-      (let value : Some b ≡ Some e.1 = sym f ∙ lookup_head (nat_eq q) e es here in let bits : b ≡ e.1 = cc in bits) in
+    (let value : Some b ≡ Some e.1 = sym f ∙ lookup_head (nat_eq q) e es here in let bits : b ≡ e.1 = cc in bits) in
     let in_tail = λ (q : ℕ) (b : List ℕ) (later : nat_eq q e.0 ≡ false) (f : lookup (nat_eq q) (e ∷ es) ≡ Some b).
-      sym (lookup_tail (nat_eq q) e es later) ∙ f in
+    sym (lookup_tail (nat_eq q) e es later) ∙ f in
     elim (cases_Bool (nat_eq s e.0)) [
       | inl first ↦ elim (cases_Bool (nat_eq t e.0)) [
-          | inl first' ↦ eqb-true s e.0 first ∙ sym (eqb-true t e.0 first')
-          | inr later' ↦
-              absurd ((no_later_begins e es t d parts.0 (in_tail t d later' other)).0
-                (subst (λ b. IsPrefix b d) (at_head s c first found) h))
-        ]
+        | inl first' ↦ eqb-true s e.0 first ∙ sym (eqb-true t e.0 first')
+        | inr later' ↦
+            absurd ((no_later_begins e es t d parts.0 (in_tail t d later' other)).0
+            (subst (λ b. IsPrefix b d) (at_head s c first found) h))
+      ]
       | inr later ↦ elim (cases_Bool (nat_eq t e.0)) [
-          | inl first' ↦
-              absurd ((no_later_begins e es s c parts.0 (in_tail s c later found)).1
-                (subst (λ b. IsPrefix c b) (at_head t d first' other) h))
-          | inr later' ↦ prefix_free_from_test es s t c d parts.1 (in_tail s c later found) (in_tail t d later' other) h
-        ]
+        | inl first' ↦
+            absurd ((no_later_begins e es s c parts.0 (in_tail s c later found)).1
+            (subst (λ b. IsPrefix c b) (at_head t d first' other) h))
+        | inr later' ↦ prefix_free_from_test es s t c d parts.1 (in_tail s c later found) (in_tail t d later' other) h
+      ]
     ]
 
 -- ---- what it says of symbols
@@ -139,11 +138,16 @@ entry-code_in table s c found =
     let place = place_from_lookup (nat_eq s) (entries table) c found in
     (place.0, place.2 ∙ ap (λ k. Some (k, c)) (sym (eqb-true s place.1 place.3)))
 
+-- What each entry of a table passes, each symbol with its code passes: a test that a caller computes.
+pub code_in-passes : (p : Entry → Bool) (table : TableName) (s : ℕ) (c : List ℕ) → list_all p (entries table) ≡ true → code_in table s ≡ Some c → p (s, c) ≡ true
+unfolding code_in
+code_in-passes p table s c = passes_from_lookup p s (entries table) c
+
 -- The code at the front of some bits is the only one.
 pub Begins-same : (table : TableName) (bits : List ℕ) (s t m n : ℕ) → Begins table bits s m → Begins table bits t n → (s ≡ t) × (m ≡ n)
 Begins-same table bits s t m n a b =
     let shorter : (c d : List ℕ) → length c ≤ length d → IsPrefix c bits → IsPrefix d bits → IsPrefix c d =
-      λ c d le p q. ap (take (length c)) (sym q) ∙ take-take (length c) (length d) bits le ∙ p in
+    λ c d le p q. ap (take (length c)) (sym q) ∙ take-take (length c) (length d) bits le ∙ p in
     let symbol : s ≡ t = elim (cases_lt (length b.code) (length a.code)) [
       | inl lt ↦ sym (prefix_free table t s b.code a.code b.listed a.listed (shorter b.code a.code (omega arith) b.first a.first))
       | inr le ↦ prefix_free table s t a.code b.code a.listed b.listed (shorter a.code b.code le a.first b.first)

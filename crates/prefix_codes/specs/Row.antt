@@ -10,9 +10,9 @@ use Rattle.prefix_codes.specs.Entry.{Entry}
 abbrev pub entry_of : Row → Entry
 entry_of row = (row.symbol, bits_of row.code.len row.code.bits)
 
--- the code has no more bits than its length says, and fits a window
+-- the code has a bit, fits a window, and its number has no more bits than its length says
 abbrev pub is_code : Code → Bool
-is_code code = nat_lt code.bits (2 ^ code.len) && nat_le code.len WINDOW_BITS
+is_code code = nat_lt 0 code.len && (nat_le code.len WINDOW_BITS && nat_lt code.bits (2 ^ code.len))
 
-abbrev pub fits : Row → Bool
-fits row = is_code row.code
+abbrev pub has_code : Row → Bool
+has_code row = is_code row.code

@@ -1,4 +1,4 @@
-ghost use Rattle.std.specs.Prelude.{◌≡◌, ◌<◌, ◌^◌, ◌↔◌, ℕ, IfSome, IfNone, IsTrue};
+ghost use Rattle.std.specs.Prelude.{◌≡◌, ◌<◌, ◌≤◌, ◌^◌, ◌↔◌, ℕ, IfSome, IfNone, IsTrue};
 ghost use Rattle.prefix_codes.specs.Bits.{bits_of, front_of, IsPrefix};
 ghost use Rattle.prefix_codes.specs.Row.{is_code};
 ghost use Rattle.prefix_codes.specs.TableName.{code_in, Begins};
@@ -15,8 +15,9 @@ pub const WINDOW_BITS: u32 = 24;
 ///
 /// None where no code of the table begins these bits, also where they are too few.
 pub fn find(table: TableName, window: u32, known: u32) -> Option<(u16, u8)>
-    ensures { (symbol len : ℕ) →
+    ensures front { (symbol len : ℕ) →
         (result ≡ Some (symbol, len)) ↔ Begins table (front_of WINDOW_BITS window known) symbol len }
+    ensures len { IfSome result (λ found. (0 < found.1) × (found.1 ≤ known)) }
 {
     for row in tables::rows(table) {
         if begins(row.code, window, known) {
@@ -34,6 +35,7 @@ pub fn find(table: TableName, window: u32, known: u32) -> Option<(u16, u8)>
 pub fn code_of(table: TableName, symbol: u16) -> Option<Code>
     ensures code { IfSome result (λ code. code_in table symbol ≡ Some (bits_of code.len code.bits)) }
     ensures fits { IfSome result (λ code. code.bits < 2 ^ code.len) }
+    ensures len { IfSome result (λ code. (0 < code.len) × (code.len ≤ WINDOW_BITS)) }
     ensures none { IfNone result (code_in table symbol ≡ None) }
 {
     for row in tables::rows(table) {
@@ -47,7 +49,8 @@ pub fn code_of(table: TableName, symbol: u16) -> Option<Code>
 /// Whether a code begins the first `known` bits of a window.
 fn begins(code: Code, window: u32, known: u32) -> bool
     requires { IsTrue (is_code code) }
-    ensures { IsTrue result ↔ IsPrefix (bits_of code.len code.bits) (front_of WINDOW_BITS window known) }
+    ensures front { IsTrue result ↔ IsPrefix (bits_of code.len code.bits) (front_of WINDOW_BITS window known) }
+    ensures len { IsTrue result → code.len ≤ known }
 {
     let len = u32::from(code.len);
     len <= known && window % (1 << WINDOW_BITS) >> (WINDOW_BITS - len) == code.bits

@@ -1,7 +1,7 @@
 ghost use Rattle.std.specs.Prelude.{◌≡◌, map, IsTrue};
 ghost use Rattle.std.specs.List.{list_all};
 ghost use Rattle.prefix_codes.specs.TableName.{entries};
-ghost use Rattle.prefix_codes.specs.Row.{entry_of, fits};
+ghost use Rattle.prefix_codes.specs.Row.{entry_of, has_code};
 
 use crate::code::Code;
 use crate::table_name::TableName;
@@ -38,7 +38,7 @@ pub struct Row {
 /// The rows of a table, in the order of the standard.
 pub fn rows(table: TableName) -> &'static [Row]
     ensures entries { map entry_of result.now ≡ entries table }
-    ensures codes { IsTrue (list_all fits result.now) }
+    ensures codes { IsTrue (list_all has_code result.now) }
 {
     match table {
         TableName::Address => &macroblocks::MACROBLOCK_ADDRESS_INCREMENT,
