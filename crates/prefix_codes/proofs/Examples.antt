@@ -2,7 +2,7 @@
 use Rattle.std.proofs.Common.{◌≡◌, Some, None, [], ◌∷◌, refl}
 use Rattle.prefix_codes.specs.declared.symbol.TheConstants.{END_OF_BLOCK, ESCAPE}
 use Rattle.prefix_codes.specs.declared.table_name.TableName.TheVariants.{CoeffZero, CoeffFirst, CoeffOne}
-use Rattle.prefix_codes.specs.Bits.{bits_of, number_of, front_of}
+use Rattle.bit_lists.specs.Bits.{bits_of, front_of}
 use Rattle.prefix_codes.specs.TableName.{code_in, coefficient_code, Begins}
 use Rattle.prefix_codes.proofs.Computing.{tables}
 
@@ -45,7 +45,3 @@ no_run_62 = refl
 no_level_65 : coefficient_code CoeffZero 0 65 ≡ None
 unfolding tables
 no_level_65 = refl
-
-window_number : number_of (bits_of 24 0xC0_0001) ≡ 0xC0_0001
-unfolding tables
-window_number = refl

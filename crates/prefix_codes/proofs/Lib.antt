@@ -1,4 +1,3 @@
-pub mod BitsLemmas
 pub mod CoefficientLemmas
 pub mod Computing
 pub mod Examples

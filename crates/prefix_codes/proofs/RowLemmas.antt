@@ -5,11 +5,11 @@ use Rattle.std.proofs.lemmas.Option.{slice_get-map, slice_get-get_or, slice_get_
 use Rattle.std.proofs.lemmas.List.{length-map}
 use Rattle.prefix_codes.specs.declared.table_name.TableName.{TableName}
 use Rattle.prefix_codes.specs.declared.tables.Row.{Row}
-use Rattle.prefix_codes.specs.Bits.{IsPrefix}
+use Rattle.bit_lists.specs.Bits.{IsPrefix}
 use Rattle.prefix_codes.specs.Entry.{Entry}
 use Rattle.prefix_codes.specs.Row.{entry_of}
 use Rattle.prefix_codes.specs.TableName.{entries, code_in, Begins}
-use Rattle.prefix_codes.proofs.BitsLemmas.{length-bits_of}
+use Rattle.bit_lists.proofs.BitLemmas.{length-bits_of}
 use Rattle.prefix_codes.proofs.TableLemmas.{code_in-entry, entry-code_in, Begins-same}
 
 -- the row at a place, and past the end one with an empty code

@@ -6,7 +6,7 @@ use Rattle.std.specs.Map.{lookup, keys_of}
 use Rattle.std.proofs.lemmas.Bool.{and_parts, and_from, eqb-true, cases_Bool, cases_lt, not-true, both_ways}
 use Rattle.std.proofs.lemmas.List.{take-take}
 use Rattle.std.proofs.lemmas.Map.Entries.{lookup_head, lookup_tail, lookup_from_place, place_from_lookup}
-use Rattle.prefix_codes.specs.Bits.{IsPrefix}
+use Rattle.bit_lists.specs.Bits.{IsPrefix}
 use Rattle.prefix_codes.specs.Entry.{Entry}
 use Rattle.prefix_codes.specs.TableName.{entries, code_in, Begins}
 use Rattle.prefix_codes.specs.declared.table_name.TableName.{TableName}

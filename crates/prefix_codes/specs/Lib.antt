@@ -1,4 +1,3 @@
-pub mod Bits
 pub mod CoefficientTables
 pub mod Entry
 pub mod MacroblockTables

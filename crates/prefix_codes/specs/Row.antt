@@ -3,7 +3,7 @@ use Rattle.std.specs.Prelude.{◌^◌, ◌&&◌, Bool, nat_lt, nat_le}
 use Rattle.prefix_codes.specs.declared.code.Code.{Code}
 use Rattle.prefix_codes.specs.declared.lookup.TheConstants.{WINDOW_BITS}
 use Rattle.prefix_codes.specs.declared.tables.Row.{Row}
-use Rattle.prefix_codes.specs.Bits.{bits_of}
+use Rattle.bit_lists.specs.Bits.{bits_of}
 use Rattle.prefix_codes.specs.Entry.{Entry}
 
 -- the entry that a row stands for

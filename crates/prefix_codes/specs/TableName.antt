@@ -4,7 +4,7 @@ use Rattle.std.specs.Map.{lookup}
 use Rattle.prefix_codes.specs.declared.symbol.TheConstants.{LEVELS_PER_RUN, RUNS}
 use Rattle.prefix_codes.specs.declared.table_name.TableName.{TableName}
 use Rattle.prefix_codes.specs.declared.table_name.TableName.TheVariants.{Address, TypeI, TypeP, TypeB, Pattern, Motion, DcLuma, DcChroma, CoeffZero, CoeffFirst, CoeffOne}
-use Rattle.prefix_codes.specs.Bits.{IsPrefix}
+use Rattle.bit_lists.specs.Bits.{IsPrefix}
 use Rattle.prefix_codes.specs.Entry.{Entry, coefficient_symbol}
 use Rattle.prefix_codes.specs.MacroblockTables.{macroblock_address_increment, macroblock_type_i, macroblock_type_p, macroblock_type_b, coded_block_pattern, motion_code, dct_dc_size_luminance, dct_dc_size_chrominance}
 use Rattle.prefix_codes.specs.CoefficientTables.{dct_coefficients_zero, dct_coefficients_first, dct_coefficients_one}
@@ -27,7 +27,7 @@ entries CoeffOne = dct_coefficients_one
 unfoldable pub code_in : TableName → ℕ → Option (List ℕ)
 code_in table symbol = lookup (nat_eq symbol) (entries table)
 
--- the code of a run and the size of a level, if the table has one
+-- the code of a run and the size of a level, if the table has one: past these limits the sum would be another symbol
 unfoldable pub coefficient_code : TableName → ℕ → ℕ → Option (List ℕ)
 coefficient_code table run level =
     if nat_lt run RUNS && nat_lt 0 level && nat_lt level LEVELS_PER_RUN then code_in table (coefficient_symbol run level) else None

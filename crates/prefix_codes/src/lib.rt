@@ -2,7 +2,7 @@
 //!
 //! `find` reads the code at the front of some bits, and `code_of` gives the code that a symbol is written by. A table is
 //! a list of pairs of a symbol and a code, and no code of a table begins another one of it, so both have one answer.
-//! Neither call takes memory. Stands on the standard library alone.
+//! Neither call takes memory. Stands on `bit_lists`, which has the words on bits.
 #![tactic(auto)]
 
 mod code;

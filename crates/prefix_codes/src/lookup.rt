@@ -1,5 +1,5 @@
 ghost use Rattle.std.specs.Prelude.{◌≡◌, ◌<◌, ◌≤◌, ◌^◌, ◌↔◌, ℕ, IfSome, IfNone, IsTrue};
-ghost use Rattle.prefix_codes.specs.Bits.{bits_of, front_of, IsPrefix};
+ghost use Rattle.bit_lists.specs.Bits.{bits_of, front_of, IsPrefix};
 ghost use Rattle.prefix_codes.specs.Row.{is_code};
 ghost use Rattle.prefix_codes.specs.TableName.{code_in, Begins};
 
@@ -30,8 +30,8 @@ pub fn find(table: TableName, window: u32, known: u32) -> Option<(u16, u8)>
 /// The code that a symbol is written by, without the sign bit of a motion code or a level. None where the table lacks
 /// the symbol.
 ///
-/// A coefficient's symbol is that of a run and a level only where the table has such a level: see
-/// `symbol::LEVELS_PER_RUN`.
+/// Ask for a coefficient only where its run is below `symbol::RUNS` and its level below `symbol::LEVELS_PER_RUN`: run 62
+/// with level 32 would be the end of block, and run 0 with level 65 run 1 with level 1.
 pub fn code_of(table: TableName, symbol: u16) -> Option<Code>
     ensures code { IfSome result (λ code. code_in table symbol ≡ Some (bits_of code.len code.bits)) }
     ensures fits { IfSome result (λ code. code.bits < 2 ^ code.len) }

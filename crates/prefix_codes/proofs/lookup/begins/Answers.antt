@@ -1,6 +1,6 @@
 use Rattle.std.proofs.Common.{◌≡◌, ◌-◌, ◌/◌, ◌%◌, ◌^◌, ◌<◌, ◌≤◌, nat_lt, nat_le, sym, ap, ◌∙◌, arith, eq-eqb}
 use Rattle.std.proofs.lemmas.Bool.{and_parts, ltb-true, leb-true, eqb-true}
-use Rattle.prefix_codes.proofs.BitsLemmas.{IsPrefix-known, IsPrefix-short}
+use Rattle.bit_lists.proofs.BitLemmas.{IsPrefix-known, IsPrefix-short}
 use Rattle.prefix_codes.proofs.lookup.begins.Goals as goal
 
 pub returns-then-len-known-clause-front : goal.returns-then-len-known-clause-front

@@ -1,5 +1,5 @@
 use Rattle.std.proofs.Common.{ℕ, ◌<◌}
-use Rattle.prefix_codes.specs.Bits.{front_of, IsPrefix}
+use Rattle.bit_lists.specs.Bits.{front_of, IsPrefix}
 use Rattle.prefix_codes.specs.Row.{entry_of}
 use Rattle.prefix_codes.proofs.RowLemmas.{row_at}
 use Rattle.prefix_codes.proofs.lookup.find.Given as goal
