@@ -2,7 +2,7 @@
 use Rattle.std.proofs.Common.{◌≡◌, ◌≢◌, ℕ, ◌+◌, ◌*◌, ◌/◌, ◌%◌, Bool, true, ◌&&◌, ◌||◌, nat_eq, nat_lt, List, Some, None, refl, ap, ◌∙◌, arith, inl, inr}
 use Rattle.std.specs.List.{list_all}
 use Rattle.std.proofs.Math.Nat.{div-add-mod}
-use Rattle.std.proofs.lemmas.Bool.{and_parts, and_from, or_cases, cond-true, eqb-true, lt-ltb}
+use Rattle.std.proofs.lemmas.Bool.{and_from, or_cases, cond-true, eqb-true, lt-ltb}
 use Rattle.prefix_codes.specs.declared.symbol.TheConstants.{END_OF_BLOCK, ESCAPE, LEVELS_PER_RUN, RUNS}
 use Rattle.prefix_codes.specs.declared.table_name.TableName.{TableName}
 use Rattle.prefix_codes.specs.declared.table_name.TableName.TheVariants.{CoeffZero, CoeffFirst, CoeffOne}
@@ -32,15 +32,16 @@ are_coefficients one_is = refl
 pub coefficient_code-symbol : {table : TableName} (s : ℕ) (code : List ℕ) → IsCoefficients table → code_in table s ≡ Some code → s ≢ END_OF_BLOCK → s ≢ ESCAPE → coefficient_code table (s / LEVELS_PER_RUN) (s % LEVELS_PER_RUN) ≡ Some code
 unfolding coefficient_code
 coefficient_code-symbol {table} s code is found no_end no_escape =
+    let run = s / LEVELS_PER_RUN in
+    let level = s % LEVELS_PER_RUN in
     let passes = code_in-passes is_coefficient_entry table s code (are_coefficients is) found in
-    let place : (nat_lt (s / 64) 32 && nat_lt 0 (s % 64)) ≡ true = elim (or_cases (nat_eq s 4000) _ passes) [
-      | inl end ↦ absurd (no_end (eqb-true s 4000 end))
-      | inr rest ↦ elim (or_cases (nat_eq s 4001) _ rest) [
-        | inl escape ↦ absurd (no_escape (eqb-true s 4001 escape))
+    let place : (nat_lt run RUNS && nat_lt 0 level) ≡ true = elim (or_cases (nat_eq s END_OF_BLOCK) _ passes) [
+      | inl end ↦ absurd (no_end (eqb-true s END_OF_BLOCK end))
+      | inr rest ↦ elim (or_cases (nat_eq s ESCAPE) _ rest) [
+        | inl escape ↦ absurd (no_escape (eqb-true s ESCAPE escape))
         | inr place ↦ place
       ]
     ] in
-    let parts = and_parts (nat_lt (s / 64) 32) (nat_lt 0 (s % 64)) place in
-    let low : nat_lt (s % 64) 64 ≡ true = lt-ltb (s % 64) 64 (omega arith) in
-    let symbol : 64 * (s / 64) + s % 64 ≡ s = div-add-mod s 64 in
-    cond-true _ (code_in table (64 * (s / 64) + s % 64)) None (and_from _ _ place low) ∙ ap (code_in table) symbol ∙ found
+    let low : nat_lt level LEVELS_PER_RUN ≡ true = lt-ltb level LEVELS_PER_RUN (omega arith) in
+    cond-true _ (code_in table (LEVELS_PER_RUN * run + level)) None (and_from _ _ place low)
+    ∙ ap (code_in table) (div-add-mod s LEVELS_PER_RUN) ∙ found

@@ -49,7 +49,8 @@ pub fn code_of(table: TableName, symbol: u16) -> Option<Code>
 /// Whether a code begins the first `known` bits of a window.
 fn begins(code: Code, window: u32, known: u32) -> bool
     requires { IsTrue (is_code code) }
-    ensures front { IsTrue result ↔ IsPrefix (bits_of code.len code.bits) (front_of WINDOW_BITS window known) }
+    ensures front { IsTrue result ↔
+        IsPrefix (bits_of code.len code.bits) (front_of WINDOW_BITS window known) }
     ensures len { IsTrue result → code.len ≤ known }
 {
     let len = u32::from(code.len);
