@@ -1,0 +1,9 @@
+pub mod Counts
+pub mod Files
+pub mod Shelf
+pub mod Sink
+pub mod MemShelf
+pub mod CalmShelf
+pub mod MemSink
+pub mod FileShelf
+pub mod WholeFile
