@@ -1,8 +1,8 @@
-ghost use Rattle.std.specs.Prelude.{◌≡◌, ◌≢◌, ℕ, [], ◌++◌, ◌≤◌, ◌↔◌, None, length, IfOk, OnOk, OnErr, IsErrOf, IsSomeAnd, IsOkUnless};
+ghost use Rattle.std.specs.Prelude.{◌≡◌, ◌≢◌, ℕ, [], ◌++◌, ◌≤◌, ◌↔◌, None, length, drop, IfOk, OnOk, OnErr, IsErrOf, IsSomeAnd, IsOkUnless};
 ghost use Rattle.std.specs.Option.{option_copied};
 ghost use Rattle.std.specs.FinMap.{empty, get, insert};
 ghost use Rattle.shelf_io.specs.Files.{content_of};
-ghost use Rattle.shelf_io.specs.Shelf.{Reads};
+ghost use Rattle.shelf_io.specs.Buffer.{Fills};
 
 use crate::fault::Fault;
 use crate::file_table::FileTable;
@@ -72,7 +72,7 @@ impl Shelf for CalmShelf {
         ensures missing { IsErrOf result Fault.Missing ↔ (get self.old.files name.now ≡ None) }
         ensures only { IsOkUnless result Fault.Missing }
         ensures count { IfOk result (λ n. n ≤ length buf.old) }
-        ensures held { IfOk result (λ n. IsSomeAnd (get self.old.files name.now) (λ content. Reads content at buf.old buf.new n)) }
+        ensures held { IfOk result (λ n. IsSomeAnd (get self.old.files name.now) (λ content. Fills (drop at content) buf.old buf.new n)) }
         ensures kept { OnErr result (buf.new ≡ buf.old) }
         ensures after { self.new ≡ after_read self.old result }
     {

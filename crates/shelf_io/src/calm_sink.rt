@@ -39,10 +39,17 @@ impl CalmSink {
 
 impl Sink for CalmSink {
     ghost use Rattle.std.specs.Prelude.{Some};
+    ghost use Rattle.std.proofs.Common.{rules};
 
     ghost written = { λ sink. Some sink };
 
     ghost faults = { λ _. 0 };
+
+    ghost keeps = { λ _ _. Unit {0} };
+
+    ghost keeps_itself = { Prim.search rules };
+
+    ghost keeps_on = { Prim.search rules };
 
     fn put(&mut self, piece: &[u8]) -> Result<usize, Fault>
         ensures whole { IfOk result (λ n. n ≡ length piece.now) }

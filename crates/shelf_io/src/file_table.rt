@@ -1,9 +1,10 @@
-ghost use Rattle.std.specs.Prelude.{◌≡◌, [], ◌↔◌, ◌++◌, None, IsNone, IfSome, IfNone, OnOk, OnErr, IsSomeAnd};
+ghost use Rattle.std.specs.Prelude.{◌≡◌, [], ◌↔◌, ◌++◌, None, IsNone, drop, IfSome, IfNone, OnOk, OnErr, IsSomeAnd};
 ghost use Rattle.std.specs.Option.{option_copied};
 ghost use Rattle.std.specs.FinMap.{empty, get, insert};
-ghost use Rattle.shelf_io.specs.Shelf.{Reads};
+ghost use Rattle.shelf_io.specs.Buffer.{Fills};
 ghost use Rattle.shelf_io.specs.Files.{content_of};
 
+use crate::buffer::{bytes_from, copy_front};
 use std::alloc::{AllocError, Global};
 use std::collections::BTreeMap;
 use std::marker::Model;
@@ -48,11 +49,11 @@ impl FileTable {
     /// Reads from place `at` of a file, and answers how many bytes, or None where the file isn't held.
     pub fn read(&self, name: &str, at: u64, buf: &mut [u8]) -> Option<usize>
         ensures absent { IsNone result ↔ (get self.now name.now ≡ None) }
-        ensures held { IfSome result (λ n. IsSomeAnd (get self.now name.now) (λ content. Reads content at buf.old buf.new n)) }
+        ensures held { IfSome result (λ n. IsSomeAnd (get self.now name.now) (λ content. Fills (drop at content) buf.old buf.new n)) }
         ensures kept { IfNone result (buf.new ≡ buf.old) }
     {
         match self.content(name) {
-            Some(content) => Some(copy_from(content, at, buf)),
+            Some(content) => Some(copy_front(bytes_from(content, at), buf)),
             None => None,
         }
     }
@@ -85,15 +86,4 @@ impl FileTable {
             None => self.set(name, Vec::from_slice(self.alloc, piece)?),
         }
     }
-}
-
-/// Copies bytes from place `at` of a content into the front of a buffer.
-fn copy_from(content: &[u8], at: u64, buf: &mut [u8]) -> usize
-    ensures { Reads content.now at buf.old buf.new result }
-{
-    let start = content.len().min(at as usize);
-    let rest = &content[start..];
-    let count = rest.len().min(buf.len());
-    buf[..count].copy_from_slice(&rest[..count]);
-    count
 }

@@ -1,9 +1,9 @@
-ghost use Rattle.std.specs.Prelude.{◌≡◌, ◌≢◌, ℕ, [], ◌++◌, ◌≤◌, ◌↔◌, None, length, IsTrue, IfOk, OnOk, OnErr, IsErrOf, IsSomeAnd, IsOkUnless, Contains};
+ghost use Rattle.std.specs.Prelude.{◌≡◌, ◌≢◌, ℕ, [], ◌++◌, ◌≤◌, ◌↔◌, None, length, drop, IsTrue, IfOk, OnOk, OnErr, IsErrOf, IsSomeAnd, IsOkUnless, Contains};
 ghost use Rattle.std.specs.Option.{option_copied};
 ghost use Rattle.std.specs.FinMap.{empty, get, insert};
 ghost use Rattle.shelf_io.specs.Counts.{one_more};
 ghost use Rattle.shelf_io.specs.Files.{content_of};
-ghost use Rattle.shelf_io.specs.Shelf.{Reads};
+ghost use Rattle.shelf_io.specs.Buffer.{Fills};
 
 use crate::fault::Fault;
 use crate::file_table::FileTable;
@@ -84,7 +84,7 @@ impl Shelf for MemShelf {
         ensures missing { IsErrOf result Fault.Missing ↔ ((¬ FailsNext self.old) × (get self.old.files name.now ≡ None)) }
         ensures memory { result ≢ Err Fault.OutOfMemory }
         ensures count { IfOk result (λ n. n ≤ length buf.old) }
-        ensures held { IfOk result (λ n. IsSomeAnd (get self.old.files name.now) (λ content. Reads content at buf.old buf.new n)) }
+        ensures held { IfOk result (λ n. IsSomeAnd (get self.old.files name.now) (λ content. Fills (drop at content) buf.old buf.new n)) }
         ensures kept { OnErr result (buf.new ≡ buf.old) }
         ensures after { self.new ≡ after_read self.old result }
     {

@@ -50,11 +50,18 @@ impl MemSink {
 
 impl Sink for MemSink {
     ghost use Rattle.std.specs.Prelude.{Some};
+    ghost use Rattle.std.proofs.Common.{rules};
     ghost use Rattle.shelf_io.specs.MemSink.{FailsNext, after_put};
 
     ghost written = { λ sink. Some sink.written };
 
     ghost faults = { λ sink. sink.faults };
+
+    ghost keeps = { λ old new. new.failing ≡ old.failing };
+
+    ghost keeps_itself = { Prim.search rules };
+
+    ghost keeps_on = { Prim.search rules };
 
     fn put(&mut self, piece: &[u8]) -> Result<usize, Fault>
         ensures failed { IsErrOf result Fault.Failed ↔ FailsNext self.old }

@@ -32,10 +32,17 @@ impl<'a, R: Print> OutSink<'a, R> {
 
 impl<'a, R: Print> Sink for OutSink<'a, R> {
     ghost use Rattle.std.specs.Prelude.{None};
+    ghost use Rattle.std.proofs.Common.{rules};
 
     ghost written = { λ _. None };
 
     ghost faults = { λ faults. faults };
+
+    ghost keeps = { λ _ _. Unit {0} };
+
+    ghost keeps_itself = { Prim.search rules };
+
+    ghost keeps_on = { Prim.search rules };
 
     fn put(&mut self, piece: &[u8]) -> Result<usize, Fault> {
         if piece.is_empty() {

@@ -1,7 +1,7 @@
-ghost use Rattle.std.specs.Prelude.{◌≡◌, ◌≢◌, ℕ, Option, [], List, length, take, ◌<◌, ◌≤◌, IfOk, OnOk, OnErr, OnSome, IsErrOf};
+ghost use Rattle.std.specs.Prelude.{◌≡◌, ◌≢◌, ℕ, Option, [], List, length, drop, take, ◌<◌, ◌≤◌, IfOk, OnOk, OnErr, OnSome, IsErrOf};
 ghost use Rattle.shelf_io.specs.Counts.{Rose};
 ghost use Rattle.shelf_io.specs.Files.{Files, IfTold, Lacks, with_content, with_more};
-ghost use Rattle.shelf_io.specs.Shelf.{Reads};
+ghost use Rattle.shelf_io.specs.Buffer.{Fills};
 
 use crate::fault::Fault;
 
@@ -23,7 +23,7 @@ pub trait Shelf {
     /// a buffer that isn't empty only at or past the file's end.
     fn read(&mut self, name: &str, at: u64, buf: &mut [u8]) -> Result<usize, Fault>
         ensures count { IfOk result (λ n. n ≤ length buf.old) }
-        ensures held { IfOk result (λ n. IfTold (files self.old) name.now (λ content. Reads content at buf.old buf.new n)) }
+        ensures held { IfOk result (λ n. IfTold (files self.old) name.now (λ content. Fills (drop at content) buf.old buf.new n)) }
         ensures kept { OnErr result (OnSome (files self.old) (buf.new ≡ buf.old)) }
         ensures files { files self.new ≡ files self.old }
 

@@ -12,6 +12,9 @@ pub trait Sink {
     /// How many calls have failed.
     ghost faults: { Self → ℕ };
 
+    /// A later state keeps what no call of `put` changes: what it borrows, and what isn't written to.
+    ghost keeps: { Self → Self → Type 0 };
+
     /// Adds bytes from the front of a piece, and answers how many. It answers 0 only for an empty piece.
     fn put(&mut self, piece: &[u8]) -> Result<usize, Fault>
         ensures count { IfOk result (λ n. n ≤ length piece.now) }
@@ -21,7 +24,12 @@ pub trait Sink {
 
         ensures failed { IsErrOf result Fault.Failed → Rose (faults self.old) (faults self.new) }
         ensures never_missing { result ≢ Err Fault.Missing }
-        ensures faults { faults self.old ≤ faults self.new };
+        ensures faults { faults self.old ≤ faults self.new }
+        ensures keeps { keeps self.old self.new };
+
+    ghost keeps_itself: { (sink : Self) → keeps sink sink };
+
+    ghost keeps_on: { (first second third : Self) → keeps first second → keeps second third → keeps first third };
 }
 
 /// Adds a whole piece. After a fault a prefix of it was added.
@@ -32,6 +40,7 @@ pub fn put_all<K: Sink>(sink: &mut K, piece: &[u8]) -> Result<(), Fault>
     ensures failed { IsErrOf result Fault.Failed → Rose (K.faults sink.old) (K.faults sink.new) }
     ensures never_missing { result ≢ Err Fault.Missing }
     ensures faults { K.faults sink.old ≤ K.faults sink.new }
+    ensures keeps { K.keeps sink.old sink.new }
 {
     let mut done = 0;
     while done < piece.len() {

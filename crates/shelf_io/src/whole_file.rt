@@ -5,6 +5,8 @@ ghost use Rattle.shelf_io.specs.WholeFile.{AddsNext, HoldsPrefix};
 
 use crate::fault::Fault;
 use crate::shelf::Shelf;
+use crate::sink::put_all;
+use crate::writing::Writing;
 use list_types::ListOf;
 use std::alloc::Global;
 
@@ -87,9 +89,5 @@ pub fn write_file<K: Shelf>(shelf: &mut K, name: &str, bytes: &[u8]) -> Result<(
     ensures absences { K.absences shelf.new ≡ K.absences shelf.old }
 {
     shelf.start(name)?;
-    let mut done = 0;
-    while done < bytes.len() {
-        done += shelf.append(name, &bytes[done..])?;
-    }
-    Ok(())
+    put_all(&mut Writing::new(shelf, name), bytes)
 }

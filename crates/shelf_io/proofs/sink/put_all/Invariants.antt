@@ -7,6 +7,7 @@ invariant-loop-done g l = record {
   within : l.done ≤ length l.piece;
   told : g.K.Sink.written l.sink ≡ with_bytes (g.K.Sink.written l.fn.sink) (take l.done l.piece);
   faults : g.K.Sink.faults l.fn.sink ≤ g.K.Sink.faults l.sink;
+  keeps : g.K.Sink.keeps l.fn.sink l.sink;
 }
 
 abbrev pub decreases-loop-done : goal.decreases-loop-done

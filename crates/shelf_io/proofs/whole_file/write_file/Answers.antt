@@ -1,15 +1,11 @@
-use Rattle.std.proofs.Common.{arith, ◌≤◌, ◌-◌, ◌∙◌, length}
-use Rattle.std.proofs.lemmas.Grind.{common_steps}
-use Rattle.shelf_io.proofs.Whole.{with_content_grown}
+use Rattle.std.proofs.Common.{rules, ap, ◌∙◌}
+use Rattle.shelf_io.proofs.Started.{wrote_whole, wrote_part}
 use Rattle.shelf_io.proofs.whole_file.write_file.Goals as goal
 
-pub loop-done-preserved : goal.loop-done-preserved
-loop-done-preserved g c =
-    let count : c.in_ok-done.field-0 ≤ length c.args.bytes.now - c.loop-done.done = grind (arith, common_steps) in
-    record {
-      within = omega arith;
-      told = with_content_grown _ _ _ c.args.name.now c.args.bytes.now c.loop-done.done c.in_ok-done.field-0 count c.loop-done.invariant.told c.in_ok-done.ensures.ok;
-      faults = c.in_ok-done.ensures.faults ∙ c.loop-done.invariant.faults;
-      write_faults = omega arith;
-      absences = c.in_ok-done.ensures.absences ∙ c.loop-done.invariant.absences;
-    }
+pub returns-clause-ok : goal.returns-clause-ok
+returns-clause-ok g c = wrote_whole g.K.Shelf.files g.K.Shelf.faults g.K.Shelf.absences c.new.result c.put_all.new.sink (g.K.Shelf.files c.args.shelf.now) _ c.args.name.now c.new.ensures.name
+    (ap g.K.Shelf.files c.new.ensures.shelf ∙ c.in_ok-start.ensures.ok) c.put_all.ensures.keeps (search rules) c.put_all.result c.args.bytes.now c.put_all.ensures.ok
+
+pub returns-clause-err : goal.returns-clause-err
+returns-clause-err g c = wrote_part g.K.Shelf.files g.K.Shelf.faults g.K.Shelf.absences c.new.result c.put_all.new.sink (g.K.Shelf.files c.args.shelf.now) _ c.args.name.now c.new.ensures.name
+    (ap g.K.Shelf.files c.new.ensures.shelf ∙ c.in_ok-start.ensures.ok) c.put_all.ensures.keeps (search rules) c.put_all.result c.args.bytes.now c.put_all.ensures.err
