@@ -43,3 +43,6 @@ pub use source::{Source, take_full};
 pub use vec_sink::VecSink;
 pub use whole_file::{read_file, write_file};
 pub use writing::Writing;
+
+#[cfg(test)]
+mod tests;
