@@ -1,0 +1,56 @@
+-- The one written spelling of the header of a video PES packet (ISO/IEC 13818-1, 2.4.3.6 and 2.4.3.7).
+use Rattle.std.specs.Prelude.{◌≡◌, ℕ, ◌+◌, ◌*◌, ◌/◌, ◌%◌, ◌^◌, ◌<◌, ◌==◌, Bool, List, [], ◌∷◌, ◌++◌, length, drop, Option, Some, None, IsSome, IfSome, if◌then◌else◌}
+use Rattle.std.specs.Int.{w64, to_be_bytes}
+use Rattle.pes_units.specs.declared.pes_header.PesHeader.{PesHeader}
+use Rattle.pes_units.specs.declared.times.Times.{Times}
+
+-- times of 33 bits
+abbrev pub AreInRange : Times → Type 0
+AreInRange times = IfSome times.pts (λ pts. pts < 2 ^ 33) × IfSome times.dts (λ dts. dts < 2 ^ 33)
+
+-- a DTS stands only beside a PTS
+abbrev pub IsBesidePts : Times → Type 0
+IsBesidePts times = IsSome times.dts → IsSome times.pts
+
+-- the DTS that is written: none where it is the PTS
+abbrev pub written_dts : Option ℕ → Option ℕ → Option ℕ
+written_dts None dts = None
+written_dts (Some pts) None = None
+written_dts (Some pts) (Some dts) = if dts == pts then None else Some dts
+
+abbrev pub written_times : Times → Times
+written_times times = record { pts = times.pts; dts = written_dts times.pts times.dts }
+
+-- four bits that say which time it is, then 3, 15 and 15 bits of it with a marker bit 1 behind each
+abbrev pub time_bytes : ℕ → ℕ → List ℕ
+time_bytes which time =
+    drop 3 (to_be_bytes w64 (2 ^ 36 * which + 2 ^ 33 * (time / 2 ^ 30) + 2 ^ 32 + 2 ^ 17 * (time / 2 ^ 15 % 2 ^ 15) + 2 ^ 16 + 2 * (time % 2 ^ 15) + 1))
+
+-- PTS_DTS_flags, and the times behind the ninth byte: `0010` before a PTS alone, `0011` and `0001` before both
+abbrev pub written_flags : Option ℕ → Option ℕ → ℕ
+written_flags None dts = 0
+written_flags (Some pts) None = 2
+written_flags (Some pts) (Some dts) = 3
+
+abbrev pub time_fields : Option ℕ → Option ℕ → List ℕ
+time_fields None dts = []
+time_fields (Some pts) None = time_bytes 2 pts
+time_fields (Some pts) (Some dts) = time_bytes 3 pts ++ time_bytes 1 dts
+
+-- stream id E0, no stated length, and no flag but those of the times
+abbrev pub spelled : Times → List ℕ
+spelled times =
+    let fields = time_fields times.pts times.dts in
+    0x00 ∷ 0x00 ∷ 0x01 ∷ 0xE0 ∷ 0x00 ∷ 0x00 ∷ 0x80 ∷ 2 ^ 6 * written_flags times.pts times.dts ∷ length fields ∷ fields
+
+abbrev pub written_header : Times → List ℕ
+written_header times = spelled (written_times times)
+
+-- what is read of it
+abbrev pub written_fields : Times → PesHeader
+written_fields times = record {
+  stream_id = 0xE0;
+  stated = 0;
+  times = written_times times;
+  len = length (written_header times);
+}

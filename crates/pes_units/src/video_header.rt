@@ -1,0 +1,80 @@
+ghost use Rattle.std.specs.Prelude.{◌≡◌, ◌<◌, ◌^◌, ℕ, List, true, ◌++◌, length, take, drop};
+ghost use Rattle.pes_units.specs.PesHeader.{IsPesHeader};
+ghost use Rattle.pes_units.specs.VideoHeader.{AreInRange, IsBesidePts, time_bytes, written_dts, written_fields, written_header};
+
+use crate::times::Times;
+
+/// Length in bytes of the longest header that is written.
+pub const MOST_HEADER_BYTES: usize = 19;
+
+/// `stream_id` of the first video stream.
+const VIDEO_STREAM_ID: u8 = 0xE0;
+
+/// Byte 6: the bits 10, no scrambling and no flag.
+const FIXED_BYTE: u8 = 0x80;
+
+/// Writes the header of a video PES packet: stream id E0, no stated length, and the times, of which the DTS stands only
+/// where it differs from the PTS. Gives the header's length, which is 9, 14 or 19 bytes; the bytes behind it stay as
+/// they were. The times are below 2^33, and a DTS stands only beside a PTS.
+pub fn write_video_header(times: &Times, into: &mut [u8; MOST_HEADER_BYTES]) -> u8
+    requires in_range { AreInRange times.now }
+    requires beside { IsBesidePts times.now }
+    ensures bytes { into.new ≡ written_header times.now ++ drop result into.old }
+    ensures length { result ≡ length (written_header times.now) }
+    // With any payload behind it, it is read as the same times.
+    ensures header { (payload : List ℕ) → 0 < length payload → IsPesHeader true (written_fields times.now) (take result into.new ++ payload) }
+{
+    let dts = dts_to_write(times);
+    let (flags, data_length) = match (times.pts, dts) {
+        (None, _) => (0b00, 0),
+        (Some(_), None) => (0b10, 5),
+        (Some(_), Some(_)) => (0b11, 10),
+    };
+    into[..9].copy_from_slice(&[
+        0x00,
+        0x00,
+        0x01,
+        VIDEO_STREAM_ID,
+        0x00,
+        0x00,
+        FIXED_BYTE,
+        flags << 6,
+        data_length,
+    ]);
+    if let Some(pts) = times.pts {
+        into[9..14].copy_from_slice(&time_field(flags, pts));
+    }
+    if let Some(dts) = dts {
+        into[14..19].copy_from_slice(&time_field(0b01, dts));
+    }
+    9 + data_length
+}
+
+/// The DTS where it differs from the PTS.
+fn dts_to_write(times: &Times) -> Option<u64>
+    requires { IsBesidePts times.now }
+    ensures { result ≡ written_dts times.now.pts times.now.dts }
+{
+    if times.dts == times.pts {
+        None
+    } else {
+        times.dts
+    }
+}
+
+/// The five bytes of a time behind the four bits that say which it is.
+fn time_field(which: u8, time: u64) -> [u8; 5]
+    requires which { which < 4 }
+    requires in_range { time < 2 ^ 33 }
+    ensures { result ≡ time_bytes which time }
+{
+    let word = u64::from(which) << 36
+        | (time >> 30) << 33
+        | 1 << 32
+        | (time >> 15 & 0x7FFF) << 17
+        | 1 << 16
+        | (time & 0x7FFF) << 1
+        | 1;
+    let [_, _, _, a, b, c, d, e] = word.to_be_bytes();
+    [a, b, c, d, e]
+}
