@@ -1,1 +1,6 @@
+pub mod Cycles
+pub mod Elements
+pub mod Prefix
+pub mod Sound
+pub mod TimeFields
 pub mod WorkedExamples

@@ -36,6 +36,7 @@ impl PesHeader {
 
     /// The header that a PES packet of a video stream, or else of an audio stream, begins with. An error is the first
     /// fault that the packet has, in the order of `PesFault`.
+    #[tactic(auto, using(crate::proofs::Elements::elements))]
     pub fn read(bytes: &[u8], video: bool) -> Result<PesHeader, PesFault>
         // What is read is the packet's header, and the packet's header is read.
         ensures header { IfOk result (λ header. IsPesHeader video header bytes.now) }
@@ -73,6 +74,7 @@ impl PesHeader {
 ghost use Rattle.pes_units.specs.PesHeader.{has_prefix, is_stream_id};
 
 /// Whether those of the first four bytes that stand are a start code prefix and a stream id of the kind.
+#[tactic(auto, using(crate::proofs::Elements::elements))]
 fn has_prefix(bytes: &[u8], video: bool) -> bool
     ensures { result ≡ has_prefix video bytes.now }
 {

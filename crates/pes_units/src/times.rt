@@ -20,6 +20,7 @@ pub struct Times {
 
 impl Times {
     /// The times of the header that the bytes begin with. The error is BadMarker.
+    #[tactic(auto, using(crate::proofs::Elements::elements))]
     pub(crate) fn read(bytes: &[u8]) -> Result<Times, PesFault>
         requires first { 9 ≤ length bytes.now }
         requires whole { 9 + pes_header_data_length bytes.now ≤ length bytes.now }
