@@ -25,13 +25,13 @@ pub sound-has : (bytes : List ℕ) → are_times_sound bytes ≡ true → HasTim
 sound-has bytes sound =
     let below : pts_dts_flags bytes < 4 = omega (arith, pts_dts_flags-is bytes) in
     elim (four_cases (pts_dts_flags bytes) below) [
-      inl none ↦ rw none none
-    | inr (inl forbidden) ↦ let refused = rw forbidden at sound in absurd cc
-    | inr (inr (inl one)) ↦
-        let tests = and_parts (leb 5 (pes_header_data_length bytes)) (has_markers bytes 9) (rw one at sound) in
-        rw one (one, leb-true 5 (pes_header_data_length bytes) tests.0, time-marked bytes 9 tests.1)
-    | inr (inr (inr both)) ↦
-        let tests = and_parts (leb 10 (pes_header_data_length bytes)) (has_markers bytes 9 && has_markers bytes 14) (rw both at sound) in
-        let markers = and_parts (has_markers bytes 9) (has_markers bytes 14) tests.1 in
-        rw both (both, leb-true 10 (pes_header_data_length bytes) tests.0, time-marked bytes 9 markers.0, time-marked bytes 14 markers.1)
+      | inl none ↦ rw none none
+      | inr (inl forbidden) ↦ let refused = rw forbidden at sound in absurd cc
+      | inr (inr (inl one)) ↦
+          let tests = and_parts (leb 5 (pes_header_data_length bytes)) (has_markers bytes 9) (rw one at sound) in
+          rw one (one, leb-true 5 (pes_header_data_length bytes) tests.0, time-marked bytes 9 tests.1)
+      | inr (inr (inr both)) ↦
+          let tests = and_parts (leb 10 (pes_header_data_length bytes)) (has_markers bytes 9 && has_markers bytes 14) (rw both at sound) in
+          let markers = and_parts (has_markers bytes 9) (has_markers bytes 14) tests.1 in
+          rw both (both, leb-true 10 (pes_header_data_length bytes) tests.0, time-marked bytes 9 markers.0, time-marked bytes 14 markers.1)
     ]

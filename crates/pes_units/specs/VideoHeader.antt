@@ -21,10 +21,13 @@ written_dts (Some pts) (Some dts) = if dts == pts then None else Some dts
 abbrev pub written_times : Times → Times
 written_times times = record { pts = times.pts; dts = written_dts times.pts times.dts }
 
--- four bits that say which time it is, then 3, 15 and 15 bits of it with a marker bit 1 behind each
+-- the field of a time as a number of 40 bits: four bits that say which time it is, then 3, 15 and 15 bits of it with a
+-- marker bit 1 behind each
+abbrev pub time_word : ℕ → ℕ → ℕ
+time_word which time = 2 ^ 36 * which + 2 ^ 33 * (time / 2 ^ 30) + 2 ^ 32 + 2 ^ 17 * (time / 2 ^ 15 % 2 ^ 15) + 2 ^ 16 + 2 * (time % 2 ^ 15) + 1
+
 abbrev pub time_bytes : ℕ → ℕ → List ℕ
-time_bytes which time =
-    drop 3 (to_be_bytes w64 (2 ^ 36 * which + 2 ^ 33 * (time / 2 ^ 30) + 2 ^ 32 + 2 ^ 17 * (time / 2 ^ 15 % 2 ^ 15) + 2 ^ 16 + 2 * (time % 2 ^ 15) + 1))
+time_bytes which time = drop 3 (to_be_bytes w64 (time_word which time))
 
 -- PTS_DTS_flags, and the times behind the ninth byte: `0010` before a PTS alone, `0011` and `0001` before both
 abbrev pub written_flags : Option ℕ → Option ℕ → ℕ
@@ -38,13 +41,14 @@ time_fields (Some pts) None = time_bytes 2 pts
 time_fields (Some pts) (Some dts) = time_bytes 3 pts ++ time_bytes 1 dts
 
 -- stream id E0, no stated length, and no flag but those of the times
-abbrev pub spelled : Times → List ℕ
-spelled times =
-    let fields = time_fields times.pts times.dts in
-    0x00 ∷ 0x00 ∷ 0x01 ∷ 0xE0 ∷ 0x00 ∷ 0x00 ∷ 0x80 ∷ 2 ^ 6 * written_flags times.pts times.dts ∷ length fields ∷ fields
+abbrev pub first_bytes : ℕ → ℕ → List ℕ
+first_bytes flags data_length = 0x00 ∷ 0x00 ∷ 0x01 ∷ 0xE0 ∷ 0x00 ∷ 0x00 ∷ 0x80 ∷ 2 ^ 6 * flags ∷ data_length ∷ []
+
+abbrev pub spelled : Option ℕ → Option ℕ → List ℕ
+spelled pts dts = first_bytes (written_flags pts dts) (length (time_fields pts dts)) ++ time_fields pts dts
 
 abbrev pub written_header : Times → List ℕ
-written_header times = spelled (written_times times)
+written_header times = spelled times.pts (written_dts times.pts times.dts)
 
 -- what is read of it
 abbrev pub written_fields : Times → PesHeader

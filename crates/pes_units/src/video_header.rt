@@ -1,6 +1,6 @@
 ghost use Rattle.std.specs.Prelude.{◌≡◌, ◌<◌, ◌^◌, ℕ, List, true, ◌++◌, length, take, drop};
 ghost use Rattle.pes_units.specs.PesHeader.{IsPesHeader};
-ghost use Rattle.pes_units.specs.VideoHeader.{AreInRange, IsBesidePts, time_bytes, written_dts, written_fields, written_header};
+ghost use Rattle.pes_units.specs.VideoHeader.{AreInRange, IsBesidePts, first_bytes, time_bytes, written_dts, written_fields, written_header};
 
 use crate::times::Times;
 
@@ -24,13 +24,31 @@ pub fn write_video_header(times: &Times, into: &mut [u8; MOST_HEADER_BYTES]) -> 
     // With any payload behind it, it is read as the same times.
     ensures header { (payload : List ℕ) → 0 < length payload → IsPesHeader true (written_fields times.now) (take result into.new ++ payload) }
 {
-    let dts = dts_to_write(times);
-    let (flags, data_length) = match (times.pts, dts) {
-        (None, _) => (0b00, 0),
-        (Some(_), None) => (0b10, 5),
-        (Some(_), Some(_)) => (0b11, 10),
-    };
-    into[..9].copy_from_slice(&[
+    match (times.pts, dts_to_write(times)) {
+        (None, _) => {
+            into[..9].copy_from_slice(&front(0b00, 0));
+            9
+        }
+        (Some(pts), None) => {
+            into[..9].copy_from_slice(&front(0b10, 5));
+            into[9..14].copy_from_slice(&time_field(0b0010, pts));
+            14
+        }
+        (Some(pts), Some(dts)) => {
+            into[..9].copy_from_slice(&front(0b11, 10));
+            into[9..14].copy_from_slice(&time_field(0b0011, pts));
+            into[14..].copy_from_slice(&time_field(0b0001, dts));
+            19
+        }
+    }
+}
+
+/// The bytes before the times.
+fn front(flags: u8, data_length: u8) -> [u8; 9]
+    requires { flags < 4 }
+    ensures { result ≡ first_bytes flags data_length }
+{
+    [
         0x00,
         0x00,
         0x01,
@@ -40,14 +58,7 @@ pub fn write_video_header(times: &Times, into: &mut [u8; MOST_HEADER_BYTES]) -> 
         FIXED_BYTE,
         flags << 6,
         data_length,
-    ]);
-    if let Some(pts) = times.pts {
-        into[9..14].copy_from_slice(&time_field(flags, pts));
-    }
-    if let Some(dts) = dts {
-        into[14..19].copy_from_slice(&time_field(0b01, dts));
-    }
-    9 + data_length
+    ]
 }
 
 /// The DTS where it differs from the PTS.
