@@ -98,8 +98,8 @@ spelled-read None dts payload pts_fits dts_fits beside behind = none-read payloa
 spelled-read (Some pts) None payload pts_fits dts_fits beside behind = pts-read pts payload pts_fits behind
 spelled-read (Some pts) (Some dts) payload pts_fits dts_fits beside behind =
     elim (nat_eq dts pts) as (λ same. IsPesHeader true (read_of (Some pts) (cond same None (Some dts))) (spelled (Some pts) (cond same None (Some dts)) ++ payload)) [
-      true ↦ pts-read pts payload pts_fits behind
-    | false ↦ both-read pts dts payload pts_fits dts_fits behind
+      | true ↦ pts-read pts payload pts_fits behind
+      | false ↦ both-read pts dts payload pts_fits dts_fits behind
     ]
 
 -- what stands in the buffer is read

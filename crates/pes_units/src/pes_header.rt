@@ -7,8 +7,8 @@ use crate::times::Times;
 /// What a PES packet begins with.
 const START_CODE_PREFIX: [u8; 3] = [0x00, 0x00, 0x01];
 
-/// The bytes up to the header's length byte.
-const FIRST_BYTES: usize = 9;
+/// The bytes of a header before its times.
+pub(crate) const FIRST_BYTES: usize = 9;
 
 /// The first two bits of byte 6, which are 10.
 const FIXED_MASK: u8 = 0b11 << 6;

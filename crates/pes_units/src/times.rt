@@ -1,13 +1,21 @@
-ghost use Rattle.std.specs.Prelude.{◌≡◌, true, false, ◌+◌, ◌≤◌, length, IfOk, IfErr, IfSome, IfNone};
+ghost use Rattle.std.specs.Prelude.{◌≡◌, true, false, ◌+◌, ◌^◌, ◌<◌, ◌≤◌, length, IfOk, IfErr};
 ghost use Rattle.pes_units.specs.Times.{are_times_sound, has_markers, pes_header_data_length, time_at, times_of};
+ghost use Rattle.pes_units.specs.VideoHeader.{time_bytes};
 
 use crate::pes_fault::PesFault;
+use crate::pes_header::FIRST_BYTES;
 
 /// Length of the field of a time in bytes.
-const TIME_BYTES: usize = 5;
+pub(crate) const TIME_BYTES: usize = 5;
 
 /// The marker bits of a time's field as a number of 40 bits.
 const MARKER_BITS: u64 = 1 << 32 | 1 << 16 | 1;
+
+/// The highest part of a time: 3 bits.
+const HIGH_PART: u64 = 0x7;
+
+/// A lower part of a time: 15 bits.
+const LOW_PART: u64 = 0x7FFF;
 
 /// The times of a PES header in units of 1/90,000 s, 33 bits each (ISO/IEC 13818-1, 2.4.3.7).
 #[derive(Clone, Copy, Debug, PartialEq, Eq)]
@@ -34,12 +42,12 @@ impl Times {
                 dts: None,
             }),
             0b10 if room >= TIME_BYTES => Ok(Times {
-                pts: Some(read_time(bytes, 9)?),
+                pts: Some(read_time(bytes, FIRST_BYTES)?),
                 dts: None,
             }),
             0b11 if room >= 2 * TIME_BYTES => Ok(Times {
-                pts: Some(read_time(bytes, 9)?),
-                dts: Some(read_time(bytes, 9 + TIME_BYTES)?),
+                pts: Some(read_time(bytes, FIRST_BYTES)?),
+                dts: Some(read_time(bytes, FIRST_BYTES + TIME_BYTES)?),
             }),
             _ => Err(PesFault::BadMarker),
         }
@@ -65,5 +73,22 @@ fn read_time(bytes: &[u8], place: usize) -> Result<u64, PesFault>
     if word & MARKER_BITS != MARKER_BITS {
         return Err(PesFault::BadMarker);
     }
-    Ok((word >> 33 & 0x7) << 30 | (word >> 17 & 0x7FFF) << 15 | word >> 1 & 0x7FFF)
+    Ok((word >> 33 & HIGH_PART) << 30 | (word >> 17 & LOW_PART) << 15 | word >> 1 & LOW_PART)
+}
+
+/// The five bytes of a time behind the four bits that say which it is.
+pub(crate) fn time_field(which: u8, time: u64) -> [u8; 5]
+    requires which { which < 4 }
+    requires in_range { time < 2 ^ 33 }
+    ensures { result ≡ time_bytes which time }
+{
+    let word = u64::from(which) << 36
+        | (time >> 30) << 33
+        | 1 << 32
+        | (time >> 15 & LOW_PART) << 17
+        | 1 << 16
+        | (time & LOW_PART) << 1
+        | 1;
+    let [_, _, _, a, b, c, d, e] = word.to_be_bytes();
+    [a, b, c, d, e]
 }

@@ -1,11 +1,15 @@
-ghost use Rattle.std.specs.Prelude.{◌≡◌, ◌<◌, ◌^◌, ℕ, List, true, ◌++◌, length, take, drop};
+ghost use Rattle.std.specs.Prelude.{◌≡◌, ◌<◌, ℕ, List, true, ◌++◌, length, take, drop};
 ghost use Rattle.pes_units.specs.PesHeader.{IsPesHeader};
-ghost use Rattle.pes_units.specs.VideoHeader.{AreInRange, IsBesidePts, first_bytes, time_bytes, written_dts, written_fields, written_header};
+ghost use Rattle.pes_units.specs.VideoHeader.{AreInRange, IsBesidePts, first_bytes, written_dts, written_fields, written_header};
 
-use crate::times::Times;
+use crate::pes_header::FIRST_BYTES;
+use crate::times::{TIME_BYTES, Times, time_field};
 
 /// Length in bytes of the longest header that is written.
 pub const MOST_HEADER_BYTES: usize = 19;
+
+/// Length in bytes of a header with a PTS alone.
+const PTS_HEADER_BYTES: usize = 14;
 
 /// `stream_id` of the first video stream.
 const VIDEO_STREAM_ID: u8 = 0xE0;
@@ -26,25 +30,25 @@ pub fn write_video_header(times: &Times, into: &mut [u8; MOST_HEADER_BYTES]) -> 
 {
     match (times.pts, dts_to_write(times)) {
         (None, _) => {
-            into[..9].copy_from_slice(&front(0b00, 0));
-            9
+            into[..FIRST_BYTES].copy_from_slice(&first_bytes(0b00, 0));
+            FIRST_BYTES as u8
         }
         (Some(pts), None) => {
-            into[..9].copy_from_slice(&front(0b10, 5));
-            into[9..14].copy_from_slice(&time_field(0b0010, pts));
-            14
+            into[..FIRST_BYTES].copy_from_slice(&first_bytes(0b10, TIME_BYTES as u8));
+            into[FIRST_BYTES..PTS_HEADER_BYTES].copy_from_slice(&time_field(0b0010, pts));
+            PTS_HEADER_BYTES as u8
         }
         (Some(pts), Some(dts)) => {
-            into[..9].copy_from_slice(&front(0b11, 10));
-            into[9..14].copy_from_slice(&time_field(0b0011, pts));
-            into[14..].copy_from_slice(&time_field(0b0001, dts));
-            19
+            into[..FIRST_BYTES].copy_from_slice(&first_bytes(0b11, 2 * TIME_BYTES as u8));
+            into[FIRST_BYTES..PTS_HEADER_BYTES].copy_from_slice(&time_field(0b0011, pts));
+            into[PTS_HEADER_BYTES..].copy_from_slice(&time_field(0b0001, dts));
+            MOST_HEADER_BYTES as u8
         }
     }
 }
 
 /// The bytes before the times.
-fn front(flags: u8, data_length: u8) -> [u8; 9]
+fn first_bytes(flags: u8, data_length: u8) -> [u8; FIRST_BYTES]
     requires { flags < 4 }
     ensures { result ≡ first_bytes flags data_length }
 {
@@ -71,21 +75,4 @@ fn dts_to_write(times: &Times) -> Option<u64>
     } else {
         times.dts
     }
-}
-
-/// The five bytes of a time behind the four bits that say which it is.
-fn time_field(which: u8, time: u64) -> [u8; 5]
-    requires which { which < 4 }
-    requires in_range { time < 2 ^ 33 }
-    ensures { result ≡ time_bytes which time }
-{
-    let word = u64::from(which) << 36
-        | (time >> 30) << 33
-        | 1 << 32
-        | (time >> 15 & 0x7FFF) << 17
-        | 1 << 16
-        | (time & 0x7FFF) << 1
-        | 1;
-    let [_, _, _, a, b, c, d, e] = word.to_be_bytes();
-    [a, b, c, d, e]
 }

@@ -1,6 +1,6 @@
 use Rattle.std.proofs.Common.{refl}
 use Rattle.pes_units.proofs.Words.{time_word-code}
-use Rattle.pes_units.proofs.video_header.time_field.Goals as goal
+use Rattle.pes_units.proofs.times.time_field.Goals as goal
 
 pub returns : goal.returns
 returns c =
