@@ -1,8 +1,7 @@
 -- The elements of a header, by the bytes that hold them.
-use Rattle.std.proofs.Common.{◌≡◌, ℕ, ◌+◌, ◌*◌, ◌/◌, ◌%◌, ◌^◌, List, get_or, refl, arith}
+use Rattle.std.proofs.Common.{◌≡◌, ℕ, ◌+◌, ◌*◌, ◌/◌, ◌%◌, List, get_or, refl, arith}
 use Rattle.std.specs.Prelude.{bit_and}
 use Rattle.std.proofs.lemmas.Nat.Bits.{and_high}
-use Rattle.bit_lists.specs.Fields.{bits}
 use Rattle.bit_lists.proofs.FieldLemmas.{bits-byte, bits-add}
 use Rattle.pes_units.specs.PesHeader.{packet_start_code_prefix, stream_id, pes_packet_length, fixed_bits, pes_scrambling_control}
 use Rattle.pes_units.specs.Times.{pts_dts_flags, pes_header_data_length}

@@ -1,6 +1,7 @@
 pub mod Cycles
 pub mod Elements
 pub mod Prefix
+pub mod Refusals
 pub mod RoundTrip
 pub mod Sound
 pub mod TimeFields

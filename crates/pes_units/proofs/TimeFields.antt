@@ -1,11 +1,11 @@
 -- The field of a time as one number of 40 bits.
-use Rattle.std.proofs.Common.{◌≡◌, ◌≢◌, ℕ, ◌+◌, ◌*◌, ◌/◌, ◌%◌, ◌^◌, ◌<◌, ◌≤◌, Bool, true, false, ◌&&◌, List, ◌∷◌, [], get_or, refl, sym, ap, ◌∙◌, arith, eqb}
+use Rattle.std.proofs.Common.{◌≡◌, ℕ, ◌+◌, ◌*◌, ◌/◌, ◌%◌, ◌^◌, ◌<◌, Bool, true, false, ◌&&◌, List, ◌∷◌, [], get_or, refl, ap, ◌∙◌, arith, eqb}
 use Rattle.std.specs.Prelude.{bit_and, bit_or}
 use Rattle.std.specs.Int.{w64, from_be_bytes}
 use Rattle.std.proofs.lemmas.Nat.{and_mask, and_block, or_shifted}
 use Rattle.std.proofs.lemmas.Bool.Decides.{nat_tests}
 use Rattle.bit_lists.specs.Fields.{bits}
-use Rattle.bit_lists.proofs.WordLemmas.{bits-part, bits-five, bits_below}
+use Rattle.bit_lists.proofs.WordLemmas.{bits-part, bits-five}
 use Rattle.pes_units.specs.Times.{time_at, has_markers}
 
 abbrev pub word_at : List ℕ → ℕ → ℕ

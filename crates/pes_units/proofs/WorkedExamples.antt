@@ -1,13 +1,12 @@
 -- The definitions, computed at worked examples.
-use Rattle.std.proofs.Common.{◌≡◌, ℕ, ◌+◌, ◌^◌, ◌-◌, true, false, List, [], ◌∷◌, ◌++◌, Option, Some, None, refl, pos, ℤ, arith}
+use Rattle.std.proofs.Common.{◌≡◌, ℕ, ◌^◌, ◌-◌, true, false, List, [], ◌∷◌, ◌++◌, Some, None, refl, pos, arith}
 use Rattle.std.proofs.lemmas.Int.{ints}
 use Rattle.bit_lists.specs.Fields.{bit, bits}
-use Rattle.pes_units.specs.declared.pes_fault.PesFault.{PesFault}
 use Rattle.pes_units.specs.declared.pes_fault.PesFault.TheVariants.{BadPrefix, Short, Scrambled, BadMarker}
 use Rattle.pes_units.specs.declared.pes_header.PesHeader.{PesHeader}
 use Rattle.pes_units.specs.declared.times.Times.{Times}
 use Rattle.pes_units.specs.PesHeader.{header_of, refusal}
-use Rattle.pes_units.specs.PesPackets.{Piece, Gathered, PesPacket, gathered, last_refusal, pes_packets}
+use Rattle.pes_units.specs.PesPackets.{Piece, gathered, is_dropped, is_length_sound, last_refusal, pes_packets}
 use Rattle.pes_units.specs.TimeAxis.{IsUnwrapped}
 use Rattle.pes_units.specs.VideoHeader.{written_header}
 
@@ -144,6 +143,29 @@ cut_video = refl
 cut_video-refusal : last_refusal true only_pts_bytes ≡ None
 unfolding bit bits
 cut_video-refusal = refl
+
+-- the header ends behind the bytes, so that it is short is no fault there, and neither is what stands behind the prefix
+cut_header-refusal : last_refusal true (0x00 ∷ 0x00 ∷ 0x01 ∷ 0xE0 ∷ 0x00 ∷ 0x00 ∷ 0x30 ∷ []) ≡ None
+unfolding bit bits
+cut_header-refusal = refl
+
+cut_header : is_dropped true (0x00 ∷ 0x00 ∷ 0x01 ∷ 0xE0 ∷ 0x00 ∷ 0x00 ∷ 0x30 ∷ []) ≡ true
+unfolding bit bits
+cut_header = refl
+
+-- a whole header is looked at, also where the packet is cut
+cut_and_scrambled : last_refusal true (0x00 ∷ 0x00 ∷ 0x01 ∷ 0xE0 ∷ 0x00 ∷ 0x00 ∷ 0x90 ∷ 0x00 ∷ 0x00 ∷ []) ≡ Some Scrambled
+unfolding bit bits
+cut_and_scrambled = refl
+
+-- a last packet that isn't cut is refused as every other is
+whole_and_short : last_refusal false (stating 3) ≡ Some Short
+unfolding bit bits
+whole_and_short = refl
+
+audio_without_length : is_length_sound false (stating 0 ++ 1 ∷ []) ≡ false
+unfolding bit bits
+audio_without_length = refl
 
 -- ---- times on one axis
 

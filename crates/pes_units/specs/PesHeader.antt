@@ -30,6 +30,10 @@ pes_scrambling_control bytes = bits bytes 50 2
 abbrev pub header_length : List ℕ → ℕ
 header_length bytes = 9 + pes_header_data_length bytes
 
+-- the header ends within the bytes
+abbrev pub is_header_whole : List ℕ → Bool
+is_header_whole bytes = nat_le 9 (length bytes) && nat_le (header_length bytes) (length bytes)
+
 -- E0 to EF are video streams, C0 to DF audio streams (ISO/IEC 13818-1, Table 2-22)
 abbrev pub is_stream_id : Bool → ℕ → Bool
 is_stream_id true id = nat_le 0xE0 id && nat_le id 0xEF

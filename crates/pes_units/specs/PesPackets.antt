@@ -1,10 +1,10 @@
 -- The PES packets of a PID (ISO/IEC 13818-1, 2.4.3.3 and 2.4.3.6).
-use Rattle.std.specs.Prelude.{◌≡◌, ℕ, ◌+◌, ◌==◌, nat_lt, nat_le, Bool, true, false, not, ◌&&◌, ◌||◌, List, [], ◌∷◌, ◌++◌, length, drop, Option, if◌then◌else◌}
+use Rattle.std.specs.Prelude.{ℕ, ◌+◌, ◌==◌, nat_lt, Bool, not, ◌&&◌, ◌||◌, List, [], ◌∷◌, ◌++◌, length, drop, Option, if◌then◌else◌}
 use Rattle.std.specs.List.{find}
 use Rattle.pes_units.specs.declared.pes_fault.PesFault.{PesFault}
 use Rattle.pes_units.specs.declared.pes_fault.PesFault.TheVariants.{BadPrefix, Scrambled, BadMarker}
 use Rattle.pes_units.specs.declared.pes_header.PesHeader.{PesHeader}
-use Rattle.pes_units.specs.PesHeader.{pes_packet_length, header_length, fields_of, has_fault, refusal}
+use Rattle.pes_units.specs.PesHeader.{pes_packet_length, header_length, fields_of, has_fault, is_header_whole, refusal}
 
 -- ---- how they are gathered
 
@@ -36,10 +36,6 @@ gathered (piece ∷ pieces) =
 abbrev pub is_cut : Bool → List ℕ → Bool
 is_cut video bytes = nat_lt (length bytes) 6 || (video && (pes_packet_length bytes == 0)) || nat_lt (length bytes) (6 + pes_packet_length bytes)
 
--- its header ends within the bytes
-abbrev pub is_header_whole : List ℕ → Bool
-is_header_whole bytes = nat_le 9 (length bytes) && nat_le (header_length bytes) (length bytes)
-
 -- what refuses a last packet: where it is cut, that it is short is no fault
 abbrev pub last_refusal : Bool → List ℕ → Option PesFault
 last_refusal video bytes =
@@ -52,6 +48,10 @@ abbrev pub is_dropped : Bool → List ℕ → Bool
 is_dropped video bytes = is_cut video bytes && not (video && is_header_whole bytes)
 
 -- ---- headers and payloads
+
+-- a packet that isn't cut is as long as it states; only video may state nothing
+abbrev pub is_length_sound : Bool → List ℕ → Bool
+is_length_sound video bytes = if pes_packet_length bytes == 0 then video else length bytes == 6 + pes_packet_length bytes
 
 pub record PesPacket : Type 0 where
   pub header : PesHeader

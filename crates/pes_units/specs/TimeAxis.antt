@@ -1,5 +1,5 @@
 -- Times on one axis, in units of 1/90,000 s: the fields of PES headers count modulo 2^33 (ISO/IEC 13818-1, 2.4.3.7).
-use Rattle.std.specs.Prelude.{◌≡◌, ℕ, ◌^◌, ℤ, pos, neg_ℤ, ◌+ℤ◌, ◌-ℤ◌, ◌*ℤ◌, ◌≤ℤ◌, ◌<ℤ◌}
+use Rattle.std.specs.Prelude.{◌≡◌, ℕ, ◌^◌, ℤ, pos, ◌+ℤ◌, ◌-ℤ◌, ◌*ℤ◌, ◌≤ℤ◌, ◌<ℤ◌}
 
 -- the time is congruent to the value modulo 2^33, less than 2^32 before and at most 2^32 after the time before it
 pub record IsUnwrapped (before : ℤ) (value : ℕ) (time : ℤ) : Type 0 where

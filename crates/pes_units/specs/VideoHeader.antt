@@ -1,5 +1,5 @@
 -- The one written spelling of the header of a video PES packet (ISO/IEC 13818-1, 2.4.3.6 and 2.4.3.7).
-use Rattle.std.specs.Prelude.{◌≡◌, ℕ, ◌+◌, ◌*◌, ◌/◌, ◌%◌, ◌^◌, ◌<◌, ◌==◌, Bool, List, [], ◌∷◌, ◌++◌, length, drop, Option, Some, None, IsSome, IfSome, if◌then◌else◌}
+use Rattle.std.specs.Prelude.{ℕ, ◌+◌, ◌*◌, ◌/◌, ◌%◌, ◌^◌, ◌<◌, ◌==◌, List, [], ◌∷◌, ◌++◌, length, drop, Option, Some, None, IsSome, IfSome, if◌then◌else◌}
 use Rattle.std.specs.Int.{w64, to_be_bytes}
 use Rattle.pes_units.specs.declared.pes_header.PesHeader.{PesHeader}
 use Rattle.pes_units.specs.declared.times.Times.{Times}

@@ -1,4 +1,4 @@
-ghost use Rattle.std.specs.Prelude.{◌≡◌, IfOk, IfErr};
+ghost use Rattle.std.specs.Prelude.{◌≡◌, ◌≤◌, [], ◌∷◌, length, true, IfOk, IsTrue, if◌then◌else◌};
 ghost use Rattle.std.specs.Result.{result_err, result_ok};
 
 use crate::pes_fault::PesFault;
@@ -9,6 +9,9 @@ const START_CODE_PREFIX: [u8; 3] = [0x00, 0x00, 0x01];
 
 /// The bytes of a header before its times.
 pub(crate) const FIRST_BYTES: usize = 9;
+
+/// The bytes up to and with `PES_packet_length`.
+const STATING_BYTES: usize = 6;
 
 /// The first two bits of byte 6, which are 10.
 const FIXED_MASK: u8 = 0b11 << 6;
@@ -32,7 +35,9 @@ pub struct PesHeader {
 }
 
 impl PesHeader {
-    ghost use Rattle.pes_units.specs.PesHeader.{IsPesHeader, header_of, refusal};
+    ghost use Rattle.std.specs.List.{find};
+    ghost use Rattle.pes_units.specs.PesHeader.{IsPesHeader, fields_of, has_fault, header_of, refusal};
+    ghost use Rattle.pes_units.specs.PesPackets.{is_dropped, last_refusal};
 
     /// The header that a PES packet of a video stream, or else of an audio stream, begins with. An error is the first
     /// fault that the packet has, in the order of `PesFault`.
@@ -48,13 +53,40 @@ impl PesHeader {
         if !has_prefix(bytes, video) {
             return Err(PesFault::BadPrefix);
         }
-        if bytes.len() < FIRST_BYTES {
+        if !is_header_whole(bytes) || bytes.len() == header_length(bytes) {
             return Err(PesFault::Short);
         }
-        let len = FIRST_BYTES + bytes[8] as usize;
-        if bytes.len() <= len {
-            return Err(PesFault::Short);
+        Self::read_whole(bytes)
+    }
+
+    /// The header of the last packet of a PID, which the end of the stream may cut. None is answered where it is cut and
+    /// is dropped: in audio, and where its header isn't whole. An error is the first fault that the packet has, in the
+    /// order of `PesFault`, but that a cut packet is short is no fault.
+    #[tactic(auto, using(crate::proofs::Elements::elements))]
+    pub fn read_last(bytes: &[u8], video: bool) -> Result<Option<PesHeader>, PesFault>
+        ensures fault { result_err result ≡ last_refusal video bytes.now }
+        ensures header { IfOk result (λ header. header ≡ (if is_dropped video bytes.now then None else Some (fields_of bytes.now))) }
+    {
+        if !is_cut(bytes, video) {
+            return Ok(Some(Self::read(bytes, video)?));
         }
+        if !has_prefix(bytes, video) {
+            return Err(PesFault::BadPrefix);
+        }
+        if !is_header_whole(bytes) {
+            return Ok(None);
+        }
+        let header = Self::read_whole(bytes)?;
+        Ok(if video { Some(header) } else { None })
+    }
+
+    /// The header that the bytes begin with, whatever the prefix is and whether or not anything follows.
+    #[tactic(auto, using(crate::proofs::Elements::elements))]
+    fn read_whole(bytes: &[u8]) -> Result<PesHeader, PesFault>
+        requires { IsTrue (is_header_whole bytes.now) }
+        ensures fault { result_err result ≡ find (has_fault true bytes.now) (PesFault.Scrambled ∷ PesFault.BadMarker ∷ []) }
+        ensures header { IfOk result (λ header. header ≡ fields_of bytes.now) }
+    {
         if bytes[6] & SCRAMBLING_CONTROL != 0 {
             return Err(PesFault::Scrambled);
         }
@@ -64,14 +96,15 @@ impl PesHeader {
         let times = Times::read(bytes)?;
         Ok(PesHeader {
             stream_id: bytes[3],
-            stated: u16::from_be_bytes([bytes[4], bytes[5]]),
+            stated: stated_length(bytes),
             times,
-            len: len as u16,
+            len: header_length(bytes) as u16,
         })
     }
 }
 
-ghost use Rattle.pes_units.specs.PesHeader.{has_prefix, is_stream_id};
+ghost use Rattle.pes_units.specs.PesHeader.{has_prefix, header_length, is_header_whole, is_stream_id, pes_packet_length};
+ghost use Rattle.pes_units.specs.PesPackets.{is_cut};
 
 /// Whether those of the first four bytes that stand are a start code prefix and a stream id of the kind.
 #[tactic(auto, using(crate::proofs::Elements::elements))]
@@ -94,4 +127,39 @@ fn is_stream_id(video: bool, id: u8) -> bool
         0xC0..=0xDF => !video,
         _ => false,
     }
+}
+
+/// Whether the header ends within the bytes.
+#[tactic(auto, using(crate::proofs::Elements::elements))]
+fn is_header_whole(bytes: &[u8]) -> bool
+    ensures { result ≡ is_header_whole bytes.now }
+{
+    bytes.len() >= FIRST_BYTES && bytes.len() >= header_length(bytes)
+}
+
+#[tactic(auto, using(crate::proofs::Elements::elements))]
+fn header_length(bytes: &[u8]) -> usize
+    requires { 9 ≤ length bytes.now }
+    ensures { result ≡ header_length bytes.now }
+{
+    FIRST_BYTES + bytes[FIRST_BYTES - 1] as usize
+}
+
+/// Whether a last packet is cut: it has fewer bytes than it states, or too few to state it, or it is video and states
+/// nothing.
+#[tactic(auto, using(crate::proofs::Elements::elements))]
+fn is_cut(bytes: &[u8], video: bool) -> bool
+    ensures { result ≡ is_cut video bytes.now }
+{
+    bytes.len() < STATING_BYTES
+        || video && stated_length(bytes) == 0
+        || bytes.len() < STATING_BYTES + stated_length(bytes) as usize
+}
+
+#[tactic(auto, using(crate::proofs::Elements::elements))]
+fn stated_length(bytes: &[u8]) -> u16
+    requires { 6 ≤ length bytes.now }
+    ensures { result ≡ pes_packet_length bytes.now }
+{
+    u16::from_be_bytes([bytes[4], bytes[5]])
 }

@@ -54,6 +54,30 @@ fn the_first_fault_is_answered(rt: HostRuntime) {
 }
 
 #[test]
+fn a_cut_last_packet_is_taken_in_video_alone(rt: HostRuntime) {
+    let mut bytes = [
+        0x00, 0x00, 0x01, 0xE0, 0x00, 0x00, 0x80, 0x80, 0x05, 0x21, 0x00, 0x05, 0xBF, 0x21,
+    ];
+    let header = PesHeader {
+        stream_id: 0xE0,
+        stated: 0,
+        times: Times {
+            pts: Some(90_000),
+            dts: None,
+        },
+        len: 14,
+    };
+    assert_eq!(rt; PesHeader::read(&bytes, true), Err(PesFault::Short));
+    assert_eq!(rt; PesHeader::read_last(&bytes, true), Ok(Some(header)));
+    assert_eq!(rt; PesHeader::read_last(&bytes[..13], true), Ok(None));
+    bytes[3] = 0xC0;
+    bytes[5] = 0xFF;
+    assert_eq!(rt; PesHeader::read_last(&bytes, false), Ok(None));
+    bytes[5] = 8;
+    assert_eq!(rt; PesHeader::read_last(&bytes, false), Err(PesFault::Short));
+}
+
+#[test]
 fn times_go_on_past_their_cycle(rt: HostRuntime) {
     assert_eq!(rt; unwrap_time(8_589_930_992, 0), 8_589_934_592);
     assert_eq!(rt; unwrap_time(0, (1 << 33) - 1), -1);

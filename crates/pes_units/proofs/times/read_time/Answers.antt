@@ -1,5 +1,4 @@
-use Rattle.std.proofs.Common.{◌≡◌, ◌^◌, ◌<◌, arith, ap, ◌∙◌, sym, refl, get_or, true, false}
-use Rattle.pes_units.specs.Times.{has_markers, time_at}
+use Rattle.std.proofs.Common.{◌≡◌, arith, ap, ◌∙◌, sym, refl}
 use Rattle.pes_units.proofs.TimeFields.{word_at, time_in, markers_in, time_at-word, has_markers-word, time_in-read, word-read, markers_in-mask, markers_in-mask_not}
 use Rattle.pes_units.proofs.times.read_time.Goals as goal
 use Rattle.pes_units.proofs.times.read_time.Goals.{After-from_be_bytes-word}
