@@ -9,9 +9,11 @@ use Rattle.pes_units.specs.Times.{pes_header_data_length, HasTimes, are_times_so
 
 -- ---- its elements, each by its first bit and its number of bits
 
+-- 000001 before every PES packet
 abbrev pub packet_start_code_prefix : List ℕ → ℕ
 packet_start_code_prefix bytes = bits bytes 0 24
 
+-- the kind and the number of the stream
 abbrev pub stream_id : List ℕ → ℕ
 stream_id bytes = bits bytes 24 8
 
@@ -23,6 +25,7 @@ pes_packet_length bytes = bits bytes 32 16
 abbrev pub fixed_bits : List ℕ → ℕ
 fixed_bits bytes = bits bytes 48 2
 
+-- 0 is not scrambled
 abbrev pub pes_scrambling_control : List ℕ → ℕ
 pes_scrambling_control bytes = bits bytes 50 2
 
@@ -41,6 +44,7 @@ is_stream_id false id = nat_le 0xC0 id && nat_le id 0xDF
 
 -- ---- what is kept of it
 
+-- what the elements say
 abbrev pub fields_of : List ℕ → PesHeader
 fields_of bytes = record {
   stream_id = stream_id bytes;
@@ -68,7 +72,8 @@ pub record IsPesHeader (video : Bool) (header : PesHeader) (bytes : List ℕ) : 
 abbrev pub has_prefix : Bool → List ℕ → Bool
 has_prefix video bytes = starts_with nat_eq (0 ∷ 0 ∷ 1 ∷ []) (take 3 bytes) && (nat_le (length bytes) 3 || is_stream_id video (stream_id bytes))
 
--- bits past the end are 0, so fewer than nine bytes are too few too
+-- The bytes have a fault: a wrong prefix; no byte behind the header; scrambling; other bits than `10`, or times that don't
+-- stand as announced. Bits past the end are 0, so fewer than nine bytes are short too.
 abbrev pub has_fault : Bool → List ℕ → PesFault → Bool
 has_fault video bytes BadPrefix = not (has_prefix video bytes)
 has_fault video bytes Short = nat_le (length bytes) (header_length bytes)

@@ -53,10 +53,12 @@ is_dropped video bytes = is_cut video bytes && not (video && is_header_whole byt
 abbrev pub is_length_sound : Bool → List ℕ → Bool
 is_length_sound video bytes = if pes_packet_length bytes == 0 then video else length bytes == 6 + pes_packet_length bytes
 
+-- a PES packet: its header, and what follows it
 pub record PesPacket : Type 0 where
   pub header : PesHeader
   pub payload : List ℕ
 
+-- the packet that the bytes are
 abbrev pub packet_of : List ℕ → PesPacket
 packet_of bytes = record { header = fields_of bytes; payload = drop (header_length bytes) bytes }
 

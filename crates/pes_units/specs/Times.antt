@@ -15,6 +15,7 @@ pes_header_data_length bytes = bits bytes 64 8
 
 -- ---- a time in five bytes: 4 bits, then 3, 15 and 15 bits of the time with a marker bit behind each
 
+-- the time in the five bytes from a place on
 abbrev pub time_at : List ℕ → ℕ → ℕ
 time_at bytes place = 2 ^ 30 * bits bytes (8 * place + 4) 3 + 2 ^ 15 * bits bytes (8 * place + 8) 15 + bits bytes (8 * place + 24) 15
 
@@ -22,6 +23,7 @@ time_at bytes place = 2 ^ 30 * bits bytes (8 * place + 4) 3 + 2 ^ 15 * bits byte
 abbrev pub has_markers : List ℕ → ℕ → Bool
 has_markers bytes place = (bits bytes (8 * place + 7) 1 == 1) && (bits bytes (8 * place + 23) 1 == 1) && (bits bytes (8 * place + 39) 1 == 1)
 
+-- a time with its markers stands there
 pub record IsTimeAt (time : ℕ) (bytes : List ℕ) (place : ℕ) : Type 0 where
   pub value : time ≡ time_at bytes place
   pub first_marker : bits bytes (8 * place + 7) 1 ≡ 1
@@ -38,7 +40,7 @@ HasTimes (Some pts) None bytes = (pts_dts_flags bytes ≡ 2) × (5 ≤ pes_heade
 HasTimes (Some pts) (Some dts) bytes = (pts_dts_flags bytes ≡ 3) × (10 ≤ pes_header_data_length bytes) × IsTimeAt pts bytes 9 × IsTimeAt dts bytes 14
 HasTimes None (Some dts) bytes = ⊥
 
--- the same as tests: whether the header has the times that its flags announce, and which they are
+-- whether the header has the times that its flags announce, as a test
 abbrev pub are_times_sound : List ℕ → Bool
 are_times_sound bytes =
     if pts_dts_flags bytes == 0 then true
@@ -46,6 +48,7 @@ are_times_sound bytes =
     else if pts_dts_flags bytes == 3 then nat_le 10 (pes_header_data_length bytes) && (has_markers bytes 9 && has_markers bytes 14)
     else false
 
+-- which times they are
 abbrev pub times_of : List ℕ → Times
 times_of bytes = record {
   pts = if nat_le 2 (pts_dts_flags bytes) then Some (time_at bytes 9) else None;

@@ -1,5 +1,8 @@
 ghost use Rattle.std.specs.Prelude.{◌≡◌, ◌≤◌, [], ◌∷◌, length, true, IfOk, IsTrue, if◌then◌else◌};
+ghost use Rattle.std.specs.List.{find};
 ghost use Rattle.std.specs.Result.{result_err, result_ok};
+ghost use Rattle.pes_units.specs.PesHeader.{IsPesHeader, fields_of, has_fault, has_prefix, header_length, header_of, is_header_whole, is_stream_id, pes_packet_length, refusal};
+ghost use Rattle.pes_units.specs.PesPackets.{is_cut, is_dropped, last_refusal};
 
 use crate::pes_fault::PesFault;
 use crate::times::Times;
@@ -35,10 +38,6 @@ pub struct PesHeader {
 }
 
 impl PesHeader {
-    ghost use Rattle.std.specs.List.{find};
-    ghost use Rattle.pes_units.specs.PesHeader.{IsPesHeader, fields_of, has_fault, header_of, refusal};
-    ghost use Rattle.pes_units.specs.PesPackets.{is_dropped, last_refusal};
-
     /// The header that a PES packet of a video stream, or else of an audio stream, begins with. An error is the first
     /// fault that the packet has, in the order of `PesFault`.
     #[tactic(auto, using(crate::proofs::Elements::elements))]
@@ -102,9 +101,6 @@ impl PesHeader {
         })
     }
 }
-
-ghost use Rattle.pes_units.specs.PesHeader.{has_prefix, header_length, is_header_whole, is_stream_id, pes_packet_length};
-ghost use Rattle.pes_units.specs.PesPackets.{is_cut};
 
 /// Whether those of the first four bytes that stand are a start code prefix and a stream id of the kind.
 #[tactic(auto, using(crate::proofs::Elements::elements))]
