@@ -1,5 +1,5 @@
 -- Parts of a number that stands in bits.
-use Rattle.std.proofs.Common.{◌≡◌, ℕ, zero, suc, ◌+◌, ◌-◌, ◌*◌, ◌/◌, ◌%◌, ◌^◌, ◌<◌, ◌≤◌, List, get_or, refl, sym, ap, ◌∙◌, add-zero, add-suc, add_assoc, pow-suc, arith}
+use Rattle.std.proofs.Common.{◌≡◌, ℕ, zero, suc, ◌+◌, ◌*◌, ◌/◌, ◌%◌, ◌^◌, ◌<◌, List, get_or, refl, sym, ap, ◌∙◌, pow-suc, arith}
 use Rattle.std.proofs.lemmas.Nat.{shr_high, mod_low}
 use Rattle.bit_lists.specs.Fields.{bit, bits}
 use Rattle.bit_lists.proofs.FieldLemmas.{bits-add, bits-byte}
