@@ -1,0 +1,3 @@
+pub mod RuleFronts
+pub mod RuleRows
+pub mod RuleUnique
