@@ -7,6 +7,7 @@
 #![tactic(auto)]
 
 pub mod constants;
+mod row;
 mod sent;
 mod timetable;
 

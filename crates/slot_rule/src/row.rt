@@ -1,0 +1,36 @@
+use crate::sent::Sent;
+
+/// The kind of a stream.
+#[derive(Clone, Copy, Debug, PartialEq, Eq)]
+pub enum Kind {
+    /// The video of the program of this number, with the size of its elementary buffer in units of 2,048 bytes.
+    Video { program: u8, vbv: u8 },
+    /// An audio stream.
+    Audio,
+}
+
+/// A packet of a stream.
+#[derive(Clone, Copy, Debug, PartialEq, Eq)]
+pub struct Packet {
+    /// The unit or audio packet that it is of, from 0.
+    pub item: u32,
+    /// Its place within the unit, from 0.
+    pub piece: u32,
+    /// Payload bytes.
+    pub payload: u64,
+    /// When it is wanted, in ticks.
+    pub due: u64,
+    /// When its payload is removed, in ticks.
+    pub gone: u64,
+}
+
+/// What stands in a slot, with all that the rule asks of it.
+#[derive(Clone, Copy, Debug, PartialEq, Eq)]
+pub enum Row {
+    /// What the timetable has there.
+    Reserved(Sent),
+    /// A packet of the stream of this number, over all programs.
+    Carries { stream: u32, packet: Packet },
+    /// A null packet.
+    Empty,
+}
