@@ -1,3 +1,5 @@
 pub mod RuleFronts
 pub mod RuleRows
+pub mod RuleSent
 pub mod RuleUnique
+pub mod RuleWork

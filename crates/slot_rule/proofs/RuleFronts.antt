@@ -1,5 +1,5 @@
 -- What holds at each element of a list, of the elements before it and of the element: at no element, of one more, and of a front.
-use Rattle.std.proofs.Common.{◌≡◌, ℕ, ◌+◌, ◌<◌, ◌⊎◌, List, [], ◌∷◌, ◌++◌, length, get_or, take, drop, refl, sym, ap, subst₂, ◌∙◌, inl, inr, append_assoc}
+use Rattle.std.proofs.Common.{◌≡◌, ℕ, ◌+◌, ◌<◌, ◌⊎◌, List, [], ◌∷◌, ◌++◌, length, get_or, take, drop, refl, sym, ap, subst₂, ◌∙◌, inl, inr, append_assoc, append-nil, subst}
 use Rattle.std.proofs.lemmas.List.{same_from_push, take-append-drop, drop_more}
 
 -- P holds of the elements before each element, and of it
@@ -32,3 +32,11 @@ AtEach-front P xs ys each before x after e = each before x (after ++ ys) (ap (λ
 pub AtEach-at : {X : Type 0} (P : List X → X → Type 0) (xs : List X) → AtEach P xs → (n : ℕ) (d : X) → n < length xs → P (take n xs) (get_or xs n d)
 AtEach-at P xs each n d within =
     each (take n xs) (get_or xs n d) (drop (n + 1) xs) (sym (take-append-drop n xs) ∙ ap (λ rest. take n xs ++ rest) (drop_more xs n d within))
+
+-- what holds of no element, and of one more at the end, holds of each list
+pub by_push : {X : Type 0} (P : List X → Type 0) → P [] → ((xs : List X) (x : X) → P xs → P (xs ++ x ∷ [])) → (xs : List X) → P xs
+by_push {X} P none more xs = onto xs [] none
+  where
+    onto : (rest front : List X) → P front → P (front ++ rest)
+    onto [] front holds = rw append-nil holds
+    onto (x ∷ rest) front holds = subst P (append_assoc front (x ∷ []) rest) (onto rest (front ++ x ∷ []) (more front x holds))

@@ -1,0 +1,63 @@
+-- The work that waits in a buffer after one more row.
+use Rattle.std.proofs.Common.{◌≡◌, ℕ, ◌+◌, ◌-◌, ◌*◌, eqb, eq-eqb, ne_eqb, List, [], ◌∷◌, ◌++◌, length, map, max, sum, refl, arith}
+use Rattle.std.proofs.lemmas.Bool.{cond-true, cond-false}
+use Rattle.std.proofs.lemmas.List.{length_push, map_push}
+use Rattle.std.proofs.lemmas.List.Sums.{sum_by_push}
+use Rattle.slot_rule.specs.declared.constants.TheConstants.{PACKET_BYTES, MB_SUBTICKS}
+use Rattle.slot_rule.specs.declared.sent.Sent.{Sent}
+use Rattle.slot_rule.specs.declared.sent.Sent.TheVariants.{Pcr}
+use Rattle.slot_rule.specs.Streams.{Kind, Video, Audio, Packet}
+use Rattle.slot_rule.specs.Buffers.{Row, Reserved, Carries, Empty, waiting, transport_work, multiplex_work, packets_in, payload_in, tb_subticks, slot_subticks}
+
+max_more : (all rest n drain work : ℕ) → max ((all + work) - drain * (n + 1)) ((rest + work) - drain) ≡ (max (all - drain * n) rest + work) - drain
+max_more all rest n drain work = omega arith
+
+pub waiting-push : (drain : ℕ) (works : List ℕ) (work : ℕ) → waiting drain (works ++ work ∷ []) ≡ (waiting drain works + work) - drain
+waiting-push drain [] work = omega arith
+waiting-push drain (first ∷ works) work =
+    let total : sum ((first ∷ works) ++ work ∷ []) ≡ sum (first ∷ works) + work = sum_by_push (λ x. x) (first ∷ works) work in
+    rw (waiting-push drain works work, length_push (first ∷ works) work, total) (max_more (sum (first ∷ works)) (waiting drain works) (length (first ∷ works)) drain work)
+
+pub transport_work-push : (slot stream : ℕ) (kind : Kind) (rows : List Row) (row : Row)
+    → transport_work slot stream kind (rows ++ row ∷ []) ≡ (transport_work slot stream kind rows + PACKET_BYTES * tb_subticks kind * packets_in stream kind row) - slot_subticks slot
+transport_work-push slot stream kind rows row =
+    rw (map_push (λ r. PACKET_BYTES * tb_subticks kind * packets_in stream kind r) rows row)
+    (waiting-push (slot_subticks slot) (map (λ r. PACKET_BYTES * tb_subticks kind * packets_in stream kind r) rows) (PACKET_BYTES * tb_subticks kind * packets_in stream kind row))
+
+pub multiplex_work-push : (slot stream : ℕ) (rows : List Row) (row : Row)
+    → multiplex_work slot stream (rows ++ row ∷ []) ≡ (multiplex_work slot stream rows + MB_SUBTICKS * payload_in stream row) - slot_subticks slot
+multiplex_work-push slot stream rows row =
+    rw (map_push (λ r. MB_SUBTICKS * payload_in stream r) rows row)
+    (waiting-push (slot_subticks slot) (map (λ r. MB_SUBTICKS * payload_in stream r) rows) (MB_SUBTICKS * payload_in stream row))
+
+-- ---- what a row brings to a stream
+pub payload_in-carried : (stream s : ℕ) (packet : Packet) → s ≡ stream → payload_in stream (Carries s packet) ≡ packet.payload
+payload_in-carried stream s packet e = cond-true (eqb s stream) packet.payload 0 (eq-eqb s stream e)
+
+pub payload_in-other : (stream s : ℕ) (packet : Packet) → (s ≡ stream → ⊥) → payload_in stream (Carries s packet) ≡ 0
+payload_in-other stream s packet apart = cond-false (eqb s stream) packet.payload 0 (ne_eqb s stream apart)
+
+pub packets_in-carried : (stream s : ℕ) (kind : Kind) (packet : Packet) → s ≡ stream → packets_in stream kind (Carries s packet) ≡ 1
+packets_in-carried stream s (Video program vbv) packet e = rw (eq-eqb s stream e) refl
+packets_in-carried stream s Audio packet e = rw (eq-eqb s stream e) refl
+
+pub packets_in-other : (stream s : ℕ) (kind : Kind) (packet : Packet) → (s ≡ stream → ⊥) → packets_in stream kind (Carries s packet) ≡ 0
+packets_in-other stream s (Video program vbv) packet apart = rw (ne_eqb s stream apart) refl
+packets_in-other stream s Audio packet apart = rw (ne_eqb s stream apart) refl
+
+pub packets_in-empty : (stream : ℕ) (kind : Kind) → packets_in stream kind Empty ≡ 0
+packets_in-empty stream (Video program vbv) = refl
+packets_in-empty stream Audio = refl
+
+-- the clock of a program is in the transport buffer of its video
+pub packets_in-clock : (stream program vbv p : ℕ) → p ≡ program → packets_in stream (Video program vbv) (Reserved (Pcr p)) ≡ 1
+packets_in-clock stream program vbv p e = rw (eq-eqb p program e) refl
+
+pub packets_in-other_clock : (stream program vbv p : ℕ) → (p ≡ program → ⊥) → packets_in stream (Video program vbv) (Reserved (Pcr p)) ≡ 0
+packets_in-other_clock stream program vbv p apart = rw (ne_eqb p program apart) refl
+
+-- no other reserved slot is in a stream's transport buffer
+pub packets_in-no_clock : (stream : ℕ) (kind : Kind) (sent : Sent) → ((p : ℕ) → sent ≡ Pcr p → ⊥) → packets_in stream kind (Reserved sent) ≡ 0
+packets_in-no_clock stream Audio sent apart = refl
+packets_in-no_clock stream (Video program vbv) (Pcr p) apart = absurd (apart p refl)
+packets_in-no_clock stream (Video program vbv) sent apart = refl
