@@ -7,9 +7,18 @@
 #![tactic(auto)]
 
 pub mod constants;
+mod kind;
+mod misses;
 mod row;
 mod sent;
+mod source;
+mod states;
+mod stream_state;
 mod timetable;
 
+pub use misses::first_miss;
 pub use sent::{Miss, Sent};
 pub use timetable::Timetable;
+
+#[cfg(test)]
+mod tests;

@@ -1,14 +1,5 @@
 use crate::sent::Sent;
 
-/// The kind of a stream.
-#[derive(Clone, Copy, Debug, PartialEq, Eq)]
-pub enum Kind {
-    /// The video of the program of this number, with the size of its elementary buffer in units of 2,048 bytes.
-    Video { program: u8, vbv: u8 },
-    /// An audio stream.
-    Audio,
-}
-
 /// A packet of a stream.
 #[derive(Clone, Copy, Debug, PartialEq, Eq)]
 pub struct Packet {
@@ -30,7 +21,7 @@ pub enum Row {
     /// What the timetable has there.
     Reserved(Sent),
     /// A packet of the stream of this number, over all programs.
-    Carries { stream: u32, packet: Packet },
+    Carries { stream: usize, packet: Packet },
     /// A null packet.
     Empty,
 }

@@ -1,0 +1,114 @@
+use crate::kind::Kind;
+use crate::row::Packet;
+use crate::source::Source;
+use crate::stream_state::StreamState;
+use arrayvec::ArrayVec;
+use version_table::limits::{AUDIOS_MOST, PROGRAMS_MOST};
+use version_table::{Choice, Table};
+
+/// Streams of a table, at most.
+pub const STREAMS_MOST: usize = PROGRAMS_MOST * (1 + AUDIOS_MOST);
+
+/// The states of all streams, in stream order.
+pub type States = ArrayVec<StreamState, STREAMS_MOST>;
+
+/// A stream's first packet that isn't sent.
+#[derive(Clone, Copy, Debug, PartialEq, Eq)]
+pub struct Head {
+    /// The stream, over all programs, from 0.
+    pub stream: usize,
+    /// The packet.
+    pub packet: Packet,
+}
+
+/// The states of a table's streams before the first slot.
+pub fn first_states(table: &Table, choice: &Choice) -> States {
+    let mut states = States::new();
+    let mut first = 0;
+    for (program, row) in table.programs.as_slice().iter().enumerate() {
+        let kind = Kind::Video {
+            program: program as u8,
+            vbv: row.vbv,
+        };
+        add_stream(
+            table,
+            choice,
+            &mut states,
+            kind,
+            Source::Video { program, first },
+        );
+        for audio in 0..row.audios.len() {
+            add_stream(
+                table,
+                choice,
+                &mut states,
+                Kind::Audio,
+                Source::Audio { program, audio },
+            );
+        }
+        first += row.units.len();
+    }
+    states
+}
+
+fn add_stream(table: &Table, choice: &Choice, states: &mut States, kind: Kind, source: Source) {
+    states.push(StreamState::new(kind, source, source.first_packet(table, choice)));
+}
+
+/// The permitted head packet that is due first in a slot that begins at `start` ticks, and among equals that of the
+/// lowest stream; none where none may go.
+pub fn permitted_head(states: &[StreamState], start: u64) -> Option<Head> {
+    let mut first: Option<Head> = None;
+    for (stream, state) in states.iter().enumerate() {
+        if let Some(packet) = state.head {
+            if state.permits(packet, start) && is_before(packet, first) {
+                first = Some(Head { stream, packet });
+            }
+        }
+    }
+    first
+}
+
+/// The head packet that is due first, and among equals that of the lowest stream; none where all is sent.
+pub fn due_head(states: &[StreamState]) -> Option<Head> {
+    let mut first: Option<Head> = None;
+    for (stream, state) in states.iter().enumerate() {
+        if let Some(packet) = state.head {
+            if is_before(packet, first) {
+                first = Some(Head { stream, packet });
+            }
+        }
+    }
+    first
+}
+
+/// Whether a packet goes before the first of the streams below its own.
+fn is_before(packet: Packet, first: Option<Head>) -> bool {
+    match first {
+        Some(other) => packet.due < other.packet.due,
+        None => true,
+    }
+}
+
+/// Leaves out the packets that are gone at `start` ticks.
+pub fn release_all(table: &Table, choice: &Choice, states: &mut [StreamState], start: u64) {
+    for state in states.iter_mut() {
+        state.release(table, choice, start);
+    }
+}
+
+/// The clock of a program goes, on the PID of its video.
+pub fn take_clock(states: &mut [StreamState], program: u8) {
+    for state in states.iter_mut() {
+        if state.kind.has_clock_of(program) {
+            state.take_clock();
+        }
+    }
+}
+
+/// A slot passes, in which so many subticks of work are done in each buffer.
+pub fn drain_all(states: &mut [StreamState], subticks: u64) {
+    for state in states.iter_mut() {
+        state.drain(subticks);
+    }
+}
