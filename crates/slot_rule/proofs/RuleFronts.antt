@@ -1,5 +1,6 @@
 -- What holds at each element of a list, of the elements before it and of the element: at no element, of one more, and of a front.
-use Rattle.std.proofs.Common.{◌≡◌, ℕ, ◌+◌, ◌<◌, ◌⊎◌, List, [], ◌∷◌, ◌++◌, length, get_or, take, drop, refl, sym, ap, subst₂, ◌∙◌, inl, inr, append_assoc, append-nil, subst}
+use Rattle.std.proofs.Common.{◌≡◌, ℕ, ◌+◌, ◌<◌, ◌⊎◌, List, [], ◌∷◌, ◌++◌, length, get_or, take, drop, refl, sym, ap, subst₂, ◌∙◌, inl, inr, append_assoc, append-nil, subst, suc, ◌-◌, ◌≤◌, Some, None, slice_get, length-drop, arith}
+use Rattle.std.proofs.lemmas.Option.{slice_get-get_or, slice_get_past}
 use Rattle.std.proofs.lemmas.List.{same_from_push, take-append-drop, drop_more}
 
 -- P holds of the elements before each element, and of it
@@ -40,3 +41,19 @@ by_push {X} P none more xs = onto xs [] none
     onto : (rest front : List X) → P front → P (front ++ rest)
     onto [] front holds = rw append-nil holds
     onto (x ∷ rest) front holds = subst P (append_assoc front (x ∷ []) rest) (onto rest (front ++ x ∷ []) (more front x holds))
+
+-- ---- the elements from a place on
+-- the element at a place, and those after it
+pub drop_next : {X : Type 0} (xs : List X) (k : ℕ) (x : X) (rest : List X) → drop k xs ≡ x ∷ rest
+    → (k < length xs) × (slice_get xs k ≡ Some x) × (drop (k + 1) xs ≡ rest)
+drop_next xs k x rest e =
+    let size : length xs - k ≡ suc (length rest) = sym (length-drop k xs) ∙ ap length e in
+    let within : k < length xs = omega arith in
+    let more : x ∷ rest ≡ get_or xs k x ∷ drop (k + 1) xs = sym e ∙ drop_more xs k x within in
+    (within, slice_get-get_or xs k x within ∙ cc more, cc more)
+
+pub drop_none : {X : Type 0} (xs : List X) (k : ℕ) → drop k xs ≡ [] → (length xs ≤ k) × (slice_get xs k ≡ None)
+drop_none xs k e =
+    let size : length xs - k ≡ 0 = sym (length-drop k xs) ∙ ap length e in
+    let past : length xs ≤ k = omega arith in
+    (past, slice_get_past xs k past)
