@@ -1,3 +1,5 @@
+pub mod AudioPackets
+pub mod Places
 pub mod RuleFronts
 pub mod RuleRows
 pub mod RuleSent

@@ -1,3 +1,10 @@
+ghost use Rattle.std.specs.Prelude.{◌≡◌, ℕ, ◌+◌, ◌<◌, ◌≤◌, length, Some, None, MatchOption, slice_get, slice_index};
+ghost use Rattle.version_table.specs.declared.table.Unit.{Unit as CodedUnit};
+ghost use Rattle.version_table.specs.Table.{IsValidTable};
+ghost use Rattle.version_table.specs.Choice.{Fits, HasVersion, version_at};
+ghost use Rattle.slot_rule.specs.Streams.{unit_packets, video_of, audio_of};
+ghost use Rattle.slot_rule.specs.Source.{stream_at, IsPlace};
+
 use crate::constants::PAYLOAD_BYTES;
 use crate::row::Packet;
 use version_table::{AudioPacket, Choice, ProgramRow, Table, Unit};
@@ -5,58 +12,63 @@ use version_table::{AudioPacket, Choice, ProgramRow, Table, Unit};
 /// Where the packets of a stream stand in a table and a choice.
 #[derive(Clone, Copy, Debug, PartialEq, Eq)]
 pub enum Source {
-    /// The units of a program; the number of its first unit stands at `first` in the choice.
-    Video { program: usize, first: usize },
+    /// The units of a program; the number of the first of them stands at `first` in the choice.
+    Units { program: usize, first: usize },
     /// The packets of an audio stream of a program.
-    Audio { program: usize, audio: usize },
+    Packets { program: usize, audio: usize },
 }
 
 impl Source {
     /// The first packet of the stream; none where it has none.
-    pub fn first_packet(self, table: &Table, choice: &Choice) -> Option<Packet> {
-        self.first_of(table, choice, 0)
+    pub fn first_packet(self, table: &Table, choice: &Choice) -> Option<Packet>
+        requires valid { IsValidTable table.now }
+        requires fits { Fits table.now choice.now }
+        requires place { IsPlace table.now self }
+        ensures { result ≡ slice_get (stream_at table.now choice.now self).packets 0 }
+    {
+        match self {
+            Source::Units { program, first } => {
+                let row = &table.programs.as_slice()[program];
+                unit_packet(row, &choice.as_slice()[first..], 0, 0)
+            }
+            Source::Packets { program, audio } => {
+                let row = &table.programs.as_slice()[program];
+                audio_packet(row.audios.as_slice()[audio].as_slice(), 0)
+            }
+        }
     }
 
     /// The packet of the stream after this one; none where it is the last.
-    pub fn packet_after(self, table: &Table, choice: &Choice, packet: Packet) -> Option<Packet> {
-        match self.piece_after(table, choice, packet) {
-            Some(next) => Some(next),
-            None => self.first_of(table, choice, packet.item + 1),
-        }
-    }
-
-    /// The next packet of the same unit; none where this one is the last, and in an audio stream.
-    fn piece_after(self, table: &Table, choice: &Choice, packet: Packet) -> Option<Packet> {
+    pub fn packet_after(self, table: &Table, choice: &Choice, packet: Packet) -> Option<Packet>
+        requires valid { IsValidTable table.now }
+        requires fits { Fits table.now choice.now }
+        requires place { IsPlace table.now self }
+        requires stands { (k : ℕ) × (slice_get (stream_at table.now choice.now self).packets k ≡ Some packet) }
+        ensures { (k : ℕ) → slice_get (stream_at table.now choice.now self).packets k ≡ Some packet
+            → result ≡ slice_get (stream_at table.now choice.now self).packets (k + 1) }
+    {
         match self {
-            Source::Video { program, first } => {
+            Source::Units { program, first } => {
                 let row = &table.programs.as_slice()[program];
-                unit_packet(
-                    row,
-                    &choice.as_slice()[first..],
-                    packet.item,
-                    packet.piece + 1,
-                )
+                piece_after(row, &choice.as_slice()[first..], packet)
             }
-            Source::Audio { .. } => None,
-        }
-    }
-
-    /// The first packet of a unit, or the audio packet of this number; none where the stream has fewer.
-    fn first_of(self, table: &Table, choice: &Choice, item: u32) -> Option<Packet> {
-        match self {
-            Source::Video { program, first } => {
+            Source::Packets { program, audio } => {
                 let row = &table.programs.as_slice()[program];
-                unit_packet(row, &choice.as_slice()[first..], item, 0)
-            }
-            Source::Audio { program, audio } => {
-                let row = &table.programs.as_slice()[program];
-                audio_packet(row.audios.as_slice()[audio].as_slice(), item)
+                audio_packet(row.audios.as_slice()[audio].as_slice(), packet.item + 1)
             }
         }
     }
 }
 
-/// A piece of a unit of a program, whose units have these version numbers and maybe more; none where there is none.
+/// The packet after this one in a program's video, whose units have these version numbers.
+fn piece_after(row: &ProgramRow, versions: &[u8], packet: Packet) -> Option<Packet> {
+    match unit_packet(row, versions, packet.item, packet.piece + 1) {
+        Some(next) => Some(next),
+        None => unit_packet(row, versions, packet.item + 1, 0),
+    }
+}
+
+/// A piece of a unit of a program's video, whose units have these version numbers; none where there is none.
 fn unit_packet(row: &ProgramRow, versions: &[u8], item: u32, piece: u32) -> Option<Packet> {
     let place = item as usize;
     let unit = row.units.as_slice().get(place)?;
@@ -64,7 +76,11 @@ fn unit_packet(row: &ProgramRow, versions: &[u8], item: u32, piece: u32) -> Opti
 }
 
 /// A piece of a unit in a version; none where it has fewer.
-fn piece_of(unit: &Unit, version: u8, item: u32, piece: u32) -> Option<Packet> {
+fn piece_of(unit: &Unit, version: u8, item: u32, piece: u32) -> Option<Packet>
+    requires version { HasVersion unit.now version }
+    requires some_bytes { 1 ≤ (version_at unit.now version).bytes }
+    ensures { result ≡ slice_get (unit_packets item unit.now.due (version_at unit.now version).bytes) piece }
+{
     let bytes = u64::from(unit.versions[usize::from(version)].bytes);
     let before = PAYLOAD_BYTES * u64::from(piece);
     if bytes <= before {
@@ -80,7 +96,9 @@ fn piece_of(unit: &Unit, version: u8, item: u32, piece: u32) -> Option<Packet> {
 }
 
 /// A packet of an audio stream; none where it has fewer.
-fn audio_packet(packets: &[AudioPacket], item: u32) -> Option<Packet> {
+fn audio_packet(packets: &[AudioPacket], item: u32) -> Option<Packet>
+    ensures { result ≡ slice_get (audio_of packets.now).packets item }
+{
     let packet = packets.get(item as usize)?;
     Some(Packet {
         item,

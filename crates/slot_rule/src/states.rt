@@ -35,7 +35,7 @@ pub fn first_states(table: &Table, choice: &Choice) -> States {
             choice,
             &mut states,
             kind,
-            Source::Video { program, first },
+            Source::Units { program, first },
         );
         for audio in 0..row.audios.len() {
             add_stream(
@@ -43,7 +43,7 @@ pub fn first_states(table: &Table, choice: &Choice) -> States {
                 choice,
                 &mut states,
                 Kind::Audio,
-                Source::Audio { program, audio },
+                Source::Packets { program, audio },
             );
         }
         first += row.units.len();

@@ -32,10 +32,7 @@ impl Default for StreamState {
     fn default() -> StreamState {
         StreamState::new(
             Kind::Audio,
-            Source::Audio {
-                program: 0,
-                audio: 0,
-            },
+            Source::Packets { program: 0, audio: 0 },
             None,
         )
     }

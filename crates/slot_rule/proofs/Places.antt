@@ -1,0 +1,27 @@
+-- What stands at a place of a list that is made of others.
+use Rattle.std.proofs.Common.{◌≡◌, ℕ, zero, suc, min, ◌+◌, ◌-◌, ◌*◌, ◌/◌, ◌<◌, ◌≤◌, List, [], ◌∷◌, ◌++◌, length, map, drop, replicate, slice_get, Option, Some, None, refl, sym, ap, ◌∙◌, inl, inr, arith}
+use Rattle.std.specs.List.{enumerate_from, zip}
+use Rattle.std.specs.Option.{option_map}
+
+pub slice_get-append_left : {X : Type 0} (xs ys : List X) (k : ℕ) → k < length xs → slice_get (xs ++ ys) k ≡ slice_get xs k
+slice_get-append_left [] ys k within = absurd (omega arith)
+slice_get-append_left (x ∷ xs) ys zero within = refl
+slice_get-append_left (x ∷ xs) ys (suc k) within = slice_get-append_left xs ys k (omega arith)
+
+pub slice_get-append_right : {X : Type 0} (xs ys : List X) (n k : ℕ) → n ≡ length xs + k → slice_get (xs ++ ys) n ≡ slice_get ys k
+slice_get-append_right [] ys n k e = ap (λ i. slice_get ys i) (let same : n ≡ k = omega arith in same)
+slice_get-append_right (x ∷ xs) ys zero k e = absurd (omega arith)
+slice_get-append_right (x ∷ xs) ys (suc n) k e = slice_get-append_right xs ys n k (omega arith)
+
+pub slice_get-drop : {X : Type 0} (n : ℕ) (xs : List X) (k : ℕ) → slice_get (drop n xs) k ≡ slice_get xs (n + k)
+slice_get-drop zero xs k = ap (λ i. slice_get xs i) (let same : k ≡ 0 + k = omega arith in same)
+slice_get-drop (suc n) [] k = refl
+slice_get-drop (suc n) (x ∷ xs) k = slice_get-drop n xs k ∙ ap (λ i. slice_get (x ∷ xs) i) (let same : suc (n + k) ≡ suc n + k = omega arith in same)
+
+-- a list whose elements are made of their numbers
+pub slice_get-numbered : {A B : Type 0} (f : ℕ × A → B) (from : ℕ) (xs : List A) (k : ℕ)
+    → slice_get (map f (enumerate_from from xs)) k ≡ option_map (λ x. f (from + k, x)) (slice_get xs k)
+slice_get-numbered f from [] k = refl
+slice_get-numbered f from (x ∷ xs) zero = ap (λ n. Some (f (n, x))) (let same : from ≡ from + 0 = omega arith in same)
+slice_get-numbered f from (x ∷ xs) (suc k) =
+    slice_get-numbered f (from + 1) xs k ∙ ap (λ n. option_map (λ y. f (n, y)) (slice_get xs k)) (let same : from + 1 + k ≡ from + suc k = omega arith in same)
