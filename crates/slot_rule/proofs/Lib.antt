@@ -1,6 +1,7 @@
 pub mod AudioPackets
 pub mod Places
 pub mod RuleFronts
+pub mod RulePlaces
 pub mod RuleRows
 pub mod RuleSent
 pub mod RuleUnique

@@ -1,18 +1,18 @@
 -- The packets of a video stream: those from a unit on, their order, and what each keeps.
-use Rattle.std.proofs.Common.{◌≡◌, ℕ, zero, suc, ◌+◌, ◌-◌, ◌*◌, ◌/◌, ◌<◌, ◌≤◌, ◌⊎◌, List, [], ◌∷◌, ◌++◌, All, length, map, get_or, take, drop, refl, sym, ap, ◌∙◌, inl, inr, append_assoc, zero-add, add-zero, le_refl, arith}
+use Rattle.std.proofs.Common.{◌≡◌, ℕ, zero, suc, ◌+◌, ◌-◌, ◌*◌, ◌/◌, ◌<◌, ◌≤◌, ◌⊎◌, List, [], ◌∷◌, ◌++◌, All, length, map, get_or, take, drop, refl, sym, ap, ◌∙◌, inl, inr, append_assoc, zero-add, add-zero, le_refl, arith, zero-le, lt_of_lt_of_le, subst}
 use Rattle.std.specs.List.{enumerate_from, flat_map, zip, AllPairs}
 use Rattle.std.specs.List.Sorted.{IsNonDecreasingBy, IsStrictlyIncreasing}
 use Rattle.std.proofs.lemmas.Bool.{cases_lt}
 use Rattle.std.proofs.lemmas.List.{drop_more, drop_all, drop-drop, drop_at, drop-append-le, length-append, length-map, get_or_append_left, get_or-append_right, get_or-map}
 use Rattle.std.proofs.lemmas.List.Kept.{AllPairs-from_increasing}
-use Rattle.std.proofs.lemmas.List.Elements.{All-nil, All-append, All-head, All-tail, All-weaker}
+use Rattle.std.proofs.lemmas.List.Elements.{All-nil, All-append}
 use Rattle.version_table.specs.declared.limits.TheConstants.{VERSION_BYTES_MOST}
 use Rattle.version_table.specs.declared.table.Unit.{Unit as CodedUnit}
 use Rattle.version_table.specs.declared.table.ProgramRow.{ProgramRow}
 use Rattle.version_table.specs.Choice.{version_at}
 use Rattle.slot_rule.specs.declared.constants.TheConstants.{PAYLOAD_BYTES}
 use Rattle.slot_rule.specs.Streams.{Packet, unit_packets, video_of}
-use Rattle.slot_rule.proofs.RuleUnits.{piece_of, unit_rest, unit_rest-more, unit_rest-last, drop-unit_packets, unit_rest-each, get_or-unit_rest, length-unit_rest, IsOfUnit}
+use Rattle.slot_rule.proofs.RuleUnits.{piece_of, unit_rest, unit_rest-more, unit_rest-last, drop-unit_packets, unit_rest-each, unit_rest-pieces, get_or-unit_rest, length-unit_rest, IsOfUnit}
 
 -- the packets of these units, of which the first has this number
 abbrev pub packets_from : (item : ℕ) → List CodedUnit → List ℕ → List Packet
@@ -139,53 +139,73 @@ HasSizes [] choice = Unit {0}
 HasSizes (coded ∷ units) [] = ⊥
 HasSizes (coded ∷ units) (k ∷ choice) = (1 ≤ (version_at coded k).bytes) × ((version_at coded k).bytes ≤ VERSION_BYTES_MOST) × HasSizes units choice
 
--- what each packet of these units has, of which the first has this number, where none is due before a time
-pub record IsOfUnits (item units from : ℕ) (packet : Packet) : Type 0 where
-  pub from_item : item ≤ packet.item
-  pub to_item : packet.item < item + units
-  pub from_due : from ≤ packet.due
-  pub gone_is : packet.gone ≡ packet.due
-  pub some_payload : 1 ≤ packet.payload
-  pub payload : packet.payload ≤ PAYLOAD_BYTES
+pub HasSizes-long : (units : List CodedUnit) (choice : List ℕ) → HasSizes units choice → length units ≤ length choice
+HasSizes-long [] choice sizes = zero-le
+HasSizes-long (coded ∷ units) [] sizes = absurd sizes
+HasSizes-long (coded ∷ units) (k ∷ choice) sizes = omega (arith, HasSizes-long units choice sizes.2)
 
-pub packets_from-each : (item from : ℕ) (units : List CodedUnit) (choice : List ℕ) → HasSizes units choice → All (λ coded. from ≤ coded.due) units
-    → All (IsOfUnits item (length units) from) (packets_from item units choice)
-packets_from-each item from [] choice sizes dues = All-nil (IsOfUnits item 0 from)
-packets_from-each item from (coded ∷ units) [] sizes dues = absurd sizes
-packets_from-each item from (coded ∷ units) (k ∷ choice) sizes dues =
-    All-append (IsOfUnits item (suc (length units)) from) (unit_rest item 0 coded.due (version_at coded k).bytes) (packets_from (item + 1) units choice)
-    (All-weaker (IsOfUnit item coded.due) (IsOfUnits item (suc (length units)) from)
-    (λ packet h. record {
-      from_item = omega (arith, h.item_is);
-      to_item = omega (arith, h.item_is);
-      from_due = rw h.due_is (All-head (λ coded. from ≤ coded.due) coded units dues);
-      gone_is = h.gone_is ∙ sym h.due_is;
-      some_payload = h.some_payload;
-      payload = h.payload;
-    }) (unit_rest item 0 coded.due (version_at coded k).bytes) (unit_rest-each item 0 coded.due (version_at coded k).bytes sizes.0))
-    (All-weaker (IsOfUnits (item + 1) (length units) from) (IsOfUnits item (suc (length units)) from)
-    (λ packet h. record {
-      from_item = omega (arith, h.from_item);
-      to_item = omega (arith, h.to_item);
-      from_due = h.from_due;
-      gone_is = h.gone_is;
-      some_payload = h.some_payload;
-      payload = h.payload;
-    }) (packets_from (item + 1) units choice) (packets_from-each (item + 1) from units choice sizes.2 (All-tail (λ coded. from ≤ coded.due) coded units dues)))
+pub HasSizes-at : (units : List CodedUnit) (choice : List ℕ) → HasSizes units choice → (n : ℕ) (d : CodedUnit) (e : ℕ) → n < length units
+    → (1 ≤ (version_at (get_or units n d) (get_or choice n e)).bytes) × ((version_at (get_or units n d) (get_or choice n e)).bytes ≤ VERSION_BYTES_MOST)
+HasSizes-at [] choice sizes n d e within = absurd (omega arith)
+HasSizes-at (coded ∷ units) [] sizes n d e within = absurd sizes
+HasSizes-at (coded ∷ units) (k ∷ choice) sizes zero d e within = (sizes.0, sizes.1)
+HasSizes-at (coded ∷ units) (k ∷ choice) sizes (suc n) d e within = HasSizes-at units choice sizes.2 n d e (omega arith)
+
+-- what holds of each packet of each unit, by the unit's place and due time, holds of each packet of a video stream
+pub packets_from-each : (P : Packet → Type 0) (item : ℕ) (units : List CodedUnit) (choice : List ℕ) → HasSizes units choice
+    → ((n : ℕ) (d : CodedUnit) (packet : Packet) → n < length units → IsOfUnit (item + n) (get_or units n d).due packet → packet.piece < VERSION_BYTES_MOST → P packet)
+    → All P (packets_from item units choice)
+packets_from-each P item [] choice sizes each = All-nil P
+packets_from-each P item (coded ∷ units) [] sizes each = absurd sizes
+packets_from-each P item (coded ∷ units) (k ∷ choice) sizes each =
+    All-append P (unit_rest item 0 coded.due (version_at coded k).bytes) (packets_from (item + 1) units choice)
+    (λ i d within. each 0 coded (get_or (unit_rest item 0 coded.due (version_at coded k).bytes) i d) (omega arith)
+    (rw (add-zero item) (unit_rest-each item 0 coded.due (version_at coded k).bytes sizes.0 i d within))
+    (lt_of_lt_of_le (unit_rest-pieces item coded.due (version_at coded k).bytes sizes.0 i d within) sizes.1))
+    (packets_from-each P (item + 1) units choice sizes.2
+    (λ n d packet within h small.
+    let next : (item + 1) + n ≡ item + suc n = omega arith in
+    each (suc n) d packet (omega arith) (subst (λ m. IsOfUnit m (get_or units n d).due packet) next h) small))
+
+-- a packet of a later unit, due later
+record IsLater (item due : ℕ) (packet : Packet) : Type 0 where
+  of_item : item < packet.item
+  due_after : due < packet.due
+  gone_after : due < packet.gone
 
 -- the packets of a video stream stand in the order of their units, pieces, due and gone times
 pub packets_from-order : (item : ℕ) (units : List CodedUnit) (choice : List ℕ) → HasSizes units choice → DuesRise units → AllPairs ComesBefore (packets_from item units choice)
 packets_from-order item [] choice sizes rises = λ i j d before within. absurd (omega arith)
 packets_from-order item (coded ∷ units) [] sizes rises = absurd sizes
 packets_from-order item (coded ∷ units) (k ∷ choice) sizes rises =
-    let bytes = (version_at coded k).bytes in
-    let later : All (λ later. coded.due ≤ later.due) units =
-    All-weaker (λ (later : CodedUnit). coded.due < later.due) (λ later. coded.due ≤ later.due) (λ later h. omega arith) units (AllPairs-head (λ coded later. coded.due < later.due) coded units rises) in
+    let later : All (λ later. coded.due < later.due) units = AllPairs-head (λ coded later. coded.due < later.due) coded units rises in
     let own : All (IsOfUnit item coded.due) (unit_rest item 0 coded.due (version_at coded k).bytes) = unit_rest-each item 0 coded.due (version_at coded k).bytes sizes.0 in
-    let others : All (IsOfUnits (item + 1) (length units) coded.due) (packets_from (item + 1) units choice) = packets_from-each (item + 1) coded.due units choice sizes.2 later in
+    let others : All (IsLater item coded.due) (packets_from (item + 1) units choice) =
+    packets_from-each (IsLater item coded.due) (item + 1) units choice sizes.2
+    (λ n d packet within h small.
+    let above : coded.due < (get_or units n d).due = later n d within in
+    record { of_item = omega (arith, h.item_is); due_after = omega (arith, h.due_is); gone_after = omega (arith, h.gone_is) }) in
     AllPairs-append ComesBefore (unit_rest item 0 coded.due (version_at coded k).bytes) (packets_from (item + 1) units choice) (unit_rest-order item 0 coded.due (version_at coded k).bytes)
     (packets_from-order (item + 1) units choice sizes.2 (AllPairs-tail (λ coded later. coded.due < later.due) coded units rises))
     (λ i j d within within'.
-    let a = own i d within in
-    let b = others j d within' in
-    record { place = inl (omega (arith, a.item_is, b.from_item)); due = omega (arith, a.due_is, b.from_due); gone = omega (arith, a.gone_is, b.gone_is, b.from_due) })
+    let a : IsOfUnit item coded.due (get_or (unit_rest item 0 coded.due (version_at coded k).bytes) i d) = own i d within in
+    let b : IsLater item coded.due (get_or (packets_from (item + 1) units choice) j d) = others j d within' in
+    record { place = inl (omega (arith, a.item_is, b.of_item)); due = omega (arith, a.due_is, b.due_after); gone = omega (arith, a.gone_is, b.gone_after) })
+
+pub packets_from-dues : (item : ℕ) (units : List CodedUnit) (choice : List ℕ) → HasSizes units choice → DuesRise units → IsNonDecreasingBy (λ packet. packet.due) (packets_from item units choice)
+packets_from-dues item units choice sizes rises =
+    IsNonDecreasingBy-from_pairs (λ packet. packet.due) (packets_from item units choice) (λ i j d before within. (packets_from-order item units choice sizes rises i j d before within).due)
+
+pub packets_from-gones : (item : ℕ) (units : List CodedUnit) (choice : List ℕ) → HasSizes units choice → DuesRise units → IsNonDecreasingBy (λ packet. packet.gone) (packets_from item units choice)
+packets_from-gones item units choice sizes rises =
+    IsNonDecreasingBy-from_pairs (λ packet. packet.gone) (packets_from item units choice) (λ i j d before within. (packets_from-order item units choice sizes rises i j d before within).gone)
+
+-- a video stream has at most so many packets for each unit
+pub length-packets_from : (item : ℕ) (units : List CodedUnit) (choice : List ℕ) → HasSizes units choice → length (packets_from item units choice) ≤ length units * ((VERSION_BYTES_MOST - 1) / PAYLOAD_BYTES + 1)
+length-packets_from item [] choice sizes = zero-le
+length-packets_from item (coded ∷ units) [] sizes = absurd sizes
+length-packets_from item (coded ∷ units) (k ∷ choice) sizes =
+    let bytes = (version_at coded k).bytes in
+    let size : length (packets_from item (coded ∷ units) (k ∷ choice)) ≡ length (unit_rest item 0 coded.due bytes) + length (packets_from (item + 1) units choice) =
+    length-append (unit_rest item 0 coded.due bytes) (packets_from (item + 1) units choice) in
+    omega (arith, size, length-unit_rest item 0 coded.due (version_at coded k).bytes, length-packets_from (item + 1) units choice sizes.2, sizes.1)
