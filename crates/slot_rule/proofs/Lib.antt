@@ -4,6 +4,7 @@ pub mod RuleFronts
 pub mod RulePlaces
 pub mod RuleRows
 pub mod RuleSent
+pub mod RuleStreams
 pub mod RuleUnique
 pub mod RuleUnits
 pub mod RuleVideo

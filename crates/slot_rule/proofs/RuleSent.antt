@@ -1,12 +1,13 @@
 -- The packets of a stream that stand in the rows, and their bytes that are still in the decoder.
-use Rattle.std.proofs.Common.{◌≡◌, ℕ, zero, suc, ◌+◌, ◌-◌, ◌<◌, ◌≤◌, false, cond, eqb, ltb, eq-eqb, ne_eqb, List, [], ◌∷◌, ◌++◌, length, get_or, take, drop, count_by, sum_by, slice_get, Some, nat_lt, ◌==◌, if◌then◌else◌, refl, sym, ap, subst, ◌∙◌, inl, inr, append-nil, add-zero, zero-add, zero-le, le_refl, le_trans, lt_of_lt_of_le, lt_of_le_of_lt, length-take, ap₂, lt-ltb, le-ltb, arith}
+use Rattle.std.proofs.Common.{◌≡◌, ℕ, zero, suc, ◌+◌, ◌-◌, ◌<◌, ◌≤◌, false, cond, eqb, ltb, eq-eqb, ne_eqb, List, [], ◌∷◌, ◌++◌, length, get_or, take, drop, count_by, sum_by, slice_get, Some, nat_lt, ◌==◌, if◌then◌else◌, refl, sym, ap, subst, ◌∙◌, inl, inr, append-nil, add-zero, zero-add, zero-le, le_refl, le_trans, lt_of_lt_of_le, lt_of_le_of_lt, length-take, ap₂, lt-ltb, le-ltb, arith, All, length-drop, mul-le-mul_right, ◌*◌}
 use Rattle.std.specs.List.{flat_map}
 use Rattle.std.specs.List.Sorted.{IsNonDecreasingBy}
 use Rattle.std.proofs.lemmas.Bool.{cases_eq, cases_Bool, cases_lt, cond-true, cond-false}
 use Rattle.std.proofs.lemmas.Option.{same_Some, slice_get_within, get_or_from_slice_get}
 use Rattle.std.proofs.lemmas.List.{take_more, get_or-take, length-take-le, get_or_default, drop_all, drop-append-le}
 use Rattle.std.proofs.lemmas.List.Concat.{flat_map-append}
-use Rattle.std.proofs.lemmas.List.Sums.{sum_by-append, sum_by-cons, sum_by_push, sum_by-drop_more, sum_by-le-sum_by}
+use Rattle.std.proofs.lemmas.List.Sums.{sum_by-append, sum_by-cons, sum_by_push, sum_by-drop_more, sum_by-le-sum_by, sum_by-le}
+use Rattle.std.proofs.lemmas.List.Elements.{All-drop, All-take}
 use Rattle.version_table.specs.declared.table.Table.{Table}
 use Rattle.slot_rule.specs.declared.sent.Sent.{Sent}
 use Rattle.slot_rule.specs.Streams.{Kind, Packet, Stream, streams_of}
@@ -211,3 +212,9 @@ outstanding-is table choice stream kind packets got rises rows follows time j k 
     let same : sent_of stream rows ≡ take k packets = first.1 ∙ ap (λ n. take n packets) (sym count) in
     outstanding-sent stream time rows ∙ ap (λ list. sum_by (payload_after time) list) same
     ∙ sum_by-payload_after time j (take k packets) (GoneBefore-from_ends time j k packets d rises below (omega arith) gone late)
+
+pub held-le : (j k most : ℕ) (packets : List Packet) → All (λ packet. packet.payload ≤ most) packets → held j k packets ≤ k * most
+held-le j k most packets each =
+    let P : Packet → Type 0 = λ packet. packet.payload ≤ most in
+    let size : length (drop j (take k packets)) ≤ k = rw (length-drop, length-take) (omega arith) in
+    le_trans (sum_by-le payload_of most (drop j (take k packets)) (All-drop P j (take k packets) (All-take P k packets each))) (mul-le-mul_right most size)

@@ -1,13 +1,14 @@
 -- The work that waits in a buffer after one more row.
-use Rattle.std.proofs.Common.{◌≡◌, ℕ, ◌+◌, ◌-◌, ◌*◌, eqb, eq-eqb, ne_eqb, List, [], ◌∷◌, ◌++◌, length, map, max, sum, refl, arith}
+use Rattle.std.proofs.Common.{◌≡◌, ℕ, ◌+◌, ◌-◌, ◌*◌, eqb, eq-eqb, ne_eqb, List, [], ◌∷◌, ◌++◌, length, map, max, sum, refl, arith, All, get_or, true, false, zero-le, zero-add, add-zero, ◌≤◌, Bool, cond}
 use Rattle.std.proofs.lemmas.Bool.{cond-true, cond-false}
-use Rattle.std.proofs.lemmas.List.{length_push, map_push}
-use Rattle.std.proofs.lemmas.List.Sums.{sum_by_push}
-use Rattle.slot_rule.specs.declared.constants.TheConstants.{PACKET_BYTES, MB_SUBTICKS}
+use Rattle.std.proofs.lemmas.List.{length_push, map_push, length-map}
+use Rattle.std.proofs.lemmas.List.Sums.{sum_by_push, sum_by-cons, sum_by-le}
+use Rattle.std.proofs.lemmas.List.Elements.{All-map}
+use Rattle.slot_rule.specs.declared.constants.TheConstants.{PACKET_BYTES, PAYLOAD_BYTES, MB_SUBTICKS, AUDIO_TB_SUBTICKS}
 use Rattle.slot_rule.specs.declared.sent.Sent.{Sent}
 use Rattle.slot_rule.specs.declared.sent.Sent.TheVariants.{Pcr}
 use Rattle.slot_rule.specs.Streams.{Kind, Video, Audio, Packet}
-use Rattle.slot_rule.specs.Buffers.{Row, Reserved, Carries, Empty, waiting, transport_work, multiplex_work, packets_in, payload_in, tb_subticks, slot_subticks}
+use Rattle.slot_rule.specs.Buffers.{Row, Reserved, Carries, Empty, waiting, transport_work, multiplex_work, packets_in, payload_in, tb_subticks, slot_subticks, is_of, is_clock_of}
 
 max_more : (all rest n drain work : ℕ) → max ((all + work) - drain * (n + 1)) ((rest + work) - drain) ≡ (max (all - drain * n) rest + work) - drain
 max_more all rest n drain work = omega arith
@@ -61,3 +62,38 @@ pub packets_in-no_clock : (stream : ℕ) (kind : Kind) (sent : Sent) → ((p : �
 packets_in-no_clock stream Audio sent apart = refl
 packets_in-no_clock stream (Video program vbv) (Pcr p) apart = absurd (apart p refl)
 packets_in-no_clock stream (Video program vbv) sent apart = refl
+
+-- ---- bounds
+pub waiting-le-sum : (drain : ℕ) (works : List ℕ) → waiting drain works ≤ sum works
+waiting-le-sum drain [] = zero-le
+waiting-le-sum drain (work ∷ works) = omega (arith, waiting-le-sum drain works, sum_by-cons (λ x. x) work works)
+
+waiting-bound : (drain most : ℕ) (works : List ℕ) → All (λ work. work ≤ most) works → waiting drain works ≤ length works * most
+waiting-bound drain most works each = omega (arith, waiting-le-sum drain works, sum_by-le (λ x. x) most works each)
+
+cond_le_one : (b : Bool) → cond b 1 0 ≤ 1
+cond_le_one true = omega arith
+cond_le_one false = omega arith
+
+-- a row has at most one packet of a stream's PID
+pub packets_in-le : (stream : ℕ) (kind : Kind) (row : Row) → packets_in stream kind row ≤ 1
+packets_in-le stream Audio row = cond_le_one (is_of stream row)
+packets_in-le stream (Video program vbv) (Reserved sent) = rw zero-add (cond_le_one (is_clock_of program (Reserved sent)))
+packets_in-le stream (Video program vbv) (Carries s packet) = rw add-zero (cond_le_one (eqb s stream))
+packets_in-le stream (Video program vbv) Empty = omega arith
+
+transport_in-le : (stream : ℕ) (kind : Kind) (row : Row) → PACKET_BYTES * tb_subticks kind * packets_in stream kind row ≤ PACKET_BYTES * AUDIO_TB_SUBTICKS
+transport_in-le stream (Video program vbv) row = omega (arith, packets_in-le stream (Video program vbv) row)
+transport_in-le stream Audio row = omega (arith, packets_in-le stream Audio row)
+
+pub transport_work-bound : (slot stream : ℕ) (kind : Kind) (rows : List Row) → transport_work slot stream kind rows ≤ length rows * (PACKET_BYTES * AUDIO_TB_SUBTICKS)
+transport_work-bound slot stream kind rows =
+    let f : Row → ℕ = λ row. PACKET_BYTES * tb_subticks kind * packets_in stream kind row in
+    rw (← length-map rows f)
+    (waiting-bound (slot_subticks slot) (PACKET_BYTES * AUDIO_TB_SUBTICKS) (map f rows) (All-map (λ work. work ≤ PACKET_BYTES * AUDIO_TB_SUBTICKS) f rows (λ k d within. transport_in-le stream kind (get_or rows k d))))
+
+pub multiplex_work-bound : (slot stream : ℕ) (rows : List Row) → All (λ row. payload_in stream row ≤ PAYLOAD_BYTES) rows → multiplex_work slot stream rows ≤ length rows * (PAYLOAD_BYTES * MB_SUBTICKS)
+multiplex_work-bound slot stream rows each =
+    let f : Row → ℕ = λ row. MB_SUBTICKS * payload_in stream row in
+    rw (← length-map rows f)
+    (waiting-bound (slot_subticks slot) (PAYLOAD_BYTES * MB_SUBTICKS) (map f rows) (All-map (λ work. work ≤ PAYLOAD_BYTES * MB_SUBTICKS) f rows (λ k d within. (let small : payload_in stream (get_or rows k d) ≤ PAYLOAD_BYTES = each k d within in omega arith))))
