@@ -9,3 +9,4 @@ pub mod RuleUnique
 pub mod RuleUnits
 pub mod RuleVideo
 pub mod RuleWork
+pub mod UnitPieces

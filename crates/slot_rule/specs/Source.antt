@@ -1,6 +1,7 @@
 -- Where the packets of a stream stand in a table and a choice.
-use Rattle.std.specs.Prelude.{◌≡◌, ℕ, ◌<◌, List, [], length, take, drop, slice_index_or}
-use Rattle.std.specs.List.{flat_map}
+use Rattle.std.specs.Prelude.{◌≡◌, ℕ, ◌<◌, ◌≤◌, List, [], length, drop, slice_get, slice_index, slice_index_or, Some}
+use Rattle.version_table.specs.declared.table.Unit.{Unit as CodedUnit}
+use Rattle.version_table.specs.Choice.{HasVersion, version_at}
 use Rattle.version_table.specs.declared.table.ProgramRow.{ProgramRow}
 use Rattle.version_table.specs.declared.table.Table.{Table}
 use Rattle.slot_rule.specs.declared.source.Source.{Source}
@@ -16,9 +17,15 @@ abbrev pub stream_at : Table → List ℕ → Source → Stream
 stream_at table choice (Units program first) = video_of program (program_at table program) (drop first choice)
 stream_at table choice (Packets program audio) = audio_of (slice_index_or (program_at table program).audios audio [])
 
--- the table has a stream there
-abbrev pub IsPlace : Table → Source → Type 0
-IsPlace table (Units program first) =
-    (program < length table.programs) × (first ≡ length (flat_map (λ row. row.units) (take program table.programs)))
-IsPlace table (Packets program audio) =
+-- each unit has a number in the list, of a version that it has, and which has bytes
+abbrev pub HaveVersions : List CodedUnit → List ℕ → Type 0
+HaveVersions units choice =
+    (item : ℕ) (coded : CodedUnit) → slice_get units item ≡ Some coded
+    → (item < length choice) × HasVersion coded (slice_index choice item) × (1 ≤ (version_at coded (slice_index choice item)).bytes)
+
+-- the table and the choice have a stream there
+abbrev pub IsPlace : Table → List ℕ → Source → Type 0
+IsPlace table choice (Units program first) =
+    (program < length table.programs) × (first ≤ length choice) × HaveVersions (program_at table program).units (drop first choice)
+IsPlace table choice (Packets program audio) =
     (program < length table.programs) × (audio < length (program_at table program).audios)

@@ -1,3 +1,7 @@
+ghost use Rattle.std.specs.Prelude.{◌≡◌, ◌↔◌, IsTrue};
+ghost use Rattle.slot_rule.specs.Buffers.{tb_subticks, transport_gate, main_bytes, MultiplexPermits};
+ghost use Rattle.slot_rule.specs.StreamState.{IsKind, HasClock};
+
 use crate::constants::{
     AUDIO_BYTES, AUDIO_TB_GATE, AUDIO_TB_SUBTICKS, EB_UNIT_BYTES, MB_SPARE_BYTES, MB_SUBTICKS,
     VIDEO_BYTES, VIDEO_TB_GATE, VIDEO_TB_SUBTICKS,
@@ -14,7 +18,9 @@ pub enum Kind {
 
 impl Kind {
     /// Subticks that a byte takes to leave the transport buffer.
-    pub fn tb_subticks(self) -> u64 {
+    pub fn tb_subticks(self) -> u64
+        ensures { result ≡ tb_subticks self }
+    {
         match self {
             Kind::Video { .. } => VIDEO_TB_SUBTICKS,
             Kind::Audio => AUDIO_TB_SUBTICKS,
@@ -22,7 +28,9 @@ impl Kind {
     }
 
     /// The work that may wait in the transport buffer where a packet goes.
-    pub fn transport_gate(self) -> u64 {
+    pub fn transport_gate(self) -> u64
+        ensures { result ≡ transport_gate self }
+    {
         match self {
             Kind::Video { .. } => VIDEO_TB_GATE * VIDEO_TB_SUBTICKS,
             Kind::Audio => AUDIO_TB_GATE * AUDIO_TB_SUBTICKS,
@@ -30,26 +38,32 @@ impl Kind {
     }
 
     /// Whether a packet may go where so much work waits in the multiplexing buffer; an audio stream has none.
-    pub fn permits_multiplex(self, work: u64) -> bool {
+    pub fn permits_multiplex(self, work: u64) -> bool
+        requires { IsKind self }
+        ensures { IsTrue result ↔ MultiplexPermits self work }
+    {
         match self {
             Kind::Video { vbv, .. } => {
-                work <= (VIDEO_BYTES - EB_UNIT_BYTES * u64::from(vbv) - MB_SPARE_BYTES)
-                    * MB_SUBTICKS
+                work <= (VIDEO_BYTES - EB_UNIT_BYTES * u64::from(vbv) - MB_SPARE_BYTES) * MB_SUBTICKS
             }
             Kind::Audio => true,
         }
     }
 
     /// Bytes of the buffer from which units or frames are removed.
-    pub fn main_bytes(self) -> u64 {
+    pub fn main_bytes(self) -> u64
+        ensures { result ≡ main_bytes self }
+    {
         match self {
             Kind::Video { vbv, .. } => EB_UNIT_BYTES * u64::from(vbv),
             Kind::Audio => AUDIO_BYTES,
         }
     }
 
-    /// Whether the clock of the program goes on the stream's PID.
-    pub fn has_clock_of(self, number: u8) -> bool {
+    /// Whether the clock of a program goes on the stream's PID.
+    pub fn has_clock(self, number: u8) -> bool
+        ensures { IsTrue result ↔ HasClock self number }
+    {
         match self {
             Kind::Video { program, .. } => program == number,
             Kind::Audio => false,

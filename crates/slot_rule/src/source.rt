@@ -1,9 +1,9 @@
-ghost use Rattle.std.specs.Prelude.{◌≡◌, ℕ, ◌+◌, ◌<◌, ◌≤◌, length, Some, None, MatchOption, slice_get, slice_index};
+ghost use Rattle.std.specs.Prelude.{◌≡◌, ℕ, ◌+◌, ◌≤◌, length, Some, None, slice_get, slice_index};
 ghost use Rattle.version_table.specs.declared.table.Unit.{Unit as CodedUnit};
-ghost use Rattle.version_table.specs.Table.{IsValidTable};
-ghost use Rattle.version_table.specs.Choice.{Fits, HasVersion, version_at};
+ghost use Rattle.version_table.specs.Choice.{HasVersion, version_at};
 ghost use Rattle.slot_rule.specs.Streams.{unit_packets, video_of, audio_of};
-ghost use Rattle.slot_rule.specs.Source.{stream_at, IsPlace};
+ghost use Rattle.slot_rule.specs.Source.{HaveVersions, IsPlace};
+ghost use Rattle.slot_rule.specs.StreamState.{IsNumbered, packets_at};
 
 use crate::constants::PAYLOAD_BYTES;
 use crate::row::Packet;
@@ -21,10 +21,8 @@ pub enum Source {
 impl Source {
     /// The first packet of the stream; none where it has none.
     pub fn first_packet(self, table: &Table, choice: &Choice) -> Option<Packet>
-        requires valid { IsValidTable table.now }
-        requires fits { Fits table.now choice.now }
-        requires place { IsPlace table.now self }
-        ensures { result ≡ slice_get (stream_at table.now choice.now self).packets 0 }
+        requires { IsPlace table.now choice.now self }
+        ensures { result ≡ slice_get (packets_at table.now choice.now self) 0 }
     {
         match self {
             Source::Units { program, first } => {
@@ -40,12 +38,10 @@ impl Source {
 
     /// The packet of the stream after this one; none where it is the last.
     pub fn packet_after(self, table: &Table, choice: &Choice, packet: Packet) -> Option<Packet>
-        requires valid { IsValidTable table.now }
-        requires fits { Fits table.now choice.now }
-        requires place { IsPlace table.now self }
-        requires stands { (k : ℕ) × (slice_get (stream_at table.now choice.now self).packets k ≡ Some packet) }
-        ensures { (k : ℕ) → slice_get (stream_at table.now choice.now self).packets k ≡ Some packet
-            → result ≡ slice_get (stream_at table.now choice.now self).packets (k + 1) }
+        requires place { IsPlace table.now choice.now self }
+        requires numbered { IsNumbered packet }
+        ensures { (k : ℕ) → slice_get (packets_at table.now choice.now self) k ≡ Some packet
+            → result ≡ slice_get (packets_at table.now choice.now self) (k + 1) }
     {
         match self {
             Source::Units { program, first } => {
@@ -61,7 +57,12 @@ impl Source {
 }
 
 /// The packet after this one in a program's video, whose units have these version numbers.
-fn piece_after(row: &ProgramRow, versions: &[u8], packet: Packet) -> Option<Packet> {
+fn piece_after(row: &ProgramRow, versions: &[u8], packet: Packet) -> Option<Packet>
+    requires versions { HaveVersions row.now.units versions.now }
+    requires numbered { IsNumbered packet }
+    ensures { (k : ℕ) → slice_get (video_of 0 row.now versions.now).packets k ≡ Some packet
+        → result ≡ slice_get (video_of 0 row.now versions.now).packets (k + 1) }
+{
     match unit_packet(row, versions, packet.item, packet.piece + 1) {
         Some(next) => Some(next),
         None => unit_packet(row, versions, packet.item + 1, 0),
@@ -69,7 +70,12 @@ fn piece_after(row: &ProgramRow, versions: &[u8], packet: Packet) -> Option<Pack
 }
 
 /// A piece of a unit of a program's video, whose units have these version numbers; none where there is none.
-fn unit_packet(row: &ProgramRow, versions: &[u8], item: u32, piece: u32) -> Option<Packet> {
+fn unit_packet(row: &ProgramRow, versions: &[u8], item: u32, piece: u32) -> Option<Packet>
+    requires { HaveVersions row.now.units versions.now }
+    ensures missing { length row.now.units ≤ item → result ≡ None }
+    ensures found { (unit : CodedUnit) → slice_get row.now.units item ≡ Some unit
+        → result ≡ slice_get (unit_packets item unit.due (version_at unit (slice_index versions.now item)).bytes) piece }
+{
     let place = item as usize;
     let unit = row.units.as_slice().get(place)?;
     piece_of(unit, versions[place], item, piece)

@@ -100,7 +100,7 @@ pub fn release_all(table: &Table, choice: &Choice, states: &mut [StreamState], s
 /// The clock of a program goes, on the PID of its video.
 pub fn take_clock(states: &mut [StreamState], program: u8) {
     for state in states.iter_mut() {
-        if state.kind.has_clock_of(program) {
+        if state.kind.has_clock(program) {
             state.take_clock();
         }
     }

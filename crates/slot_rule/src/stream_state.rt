@@ -1,3 +1,10 @@
+ghost use Rattle.std.specs.Prelude.{◌≡◌, ℕ, ◌+◌, ◌-◌, ◌*◌, ◌^◌, ◌<◌, ◌≤◌, ◌↔◌, Some, All, IsTrue, slice_get};
+ghost use Rattle.version_table.specs.declared.limits.TheConstants.{PAYLOAD_MOST};
+ghost use Rattle.slot_rule.specs.declared.row.Packet.{Packet};
+ghost use Rattle.slot_rule.specs.Buffers.{tb_subticks};
+ghost use Rattle.slot_rule.specs.Source.{IsPlace};
+ghost use Rattle.slot_rule.specs.StreamState.{IsKind, IsNumbered, IsSmall, Keeps, Permits, first_state, packets_at, work_of_main};
+
 use crate::constants::{HOLD_TICKS, MB_SUBTICKS, PACKET_BYTES};
 use crate::kind::Kind;
 use crate::row::Packet;
@@ -40,7 +47,9 @@ impl Default for StreamState {
 
 impl StreamState {
     /// The state before the first slot.
-    pub fn new(kind: Kind, source: Source, first: Option<Packet>) -> StreamState {
+    pub fn new(kind: Kind, source: Source, first: Option<Packet>) -> StreamState
+        ensures { result ≡ first_state kind source first }
+    {
         StreamState {
             kind,
             source,
@@ -54,8 +63,14 @@ impl StreamState {
         }
     }
 
-    /// Whether the head packet may go in a slot that begins at `start` ticks.
-    pub fn permits(&self, packet: Packet, start: u64) -> bool {
+    /// Whether a packet may go in a slot that begins at `start` ticks.
+    pub fn permits(&self, packet: Packet, start: u64) -> bool
+        requires small { IsSmall self.now }
+        requires kind { IsKind self.now.kind }
+        requires payload { packet.payload ≤ PAYLOAD_MOST }
+        requires start { start < 2 ^ 60 }
+        ensures { IsTrue result ↔ Permits self.now packet start }
+    {
         self.transport <= self.kind.transport_gate()
             && self.kind.permits_multiplex(self.multiplex)
             && self.held + packet.payload <= self.kind.main_bytes()
@@ -63,27 +78,65 @@ impl StreamState {
     }
 
     /// The head packet goes.
-    pub fn send(&mut self, table: &Table, choice: &Choice, packet: Packet) {
+    pub fn send(&mut self, table: &Table, choice: &Choice, packet: Packet)
+        requires place { IsPlace table.now choice.now self.old.source }
+        requires numbered { All IsNumbered (packets_at table.now choice.now self.old.source) }
+        requires keeps { Keeps (packets_at table.now choice.now self.old.source) self.old }
+        requires head { self.old.head ≡ Some packet }
+        requires small { IsSmall self.old }
+        ensures keeps { Keeps (packets_at table.now choice.now self.old.source) self.new }
+        ensures changed { self.new ≡ record self.old {
+            transport = self.old.transport + PACKET_BYTES * tb_subticks self.old.kind;
+            multiplex = self.old.multiplex + MB_SUBTICKS * packet.payload;
+            sent = self.old.sent + 1;
+            head = self.new.head;
+            held = self.old.held + packet.payload;
+        } }
+    {
         self.transport += PACKET_BYTES * self.kind.tb_subticks();
         self.multiplex += MB_SUBTICKS * packet.payload;
-        self.held += packet.payload;
         self.sent += 1;
         self.head = self.source.packet_after(table, choice, packet);
+        self.held += packet.payload;
     }
 
     /// A clock goes on the stream's PID.
-    pub fn take_clock(&mut self) {
+    pub fn take_clock(&mut self)
+        requires { IsSmall self.old }
+        ensures { self.new ≡ record self.old { transport = self.old.transport + PACKET_BYTES * tb_subticks self.old.kind } }
+    {
         self.transport += PACKET_BYTES * self.kind.tb_subticks();
     }
 
     /// A slot passes, in which so many subticks of work are done.
-    pub fn drain(&mut self, subticks: u64) {
+    pub fn drain(&mut self, subticks: u64)
+        ensures { self.new ≡ record self.old {
+            transport = self.old.transport - subticks;
+            multiplex = self.old.multiplex - subticks;
+        } }
+    {
         self.transport = self.transport.saturating_sub(subticks);
         self.multiplex = self.multiplex.saturating_sub(subticks);
     }
 
     /// Leaves out of `held` the packets that are gone at `start` ticks.
-    pub fn release(&mut self, table: &Table, choice: &Choice, start: u64) {
+    pub fn release(&mut self, table: &Table, choice: &Choice, start: u64)
+        requires place { IsPlace table.now choice.now self.old.source }
+        requires numbered { All IsNumbered (packets_at table.now choice.now self.old.source) }
+        requires keeps { Keeps (packets_at table.now choice.now self.old.source) self.old }
+        ensures keeps { Keeps (packets_at table.now choice.now self.old.source) self.new }
+        ensures changed { self.new ≡ record self.old {
+            gone = self.new.gone;
+            oldest = self.new.oldest;
+            held = self.new.held;
+        } }
+        ensures rises { self.old.gone ≤ self.new.gone }
+        ensures fewer { self.new.held ≤ self.old.held }
+        ensures gone { (k : ℕ) (packet : Packet) → self.old.gone ≤ k → k < self.new.gone
+            → slice_get (packets_at table.now choice.now self.old.source) k ≡ Some packet → packet.gone ≤ start }
+        ensures stays { (packet : Packet) → self.new.gone < self.new.sent
+            → slice_get (packets_at table.now choice.now self.old.source) self.new.gone ≡ Some packet → start < packet.gone }
+    {
         while self.gone < self.sent {
             let Some(packet) = self.oldest else {
                 return;
@@ -98,7 +151,9 @@ impl StreamState {
     }
 
     /// The work that waits for a packet that has come: in the multiplexing buffer, or in the transport buffer of audio.
-    pub fn main_work(&self) -> u64 {
+    pub fn main_work(&self) -> u64
+        ensures { result ≡ work_of_main self.now }
+    {
         match self.kind {
             Kind::Video { .. } => self.multiplex,
             Kind::Audio => self.transport,
