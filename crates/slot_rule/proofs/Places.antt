@@ -1,7 +1,8 @@
 -- What stands at a place of a list that is made of others.
-use Rattle.std.proofs.Common.{◌≡◌, ℕ, zero, suc, min, ◌+◌, ◌-◌, ◌*◌, ◌/◌, ◌<◌, ◌≤◌, List, [], ◌∷◌, ◌++◌, length, map, drop, replicate, slice_get, Option, Some, None, refl, sym, ap, ◌∙◌, inl, inr, arith}
-use Rattle.std.specs.List.{enumerate_from, zip}
+use Rattle.std.proofs.Common.{◌≡◌, ℕ, zero, suc, ◌+◌, ◌<◌, List, [], ◌∷◌, ◌++◌, length, map, drop, get_or, slice_get, Some, refl, sym, ap, ◌∙◌, arith}
+use Rattle.std.specs.List.{enumerate_from}
 use Rattle.std.specs.Option.{option_map}
+use Rattle.std.proofs.lemmas.Option.{slice_get_read}
 
 pub slice_get-append_left : {X : Type 0} (xs ys : List X) (k : ℕ) → k < length xs → slice_get (xs ++ ys) k ≡ slice_get xs k
 slice_get-append_left [] ys k within = absurd (omega arith)
@@ -25,3 +26,7 @@ slice_get-numbered f from [] k = refl
 slice_get-numbered f from (x ∷ xs) zero = ap (λ n. Some (f (n, x))) (let same : from ≡ from + 0 = omega arith in same)
 slice_get-numbered f from (x ∷ xs) (suc k) =
     slice_get-numbered f (from + 1) xs k ∙ ap (λ n. option_map (λ y. f (n, y)) (slice_get xs k)) (let same : from + 1 + k ≡ from + suc k = omega arith in same)
+
+-- what a read of a list that is known under another name gives
+pub slice_get_read_as : {X : Type 0} (xs ys : List X) (i : ℕ) (x : X) → xs ≡ ys → i < length xs → x ≡ get_or xs i x → slice_get ys i ≡ Some x
+slice_get_read_as xs ys i x same within read = ap (λ list. slice_get list i) (sym same) ∙ slice_get_read xs (length xs) i x refl within read
