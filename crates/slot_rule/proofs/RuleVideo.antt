@@ -13,6 +13,7 @@ use Rattle.version_table.specs.Choice.{version_at}
 use Rattle.slot_rule.specs.declared.constants.TheConstants.{PAYLOAD_BYTES}
 use Rattle.slot_rule.specs.Streams.{Packet, unit_packets, video_of}
 use Rattle.slot_rule.proofs.RuleUnits.{piece_of, unit_rest, unit_rest-more, unit_rest-last, drop-unit_packets, unit_rest-each, unit_rest-pieces, get_or-unit_rest, length-unit_rest, IsOfUnit}
+pub use Rattle.slot_rule.specs.Source.{HasSizes}
 
 -- the packets of these units, of which the first has this number
 abbrev pub packets_from : (item : ℕ) → List CodedUnit → List ℕ → List Packet
@@ -132,12 +133,6 @@ DuesRise-from_increasing units rises i j d before within =
     let size : length (map (λ (coded : CodedUnit). coded.due) units) ≡ length units = length-map units (λ coded. coded.due) in
     rw (← get_or-map (λ (coded : CodedUnit). coded.due) units i d 0 (omega arith), ← get_or-map (λ (coded : CodedUnit). coded.due) units j d 0 within)
     (AllPairs-from_increasing (map (λ (coded : CodedUnit). coded.due) units) rises i j 0 before (omega arith))
-
--- a number for each of these units, and perhaps more, each of a version with bytes
-abbrev pub HasSizes : List CodedUnit → List ℕ → Type 0
-HasSizes [] choice = Unit {0}
-HasSizes (coded ∷ units) [] = ⊥
-HasSizes (coded ∷ units) (k ∷ choice) = (1 ≤ (version_at coded k).bytes) × ((version_at coded k).bytes ≤ VERSION_BYTES_MOST) × HasSizes units choice
 
 pub HasSizes-long : (units : List CodedUnit) (choice : List ℕ) → HasSizes units choice → length units ≤ length choice
 HasSizes-long [] choice sizes = zero-le

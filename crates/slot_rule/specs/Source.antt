@@ -1,7 +1,8 @@
 -- Where the packets of a stream stand in a table and a choice.
-use Rattle.std.specs.Prelude.{◌≡◌, ℕ, ◌<◌, ◌≤◌, List, [], length, drop, slice_get, slice_index, slice_index_or, Some}
+use Rattle.std.specs.Prelude.{ℕ, ◌<◌, ◌≤◌, List, [], ◌∷◌, length, drop, slice_index_or}
 use Rattle.version_table.specs.declared.table.Unit.{Unit as CodedUnit}
-use Rattle.version_table.specs.Choice.{HasVersion, version_at}
+use Rattle.version_table.specs.Choice.{version_at}
+use Rattle.version_table.specs.declared.limits.TheConstants.{VERSION_BYTES_MOST}
 use Rattle.version_table.specs.declared.table.ProgramRow.{ProgramRow}
 use Rattle.version_table.specs.declared.table.Table.{Table}
 use Rattle.slot_rule.specs.declared.source.Source.{Source}
@@ -17,15 +18,15 @@ abbrev pub stream_at : Table → List ℕ → Source → Stream
 stream_at table choice (Units program first) = video_of program (program_at table program) (drop first choice)
 stream_at table choice (Packets program audio) = audio_of (slice_index_or (program_at table program).audios audio [])
 
--- each unit has a number in the list, of a version that it has, and which has bytes
-abbrev pub HaveVersions : List CodedUnit → List ℕ → Type 0
-HaveVersions units choice =
-    (item : ℕ) (coded : CodedUnit) → slice_get units item ≡ Some coded
-    → (item < length choice) × HasVersion coded (slice_index choice item) × (1 ≤ (version_at coded (slice_index choice item)).bytes)
+-- a number for each of these units, and perhaps more, each of a version with bytes
+abbrev pub HasSizes : List CodedUnit → List ℕ → Type 0
+HasSizes [] choice = Unit {0}
+HasSizes (coded ∷ units) [] = ⊥
+HasSizes (coded ∷ units) (k ∷ choice) = (1 ≤ (version_at coded k).bytes) × ((version_at coded k).bytes ≤ VERSION_BYTES_MOST) × HasSizes units choice
 
 -- the table and the choice have a stream there
 abbrev pub IsPlace : Table → List ℕ → Source → Type 0
 IsPlace table choice (Units program first) =
-    (program < length table.programs) × (first ≤ length choice) × HaveVersions (program_at table program).units (drop first choice)
+    (program < length table.programs) × (first ≤ length choice) × HasSizes (program_at table program).units (drop first choice)
 IsPlace table choice (Packets program audio) =
     (program < length table.programs) × (audio < length (program_at table program).audios)

@@ -1,8 +1,8 @@
-ghost use Rattle.std.specs.Prelude.{◌≡◌, ℕ, ◌+◌, ◌≤◌, length, Some, None, slice_get, slice_index};
+ghost use Rattle.std.specs.Prelude.{◌≡◌, ℕ, ◌+◌, ◌<◌, ◌≤◌, [], length, drop, Some, None, slice_get, slice_index, slice_index_or};
 ghost use Rattle.version_table.specs.declared.table.Unit.{Unit as CodedUnit};
 ghost use Rattle.version_table.specs.Choice.{HasVersion, version_at};
 ghost use Rattle.slot_rule.specs.Streams.{unit_packets, video_of, audio_of};
-ghost use Rattle.slot_rule.specs.Source.{HaveVersions, IsPlace};
+ghost use Rattle.slot_rule.specs.Source.{HasSizes, IsPlace, program_at};
 ghost use Rattle.slot_rule.specs.StreamState.{IsNumbered, packets_at};
 
 use crate::constants::PAYLOAD_BYTES;
@@ -26,13 +26,9 @@ impl Source {
     {
         match self {
             Source::Units { program, first } => {
-                let row = &table.programs.as_slice()[program];
-                unit_packet(row, &choice.as_slice()[first..], 0, 0)
+                unit_packet(program_at(table, program), versions_from(choice, first), 0, 0)
             }
-            Source::Packets { program, audio } => {
-                let row = &table.programs.as_slice()[program];
-                audio_packet(row.audios.as_slice()[audio].as_slice(), 0)
-            }
+            Source::Packets { program, audio } => audio_packet(audio_at(table, program, audio), 0),
         }
     }
 
@@ -45,20 +41,43 @@ impl Source {
     {
         match self {
             Source::Units { program, first } => {
-                let row = &table.programs.as_slice()[program];
-                piece_after(row, &choice.as_slice()[first..], packet)
+                piece_after(program_at(table, program), versions_from(choice, first), packet)
             }
             Source::Packets { program, audio } => {
-                let row = &table.programs.as_slice()[program];
-                audio_packet(row.audios.as_slice()[audio].as_slice(), packet.item + 1)
+                audio_packet(audio_at(table, program, audio), packet.item + 1)
             }
         }
     }
 }
 
+/// The program of this number.
+fn program_at(table: &Table, program: usize) -> &ProgramRow
+    requires { program < length table.now.programs }
+    ensures { result.now ≡ program_at table.now program }
+{
+    &table.programs.as_slice()[program]
+}
+
+/// The packets of an audio stream of a program.
+fn audio_at(table: &Table, program: usize, audio: usize) -> &[AudioPacket]
+    requires program { program < length table.now.programs }
+    requires audio { audio < length (program_at table.now program).audios }
+    ensures { result.now ≡ slice_index_or (program_at table.now program).audios audio [] }
+{
+    program_at(table, program).audios.as_slice()[audio].as_slice()
+}
+
+/// The numbers of a choice from a place on.
+fn versions_from(choice: &Choice, first: usize) -> &[u8]
+    requires { first ≤ length choice.now }
+    ensures { result.now ≡ drop first choice.now }
+{
+    &choice.as_slice()[first..]
+}
+
 /// The packet after this one in a program's video, whose units have these version numbers.
 fn piece_after(row: &ProgramRow, versions: &[u8], packet: Packet) -> Option<Packet>
-    requires versions { HaveVersions row.now.units versions.now }
+    requires versions { HasSizes row.now.units versions.now }
     requires numbered { IsNumbered packet }
     ensures { (k : ℕ) → slice_get (video_of 0 row.now versions.now).packets k ≡ Some packet
         → result ≡ slice_get (video_of 0 row.now versions.now).packets (k + 1) }
@@ -71,7 +90,7 @@ fn piece_after(row: &ProgramRow, versions: &[u8], packet: Packet) -> Option<Pack
 
 /// A piece of a unit of a program's video, whose units have these version numbers; none where there is none.
 fn unit_packet(row: &ProgramRow, versions: &[u8], item: u32, piece: u32) -> Option<Packet>
-    requires { HaveVersions row.now.units versions.now }
+    requires { HasSizes row.now.units versions.now }
     ensures missing { length row.now.units ≤ item → result ≡ None }
     ensures found { (unit : CodedUnit) → slice_get row.now.units item ≡ Some unit
         → result ≡ slice_get (unit_packets item unit.due (version_at unit (slice_index versions.now item)).bytes) piece }
