@@ -9,4 +9,5 @@ pub mod RuleUnique
 pub mod RuleUnits
 pub mod RuleVideo
 pub mod RuleWork
+pub mod StateLaws
 pub mod UnitPieces

@@ -1,5 +1,5 @@
 -- What the rule keeps of a stream between slots, against the stream's packets.
-use Rattle.std.specs.Prelude.{◌≡◌, ℕ, ◌+◌, ◌^◌, ◌<◌, ◌≤◌, List, length, take, drop, sum_by, slice_get, Option}
+use Rattle.std.specs.Prelude.{◌≡◌, ℕ, ◌+◌, ◌^◌, ◌<◌, ◌≤◌, List, length, take, drop, sum_by, slice_get, Option, Some}
 use Rattle.version_table.specs.declared.limits.TheConstants.{VBV_MOST, PAYLOAD_MOST}
 use Rattle.version_table.specs.declared.table.Table.{Table}
 use Rattle.slot_rule.specs.declared.constants.TheConstants.{HOLD_TICKS}
@@ -47,6 +47,18 @@ pub record IsSmall (state : StreamState) : Type 0 where
   pub multiplex : state.multiplex < 2 ^ 60
   pub sent : state.sent < 2 ^ 30
   pub held : state.held < 2 ^ 60
+
+-- packets that are gone at a time were left out of the bytes held, and nothing else changed
+pub record Releases (packets : List Packet) (start : ℕ) (old new : StreamState) : Type 0 where
+  pub changed : new ≡ record old { gone = new.gone; oldest = new.oldest; held = new.held }
+  pub rises : old.gone ≤ new.gone
+  pub fewer : new.held ≤ old.held
+  pub gone : (k : ℕ) (packet : Packet) → old.gone ≤ k → k < new.gone → slice_get packets k ≡ Some packet → packet.gone ≤ start
+
+-- no packet that is gone at a time is among the bytes held
+abbrev pub HoldsNoneGone : (packets : List Packet) (start : ℕ) → StreamState → Type 0
+HoldsNoneGone packets start state =
+    (packet : Packet) → state.gone < state.sent → slice_get packets state.gone ≡ Some packet → start < packet.gone
 
 -- the packet may go in a slot that begins at a time, by the state's numbers
 pub record Permits (state : StreamState) (packet : Packet) (start : ℕ) : Type 0 where

@@ -3,7 +3,7 @@ ghost use Rattle.version_table.specs.declared.limits.TheConstants.{PAYLOAD_MOST}
 ghost use Rattle.slot_rule.specs.declared.row.Packet.{Packet};
 ghost use Rattle.slot_rule.specs.Buffers.{tb_subticks};
 ghost use Rattle.slot_rule.specs.Source.{IsPlace};
-ghost use Rattle.slot_rule.specs.StreamState.{IsKind, IsNumbered, IsSmall, Keeps, Permits, first_state, packets_at, work_of_main};
+ghost use Rattle.slot_rule.specs.StreamState.{HoldsNoneGone, IsKind, IsNumbered, IsSmall, Keeps, Permits, Releases, first_state, packets_at, work_of_main};
 
 use crate::constants::{HOLD_TICKS, MB_SUBTICKS, PACKET_BYTES};
 use crate::kind::Kind;
@@ -125,17 +125,8 @@ impl StreamState {
         requires numbered { All IsNumbered (packets_at table.now choice.now self.old.source) }
         requires keeps { Keeps (packets_at table.now choice.now self.old.source) self.old }
         ensures keeps { Keeps (packets_at table.now choice.now self.old.source) self.new }
-        ensures changed { self.new ≡ record self.old {
-            gone = self.new.gone;
-            oldest = self.new.oldest;
-            held = self.new.held;
-        } }
-        ensures rises { self.old.gone ≤ self.new.gone }
-        ensures fewer { self.new.held ≤ self.old.held }
-        ensures gone { (k : ℕ) (packet : Packet) → self.old.gone ≤ k → k < self.new.gone
-            → slice_get (packets_at table.now choice.now self.old.source) k ≡ Some packet → packet.gone ≤ start }
-        ensures stays { (packet : Packet) → self.new.gone < self.new.sent
-            → slice_get (packets_at table.now choice.now self.old.source) self.new.gone ≡ Some packet → start < packet.gone }
+        ensures releases { Releases (packets_at table.now choice.now self.old.source) start self.old self.new }
+        ensures rest { HoldsNoneGone (packets_at table.now choice.now self.old.source) start self.new }
     {
         while self.gone < self.sent {
             let Some(packet) = self.oldest else {
