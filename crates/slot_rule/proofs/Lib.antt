@@ -1,4 +1,5 @@
 pub mod AudioPackets
+pub mod HeadLaws
 pub mod Places
 pub mod RuleFronts
 pub mod RulePlaces

@@ -1,5 +1,5 @@
 -- What stands at a place of a list that is made of others.
-use Rattle.std.proofs.Common.{◌≡◌, ℕ, zero, suc, ◌+◌, ◌<◌, List, [], ◌∷◌, ◌++◌, length, map, drop, get_or, slice_get, All, Some, refl, sym, ap, subst, ◌∙◌, arith}
+use Rattle.std.proofs.Common.{◌≡◌, ℕ, zero, suc, ◌+◌, ◌<◌, List, [], ◌∷◌, ◌++◌, length, map, take, drop, get_or, length-take, slice_get, All, Some, refl, sym, ap, subst, ◌∙◌, arith}
 use Rattle.std.specs.List.{enumerate_from}
 use Rattle.std.specs.Option.{option_map}
 use Rattle.std.proofs.lemmas.Option.{slice_get_read, slice_get_within, get_or_from_slice_get}
@@ -34,3 +34,16 @@ slice_get_read_as xs ys i x same within read = ap (λ list. slice_get list i) (s
 -- what holds of each element holds of the one at a place
 pub All-at_place : {X : Type 0} (P : X → Type 0) (xs : List X) → All P xs → (k : ℕ) (x : X) → slice_get xs k ≡ Some x → P x
 All-at_place P xs each k x got = subst (λ y. P y) (get_or_from_slice_get xs k x x got) (each k x (slice_get_within xs k x got))
+
+pub slice_get-take : {X : Type 0} (n : ℕ) (xs : List X) (k : ℕ) → k < n → slice_get (take n xs) k ≡ slice_get xs k
+slice_get-take zero xs k below = absurd (omega arith)
+slice_get-take (suc n) [] k below = refl
+slice_get-take (suc n) (x ∷ xs) zero below = refl
+slice_get-take (suc n) (x ∷ xs) (suc k) below = slice_get-take n xs k (omega arith)
+
+-- an element of a front stands in the list, below the front's end
+pub slice_get_of_front : {X : Type 0} (n : ℕ) (xs : List X) (k : ℕ) (x : X) → slice_get (take n xs) k ≡ Some x → (k < n) × (slice_get xs k ≡ Some x)
+slice_get_of_front n xs k x got =
+    let within : k < length (take n xs) = slice_get_within (take n xs) k x got in
+    let below : k < n = omega (arith, length-take n xs) in
+    (below, sym (slice_get-take n xs k below) ∙ got)

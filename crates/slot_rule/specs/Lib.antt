@@ -1,4 +1,5 @@
 pub mod Buffers
+pub mod Heads
 pub mod Schedule
 pub mod Source
 pub mod StreamState

@@ -48,6 +48,12 @@ pub record IsSmall (state : StreamState) : Type 0 where
   pub sent : state.sent < 2 ^ 30
   pub held : state.held < 2 ^ 60
 
+-- the state's head packet can be tested
+pub record IsReady (state : StreamState) : Type 0 where
+  pub small : IsSmall state
+  pub kind : IsKind state.kind
+  pub payload : (packet : Packet) → state.head ≡ Some packet → packet.payload ≤ PAYLOAD_MOST
+
 -- packets that are gone at a time were left out of the bytes held, and nothing else changed
 pub record Releases (packets : List Packet) (start : ℕ) (old new : StreamState) : Type 0 where
   pub changed : new ≡ record old { gone = new.gone; oldest = new.oldest; held = new.held }

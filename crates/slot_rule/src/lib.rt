@@ -7,6 +7,7 @@
 #![tactic(auto)]
 
 pub mod constants;
+mod heads;
 mod kind;
 mod misses;
 mod row;

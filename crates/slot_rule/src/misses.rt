@@ -7,9 +7,8 @@ ghost use Rattle.slot_rule.specs.Schedule.{IsScheduled, IsFirstMiss};
 use crate::constants::{MARGIN_SUBTICKS, SUBTICKS_PER_TICK};
 use crate::row::{Packet, Row};
 use crate::sent::{Miss, Sent};
-use crate::states::{
-    Head, drain_all, due_head, first_states, permitted_head, release_all, take_clock,
-};
+use crate::heads::{due_head, permitted_head};
+use crate::states::{drain_all, first_states, release_all, take_clock};
 use crate::stream_state::StreamState;
 use crate::timetable::Timetable;
 use version_table::limits::TIME_SLOTS_MOST;

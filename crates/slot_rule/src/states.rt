@@ -1,5 +1,4 @@
 use crate::kind::Kind;
-use crate::row::Packet;
 use crate::source::Source;
 use crate::stream_state::StreamState;
 use arrayvec::ArrayVec;
@@ -11,15 +10,6 @@ pub const STREAMS_MOST: usize = PROGRAMS_MOST * (1 + AUDIOS_MOST);
 
 /// The states of all streams, in stream order.
 pub type States = ArrayVec<StreamState, STREAMS_MOST>;
-
-/// A stream's first packet that isn't sent.
-#[derive(Clone, Copy, Debug, PartialEq, Eq)]
-pub struct Head {
-    /// The stream, over all programs, from 0.
-    pub stream: usize,
-    /// The packet.
-    pub packet: Packet,
-}
 
 /// The states of a table's streams before the first slot.
 pub fn first_states(table: &Table, choice: &Choice) -> States {
@@ -53,41 +43,6 @@ pub fn first_states(table: &Table, choice: &Choice) -> States {
 
 fn add_stream(table: &Table, choice: &Choice, states: &mut States, kind: Kind, source: Source) {
     states.push(StreamState::new(kind, source, source.first_packet(table, choice)));
-}
-
-/// The permitted head packet that is due first in a slot that begins at `start` ticks, and among equals that of the
-/// lowest stream; none where none may go.
-pub fn permitted_head(states: &[StreamState], start: u64) -> Option<Head> {
-    let mut first: Option<Head> = None;
-    for (stream, state) in states.iter().enumerate() {
-        if let Some(packet) = state.head {
-            if state.permits(packet, start) && is_before(packet, first) {
-                first = Some(Head { stream, packet });
-            }
-        }
-    }
-    first
-}
-
-/// The head packet that is due first, and among equals that of the lowest stream; none where all is sent.
-pub fn due_head(states: &[StreamState]) -> Option<Head> {
-    let mut first: Option<Head> = None;
-    for (stream, state) in states.iter().enumerate() {
-        if let Some(packet) = state.head {
-            if is_before(packet, first) {
-                first = Some(Head { stream, packet });
-            }
-        }
-    }
-    first
-}
-
-/// Whether a packet goes before the first of the streams below its own.
-fn is_before(packet: Packet, first: Option<Head>) -> bool {
-    match first {
-        Some(other) => packet.due < other.packet.due,
-        None => true,
-    }
 }
 
 /// Leaves out the packets that are gone at `start` ticks.
