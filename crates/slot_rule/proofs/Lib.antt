@@ -1,5 +1,6 @@
 pub mod AudioPackets
 pub mod HeadLaws
+pub mod ListSteps
 pub mod Places
 pub mod RuleFronts
 pub mod RulePlaces

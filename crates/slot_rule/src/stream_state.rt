@@ -3,6 +3,7 @@ ghost use Rattle.version_table.specs.declared.limits.TheConstants.{PAYLOAD_MOST}
 ghost use Rattle.slot_rule.specs.declared.row.Packet.{Packet};
 ghost use Rattle.slot_rule.specs.Buffers.{tb_subticks};
 ghost use Rattle.slot_rule.specs.Source.{IsPlace};
+ghost use Rattle.slot_rule.specs.States.{Drains, TakesClock};
 ghost use Rattle.slot_rule.specs.StreamState.{HoldsNoneGone, IsKind, IsNumbered, IsSmall, Keeps, Permits, Releases, first_state, packets_at, work_of_main};
 
 use crate::constants::{HOLD_TICKS, MB_SUBTICKS, PACKET_BYTES};
@@ -100,20 +101,19 @@ impl StreamState {
         self.held += packet.payload;
     }
 
-    /// A clock goes on the stream's PID.
-    pub fn take_clock(&mut self)
+    /// The clock of a program goes, on the stream's PID where that is the program's video.
+    pub fn take_clock(&mut self, program: u8)
         requires { IsSmall self.old }
-        ensures { self.new ≡ record self.old { transport = self.old.transport + PACKET_BYTES * tb_subticks self.old.kind } }
+        ensures { TakesClock program self.old self.new }
     {
-        self.transport += PACKET_BYTES * self.kind.tb_subticks();
+        if self.kind.has_clock(program) {
+            self.transport += PACKET_BYTES * self.kind.tb_subticks();
+        }
     }
 
     /// A slot passes, in which so many subticks of work are done.
     pub fn drain(&mut self, subticks: u64)
-        ensures { self.new ≡ record self.old {
-            transport = self.old.transport - subticks;
-            multiplex = self.old.multiplex - subticks;
-        } }
+        ensures { Drains subticks self.old self.new }
     {
         self.transport = self.transport.saturating_sub(subticks);
         self.multiplex = self.multiplex.saturating_sub(subticks);
