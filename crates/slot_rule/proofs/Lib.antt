@@ -2,9 +2,14 @@ pub mod AudioPackets
 pub mod HeadLaws
 pub mod ListSteps
 pub mod Places
+pub mod RuleExamples
+pub mod RuleFirst
 pub mod RuleFronts
+pub mod RuleNext
 pub mod RulePlaces
 pub mod RuleRows
+pub mod RuleRun
+pub mod RuleSchedules
 pub mod RuleSent
 pub mod RuleStreams
 pub mod RuleUnique
