@@ -8,33 +8,33 @@ use Rattle.slot_rule.specs.declared.constants.TheConstants.{SUBTICKS_PER_TICK, H
 use Rattle.slot_rule.specs.declared.sent.Sent.{Sent}
 use Rattle.slot_rule.specs.Timetable.{reserved}
 use Rattle.slot_rule.specs.Streams.{Kind, Video, Audio, Packet, Stream}
-use Rattle.slot_rule.specs.Buffers.{Row, Reserved, Carries, Empty, transport_work, multiplex_work, outstanding, main_bytes, transport_gate, multiplex_gate}
-use Rattle.slot_rule.specs.Schedule.{IsHead, MultiplexPermits, IsPermitted, IsBefore, Goes, NothingGoes, IsRow, arrival, main_work, SentLate, Overdue, Misses}
+use Rattle.slot_rule.specs.Buffers.{Row, Reserved, Carries, Empty, transport_work, multiplex_work, outstanding, main_bytes, transport_gate, multiplex_gate, MultiplexPermits}
+use Rattle.slot_rule.specs.Schedule.{IsHead, IsPermitted, IsBefore, Goes, NothingGoes, IsRow, arrival, main_work, SentLate, Overdue, Misses}
 use Rattle.slot_rule.proofs.RuleRows.{NoneMisses}
 use Rattle.slot_rule.proofs.RuleFirst.{IsEarliest, earliest-is, head_where, head_where-some, some_head_where, first_head}
 
 -- ---- the row of the next slot
-abbrev pub multiplex_permits : (slot stream : ℕ) → Kind → List Row → Bool
-multiplex_permits slot stream (Video program vbv) rows = nat_le (multiplex_work slot stream rows) (multiplex_gate vbv)
-multiplex_permits slot stream Audio rows = true
+abbrev pub multiplex_permits : Kind → (work : ℕ) → Bool
+multiplex_permits (Video program vbv) work = nat_le work (multiplex_gate vbv)
+multiplex_permits Audio work = true
 
 abbrev pub is_permitted : (slot : ℕ) → List Row → (stream : ℕ) → Kind → Packet → Bool
 is_permitted slot rows stream kind packet =
-    (nat_le (transport_work slot stream kind rows) (transport_gate kind) && multiplex_permits slot stream kind rows)
+    (nat_le (transport_work slot stream kind rows) (transport_gate kind) && multiplex_permits kind (multiplex_work slot stream rows))
     && (nat_le (outstanding stream (length rows * slot) rows + packet.payload) (main_bytes kind) && nat_le packet.gone (length rows * slot + HOLD_TICKS))
 
-multiplex_permits-true : (slot stream : ℕ) (kind : Kind) (rows : List Row) → multiplex_permits slot stream kind rows ≡ true → MultiplexPermits slot stream kind rows
-multiplex_permits-true slot stream (Video program vbv) rows e = leb-true (multiplex_work slot stream rows) (multiplex_gate vbv) e
-multiplex_permits-true slot stream Audio rows e = tt
+multiplex_permits-true : (kind : Kind) (work : ℕ) → multiplex_permits kind work ≡ true → MultiplexPermits kind work
+multiplex_permits-true (Video program vbv) work e = leb-true work (multiplex_gate vbv) e
+multiplex_permits-true Audio work e = tt
 
-true-multiplex_permits : (slot stream : ℕ) (kind : Kind) (rows : List Row) → MultiplexPermits slot stream kind rows → multiplex_permits slot stream kind rows ≡ true
-true-multiplex_permits slot stream (Video program vbv) rows h = le-leb (multiplex_work slot stream rows) (multiplex_gate vbv) h
-true-multiplex_permits slot stream Audio rows h = refl
+true-multiplex_permits : (kind : Kind) (work : ℕ) → MultiplexPermits kind work → multiplex_permits kind work ≡ true
+true-multiplex_permits (Video program vbv) work h = le-leb work (multiplex_gate vbv) h
+true-multiplex_permits Audio work h = refl
 
 pub is_permitted-true : (slot : ℕ) (rows : List Row) (stream : ℕ) (kind : Kind) (packet : Packet) → is_permitted slot rows stream kind packet ≡ true → IsPermitted slot rows stream kind packet
 is_permitted-true slot rows stream kind packet e =
     let a = nat_le (transport_work slot stream kind rows) (transport_gate kind) in
-    let b = multiplex_permits slot stream kind rows in
+    let b = multiplex_permits kind (multiplex_work slot stream rows) in
     let c = nat_le (outstanding stream (length rows * slot) rows + packet.payload) (main_bytes kind) in
     let d = nat_le packet.gone (length rows * slot + HOLD_TICKS) in
     let both = and_parts (a && b) (c && d) e in
@@ -42,7 +42,7 @@ is_permitted-true slot rows stream kind packet e =
     let right = and_parts c d both.1 in
     record {
       transport = leb-true (transport_work slot stream kind rows) (transport_gate kind) left.0;
-      multiplex = multiplex_permits-true slot stream kind rows left.1;
+      multiplex = multiplex_permits-true kind (multiplex_work slot stream rows) left.1;
       main = leb-true (outstanding stream (length rows * slot) rows + packet.payload) (main_bytes kind) right.0;
       hold = leb-true packet.gone (length rows * slot + HOLD_TICKS) right.1;
     }
@@ -50,11 +50,11 @@ is_permitted-true slot rows stream kind packet e =
 pub true-is_permitted : (slot : ℕ) (rows : List Row) (stream : ℕ) (kind : Kind) (packet : Packet) → IsPermitted slot rows stream kind packet → is_permitted slot rows stream kind packet ≡ true
 true-is_permitted slot rows stream kind packet h =
     let a = nat_le (transport_work slot stream kind rows) (transport_gate kind) in
-    let b = multiplex_permits slot stream kind rows in
+    let b = multiplex_permits kind (multiplex_work slot stream rows) in
     let c = nat_le (outstanding stream (length rows * slot) rows + packet.payload) (main_bytes kind) in
     let d = nat_le packet.gone (length rows * slot + HOLD_TICKS) in
     and_from (a && b) (c && d)
-    (and_from a b (le-leb (transport_work slot stream kind rows) (transport_gate kind) h.transport) (true-multiplex_permits slot stream kind rows h.multiplex))
+    (and_from a b (le-leb (transport_work slot stream kind rows) (transport_gate kind) h.transport) (true-multiplex_permits kind (multiplex_work slot stream rows) h.multiplex))
     (and_from c d (le-leb (outstanding stream (length rows * slot) rows + packet.payload) (main_bytes kind) h.main) (le-leb packet.gone (length rows * slot + HOLD_TICKS) h.hold))
 
 -- the row of the slot after these rows

@@ -9,6 +9,7 @@
 pub mod constants;
 mod heads;
 mod kind;
+mod laws;
 mod misses;
 mod row;
 mod sent;
@@ -17,6 +18,7 @@ mod states;
 mod stream_state;
 mod timetable;
 
+pub use laws::{first_miss_is_one, no_miss_where_scheduled, schedules_agree};
 pub use misses::first_miss;
 pub use sent::{Miss, Sent};
 pub use timetable::Timetable;
