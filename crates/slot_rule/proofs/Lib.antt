@@ -5,6 +5,7 @@ pub mod Places
 pub mod RuleExamples
 pub mod RuleFirst
 pub mod RuleFronts
+pub mod RuleHoldExample
 pub mod RuleNext
 pub mod RulePlaces
 pub mod RuleRows

@@ -15,7 +15,7 @@ abbrev table_of : List ProgramRow → Table
 table_of programs = record { slot = 1080; nodes = 4; evaluations = 0; programs = programs }
 
 -- a program with one unit, in one version
-abbrev one_unit : (due bytes : ℕ) → ProgramRow
+abbrev pub one_unit : (due bytes : ℕ) → ProgramRow
 one_unit due bytes = record { vbv = 112; units = record { due = due; versions = record { items = record { bytes = bytes; distortion = 0 } ∷ [] } } ∷ []; audios = [] }
 
 -- a program with no unit, and an audio stream of three full packets that are due at one time

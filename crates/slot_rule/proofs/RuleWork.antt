@@ -3,7 +3,7 @@ use Rattle.std.proofs.Common.{◌≡◌, ℕ, ◌+◌, ◌-◌, ◌*◌, eqb, eq
 use Rattle.std.proofs.lemmas.Bool.{cond-true, cond-false}
 use Rattle.std.proofs.lemmas.List.{length_push, map_push, length-map}
 use Rattle.std.proofs.lemmas.List.Sums.{sum_by_push, sum_by-cons, sum_by-le}
-use Rattle.std.proofs.lemmas.List.Elements.{All-map}
+use Rattle.std.proofs.lemmas.List.Elements.{All-map, All-tail}
 use Rattle.slot_rule.specs.declared.constants.TheConstants.{PACKET_BYTES, PAYLOAD_BYTES, MB_SUBTICKS, AUDIO_TB_SUBTICKS}
 use Rattle.slot_rule.specs.declared.sent.Sent.{Sent}
 use Rattle.slot_rule.specs.declared.sent.Sent.TheVariants.{Pcr}
@@ -97,3 +97,10 @@ multiplex_work-bound slot stream rows each =
     let f : Row → ℕ = λ row. MB_SUBTICKS * payload_in stream row in
     rw (← length-map rows f)
     (waiting-bound (slot_subticks slot) (PAYLOAD_BYTES * MB_SUBTICKS) (map f rows) (All-map (λ work. work ≤ PAYLOAD_BYTES * MB_SUBTICKS) f rows (λ k d within. (let small : payload_in stream (get_or rows k d) ≤ PAYLOAD_BYTES = each k d within in omega arith))))
+
+-- where no row brings more work than drains in a slot, none waits
+pub waiting-none : (drain : ℕ) (works : List ℕ) → All (λ work. work ≤ drain) works → waiting drain works ≡ 0
+waiting-none drain [] each = refl
+waiting-none drain (work ∷ works) each =
+    let total : sum (work ∷ works) ≤ length (work ∷ works) * drain = sum_by-le (λ x. x) drain (work ∷ works) each in
+    omega (arith, waiting-none drain works (All-tail (λ w. w ≤ drain) work works each))
