@@ -2,6 +2,7 @@ pub mod AudioPackets
 pub mod HeadLaws
 pub mod ListSteps
 pub mod Places
+pub mod RuleEnd
 pub mod RuleExamples
 pub mod RuleFirst
 pub mod RuleFronts

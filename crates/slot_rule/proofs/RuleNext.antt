@@ -187,6 +187,19 @@ miss_cases slot programs streams before row None None is e first =
       | inr over ↦ overdue_none slot streams (before ++ row ∷ []) first stream packet over.1
     ])
 
+-- where a packet is overdue, the test finds a miss
+found_cases : (slot : ℕ) (streams : List Stream) (rows : List Row) (late over : Option (ℕ × Packet)) (stream : ℕ) (packet : Packet) → Overdue slot streams rows stream packet
+    → IsEarliest (head_where (is_overdue slot rows) rows) 0 streams over → (found : ℕ × Packet) × (option_or late over ≡ Some found)
+found_cases slot streams rows (Some found) over stream packet overdue first = (found, refl)
+found_cases slot streams rows None (Some found) stream packet overdue first = (found, refl)
+found_cases slot streams rows None None stream packet overdue first = absurd (overdue_none slot streams rows first stream packet overdue)
+
+pub overdue_tells : (slot : ℕ) (streams : List Stream) (before : List Row) (row : Row) (stream : ℕ) (packet : Packet) → Overdue slot streams (before ++ row ∷ []) stream packet
+    → (found : ℕ × Packet) × (miss_after_row slot streams before row ≡ Some found)
+overdue_tells slot streams before row stream packet overdue =
+    found_cases slot streams (before ++ row ∷ []) (late_in slot streams (before ++ row ∷ []) row) (first_head (is_overdue slot (before ++ row ∷ [])) streams (before ++ row ∷ [])) stream packet overdue
+    (earliest-is (head_where (is_overdue slot (before ++ row ∷ [])) (before ++ row ∷ [])) 0 streams)
+
 pub miss_after_row-is : (slot programs : ℕ) (streams : List Stream) (before : List Row) (row : Row) → IsRow slot programs streams before row
     → TellsMiss slot streams before row (miss_after_row slot streams before row)
 miss_after_row-is slot programs streams before row is =
