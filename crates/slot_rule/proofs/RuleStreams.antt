@@ -33,10 +33,6 @@ all_units rows = flat_map (λ row. row.units) rows
 abbrev pub streams_in : (program : ℕ) → ProgramRow → List ℕ → List Stream
 streams_in program row choice = video_of program row choice ∷ map audio_of row.audios
 
-pub streams_from-cons : (program : ℕ) (row : ProgramRow) (rows : List ProgramRow) (choice : List ℕ)
-    → streams_from program (row ∷ rows) choice ≡ streams_in program row choice ++ streams_from (program + 1) rows (drop (length row.units) choice)
-streams_from-cons program row rows choice = refl
-
 -- the streams of the first programs, and those of the others
 pub streams_from-append : (program : ℕ) (rows more : List ProgramRow) (choice : List ℕ)
     → streams_from program (rows ++ more) choice ≡ streams_from program rows choice ++ streams_from (program + length rows) more (drop (length (all_units rows)) choice)

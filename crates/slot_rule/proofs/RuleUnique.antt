@@ -9,7 +9,7 @@ use Rattle.slot_rule.specs.declared.sent.Miss.{Miss}
 use Rattle.slot_rule.specs.Streams.{Kind, Packet, Stream, streams_of}
 use Rattle.slot_rule.specs.Buffers.{Row, Reserved, Carries, Empty, is_of}
 use Rattle.slot_rule.proofs.RuleRows.{IsNext, FollowRule-at, FollowRule-front}
-use Rattle.slot_rule.specs.Schedule.{IsHead, IsBefore, Goes, IsRow, FollowRule, SentLate, Misses, NoMiss, AllSent, IsSchedule, IsScheduled, IsFirstMiss}
+use Rattle.slot_rule.specs.Schedule.{IsHead, IsBefore, Goes, IsRow, FollowRule, SentLate, Misses, NoMiss, AllSent, IsScheduled, IsFirstMiss}
 
 pub IsHead-same : (streams : List Stream) (rows : List Row) (stream : ℕ) (kind kind' : Kind) (packet packet' : Packet)
     → IsHead streams rows stream kind packet → IsHead streams rows stream kind' packet' → (kind ≡ kind') × (packet ≡ packet')
@@ -71,11 +71,6 @@ pub FollowRule-longer : (table : Table) (choice : List ℕ) (rows rows' : List R
     → length rows ≤ length rows' → rows' ≡ rows ++ drop (length rows) rows'
 FollowRule-longer table choice rows rows' follows follows' fits =
     sym (take-append-drop (length rows) rows') ∙ ap (λ front. front ++ drop (length rows) rows') (sym (FollowRule-same table choice rows rows' follows follows' fits))
-
--- two schedules agree as far as the shorter one goes
-pub IsSchedule-same : (table : Table) (choice : List ℕ) (rows rows' : List Row) → IsSchedule table choice rows → IsSchedule table choice rows'
-    → length rows ≤ length rows' → rows ≡ take (length rows) rows'
-IsSchedule-same table choice rows rows' s s' = FollowRule-same table choice rows rows' s.follows s'.follows
 
 pub SentLate-same : (slot : ℕ) (streams : List Stream) (rows : List Row) (stream stream' : ℕ) (packet packet' : Packet)
     → SentLate slot streams rows stream packet → SentLate slot streams rows stream' packet' → (stream ≡ stream') × (packet ≡ packet')

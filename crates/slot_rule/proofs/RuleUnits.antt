@@ -1,5 +1,5 @@
 -- The packets of a coded picture: their sizes, their sum, and those from a place on.
-use Rattle.std.proofs.Common.{◌≡◌, ℕ, zero, suc, min, ◌+◌, ◌-◌, ◌*◌, ◌/◌, ◌<◌, ◌≤◌, List, [], ◌∷◌, ◌++◌, All, length, map, get_or, drop, replicate, sum, sum_by, slice_get, Some, refl, sym, ap, ap₂, ◌∙◌, inl, inr, zero-add, add-zero, arith}
+use Rattle.std.proofs.Common.{◌≡◌, ℕ, zero, suc, min, ◌+◌, ◌-◌, ◌*◌, ◌/◌, ◌<◌, ◌≤◌, List, [], ◌∷◌, ◌++◌, All, length, map, get_or, drop, replicate, sum, sum_by, refl, sym, ap, ap₂, ◌∙◌, inl, inr, zero-add, add-zero, arith}
 use Rattle.std.specs.List.{enumerate_from}
 use Rattle.std.proofs.lemmas.Bool.{cases_lt}
 use Rattle.std.proofs.lemmas.List.{length-append, length-map, length-replicate, get_or_append_left, get_or-replicate, get_or_at, get_or-map}
@@ -66,12 +66,9 @@ get_or-payloads bytes i within =
 abbrev pub piece_of : (item due : ℕ) → (piece payload : ℕ) → Packet
 piece_of item due piece payload = record { item = item; piece = piece; payload = payload; due = due; gone = due }
 
--- the packets of a unit from a piece on, where so many bytes are left from there
+-- the packets of a unit from a piece on, where so many bytes are left from there; from piece 0 on, they are `unit_packets`
 abbrev pub unit_rest : (item piece due left : ℕ) → List Packet
 unit_rest item piece due left = map (λ (n, payload). piece_of item due n payload) (enumerate_from piece (payloads left))
-
-pub unit_rest-whole : (item due bytes : ℕ) → unit_packets item due bytes ≡ unit_rest item 0 due bytes
-unit_rest-whole item due bytes = refl
 
 pub unit_rest-last : (item piece due left : ℕ) → left ≤ PAYLOAD_BYTES → unit_rest item piece due left ≡ piece_of item due piece left ∷ []
 unit_rest-last item piece due left small = ap (λ (list : List ℕ). map (λ (n, payload). piece_of item due n payload) (enumerate_from piece list)) (payloads-last left small)
@@ -138,15 +135,3 @@ pub unit_rest-pieces : (item due bytes : ℕ) → 1 ≤ bytes → All (λ packet
 unit_rest-pieces item due bytes some i d within =
     let size : length (unit_rest item 0 due bytes) ≡ (bytes - 1) / PAYLOAD_BYTES + 1 = length-unit_rest item 0 due bytes in
     rw (get_or-unit_rest item 0 due bytes i d within) (omega arith)
-
--- the first packet of what is left of a unit
-pub unit_rest-first : (item piece due left : ℕ) → slice_get (unit_rest item piece due left) 0 ≡ Some (piece_of item due piece (min PAYLOAD_BYTES left))
-unit_rest-first item piece due left =
-    elim (cases_lt PAYLOAD_BYTES left) as (λ _. slice_get (unit_rest item piece due left) 0 ≡ Some (piece_of item due piece (min PAYLOAD_BYTES left))) [
-      | inl large ↦
-          (let full : min PAYLOAD_BYTES left ≡ PAYLOAD_BYTES = omega arith in
-          rw (full, unit_rest-more item piece due left large) refl)
-      | inr small ↦
-          (let last : min PAYLOAD_BYTES left ≡ left = omega arith in
-          rw (last, unit_rest-last item piece due left small) refl)
-    ]

@@ -8,23 +8,15 @@ use Rattle.std.proofs.lemmas.List.Kept.{AllPairs-from_increasing}
 use Rattle.std.proofs.lemmas.List.Elements.{All-nil, All-append}
 use Rattle.version_table.specs.declared.limits.TheConstants.{VERSION_BYTES_MOST}
 use Rattle.version_table.specs.declared.table.Unit.{Unit as CodedUnit}
-use Rattle.version_table.specs.declared.table.ProgramRow.{ProgramRow}
 use Rattle.version_table.specs.Choice.{version_at}
 use Rattle.slot_rule.specs.declared.constants.TheConstants.{PAYLOAD_BYTES}
-use Rattle.slot_rule.specs.Streams.{Packet, unit_packets, video_of}
+use Rattle.slot_rule.specs.Streams.{Packet, unit_packets}
 use Rattle.slot_rule.proofs.RuleUnits.{piece_of, unit_rest, unit_rest-more, unit_rest-last, drop-unit_packets, unit_rest-each, unit_rest-pieces, get_or-unit_rest, length-unit_rest, IsOfUnit}
 pub use Rattle.slot_rule.specs.Source.{HasSizes}
 
--- the packets of these units, of which the first has this number
+-- the packets of these units, of which the first has this number; those of a program's units from 0 on are the packets of `video_of`
 abbrev pub packets_from : (item : ℕ) → List CodedUnit → List ℕ → List Packet
 packets_from item units choice = flat_map (λ (n, (coded, k)). unit_packets n coded.due (version_at coded k).bytes) (enumerate_from item (zip units choice))
-
-pub packets_from-whole : (program : ℕ) (row : ProgramRow) (choice : List ℕ) → (video_of program row choice).packets ≡ packets_from 0 row.units choice
-packets_from-whole program row choice = refl
-
-pub packets_from-cons : (item : ℕ) (coded : CodedUnit) (units : List CodedUnit) (k : ℕ) (choice : List ℕ)
-    → packets_from item (coded ∷ units) (k ∷ choice) ≡ unit_rest item 0 coded.due (version_at coded k).bytes ++ packets_from (item + 1) units choice
-packets_from-cons item coded units k choice = refl
 
 -- the packets from unit n on are those of unit n and those from the next on
 pub packets_from-at : (item n : ℕ) (units : List CodedUnit) (choice : List ℕ) (d : CodedUnit) (e : ℕ) → n < length units → n < length choice
