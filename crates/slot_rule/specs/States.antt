@@ -4,8 +4,19 @@ use Rattle.version_table.specs.declared.table.Table.{Table}
 use Rattle.slot_rule.specs.declared.constants.TheConstants.{PACKET_BYTES}
 use Rattle.slot_rule.specs.declared.stream_state.StreamState.{StreamState}
 use Rattle.slot_rule.specs.Buffers.{tb_subticks}
-use Rattle.slot_rule.specs.Source.{IsPlace}
-use Rattle.slot_rule.specs.StreamState.{HasClock, HoldsNoneGone, IsNumbered, Keeps, Releases, packets_at}
+use Rattle.slot_rule.specs.Source.{IsPlace, stream_at}
+use Rattle.slot_rule.specs.Streams.{Stream}
+use Rattle.slot_rule.specs.StreamState.{HasClock, HoldsNoneGone, IsKind, IsNumbered, Keeps, Releases, first_state, packets_at}
+
+-- the stream that the state is of
+abbrev pub stream_of : Table → List ℕ → StreamState → Stream
+stream_of table choice state = stream_at table choice state.source
+
+-- the state is that of its stream before the first slot
+pub record IsFirstState (table : Table) (choice : List ℕ) (state : StreamState) : Type 0 where
+  pub place : IsPlace table choice state.source
+  pub kind : IsKind state.kind
+  pub state_is : state ≡ first_state (stream_of table choice state).kind state.source (slice_get (stream_of table choice state).packets 0)
 
 -- there are as many states as before, and each is related to the one that it was
 pub record ChangesEach (R : StreamState → StreamState → Type 0) (olds news : List StreamState) : Type 0 where

@@ -51,7 +51,7 @@ impl Source {
 }
 
 /// The program of this number.
-fn program_at(table: &Table, program: usize) -> &ProgramRow
+pub fn program_at(table: &Table, program: usize) -> &ProgramRow
     requires { program < length table.now.programs }
     ensures { result.now ≡ program_at table.now program }
 {
