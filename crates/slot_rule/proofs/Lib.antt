@@ -1,4 +1,5 @@
 pub mod AudioPackets
+pub mod FirstStates
 pub mod HeadLaws
 pub mod ListSteps
 pub mod Places
