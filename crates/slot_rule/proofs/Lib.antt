@@ -1,3 +1,4 @@
+pub mod AfterLaws
 pub mod AudioPackets
 pub mod FirstStates
 pub mod HeadLaws

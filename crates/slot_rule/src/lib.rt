@@ -6,6 +6,7 @@
 //! Stands on `version_table`.
 #![tactic(auto)]
 
+mod after;
 pub mod constants;
 mod heads;
 mod kind;
@@ -13,6 +14,7 @@ mod laws;
 mod misses;
 mod row;
 mod sent;
+mod slot;
 mod source;
 mod states;
 mod stream_state;
