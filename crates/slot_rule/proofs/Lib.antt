@@ -20,5 +20,6 @@ pub mod RuleUnique
 pub mod RuleUnits
 pub mod RuleVideo
 pub mod RuleWork
+pub mod SendLaws
 pub mod StateLaws
 pub mod UnitPieces

@@ -55,6 +55,7 @@ fn reserve(states: &mut [StreamState], reserved: Sent) -> Row
 
 /// The permitted head packet that is due first goes, in a slot that begins at `start` ticks.
 fn send_first(table: &Table, choice: &Choice, states: &mut [StreamState], start: u64) -> Row
+    requires few { length states.old < 2 ^ 32 }
     requires placed { All (IsPlaced table.now choice.now) states.old }
     requires ready { All IsReady states.old }
     requires start { start < 2 ^ 60 }
