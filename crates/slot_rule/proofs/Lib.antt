@@ -22,4 +22,5 @@ pub mod RuleVideo
 pub mod RuleWork
 pub mod SendLaws
 pub mod StateLaws
+pub mod TrackLaws
 pub mod UnitPieces
