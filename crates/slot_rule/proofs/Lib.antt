@@ -1,5 +1,6 @@
 pub mod AfterLaws
 pub mod AudioPackets
+pub mod BringLaws
 pub mod FirstStates
 pub mod HeadLaws
 pub mod ListSteps
