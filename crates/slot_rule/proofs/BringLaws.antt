@@ -120,6 +120,13 @@ clock_cases (Video number vbv) program stream =
       | inr apart ↦ inr (apart, packets_in-other_clock stream number vbv program (λ e. apart (sym e)))
     ]
 
+pub TakesClock-source : (program stream : ℕ) (old new : StreamState) → TakesClock program old new → new.source ≡ old.source
+TakesClock-source program stream old new takes =
+    elim (clock_cases old.kind program stream) as (λ _. new.source ≡ old.source) [
+      | inl own ↦ ap (λ (s : StreamState). s.source) (takes.own own.0)
+      | inr other ↦ ap (λ (s : StreamState). s.source) (takes.other other.0)
+    ]
+
 -- the state's places among these packets don't depend on the work in its buffers
 Keeps-work : (packets : List Packet) (state : StreamState) (transport multiplex : ℕ) → Keeps packets state → Keeps packets (record state { transport = transport; multiplex = multiplex })
 Keeps-work packets state transport multiplex keeps = record { within = keeps.within; head = keeps.head; order = keeps.order; oldest = keeps.oldest; held = keeps.held }

@@ -22,6 +22,7 @@ pub mod RuleUnits
 pub mod RuleVideo
 pub mod RuleWork
 pub mod SendLaws
+pub mod SlotLaws
 pub mod StateLaws
 pub mod TrackLaws
 pub mod UnitPieces

@@ -1,5 +1,4 @@
-use Rattle.slot_rule.proofs.TrackLaws.{Goes-from_first, NothingGoes-from_none}
-use Rattle.slot_rule.proofs.BringLaws.{HasRun-release}
+use Rattle.slot_rule.proofs.SlotLaws.{reserved_slot-run, free_slot-run}
 use Rattle.slot_rule.proofs.slot.run_slot.Goals as goal
 
 pub returns : goal.returns
