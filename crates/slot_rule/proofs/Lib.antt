@@ -23,6 +23,7 @@ pub mod RuleVideo
 pub mod RuleWork
 pub mod SendLaws
 pub mod SlotLaws
+pub mod SmallLaws
 pub mod StateLaws
 pub mod TrackLaws
 pub mod UnitPieces
