@@ -4,6 +4,7 @@ pub mod BringLaws
 pub mod FirstStates
 pub mod HeadLaws
 pub mod ListSteps
+pub mod MissLaws
 pub mod Places
 pub mod RuleEnd
 pub mod RuleExamples
