@@ -1,12 +1,12 @@
 -- What the states after a slot tell of misses.
-use Rattle.std.proofs.Common.{◌≡◌, ℕ, ◌+◌, ◌*◌, ◌<◌, ◌≤◌, ◌⊎◌, List, length, get_or, slice_get, Some, sym, ap, subst, ◌∙◌, inl, inr, arith}
+use Rattle.std.proofs.Common.{◌≡◌, ℕ, ◌+◌, ◌*◌, ◌<◌, ◌≤◌, List, get_or, slice_get, Some, sym, ap, subst, ◌∙◌, inl, inr, arith}
 use Rattle.std.proofs.lemmas.Option.{same_Some, slice_get_within, slice_get-get_or}
 use Rattle.slot_rule.specs.declared.constants.TheConstants.{SUBTICKS_PER_TICK}
 use Rattle.slot_rule.specs.declared.stream_state.StreamState.{StreamState}
 use Rattle.slot_rule.specs.Buffers.{Row, Carries}
 use Rattle.slot_rule.specs.Heads.{IsFirst, Passes}
 use Rattle.slot_rule.specs.Schedule.{IsBefore}
-use Rattle.slot_rule.specs.Slots.{ComesLate, NoneLate, NoneOverdue}
+use Rattle.slot_rule.specs.Slots.{NoneLate, NoneOverdue}
 use Rattle.slot_rule.specs.StreamState.{work_of_main}
 use Rattle.slot_rule.specs.Streams.{Packet}
 

@@ -1,20 +1,19 @@
 -- The states over one slot: packets that are gone are left out, the row brings work, work is done.
-use Rattle.std.proofs.Common.{◌≡◌, ℕ, suc, ◌+◌, ◌-◌, ◌*◌, ◌<◌, ◌≤◌, ◌⊎◌, false, List, [], ◌∷◌, ◌++◌, length, map, get_or, slice_get, count_by, Option, Some, None, refl, sym, ap, subst, ◌∙◌, inl, inr, cond, add-zero, mul-zero, mul-one, le_trans, mul-le-mul_right, arith}
+use Rattle.std.proofs.Common.{◌≡◌, ℕ, ◌+◌, ◌-◌, ◌*◌, ◌<◌, ◌≤◌, ◌⊎◌, false, List, [], ◌∷◌, ◌++◌, length, map, get_or, slice_get, count_by, Some, None, refl, sym, ap, subst, ◌∙◌, inl, inr, cond, add-zero, mul-zero, mul-one, le_trans, mul-le-mul_right, arith}
 use Rattle.std.proofs.lemmas.Bool.{cases_eq, cases_lt}
 use Rattle.std.proofs.lemmas.List.{length_push, length-map, get_or-map, same_lists}
 use Rattle.std.proofs.lemmas.Option.{slice_get-get_or, slice_get_within}
 use Rattle.version_table.specs.declared.table.Table.{Table}
-use Rattle.slot_rule.specs.declared.constants.TheConstants.{PACKET_BYTES, MB_SUBTICKS, SUBTICKS_PER_TICK}
+use Rattle.slot_rule.specs.declared.constants.TheConstants.{PACKET_BYTES, MB_SUBTICKS}
 use Rattle.slot_rule.specs.declared.sent.Sent.TheVariants.{Pcr}
 use Rattle.slot_rule.specs.declared.source.Source.{Source}
 use Rattle.slot_rule.specs.declared.stream_state.StreamState.{StreamState}
 use Rattle.slot_rule.specs.Buffers.{Row, Reserved, Carries, is_of, packets_in, payload_in, slot_subticks, tb_subticks, transport_work, multiplex_work}
-use Rattle.slot_rule.specs.Schedule.{FollowRule}
 use Rattle.slot_rule.specs.Slots.{HasRun, Sends, Tracks}
 use Rattle.slot_rule.specs.Source.{IsPlace, stream_at}
 use Rattle.slot_rule.specs.States.{ChangesEach, Drains, ReleasesAll, TakesClock, stream_of}
 use Rattle.slot_rule.specs.StreamState.{HasClock, HoldsNoneGone, IsKind, Keeps, packets_at}
-use Rattle.slot_rule.specs.Streams.{Kind, Video, Audio, Packet, Stream, streams_of}
+use Rattle.slot_rule.specs.Streams.{Kind, Video, Audio, Packet}
 use Rattle.slot_rule.proofs.RuleSent.{count-push, count-carried, count-reserved}
 use Rattle.slot_rule.proofs.RuleWork.{transport_work-push, multiplex_work-push, packets_in-carried, payload_in-carried, packets_in-clock, packets_in-other_clock}
 use Rattle.slot_rule.proofs.TrackLaws.{AllHoldNoneGone}
@@ -26,12 +25,12 @@ pub same_streams : (table : Table) (choice : List ℕ) (olds news : List StreamS
 same_streams table choice olds news many sources =
     same_lists (map (stream_of table choice) news) (map (stream_of table choice) olds) (length-map news (stream_of table choice) ∙ many ∙ sym (length-map olds (stream_of table choice)))
     (λ k d within.
-        let below : k < length news = omega (arith, length-map news (stream_of table choice)) in
-        let below' : k < length olds = omega arith in
-        let e : StreamState = record { kind = Audio; source = Source.Packets 0 0; transport = 0; multiplex = 0; sent = 0; head = None; gone = 0; oldest = None; held = 0 } in
-        get_or-map (stream_of table choice) news k e d below
-        ∙ ap (λ (s : Source). stream_at table choice s) (sources k (get_or olds k e) (get_or news k e) (slice_get-get_or olds k e below') (slice_get-get_or news k e below))
-        ∙ sym (get_or-map (stream_of table choice) olds k e d below'))
+    let below : k < length news = omega (arith, length-map news (stream_of table choice)) in
+    let below' : k < length olds = omega arith in
+    let e : StreamState = record { kind = Audio; source = Source.Packets 0 0; transport = 0; multiplex = 0; sent = 0; head = None; gone = 0; oldest = None; held = 0 } in
+    get_or-map (stream_of table choice) news k e d below
+    ∙ ap (λ (s : Source). stream_at table choice s) (sources k (get_or olds k e) (get_or news k e) (slice_get-get_or olds k e below') (slice_get-get_or news k e below))
+    ∙ sym (get_or-map (stream_of table choice) olds k e d below'))
 
 -- ---- packets that are gone are left out
 Tracks-release : (table : Table) (choice : List ℕ) (rows : List Row) (stream : ℕ) (old new : StreamState) → ReleasesAll table choice (length rows * table.slot) old new
@@ -48,11 +47,11 @@ Tracks-release table choice rows stream old new released tracks =
       keeps = subst (λ (s : Source). Keeps (packets_at table choice s) new) source released.keeps;
       sent = ap (λ (s : StreamState). s.sent) changed ∙ tracks.sent;
       gone = λ k packet is got.
-        let got' : slice_get (packets_at table choice old.source) k ≡ Some packet = ap (λ (list : List Packet). slice_get list k) (sym packets) ∙ got in
-        elim (cases_lt k old.gone) as (λ _. packet.gone ≤ length rows * table.slot) [
-          | inl before ↦ (let rises = released.releases.rises in let same : old.gone ≡ k + 1 = omega arith in tracks.gone k packet same got')
-          | inr after ↦ released.releases.gone k packet after (omega arith) got'
-        ];
+          let got' : slice_get (packets_at table choice old.source) k ≡ Some packet = ap (λ (list : List Packet). slice_get list k) (sym packets) ∙ got in
+          elim (cases_lt k old.gone) as (λ _. packet.gone ≤ length rows * table.slot) [
+            | inl before ↦ (let rises = released.releases.rises in let same : old.gone ≡ k + 1 = omega arith in tracks.gone k packet same got')
+            | inr after ↦ released.releases.gone k packet after (omega arith) got'
+          ];
       transport = ap (λ (s : StreamState). s.transport) changed ∙ tracks.transport ∙ ap (λ (k : Kind). transport_work table.slot stream k rows) kind;
       multiplex = ap (λ (s : StreamState). s.multiplex) changed ∙ tracks.multiplex;
     }
@@ -68,18 +67,18 @@ state_before R olds news stream new changes there =
 pub HasRun-release : (table : Table) (choice : List ℕ) (rows : List Row) (olds news : List StreamState) → ChangesEach (ReleasesAll table choice (length rows * table.slot)) olds news
     → HasRun table choice rows olds → HasRun table choice rows news × AllHoldNoneGone table choice (length rows * table.slot) news
 HasRun-release table choice rows olds news changes run = (
-      record {
-        follows = run.follows;
-        streams = same_streams table choice olds news changes.as_many (λ stream old new there there'. ap (λ (s : StreamState). s.source) (changes.each stream old new there there').releases.changed) ∙ run.streams;
-        tracks = λ stream new there.
-          let before = state_before (ReleasesAll table choice (length rows * table.slot)) olds news stream new changes there in
-          Tracks-release table choice rows stream before.0 new before.2 (run.tracks stream before.0 before.1);
-      },
-      (λ stream new there.
-          let before = state_before (ReleasesAll table choice (length rows * table.slot)) olds news stream new changes there in
-          let source : new.source ≡ before.0.source = ap (λ (s : StreamState). s.source) before.2.releases.changed in
-          subst (λ (s : Source). HoldsNoneGone (packets_at table choice s) (length rows * table.slot) new) (sym source) before.2.rest),
-    )
+  record {
+    follows = run.follows;
+    streams = same_streams table choice olds news changes.as_many (λ stream old new there there'. ap (λ (s : StreamState). s.source) (changes.each stream old new there there').releases.changed) ∙ run.streams;
+    tracks = λ stream new there.
+        let before = state_before (ReleasesAll table choice (length rows * table.slot)) olds news stream new changes there in
+        Tracks-release table choice rows stream before.0 new before.2 (run.tracks stream before.0 before.1);
+  },
+  (λ stream new there.
+      let before = state_before (ReleasesAll table choice (length rows * table.slot)) olds news stream new changes there in
+      let source : new.source ≡ before.0.source = ap (λ (s : StreamState). s.source) before.2.releases.changed in
+      subst (λ (s : Source). HoldsNoneGone (packets_at table choice s) (length rows * table.slot) new) (sym source) before.2.rest),
+)
 
 -- ---- the row brings work
 -- the state tells what these rows left of its stream, with the work that one more row brings, before a slot's work is done

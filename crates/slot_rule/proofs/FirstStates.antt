@@ -1,11 +1,10 @@
 -- The streams of the first programs of a table, for a loop over its programs.
-use Rattle.std.proofs.Common.{◌≡◌, ℕ, suc, ◌+◌, ◌*◌, ◌<◌, ◌≤◌, List, [], ◌∷◌, ◌++◌, length, map, get_or, take, drop, sum_by, refl, sym, ap, subst, ◌∙◌, zero-add, arith}
-use Rattle.std.specs.List.{flat_map, AllZip}
+use Rattle.std.proofs.Common.{◌≡◌, ℕ, suc, ◌+◌, ◌<◌, ◌≤◌, List, [], ◌∷◌, ◌++◌, length, map, get_or, take, drop, sum_by, sym, ap, subst, ◌∙◌, zero-add, arith}
 use Rattle.std.proofs.lemmas.List.{length-map, length-append, length-take-le, take_more, take-append-drop}
 use Rattle.std.proofs.lemmas.List.Concat.{flat_map-append}
 use Rattle.std.proofs.lemmas.List.Sums.{sum_by_more_le}
 use Rattle.std.proofs.lemmas.Slice.Zip.{AllZip-long}
-use Rattle.version_table.specs.declared.limits.TheConstants.{PROGRAMS_MOST, AUDIOS_MOST, UNITS_MOST}
+use Rattle.version_table.specs.declared.limits.TheConstants.{UNITS_MOST}
 use Rattle.version_table.specs.declared.table.ProgramRow.{ProgramRow}
 use Rattle.version_table.specs.declared.table.Table.{Table}
 use Rattle.version_table.specs.declared.table.Unit.{Unit as CodedUnit}
@@ -17,7 +16,7 @@ use Rattle.slot_rule.specs.declared.stream_state.StreamState.{StreamState}
 use Rattle.slot_rule.specs.Source.{HasSizes, IsPlace, program_at}
 use Rattle.slot_rule.specs.States.{stream_of}
 use Rattle.slot_rule.specs.Streams.{Stream, streams_from, streams_of}
-use Rattle.slot_rule.proofs.RuleStreams.{all_units, choice_from, streams_in, streams_from-push, length-streams_from, streams_of-few, HasSizes-at_program}
+use Rattle.slot_rule.proofs.RuleStreams.{all_units, streams_in, streams_from-push, length-streams_from, streams_of-few, HasSizes-at_program}
 
 -- the units of the first programs are no more than all
 all_units_of_front : (rows : List ProgramRow) (p : ℕ) → length (all_units (take p rows)) ≤ length (all_units rows)

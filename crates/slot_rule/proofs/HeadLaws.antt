@@ -1,5 +1,5 @@
 -- The head packet that goes first among some streams, and among those and one more.
-use Rattle.std.proofs.Common.{◌≡◌, ℕ, ◌+◌, ◌<◌, ◌≤◌, ◌⊎◌, cond, ltb, List, [], length, get_or, take, slice_get, Option, Some, None, sym, ap, subst, ◌∙◌, inl, inr, lt-ltb, le-ltb, arith}
+use Rattle.std.proofs.Common.{◌≡◌, ℕ, ◌+◌, ◌<◌, ◌≤◌, ◌⊎◌, ltb, List, [], length, get_or, take, slice_get, Option, Some, None, sym, ap, subst, ◌∙◌, inl, inr, lt-ltb, le-ltb, arith}
 use Rattle.std.proofs.lemmas.Bool.{cases_lt, cond-true, cond-false}
 use Rattle.std.proofs.lemmas.Option.{none-some, same_Some, slice_get-get_or}
 use Rattle.std.proofs.lemmas.List.{take_all}
@@ -82,15 +82,15 @@ IsFirstHead-more P states n state (Some first) (Some head) last is offers =
       | inl before ↦
           subst (λ (o : Option Head). IsFirstHead P (take (n + 1) states) o) (sym (cond-true (ltb head.packet.due first.packet.due) (Some head) (Some first) (lt-ltb head.packet.due first.packet.due before)))
           (takes_first P states n state head last offers (λ other state' packet' there h passes.
-              let order = is.first other state' packet' there h passes in
-              elim order as (λ _. head.packet.due < packet'.due) [
-                | inl same ↦
-                    (let there' : slice_get (take n states) first.stream ≡ Some state' = subst (λ k. slice_get (take n states) k ≡ Some state') same there in
-                    let states_are : is.state ≡ state' = same_Some is.state state' (sym is.there ∙ there') in
-                    let packets_are : first.packet ≡ packet' = same_Some first.packet packet' (sym is.head ∙ ap (λ (s : StreamState). s.head) states_are ∙ h) in
-                    rw (← packets_are) before)
-                | inr later ↦ grind arith
-              ]))
+          let order = is.first other state' packet' there h passes in
+          elim order as (λ _. head.packet.due < packet'.due) [
+            | inl same ↦
+                (let there' : slice_get (take n states) first.stream ≡ Some state' = subst (λ k. slice_get (take n states) k ≡ Some state') same there in
+                let states_are : is.state ≡ state' = same_Some is.state state' (sym is.there ∙ there') in
+                let packets_are : first.packet ≡ packet' = same_Some first.packet packet' (sym is.head ∙ ap (λ (s : StreamState). s.head) states_are ∙ h) in
+                rw (← packets_are) before)
+            | inr later ↦ grind arith
+          ]))
       | inr after ↦
           subst (λ (o : Option Head). IsFirstHead P (take (n + 1) states) o) (sym (cond-false (ltb head.packet.due first.packet.due) (Some head) (Some first) (le-ltb head.packet.due first.packet.due after)))
           (stays_first P states n state first last is (λ packet h passes. let same : head.packet ≡ packet = same_Some head.packet packet (sym offers.1 ∙ h) in rw (← same) after))

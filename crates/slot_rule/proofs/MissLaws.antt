@@ -1,6 +1,6 @@
 -- What the states after a row tell of misses, said of the rows; and the states before the first slot.
-use Rattle.std.proofs.Common.{◌≡◌, ℕ, ◌+◌, ◌*◌, ◌^◌, ◌<◌, ◌≤◌, ◌⊎◌, All, List, [], ◌∷◌, ◌++◌, length, map, slice_get, Option, Some, None, refl, sym, ap, subst, ◌∙◌, inl, inr, zero-le, le_refl, le_trans, mul-le-mul_left, arith}
-use Rattle.std.proofs.lemmas.List.{length_push, length-map, same_from_push}
+use Rattle.std.proofs.Common.{◌≡◌, ℕ, ◌+◌, ◌*◌, ◌<◌, ◌≤◌, ◌⊎◌, All, List, [], ◌∷◌, ◌++◌, length, map, slice_get, Some, None, refl, sym, ap, subst, ◌∙◌, inl, inr, zero-le, le_refl, mul-le-mul_left, arith}
+use Rattle.std.proofs.lemmas.List.{length_push, same_from_push}
 use Rattle.std.proofs.lemmas.Option.{same_Some, slice_get_within}
 use Rattle.version_table.specs.declared.limits.TheConstants.{TIME_SLOTS_MOST}
 use Rattle.version_table.specs.declared.table.Table.{Table}
@@ -12,11 +12,11 @@ use Rattle.slot_rule.specs.declared.constants.TheConstants.{MARGIN_SUBTICKS, SUB
 use Rattle.slot_rule.specs.declared.sent.Miss.{Miss}
 use Rattle.slot_rule.specs.declared.stream_state.StreamState.{StreamState}
 use Rattle.slot_rule.specs.Buffers.{Row, Reserved, Carries, Empty, transport_work}
-use Rattle.slot_rule.specs.Heads.{IsFirst, IsFirstHead, Passes}
-use Rattle.slot_rule.specs.Schedule.{AllSent, IsBefore, IsHead, Misses, NoMiss, Overdue, SentLate, arrival, main_work, IsFirstMiss, IsSchedule, IsScheduled}
+use Rattle.slot_rule.specs.Heads.{IsFirstHead, Passes}
+use Rattle.slot_rule.specs.Schedule.{AllSent, IsHead, Misses, NoMiss, SentLate, arrival, main_work, IsFirstMiss, IsSchedule, IsScheduled}
 use Rattle.slot_rule.specs.Slots.{ComesLate, FirstOverdue, HasRun, NoneLate, NoneOverdue, RowStands, TellsAfter, Tracks}
 use Rattle.slot_rule.specs.States.{IsFirstState, stream_of}
-use Rattle.slot_rule.specs.StreamState.{Keeps, first_state, work_of_kind, work_of_main}
+use Rattle.slot_rule.specs.StreamState.{Keeps, work_of_kind, work_of_main}
 use Rattle.slot_rule.specs.Streams.{Kind, Video, Audio, Packet, Stream, streams_of}
 use Rattle.slot_rule.proofs.Places.{All-at_place}
 use Rattle.slot_rule.proofs.RuleEnd.{AllSent-at_end}
@@ -77,7 +77,7 @@ module _ (table : Table) (choice : List ℕ) (rows : List Row) (row : Row) (stat
         kind = goes.1.kind;
         head = goes.1.head;
         late = subst (λ n. SUBTICKS_PER_TICK * packet.due < arrival table.slot (rows ++ row ∷ []) + n)
-          (sym (main_work-is table choice (rows ++ row ∷ []) stream late.state (run.tracks stream late.state late.there) goes.1.kind kind)) late.late;
+            (sym (main_work-is table choice (rows ++ row ∷ []) stream late.state (run.tracks stream late.state late.there) goes.1.kind kind)) late.late;
       }
 
   SentLate-to_states : (stream : ℕ) (packet : Packet) → SentLate table.slot (streams_of table choice) (rows ++ row ∷ []) stream packet
@@ -90,7 +90,7 @@ module _ (table : Table) (choice : List ℕ) (rows : List Row) (row : Row) (stat
         there = found.1;
         went = (same_from_push rows late.before row (Carries stream packet) late.went).1;
         late = subst (λ n. SUBTICKS_PER_TICK * packet.due < arrival table.slot (rows ++ row ∷ []) + n)
-          (main_work-is table choice (rows ++ row ∷ []) stream found.0 (run.tracks stream found.0 found.1) late.kind kind) late.late;
+            (main_work-is table choice (rows ++ row ∷ []) stream found.0 (run.tracks stream found.0 found.1) late.kind kind) late.late;
       }
 
   -- a miss that the states tell
@@ -100,12 +100,12 @@ module _ (table : Table) (choice : List ℕ) (rows : List Row) (row : Row) (stat
       → Misses table.slot (streams_of table choice) (rows ++ row ∷ []) stream packet
   Misses-from_states stream packet (inl late) = inl (SentLate-from_states stream packet late)
   Misses-from_states stream packet (inr (none, (is, late))) = inr (
-        (λ other packet' sent. none other packet' (SentLate-to_states other packet' sent)),
-        record { kind = is.state.kind; head = head_from_state table choice (rows ++ row ∷ []) states run stream is.state packet is.there is.head; late = late },
-        (λ other packet' over.
-            let found = state_from_head table choice (rows ++ row ∷ []) states run other over.kind packet' over.head in
-            is.first other found.0 packet' found.1 found.3 tt),
-      )
+    (λ other packet' sent. none other packet' (SentLate-to_states other packet' sent)),
+    record { kind = is.state.kind; head = head_from_state table choice (rows ++ row ∷ []) states run stream is.state packet is.there is.head; late = late },
+    (λ other packet' over.
+        let found = state_from_head table choice (rows ++ row ∷ []) states run other over.kind packet' over.head in
+        is.first other found.0 packet' found.1 found.3 tt),
+  )
 
   -- where the states tell none, nothing misses
   pub NoneMisses-from_states : NoneLate states (arrival table.slot (rows ++ row ∷ [])) row → NoneOverdue states (arrival table.slot (rows ++ row ∷ []))
@@ -166,7 +166,7 @@ module _ (table : Table) (choice : List ℕ) (valid : IsValidTable table) (fits 
         follows = run.follows;
         in_time = reached.in_time;
         misses = Misses-from_states table choice reached.rows row news run next miss.stream packet
-          (subst (λ (t : ℕ). ComesLate news t row miss.stream packet ⊎ (NoneLate news t row × FirstOverdue news t miss.stream packet)) at tells.2);
+            (subst (λ (t : ℕ). ComesLate news t row miss.stream packet ⊎ (NoneLate news t row × FirstOverdue news t miss.stream packet)) at tells.2);
         unit_is = ap (λ (m : Miss). m.unit) tells.1;
         slot_is = ap (λ (m : Miss). m.slot) tells.1 ∙ sym reached.slots_are;
         due_is = ap (λ (m : Miss). m.due) tells.1;
@@ -194,10 +194,10 @@ module _ (table : Table) (choice : List ℕ) (valid : IsValidTable table) (fits 
 pub schedule_at_end : (table : Table) (choice : List ℕ) → IsValidTable table → Fits table choice → (n : ℕ) (states : List StreamState) → Reached table choice n states → TIME_SLOTS_MOST ≤ n
     → IsScheduled table choice
 schedule_at_end table choice valid fits n states reached long = (
-      reached.rows,
-      record {
-        follows = reached.run.follows;
-        in_time = reached.in_time;
-        sent = AllSent-at_end table choice reached.rows valid fits reached.run.follows reached.in_time (omega (arith, reached.slots_are));
-      },
-    )
+  reached.rows,
+  record {
+    follows = reached.run.follows;
+    in_time = reached.in_time;
+    sent = AllSent-at_end table choice reached.rows valid fits reached.run.follows reached.in_time (omega (arith, reached.slots_are));
+  },
+)

@@ -1,5 +1,5 @@
 -- What stays of the states once packets that are gone are left out, and what the send of one packet changes.
-use Rattle.std.proofs.Common.{◌≡◌, ℕ, ◌+◌, ◌^◌, ◌<◌, ◌≤◌, All, List, length, get_or, set, slice_get, Option, Some, sym, ap, subst, ◌∙◌, length-set, arith}
+use Rattle.std.proofs.Common.{◌≡◌, ℕ, ◌<◌, ◌≤◌, All, List, length, get_or, set, Some, sym, ap, subst, ◌∙◌, length-set, arith}
 use Rattle.std.proofs.lemmas.Option.{same_Some, slice_get-get_or, slice_get_within, get_or_from_slice_get}
 use Rattle.version_table.specs.declared.table.Table.{Table}
 use Rattle.slot_rule.specs.declared.source.Source.{Source}
@@ -49,9 +49,9 @@ pub SendsOne-set : (table : Table) (choice : List ℕ) (stream : ℕ) (packet : 
 SendsOne-set table choice stream packet olds d new within sends = record {
   as_many = length-set olds stream new;
   own = λ old new' there there'.
-    let old_is : get_or olds stream d ≡ old = get_or_from_slice_get olds stream old d there in
-    let new_is : new ≡ new' = same_Some new new' (sym (slice_get-set_same olds stream new within) ∙ there') in
-    subst (λ (n : StreamState). Sends (stream_of table choice old).packets packet old n) new_is (subst (λ (o : StreamState). Sends (stream_of table choice o).packets packet o new) old_is sends);
+      let old_is : get_or olds stream d ≡ old = get_or_from_slice_get olds stream old d there in
+      let new_is : new ≡ new' = same_Some new new' (sym (slice_get-set_same olds stream new within) ∙ there') in
+      subst (λ (n : StreamState). Sends (stream_of table choice old).packets packet old n) new_is (subst (λ (o : StreamState). Sends (stream_of table choice o).packets packet o new) old_is sends);
   others = λ other apart. slice_get-set_other olds stream other new apart;
 }
 

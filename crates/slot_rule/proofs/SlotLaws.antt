@@ -9,7 +9,6 @@ use Rattle.slot_rule.specs.declared.sent.Sent.{Sent}
 use Rattle.slot_rule.specs.declared.sent.Sent.TheVariants.{Null, Pat, Pmt, Pcr, Video as VideoPiece, Audio as AudioPiece}
 use Rattle.slot_rule.specs.declared.stream_state.StreamState.{StreamState}
 use Rattle.slot_rule.specs.Buffers.{Row, Reserved, Carries, Empty, slot_subticks}
-use Rattle.slot_rule.specs.Schedule.{IsRow}
 use Rattle.slot_rule.specs.Slots.{Fills, HasRun, Reserves, SendsOne}
 use Rattle.slot_rule.specs.States.{ChangesEach, Drains, ReleasesAll, TakesClock, stream_of}
 use Rattle.slot_rule.specs.Streams.{Packet, streams_of}
@@ -43,8 +42,8 @@ HasBrought-reserved : (table : Table) (choice : List ℕ) (rows : List Row) (sen
 HasBrought-reserved table choice rows (Pcr program) olds news run reserves = record {
   streams = same_streams table choice olds news reserves.as_many (λ stream old new there there'. TakesClock-source program stream old new (reserves.each stream old new there there')) ∙ run.streams;
   brings = λ stream new there.
-    let before = state_before (TakesClock program) olds news stream new reserves there in
-    Brings-clock table choice rows program stream before.0 new before.2 (run.tracks stream before.0 before.1);
+      let before = state_before (TakesClock program) olds news stream new reserves there in
+      Brings-clock table choice rows program stream before.0 new before.2 (run.tracks stream before.0 before.1);
 }
 HasBrought-reserved table choice rows Null olds news run reserves = HasBrought-same table choice rows Null olds news run (λ p e. cc e) reserves
 HasBrought-reserved table choice rows Pat olds news run reserves = HasBrought-same table choice rows Pat olds news run (λ p e. cc e) reserves
@@ -57,14 +56,14 @@ HasBrought-packet : (table : Table) (choice : List ℕ) (rows : List Row) (s : �
     → SendsOne table choice s packet olds news → HasBrought table choice rows (Carries s packet) news
 HasBrought-packet table choice rows s packet olds news run sends = record {
   streams = same_streams table choice olds news sends.as_many
-    (λ stream old new there there'. elim (cases_eq stream s) as (λ _. new.source ≡ old.source) [
-      | inl own ↦
-          (let there_own : slice_get olds s ≡ Some old = ap (λ k. slice_get olds k) (sym own) ∙ there in
-          let there_own' : slice_get news s ≡ Some new = ap (λ k. slice_get news k) (sym own) ∙ there' in
-          ap (λ (state : StreamState). state.source) (sends.own old new there_own there_own').changed)
-      | inr other ↦ ap (λ (state : StreamState). state.source) (same_Some new old (sym there' ∙ sends.others stream other ∙ there))
-    ])
-    ∙ run.streams;
+      (λ stream old new there there'. elim (cases_eq stream s) as (λ _. new.source ≡ old.source) [
+        | inl own ↦
+            (let there_own : slice_get olds s ≡ Some old = ap (λ k. slice_get olds k) (sym own) ∙ there in
+            let there_own' : slice_get news s ≡ Some new = ap (λ k. slice_get news k) (sym own) ∙ there' in
+            ap (λ (state : StreamState). state.source) (sends.own old new there_own there_own').changed)
+        | inr other ↦ ap (λ (state : StreamState). state.source) (same_Some new old (sym there' ∙ sends.others stream other ∙ there))
+      ])
+      ∙ run.streams;
   brings = λ stream new there. elim (cases_eq stream s) as (λ _. Brings table choice rows (Carries s packet) stream new) [
     | inl own ↦
         (let within : stream < length olds = omega (arith, slice_get_within news stream new there, sends.as_many) in
@@ -86,10 +85,10 @@ free_slot : (table : Table) (choice : List ℕ) → IsValidTable table → Fits 
 free_slot table choice valid fits rows (Carries stream packet) olds news run rest free (first, sends) =
     ((free, Goes-from_first table choice valid fits rows olds run rest stream packet first), HasBrought-packet table choice rows stream packet olds news run sends)
 free_slot table choice valid fits rows Empty olds news run rest free (none, same) = (
-      (free, NothingGoes-from_none table choice valid fits rows olds run rest none),
-      subst (λ (states : List StreamState). HasBrought table choice rows Empty states) (sym same)
+  (free, NothingGoes-from_none table choice valid fits rows olds run rest none),
+  subst (λ (states : List StreamState). HasBrought table choice rows Empty states) (sym same)
       (record { streams = run.streams; brings = λ stream state there. Brings-nothing table choice rows Empty stream state (run.tracks stream state there) refl (packets_in-empty stream state.kind) refl }),
-    )
+)
 free_slot table choice valid fits rows (Reserved sent) olds news run rest free fills = absurd fills
 
 -- work is done after the row
@@ -99,8 +98,8 @@ HasRun-drained table choice rows row olds mids news run next brought drains = re
   follows = FollowRule-push table choice rows row run.follows next;
   streams = same_streams table choice mids news drains.as_many (λ stream old new there there'. ap (λ (state : StreamState). state.source) (drains.each stream old new there there')) ∙ brought.streams;
   tracks = λ stream new there.
-    let before = state_before (Drains (slot_subticks table.slot)) mids news stream new drains there in
-    Tracks-drain table choice rows row stream before.0 new (brought.brings stream before.0 before.1) before.2;
+      let before = state_before (Drains (slot_subticks table.slot)) mids news stream new drains there in
+      Tracks-drain table choice rows row stream before.0 new (brought.brings stream before.0 before.1) before.2;
 }
 
 -- a slot that is reserved

@@ -55,6 +55,6 @@ Releases-more packets start old new packet next released got past =
       gone = λ k p from to at. elim (cases_lt k new.gone) as (λ _. p.gone ≤ start) [
         | inl before ↦ released.gone k p from before at
         | inr here ↦ (let same : k ≡ new.gone = omega arith in
-          let is : p ≡ packet = same_Some p packet (sym at ∙ ap (λ i. slice_get packets i) same ∙ got) in rw is past)
+            let is : p ≡ packet = same_Some p packet (sym at ∙ ap (λ i. slice_get packets i) same ∙ got) in rw is past)
       ];
     }

@@ -1,21 +1,17 @@
 -- What the state of a stream tells of the rows before: its head packet, the gates, the bytes held.
-use Rattle.std.proofs.Common.{◌≡◌, ℕ, suc, ◌+◌, ◌-◌, ◌*◌, ◌<◌, ◌≤◌, ◌⊎◌, ◌↔◌, List, length, map, get_or, slice_get, count_by, Option, Some, None, refl, sym, ap, subst, ◌∙◌, inl, inr, arith}
+use Rattle.std.proofs.Common.{◌≡◌, ℕ, ◌+◌, ◌-◌, ◌*◌, ◌≤◌, List, length, map, get_or, slice_get, count_by, Some, None, sym, ap, subst, ◌∙◌, inl, inr, arith}
 use Rattle.std.specs.Option.{option_map}
-use Rattle.std.specs.List.Sorted.{IsNonDecreasingBy}
-use Rattle.std.proofs.lemmas.Bool.{cases_lt}
-use Rattle.std.proofs.lemmas.Option.{none-some, same_Some, slice_get-map, slice_get-get_or, slice_get_within, slice_get_cases}
+use Rattle.std.proofs.lemmas.Option.{none-some, same_Some, slice_get-map, slice_get-get_or, slice_get_cases}
 use Rattle.version_table.specs.declared.table.Table.{Table}
 use Rattle.version_table.specs.Table.{IsValidTable}
 use Rattle.version_table.specs.Choice.{Fits}
-use Rattle.slot_rule.specs.declared.source.Source.{Source}
 use Rattle.slot_rule.specs.declared.stream_state.StreamState.{StreamState}
-use Rattle.slot_rule.specs.Buffers.{Row, is_of, outstanding, transport_work, transport_gate, multiplex_work, main_bytes, MultiplexPermits}
+use Rattle.slot_rule.specs.Buffers.{Row, is_of, outstanding, transport_gate, main_bytes, MultiplexPermits}
 use Rattle.slot_rule.specs.Heads.{IsFirst, IsFirstHead, PassesAt}
-use Rattle.slot_rule.specs.Schedule.{Goes, IsBefore, IsHead, IsPermitted, NothingGoes}
-use Rattle.slot_rule.specs.Slots.{HasRun, Tracks}
-use Rattle.slot_rule.specs.Source.{IsPlace, stream_at}
-use Rattle.slot_rule.specs.States.{ReleasesAll, stream_of}
-use Rattle.slot_rule.specs.StreamState.{HoldsNoneGone, IsKind, Keeps, Permits}
+use Rattle.slot_rule.specs.Schedule.{Goes, IsHead, IsPermitted, NothingGoes}
+use Rattle.slot_rule.specs.Slots.{HasRun}
+use Rattle.slot_rule.specs.States.{stream_of}
+use Rattle.slot_rule.specs.StreamState.{HoldsNoneGone, Permits}
 use Rattle.slot_rule.specs.Streams.{Kind, Packet, Stream, streams_of}
 use Rattle.slot_rule.proofs.RuleSent.{outstanding-is}
 use Rattle.slot_rule.proofs.RuleStreams.{IsValidStream, IsValidStream-at}

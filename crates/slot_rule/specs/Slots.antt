@@ -4,7 +4,6 @@ use Rattle.version_table.specs.declared.table.Table.{Table}
 use Rattle.slot_rule.specs.declared.after.After.{After}
 use Rattle.slot_rule.specs.declared.after.After.TheVariants.{Missed, AllSent, Waiting}
 use Rattle.slot_rule.specs.declared.constants.TheConstants.{MB_SUBTICKS, PACKET_BYTES, SUBTICKS_PER_TICK}
-use Rattle.slot_rule.specs.declared.sent.Miss.{Miss}
 use Rattle.slot_rule.specs.declared.sent.Sent.{Sent}
 use Rattle.slot_rule.specs.declared.sent.Sent.TheVariants.{Null, Pat, Pmt, Pcr, Video as VideoPiece, Audio as AudioPiece}
 use Rattle.slot_rule.specs.declared.stream_state.StreamState.{StreamState}
@@ -12,7 +11,7 @@ use Rattle.slot_rule.specs.Buffers.{Row, Reserved, Carries, Empty, is_of, multip
 use Rattle.slot_rule.specs.Heads.{IsFirst, IsFirstHead, Passes, PassesAt}
 use Rattle.slot_rule.specs.Schedule.{FollowRule}
 use Rattle.slot_rule.specs.Source.{IsPlace}
-use Rattle.slot_rule.specs.States.{ChangesEach, ReleasesAll, TakesClock, stream_of}
+use Rattle.slot_rule.specs.States.{ChangesEach, TakesClock, stream_of}
 use Rattle.slot_rule.specs.StreamState.{IsKind, IsSmall, Keeps, work_of_main}
 use Rattle.slot_rule.specs.Streams.{Packet, streams_of}
 

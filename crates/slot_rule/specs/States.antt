@@ -1,5 +1,5 @@
 -- What a slot changes in the states of all streams.
-use Rattle.std.specs.Prelude.{◌≡◌, ℕ, ◌+◌, ◌-◌, ◌*◌, ◌<◌, ◌≤◌, List, All, length, slice_get, Option, Some}
+use Rattle.std.specs.Prelude.{◌≡◌, ℕ, ◌+◌, ◌-◌, ◌*◌, List, All, length, slice_get, Some}
 use Rattle.version_table.specs.declared.table.Table.{Table}
 use Rattle.slot_rule.specs.declared.constants.TheConstants.{PACKET_BYTES}
 use Rattle.slot_rule.specs.declared.stream_state.StreamState.{StreamState}

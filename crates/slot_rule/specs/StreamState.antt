@@ -81,7 +81,15 @@ work_of_kind Audio transport multiplex = transport
 -- the state of a stream before the first slot
 abbrev pub first_state : Kind → Source → Option Packet → StreamState
 first_state kind source first = record {
-  kind = kind; source = source; transport = 0; multiplex = 0; sent = 0; head = first; gone = 0; oldest = first; held = 0;
+  kind = kind;
+  source = source;
+  transport = 0;
+  multiplex = 0;
+  sent = 0;
+  head = first;
+  gone = 0;
+  oldest = first;
+  held = 0;
 }
 
 -- the work that waits for a packet of the stream which has come

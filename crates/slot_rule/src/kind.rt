@@ -44,7 +44,8 @@ impl Kind {
     {
         match self {
             Kind::Video { vbv, .. } => {
-                work <= (VIDEO_BYTES - EB_UNIT_BYTES * u64::from(vbv) - MB_SPARE_BYTES) * MB_SUBTICKS
+                work <= (VIDEO_BYTES - EB_UNIT_BYTES * u64::from(vbv) - MB_SPARE_BYTES)
+                    * MB_SUBTICKS
             }
             Kind::Audio => true,
         }

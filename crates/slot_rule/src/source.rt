@@ -26,7 +26,12 @@ impl Source {
     {
         match self {
             Source::Units { program, first } => {
-                unit_packet(program_at(table, program), versions_from(choice, first), 0, 0)
+                unit_packet(
+                    program_at(table, program),
+                    versions_from(choice, first),
+                    0,
+                    0,
+                )
             }
             Source::Packets { program, audio } => audio_packet(audio_at(table, program, audio), 0),
         }
@@ -41,7 +46,11 @@ impl Source {
     {
         match self {
             Source::Units { program, first } => {
-                piece_after(program_at(table, program), versions_from(choice, first), packet)
+                piece_after(
+                    program_at(table, program),
+                    versions_from(choice, first),
+                    packet,
+                )
             }
             Source::Packets { program, audio } => {
                 audio_packet(audio_at(table, program, audio), packet.item + 1)

@@ -56,9 +56,21 @@ fn add_program(table: &Table, choice: &Choice, states: &mut States, program: usi
         program: program as u8,
         vbv: row.vbv,
     };
-    add_stream(table, choice, states, kind, Source::Units { program, first });
+    add_stream(
+        table,
+        choice,
+        states,
+        kind,
+        Source::Units { program, first },
+    );
     for audio in 0..row.audios.len() {
-        add_stream(table, choice, states, Kind::Audio, Source::Packets { program, audio });
+        add_stream(
+            table,
+            choice,
+            states,
+            Kind::Audio,
+            Source::Packets { program, audio },
+        );
     }
 }
 

@@ -40,7 +40,10 @@ impl Default for StreamState {
     fn default() -> StreamState {
         StreamState::new(
             Kind::Audio,
-            Source::Packets { program: 0, audio: 0 },
+            Source::Packets {
+                program: 0,
+                audio: 0,
+            },
             None,
         )
     }
@@ -87,11 +90,11 @@ impl StreamState {
         requires small { IsSmall self.old }
         ensures keeps { Keeps (packets_at table.now choice.now self.old.source) self.new }
         ensures changed { self.new ≡ record self.old {
-            transport = self.old.transport + PACKET_BYTES * tb_subticks self.old.kind;
-            multiplex = self.old.multiplex + MB_SUBTICKS * packet.payload;
-            sent = self.old.sent + 1;
-            head = self.new.head;
-            held = self.old.held + packet.payload;
+          transport = self.old.transport + PACKET_BYTES * tb_subticks self.old.kind;
+          multiplex = self.old.multiplex + MB_SUBTICKS * packet.payload;
+          sent = self.old.sent + 1;
+          head = self.new.head;
+          held = self.old.held + packet.payload;
         } }
     {
         self.transport += PACKET_BYTES * self.kind.tb_subticks();

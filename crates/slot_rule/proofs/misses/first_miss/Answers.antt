@@ -1,14 +1,9 @@
-use Rattle.std.proofs.Common.{◌≡◌, ◌+◌, ◌∷◌, [], ◌++◌, List, MatchOption, Some, None, map, All, sym, ap, subst, ◌∙◌, arith}
+use Rattle.std.proofs.Common.{◌≡◌, ◌∷◌, [], ◌++◌, List, Some, None, map, All, sym, subst, arith}
 use Rattle.std.proofs.lemmas.List.{length_push}
-use Rattle.slot_rule.specs.declared.sent.Miss.{Miss}
-use Rattle.slot_rule.specs.declared.after.After.{After}
-use Rattle.slot_rule.specs.declared.after.After.TheVariants.{Missed, Waiting}
 use Rattle.slot_rule.specs.declared.stream_state.StreamState.{StreamState}
-use Rattle.slot_rule.specs.Schedule.{IsFirstMiss, IsScheduled}
-use Rattle.slot_rule.specs.Slots.{TellsAfter}
 use Rattle.slot_rule.specs.States.{IsFirstState, stream_of}
 use Rattle.slot_rule.specs.Streams.{streams_of}
-use Rattle.slot_rule.proofs.MissLaws.{Reached, Reached-first, Reached-next, RowStands-next, miss_found, schedule_found, schedule_at_end}
+use Rattle.slot_rule.proofs.MissLaws.{Reached-first, Reached-next, RowStands-next, miss_found, schedule_found, schedule_at_end}
 use Rattle.slot_rule.proofs.RuleEnd.{answer_scheduled, answer_missed}
 use Rattle.slot_rule.proofs.SmallLaws.{all_soon}
 use Rattle.slot_rule.proofs.misses.first_miss.Goals as goal

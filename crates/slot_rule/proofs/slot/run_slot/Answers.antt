@@ -1,11 +1,9 @@
-use Rattle.std.proofs.Common.{◌≡◌, ℕ, ◌+◌, ◌*◌, ◌<◌, ◌≤◌, ◌∷◌, ◌++◌, [], List, length, Option, Some, None, sym, ap, ap₂, subst, ◌∙◌, arith}
-use Rattle.slot_rule.specs.declared.sent.Sent.{Sent}
+use Rattle.std.proofs.Common.{◌≡◌, ℕ, ◌*◌, List, length, sym, ap₂, subst, ◌∙◌, arith}
 use Rattle.slot_rule.specs.declared.stream_state.StreamState.{StreamState}
 use Rattle.slot_rule.specs.Buffers.{Row, slot_subticks}
-use Rattle.slot_rule.specs.Slots.{Fills, HasRun, Reserves}
+use Rattle.slot_rule.specs.Slots.{Fills, Reserves}
 use Rattle.slot_rule.specs.States.{ChangesEach, Drains, ReleasesAll}
 use Rattle.slot_rule.specs.Timetable.{reserved}
-use Rattle.slot_rule.proofs.RuleRows.{IsNext}
 use Rattle.slot_rule.proofs.SlotLaws.{reserved_slot-run, free_slot-run}
 use Rattle.slot_rule.proofs.SmallLaws.{states_few, all_small, all_ready, all_placed}
 use Rattle.slot_rule.proofs.slot.run_slot.Goals as goal

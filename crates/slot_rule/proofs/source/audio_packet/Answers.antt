@@ -1,7 +1,6 @@
-use Rattle.std.proofs.Common.{◌≡◌, Some, sym, ◌∙◌, ap, arith, slice_get, refl}
+use Rattle.std.proofs.Common.{sym, ◌∙◌, refl}
 use Rattle.std.proofs.lemmas.Option.{slice_get_read, slice_get_past}
-use Rattle.slot_rule.specs.Streams.{Packet}
-use Rattle.slot_rule.proofs.AudioPackets.{audio_packet_of, audio_of-some, audio_of-none}
+use Rattle.slot_rule.proofs.AudioPackets.{audio_of-some, audio_of-none}
 use Rattle.slot_rule.proofs.source.audio_packet.Goals as goal
 
 pub returns-in_err-packet : goal.returns-in_err-packet

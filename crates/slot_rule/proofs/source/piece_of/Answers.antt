@@ -1,4 +1,4 @@
-use Rattle.std.proofs.Common.{◌≡◌, ◌-◌, ◌*◌, ◌<◌, ◌≤◌, sym, arith}
+use Rattle.std.proofs.Common.{◌≡◌, sym, arith}
 use Rattle.version_table.specs.Choice.{version_at}
 use Rattle.slot_rule.proofs.UnitPieces.{unit_packets-some, unit_packets-none}
 use Rattle.slot_rule.proofs.source.piece_of.Goals as goal

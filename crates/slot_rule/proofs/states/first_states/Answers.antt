@@ -1,9 +1,6 @@
-use Rattle.std.proofs.Common.{◌≡◌, ◌+◌, ◌<◌, ◌≤◌, [], length, get_or, take, sym, ap, ◌∙◌, arith}
-use Rattle.std.proofs.lemmas.List.{get_or_read}
+use Rattle.std.proofs.Common.{◌≡◌, ◌<◌, length, get_or, ap, ◌∙◌, arith}
 use Rattle.version_table.specs.declared.table.ProgramRow.{ProgramRow}
-use Rattle.slot_rule.specs.Source.{program_at}
 use Rattle.slot_rule.proofs.FirstStates.{all_units_more, units_small, place_of_program, room_for_program, streams_more}
-use Rattle.slot_rule.proofs.RuleStreams.{all_units}
 use Rattle.slot_rule.proofs.states.first_states.Goals as goal
 
 pub add_program-requires-clause-place : goal.add_program-requires-clause-place

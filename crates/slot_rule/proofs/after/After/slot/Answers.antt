@@ -1,4 +1,4 @@
-use Rattle.std.proofs.Common.{◌≡◌, ◌+◌, ◌*◌, ◌≤◌, arith}
+use Rattle.std.proofs.Common.{◌≡◌, ◌+◌, ◌*◌, arith}
 use Rattle.slot_rule.proofs.AfterLaws.{NoneLate-in_time, NoneLate-other, NoneOverdue-from_first}
 use Rattle.slot_rule.proofs.after.After.slot.Goals as goal
 use Rattle.slot_rule.proofs.after.After.slot.Goals.{in-Carries+else-packet-arrival, in_default}

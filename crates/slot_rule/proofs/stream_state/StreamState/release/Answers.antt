@@ -1,4 +1,4 @@
-use Rattle.std.proofs.Common.{◌≡◌, ◌+◌, List, slice_get, Some, refl, sym, ap, subst, ◌∙◌}
+use Rattle.std.proofs.Common.{◌≡◌, ◌+◌, slice_get, Some, refl, sym, ap, subst, ◌∙◌}
 use Rattle.slot_rule.specs.declared.source.Source.{Source}
 use Rattle.slot_rule.specs.declared.stream_state.StreamState.{StreamState}
 use Rattle.slot_rule.specs.StreamState.{IsNumbered, packets_at}
