@@ -95,10 +95,10 @@ fn one_program(
     audios: ListOf<ListOf<AudioPacket>>,
 ) -> Result<Table, OutOfMemory>
     ensures { IfOk result (λ table. table ≡ record {
-        slot = slot;
-        nodes = 1;
-        evaluations = 0;
-        programs = record { vbv = 112; units = units; audios = audios } ∷ [];
+      slot = slot;
+      nodes = 1;
+      evaluations = 0;
+      programs = record { vbv = 112; units = units; audios = audios } ∷ [];
     }) }
 {
     let mut programs = ListOf::new(alloc);
