@@ -1,15 +1,11 @@
 -- What waits in a decoder's buffers after some slots: greatest values and sums over the whole list of rows.
-use Rattle.std.specs.Prelude.{ℕ, ◌+◌, ◌-◌, ◌*◌, ◌==◌, nat_lt, List, [], ◌∷◌, length, map, max, sum, sum_by, Bool, false, ◌&&◌, if◌then◌else◌}
+use Rattle.std.specs.Prelude.{ℕ, ◌+◌, ◌-◌, ◌*◌, ◌≤◌, ◌==◌, nat_lt, List, [], ◌∷◌, length, map, max, sum, sum_by, Bool, false, ◌&&◌, if◌then◌else◌}
 use Rattle.slot_rule.specs.declared.constants.TheConstants.{SUBTICKS_PER_TICK, PACKET_BYTES, VIDEO_TB_SUBTICKS, AUDIO_TB_SUBTICKS, MB_SUBTICKS, VIDEO_TB_GATE, AUDIO_TB_GATE, EB_UNIT_BYTES, VIDEO_BYTES, MB_SPARE_BYTES, AUDIO_BYTES}
-use Rattle.slot_rule.specs.declared.sent.Sent.{Sent}
 use Rattle.slot_rule.specs.declared.sent.Sent.TheVariants.{Pcr}
-use Rattle.slot_rule.specs.Streams.{Kind, Video, Audio, Packet}
-
+use Rattle.slot_rule.specs.Streams.{Kind, Video, Audio}
 -- what stands in a slot: what the timetable has there, a packet of a stream, or a null packet
-pub data Row : Type 0 where
-  Reserved : Sent → Row
-  Carries : (stream : ℕ) → Packet → Row
-  Empty : Row
+pub use Rattle.slot_rule.specs.declared.row.Row.{Row}
+pub use Rattle.slot_rule.specs.declared.row.Row.TheVariants.{Reserved, Carries, Empty}
 
 -- the row carries payload of the stream
 abbrev pub is_of : ℕ → Row → Bool
@@ -80,3 +76,8 @@ transport_gate Audio = AUDIO_TB_GATE * AUDIO_TB_SUBTICKS
 -- the work that may wait in the multiplexing buffer where a packet goes
 abbrev pub multiplex_gate : (vbv : ℕ) → ℕ
 multiplex_gate vbv = (VIDEO_BYTES - EB_UNIT_BYTES * vbv - MB_SPARE_BYTES) * MB_SUBTICKS
+
+-- a packet may go where so much work waits in the multiplexing buffer; an audio stream has none
+abbrev pub MultiplexPermits : Kind → (work : ℕ) → Type 0
+MultiplexPermits (Video program vbv) work = work ≤ multiplex_gate vbv
+MultiplexPermits Audio work = Unit {0}

@@ -1,4 +1,9 @@
 pub mod Buffers
+pub mod Heads
 pub mod Schedule
+pub mod Slots
+pub mod Source
+pub mod States
+pub mod StreamState
 pub mod Streams
 pub mod Timetable

@@ -5,7 +5,7 @@ use Rattle.slot_rule.specs.declared.constants.TheConstants.{SUBTICKS_PER_TICK, H
 use Rattle.slot_rule.specs.declared.sent.Miss.{Miss}
 use Rattle.slot_rule.specs.Timetable.{reserved}
 use Rattle.slot_rule.specs.Streams.{Kind, Video, Audio, Packet, Stream, streams_of}
-use Rattle.slot_rule.specs.Buffers.{Row, Reserved, Carries, Empty, is_of, transport_work, multiplex_work, outstanding, main_bytes, transport_gate, multiplex_gate}
+use Rattle.slot_rule.specs.Buffers.{Row, Reserved, Carries, Empty, is_of, transport_work, multiplex_work, outstanding, main_bytes, transport_gate, MultiplexPermits}
 
 -- the first packet of the stream of this number that stands in none of the rows
 abbrev pub IsHead : List Stream → List Row → (stream : ℕ) → Kind → Packet → Type 0
@@ -13,15 +13,10 @@ IsHead streams rows stream kind packet =
     (packets : List Packet) × (slice_get streams stream ≡ Some (record { kind = kind; packets = packets }))
     × (slice_get packets (count_by (is_of stream) rows) ≡ Some packet)
 
--- the multiplexing buffer permits it; an audio stream has none
-abbrev pub MultiplexPermits : (slot stream : ℕ) → Kind → List Row → Type 0
-MultiplexPermits slot stream (Video program vbv) rows = multiplex_work slot stream rows ≤ multiplex_gate vbv
-MultiplexPermits slot stream Audio rows = Unit {0}
-
 -- the packet may go in the slot after these rows, by the gates of its buffers
 pub record IsPermitted (slot : ℕ) (rows : List Row) (stream : ℕ) (kind : Kind) (packet : Packet) : Type 0 where
   pub transport : transport_work slot stream kind rows ≤ transport_gate kind
-  pub multiplex : MultiplexPermits slot stream kind rows
+  pub multiplex : MultiplexPermits kind (multiplex_work slot stream rows)
   pub main : outstanding stream (length rows * slot) rows + packet.payload ≤ main_bytes kind
   pub hold : packet.gone ≤ length rows * slot + HOLD_TICKS
 

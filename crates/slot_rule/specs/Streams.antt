@@ -6,19 +6,11 @@ use Rattle.version_table.specs.declared.table.ProgramRow.{ProgramRow}
 use Rattle.version_table.specs.declared.table.Table.{Table}
 use Rattle.version_table.specs.Choice.{version_at}
 use Rattle.slot_rule.specs.declared.constants.TheConstants.{PAYLOAD_BYTES}
-
 -- the video of a program, with the size of its elementary buffer in units of 2,048 bytes, or an audio stream
-pub data Kind : Type 0 where
-  Video : (program vbv : ℕ) → Kind
-  Audio : Kind
-
+pub use Rattle.slot_rule.specs.declared.kind.Kind.{Kind}
+pub use Rattle.slot_rule.specs.declared.kind.Kind.TheVariants.{Video, Audio}
 -- a packet of a stream: the unit or audio packet that it is of, its place within it, its payload bytes, and when these are wanted and gone, in ticks
-pub record Packet : Type 0 where
-  pub item : ℕ
-  pub piece : ℕ
-  pub payload : ℕ
-  pub due : ℕ
-  pub gone : ℕ
+pub use Rattle.slot_rule.specs.declared.row.Packet.{Packet}
 
 pub record Stream : Type 0 where
   pub kind : Kind

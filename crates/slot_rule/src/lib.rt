@@ -6,9 +6,24 @@
 //! Stands on `version_table`.
 #![tactic(auto)]
 
+mod after;
 pub mod constants;
+mod heads;
+mod kind;
+mod laws;
+mod misses;
+mod row;
 mod sent;
+mod slot;
+mod source;
+mod states;
+mod stream_state;
 mod timetable;
 
+pub use laws::{first_miss_is_one, no_miss_where_scheduled, schedules_agree};
+pub use misses::first_miss;
 pub use sent::{Miss, Sent};
 pub use timetable::Timetable;
+
+#[cfg(test)]
+mod tests;

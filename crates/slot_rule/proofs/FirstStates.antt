@@ -1,0 +1,68 @@
+-- The streams of the first programs of a table, for a loop over its programs.
+use Rattle.std.proofs.Common.{◌≡◌, ℕ, suc, ◌+◌, ◌<◌, ◌≤◌, List, [], ◌∷◌, ◌++◌, length, map, get_or, take, drop, sum_by, sym, ap, subst, ◌∙◌, zero-add, arith}
+use Rattle.std.proofs.lemmas.List.{length-map, length-append, length-take-le, take_more, take-append-drop}
+use Rattle.std.proofs.lemmas.List.Concat.{flat_map-append}
+use Rattle.std.proofs.lemmas.List.Sums.{sum_by_more_le}
+use Rattle.std.proofs.lemmas.Slice.Zip.{AllZip-long}
+use Rattle.version_table.specs.declared.limits.TheConstants.{UNITS_MOST}
+use Rattle.version_table.specs.declared.table.ProgramRow.{ProgramRow}
+use Rattle.version_table.specs.declared.table.Table.{Table}
+use Rattle.version_table.specs.declared.table.Unit.{Unit as CodedUnit}
+use Rattle.version_table.specs.Table.{IsValidTable, units_of}
+use Rattle.version_table.specs.Choice.{Fits, HasVersion}
+use Rattle.slot_rule.specs.declared.source.Source.TheVariants.{Units}
+use Rattle.slot_rule.specs.declared.states.TheConstants.{STREAMS_MOST}
+use Rattle.slot_rule.specs.declared.stream_state.StreamState.{StreamState}
+use Rattle.slot_rule.specs.Source.{HasSizes, IsPlace, program_at}
+use Rattle.slot_rule.specs.States.{stream_of}
+use Rattle.slot_rule.specs.Streams.{Stream, streams_from, streams_of}
+use Rattle.slot_rule.proofs.RuleStreams.{all_units, streams_in, streams_from-push, length-streams_from, streams_of-few, HasSizes-at_program}
+
+-- the units of the first programs are no more than all
+all_units_of_front : (rows : List ProgramRow) (p : ℕ) → length (all_units (take p rows)) ≤ length (all_units rows)
+all_units_of_front rows p =
+    let split : all_units rows ≡ all_units (take p rows) ++ all_units (drop p rows) = ap all_units (sym (take-append-drop p rows)) ∙ flat_map-append (λ (row : ProgramRow). row.units) (take p rows) (drop p rows) in
+    omega (arith, ap (λ (units : List CodedUnit). length units) split, length-append (all_units (take p rows)) (all_units (drop p rows)))
+
+pub all_units_more : (rows : List ProgramRow) (p : ℕ) (d : ProgramRow) → p < length rows → length (all_units (take (p + 1) rows)) ≡ length (all_units (take p rows)) + length (get_or rows p d).units
+all_units_more rows p d within =
+    let row = get_or rows p d in
+    let more : all_units (take (p + 1) rows) ≡ all_units (take p rows) ++ (row.units ++ []) =
+    ap all_units (take_more rows p d within) ∙ flat_map-append (λ (r : ProgramRow). r.units) (take p rows) (row ∷ []) in
+    omega (arith, ap (λ (units : List CodedUnit). length units) more, length-append (all_units (take p rows)) (row.units ++ []), length-append row.units [])
+
+-- the place of the next program's first unit is small
+pub units_small : (table : Table) (p : ℕ) (d : ProgramRow) → IsValidTable table → p < length table.programs
+    → length (all_units (take p table.programs)) + length (get_or table.programs p d).units ≤ UNITS_MOST
+units_small table p d valid within = omega (arith, all_units_more table.programs p d within, all_units_of_front table.programs (p + 1), valid.units)
+
+-- the units of a program stand where those of the programs before it end
+pub place_of_program : (table : Table) (choice : List ℕ) (p first : ℕ) → IsValidTable table → Fits table choice → p < length table.programs
+    → first ≡ length (all_units (take p table.programs)) → IsPlace table choice (Units p first)
+place_of_program table choice p first valid fits within first_is =
+    let long : length choice ≡ length (units_of table) = AllZip-long HasVersion (units_of table) choice fits in
+    let sizes : HasSizes (program_at table p).units (drop (length (all_units (take p table.programs))) choice) = HasSizes-at_program table choice p (record { vbv = 0; units = []; audios = [] }) valid fits within in
+    (within, omega (arith, all_units_of_front table.programs p), subst (λ n. HasSizes (program_at table p).units (drop n choice)) (sym first_is) sizes)
+
+-- there is room for the streams of the next program
+pub room_for_program : (table : Table) (choice : List ℕ) (p : ℕ) (states : List StreamState) → IsValidTable table → p < length table.programs
+    → map (stream_of table choice) states ≡ streams_from 0 (take p table.programs) choice → length states + (1 + length (program_at table p).audios) ≤ STREAMS_MOST
+room_for_program table choice p states valid within streams =
+    let many : length states ≡ sum_by (λ row. suc (length row.audios)) (take p table.programs) =
+    sym (length-map states (stream_of table choice)) ∙ ap (λ (s : List Stream). length s) streams ∙ length-streams_from 0 (take p table.programs) choice in
+    let all : length (streams_of table choice) ≡ sum_by (λ row. suc (length row.audios)) table.programs = length-streams_from 0 table.programs choice in
+    let more = sum_by_more_le (λ row. suc (length row.audios)) table.programs p (record { vbv = 0; units = []; audios = [] }) within in
+    omega (arith, streams_of-few table choice valid)
+
+-- the streams of one more program
+pub streams_more : (table : Table) (choice : List ℕ) (p first : ℕ) (olds news : List StreamState) → p < length table.programs → first ≡ length (all_units (take p table.programs))
+    → map (stream_of table choice) olds ≡ streams_from 0 (take p table.programs) choice
+    → map (stream_of table choice) news ≡ map (stream_of table choice) olds ++ streams_in p (program_at table p) (drop first choice)
+    → map (stream_of table choice) news ≡ streams_from 0 (take (p + 1) table.programs) choice
+streams_more table choice p first olds news within first_is streams added =
+    let row = program_at table p in
+    let number : 0 + length (take p table.programs) ≡ p = zero-add _ ∙ length-take-le p table.programs (omega arith) in
+    added ∙ ap (λ (s : List Stream). s ++ streams_in p row (drop first choice)) streams
+    ∙ ap (λ n. streams_from 0 (take p table.programs) choice ++ streams_in p row (drop n choice)) first_is
+    ∙ ap (λ n. streams_from 0 (take p table.programs) choice ++ streams_in n row (drop (length (all_units (take p table.programs))) choice)) (sym number)
+    ∙ sym (ap (λ (rows : List ProgramRow). streams_from 0 rows choice) (take_more table.programs p (record { vbv = 0; units = []; audios = [] }) within) ∙ streams_from-push 0 (take p table.programs) row choice)

@@ -1,0 +1,55 @@
+-- A list of states of which a loop changes one after another.
+use Rattle.std.proofs.Common.{◌≡◌, ℕ, zero, suc, ◌+◌, ◌<◌, ◌≤◌, List, [], ◌∷◌, length, get_or, set, slice_get, Some, refl, sym, ap, subst₂, ◌∙◌, inl, inr, length-set, arith}
+use Rattle.std.proofs.lemmas.Bool.{cases_lt}
+use Rattle.std.proofs.lemmas.Option.{same_Some, slice_get-get_or, slice_get_within}
+use Rattle.slot_rule.specs.declared.stream_state.StreamState.{StreamState}
+use Rattle.slot_rule.specs.States.{ChangesEach}
+
+pub slice_get-set_same : {X : Type 0} (xs : List X) (n : ℕ) (x : X) → n < length xs → slice_get (set xs n x) n ≡ Some x
+slice_get-set_same [] n x within = absurd (omega arith)
+slice_get-set_same (y ∷ xs) zero x within = refl
+slice_get-set_same (y ∷ xs) (suc n) x within = slice_get-set_same xs n x (omega arith)
+
+pub slice_get-set_other : {X : Type 0} (xs : List X) (n k : ℕ) (x : X) → (k ≡ n → ⊥) → slice_get (set xs n x) k ≡ slice_get xs k
+slice_get-set_other [] n k x apart = refl
+slice_get-set_other (y ∷ xs) zero zero x apart = absurd (apart refl)
+slice_get-set_other (y ∷ xs) zero (suc k) x apart = refl
+slice_get-set_other (y ∷ xs) (suc n) zero x apart = refl
+slice_get-set_other (y ∷ xs) (suc n) (suc k) x apart = slice_get-set_other xs n k x (λ e. apart (ap suc e))
+
+-- the first n states are changed, and the others are as they were
+pub record ChangesFirst (R : StreamState → StreamState → Type 0) (n : ℕ) (olds news : List StreamState) : Type 0 where
+  pub as_many : length news ≡ length olds
+  pub each : (k : ℕ) (old new : StreamState) → k < n → slice_get olds k ≡ Some old → slice_get news k ≡ Some new → R old new
+  pub others : (k : ℕ) → n ≤ k → slice_get news k ≡ slice_get olds k
+
+pub ChangesFirst-none : (R : StreamState → StreamState → Type 0) (olds : List StreamState) → ChangesFirst R 0 olds olds
+ChangesFirst-none R olds = record { as_many = refl; each = λ k old new below. absurd (omega arith); others = λ k from. refl }
+
+-- one more state is changed
+pub ChangesFirst-more : (R : StreamState → StreamState → Type 0) (n : ℕ) (olds news : List StreamState) (d new : StreamState) → ChangesFirst R n olds news → n < length news
+    → R (get_or news n d) new → ChangesFirst R (n + 1) olds (set news n new)
+ChangesFirst-more R n olds news d new first within related = record {
+  as_many = length-set news n new ∙ first.as_many;
+  each = λ k old new' below there there'. elim (cases_lt k n) as (λ _. R old new') [
+    | inl before ↦ first.each k old new' before there (sym (slice_get-set_other news n k new (λ e. absurd (omega arith))) ∙ there')
+    | inr here ↦
+        (let same : k ≡ n = omega arith in
+        let at : slice_get (set news n new) n ≡ Some new' = ap (λ i. slice_get (set news n new) i) (sym same) ∙ there' in
+        let is : new ≡ new' = same_Some new new' (sym (slice_get-set_same news n new within) ∙ at) in
+        let was : get_or news n d ≡ old = same_Some (get_or news n d) old (sym (slice_get-get_or news n d within) ∙ first.others n (omega arith) ∙ ap (λ i. slice_get olds i) (sym same) ∙ there) in
+        subst₂ R was is related)
+  ];
+  others = λ k from. slice_get-set_other news n k new (λ e. absurd (omega arith)) ∙ first.others k (omega arith);
+}
+
+-- the state that is next to be changed is as it was
+pub ChangesFirst-next : (R : StreamState → StreamState → Type 0) (n : ℕ) (olds news : List StreamState) (d : StreamState) → ChangesFirst R n olds news → n < length news
+    → slice_get olds n ≡ Some (get_or news n d)
+ChangesFirst-next R n olds news d first within = sym (first.others n (omega arith)) ∙ slice_get-get_or news n d within
+
+pub ChangesEach-from_first : (R : StreamState → StreamState → Type 0) (n : ℕ) (olds news : List StreamState) → ChangesFirst R n olds news → length news ≤ n → ChangesEach R olds news
+ChangesEach-from_first R n olds news first all = record {
+  as_many = first.as_many;
+  each = λ k old new there there'. first.each k old new (omega (arith, slice_get_within news k new there')) there there';
+}

@@ -1,0 +1,84 @@
+-- The worked examples, computed from the definitions.
+use Rattle.std.proofs.Common.{◌≡◌, ℕ, ◌*◌, take, List, [], ◌∷◌, refl, ◌∙◌}
+use Rattle.version_table.specs.declared.table.AudioPacket.{AudioPacket}
+use Rattle.version_table.specs.declared.table.ProgramRow.{ProgramRow}
+use Rattle.version_table.specs.declared.table.Table.{Table}
+use Rattle.slot_rule.specs.declared.constants.TheConstants.{AUDIO_TB_SUBTICKS}
+use Rattle.slot_rule.specs.Streams.{Audio}
+use Rattle.slot_rule.specs.Buffers.{Row, transport_work}
+use Rattle.slot_rule.specs.Schedule.{IsSchedule, IsScheduled, IsFirstMiss}
+use Rattle.slot_rule.proofs.RuleRun.{Run, Clean, Missed, first_rows, IsSchedule-from_run, IsFirstMiss-from_run}
+use Rattle.slot_rule.proofs.RuleSchedules.{slots_of, slots_of-same}
+
+-- ---- tables of 1,080 ticks a slot
+abbrev table_of : List ProgramRow → Table
+table_of programs = record { slot = 1080; nodes = 4; evaluations = 0; programs = programs }
+
+-- a program with one unit, in one version
+abbrev pub one_unit : (due bytes : ℕ) → ProgramRow
+one_unit due bytes = record { vbv = 112; units = record { due = due; versions = record { items = record { bytes = bytes; distortion = 0 } ∷ [] } } ∷ []; audios = [] }
+
+-- a program with no unit, and an audio stream of three full packets that are due at one time
+abbrev three_packets : (due : ℕ) → ProgramRow
+three_packets due =
+    let packet : AudioPacket = record { due = due; gone = due; bytes = 184 } in
+    record { vbv = 112; units = []; audios = (packet ∷ packet ∷ packet ∷ []) ∷ [] }
+
+-- the rows of a run
+abbrev rows_in : Run → List Row
+rows_in (Clean rows) = rows
+rows_in (Missed earlier last found) = earlier
+
+-- a unit of 1,840 bytes that is just in time
+abbrev just_in_time : Table
+just_in_time = table_of (one_unit 36936 1840 ∷ [])
+
+unit_schedule : IsSchedule just_in_time (0 ∷ []) (rows_in (first_rows just_in_time (0 ∷ []) 23))
+unit_schedule = IsSchedule-from_run just_in_time (0 ∷ []) 23 (rows_in (first_rows just_in_time (0 ∷ []) 23)) refl refl
+
+pub unit_scheduled : IsScheduled just_in_time (0 ∷ [])
+unit_scheduled = (rows_in (first_rows just_in_time (0 ∷ []) 23), unit_schedule)
+
+pub unit_slots : (rows : List Row) → IsSchedule just_in_time (0 ∷ []) rows → slots_of 0 0 rows ≡ 3 ∷ 5 ∷ 7 ∷ 9 ∷ 12 ∷ 14 ∷ 16 ∷ 18 ∷ 20 ∷ 22 ∷ []
+unit_slots rows schedule = slots_of-same just_in_time (0 ∷ []) 0 rows (rows_in (first_rows just_in_time (0 ∷ []) 23)) schedule unit_schedule ∙ refl
+
+-- one tick less, and its last packet misses
+pub unit_misses : IsFirstMiss (table_of (one_unit 36935 1840 ∷ [])) (0 ∷ []) (record { stream = 0; unit = 0; slot = 22; due = 36935 })
+unit_misses = IsFirstMiss-from_run (table_of (one_unit 36935 1840 ∷ [])) (0 ∷ []) 23 (record { stream = 0; unit = 0; slot = 22; due = 36935 }) refl
+
+-- two programs with one packet each, due at one time: the lower stream goes first
+abbrev two_programs : Table
+two_programs = table_of (one_unit 60000 184 ∷ one_unit 60000 184 ∷ [])
+
+two_schedule : IsSchedule two_programs (0 ∷ 0 ∷ []) (rows_in (first_rows two_programs (0 ∷ 0 ∷ []) 7))
+two_schedule = IsSchedule-from_run two_programs (0 ∷ 0 ∷ []) 7 (rows_in (first_rows two_programs (0 ∷ 0 ∷ []) 7)) refl refl
+
+pub two_scheduled : IsScheduled two_programs (0 ∷ 0 ∷ [])
+two_scheduled = (rows_in (first_rows two_programs (0 ∷ 0 ∷ []) 7), two_schedule)
+
+pub lower_slots : (rows : List Row) → IsSchedule two_programs (0 ∷ 0 ∷ []) rows → slots_of 0 0 rows ≡ 5 ∷ []
+lower_slots rows schedule = slots_of-same two_programs (0 ∷ 0 ∷ []) 0 rows (rows_in (first_rows two_programs (0 ∷ 0 ∷ []) 7)) schedule two_schedule ∙ refl
+
+pub higher_slots : (rows : List Row) → IsSchedule two_programs (0 ∷ 0 ∷ []) rows → slots_of 1 0 rows ≡ 6 ∷ []
+higher_slots rows schedule = slots_of-same two_programs (0 ∷ 0 ∷ []) 1 rows (rows_in (first_rows two_programs (0 ∷ 0 ∷ []) 7)) schedule two_schedule ∙ refl
+
+-- audio packets that the transport buffer's gate parts, the last of which is just in time
+abbrev three_in_time : Table
+three_in_time = table_of (three_packets 71352 ∷ [])
+
+audio_schedule : IsSchedule three_in_time [] (rows_in (first_rows three_in_time [] 10))
+audio_schedule = IsSchedule-from_run three_in_time [] 10 (rows_in (first_rows three_in_time [] 10)) refl refl
+
+pub audio_scheduled : IsScheduled three_in_time []
+audio_scheduled = (rows_in (first_rows three_in_time [] 10), audio_schedule)
+
+pub audio_slots : (rows : List Row) → IsSchedule three_in_time [] rows → slots_of 1 0 rows ≡ 3 ∷ 4 ∷ 9 ∷ []
+audio_slots rows schedule = slots_of-same three_in_time [] 1 rows (rows_in (first_rows three_in_time [] 10)) schedule audio_schedule ∙ refl
+
+-- at slot 9 the work that waits is exactly that of 316 bytes
+pub audio_work : transport_work 1080 1 Audio (take 9 (rows_in (first_rows three_in_time [] 10))) ≡ 316 * AUDIO_TB_SUBTICKS
+audio_work = refl
+
+-- one tick less, and the last of them misses
+pub audio_misses : IsFirstMiss (table_of (three_packets 71351 ∷ [])) [] (record { stream = 1; unit = 2; slot = 9; due = 71351 })
+audio_misses = IsFirstMiss-from_run (table_of (three_packets 71351 ∷ [])) [] 10 (record { stream = 1; unit = 2; slot = 9; due = 71351 }) refl

@@ -1,0 +1,24 @@
+//! Laws of the slot rule, as functions that do nothing.
+
+ghost use Rattle.std.specs.Prelude.{◌≡◌, ℕ, ◌≤◌, List, length, take};
+ghost use Rattle.version_table.specs.declared.table.Table.{Table};
+ghost use Rattle.slot_rule.specs.declared.sent.Miss.{Miss};
+ghost use Rattle.slot_rule.specs.Buffers.{Row};
+ghost use Rattle.slot_rule.specs.Schedule.{FollowRule, IsSchedule, IsScheduled, IsFirstMiss};
+
+/// A choice that is scheduled has no first miss.
+pub fn no_miss_where_scheduled()
+    ensures { (table : Table) (choice : List ℕ) (miss : Miss) → IsScheduled table choice → IsFirstMiss table choice miss → ⊥ }
+{}
+
+/// A table has at most one first miss under a choice.
+pub fn first_miss_is_one()
+    ensures { (table : Table) (choice : List ℕ) (a b : Miss) → IsFirstMiss table choice a → IsFirstMiss table choice b → a ≡ b }
+{}
+
+/// At most one list of rows of each length is a schedule of a choice, and lists that follow the rule agree as far as
+/// both go.
+pub fn schedules_agree()
+    ensures one { (table : Table) (choice : List ℕ) (a b : List Row) → IsSchedule table choice a → IsSchedule table choice b → length a ≡ length b → a ≡ b }
+    ensures fronts { (table : Table) (choice : List ℕ) (a b : List Row) → FollowRule table choice a → FollowRule table choice b → (n : ℕ) → n ≤ length a → n ≤ length b → take n a ≡ take n b }
+{}

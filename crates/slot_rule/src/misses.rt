@@ -1,0 +1,32 @@
+ghost use Rattle.std.specs.Prelude.{◌≡◌, ◌↔◌, Some, IsNone};
+ghost use Rattle.version_table.specs.Table.{IsValidTable};
+ghost use Rattle.version_table.specs.Choice.{Fits};
+ghost use Rattle.slot_rule.specs.declared.sent.Miss.{Miss};
+ghost use Rattle.slot_rule.specs.Schedule.{IsScheduled, IsFirstMiss};
+
+use crate::after::After;
+use crate::sent::Miss;
+use crate::slot::run_slot;
+use crate::states::first_states;
+use version_table::limits::TIME_SLOTS_MOST;
+use version_table::{Choice, Table};
+
+/// The first miss of a table under a choice; none where the choice is scheduled. Takes no memory.
+pub fn first_miss(table: &Table, choice: &Choice) -> Option<Miss>
+    requires valid { IsValidTable table.now }
+    requires fits { Fits table.now choice.now }
+    ensures scheduled { IsNone result ↔ IsScheduled table.now choice.now }
+    ensures missed { (miss : Miss) → (result ≡ Some miss) ↔ IsFirstMiss table.now choice.now miss }
+{
+    let mut states = first_states(table, choice);
+    let states = states.as_mut_slice();
+    for n in 0..TIME_SLOTS_MOST as u32 {
+        let row = run_slot(table, choice, states, n);
+        match After::slot(states, row, table.slot, n) {
+            After::Missed(miss) => return Some(miss),
+            After::AllSent => return None,
+            After::Waiting => {}
+        }
+    }
+    None
+}
