@@ -1,0 +1,4 @@
+pub mod Bits
+pub mod AdaptationField
+pub mod Packet
+pub mod TransportStream

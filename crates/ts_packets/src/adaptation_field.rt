@@ -1,0 +1,90 @@
+ghost use Rattle.std.specs.Prelude.{◌≡◌, ◌*◌, ◌^◌, ◌<◌, ◌≤◌, length, if◌then◌else◌};
+ghost use Rattle.ts_packets.specs.AdaptationField.{field_of, is_too_short, ticks_of, written_flags, written_pcr, written_field_bytes, IsPcrInRange, least_length};
+
+use crate::packet_fault::PacketFault;
+
+const DISCONTINUITY_INDICATOR: u8 = 1 << 7;
+
+const PCR_FLAG: u8 = 1 << 4;
+
+const STUFFING_BYTE: u8 = 0xFF;
+/// Ticks of 1/27,000,000 s in one of the PCR's base, which counts 1/90,000 s.
+const TICKS_PER_BASE: u64 = 300;
+
+/// What is kept of an adaptation field (ISO/IEC 13818-1, 2.4.3.4). Its other flags and parts are passed over.
+#[derive(Clone, Copy, Debug, PartialEq, Eq)]
+pub struct AdaptationField {
+    /// `discontinuity_indicator`.
+    pub discontinuity: bool,
+    /// The program clock reference in ticks of 1/27,000,000 s: 300 times its base, and its extension.
+    pub pcr: Option<u64>,
+}
+
+impl AdaptationField {
+    /// The field of these bytes behind its length byte.
+    pub(crate) fn read(bytes: &[u8]) -> Result<AdaptationField, PacketFault>
+        ensures { result ≡ (if is_too_short bytes.now then Err PacketFault.BadField else Ok (field_of bytes.now)) }
+    {
+        let Some(flags) = bytes.first() else {
+            return Ok(AdaptationField {
+                discontinuity: false,
+                pcr: None,
+            });
+        };
+        let discontinuity = flags & DISCONTINUITY_INDICATOR != 0;
+        let pcr = if flags & PCR_FLAG == 0 {
+            None
+        } else if bytes.len() < 7 {
+            return Err(PacketFault::BadField);
+        } else {
+            Some(read_pcr(bytes))
+        };
+        Ok(AdaptationField { discontinuity, pcr })
+    }
+
+    /// Fills the bytes behind the length byte: flags, PCR and stuffing.
+    pub(crate) fn write(&self, into: &mut [u8])
+        requires pcr { IsPcrInRange self.now }
+        requires room { least_length self.now ≤ length into.old }
+        ensures { into.new ≡ written_field_bytes self.now (length into.old) }
+    {
+        into.fill(STUFFING_BYTE);
+        if !into.is_empty() {
+            into[0] = self.flags();
+        }
+        if let Some(ticks) = self.pcr {
+            into[1..7].copy_from_slice(&pcr_bytes(ticks));
+        }
+    }
+
+    fn flags(&self) -> u8
+        ensures { result ≡ written_flags self.now }
+    {
+        let discontinuity = if self.discontinuity {
+            DISCONTINUITY_INDICATOR
+        } else {
+            0
+        };
+        let pcr = if self.pcr.is_some() { PCR_FLAG } else { 0 };
+        discontinuity | pcr
+    }
+}
+
+fn read_pcr(bytes: &[u8]) -> u64
+    requires { 7 ≤ length bytes.now }
+    ensures { result ≡ ticks_of bytes.now }
+{
+    let word = u64::from_be_bytes([
+        0, 0, bytes[1], bytes[2], bytes[3], bytes[4], bytes[5], bytes[6],
+    ]);
+    (word >> 15) * TICKS_PER_BASE + (word & 0x1FF)
+}
+
+fn pcr_bytes(ticks: u64) -> [u8; 6]
+    requires { ticks < 300 * 2 ^ 33 }
+    ensures { result ≡ written_pcr (Some ticks) }
+{
+    let word = (ticks / TICKS_PER_BASE) << 15 | 0x3F << 9 | ticks % TICKS_PER_BASE;
+    let [_, _, a, b, c, d, e, f] = word.to_be_bytes();
+    [a, b, c, d, e, f]
+}

@@ -1,0 +1,163 @@
+ghost use Rattle.std.specs.Prelude.{◌≡◌, ◌≢◌, ℕ, true, false, ◌+◌, ◌*◌, ◌^◌, ◌<◌, ◌≤◌, length, IfOk, IfErr, IfSome, IsOkAnd};
+ghost use Rattle.std.specs.Option.{option_map};
+ghost use Rattle.std.specs.Result.{result_ok, result_err};
+ghost use Rattle.ts_packets.specs.AdaptationField.{IsPcrInRange};
+ghost use Rattle.ts_packets.specs.Packet.{PacketRecord, record_of, sync_byte, packet_identifier, IsPacket, refusal, packet_of, IsPayloadLength, written, written_header, has_fault, fields_of};
+ghost use Rattle.ts_packets.specs.declared.packet_fault.PacketFault.TheVariants.{BadField};
+
+use crate::adaptation_field::AdaptationField;
+use crate::packet_fault::PacketFault;
+
+/// Length of a transport packet in bytes.
+pub const PACKET_BYTES: usize = 188;
+
+/// Length of its header in bytes.
+const HEADER_BYTES: usize = 4;
+
+/// The bytes that the header and an adaptation field's length byte leave.
+const MOST_FIELD_BYTES: usize = 183;
+
+const SYNC_BYTE: u8 = 0x47;
+
+/// `transport_error_indicator` in the header's second byte.
+const ERROR_INDICATOR: u8 = 1 << 7;
+
+/// `payload_unit_start_indicator` in the header's second byte.
+const START_INDICATOR: u8 = 1 << 6;
+
+/// The high bits of the PID in the header's second byte.
+const PID_HIGH: u8 = 0x1F;
+
+/// `transport_scrambling_control` in the header's fourth byte.
+const SCRAMBLING_CONTROL: u8 = 0b11 << 6;
+
+/// The bit of `adaptation_field_control` that says that there is a field.
+const FIELD_PRESENT: u8 = 1 << 5;
+
+/// The bit of `adaptation_field_control` that says that there is payload.
+const PAYLOAD_PRESENT: u8 = 1 << 4;
+
+/// `continuity_counter` in the header's fourth byte.
+const CONTINUITY_COUNTER: u8 = 0xF;
+
+/// What is kept of a transport packet (ISO/IEC 13818-1, 2.4.3.2). Its priority is passed over.
+#[derive(Clone, Copy, Debug, PartialEq, Eq)]
+pub struct Packet<'a> {
+    /// The PID, 13 bits.
+    pub pid: u16,
+    /// `payload_unit_start_indicator`.
+    pub start: bool,
+    /// `continuity_counter`, 4 bits.
+    pub counter: u8,
+    /// The adaptation field, where there is one.
+    pub field: Option<AdaptationField>,
+    /// The payload, empty where there is none.
+    pub payload: &'a [u8],
+}
+
+impl<'a> Packet<'a> {
+    /// The packet that the bytes stand for. An error is the first fault that they have, in the order of `PacketFault`.
+    pub fn read(bytes: &'a [u8; PACKET_BYTES]) -> Result<Packet<'a>, PacketFault>
+        // What is read stands for the bytes, and what stands for the bytes is read.
+        ensures packet { IfOk result (λ packet. IsPacket (record_of packet) bytes.now) }
+        ensures only { (packet : PacketRecord) → IsPacket packet bytes.now → IsOkAnd result (λ read. record_of read ≡ packet) }
+        // What is answered is the first fault, and where there is none the packet.
+        ensures fault { result_err result ≡ refusal bytes.now }
+        ensures exact { option_map record_of (result_ok result) ≡ packet_of bytes.now }
+    {
+        let pid = pid_of(bytes)?;
+        if bytes[1] & ERROR_INDICATOR != 0 {
+            return Err(PacketFault::ErrorFlag);
+        }
+        if bytes[3] & SCRAMBLING_CONTROL != 0 {
+            return Err(PacketFault::Scrambled);
+        }
+        let (field, payload) = field_and_payload(bytes)?;
+        Ok(Packet {
+            pid,
+            start: bytes[1] & START_INDICATOR != 0,
+            counter: bytes[3] & CONTINUITY_COUNTER,
+            field,
+            payload,
+        })
+    }
+
+    /// Writes the packet: priority and scrambling 0, reserved bits 1, and stuffing bytes FF in its adaptation field up
+    /// to the payload. A payload of exactly 184 bytes has no field. Beside a field stand at most 183 bytes where it
+    /// says nothing, 182 with a discontinuity alone and 176 with a PCR, which is below 300 times 2^33.
+    pub fn write(&self, into: &mut [u8; PACKET_BYTES])
+        requires pid { self.now.pid < 2 ^ 13 }
+        requires counter { self.now.counter < 2 ^ 4 }
+        requires pcr { IfSome self.now.field IsPcrInRange }
+        requires payload { IsPayloadLength self.now.field (length self.now.payload.now) }
+        ensures packet { IsPacket (record_of self.now) into.new }
+        ensures bytes { into.new ≡ written (record_of self.now) }
+    {
+        into[..HEADER_BYTES].copy_from_slice(&self.header());
+        if let Some(field) = self.field {
+            let length = MOST_FIELD_BYTES - self.payload.len();
+            into[HEADER_BYTES] = length as u8;
+            field.write(&mut into[HEADER_BYTES + 1..HEADER_BYTES + 1 + length]);
+        }
+        into[PACKET_BYTES - self.payload.len()..].copy_from_slice(self.payload);
+    }
+
+    fn header(&self) -> [u8; 4]
+        requires pid { self.now.pid < 2 ^ 13 }
+        requires counter { self.now.counter < 2 ^ 4 }
+        ensures { result ≡ written_header (record_of self.now) }
+    {
+        let start = if self.start { START_INDICATOR } else { 0 };
+        let field = if self.field.is_some() {
+            FIELD_PRESENT
+        } else {
+            0
+        };
+        let payload = if self.payload.is_empty() {
+            0
+        } else {
+            PAYLOAD_PRESENT
+        };
+        let [high, low] = self.pid.to_be_bytes();
+        [SYNC_BYTE, start | high, low, field | payload | self.counter]
+    }
+}
+
+/// The adaptation field and the payload behind a header. The only error is BadField.
+fn field_and_payload(
+    bytes: &[u8; PACKET_BYTES],
+) -> Result<(Option<AdaptationField>, &[u8]), PacketFault>
+    ensures ok { IfOk result (λ read. (has_fault bytes.now BadField ≡ false)
+        × (read.0 ≡ (fields_of bytes.now).field) × (read.1.now ≡ (fields_of bytes.now).payload)) }
+    ensures err { IfErr result (λ fault. (fault ≡ BadField) × (has_fault bytes.now BadField ≡ true)) }
+{
+    let has_payload = bytes[3] & PAYLOAD_PRESENT != 0;
+    if bytes[3] & FIELD_PRESENT == 0 {
+        if has_payload {
+            return Ok((None, &bytes[HEADER_BYTES..]));
+        }
+        return Err(PacketFault::BadField);
+    }
+    let length = bytes[HEADER_BYTES] as usize;
+    let is_allowed = if has_payload {
+        length < MOST_FIELD_BYTES
+    } else {
+        length == MOST_FIELD_BYTES
+    };
+    if !is_allowed {
+        return Err(PacketFault::BadField);
+    }
+    let field = AdaptationField::read(&bytes[HEADER_BYTES + 1..HEADER_BYTES + 1 + length])?;
+    Ok((Some(field), &bytes[HEADER_BYTES + 1 + length..]))
+}
+
+/// The PID of a packet, of which nothing but the sync byte is looked at. The error is Sync, where it isn't 0x47.
+pub fn pid_of(bytes: &[u8; PACKET_BYTES]) -> Result<u16, PacketFault>
+    ensures pid { IfOk result (λ pid. (sync_byte bytes.now ≡ 0x47) × (pid ≡ packet_identifier bytes.now)) }
+    ensures sync { IfErr result (λ fault. (fault ≡ PacketFault.Sync) × (sync_byte bytes.now ≢ 0x47)) }
+{
+    if bytes[0] != SYNC_BYTE {
+        return Err(PacketFault::Sync);
+    }
+    Ok(u16::from_be_bytes([bytes[1] & PID_HIGH, bytes[2]]))
+}
