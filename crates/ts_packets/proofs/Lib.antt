@@ -1,1 +1,4 @@
+mod Bits
+pub mod Elements
 mod Examples
+pub mod Refusals

@@ -21,6 +21,7 @@ pub struct AdaptationField {
 }
 
 impl AdaptationField {
+    #[tactic(auto, using(crate::proofs::Elements::elements))]
     /// The field of these bytes behind its length byte.
     pub(crate) fn read(bytes: &[u8]) -> Result<AdaptationField, PacketFault>
         ensures { result ≡ (if is_too_short bytes.now then Err PacketFault.BadField else Ok (field_of bytes.now)) }
@@ -70,6 +71,7 @@ impl AdaptationField {
     }
 }
 
+#[tactic(auto, using(crate::proofs::Elements::elements))]
 fn read_pcr(bytes: &[u8]) -> u64
     requires { 7 ≤ length bytes.now }
     ensures { result ≡ ticks_of bytes.now }

@@ -1,7 +1,7 @@
-ghost use Rattle.std.specs.Prelude.{◌≡◌, ◌≢◌, ℕ, true, false, ◌+◌, ◌*◌, ◌^◌, ◌<◌, ◌≤◌, length, IfOk, IfErr, IfSome, IsOkAnd};
+ghost use Rattle.std.specs.Prelude.{◌≡◌, ◌≢◌, ℕ, true, false, ◌+◌, ◌*◌, ◌^◌, ◌<◌, ◌≤◌, length, take, drop, IfOk, IfErr, IfSome, IsOkAnd};
 ghost use Rattle.std.specs.Option.{option_map};
 ghost use Rattle.std.specs.Result.{result_ok, result_err};
-ghost use Rattle.ts_packets.specs.AdaptationField.{IsPcrInRange};
+ghost use Rattle.ts_packets.specs.AdaptationField.{IsPcrInRange, field_of, is_too_short};
 ghost use Rattle.ts_packets.specs.Packet.{PacketRecord, record_of, sync_byte, packet_identifier, IsPacket, refusal, packet_of, IsPayloadLength, written, written_header, has_fault, fields_of};
 ghost use Rattle.ts_packets.specs.declared.packet_fault.PacketFault.TheVariants.{BadField};
 
@@ -56,6 +56,7 @@ pub struct Packet<'a> {
 }
 
 impl<'a> Packet<'a> {
+    #[tactic(auto, using(crate::proofs::Elements::elements))]
     /// The packet that the bytes stand for. An error is the first fault that they have, in the order of `PacketFault`.
     pub fn read(bytes: &'a [u8; PACKET_BYTES]) -> Result<Packet<'a>, PacketFault>
         // What is read stands for the bytes, and what stands for the bytes is read.
@@ -123,35 +124,8 @@ impl<'a> Packet<'a> {
     }
 }
 
-/// The adaptation field and the payload behind a header. The only error is BadField.
-fn field_and_payload(
-    bytes: &[u8; PACKET_BYTES],
-) -> Result<(Option<AdaptationField>, &[u8]), PacketFault>
-    ensures ok { IfOk result (λ read. (has_fault bytes.now BadField ≡ false)
-        × (read.0 ≡ (fields_of bytes.now).field) × (read.1.now ≡ (fields_of bytes.now).payload)) }
-    ensures err { IfErr result (λ fault. (fault ≡ BadField) × (has_fault bytes.now BadField ≡ true)) }
-{
-    let has_payload = bytes[3] & PAYLOAD_PRESENT != 0;
-    if bytes[3] & FIELD_PRESENT == 0 {
-        if has_payload {
-            return Ok((None, &bytes[HEADER_BYTES..]));
-        }
-        return Err(PacketFault::BadField);
-    }
-    let length = bytes[HEADER_BYTES] as usize;
-    let is_allowed = if has_payload {
-        length < MOST_FIELD_BYTES
-    } else {
-        length == MOST_FIELD_BYTES
-    };
-    if !is_allowed {
-        return Err(PacketFault::BadField);
-    }
-    let field = AdaptationField::read(&bytes[HEADER_BYTES + 1..HEADER_BYTES + 1 + length])?;
-    Ok((Some(field), &bytes[HEADER_BYTES + 1 + length..]))
-}
-
 /// The PID of a packet, of which nothing but the sync byte is looked at. The error is Sync, where it isn't 0x47.
+#[tactic(auto, using(crate::proofs::Elements::elements))]
 pub fn pid_of(bytes: &[u8; PACKET_BYTES]) -> Result<u16, PacketFault>
     ensures pid { IfOk result (λ pid. (sync_byte bytes.now ≡ 0x47) × (pid ≡ packet_identifier bytes.now)) }
     ensures sync { IfErr result (λ fault. (fault ≡ PacketFault.Sync) × (sync_byte bytes.now ≢ 0x47)) }
@@ -160,4 +134,38 @@ pub fn pid_of(bytes: &[u8; PACKET_BYTES]) -> Result<u16, PacketFault>
         return Err(PacketFault::Sync);
     }
     Ok(u16::from_be_bytes([bytes[1] & PID_HIGH, bytes[2]]))
+}
+
+/// The adaptation field and the payload behind a header. The only error is BadField.
+#[tactic(auto, using(crate::proofs::Elements::elements))]
+fn field_and_payload(
+    bytes: &[u8; PACKET_BYTES],
+) -> Result<(Option<AdaptationField>, &[u8]), PacketFault>
+    ensures ok { IfOk result (λ read. (has_fault bytes.now BadField ≡ false)
+        × (read.0 ≡ (fields_of bytes.now).field) × (read.1.now ≡ (fields_of bytes.now).payload)) }
+    ensures err { IfErr result (λ fault. (fault ≡ BadField) × (has_fault bytes.now BadField ≡ true)) }
+{
+    let length = bytes[HEADER_BYTES] as usize;
+    match (
+        bytes[3] & FIELD_PRESENT != 0,
+        bytes[3] & PAYLOAD_PRESENT != 0,
+    ) {
+        (false, true) => Ok((None, &bytes[HEADER_BYTES..])),
+        (true, false) if length == MOST_FIELD_BYTES => field_then_payload(bytes, length),
+        (true, true) if length < MOST_FIELD_BYTES => field_then_payload(bytes, length),
+        _ => Err(PacketFault::BadField),
+    }
+}
+
+fn field_then_payload(
+    bytes: &[u8; PACKET_BYTES],
+    length: usize,
+) -> Result<(Option<AdaptationField>, &[u8]), PacketFault>
+    requires { length ≤ 183 }
+    ensures ok { IfOk result (λ read. (is_too_short (take length (drop 5 bytes.now)) ≡ false)
+        × (read.0 ≡ Some (field_of (take length (drop 5 bytes.now)))) × (read.1.now ≡ drop (5 + length) bytes.now)) }
+    ensures err { IfErr result (λ fault. (fault ≡ BadField) × (is_too_short (take length (drop 5 bytes.now)) ≡ true)) }
+{
+    let field = AdaptationField::read(&bytes[HEADER_BYTES + 1..HEADER_BYTES + 1 + length])?;
+    Ok((Some(field), &bytes[HEADER_BYTES + 1 + length..]))
 }

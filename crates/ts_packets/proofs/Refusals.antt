@@ -1,0 +1,97 @@
+-- Bytes have a record exactly where nothing refuses them.
+use Rattle.std.proofs.Common.{◌≡◌, ◌≢◌, ℕ, ◌+◌, ◌-◌, ◌*◌, ◌/◌, ◌%◌, ◌^◌, ◌<◌, ◌≤◌, Bool, true, false, not, cond, List, [], ◌∷◌, length, get_or, take, drop, Option, Some, None, refl, sym, ap, subst, ◌∙◌, arith}
+use Rattle.std.proofs.lemmas.Bool.{or_parts, not-false, eqb-true, eqb-false, le-leb}
+use Rattle.std.proofs.lemmas.Bool.Decides.{nat_tests}
+use Rattle.std.specs.Prelude.{is_none, nat_eq, ◌==◌, bit_and}
+use Rattle.std.specs.List.{find}
+use Rattle.ts_packets.specs.declared.adaptation_field.AdaptationField.{AdaptationField}
+use Rattle.ts_packets.specs.declared.packet_fault.PacketFault.{PacketFault}
+use Rattle.ts_packets.specs.declared.packet_fault.PacketFault.TheVariants.{Sync, ErrorFlag, Scrambled, BadField}
+use Rattle.ts_packets.specs.AdaptationField.{pcr_flag, field_of, is_too_short}
+use Rattle.ts_packets.specs.Packet.{PacketRecord, sync_byte, packet_identifier, payload_unit_start_indicator, continuity_counter, adaptation_field_control, adaptation_field_length, has_field, field_bytes, is_length_allowed, has_fault, IsFieldSound, IsPacket, fields_of, refusal, packet_of}
+use Rattle.ts_packets.proofs.Elements.{adaptation_field_control-is, transport_error_indicator-is, continuity_counter-is, pcr_flag-is, and_15, elements}
+
+allowed : (control length : ℕ) → control < 4 → control ≢ 0 → (control ≡ 2 → length ≡ 183) → (control ≡ 3 → length ≤ 182) → is_length_allowed control length ≡ true
+allowed control length below used alone beside = grind (arith, nat_tests)
+
+allowed-tells : (control length : ℕ) → is_length_allowed control length ≡ true → (control ≢ 0) × ((control ≡ 2 → length ≡ 183) × (control ≡ 3 → length ≤ 182))
+allowed-tells control length is = grind (arith, nat_tests)
+
+-- a sound field is no fault
+pub sound-passes : (bytes : List ℕ) → IsFieldSound bytes → has_fault bytes BadField ≡ false
+sound-passes bytes sound =
+    let below : adaptation_field_control bytes < 4 = omega (arith, adaptation_field_control-is bytes) in
+    let passes = allowed (adaptation_field_control bytes) (adaptation_field_length bytes) below sound.not_reserved sound.alone sound.with_payload in
+    grind (arith, nat_tests, passes, sound.pcr)
+
+-- where there is no fault the field is sound
+pub passes-sound : (bytes : List ℕ) → has_fault bytes BadField ≡ false → IsFieldSound bytes
+passes-sound bytes passes =
+    let parts = or_parts (not (is_length_allowed (adaptation_field_control bytes) (adaptation_field_length bytes))) (is_too_short (field_bytes bytes)) passes in
+    let tells = allowed-tells (adaptation_field_control bytes) (adaptation_field_length bytes) (not-false _ parts.0) in
+    record {
+      not_reserved = tells.0;
+      alone = tells.1.0;
+      with_payload = tells.1.1;
+      pcr = λ flagged. grind (arith, nat_tests, parts.1, flagged);
+    }
+
+-- a packet has no fault
+pub packet-passes : (packet : PacketRecord) (bytes : List ℕ) → IsPacket packet bytes → refusal bytes ≡ None
+packet-passes packet bytes is = grind (arith, nat_tests, is.sync, is.error, is.scrambling, sound-passes bytes is.control)
+
+-- a search that finds nothing
+finds_none : (fault : PacketFault) (has : Bool) (others : Option PacketFault) → cond has (Some fault) others ≡ None → (has ≡ false) × (others ≡ None)
+finds_none fault true others e = absurd cc
+finds_none fault false others e = (refl, e)
+
+-- what has no fault is a packet
+pub passes-packet : (packet : PacketRecord) (bytes : List ℕ) → length bytes ≡ 188 → refusal bytes ≡ None → packet ≡ fields_of bytes → IsPacket packet bytes
+passes-packet packet bytes size passes is =
+    let sync = finds_none Sync (has_fault bytes Sync) (find (has_fault bytes) (ErrorFlag ∷ Scrambled ∷ BadField ∷ [])) passes in
+    let error = finds_none ErrorFlag (has_fault bytes ErrorFlag) (find (has_fault bytes) (Scrambled ∷ BadField ∷ [])) sync.1 in
+    let scrambling = finds_none Scrambled (has_fault bytes Scrambled) (find (has_fault bytes) (BadField ∷ [])) error.1 in
+    let field = finds_none BadField (has_fault bytes BadField) None scrambling.1 in
+    record {
+      size = size;
+      sync = eqb-true _ _ (not-false _ sync.0);
+      error = omega (arith, transport_error_indicator-is bytes, eqb-false _ _ error.0);
+      scrambling = eqb-true _ _ (not-false _ scrambling.0);
+      control = passes-sound bytes field.0;
+      fields = is;
+    }
+
+-- the record of a packet is the one that is computed
+pub packet-found : (packet : PacketRecord) (bytes : List ℕ) → IsPacket packet bytes → packet_of bytes ≡ Some packet
+packet-found packet bytes is = ap (λ (fault : Option PacketFault). cond (is_none fault) (Some (fields_of bytes)) None) (packet-passes packet bytes is) ∙ ap Some (sym is.fields)
+
+-- ---- what the code finds
+
+-- field and payload, where nothing is wrong with them
+abbrev pub AreSound : List ℕ → Option AdaptationField → List ℕ → Type 0
+AreSound bytes field payload = (has_fault bytes BadField ≡ false) × (field ≡ (fields_of bytes).field) × (payload ≡ (fields_of bytes).payload)
+
+pub payload_alone : (bytes payload : List ℕ) → adaptation_field_control bytes ≡ 1 → payload ≡ drop 4 bytes → AreSound bytes None payload
+payload_alone bytes payload alone is = (rw (alone, pcr_flag-is []) refl, rw alone refl, rw alone is)
+
+pub field_first : (bytes : List ℕ) (length : ℕ) (field : Option AdaptationField) (payload : List ℕ) → adaptation_field_control bytes ≡ 3 → adaptation_field_length bytes ≡ length → length < 183 →
+    (is_too_short (take length (drop 5 bytes)) ≡ false) × (field ≡ Some (field_of (take length (drop 5 bytes)))) × (payload ≡ drop (5 + length) bytes) → AreSound bytes field payload
+field_first bytes length field payload both is allowed found =
+    (rw (both, is, le-leb length 182 (omega arith)) found.0, rw (both, is) found.1, rw (both, is) found.2)
+
+abbrev record_from : ℕ → Bool → ℕ → Option AdaptationField → List ℕ → PacketRecord
+record_from pid start counter field payload = record { pid = pid; start = start; counter = counter; field = field; payload = payload }
+
+same_record : {pid pid' counter counter' : ℕ} {start start' : Bool} {field field' : Option AdaptationField} {payload payload' : List ℕ} → pid ≡ pid' → start ≡ start' → counter ≡ counter' → field ≡ field' → payload ≡ payload' →
+    record_from pid start counter field payload ≡ record_from pid' start' counter' field' payload'
+same_record pid-is start-is counter-is field-is payload-is = cc
+
+-- the bytes are a packet, where each fault was looked for
+pub is_packet : (bytes : List ℕ) (pid : ℕ) (field : Option AdaptationField) (payload : List ℕ) → length bytes ≡ 188 → (sync_byte bytes ≡ 0x47) × (pid ≡ packet_identifier bytes) →
+    bit_and (get_or bytes 1 0) 128 ≡ 0 → bit_and (get_or bytes 3 0) 192 ≡ 0 → AreSound bytes field payload →
+    IsPacket (record_from pid (not (nat_eq (bit_and (get_or bytes 1 0) 64) 0)) (bit_and (get_or bytes 3 0) 15) field payload) bytes
+is_packet bytes pid field payload size front error scrambling sound =
+    let passes : refusal bytes ≡ None = grind (arith, nat_tests, elements, front.0, error, scrambling, sound.0) in
+    let start-is : not (nat_eq (bit_and (get_or bytes 1 0) 64) 0) ≡ (payload_unit_start_indicator bytes == 1) = grind (arith, nat_tests, elements) in
+    let counter-is : bit_and (get_or bytes 3 0) 15 ≡ continuity_counter bytes = and_15 (get_or bytes 3 0) ∙ sym (continuity_counter-is bytes) in
+    passes-packet _ bytes size passes (same_record front.1 start-is counter-is sound.1 sound.2)
