@@ -2,7 +2,7 @@
 use Rattle.std.proofs.Common.{◌≡◌, ℕ, ◌+◌, ◌^◌, true, false, List, [], ◌∷◌, ◌++◌, length, replicate, Option, Some, None, refl}
 use Rattle.ts_packets.specs.declared.packet_fault.PacketFault.{PacketFault}
 use Rattle.ts_packets.specs.declared.packet_fault.PacketFault.TheVariants.{Sync, ErrorFlag, Scrambled, BadField}
-use Rattle.ts_packets.specs.Bits.{bit, bits}
+use Rattle.bit_lists.specs.Fields.{bit, bits}
 use Rattle.ts_packets.specs.Packet.{PacketRecord, refusal, packet_of, written}
 use Rattle.ts_packets.specs.TransportStream.{packets, rest_of, joined_payload}
 

@@ -1,4 +1,3 @@
-mod Bits
 pub mod Elements
 mod Examples
 pub mod Refusals

@@ -2,7 +2,7 @@
 use Rattle.std.specs.Prelude.{ℕ, zero, suc, ◌+◌, ◌-◌, ◌*◌, ◌/◌, ◌%◌, ◌^◌, ◌<◌, ◌≤◌, ◌==◌, nat_lt, Bool, ◌&&◌, List, [], ◌∷◌, ◌++◌, length, drop, replicate, Option, Some, None, is_some, IfSome, if◌then◌else◌}
 use Rattle.std.specs.Int.{w64, to_be_bytes}
 use Rattle.ts_packets.specs.declared.adaptation_field.AdaptationField.{AdaptationField}
-use Rattle.ts_packets.specs.Bits.{bits, flag}
+use Rattle.bit_lists.specs.Fields.{bits, flag}
 
 -- ---- its elements, each by its first bit and its number of bits
 

@@ -1,4 +1,3 @@
-pub mod Bits
 pub mod AdaptationField
 pub mod Packet
 pub mod TransportStream

@@ -6,7 +6,7 @@ use Rattle.ts_packets.specs.declared.adaptation_field.AdaptationField.{Adaptatio
 use Rattle.ts_packets.specs.declared.packet.Packet.{Packet}
 use Rattle.ts_packets.specs.declared.packet_fault.PacketFault.{PacketFault}
 use Rattle.ts_packets.specs.declared.packet_fault.PacketFault.TheVariants.{Sync, ErrorFlag, Scrambled, BadField}
-use Rattle.ts_packets.specs.Bits.{bits, flag}
+use Rattle.bit_lists.specs.Fields.{bits, flag}
 use Rattle.ts_packets.specs.AdaptationField.{pcr_flag, field_of, is_too_short, least_length, written_field_bytes}
 
 -- what is kept of a packet, wherever its payload lies in memory
