@@ -1,3 +1,5 @@
 pub mod Elements
 mod Examples
+pub mod Writing
+pub mod WrittenFields
 pub mod Refusals

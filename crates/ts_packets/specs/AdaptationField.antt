@@ -50,6 +50,11 @@ abbrev pub written_field_bytes : AdaptationField → ℕ → List ℕ
 written_field_bytes field zero = []
 written_field_bytes field (suc n) = written_flags field ∷ written_pcr field.pcr ++ replicate (n - length (written_pcr field.pcr)) 0xFF
 
+-- the length byte and the n bytes behind it, where there is a field
+abbrev pub written_field : Option AdaptationField → ℕ → List ℕ
+written_field None n = []
+written_field (Some field) n = n ∷ written_field_bytes field n
+
 -- what can be written: ticks below the modulus of a base of 33 bits
 abbrev pub IsPcrInRange : AdaptationField → Type 0
 IsPcrInRange field = IfSome field.pcr (λ ticks. ticks < 300 * 2 ^ 33)

@@ -7,7 +7,7 @@ use Rattle.ts_packets.specs.declared.packet.Packet.{Packet}
 use Rattle.ts_packets.specs.declared.packet_fault.PacketFault.{PacketFault}
 use Rattle.ts_packets.specs.declared.packet_fault.PacketFault.TheVariants.{Sync, ErrorFlag, Scrambled, BadField}
 use Rattle.bit_lists.specs.Fields.{bits, flag}
-use Rattle.ts_packets.specs.AdaptationField.{pcr_flag, field_of, is_too_short, least_length, written_field_bytes}
+use Rattle.ts_packets.specs.AdaptationField.{pcr_flag, field_of, is_too_short, least_length, written_field}
 
 -- what is kept of a packet, wherever its payload lies in memory
 pub record PacketRecord : Type 0 where
@@ -123,11 +123,6 @@ written_control packet = 2 * flag (is_some packet.field) + flag (nat_lt 0 (lengt
 -- priority and scrambling are 0
 abbrev pub written_header : PacketRecord → List ℕ
 written_header packet = to_be_bytes w32 (2 ^ 24 * 0x47 + 2 ^ 22 * flag packet.start + 2 ^ 8 * packet.pid + 2 ^ 4 * written_control packet + packet.counter)
-
--- the length byte and the n bytes behind it, where there is a field
-abbrev pub written_field : Option AdaptationField → ℕ → List ℕ
-written_field None n = []
-written_field (Some field) n = n ∷ written_field_bytes field n
 
 -- the one written spelling of a packet
 abbrev pub written : PacketRecord → List ℕ

@@ -1,5 +1,5 @@
-ghost use Rattle.std.specs.Prelude.{◌≡◌, ◌*◌, ◌^◌, ◌<◌, ◌≤◌, length, if◌then◌else◌};
-ghost use Rattle.ts_packets.specs.AdaptationField.{field_of, is_too_short, ticks_of, written_flags, written_pcr, written_field_bytes, IsPcrInRange, least_length};
+ghost use Rattle.std.specs.Prelude.{◌≡◌, ◌*◌, ◌^◌, ◌-◌, ◌<◌, ◌≤◌, length, if◌then◌else◌};
+ghost use Rattle.ts_packets.specs.AdaptationField.{field_of, is_too_short, ticks_of, written_flags, written_pcr, written_field, IsPcrInRange, least_length};
 
 use crate::packet_fault::PacketFault;
 
@@ -43,18 +43,21 @@ impl AdaptationField {
         Ok(AdaptationField { discontinuity, pcr })
     }
 
-    /// Fills the bytes behind the length byte: flags, PCR and stuffing.
+    /// Fills the room between header and payload: the length byte, flags, PCR and stuffing.
     pub(crate) fn write(&self, into: &mut [u8])
         requires pcr { IsPcrInRange self.now }
-        requires room { least_length self.now ≤ length into.old }
-        ensures { into.new ≡ written_field_bytes self.now (length into.old) }
+        requires room { least_length self.now < length into.old }
+        requires size { length into.old ≤ 184 }
+        ensures { into.new ≡ written_field (Some self.now) (length into.old - 1) }
     {
+        let length = into.len() - 1;
         into.fill(STUFFING_BYTE);
-        if !into.is_empty() {
-            into[0] = self.flags();
+        into[0] = length as u8;
+        if length > 0 {
+            into[1] = self.flags();
         }
         if let Some(ticks) = self.pcr {
-            into[1..7].copy_from_slice(&pcr_bytes(ticks));
+            into[2..8].copy_from_slice(&pcr_bytes(ticks));
         }
     }
 

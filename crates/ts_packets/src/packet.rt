@@ -94,13 +94,12 @@ impl<'a> Packet<'a> {
         ensures packet { IsPacket (record_of self.now) into.new }
         ensures bytes { into.new ≡ written (record_of self.now) }
     {
+        let payload_at = PACKET_BYTES - self.payload.len();
         into[..HEADER_BYTES].copy_from_slice(&self.header());
         if let Some(field) = self.field {
-            let length = MOST_FIELD_BYTES - self.payload.len();
-            into[HEADER_BYTES] = length as u8;
-            field.write(&mut into[HEADER_BYTES + 1..HEADER_BYTES + 1 + length]);
+            field.write(&mut into[HEADER_BYTES..payload_at]);
         }
-        into[PACKET_BYTES - self.payload.len()..].copy_from_slice(self.payload);
+        into[payload_at..].copy_from_slice(self.payload);
     }
 
     fn header(&self) -> [u8; 4]
