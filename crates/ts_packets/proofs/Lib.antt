@@ -2,4 +2,5 @@ pub mod Elements
 mod Examples
 pub mod Writing
 pub mod WrittenFields
+pub mod WrittenPackets
 pub mod Refusals

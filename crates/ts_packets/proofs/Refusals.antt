@@ -79,10 +79,10 @@ pub field_first : (bytes : List ℕ) (length : ℕ) (field : Option AdaptationFi
 field_first bytes length field payload both is allowed found =
     (rw (both, is, le-leb length 182 (omega arith)) found.0, rw (both, is) found.1, rw (both, is) found.2)
 
-abbrev record_from : ℕ → Bool → ℕ → Option AdaptationField → List ℕ → PacketRecord
+abbrev pub record_from : ℕ → Bool → ℕ → Option AdaptationField → List ℕ → PacketRecord
 record_from pid start counter field payload = record { pid = pid; start = start; counter = counter; field = field; payload = payload }
 
-same_record : {pid pid' counter counter' : ℕ} {start start' : Bool} {field field' : Option AdaptationField} {payload payload' : List ℕ} → pid ≡ pid' → start ≡ start' → counter ≡ counter' → field ≡ field' → payload ≡ payload' →
+pub same_record : {pid pid' counter counter' : ℕ} {start start' : Bool} {field field' : Option AdaptationField} {payload payload' : List ℕ} → pid ≡ pid' → start ≡ start' → counter ≡ counter' → field ≡ field' → payload ≡ payload' →
     record_from pid start counter field payload ≡ record_from pid' start' counter' field' payload'
 same_record pid-is start-is counter-is field-is payload-is = cc
 

@@ -1,14 +1,12 @@
-use Rattle.std.proofs.Common.{◌≡◌, ◌<◌, ◌≤◌, ◌+◌, ◌-◌, ◌++◌, ℕ, List, Option, Some, take, drop, length, length-append, length-take, length-drop, arith, ap, subst, ◌∙◌}
+use Rattle.std.proofs.Common.{◌≡◌, ◌<◌, ◌≤◌, ◌+◌, ◌-◌, ◌++◌, ℕ, List, Option, Some, take, drop, length, length-append, length-take, length-drop, arith, sym, ap, subst, ◌∙◌}
 use borrow.Rule.Slice.PartMut.{put_mid}
 use Rattle.ts_packets.specs.declared.adaptation_field.AdaptationField.{AdaptationField}
 use Rattle.ts_packets.specs.AdaptationField.{least_length, written_field}
 use Rattle.ts_packets.specs.Packet.{PacketRecord, record_of, IsPacket, IsPayloadLength, written, written_header}
 use Rattle.ts_packets.proofs.Writing.{written-alone, written-beside}
+use Rattle.ts_packets.proofs.WrittenPackets.{written-packet}
 use Rattle.ts_packets.proofs.packet.Packet.write.Goals as goal
 use Rattle.ts_packets.proofs.packet.Packet.write.Goals.{in-Some, in_default}
-
-pub returns-clause-packet : goal.returns-clause-packet
-returns-clause-packet c = ?
 
 pub returns-clause-bytes : goal.returns-clause-bytes
 returns-clause-bytes c =
@@ -27,3 +25,6 @@ returns-clause-bytes c =
           written-alone (record_of c.args.self.now) c.args.into.now c.match-self.into _ w.in_default.is (subst room_of w.in_default.is c.requires.payload) c.told-into
             (w.into-is ∙ ap (λ (h : List ℕ). h ++ drop 4 c.args.into.now) header-is) c.copy_from_slice-2.ensures.after
     ]
+
+pub returns-clause-packet : goal.returns-clause-packet
+returns-clause-packet c = subst (IsPacket (record_of c.args.self.now)) (sym (returns-clause-bytes c)) (written-packet (record_of c.args.self.now) c.requires.pid c.requires.counter c.requires.pcr c.requires.payload)
