@@ -1,5 +1,6 @@
 pub mod Elements
 mod Examples
+pub mod Laws
 pub mod Writing
 pub mod WrittenFields
 pub mod WrittenPackets

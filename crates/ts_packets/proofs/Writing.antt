@@ -47,5 +47,5 @@ written-beside packet field old into part tail some size old_size part-is into-i
     let base_size : length base ≡ 188 = omega (arith, length-append (written_header packet) (drop 4 old), length-drop 4 old) in
     let front : take (188 - length packet.payload) into ≡ written_header packet ++ part = rw into-is (take-put_mid 4 (188 - length packet.payload - 4) base part (188 - length packet.payload) (omega arith) (omega arith)) in
     let fits : length into ≤ 188 - length packet.payload + (188 - (188 - length packet.payload)) =
-      omega (arith, ap length into-is, length-append (take 4 base) (part ++ drop (188 - length packet.payload - 4) (drop 4 base)), length-append part (drop (188 - length packet.payload - 4) (drop 4 base)), length-take 4 base, length-drop (188 - length packet.payload - 4) (drop 4 base), length-drop 4 base) in
+    omega (arith, ap length into-is, length-append (take 4 base) (part ++ drop (188 - length packet.payload - 4) (drop 4 base)), length-append part (drop (188 - length packet.payload - 4) (drop 4 base)), length-take 4 base, length-drop (188 - length packet.payload - 4) (drop 4 base), length-drop 4 base) in
     put_tail _ _ into _ tail front fits ∙ rw (tail-is, part-is, some) refl

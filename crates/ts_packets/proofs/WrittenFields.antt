@@ -46,7 +46,7 @@ field_of-parts discontinuity (Some ticks) zero room below = absurd (omega arith)
 field_of-parts discontinuity (Some ticks) (suc n) room below =
     let bytes : List ℕ = written_field_bytes (field_from discontinuity (Some ticks)) (suc n) in
     same_field (rw (discontinuity_indicator-is bytes, flags_tell discontinuity true) (flag_tells discontinuity))
-      (rw (pcr_flag-is bytes, pcr_flag_tells discontinuity true) (ap Some (ticks_of-written (written_flags (field_from discontinuity (Some ticks))) ticks (replicate (n - 6) 0xFF) below)))
+    (rw (pcr_flag-is bytes, pcr_flag_tells discontinuity true) (ap Some (ticks_of-written (written_flags (field_from discontinuity (Some ticks))) ticks (replicate (n - 6) 0xFF) below)))
 
 pub field_of-written : (field : AdaptationField) (n : ℕ) → least_length field ≤ n → IsPcrInRange field → field_of (written_field_bytes field n) ≡ field
 field_of-written field n room below = field_of-parts field.discontinuity field.pcr n room below

@@ -6,7 +6,7 @@ use Rattle.std.proofs.lemmas.List.{take_at, drop_at, drop-drop}
 use Rattle.bit_lists.specs.Fields.{flag}
 use Rattle.ts_packets.specs.declared.adaptation_field.AdaptationField.{AdaptationField}
 use Rattle.ts_packets.specs.AdaptationField.{field_of, IsPcrInRange, least_length, written_field_bytes, written_field}
-use Rattle.ts_packets.specs.Packet.{PacketRecord, sync_byte, transport_error_indicator, payload_unit_start_indicator, packet_identifier, transport_scrambling_control, adaptation_field_control, adaptation_field_length, continuity_counter, has_field, field_bytes, IsPacket, IsPayloadLength, written, written_header, written_control}
+use Rattle.ts_packets.specs.Packet.{PacketRecord, sync_byte, transport_error_indicator, payload_unit_start_indicator, packet_identifier, transport_scrambling_control, adaptation_field_control, adaptation_field_length, continuity_counter, has_field, field_bytes, IsPacket, IsPayloadLength, IsWritable, written, written_header, written_control}
 use Rattle.ts_packets.proofs.Elements.{sync_byte-is, transport_error_indicator-is, payload_unit_start_indicator-is, packet_identifier-is, transport_scrambling_control-is, adaptation_field_control-is, continuity_counter-is, adaptation_field_length-is, pcr_flag-is}
 use Rattle.ts_packets.proofs.Refusals.{same_record}
 use Rattle.ts_packets.proofs.Writing.{length-written_field_bytes}
@@ -93,8 +93,8 @@ beside packet field n pid_fits counter_fits some below room size =
         pcr = λ flagged. omega (arith, ap length field-is, field_size, pcr-written field n room (rw field-is at flagged));
       };
       fields = same_record (sym says.pid) (sym says.start) (sym says.counter)
-        (some ∙ ap Some (sym kept) ∙ sym (cond-true (has_field bytes) (Some (field_of (field_bytes bytes))) None there))
-        (sym (cond-true (has_field bytes) (drop (5 + adaptation_field_length bytes) bytes) (drop 4 bytes) there ∙ ap (λ (k : ℕ). drop (5 + k) bytes) length-is ∙ payload-is));
+          (some ∙ ap Some (sym kept) ∙ sym (cond-true (has_field bytes) (Some (field_of (field_bytes bytes))) None there))
+          (sym (cond-true (has_field bytes) (drop (5 + adaptation_field_length bytes) bytes) (drop 4 bytes) there ∙ ap (λ (k : ℕ). drop (5 + k) bytes) length-is ∙ payload-is));
     }
 
 -- the bytes of a packet, were this its field
@@ -102,14 +102,14 @@ abbrev with_field : PacketRecord → Option AdaptationField → List ℕ
 with_field packet field = written_header packet ++ (written_field field (183 - length packet.payload) ++ packet.payload)
 
 -- what is written is a packet
-pub written-packet : (packet : PacketRecord) → packet.pid < 2 ^ 13 → packet.counter < 2 ^ 4 → IfSome packet.field IsPcrInRange → IsPayloadLength packet.field (length packet.payload) → IsPacket packet (written packet)
-written-packet packet pid_fits counter_fits below room = by_field packet.field refl
+pub written-packet : (packet : PacketRecord) → IsWritable packet → IsPacket packet (written packet)
+written-packet packet writable = by_field packet.field refl
   where
     by_field : (found : Option AdaptationField) → packet.field ≡ found → IsPacket packet (written packet)
     by_field None none =
-        let size : length packet.payload ≡ 184 = subst (λ (field : Option AdaptationField). IsPayloadLength field (length packet.payload)) none room in
-        subst (IsPacket packet) (ap (with_field packet) (sym none)) (alone packet pid_fits counter_fits none size)
+        let size : length packet.payload ≡ 184 = subst (λ (field : Option AdaptationField). IsPayloadLength field (length packet.payload)) none writable.payload in
+        subst (IsPacket packet) (ap (with_field packet) (sym none)) (alone packet writable.pid writable.counter none size)
     by_field (Some field) some =
-        let fits : length packet.payload + least_length field ≤ 183 = subst (λ (found : Option AdaptationField). IsPayloadLength found (length packet.payload)) some room in
-        let ticks : IsPcrInRange field = subst (λ (found : Option AdaptationField). IfSome found IsPcrInRange) some below in
-        subst (IsPacket packet) (ap (with_field packet) (sym some)) (beside packet field (183 - length packet.payload) pid_fits counter_fits some ticks (omega arith) (omega arith))
+        let fits : length packet.payload + least_length field ≤ 183 = subst (λ (found : Option AdaptationField). IsPayloadLength found (length packet.payload)) some writable.payload in
+        let ticks : IsPcrInRange field = subst (λ (found : Option AdaptationField). IfSome found IsPcrInRange) some writable.pcr in
+        subst (IsPacket packet) (ap (with_field packet) (sym some)) (beside packet field (183 - length packet.payload) writable.pid writable.counter some ticks (omega arith) (omega arith))

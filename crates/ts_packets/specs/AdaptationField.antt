@@ -42,6 +42,7 @@ abbrev pub written_pcr : Option ℕ → List ℕ
 written_pcr None = []
 written_pcr (Some ticks) = drop 2 (to_be_bytes w64 (2 ^ 15 * (ticks / 300) + 2 ^ 9 * 63 + ticks % 300))
 
+-- the two flags in their places; the others are 0
 abbrev pub written_flags : AdaptationField → ℕ
 written_flags field = 2 ^ 7 * flag field.discontinuity + 2 ^ 4 * flag (is_some field.pcr)
 

@@ -1,5 +1,5 @@
 -- A transport packet (ISO/IEC 13818-1, 2.4.3.2 and 2.4.3.3).
-use Rattle.std.specs.Prelude.{◌≡◌, ◌≢◌, ℕ, ◌+◌, ◌-◌, ◌*◌, ◌^◌, ◌≤◌, ◌==◌, nat_lt, nat_le, Bool, not, ◌&&◌, ◌||◌, List, [], ◌∷◌, ◌++◌, length, take, drop, Option, Some, None, is_some, is_none, if◌then◌else◌}
+use Rattle.std.specs.Prelude.{◌≡◌, ◌≢◌, ℕ, ◌+◌, ◌-◌, ◌*◌, ◌^◌, ◌<◌, ◌≤◌, ◌==◌, nat_lt, nat_le, Bool, not, ◌&&◌, ◌||◌, List, [], ◌∷◌, ◌++◌, length, take, drop, Option, Some, None, is_some, is_none, IfSome, if◌then◌else◌}
 use Rattle.std.specs.List.{find}
 use Rattle.std.specs.Int.{w32, to_be_bytes}
 use Rattle.ts_packets.specs.declared.adaptation_field.AdaptationField.{AdaptationField}
@@ -7,7 +7,7 @@ use Rattle.ts_packets.specs.declared.packet.Packet.{Packet}
 use Rattle.ts_packets.specs.declared.packet_fault.PacketFault.{PacketFault}
 use Rattle.ts_packets.specs.declared.packet_fault.PacketFault.TheVariants.{Sync, ErrorFlag, Scrambled, BadField}
 use Rattle.bit_lists.specs.Fields.{bits, flag}
-use Rattle.ts_packets.specs.AdaptationField.{pcr_flag, field_of, is_too_short, least_length, written_field}
+use Rattle.ts_packets.specs.AdaptationField.{pcr_flag, field_of, is_too_short, IsPcrInRange, least_length, written_field}
 
 -- what is kept of a packet, wherever its payload lies in memory
 pub record PacketRecord : Type 0 where
@@ -17,6 +17,7 @@ pub record PacketRecord : Type 0 where
   pub field : Option AdaptationField
   pub payload : List ℕ
 
+-- the record of a packet in memory
 abbrev pub record_of : Packet → PacketRecord
 record_of packet = record {
   pid = packet.pid;
@@ -64,6 +65,7 @@ has_field bytes = nat_le 2 (adaptation_field_control bytes)
 abbrev pub field_bytes : List ℕ → List ℕ
 field_bytes bytes = if has_field bytes then take (adaptation_field_length bytes) (drop 5 bytes) else []
 
+-- field by field, what the bytes say
 abbrev pub fields_of : List ℕ → PacketRecord
 fields_of bytes = record {
   pid = packet_identifier bytes;
@@ -96,6 +98,7 @@ pub record IsPacket (packet : PacketRecord) (bytes : List ℕ) : Type 0 where
 abbrev pub is_length_allowed : ℕ → ℕ → Bool
 is_length_allowed control length = (control == 1) || ((control == 2) && (length == 183)) || ((control == 3) && nat_le length 182)
 
+-- the bytes have this fault
 abbrev pub has_fault : List ℕ → PacketFault → Bool
 has_fault bytes Sync = not (sync_byte bytes == 0x47)
 has_fault bytes ErrorFlag = transport_error_indicator bytes == 1
@@ -112,15 +115,23 @@ packet_of bytes = if is_none (refusal bytes) then Some (fields_of bytes) else No
 
 -- ---- how it is written
 
--- so much payload stands beside the field, or without one
+-- so much payload fills a packet without a field, or has room beside it
 abbrev pub IsPayloadLength : Option AdaptationField → ℕ → Type 0
 IsPayloadLength None n = n ≡ 184
 IsPayloadLength (Some field) n = n + least_length field ≤ 183
 
+-- what can be written
+pub record IsWritable (packet : PacketRecord) : Type 0 where
+  pub pid : packet.pid < 2 ^ 13
+  pub counter : packet.counter < 2 ^ 4
+  pub pcr : IfSome packet.field IsPcrInRange
+  pub payload : IsPayloadLength packet.field (length packet.payload)
+
+-- its first bit says that there is a field, its second one that there is payload
 abbrev pub written_control : PacketRecord → ℕ
 written_control packet = 2 * flag (is_some packet.field) + flag (nat_lt 0 (length packet.payload))
 
--- priority and scrambling are 0
+-- sync byte, start, PID, control and counter in their places; error, priority and scrambling are 0
 abbrev pub written_header : PacketRecord → List ℕ
 written_header packet = to_be_bytes w32 (2 ^ 24 * 0x47 + 2 ^ 22 * flag packet.start + 2 ^ 8 * packet.pid + 2 ^ 4 * written_control packet + packet.counter)
 

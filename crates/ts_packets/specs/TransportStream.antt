@@ -21,6 +21,7 @@ payload_packets file pid = filter (λ packet. (packet.pid == pid) && nat_lt 0 (l
 abbrev pub is_repeat : PacketRecord → PacketRecord → Bool
 is_repeat packet before = (packet.counter == before.counter) && bytes_eq packet.payload before.payload
 
--- the payload of a PID in order, without that of a packet that repeats the one before it
+-- The payload of a PID in order, without that of a packet that repeats the one before it. Whether the counters rise
+-- as they must is no part of it.
 abbrev pub joined_payload : List ℕ → ℕ → List ℕ
 joined_payload file pid = flat_map (λ packet. packet.payload) (dedup is_repeat (payload_packets file pid))

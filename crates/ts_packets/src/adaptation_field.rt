@@ -3,13 +3,28 @@ ghost use Rattle.ts_packets.specs.AdaptationField.{field_of, is_too_short, ticks
 
 use crate::packet_fault::PacketFault;
 
+/// `discontinuity_indicator` in the flags.
 const DISCONTINUITY_INDICATOR: u8 = 1 << 7;
 
+/// `PCR_flag` in the flags.
 const PCR_FLAG: u8 = 1 << 4;
 
-const STUFFING_BYTE: u8 = 0xFF;
-/// Ticks of 1/27,000,000 s in one of the PCR's base, which counts 1/90,000 s.
+/// Length of the flags and a PCR in bytes.
+const FLAGS_AND_PCR_BYTES: usize = 7;
+
+/// How far `program_clock_reference_base` stands above the end of a PCR's 48 bits.
+const BASE_SHIFT: u32 = 15;
+
+/// The reserved bits of a PCR, between base and extension.
+const RESERVED: u64 = 0x3F << 9;
+
+/// `program_clock_reference_extension` in a PCR.
+const EXTENSION: u64 = 0x1FF;
+
+/// Ticks of 1/27,000,000 s in one of the base, which counts 1/90,000 s.
 const TICKS_PER_BASE: u64 = 300;
+
+const STUFFING_BYTE: u8 = 0xFF;
 
 /// What is kept of an adaptation field (ISO/IEC 13818-1, 2.4.3.4). Its other flags and parts are passed over.
 #[derive(Clone, Copy, Debug, PartialEq, Eq)]
@@ -21,8 +36,8 @@ pub struct AdaptationField {
 }
 
 impl AdaptationField {
+    /// The field of these bytes behind its length byte. The error is BadField, where its PCR has no room in them.
     #[tactic(auto, using(crate::proofs::Elements::elements))]
-    /// The field of these bytes behind its length byte.
     pub(crate) fn read(bytes: &[u8]) -> Result<AdaptationField, PacketFault>
         ensures { result ≡ (if is_too_short bytes.now then Err PacketFault.BadField else Ok (field_of bytes.now)) }
     {
@@ -35,7 +50,7 @@ impl AdaptationField {
         let discontinuity = flags & DISCONTINUITY_INDICATOR != 0;
         let pcr = if flags & PCR_FLAG == 0 {
             None
-        } else if bytes.len() < 7 {
+        } else if bytes.len() < FLAGS_AND_PCR_BYTES {
             return Err(PacketFault::BadField);
         } else {
             Some(read_pcr(bytes))
@@ -57,7 +72,7 @@ impl AdaptationField {
             into[1] = self.flags();
         }
         if let Some(ticks) = self.pcr {
-            into[2..8].copy_from_slice(&pcr_bytes(ticks));
+            into[2..1 + FLAGS_AND_PCR_BYTES].copy_from_slice(&pcr_bytes(ticks));
         }
     }
 
@@ -82,14 +97,14 @@ fn read_pcr(bytes: &[u8]) -> u64
     let word = u64::from_be_bytes([
         0, 0, bytes[1], bytes[2], bytes[3], bytes[4], bytes[5], bytes[6],
     ]);
-    (word >> 15) * TICKS_PER_BASE + (word & 0x1FF)
+    (word >> BASE_SHIFT) * TICKS_PER_BASE + (word & EXTENSION)
 }
 
 fn pcr_bytes(ticks: u64) -> [u8; 6]
     requires { ticks < 300 * 2 ^ 33 }
     ensures { result ≡ written_pcr (Some ticks) }
 {
-    let word = (ticks / TICKS_PER_BASE) << 15 | 0x3F << 9 | ticks % TICKS_PER_BASE;
+    let word = (ticks / TICKS_PER_BASE) << BASE_SHIFT | RESERVED | ticks % TICKS_PER_BASE;
     let [_, _, a, b, c, d, e, f] = word.to_be_bytes();
     [a, b, c, d, e, f]
 }

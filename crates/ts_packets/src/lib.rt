@@ -3,7 +3,7 @@
 //! `Packet::read` answers the packet that 188 bytes stand for, or the first fault that they have. `Packet::write` makes
 //! the 188 bytes of a packet, stuffed with FF, which are read as the same packet. The definitions of the packets of a
 //! whole file and of the joined payload of a PID stand here too, for the crates that read streams. No call takes
-//! memory. Stands on the standard library alone.
+//! memory. Stands on the definitions of `bit_lists`.
 #![tactic(auto)]
 
 mod adaptation_field;

@@ -1,8 +1,8 @@
 ghost use Rattle.std.specs.Prelude.{◌≡◌, ◌≢◌, ℕ, true, false, ◌+◌, ◌*◌, ◌^◌, ◌<◌, ◌≤◌, length, take, drop, IfOk, IfErr, IfSome, IsOkAnd};
 ghost use Rattle.std.specs.Option.{option_map};
 ghost use Rattle.std.specs.Result.{result_ok, result_err};
-ghost use Rattle.ts_packets.specs.AdaptationField.{IsPcrInRange, field_of, is_too_short};
-ghost use Rattle.ts_packets.specs.Packet.{PacketRecord, record_of, sync_byte, packet_identifier, IsPacket, refusal, packet_of, IsPayloadLength, written, written_header, has_fault, fields_of};
+ghost use Rattle.ts_packets.specs.AdaptationField.{field_of, is_too_short};
+ghost use Rattle.ts_packets.specs.Packet.{PacketRecord, record_of, sync_byte, packet_identifier, IsPacket, refusal, packet_of, IsWritable, written, written_header, has_fault, fields_of};
 ghost use Rattle.ts_packets.specs.declared.packet_fault.PacketFault.TheVariants.{BadField};
 
 use crate::adaptation_field::AdaptationField;
@@ -17,6 +17,7 @@ const HEADER_BYTES: usize = 4;
 /// The bytes that the header and an adaptation field's length byte leave.
 const MOST_FIELD_BYTES: usize = 183;
 
+/// The header's first byte.
 const SYNC_BYTE: u8 = 0x47;
 
 /// `transport_error_indicator` in the header's second byte.
@@ -56,8 +57,8 @@ pub struct Packet<'a> {
 }
 
 impl<'a> Packet<'a> {
-    #[tactic(auto, using(crate::proofs::Elements::elements))]
     /// The packet that the bytes stand for. An error is the first fault that they have, in the order of `PacketFault`.
+    #[tactic(auto, using(crate::proofs::Elements::elements))]
     pub fn read(bytes: &'a [u8; PACKET_BYTES]) -> Result<Packet<'a>, PacketFault>
         // What is read stands for the bytes, and what stands for the bytes is read.
         ensures packet { IfOk result (λ packet. IsPacket (record_of packet) bytes.now) }
@@ -87,10 +88,7 @@ impl<'a> Packet<'a> {
     /// to the payload. A payload of exactly 184 bytes has no field. Beside a field stand at most 183 bytes where it
     /// says nothing, 182 with a discontinuity alone and 176 with a PCR, which is below 300 times 2^33.
     pub fn write(&self, into: &mut [u8; PACKET_BYTES])
-        requires pid { self.now.pid < 2 ^ 13 }
-        requires counter { self.now.counter < 2 ^ 4 }
-        requires pcr { IfSome self.now.field IsPcrInRange }
-        requires payload { IsPayloadLength self.now.field (length self.now.payload.now) }
+        requires { IsWritable (record_of self.now) }
         ensures packet { IsPacket (record_of self.now) into.new }
         ensures bytes { into.new ≡ written (record_of self.now) }
     {
@@ -103,8 +101,7 @@ impl<'a> Packet<'a> {
     }
 
     fn header(&self) -> [u8; 4]
-        requires pid { self.now.pid < 2 ^ 13 }
-        requires counter { self.now.counter < 2 ^ 4 }
+        requires { IsWritable (record_of self.now) }
         ensures { result ≡ written_header (record_of self.now) }
     {
         let start = if self.start { START_INDICATOR } else { 0 };
@@ -156,6 +153,7 @@ fn field_and_payload(
     }
 }
 
+/// A field of this length behind its length byte, and the payload behind it. The only error is BadField.
 fn field_then_payload(
     bytes: &[u8; PACKET_BYTES],
     length: usize,

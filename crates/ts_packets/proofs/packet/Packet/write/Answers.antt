@@ -20,11 +20,11 @@ returns-clause-bytes c =
           let size : length (take (188 - length c.args.self.now.payload.now - 4) rest) - 1 ≡ 183 - length c.args.self.now.payload.now = omega (arith, length-take (188 - length c.args.self.now.payload.now - 4) rest) in
           let part-is : w.write.new.into ≡ written_field (Some w.in-Some.field) (183 - length c.args.self.now.payload.now) = w.write.ensures ∙ ap (λ (n : ℕ). written_field (Some w.in-Some.field) n) size in
           written-beside (record_of c.args.self.now) w.in-Some.field c.args.into.now c.match-self.into w.write.new.into _ w.in-Some.is room c.told-into part-is
-            (w.into-is ∙ ap (λ (h : List ℕ). put_mid 4 (188 - length c.args.self.now.payload.now - 4) (h ++ drop 4 c.args.into.now) w.write.new.into) header-is) c.copy_from_slice-2.ensures.after
+          (w.into-is ∙ ap (λ (h : List ℕ). put_mid 4 (188 - length c.args.self.now.payload.now - 4) (h ++ drop 4 c.args.into.now) w.write.new.into) header-is) c.copy_from_slice-2.ensures.after
       | in_default w ↦
           written-alone (record_of c.args.self.now) c.args.into.now c.match-self.into _ w.in_default.is (subst room_of w.in_default.is c.requires.payload) c.told-into
-            (w.into-is ∙ ap (λ (h : List ℕ). h ++ drop 4 c.args.into.now) header-is) c.copy_from_slice-2.ensures.after
+          (w.into-is ∙ ap (λ (h : List ℕ). h ++ drop 4 c.args.into.now) header-is) c.copy_from_slice-2.ensures.after
     ]
 
 pub returns-clause-packet : goal.returns-clause-packet
-returns-clause-packet c = subst (IsPacket (record_of c.args.self.now)) (sym (returns-clause-bytes c)) (written-packet (record_of c.args.self.now) c.requires.pid c.requires.counter c.requires.pcr c.requires.payload)
+returns-clause-packet c = subst (IsPacket (record_of c.args.self.now)) (sym (returns-clause-bytes c)) (written-packet (record_of c.args.self.now) c.requires)
