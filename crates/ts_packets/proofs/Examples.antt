@@ -1,6 +1,5 @@
 -- The worked examples, computed from the definitions.
-use Rattle.std.proofs.Common.{◌≡◌, ℕ, ◌+◌, ◌^◌, true, false, List, [], ◌∷◌, ◌++◌, length, replicate, Option, Some, None, refl}
-use Rattle.ts_packets.specs.declared.packet_fault.PacketFault.{PacketFault}
+use Rattle.std.proofs.Common.{◌≡◌, ℕ, false, List, [], ◌∷◌, ◌++◌, length, replicate, Some, None, refl}
 use Rattle.ts_packets.specs.declared.packet_fault.PacketFault.TheVariants.{Sync, ErrorFlag, Scrambled, BadField}
 use Rattle.bit_lists.specs.Fields.{bit, bits}
 use Rattle.ts_packets.specs.Packet.{PacketRecord, refusal, packet_of, written}

@@ -1,14 +1,14 @@
 -- Bytes have a record exactly where nothing refuses them.
-use Rattle.std.proofs.Common.{◌≡◌, ◌≢◌, ℕ, ◌+◌, ◌-◌, ◌*◌, ◌/◌, ◌%◌, ◌^◌, ◌<◌, ◌≤◌, Bool, true, false, not, cond, List, [], ◌∷◌, length, get_or, take, drop, Option, Some, None, refl, sym, ap, subst, ◌∙◌, arith}
-use Rattle.std.proofs.lemmas.Bool.{or_parts, not-false, eqb-true, eqb-false, le-leb}
+use Rattle.std.proofs.Common.{◌≡◌, ◌≢◌, ℕ, ◌<◌, ◌≤◌, Bool, true, false, not, cond, List, [], ◌∷◌, length, get_or, drop, Option, Some, None, refl, sym, ap, ◌∙◌, arith}
+use Rattle.std.proofs.lemmas.Bool.{or_parts, not-false, eqb-true, eqb-false}
 use Rattle.std.proofs.lemmas.Bool.Decides.{nat_tests}
 use Rattle.std.specs.Prelude.{is_none, nat_eq, ◌==◌, bit_and}
 use Rattle.std.specs.List.{find}
 use Rattle.ts_packets.specs.declared.adaptation_field.AdaptationField.{AdaptationField}
 use Rattle.ts_packets.specs.declared.packet_fault.PacketFault.{PacketFault}
 use Rattle.ts_packets.specs.declared.packet_fault.PacketFault.TheVariants.{Sync, ErrorFlag, Scrambled, BadField}
-use Rattle.ts_packets.specs.AdaptationField.{pcr_flag, field_of, is_too_short}
-use Rattle.ts_packets.specs.Packet.{PacketRecord, sync_byte, packet_identifier, payload_unit_start_indicator, continuity_counter, adaptation_field_control, adaptation_field_length, has_field, field_bytes, is_length_allowed, has_fault, IsFieldSound, IsPacket, fields_of, refusal, packet_of}
+use Rattle.ts_packets.specs.AdaptationField.{is_too_short}
+use Rattle.ts_packets.specs.Packet.{PacketRecord, sync_byte, packet_identifier, payload_unit_start_indicator, continuity_counter, adaptation_field_control, adaptation_field_length, field_bytes, is_length_allowed, has_fault, HasFieldAndPayload, IsFieldSound, IsPacket, fields_of, refusal, packet_of}
 use Rattle.ts_packets.proofs.Elements.{adaptation_field_control-is, transport_error_indicator-is, continuity_counter-is, pcr_flag-is, and_15, elements}
 
 allowed : (control length : ℕ) → control < 4 → control ≢ 0 → (control ≡ 2 → length ≡ 183) → (control ≡ 3 → length ≤ 182) → is_length_allowed control length ≡ true
@@ -67,17 +67,8 @@ packet-found packet bytes is = ap (λ (fault : Option PacketFault). cond (is_non
 
 -- ---- what the code finds
 
--- field and payload, where nothing is wrong with them
-abbrev pub AreSound : List ℕ → Option AdaptationField → List ℕ → Type 0
-AreSound bytes field payload = (has_fault bytes BadField ≡ false) × (field ≡ (fields_of bytes).field) × (payload ≡ (fields_of bytes).payload)
-
-pub payload_alone : (bytes payload : List ℕ) → adaptation_field_control bytes ≡ 1 → payload ≡ drop 4 bytes → AreSound bytes None payload
+pub payload_alone : (bytes payload : List ℕ) → adaptation_field_control bytes ≡ 1 → payload ≡ drop 4 bytes → HasFieldAndPayload bytes None payload
 payload_alone bytes payload alone is = (rw (alone, pcr_flag-is []) refl, rw alone refl, rw alone is)
-
-pub field_first : (bytes : List ℕ) (length : ℕ) (field : Option AdaptationField) (payload : List ℕ) → adaptation_field_control bytes ≡ 3 → adaptation_field_length bytes ≡ length → length < 183 →
-    (is_too_short (take length (drop 5 bytes)) ≡ false) × (field ≡ Some (field_of (take length (drop 5 bytes)))) × (payload ≡ drop (5 + length) bytes) → AreSound bytes field payload
-field_first bytes length field payload both is allowed found =
-    (rw (both, is, le-leb length 182 (omega arith)) found.0, rw (both, is) found.1, rw (both, is) found.2)
 
 abbrev pub record_from : ℕ → Bool → ℕ → Option AdaptationField → List ℕ → PacketRecord
 record_from pid start counter field payload = record { pid = pid; start = start; counter = counter; field = field; payload = payload }
@@ -88,7 +79,7 @@ same_record pid-is start-is counter-is field-is payload-is = cc
 
 -- the bytes are a packet, where each fault was looked for
 pub is_packet : (bytes : List ℕ) (pid : ℕ) (field : Option AdaptationField) (payload : List ℕ) → length bytes ≡ 188 → (sync_byte bytes ≡ 0x47) × (pid ≡ packet_identifier bytes) →
-    bit_and (get_or bytes 1 0) 128 ≡ 0 → bit_and (get_or bytes 3 0) 192 ≡ 0 → AreSound bytes field payload →
+    bit_and (get_or bytes 1 0) 128 ≡ 0 → bit_and (get_or bytes 3 0) 192 ≡ 0 → HasFieldAndPayload bytes field payload →
     IsPacket (record_from pid (not (nat_eq (bit_and (get_or bytes 1 0) 64) 0)) (bit_and (get_or bytes 3 0) 15) field payload) bytes
 is_packet bytes pid field payload size front error scrambling sound =
     let passes : refusal bytes ≡ None = grind (arith, nat_tests, elements, front.0, error, scrambling, sound.0) in

@@ -1,5 +1,5 @@
 -- What is written is header, field and payload side by side.
-use Rattle.std.proofs.Common.{◌≡◌, ℕ, zero, suc, ◌+◌, ◌-◌, ◌<◌, ◌≤◌, List, [], ◌∷◌, ◌++◌, Bool, Option, Some, None, is_some, if◌then◌else◌, replicate, length, take, drop, refl, sym, ap, ◌∙◌, length-append, length-take, length-drop, arith}
+use Rattle.std.proofs.Common.{◌≡◌, ℕ, zero, suc, ◌+◌, ◌-◌, ◌≤◌, List, [], ◌++◌, Bool, Option, Some, None, is_some, if◌then◌else◌, replicate, length, take, drop, refl, ap, ◌∙◌, length-append, length-take, length-drop, arith}
 use Rattle.std.proofs.lemmas.List.{drop_all, drop-drop, append-nil, length-replicate}
 use Rattle.std.proofs.lemmas.Slice.{take-put_mid}
 use borrow.Rule.Slice.PartMut.{put_mid}

@@ -1,9 +1,9 @@
 -- A field that was written says what it was written from.
-use Rattle.std.proofs.Common.{◌≡◌, ℕ, zero, suc, ◌+◌, ◌-◌, ◌*◌, ◌/◌, ◌%◌, ◌^◌, ◌<◌, ◌≤◌, Bool, true, false, List, [], ◌∷◌, ◌++◌, Option, Some, None, is_some, if◌then◌else◌, replicate, length, take, drop, get_or, refl, sym, ap, ◌∙◌, arith}
-use Rattle.std.specs.Prelude.{IfSome, ◌==◌}
+use Rattle.std.proofs.Common.{◌≡◌, ℕ, zero, suc, ◌+◌, ◌-◌, ◌*◌, ◌/◌, ◌%◌, ◌^◌, ◌<◌, ◌≤◌, Bool, true, false, List, [], ◌∷◌, ◌++◌, Option, Some, None, replicate, refl, ap, arith}
+use Rattle.std.specs.Prelude.{◌==◌}
 use Rattle.bit_lists.specs.Fields.{flag}
 use Rattle.ts_packets.specs.declared.adaptation_field.AdaptationField.{AdaptationField}
-use Rattle.ts_packets.specs.AdaptationField.{discontinuity_indicator, pcr_flag, program_clock_reference_base, program_clock_reference_extension, ticks_of, field_of, IsPcrInRange, least_length, written_pcr, written_flags, written_field_bytes}
+use Rattle.ts_packets.specs.AdaptationField.{pcr_flag, program_clock_reference_base, program_clock_reference_extension, ticks_of, field_of, IsPcrInRange, least_length, written_pcr, written_flags, written_field_bytes}
 use Rattle.ts_packets.proofs.Elements.{discontinuity_indicator-is, pcr_flag-is, program_clock_reference_base-is, program_clock_reference_extension-is}
 
 -- a flag is one bit, and says what it was written from

@@ -1,5 +1,5 @@
 -- A transport packet (ISO/IEC 13818-1, 2.4.3.2 and 2.4.3.3).
-use Rattle.std.specs.Prelude.{◌≡◌, ◌≢◌, ℕ, ◌+◌, ◌-◌, ◌*◌, ◌^◌, ◌<◌, ◌≤◌, ◌==◌, nat_lt, nat_le, Bool, not, ◌&&◌, ◌||◌, List, [], ◌∷◌, ◌++◌, length, take, drop, Option, Some, None, is_some, is_none, IfSome, if◌then◌else◌}
+use Rattle.std.specs.Prelude.{◌≡◌, ◌≢◌, ℕ, ◌+◌, ◌-◌, ◌*◌, ◌^◌, ◌<◌, ◌≤◌, ◌==◌, nat_lt, nat_le, Bool, false, not, ◌&&◌, ◌||◌, List, [], ◌∷◌, ◌++◌, length, take, drop, Option, Some, None, is_some, is_none, IfSome, if◌then◌else◌}
 use Rattle.std.specs.List.{find}
 use Rattle.std.specs.Int.{w32, to_be_bytes}
 use Rattle.ts_packets.specs.declared.adaptation_field.AdaptationField.{AdaptationField}
@@ -104,6 +104,10 @@ has_fault bytes Sync = not (sync_byte bytes == 0x47)
 has_fault bytes ErrorFlag = transport_error_indicator bytes == 1
 has_fault bytes Scrambled = not (transport_scrambling_control bytes == 0)
 has_fault bytes BadField = not (is_length_allowed (adaptation_field_control bytes) (adaptation_field_length bytes)) || is_too_short (field_bytes bytes)
+
+-- nothing is wrong with the field, and these are the field and the payload
+abbrev pub HasFieldAndPayload : List ℕ → Option AdaptationField → List ℕ → Type 0
+HasFieldAndPayload bytes field payload = (has_fault bytes BadField ≡ false) × (field ≡ (fields_of bytes).field) × (payload ≡ (fields_of bytes).payload)
 
 -- the first fault that the bytes have
 abbrev pub refusal : List ℕ → Option PacketFault

@@ -1,8 +1,7 @@
-ghost use Rattle.std.specs.Prelude.{◌≡◌, ◌≢◌, ℕ, true, false, ◌+◌, ◌*◌, ◌^◌, ◌<◌, ◌≤◌, length, take, drop, IfOk, IfErr, IfSome, IsOkAnd};
+ghost use Rattle.std.specs.Prelude.{◌≡◌, ◌≢◌, ℕ, true, false, ◌+◌, ◌*◌, ◌^◌, ◌<◌, ◌≤◌, length, IfOk, IfErr, IfSome, IsOkAnd};
 ghost use Rattle.std.specs.Option.{option_map};
 ghost use Rattle.std.specs.Result.{result_ok, result_err};
-ghost use Rattle.ts_packets.specs.AdaptationField.{field_of, is_too_short};
-ghost use Rattle.ts_packets.specs.Packet.{PacketRecord, record_of, sync_byte, packet_identifier, IsPacket, refusal, packet_of, IsWritable, written, written_header, has_fault, fields_of};
+ghost use Rattle.ts_packets.specs.Packet.{PacketRecord, record_of, sync_byte, packet_identifier, adaptation_field_control, adaptation_field_length, has_field, is_length_allowed, HasFieldAndPayload, IsPacket, refusal, packet_of, IsWritable, written, written_header, has_fault};
 ghost use Rattle.ts_packets.specs.declared.packet_fault.PacketFault.TheVariants.{BadField};
 
 use crate::adaptation_field::AdaptationField;
@@ -137,8 +136,7 @@ pub fn pid_of(bytes: &[u8; PACKET_BYTES]) -> Result<u16, PacketFault>
 fn field_and_payload(
     bytes: &[u8; PACKET_BYTES],
 ) -> Result<(Option<AdaptationField>, &[u8]), PacketFault>
-    ensures ok { IfOk result (λ read. (has_fault bytes.now BadField ≡ false)
-        × (read.0 ≡ (fields_of bytes.now).field) × (read.1.now ≡ (fields_of bytes.now).payload)) }
+    ensures ok { IfOk result (λ read. HasFieldAndPayload bytes.now read.0 read.1.now) }
     ensures err { IfErr result (λ fault. (fault ≡ BadField) × (has_fault bytes.now BadField ≡ true)) }
 {
     let length = bytes[HEADER_BYTES] as usize;
@@ -153,15 +151,17 @@ fn field_and_payload(
     }
 }
 
-/// A field of this length behind its length byte, and the payload behind it. The only error is BadField.
+/// The adaptation field of a length that is allowed, and the payload behind it. The only error is BadField.
+#[tactic(auto, using(crate::proofs::Elements::elements))]
 fn field_then_payload(
     bytes: &[u8; PACKET_BYTES],
     length: usize,
 ) -> Result<(Option<AdaptationField>, &[u8]), PacketFault>
-    requires { length ≤ 183 }
-    ensures ok { IfOk result (λ read. (is_too_short (take length (drop 5 bytes.now)) ≡ false)
-        × (read.0 ≡ Some (field_of (take length (drop 5 bytes.now)))) × (read.1.now ≡ drop (5 + length) bytes.now)) }
-    ensures err { IfErr result (λ fault. (fault ≡ BadField) × (is_too_short (take length (drop 5 bytes.now)) ≡ true)) }
+    requires field { has_field bytes.now ≡ true }
+    requires size { length ≡ adaptation_field_length bytes.now }
+    requires allowed { is_length_allowed (adaptation_field_control bytes.now) length ≡ true }
+    ensures ok { IfOk result (λ read. HasFieldAndPayload bytes.now read.0 read.1.now) }
+    ensures err { IfErr result (λ fault. (fault ≡ BadField) × (has_fault bytes.now BadField ≡ true)) }
 {
     let field = AdaptationField::read(&bytes[HEADER_BYTES + 1..HEADER_BYTES + 1 + length])?;
     Ok((Some(field), &bytes[HEADER_BYTES + 1 + length..]))

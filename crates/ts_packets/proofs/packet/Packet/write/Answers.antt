@@ -1,8 +1,8 @@
-use Rattle.std.proofs.Common.{◌≡◌, ◌<◌, ◌≤◌, ◌+◌, ◌-◌, ◌++◌, ℕ, List, Option, Some, take, drop, length, length-append, length-take, length-drop, arith, sym, ap, subst, ◌∙◌}
+use Rattle.std.proofs.Common.{◌≡◌, ◌≤◌, ◌+◌, ◌-◌, ◌++◌, ℕ, List, Option, Some, take, drop, length, length-append, length-take, length-drop, arith, sym, ap, subst, ◌∙◌}
 use borrow.Rule.Slice.PartMut.{put_mid}
 use Rattle.ts_packets.specs.declared.adaptation_field.AdaptationField.{AdaptationField}
 use Rattle.ts_packets.specs.AdaptationField.{least_length, written_field}
-use Rattle.ts_packets.specs.Packet.{PacketRecord, record_of, IsPacket, IsPayloadLength, written, written_header}
+use Rattle.ts_packets.specs.Packet.{record_of, IsPacket, IsPayloadLength, written_header}
 use Rattle.ts_packets.proofs.Writing.{written-alone, written-beside}
 use Rattle.ts_packets.proofs.WrittenPackets.{written-packet}
 use Rattle.ts_packets.proofs.packet.Packet.write.Goals as goal
