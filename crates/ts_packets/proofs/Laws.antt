@@ -22,6 +22,7 @@ has_record bytes size = (λ passes. (fields_of bytes, passes-packet _ bytes size
 
 -- ---- a file whose first piece has 188 bytes
 
+-- a list from the places that follow
 map_shifted : {X : Type 0} (f g : ℕ → X) (a n : ℕ) → ((k : ℕ) → f (k + 1) ≡ g k) → map f (range_with_len (a + 1) n) ≡ map g (range_with_len a n)
 map_shifted f g a zero same = refl
 map_shifted f g a (suc n) same =

@@ -1,5 +1,5 @@
 -- Bytes have a record exactly where nothing refuses them.
-use Rattle.std.proofs.Common.{◌≡◌, ◌≢◌, ℕ, ◌<◌, ◌≤◌, Bool, true, false, not, cond, List, [], ◌∷◌, length, get_or, drop, Option, Some, None, refl, sym, ap, ◌∙◌, arith}
+use Rattle.std.proofs.Common.{◌≡◌, ◌≢◌, ℕ, ◌<◌, ◌≤◌, Bool, true, false, not, cond, ◌+◌, List, [], ◌∷◌, length, get_or, take, drop, Option, Some, None, refl, sym, ap, ◌∙◌, arith}
 use Rattle.std.proofs.lemmas.Bool.{or_parts, not-false, eqb-true, eqb-false}
 use Rattle.std.proofs.lemmas.Bool.Decides.{nat_tests}
 use Rattle.std.specs.Prelude.{is_none, nat_eq, ◌==◌, bit_and}
@@ -7,15 +7,16 @@ use Rattle.std.specs.List.{find}
 use Rattle.ts_packets.specs.declared.adaptation_field.AdaptationField.{AdaptationField}
 use Rattle.ts_packets.specs.declared.packet_fault.PacketFault.{PacketFault}
 use Rattle.ts_packets.specs.declared.packet_fault.PacketFault.TheVariants.{Sync, ErrorFlag, Scrambled, BadField}
-use Rattle.ts_packets.specs.AdaptationField.{is_too_short}
-use Rattle.ts_packets.specs.Packet.{PacketRecord, sync_byte, packet_identifier, payload_unit_start_indicator, continuity_counter, adaptation_field_control, adaptation_field_length, field_bytes, is_length_allowed, has_fault, HasFieldAndPayload, IsFieldSound, IsPacket, fields_of, refusal, packet_of}
+use Rattle.ts_packets.specs.AdaptationField.{field_of, is_too_short}
+use Rattle.ts_packets.specs.Packet.{PacketRecord, sync_byte, packet_identifier, payload_unit_start_indicator, continuity_counter, adaptation_field_control, adaptation_field_length, has_field, field_bytes, is_length_allowed, has_fault, HasFieldAndPayload, IsFieldSound, IsPacket, fields_of, refusal, packet_of}
 use Rattle.ts_packets.proofs.Elements.{adaptation_field_control-is, transport_error_indicator-is, continuity_counter-is, pcr_flag-is, and_15, elements}
 
-allowed : (control length : ℕ) → control < 4 → control ≢ 0 → (control ≡ 2 → length ≡ 183) → (control ≡ 3 → length ≤ 182) → is_length_allowed control length ≡ true
-allowed control length below used alone beside = grind (arith, nat_tests)
+-- what a sound field keeps is what the test of its length asks for
+allowed : (control size : ℕ) → control < 4 → control ≢ 0 → (control ≡ 2 → size ≡ 183) → (control ≡ 3 → size ≤ 182) → is_length_allowed control size ≡ true
+allowed control size below used alone beside = grind (arith, nat_tests)
 
-allowed-tells : (control length : ℕ) → is_length_allowed control length ≡ true → (control ≢ 0) × ((control ≡ 2 → length ≡ 183) × (control ≡ 3 → length ≤ 182))
-allowed-tells control length is = grind (arith, nat_tests)
+allowed-tells : (control size : ℕ) → is_length_allowed control size ≡ true → (control ≢ 0) × ((control ≡ 2 → size ≡ 183) × (control ≡ 3 → size ≤ 182))
+allowed-tells control size is = grind (arith, nat_tests)
 
 -- a sound field is no fault
 pub sound-passes : (bytes : List ℕ) → IsFieldSound bytes → has_fault bytes BadField ≡ false
@@ -67,9 +68,21 @@ packet-found packet bytes is = ap (λ (fault : Option PacketFault). cond (is_non
 
 -- ---- what the code finds
 
-pub payload_alone : (bytes payload : List ℕ) → adaptation_field_control bytes ≡ 1 → payload ≡ drop 4 bytes → HasFieldAndPayload bytes None payload
-payload_alone bytes payload alone is = (rw (alone, pcr_flag-is []) refl, rw alone refl, rw alone is)
+-- where there is payload alone
+pub payload_alone : (bytes payload : List ℕ) → has_field bytes ≡ false → is_length_allowed (adaptation_field_control bytes) (adaptation_field_length bytes) ≡ true → payload ≡ drop 4 bytes → HasFieldAndPayload bytes None payload
+payload_alone bytes payload none allowed is = (rw (allowed, none, pcr_flag-is []) refl, rw none refl, rw none is)
 
+-- where there is a field, with room for its PCR
+pub field_first : (bytes : List ℕ) (size : ℕ) (part : List ℕ) (field : AdaptationField) (payload : List ℕ) → has_field bytes ≡ true → is_length_allowed (adaptation_field_control bytes) (adaptation_field_length bytes) ≡ true → adaptation_field_length bytes ≡ size →
+    part ≡ take size (drop 5 bytes) → (is_too_short part ≡ false) × (field ≡ field_of part) → payload ≡ drop (5 + size) bytes → HasFieldAndPayload bytes (Some field) payload
+field_first bytes size part field payload some allowed size-is part-is found payload-is = (rw (allowed, some, size-is, ← part-is) found.0, rw (some, size-is, ← part-is) (ap Some found.1), rw (some, size-is) payload-is)
+
+-- a field that was read
+pub field_found : (too_short : Bool) (found field : AdaptationField) → Some field ≡ cond too_short None (Some found) → (too_short ≡ false) × (field ≡ found)
+field_found true found field e = absurd cc
+field_found false found field e = (refl, cc)
+
+-- a record from its parts, and equal ones from equal parts
 abbrev pub record_from : ℕ → Bool → ℕ → Option AdaptationField → List ℕ → PacketRecord
 record_from pid start counter field payload = record { pid = pid; start = start; counter = counter; field = field; payload = payload }
 

@@ -18,6 +18,7 @@ pcr_fits : (pcr : Option ℕ) (discontinuity : Bool) (n : ℕ) → (if is_some p
 pcr_fits None discontinuity n room = omega arith
 pcr_fits (Some ticks) discontinuity n room = omega arith
 
+-- a field has the length that it is written at
 pub length-written_field_bytes : (field : AdaptationField) (n : ℕ) → least_length field ≤ n → length (written_field_bytes field n) ≡ n
 length-written_field_bytes field zero room = refl
 length-written_field_bytes field (suc n) room =

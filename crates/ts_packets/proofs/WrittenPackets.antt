@@ -41,6 +41,7 @@ front packet rest pid_fits counter_fits =
       counter = omega (arith, continuity_counter-is bytes);
     }
 
+-- the bit for payload says whether there is some
 payload_flag : (n : ℕ) → ((flag (nat_lt 0 n) ≡ 0) × (n ≡ 0)) ⊎ ((flag (nat_lt 0 n) ≡ 1) × (0 < n))
 payload_flag n = elim (cases_lt 0 n) [
   | inl some ↦ inr (rw (lt-ltb 0 n some) refl, some)

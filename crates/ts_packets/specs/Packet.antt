@@ -94,9 +94,9 @@ pub record IsPacket (packet : PacketRecord) (bytes : List ℕ) : Type 0 where
 
 -- ---- what refuses it
 
--- the lengths that adaptation_field_control allows
+-- adaptation_field_control allows a field of this length, or has none
 abbrev pub is_length_allowed : ℕ → ℕ → Bool
-is_length_allowed control length = (control == 1) || ((control == 2) && (length == 183)) || ((control == 3) && nat_le length 182)
+is_length_allowed control size = (control == 1) || ((control == 2) && (size == 183)) || ((control == 3) && nat_le size 182)
 
 -- the bytes have this fault
 abbrev pub has_fault : List ℕ → PacketFault → Bool

@@ -1,8 +1,6 @@
 ghost use Rattle.std.specs.Prelude.{◌≡◌, ◌*◌, ◌^◌, ◌-◌, ◌<◌, ◌≤◌, length, if◌then◌else◌};
 ghost use Rattle.ts_packets.specs.AdaptationField.{field_of, is_too_short, ticks_of, written_flags, written_pcr, written_field, IsPcrInRange, least_length};
 
-use crate::packet_fault::PacketFault;
-
 /// `discontinuity_indicator` in the flags.
 const DISCONTINUITY_INDICATOR: u8 = 1 << 7;
 
@@ -36,13 +34,13 @@ pub struct AdaptationField {
 }
 
 impl AdaptationField {
-    /// The field of these bytes behind its length byte. The error is BadField, where its PCR has no room in them.
+    /// The field of these bytes behind its length byte. None where its PCR has no room in them.
     #[tactic(auto, using(crate::proofs::Elements::elements))]
-    pub(crate) fn read(bytes: &[u8]) -> Result<AdaptationField, PacketFault>
-        ensures { result ≡ (if is_too_short bytes.now then Err PacketFault.BadField else Ok (field_of bytes.now)) }
+    pub(crate) fn read(bytes: &[u8]) -> Option<AdaptationField>
+        ensures { result ≡ (if is_too_short bytes.now then None else Some (field_of bytes.now)) }
     {
         let Some(flags) = bytes.first() else {
-            return Ok(AdaptationField {
+            return Some(AdaptationField {
                 discontinuity: false,
                 pcr: None,
             });
@@ -51,11 +49,11 @@ impl AdaptationField {
         let pcr = if flags & PCR_FLAG == 0 {
             None
         } else if bytes.len() < FLAGS_AND_PCR_BYTES {
-            return Err(PacketFault::BadField);
+            return None;
         } else {
             Some(read_pcr(bytes))
         };
-        Ok(AdaptationField { discontinuity, pcr })
+        Some(AdaptationField { discontinuity, pcr })
     }
 
     /// Fills the room between header and payload: the length byte, flags, PCR and stuffing.

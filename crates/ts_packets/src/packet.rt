@@ -1,7 +1,7 @@
 ghost use Rattle.std.specs.Prelude.{◌≡◌, ◌≢◌, ℕ, true, false, ◌+◌, ◌*◌, ◌^◌, ◌<◌, ◌≤◌, length, IfOk, IfErr, IfSome, IsOkAnd};
 ghost use Rattle.std.specs.Option.{option_map};
 ghost use Rattle.std.specs.Result.{result_ok, result_err};
-ghost use Rattle.ts_packets.specs.Packet.{PacketRecord, record_of, sync_byte, packet_identifier, adaptation_field_control, adaptation_field_length, has_field, is_length_allowed, HasFieldAndPayload, IsPacket, refusal, packet_of, IsWritable, written, written_header, has_fault};
+ghost use Rattle.ts_packets.specs.Packet.{PacketRecord, record_of, sync_byte, packet_identifier, adaptation_field_control, adaptation_field_length, is_length_allowed, HasFieldAndPayload, IsPacket, refusal, packet_of, IsWritable, written, written_header, has_fault};
 ghost use Rattle.ts_packets.specs.declared.packet_fault.PacketFault.TheVariants.{BadField};
 
 use crate::adaptation_field::AdaptationField;
@@ -56,7 +56,8 @@ pub struct Packet<'a> {
 }
 
 impl<'a> Packet<'a> {
-    /// The packet that the bytes stand for. An error is the first fault that they have, in the order of `PacketFault`.
+    /// The packet that the bytes stand for, its payload lent from them. An error is the first fault that they have, in
+    /// the order of `PacketFault`.
     #[tactic(auto, using(crate::proofs::Elements::elements))]
     pub fn read(bytes: &'a [u8; PACKET_BYTES]) -> Result<Packet<'a>, PacketFault>
         // What is read stands for the bytes, and what stands for the bytes is read.
@@ -84,8 +85,9 @@ impl<'a> Packet<'a> {
     }
 
     /// Writes the packet: priority and scrambling 0, reserved bits 1, and stuffing bytes FF in its adaptation field up
-    /// to the payload. A payload of exactly 184 bytes has no field. Beside a field stand at most 183 bytes where it
-    /// says nothing, 182 with a discontinuity alone and 176 with a PCR, which is below 300 times 2^33.
+    /// to the payload. It needs a PID below 8,192, a counter below 16 and a PCR below 300 times 2^33. Without a field
+    /// it needs exactly 184 bytes of payload, beside one at most 183, or 182 with a discontinuity alone, or 176 with a
+    /// PCR.
     pub fn write(&self, into: &mut [u8; PACKET_BYTES])
         requires { IsWritable (record_of self.now) }
         ensures packet { IsPacket (record_of self.now) into.new }
@@ -139,30 +141,32 @@ fn field_and_payload(
     ensures ok { IfOk result (λ read. HasFieldAndPayload bytes.now read.0 read.1.now) }
     ensures err { IfErr result (λ fault. (fault ≡ BadField) × (has_fault bytes.now BadField ≡ true)) }
 {
+    if !is_field_length_allowed(bytes) {
+        return Err(PacketFault::BadField);
+    }
+    if bytes[3] & FIELD_PRESENT == 0 {
+        return Ok((None, &bytes[HEADER_BYTES..]));
+    }
+    let length = bytes[HEADER_BYTES] as usize;
+    let field_bytes = &bytes[HEADER_BYTES + 1..HEADER_BYTES + 1 + length];
+    let Some(field) = AdaptationField::read(field_bytes) else {
+        return Err(PacketFault::BadField);
+    };
+    Ok((Some(field), &bytes[HEADER_BYTES + 1 + length..]))
+}
+
+/// True where `adaptation_field_control` allows the adaptation field's length, or says that there is payload alone.
+#[tactic(auto, using(crate::proofs::Elements::elements))]
+fn is_field_length_allowed(bytes: &[u8; PACKET_BYTES]) -> bool
+    ensures { result ≡ is_length_allowed (adaptation_field_control bytes.now) (adaptation_field_length bytes.now) }
+{
     let length = bytes[HEADER_BYTES] as usize;
     match (
         bytes[3] & FIELD_PRESENT != 0,
         bytes[3] & PAYLOAD_PRESENT != 0,
     ) {
-        (false, true) => Ok((None, &bytes[HEADER_BYTES..])),
-        (true, false) if length == MOST_FIELD_BYTES => field_then_payload(bytes, length),
-        (true, true) if length < MOST_FIELD_BYTES => field_then_payload(bytes, length),
-        _ => Err(PacketFault::BadField),
+        (false, has_payload) => has_payload,
+        (true, false) => length == MOST_FIELD_BYTES,
+        (true, true) => length < MOST_FIELD_BYTES,
     }
-}
-
-/// The adaptation field of a length that is allowed, and the payload behind it. The only error is BadField.
-#[tactic(auto, using(crate::proofs::Elements::elements))]
-fn field_then_payload(
-    bytes: &[u8; PACKET_BYTES],
-    length: usize,
-) -> Result<(Option<AdaptationField>, &[u8]), PacketFault>
-    requires field { has_field bytes.now ≡ true }
-    requires size { length ≡ adaptation_field_length bytes.now }
-    requires allowed { is_length_allowed (adaptation_field_control bytes.now) length ≡ true }
-    ensures ok { IfOk result (λ read. HasFieldAndPayload bytes.now read.0 read.1.now) }
-    ensures err { IfErr result (λ fault. (fault ≡ BadField) × (has_fault bytes.now BadField ≡ true)) }
-{
-    let field = AdaptationField::read(&bytes[HEADER_BYTES + 1..HEADER_BYTES + 1 + length])?;
-    Ok((Some(field), &bytes[HEADER_BYTES + 1 + length..]))
 }
