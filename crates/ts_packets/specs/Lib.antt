@@ -1,0 +1,3 @@
+pub mod AdaptationField
+pub mod Packet
+pub mod TransportStream
