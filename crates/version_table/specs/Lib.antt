@@ -2,5 +2,6 @@ pub mod Choice
 pub mod Limits
 pub mod Lines
 pub mod Order
+pub mod Reading
 pub mod Table
 pub mod Text

@@ -11,6 +11,7 @@ mod choices;
 mod fault;
 pub mod limits;
 mod line;
+mod reading;
 mod table;
 
 pub use choice_laws::{

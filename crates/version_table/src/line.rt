@@ -37,3 +37,22 @@ pub enum Line {
         bytes: u64,
     },
 }
+
+/// Which lines may come next.
+#[derive(Clone, Copy, Debug, PartialEq, Eq)]
+pub enum Stage {
+    /// The first line.
+    Title,
+    /// The second line.
+    Slot,
+    /// The third line.
+    Nodes,
+    /// The fourth line.
+    Evaluations,
+    /// A program.
+    Programs,
+    /// A unit, an audio stream or a program.
+    Units,
+    /// An audio packet, an audio stream or a program.
+    Packets,
+}
