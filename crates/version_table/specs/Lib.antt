@@ -1,4 +1,5 @@
 pub mod Choice
+pub mod Draft
 pub mod Limits
 pub mod Lines
 pub mod Order

@@ -8,7 +8,9 @@
 
 mod choice_laws;
 mod choices;
+mod draft;
 mod fault;
+mod first_limit;
 pub mod limits;
 mod line;
 mod reading;
