@@ -5,7 +5,10 @@ pub mod Drafts
 mod Examples
 pub mod Kept
 pub mod Least
+pub mod LineReading
+pub mod LineTexts
 pub mod Numbers
+pub mod Openings
 pub mod ValidUnits
 pub mod Versions
 pub mod Words

@@ -1,5 +1,5 @@
 -- A table while its lines are read: what the private reader keeps.
-use Rattle.std.specs.Prelude.{◌≡◌, ℕ, ◌+◌, ◌<◌, ◌≤◌, List, [], ◌∷◌, ◌++◌, length, map, count_by, All, Option, Some, None, IfNone}
+use Rattle.std.specs.Prelude.{◌≡◌, ℕ, ◌+◌, Bool, true, false, ◌<◌, ◌≤◌, List, [], ◌∷◌, ◌++◌, length, map, count_by, All, Option, Some, None, IfNone}
 use Rattle.std.specs.List.{flat_map}
 use Rattle.std.specs.Option.{option_or}
 use Rattle.version_table.specs.declared.fault.Limit.{Limit}
@@ -38,6 +38,14 @@ Allows stages.Packets (Packet due gone bytes) = Unit {0}
 Allows stages.Packets Audio = Unit {0}
 Allows stages.Packets (Program vbv) = Unit {0}
 Allows stage line = ⊥
+
+-- the text of a table may end at a stage
+abbrev pub is_whole : Stage → Bool
+is_whole stages.Title = false
+is_whole stages.Slot = false
+is_whole stages.Nodes = false
+is_whole stages.Evaluations = false
+is_whole stage = true
 
 abbrev pub head_of : Draft → List Line
 head_of draft = Title ∷ Slot draft.slot ∷ Nodes draft.nodes ∷ Evaluations draft.evaluations ∷ []

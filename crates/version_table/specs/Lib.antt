@@ -3,6 +3,7 @@ pub mod Draft
 pub mod Limits
 pub mod Lines
 pub mod Order
+pub mod Reader
 pub mod Reading
 pub mod Table
 pub mod Text

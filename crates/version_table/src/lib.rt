@@ -13,6 +13,7 @@ mod fault;
 mod first_limit;
 pub mod limits;
 mod line;
+mod read;
 mod reading;
 mod table;
 
@@ -24,4 +25,5 @@ pub use choices::{distortion_of, least_total, level, smallest};
 pub use fault::{Limit, TableFault};
 pub use line::{Line, StatedVersion};
 pub use list_types::{ListOf, OutOfMemory};
+pub use read::read_table;
 pub use table::{AudioPacket, Choice, ProgramRow, Table, Unit, Version};
