@@ -108,7 +108,7 @@ adds_program draft stage vbv allows was = absurd allows
 -- ---- units
 
 -- the numbers of a version are those that a table keeps
-stated_kept : (versions : List StatedVersion) → map stated (map kept versions) ≡ versions
+pub stated_kept : (versions : List StatedVersion) → map stated (map kept versions) ≡ versions
 stated_kept [] = refl
 stated_kept (version ∷ versions) = ap (λ (rest : List StatedVersion). version ∷ rest) (stated_kept versions)
 

@@ -3,6 +3,7 @@ pub mod Chosen
 pub mod Counts
 pub mod DraftLines
 pub mod Drafts
+pub mod Ends
 mod Examples
 pub mod Kept
 pub mod Least
@@ -11,8 +12,10 @@ pub mod LineTexts
 pub mod LinesTable
 pub mod Numbers
 pub mod Openings
+pub mod Readings
 pub mod Rising
 pub mod TableLines
+pub mod TableOf
 pub mod ValidUnits
 pub mod Versions
 pub mod Words
