@@ -16,6 +16,8 @@ mod line;
 mod read;
 mod reading;
 mod table;
+mod text_laws;
+mod write;
 
 pub use choice_laws::{
     least_distortions_bound, level_choices_end, level_choices_fit, smallest_choice_fits,
@@ -27,3 +29,5 @@ pub use line::{Line, StatedVersion};
 pub use list_types::{ListOf, OutOfMemory};
 pub use read::read_table;
 pub use table::{AudioPacket, Choice, ProgramRow, Table, Unit, Version};
+pub use text_laws::{one_reading, some_reading, spelling_is_read};
+pub use write::write_table;
