@@ -15,6 +15,7 @@ pub mod Openings
 pub mod Readers
 pub mod Readings
 pub mod Rising
+pub mod Sizes
 pub mod TableLines
 pub mod TableOf
 pub mod ValidUnits
