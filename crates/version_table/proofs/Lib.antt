@@ -1,4 +1,23 @@
+pub mod Breaks
 pub mod Chosen
+pub mod Counts
+pub mod DraftLines
+pub mod Drafts
+pub mod Ends
 mod Examples
+pub mod Kept
 pub mod Least
+pub mod LineReading
+pub mod LineTexts
+pub mod LinesTable
+pub mod Numbers
+pub mod Openings
+pub mod Readers
+pub mod Readings
+pub mod Rising
+pub mod Sizes
+pub mod TableLines
+pub mod TableOf
 pub mod ValidUnits
+pub mod Versions
+pub mod Words

@@ -1,6 +1,9 @@
 pub mod Choice
+pub mod Draft
 pub mod Limits
 pub mod Lines
 pub mod Order
+pub mod Reader
+pub mod Reading
 pub mod Table
 pub mod Text

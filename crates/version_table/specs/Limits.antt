@@ -81,6 +81,12 @@ test limit kept = record { limit = limit; kept = kept }
 abbrev pub version_tests : StatedVersion → List Test
 version_tests version = test limits.Bytes (is_within 1 VERSION_BYTES_MOST version.bytes) ∷ test limits.Distortion (nat_lt version.distortion DISTORTION_LIMIT) ∷ []
 
+abbrev pub unit_tests : List Line → ℕ → List StatedVersion → List Test
+unit_tests before due versions =
+    test limits.Units (nat_lt (count_by is_unit before) UNITS_MOST)
+    ∷ test limits.Due (nat_le due (time_most before) && rises (last_line before) due)
+    ∷ flat_map version_tests versions
+
 -- the tests of a line behind others, in reading order: first whether there may be one more of its kind
 unfoldable pub tests_of : List Line → Line → List Test
 tests_of before Title = []
@@ -88,10 +94,7 @@ tests_of before (Slot ticks) = test limits.Slot (is_within SLOT_LEAST SLOT_MOST 
 tests_of before (Nodes n) = test limits.Nodes (is_within 1 NODES_MOST n) ∷ []
 tests_of before (Evaluations n) = test limits.Evaluations (nat_le n EVALUATIONS_MOST) ∷ []
 tests_of before (Program vbv) = test limits.Programs (nat_lt (count_by is_program before) PROGRAMS_MOST) ∷ test limits.Vbv (is_within 1 VBV_MOST vbv) ∷ []
-tests_of before (Coded due versions) =
-    test limits.Units (nat_lt (count_by is_unit before) UNITS_MOST)
-    ∷ test limits.Due (nat_le due (time_most before) && rises (last_line before) due)
-    ∷ flat_map version_tests versions.items
+tests_of before (Coded due versions) = unit_tests before due versions.items
 tests_of before Audio = test limits.Audios (nat_lt (audios_here before) AUDIOS_MOST) ∷ []
 tests_of before (Packet due gone bytes) =
     test limits.Packets (nat_lt (count_by is_packet before) TEXT_AUDIO_PACKETS_MOST)

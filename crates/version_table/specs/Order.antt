@@ -2,6 +2,7 @@
 use Rattle.std.specs.Prelude.{◌≡◌, ℕ, ◌^◌, ◌<◌, ◌≤◌, List, [], ◌∷◌, ◌++◌, length, All, Option, Some, None}
 use Rattle.version_table.specs.declared.limits.TheConstants.{VERSIONS_MOST}
 use Rattle.version_table.specs.declared.line.Line.{Line}
+use Rattle.version_table.specs.declared.line.StatedVersion.{StatedVersion}
 use Rattle.version_table.specs.declared.line.Line.TheVariants.{Title, Slot, Nodes, Evaluations, Program, Coded, Audio, Packet}
 
 -- the last of some lines
@@ -38,6 +39,9 @@ MayFollow last line = ⊥
 abbrev pub IsStated : ℕ → Type 0
 IsStated n = n < 2 ^ 64
 
+abbrev pub IsStatedVersion : StatedVersion → Type 0
+IsStatedVersion version = IsStated version.bytes × IsStated version.distortion
+
 -- the numbers of a line are below 2^64, and a unit has 1 to 8 versions
 unfoldable pub HasSyntax : Line → Type 0
 HasSyntax Title = Unit {0}
@@ -46,7 +50,7 @@ HasSyntax (Nodes n) = IsStated n
 HasSyntax (Evaluations n) = IsStated n
 HasSyntax (Program vbv) = IsStated vbv
 HasSyntax (Coded due versions) =
-    IsStated due × (1 ≤ length versions.items) × (length versions.items ≤ VERSIONS_MOST) × All (λ version. IsStated version.bytes × IsStated version.distortion) versions.items
+    IsStated due × (1 ≤ length versions.items) × (length versions.items ≤ VERSIONS_MOST) × All IsStatedVersion versions.items
 HasSyntax Audio = Unit {0}
 HasSyntax (Packet due gone bytes) = IsStated due × IsStated gone × IsStated bytes
 

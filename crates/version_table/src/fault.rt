@@ -1,3 +1,7 @@
+ghost use Rattle.std.specs.Prelude.{◌≡◌, ◌≤◌, length};
+ghost use Rattle.version_table.specs.Limits.{limit_name};
+ghost use Rattle.version_table.specs.Reader.{IsLimitFault};
+
 use arrayvec::ArrayString;
 use list_types::OutOfMemory;
 use thiserror::Error;
@@ -19,6 +23,29 @@ pub enum Limit {
     Packets,
 }
 
+impl Limit {
+    /// The name that refusals give.
+    pub fn name(self) -> &'static str
+        ensures name { result.now ≡ limit_name self }
+        ensures short { length result.now ≤ 32 }
+    {
+        match self {
+            Limit::Slot => "slot",
+            Limit::Nodes => "nodes",
+            Limit::Evaluations => "evaluations",
+            Limit::Programs => "programs",
+            Limit::Vbv => "vbv",
+            Limit::Due => "due",
+            Limit::Bytes => "bytes",
+            Limit::Distortion => "distortion",
+            Limit::Gone => "gone",
+            Limit::Audios => "audios",
+            Limit::Units => "units",
+            Limit::Packets => "packets",
+        }
+    }
+}
+
 /// Why a text gave no table.
 #[derive(Clone, Copy, Debug, PartialEq, Eq, Error)]
 pub enum TableFault {
@@ -35,7 +62,21 @@ pub enum TableFault {
 }
 
 impl From<OutOfMemory> for TableFault {
+    ghost use Rattle.std.specs.Prelude.{◌≡◌};
+    ghost use Rattle.version_table.specs.declared.fault.TableFault.TheVariants as faults;
+
+    ghost from_gives = { λ _ e. e ≡ faults.OutOfMemory };
+
     fn from(_e: OutOfMemory) -> TableFault {
         TableFault::OutOfMemory
     }
+}
+
+/// The refusal for a limit.
+pub fn limit_fault(limit: Limit) -> TableFault
+    ensures { IsLimitFault result limit }
+{
+    let mut name = ArrayString::new();
+    name.push_str(limit.name());
+    TableFault::TableLimit(name)
 }

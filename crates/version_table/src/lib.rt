@@ -8,10 +8,16 @@
 
 mod choice_laws;
 mod choices;
+mod draft;
 mod fault;
+mod first_limit;
 pub mod limits;
 mod line;
+mod read;
+mod reading;
 mod table;
+mod text_laws;
+mod write;
 
 pub use choice_laws::{
     least_distortions_bound, level_choices_end, level_choices_fit, smallest_choice_fits,
@@ -21,4 +27,7 @@ pub use choices::{distortion_of, least_total, level, smallest};
 pub use fault::{Limit, TableFault};
 pub use line::{Line, StatedVersion};
 pub use list_types::{ListOf, OutOfMemory};
+pub use read::read_table;
 pub use table::{AudioPacket, Choice, ProgramRow, Table, Unit, Version};
+pub use text_laws::{one_reading, some_reading, spelling_is_read};
+pub use write::write_table;

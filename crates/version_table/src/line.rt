@@ -1,3 +1,6 @@
+ghost use Rattle.std.specs.Prelude.{◌≡◌};
+ghost use Rattle.version_table.specs.Draft.{stage_after, is_whole};
+
 use crate::limits::VERSIONS_MOST;
 use arrayvec::ArrayVec;
 
@@ -36,4 +39,51 @@ pub enum Line {
         gone: u64,
         bytes: u64,
     },
+}
+
+impl Line {
+    /// Which lines may come behind this one.
+    pub fn next_stage(&self) -> Stage
+        ensures { result ≡ stage_after self.now }
+    {
+        match self {
+            Line::Title => Stage::Slot,
+            Line::Slot(_) => Stage::Nodes,
+            Line::Nodes(_) => Stage::Evaluations,
+            Line::Evaluations(_) => Stage::Programs,
+            Line::Program(_) | Line::Coded { .. } => Stage::Units,
+            Line::Audio | Line::Packet { .. } => Stage::Packets,
+        }
+    }
+}
+
+/// Which lines may come next.
+#[derive(Clone, Copy, Debug, PartialEq, Eq)]
+pub enum Stage {
+    /// The first line.
+    Title,
+    /// The second line.
+    Slot,
+    /// The third line.
+    Nodes,
+    /// The fourth line.
+    Evaluations,
+    /// A program.
+    Programs,
+    /// A unit, an audio stream or a program.
+    Units,
+    /// An audio packet, an audio stream or a program.
+    Packets,
+}
+
+impl Stage {
+    /// Whether the text of a table may end here.
+    pub fn is_whole(self) -> bool
+        ensures { result ≡ is_whole self }
+    {
+        match self {
+            Stage::Title | Stage::Slot | Stage::Nodes | Stage::Evaluations => false,
+            Stage::Programs | Stage::Units | Stage::Packets => true,
+        }
+    }
 }
