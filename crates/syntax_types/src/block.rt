@@ -19,6 +19,17 @@ pub struct Dc {
     pub bits: u16,
 }
 
+/// How the blocks of a macroblock are coded (7.2).
+#[derive(Clone, Copy, Debug, PartialEq, Eq)]
+pub struct BlockWay {
+    /// The macroblock is intra.
+    pub intra: bool,
+    /// The block is one of luminance.
+    pub luma: bool,
+    /// intra_vlc_format: Table B-15 in place of Table B-14 in intra blocks.
+    pub vlc_one: bool,
+}
+
 /// The coefficients of a block of 8 by 8 samples (6.2.6). A block that isn't coded has neither.
 #[derive(Debug, Default, Drop)]
 pub struct Block {

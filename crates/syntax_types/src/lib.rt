@@ -9,8 +9,12 @@ mod macroblock;
 mod picture;
 mod slice;
 
-pub use block::{BLOCK_PLACES, Block, Dc, RunLevel};
+pub use block::{BLOCK_PLACES, Block, BlockWay, Dc, RunLevel};
 pub use list_types::{ListOf, OutOfMemory};
-pub use macroblock::{BLOCKS, Kind, Macroblock, VECTORS_MOST, Vector};
-pub use picture::{PicCoding, Picture, SeqState};
+pub use macroblock::{
+    BLOCKS, DUAL_PRIME, FIELD_BASED, FRAME_BASED, Kind, Macroblock, VECTORS_MOST, Vector,
+};
+pub use picture::{
+    B_PICTURE, FRAME_PICTURE, I_PICTURE, P_PICTURE, PicCoding, Picture, SeqState,
+};
 pub use slice::{Slice, SliceInfo};

@@ -4,6 +4,15 @@ use arrayvec::ArrayVec;
 /// The blocks of a macroblock in 4:2:0 format: four of luminance, then Cb and Cr (6.1.3.1).
 pub const BLOCKS: usize = 6;
 
+/// frame_motion_type field-based: two vectors, each from a field (Table 6-17).
+pub const FIELD_BASED: u8 = 1;
+
+/// frame_motion_type frame-based: one vector.
+pub const FRAME_BASED: u8 = 2;
+
+/// frame_motion_type dual prime: one vector, with a small difference.
+pub const DUAL_PRIME: u8 = 3;
+
 /// The most vectors that a macroblock has in one direction.
 pub const VECTORS_MOST: usize = 2;
 
@@ -42,7 +51,7 @@ pub struct Macroblock {
     pub skipped_before: u16,
     /// macroblock_type.
     pub kind: Kind,
-    /// frame_motion_type (Table 6-17), 2 (frame-based) where none stands.
+    /// frame_motion_type (Table 6-17), `FRAME_BASED` where none stands.
     pub motion_type: u8,
     /// dct_type: the luminance blocks are those of the two fields. False where none stands.
     pub field_dct: bool,

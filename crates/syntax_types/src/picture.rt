@@ -1,10 +1,22 @@
 use crate::slice::Slice;
 use list_types::ListOf;
 
+/// picture_coding_type of an I-picture (Table 6-12).
+pub const I_PICTURE: u8 = 1;
+
+/// picture_coding_type of a P-picture.
+pub const P_PICTURE: u8 = 2;
+
+/// picture_coding_type of a B-picture.
+pub const B_PICTURE: u8 = 3;
+
+/// picture_structure of a frame picture (Table 6-14).
+pub const FRAME_PICTURE: u8 = 3;
+
 /// What the picture header and the picture coding extension say (6.2.3, 6.2.3.1), as far as it is used.
 #[derive(Clone, Copy, Debug, Default, PartialEq, Eq)]
 pub struct PicCoding {
-    /// picture_coding_type: 1 for I, 2 for P, 3 for B (Table 6-12).
+    /// picture_coding_type: `I_PICTURE`, `P_PICTURE` or `B_PICTURE`.
     pub kind: u8,
     /// vbv_delay, in units of 1/90,000 s.
     pub vbv_delay: u16,
@@ -12,7 +24,7 @@ pub struct PicCoding {
     pub f_code: [[u8; 2]; 2],
     /// intra_dc_precision.
     pub dc_precision: u8,
-    /// picture_structure (Table 6-14): 3 for a frame.
+    /// picture_structure: `FRAME_PICTURE`.
     pub structure: u8,
     /// top_field_first.
     pub top_field_first: bool,
