@@ -1,5 +1,6 @@
 pub mod Block
 pub mod Element
+pub mod Exact
 pub mod Grammar
 pub mod Head
 pub mod Headers
