@@ -101,4 +101,8 @@ module _ {A : Type 0} (Codes : A → List ℕ → Type 0) where
     element_refusal bits left other r s (e, p) (f, q) = (one_kind bits r s p q, e ∙ sym f)
 
     pub exact-element : IsExact (element Codes no_code rules)
-    exact-element = record { one_value = element_value; not_both = element_both; one_refusal = element_refusal }
+    exact-element = record {
+      one_value = element_value; not_both = element_both; one_refusal = element_refusal;
+      spelled_front = λ v bits rest (code, coded, passing, split). (code, split);
+      refused_front = λ bits left refusal (e, r). ([], sym e);
+    }

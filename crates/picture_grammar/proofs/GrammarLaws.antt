@@ -1,10 +1,12 @@
 -- Each way to put grammars together keeps what the bits decide.
-use Rattle.std.proofs.Common.{◌≡◌, ℕ, zero, suc, List, [], ◌∷◌, ◌++◌, length, Option, Some, None, Bool, true, false, refl, sym, ap, ap₂, subst, ◌∙◌, inl, inr, ◌⊎◌}
+use Rattle.std.proofs.Common.{◌≡◌, ℕ, zero, suc, List, [], ◌∷◌, ◌++◌, length, Option, Some, None, Bool, true, false, refl, sym, ap, ap₂, subst, ◌∙◌, inl, inr, ◌⊎◌, append_assoc}
+use Rattle.std.proofs.lemmas.List.{append_cancel_right}
 use Rattle.bit_lists.specs.Fields.{bit_list}
+use Rattle.bit_lists.proofs.PrefixLemmas.{bit_list-same}
 use Rattle.picture_grammar.specs.Refusal.{Refusal}
 use Rattle.picture_grammar.specs.Grammar.{Grammar, done, ◌>>=◌, ◌>>◌, optional, when, if_next, at_bits, ahead, repeated, each, many, one_more, SpellsList, RefusesAfter, Next, with_bytes, AreBytes}
 use Rattle.picture_grammar.specs.Grammar.Next.{more, last}
-use Rattle.picture_grammar.specs.Exact.{IsExact}
+use Rattle.picture_grammar.specs.Exact.{IsExact, EndsWith}
 
 -- ---- one thing behind another
 
@@ -13,7 +15,13 @@ exact-done value = record {
   one_value = λ v w bits rest other s t. (s.0 ∙ sym t.0, sym s.1 ∙ t.1);
   not_both = λ v bits rest left refusal s r. r;
   one_refusal = λ bits left other r s p q. absurd p;
+  spelled_front = λ v bits rest s. ([], s.1);
+  refused_front = λ bits left refusal r. absurd r;
 }
+
+-- what ends with something that ends with these ends with these
+EndsWith-through : (bits middle rest : List ℕ) → EndsWith bits middle → EndsWith middle rest → EndsWith bits rest
+EndsWith-through bits middle rest (f, p) (g, q) = (f ++ g, p ∙ ap (λ m. f ++ m) q ∙ sym (append_assoc f g rest))
 
 -- a fact about a value and the bits behind it, at equal ones
 moved : {A : Type 0} (P : A → List ℕ → Type 0) (a b : A) (middle other : List ℕ) → (a ≡ b) × (middle ≡ other) → P a middle → P b other
@@ -34,6 +42,11 @@ module _ {A B : Type 0} (first : Grammar A) (next : A → Grammar B) (exact : Is
       (each_next b).one_refusal middle' left other r s
       (moved (λ x m. (next x).Refuses m r left) a b middle middle' (exact.one_value a b bits middle middle' t t') p) q
 
+  bind_front : (bits left : List ℕ) (refusal : Refusal) → (first >>= next).Refuses bits refusal left → EndsWith bits left
+  bind_front bits left refusal (inl r) = exact.refused_front bits left refusal r
+  bind_front bits left refusal (inr (a, middle, s, r)) =
+      EndsWith-through bits middle left (exact.spelled_front a bits middle s) ((each_next a).refused_front middle left refusal r)
+
   pub exact-bind : IsExact (first >>= next)
   exact-bind = record {
     one_value = λ v w bits rest other (a, middle, s, t) (b, middle', s', t').
@@ -41,6 +54,8 @@ module _ {A B : Type 0} (first : Grammar A) (next : A → Grammar B) (exact : Is
         (moved (λ x m. (next x).Spells v m rest) a b middle middle' (exact.one_value a b bits middle middle' s s') t) t';
     not_both = bind_both;
     one_refusal = bind_refusal;
+    spelled_front = λ v bits rest (a, middle, s, t). EndsWith-through bits middle rest (exact.spelled_front a bits middle s) ((each_next a).spelled_front v middle rest t);
+    refused_front = bind_front;
   }
 
 pub exact-then : {A B : Type 0} (first : Grammar A) (next : Grammar B) → IsExact first → IsExact next → IsExact (first >> next)
@@ -75,14 +90,24 @@ module _ {A : Type 0} (Comes : List ℕ → Type 0) (then else : Grammar A) (exa
   if_refusal bits left other r s (inr (c, p)) (inl (d, q)) = absurd (c d)
   if_refusal bits left other r s (inr (c, p)) (inr (d, q)) = other_exact.one_refusal bits left other r s p q
 
+  if_spelled : (v : A) (bits rest : List ℕ) → (if_next Comes then else).Spells v bits rest → EndsWith bits rest
+  if_spelled v bits rest (inl (c, s)) = exact.spelled_front v bits rest s
+  if_spelled v bits rest (inr (c, s)) = other_exact.spelled_front v bits rest s
+
+  if_refused : (bits left : List ℕ) (refusal : Refusal) → (if_next Comes then else).Refuses bits refusal left → EndsWith bits left
+  if_refused bits left refusal (inl (c, r)) = exact.refused_front bits left refusal r
+  if_refused bits left refusal (inr (c, r)) = other_exact.refused_front bits left refusal r
+
   pub exact-if_next : IsExact (if_next Comes then else)
-  exact-if_next = record { one_value = if_value; not_both = if_both; one_refusal = if_refusal }
+  exact-if_next = record { one_value = if_value; not_both = if_both; one_refusal = if_refusal; spelled_front = if_spelled; refused_front = if_refused }
 
 pub exact-at_bits : {A : Type 0} (grammar : List ℕ → Grammar A) → ((bits : List ℕ) → IsExact (grammar bits)) → IsExact (at_bits grammar)
 exact-at_bits grammar exact = record {
   one_value = λ v w bits. (exact bits).one_value v w bits;
   not_both = λ v bits. (exact bits).not_both v bits;
   one_refusal = λ bits. (exact bits).one_refusal bits;
+  spelled_front = λ v bits. (exact bits).spelled_front v bits;
+  refused_front = λ bits. (exact bits).refused_front bits;
 }
 
 pub exact-ahead : {A : Type 0} (grammar : Grammar A) → IsExact grammar → IsExact (ahead grammar)
@@ -90,6 +115,8 @@ exact-ahead grammar exact = record {
   one_value = λ v w bits rest other (e, after, s) (d, after', t). ((exact.one_value v w bits after after' s t).0, sym e ∙ d);
   not_both = λ v bits rest left refusal (e, after, s) r. exact.not_both v bits after left refusal s r;
   one_refusal = exact.one_refusal;
+  spelled_front = λ v bits rest s. ([], s.0);
+  refused_front = exact.refused_front;
 }
 
 -- ---- what stands several times
@@ -145,6 +172,16 @@ module _ {A B : Type 0} (next : List A → Grammar (Next A B)) (exact : (before 
       let value : v ≡ w = (let e = same.0 in cc) in
       list_refusal (before ++ w ∷ []) vs ws middle' left other r s (moved (λ x m. RefusesAfter next (before ++ x ∷ []) vs m r left) v w middle middle' (value, same.1) p) q
 
+  list_spelled : (before values : List A) (end : B) (bits rest : List ℕ) → SpellsList next before values end bits rest → EndsWith bits rest
+  list_spelled before [] end bits rest s = (exact before).spelled_front (last end) bits rest s
+  list_spelled before (v ∷ vs) end bits rest (middle, s, t) =
+      EndsWith-through bits middle rest ((exact before).spelled_front (more v) bits middle s) (list_spelled (before ++ v ∷ []) vs end middle rest t)
+
+  list_refused : (before values : List A) (bits left : List ℕ) (refusal : Refusal) → RefusesAfter next before values bits refusal left → EndsWith bits left
+  list_refused before [] bits left refusal r = (exact before).refused_front bits left refusal r
+  list_refused before (v ∷ vs) bits left refusal (middle, s, r) =
+      EndsWith-through bits middle left ((exact before).spelled_front (more v) bits middle s) (list_refused (before ++ v ∷ []) vs middle left refusal r)
+
   pub exact-many : IsExact (many next)
   exact-many = record {
     one_value = λ v w bits rest other s t.
@@ -152,6 +189,21 @@ module _ {A B : Type 0} (next : List A → Grammar (Next A B)) (exact : (before 
         (ap₂ (λ (x : List A) (y : B). (x, y)) same.0 same.1, same.2);
     not_both = λ v bits rest left refusal s (values, r). list_both [] v.0 values v.1 bits rest left refusal s r;
     one_refusal = λ bits left other r s (values, p) (others, q). list_refusal [] values others bits left other r s p q;
+    spelled_front = λ v bits rest s. list_spelled [] v.0 v.1 bits rest s;
+    refused_front = λ bits left refusal (values, r). list_refused [] values bits left refusal r;
   }
 
 -- ---- bytes
+
+pub exact-with_bytes : {A : Type 0} (grammar : Grammar A) → IsExact grammar → IsExact (with_bytes grammar)
+exact-with_bytes {A} grammar exact = record {
+  one_value = λ v w bits rest other (s, are, p) (t, are', q).
+      let same = exact.one_value v.0 w.0 bits rest other s t in
+      let bytes : bit_list v.1 ++ rest ≡ bit_list w.1 ++ rest = sym p ∙ q ∙ ap (λ r. bit_list w.1 ++ r) (sym same.1) in
+      let taken : v.1 ≡ w.1 = bit_list-same v.1 w.1 are are' (append_cancel_right (bit_list v.1) (bit_list w.1) rest bytes) in
+      (ap₂ (λ (x : A) (y : List ℕ). (x, y)) same.0 taken, same.1);
+  not_both = λ v bits rest left refusal (s, are, p) r. exact.not_both v.0 bits rest left refusal s r;
+  one_refusal = exact.one_refusal;
+  spelled_front = λ v bits rest (s, are, p). exact.spelled_front v.0 bits rest s;
+  refused_front = exact.refused_front;
+}

@@ -1,3 +1,6 @@
 pub mod Codes
 pub mod ElementLaws
 pub mod GrammarLaws
+pub mod HeaderLaws
+pub mod MacroblockLaws
+pub mod PictureLaws

@@ -1,6 +1,5 @@
 -- The head of a unit: the headers of one coded picture in their order (ISO/IEC 13818-2, 6.2.2).
-use Rattle.std.specs.Prelude.{◌≡◌, ◌+◌, ◌==◌, ◌||◌, ◌&&◌, ℕ, not, fold, Option, Some, None, List, [], ◌∷◌, length, Bool, true, false}
-use Rattle.std.specs.Prelude.{◌%◌}
+use Rattle.std.specs.Prelude.{◌%◌, ◌==◌, ◌||◌, ℕ, not, fold, Option, Some, None, List, [], ◌∷◌, length, Bool, true, false}
 use Rattle.bit_lists.specs.Bits.{IsPrefix}
 use Rattle.syntax_types.specs.declared.picture.PicCoding.{PicCoding}
 use Rattle.syntax_types.specs.declared.picture.SeqState.{SeqState}

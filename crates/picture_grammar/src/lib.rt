@@ -7,5 +7,6 @@
 #![tactic(auto)]
 
 pub mod escape;
+pub mod laws;
 pub mod limits;
 pub mod start_codes;
