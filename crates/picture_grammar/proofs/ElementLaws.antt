@@ -1,14 +1,14 @@
 -- An element whose codes don't begin one another decides by its bits.
-use Rattle.std.proofs.Common.{◌≡◌, ℕ, ◌⊎◌, List, [], ◌∷◌, ◌++◌, Bool, true, ◌&&◌, refl, sym, ap, ap₂, subst, ◌∙◌, inl, inr, append_assoc}
+use Rattle.std.proofs.Common.{◌≡◌, ℕ, ◌⊎◌, List, [], ◌∷◌, ◌++◌, Bool, true, false, ◌&&◌, refl, sym, ap, ap₂, subst, ◌∙◌, inl, inr, append_assoc}
 use Rattle.std.specs.List.{list_all}
-use Rattle.std.proofs.lemmas.Bool.{and_parts}
+use Rattle.std.proofs.lemmas.Bool.{and_parts, both_ways}
 use Rattle.std.proofs.lemmas.List.{append_cancel_left}
 use Rattle.std.proofs.lemmas.List.Folds.{list_all-append}
 use Rattle.bit_lists.specs.Bits.{IsPrefix}
-use Rattle.bit_lists.proofs.PrefixLemmas.{IsPrefix-append, IsPrefix-either}
+use Rattle.bit_lists.proofs.PrefixLemmas.{IsPrefix-append, IsPrefix-either, IsPrefix-through}
 use Rattle.picture_grammar.specs.Refusal.{Refusal}
 use Rattle.picture_grammar.specs.Refusal.Refusal.{End}
-use Rattle.picture_grammar.specs.Element.{Rule, passes, Stands, MayStand, Breaks, element}
+use Rattle.picture_grammar.specs.Element.{Rule, passes, Stands, MayStand, Breaks, IsRefused, element}
 use Rattle.picture_grammar.specs.Exact.{IsExact}
 
 -- no code begins that of another value, and each value has one code that begins a given one
@@ -80,12 +80,7 @@ module _ {A : Type 0} (Codes : A → List ℕ → Type 0) where
     element_both v bits rest left refusal (c, coded, passing, split) (e, inr (inr (m, none, named))) =
         none (record { value = v; code = c; coded = coded; passing = passing; first = subst (IsPrefix c) (sym split) (IsPrefix-append c rest) })
 
-    -- the three ways in which an element is refused
-    Refused : List ℕ → Refusal → Type 0
-    Refused bits refusal = ((¬ MayStand Codes [] bits) × (refusal ≡ no_code)) ⊎ Breaks Codes rules bits refusal ⊎ (MayStand Codes rules bits × (¬ Stands Codes rules bits) × (refusal ≡ End))
-
-    one_kind : (bits : List ℕ) (r s : Refusal) → Refused bits r → Refused bits s → r ≡ s
-    unfolding Refused
+    one_kind : (bits : List ℕ) (r s : Refusal) → IsRefused Codes no_code rules bits r → IsRefused Codes no_code rules bits s → r ≡ s
     one_kind bits r s (inl (none, e)) (inl (none', f)) = e ∙ sym f
     one_kind bits r s (inl (none, e)) (inr (inl b)) = absurd (none (MayStand-front [] b.before bits b.so_far))
     one_kind bits r s (inl (none, e)) (inr (inr (m, cut, f))) = absurd (none (MayStand-front [] rules bits m))
@@ -97,7 +92,6 @@ module _ {A : Type 0} (Codes : A → List ℕ → Type 0) where
     one_kind bits r s (inr (inr (m, cut, e))) (inr (inr (m', cut', f))) = e ∙ sym f
 
     element_refusal : (bits left other : List ℕ) (r s : Refusal) → (element Codes no_code rules).Refuses bits r left → (element Codes no_code rules).Refuses bits s other → (r ≡ s) × (left ≡ other)
-    unfolding Refused
     element_refusal bits left other r s (e, p) (f, q) = (one_kind bits r s p q, e ∙ sym f)
 
     pub exact-element : IsExact (element Codes no_code rules)
@@ -105,4 +99,34 @@ module _ {A : Type 0} (Codes : A → List ℕ → Type 0) where
       one_value = element_value; not_both = element_both; one_refusal = element_refusal;
       spelled_front = λ v bits rest (code, coded, passing, split). (code, split);
       refused_front = λ bits left refusal (e, r). ([], sym e);
+    }
+
+    -- where the empty code is allowed nothing is refused, as a number of no bits
+    pub no_bits : (v : A) (bits left : List ℕ) (refusal : Refusal) → Codes v [] → passes rules v ≡ true → (element Codes no_code rules).Refuses bits refusal left → ⊥
+    no_bits v bits left refusal coded passing = element_both v bits bits left refusal ([], coded, passing, refl)
+
+  -- ---- where a whole code stands
+
+  module _ (free : IsPrefixFree Codes) (w : A) (k : List ℕ) (coded : Codes w k) (bits : List ℕ) (first : IsPrefix k bits) where
+    -- nothing else may stand there
+    pub MayStand-value : (rules : List (Rule A)) (m : MayStand Codes rules bits) → m.value ≡ w
+    MayStand-value rules m = by_cases m.agrees where
+      one_of : IsPrefix m.code k ⊎ IsPrefix k m.code → m.value ≡ w
+      one_of (inl p) = (free m.value w m.code k m.coded coded p).0
+      one_of (inr p) = sym (free w m.value k m.code coded m.coded p).0
+      by_cases : IsPrefix m.code bits ⊎ IsPrefix bits m.code → m.value ≡ w
+      by_cases (inl p) = one_of (IsPrefix-either m.code k bits p first)
+      by_cases (inr p) = one_of (inr (IsPrefix-through k bits m.code first p))
+
+    -- the first rule that its value doesn't pass is broken
+    pub breaks : (before after : List (Rule A)) (broken : Rule A) → passes before w ≡ true → broken.test w ≡ false → Breaks Codes (before ++ broken ∷ after) bits broken.refusal
+    breaks before after broken passing fails = record {
+      before = before; broken = broken; after = after; order = refl;
+      so_far = record { value = w; code = k; coded = coded; passing = passing; agrees = inl first };
+      none = λ m.
+          let same = MayStand-value (before ++ broken ∷ []) m in
+          let tests = sym (list_all-append (λ r. r.test m.value) before (broken ∷ [])) ∙ m.passing in
+          let last = (and_parts (broken.test m.value) true (and_parts (passes before m.value) (passes (broken ∷ []) m.value) tests).1).0 in
+          both_ways (broken.test w) fails (ap broken.test (sym same) ∙ last);
+      named = refl;
     }

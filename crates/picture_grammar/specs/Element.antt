@@ -49,14 +49,18 @@ module _ {A : Type 0} (Codes : A → List ℕ → Type 0) where
     pub none : ¬ MayStand (before ++ broken ∷ []) bits
     pub named : refusal ≡ broken.refusal
 
-  -- an element that is refused in one way where no code stands
+  -- how the bits are refused: no code stands there, none that passes the rules, or the bits end within one that does
+  abbrev pub IsRefused : Refusal → List (Rule A) → List ℕ → Refusal → Type 0
+  IsRefused no_code rules bits refusal =
+      ((¬ MayStand [] bits) × (refusal ≡ no_code))
+      ⊎ Breaks rules bits refusal
+      ⊎ (MayStand rules bits × (¬ Stands rules bits) × (refusal ≡ End))
+
+  -- an element, with the kind of refusal where no code stands, and its rules
   abbrev pub element : Refusal → List (Rule A) → Grammar A
   element no_code rules = record {
     Spells = λ value bits rest. (code : List ℕ) × Codes value code × (passes rules value ≡ true) × (bits ≡ code ++ rest);
-    Refuses = λ bits refusal left. (left ≡ bits) × (
-        ((¬ MayStand [] bits) × (refusal ≡ no_code))
-        ⊎ Breaks rules bits refusal
-        ⊎ (MayStand rules bits × (¬ Stands rules bits) × (refusal ≡ End)));
+    Refuses = λ bits refusal left. (left ≡ bits) × IsRefused no_code rules bits refusal;
   }
 
 -- ---- the elements of the standard
