@@ -1,5 +1,5 @@
 -- No code of an element begins another one of it.
-use Rattle.std.proofs.Common.{◌≡◌, ◌≢◌, ℕ, zero, suc, ℤ, pos, negsuc, unsigned_abs, ◌+◌, ◌*◌, ◌^◌, ◌<◌, ◌≤◌, ◌⊎◌, ◌&&◌, List, [], ◌∷◌, ◌++◌, length, take, get_or, Option, Some, None, cond, append_assoc, Bool, true, false, nat_lt, refl, sym, ap, ap₂, subst, ◌∙◌, inl, inr, arith}
+use Rattle.std.proofs.Common.{◌≡◌, ℕ, zero, suc, ℤ, pos, negsuc, unsigned_abs, ◌+◌, ◌*◌, ◌^◌, ◌<◌, ◌≤◌, ◌⊎◌, ◌&&◌, List, [], ◌∷◌, ◌++◌, length, take, get_or, Option, Some, None, cond, append_assoc, Bool, true, false, nat_lt, refl, sym, ap, ap₂, subst, ◌∙◌, inl, inr, arith}
 use Rattle.std.proofs.Math.Nat.{mod-eq_of_lt}
 use Rattle.std.proofs.lemmas.Bool.{and_parts, ltb-true}
 use Rattle.std.proofs.lemmas.Option.{none-some}
@@ -108,12 +108,16 @@ type_symbol-same : (v w : Kind) → type_symbol v ≡ type_symbol w → v ≡ w
 type_symbol-same v w e = λ i. record { quant = quant i; forward = forward i; backward = backward i; pattern = pattern i; intra = intra i } where
   quant : v.quant ≡ w.quant
   quant = flag-same v.quant w.quant (omega (arith, flag-le v.quant, flag-le w.quant, flag-le v.forward, flag-le w.forward, flag-le v.backward, flag-le w.backward, flag-le v.pattern, flag-le w.pattern, flag-le v.intra, flag-le w.intra))
+
   forward : v.forward ≡ w.forward
   forward = flag-same v.forward w.forward (omega (arith, ap flag quant, flag-le v.forward, flag-le w.forward, flag-le v.backward, flag-le w.backward, flag-le v.pattern, flag-le w.pattern, flag-le v.intra, flag-le w.intra))
+
   backward : v.backward ≡ w.backward
   backward = flag-same v.backward w.backward (omega (arith, ap flag quant, ap flag forward, flag-le v.backward, flag-le w.backward, flag-le v.pattern, flag-le w.pattern, flag-le v.intra, flag-le w.intra))
+
   pattern : v.pattern ≡ w.pattern
   pattern = flag-same v.pattern w.pattern (omega (arith, ap flag quant, ap flag forward, ap flag backward, flag-le v.pattern, flag-le w.pattern, flag-le v.intra, flag-le w.intra))
+
   intra : v.intra ≡ w.intra
   intra = flag-same v.intra w.intra (omega (arith, ap flag quant, ap flag forward, ap flag backward, ap flag pattern, flag-le v.intra, flag-le w.intra))
 

@@ -1,14 +1,12 @@
 -- An element whose codes don't begin one another decides by its bits.
-use Rattle.std.proofs.Common.{◌≡◌, ℕ, ◌⊎◌, List, [], ◌∷◌, ◌++◌, Bool, true, false, ◌&&◌, refl, sym, ap, ap₂, subst, ◌∙◌, inl, inr, append_assoc}
-use Rattle.std.specs.List.{list_all}
+use Rattle.std.proofs.Common.{◌≡◌, ℕ, ◌⊎◌, List, [], ◌∷◌, ◌++◌, true, false, refl, sym, ap, subst, ◌∙◌, inl, inr, append_assoc}
 use Rattle.std.proofs.lemmas.Bool.{and_parts, both_ways}
 use Rattle.std.proofs.lemmas.List.{append_cancel_left}
 use Rattle.std.proofs.lemmas.List.Folds.{list_all-append}
 use Rattle.bit_lists.specs.Bits.{IsPrefix}
 use Rattle.bit_lists.proofs.PrefixLemmas.{IsPrefix-append, IsPrefix-either, IsPrefix-through}
 use Rattle.picture_grammar.specs.Refusal.{Refusal}
-use Rattle.picture_grammar.specs.Refusal.Refusal.{End}
-use Rattle.picture_grammar.specs.Element.{Rule, passes, Stands, MayStand, Breaks, IsRefused, element}
+use Rattle.picture_grammar.specs.Element.{Rule, passes, MayStand, Breaks, IsRefused, element}
 use Rattle.picture_grammar.specs.Exact.{IsExact}
 
 -- no code begins that of another value, and each value has one code that begins a given one
@@ -33,7 +31,12 @@ same_or_earlier {R = R} (x ∷ b) (y ∷ c) k l a d e = longer (same_or_earlier 
 module _ {A : Type 0} (Codes : A → List ℕ → Type 0) where
   MayStand-front : (front back : List (Rule A)) (bits : List ℕ) → MayStand Codes (front ++ back) bits → MayStand Codes front bits
   MayStand-front front back bits m = record {
-    value = m.value; code = m.code; coded = m.coded; passing = passes-front front back m.value m.passing; agrees = m.agrees }
+    value = m.value;
+    code = m.code;
+    coded = m.coded;
+    passing = passes-front front back m.value m.passing;
+    agrees = m.agrees;
+  }
 
   -- a rule that a place breaks stands among the rules
   Breaks-front : (rules : List (Rule A)) (bits : List ℕ) (refusal : Refusal) (b : Breaks Codes rules bits refusal) → rules ≡ (b.before ++ b.broken ∷ []) ++ b.after
@@ -59,17 +62,24 @@ module _ {A : Type 0} (Codes : A → List ℕ → Type 0) where
     -- what stands may stand
     may : (v : A) (bits rest : List ℕ) → (element Codes no_code rules).Spells v bits rest → MayStand Codes rules bits
     may v bits rest (code, coded, passing, split) = record {
-      value = v; code = code; coded = coded; passing = passing;
-      agrees = inl (subst (IsPrefix code) (sym split) (IsPrefix-append code rest)) }
+      value = v;
+      code = code;
+      coded = coded;
+      passing = passing;
+      agrees = inl (subst (IsPrefix code) (sym split) (IsPrefix-append code rest));
+    }
 
     element_value : (v w : A) (bits rest other : List ℕ) → (element Codes no_code rules).Spells v bits rest → (element Codes no_code rules).Spells w bits other → (v ≡ w) × (rest ≡ other)
     element_value v w bits rest other (c, coded, passing, split) (d, coded', passing', split') = by_cases (IsPrefix-either c d bits first first') where
       first : IsPrefix c bits
       first = subst (IsPrefix c) (sym split) (IsPrefix-append c rest)
+
       first' : IsPrefix d bits
       first' = subst (IsPrefix d) (sym split') (IsPrefix-append d other)
+
       rests : c ≡ d → rest ≡ other
       rests e = append_cancel_left c rest other (sym split ∙ split' ∙ ap (λ x. x ++ other) (sym e))
+
       by_cases : IsPrefix c d ⊎ IsPrefix d c → (v ≡ w) × (rest ≡ other)
       by_cases (inl p) = let same = free v w c d coded coded' p in (same.0, rests same.1)
       by_cases (inr p) = let same = free w v d c coded' coded p in (sym same.0, rests (sym same.1))
@@ -96,7 +106,9 @@ module _ {A : Type 0} (Codes : A → List ℕ → Type 0) where
 
     pub exact-element : IsExact (element Codes no_code rules)
     exact-element = record {
-      one_value = element_value; not_both = element_both; one_refusal = element_refusal;
+      one_value = element_value;
+      not_both = element_both;
+      one_refusal = element_refusal;
       spelled_front = λ v bits rest (code, coded, passing, split). (code, split);
       refused_front = λ bits left refusal (e, r). ([], sym e);
     }
@@ -114,6 +126,7 @@ module _ {A : Type 0} (Codes : A → List ℕ → Type 0) where
       one_of : IsPrefix m.code k ⊎ IsPrefix k m.code → m.value ≡ w
       one_of (inl p) = (free m.value w m.code k m.coded coded p).0
       one_of (inr p) = sym (free w m.value k m.code coded m.coded p).0
+
       by_cases : IsPrefix m.code bits ⊎ IsPrefix bits m.code → m.value ≡ w
       by_cases (inl p) = one_of (IsPrefix-either m.code k bits p first)
       by_cases (inr p) = one_of (inr (IsPrefix-through k bits m.code first p))
@@ -121,7 +134,10 @@ module _ {A : Type 0} (Codes : A → List ℕ → Type 0) where
     -- the first rule that its value doesn't pass is broken
     pub breaks : (before after : List (Rule A)) (broken : Rule A) → passes before w ≡ true → broken.test w ≡ false → Breaks Codes (before ++ broken ∷ after) bits broken.refusal
     breaks before after broken passing fails = record {
-      before = before; broken = broken; after = after; order = refl;
+      before = before;
+      broken = broken;
+      after = after;
+      order = refl;
       so_far = record { value = w; code = k; coded = coded; passing = passing; agrees = inl first };
       none = λ m.
           let same = MayStand-value (before ++ broken ∷ []) m in

@@ -3,5 +3,7 @@ pub mod ElementLaws
 pub mod Examples
 pub mod GrammarLaws
 pub mod HeaderLaws
+pub mod LocalLaws
 pub mod MacroblockLaws
 pub mod PictureLaws
+pub mod WrittenBlock

@@ -1,5 +1,5 @@
 -- Macroblocks and slices decide by their bits.
-use Rattle.std.proofs.Common.{◌≡◌, ◌==◌, ℕ, not, List, [], ◌∷◌, Bool, false}
+use Rattle.std.proofs.Common.{◌==◌, ℕ, not, List, [], ◌∷◌, Bool, false}
 use Rattle.std.specs.List.{range_with_len}
 use Rattle.syntax_types.specs.declared.macroblock.TheConstants.{BLOCKS, FRAME_BASED}
 use Rattle.syntax_types.specs.declared.macroblock.Kind.{Kind}
@@ -12,7 +12,7 @@ use Rattle.picture_grammar.specs.Grammar.{when}
 use Rattle.picture_grammar.specs.Element.{uimsbf, one_flag, marker_bit, rule}
 use Rattle.picture_grammar.specs.Block.{block}
 use Rattle.picture_grammar.specs.Motion.{MotionFormat, frame_motion, dmvector, vector_part, motion_vector, motion_vectors}
-use Rattle.picture_grammar.specs.Macroblock.{address_code, address_increment, macroblock_type, motion_type, dct_type, quantiser_scale_code, has_motion_type, has_dct_type, has_forward, has_concealment, f_codes, is_coded, block_way, no_block, blocks, macroblock}
+use Rattle.picture_grammar.specs.Macroblock.{address_code, address_increment, motion_type, dct_type, quantiser_scale_code, has_motion_type, has_dct_type, has_forward, has_concealment, f_codes, is_coded, block_way, no_block, blocks, macroblock}
 use Rattle.picture_grammar.specs.Slice.{extra_information, slice_extension, slice_info, next_macroblock, slice}
 use Rattle.picture_grammar.proofs.GrammarLaws.{exact-done, exact-bind, exact-then, exact-optional, exact-when, exact-if_next, exact-repeated, exact-each, exact-one_more, exact-many}
 use Rattle.picture_grammar.proofs.ElementLaws.{exact-element}

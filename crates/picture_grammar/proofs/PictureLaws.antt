@@ -1,19 +1,17 @@
 -- Each part of a picture decides by its bits, by the order of its elements.
-use Rattle.std.proofs.Common.{◌≡◌, ℕ, ◌+◌, ◌*◌, ◌-◌, ◌%◌, ◌==◌, ◌^◌, List, [], ◌∷◌, ◌++◌, length, Option, Some, None, Bool, true, false, not, ◌&&◌, ◌||◌}
+use Rattle.std.proofs.Common.{ℕ, List, [], Bool}
 use Rattle.prefix_codes.specs.declared.table_name.TableName.{TableName}
 use Rattle.syntax_types.specs.declared.block.BlockWay.{BlockWay}
-use Rattle.syntax_types.specs.declared.block.Block.{Block}
 use Rattle.syntax_types.specs.declared.block.RunLevel.{RunLevel}
 use Rattle.picture_grammar.specs.Refusal.{Refusal}
-use Rattle.picture_grammar.specs.Grammar.{Grammar, done, ◌>>=◌, ◌>>◌, optional, when, if_next, at_bits, ahead, repeated, each, many, one_more, more_of, Next, with_bytes}
-use Rattle.picture_grammar.specs.Grammar.Next.{more, last}
-use Rattle.picture_grammar.specs.Element.{Rule, element, vlclbf, uimsbf, flag_where, one_flag, marker_bit, rule}
+use Rattle.picture_grammar.specs.Grammar.Next.{last}
+use Rattle.picture_grammar.specs.Element.{Rule, vlclbf, uimsbf, flag_where, one_flag}
 use Rattle.picture_grammar.specs.Exact.{IsExact}
 use Rattle.picture_grammar.specs.Block.{Coefficient, dc_coefficient, after_code, coefficient, block}
 use Rattle.picture_grammar.specs.Block.Coefficient.{end_of_block, run_size, escape}
-use Rattle.picture_grammar.proofs.GrammarLaws.{exact-done, exact-bind, exact-then, exact-optional, exact-when, exact-if_next, exact-at_bits, exact-ahead, exact-repeated, exact-each, exact-one_more, exact-many, exact-with_bytes}
+use Rattle.picture_grammar.proofs.GrammarLaws.{exact-done, exact-bind, exact-optional, exact-many}
 use Rattle.picture_grammar.proofs.ElementLaws.{exact-element}
-use Rattle.picture_grammar.proofs.Codes.{free-table, free-number, free-flag, free-behind, free-dmvector, free-type, free-coefficient}
+use Rattle.picture_grammar.proofs.Codes.{free-table, free-number, free-flag, free-coefficient}
 
 -- ---- elements
 

@@ -1,5 +1,5 @@
 -- Blocks (ISO/IEC 13818-2, 6.2.6, 7.2.1 and 7.2.2).
-use Rattle.std.specs.Prelude.{◌≡◌, ◌<◌, ◌+◌, ◌-◌, ◌^◌, ◌==◌, ◌&&◌, ℕ, ℤ, pos, neg_ℤ, not, nat_lt, Option, Some, None, List, [], ◌∷◌, ◌++◌, Bool, true, false, if◌then◌else◌}
+use Rattle.std.specs.Prelude.{◌≡◌, ◌<◌, ◌+◌, ◌-◌, ◌^◌, ◌==◌, ◌&&◌, ℕ, ℤ, pos, neg_ℤ, not, nat_lt, Some, List, [], ◌∷◌, ◌++◌, Bool, true, if◌then◌else◌}
 use Rattle.std.specs.List.{sum_by}
 use Rattle.bit_lists.specs.Bits.{bits_of}
 use Rattle.prefix_codes.specs.declared.symbol.TheConstants.{END_OF_BLOCK, ESCAPE}

@@ -15,3 +15,8 @@ pub record IsExact {A : Type 0} (grammar : Grammar A) : Type 0 where
   pub one_refusal : (bits left other : List ℕ) (r s : Refusal) → grammar.Refuses bits r left → grammar.Refuses bits s other → (r ≡ s) × (left ≡ other)
   pub spelled_front : (v : A) (bits rest : List ℕ) → grammar.Spells v bits rest → EndsWith bits rest
   pub refused_front : (bits left : List ℕ) (refusal : Refusal) → grammar.Refuses bits refusal left → EndsWith bits left
+
+-- What is spelled doesn't depend on what follows it: no element looks ahead.
+pub record IsLocal {A : Type 0} (grammar : Grammar A) : Type 0 where
+  pub anywhere : (v : A) (bits rest : List ℕ) → grammar.Spells v bits rest
+    → (front : List ℕ) × (bits ≡ front ++ rest) × ((following : List ℕ) → grammar.Spells v (front ++ following) following)

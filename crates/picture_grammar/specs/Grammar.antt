@@ -28,7 +28,7 @@ abbrev pub ◌>>=◌ : {A B : Type 0} → Grammar A → (A → Grammar B) → Gr
 ◌>>=◌ {A} first next = record {
   Spells = λ v bits rest. (a : A) × (middle : List ℕ) × first.Spells a bits middle × (next a).Spells v middle rest;
   Refuses = λ bits refusal left. first.Refuses bits refusal left
-    ⊎ ((a : A) × (middle : List ℕ) × first.Spells a bits middle × (next a).Refuses middle refusal left);
+      ⊎ ((a : A) × (middle : List ℕ) × first.Spells a bits middle × (next a).Refuses middle refusal left);
 }
 
 -- a grammar whose value isn't used, then another one

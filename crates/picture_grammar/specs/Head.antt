@@ -1,5 +1,5 @@
 -- The head of a unit: the headers of one coded picture in their order (ISO/IEC 13818-2, 6.2.2).
-use Rattle.std.specs.Prelude.{◌%◌, ◌==◌, ◌||◌, ℕ, not, fold, Option, Some, None, List, [], ◌∷◌, length, Bool, true, false}
+use Rattle.std.specs.Prelude.{◌%◌, ◌==◌, ◌||◌, ℕ, not, fold, Option, Some, None, List, [], ◌∷◌, length, Bool, false}
 use Rattle.bit_lists.specs.Bits.{IsPrefix}
 use Rattle.syntax_types.specs.declared.picture.PicCoding.{PicCoding}
 use Rattle.syntax_types.specs.declared.picture.SeqState.{SeqState}
@@ -38,10 +38,10 @@ extension may_come = do
 -- extension_data() with one of these identifiers, or user_data(), by these start codes; or neither comes
 abbrev pub extension_or_user_data : (ℕ → Bool) → (ℕ → Bool) → List Loaded → Grammar (Next Loaded (Unit {0}))
 extension_or_user_data start_codes identifiers before = if_next (Comes start_codes) (do
-    byte ← start_code BadHeader start_codes
-    loaded ← when (byte == EXTENSION) (extension identifiers) no_matrix
-    optional (byte == USER_DATA) unread
-    done (more loaded)) (done (last tt))
+  byte ← start_code BadHeader start_codes
+  loaded ← when (byte == EXTENSION) (extension identifiers) no_matrix
+  optional (byte == USER_DATA) unread
+  done (more loaded)) (done (last tt))
 
 abbrev pub extensions_and_user_data : (ℕ → Bool) → Grammar (List Loaded × Unit {0})
 extensions_and_user_data identifiers = many (extension_or_user_data (λ byte. byte == EXTENSION || byte == USER_DATA) identifiers)
@@ -73,11 +73,11 @@ sequence_part (Some before) = if_next (Comes (λ byte. byte == SEQUENCE_HEADER))
 -- a group of pictures header and user data, where such a header comes
 abbrev pub group_part : Grammar (Unit {0})
 group_part = if_next (Comes (λ byte. byte == GROUP)) (do
-    start_code BadHeader (λ byte. byte == GROUP)
-    group_header
-    zero_bits BadHeader
-    user_data_only
-    done tt) (done tt)
+  start_code BadHeader (λ byte. byte == GROUP)
+  group_header
+  zero_bits BadHeader
+  user_data_only
+  done tt) (done tt)
 
 -- a picture header, its extension, and what may follow them, which may load matrices
 abbrev pub picture_part : SeqState → Grammar (SeqState × PicCoding)

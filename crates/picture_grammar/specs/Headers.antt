@@ -1,5 +1,5 @@
 -- The headers and extensions before a picture's slices (ISO/IEC 13818-2, 6.2.2, 6.2.3 and 6.3.3 to 6.3.11).
-use Rattle.std.specs.Prelude.{◌≡◌, ◌<◌, ◌+◌, ◌-◌, ◌*◌, ◌^◌, ◌==◌, ◌&&◌, ◌||◌, ℕ, not, nat_le, Option, Some, None, List, [], ◌∷◌, ◌++◌, map, slice_index, unwrap_or, position, Bool, true, false, if◌then◌else◌}
+use Rattle.std.specs.Prelude.{◌==◌, ◌&&◌, ◌||◌, ℕ, not, nat_le, Option, Some, None, List, [], ◌∷◌, map, slice_index, unwrap_or, position, Bool, true, false}
 use Rattle.std.specs.List.{range_with_len}
 use Rattle.quant_math.specs.Matrices.{default_weights}
 use Rattle.quant_math.specs.Scans.{zigzag_scan}
@@ -10,8 +10,8 @@ use Rattle.syntax_types.specs.declared.picture.PicCoding.{PicCoding}
 use Rattle.syntax_types.specs.declared.picture.SeqState.{SeqState}
 use Rattle.picture_grammar.specs.declared.limits.TheConstants.{WIDTH_LEAST, WIDTH_MOST, HEIGHT_LEAST, HEIGHT_MOST, RATE_CODE_MOST, VBV_MOST, MAIN_AT_MAIN, CHROMA_420, F_CODE_MOST}
 use Rattle.picture_grammar.specs.Refusal.Refusal.{BadHeader, Size, Profile, LowDelay, FieldPicture}
-use Rattle.picture_grammar.specs.Grammar.{Grammar, done, ◌>>=◌, ◌>>◌, optional, when, repeated, many}
-use Rattle.picture_grammar.specs.Element.{Rule, uimsbf, one_flag, flag_where, marker_bit, rule}
+use Rattle.picture_grammar.specs.Grammar.{Grammar, done, ◌>>=◌, ◌>>◌, optional, repeated, many}
+use Rattle.picture_grammar.specs.Element.{uimsbf, one_flag, flag_where, marker_bit, rule}
 use Rattle.picture_grammar.specs.Slice.{extra_information}
 
 -- ---- rules of fields

@@ -1,5 +1,5 @@
--- Macroblocks (ISO/IEC 13818-2, 6.2.5, 6.2.5.1, 6.2.5.3, 6.3.16 and 6.3.17).
-use Rattle.std.specs.Prelude.{◌≡◌, ◌+◌, ◌-◌, ◌*◌, ◌==◌, ◌&&◌, ◌||◌, ℕ, min, not, nat_le, nat_lt, Some, None, List, [], ◌∷◌, length, Bool, true, false, slice_index_or, if◌then◌else◌}
+-- Macroblocks (ISO/IEC 13818-2, 6.2.5, 6.2.5.1, 6.2.5.3 and 6.3.17).
+use Rattle.std.specs.Prelude.{◌≡◌, ◌+◌, ◌-◌, ◌*◌, ◌==◌, ◌&&◌, ◌||◌, ℕ, min, not, nat_le, nat_lt, Some, None, List, [], ◌∷◌, length, Bool, false, slice_index_or, if◌then◌else◌}
 use Rattle.std.specs.List.{range_with_len}
 use Rattle.std.specs.Int.{bit_at}
 use Rattle.bit_lists.specs.Fields.{flag}
@@ -21,7 +21,7 @@ use Rattle.picture_grammar.specs.Element.{element, vlclbf, uimsbf, one_flag, mar
 use Rattle.picture_grammar.specs.Block.{block}
 use Rattle.picture_grammar.specs.Motion.{frame_motion, motion_vectors}
 
--- ---- the address (6.3.16)
+-- ---- the address (6.3.17)
 
 -- what macroblock_escape adds to the increment
 abbrev pub escape_increment : ℕ
@@ -73,7 +73,7 @@ dct_type coding kind = when (has_dct_type coding kind) one_flag false
 
 -- ---- the other parts of a macroblock (6.2.5)
 
--- quantiser_scale_code, which isn't 0 (6.3.16)
+-- quantiser_scale_code, which isn't 0 (6.3.16, 6.3.17)
 abbrev pub quantiser_scale_code : Grammar ℕ
 quantiser_scale_code = uimsbf 5 (rule BadType (λ code. not (code == 0)) ∷ [])
 

@@ -1,5 +1,5 @@
 -- Slices (ISO/IEC 13818-2, 6.2.4 and 6.3.16).
-use Rattle.std.specs.Prelude.{◌≡◌, ◌⊎◌, ◌+◌, ◌-◌, ◌/◌, ℕ, Option, Some, None, List, [], ◌∷◌, length, replicate, Bool, true, false}
+use Rattle.std.specs.Prelude.{◌≡◌, ◌⊎◌, ◌+◌, ◌-◌, ◌/◌, ℕ, Option, List, [], ◌∷◌, length, replicate, true, false}
 use Rattle.std.specs.List.{sum_by}
 use Rattle.bit_lists.specs.Bits.{IsPrefix}
 use Rattle.syntax_types.specs.declared.macroblock.Macroblock.{Macroblock}

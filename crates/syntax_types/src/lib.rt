@@ -14,7 +14,5 @@ pub use list_types::{ListOf, OutOfMemory};
 pub use macroblock::{
     BLOCKS, DUAL_PRIME, FIELD_BASED, FRAME_BASED, Kind, Macroblock, VECTORS_MOST, Vector,
 };
-pub use picture::{
-    B_PICTURE, FRAME_PICTURE, I_PICTURE, P_PICTURE, PicCoding, Picture, SeqState,
-};
+pub use picture::{B_PICTURE, FRAME_PICTURE, I_PICTURE, P_PICTURE, PicCoding, Picture, SeqState};
 pub use slice::{Slice, SliceInfo};
