@@ -1,14 +1,12 @@
 -- Grammars that don't look ahead.
-use Rattle.std.proofs.Common.{◌≡◌, ℕ, zero, suc, List, [], ◌∷◌, ◌++◌, Option, Some, None, Bool, true, false, refl, sym, ap, subst, ◌∙◌, append_assoc, append-nil}
-use Rattle.prefix_codes.specs.declared.table_name.TableName.{TableName}
+use Rattle.std.proofs.Common.{◌≡◌, ℕ, List, [], ◌∷◌, ◌++◌, Some, None, Bool, true, false, refl, sym, ap, subst, ◌∙◌, append_assoc, append-nil}
 use Rattle.syntax_types.specs.declared.block.BlockWay.{BlockWay}
 use Rattle.syntax_types.specs.declared.block.Block.{Block}
-use Rattle.syntax_types.specs.declared.block.RunLevel.{RunLevel}
 use Rattle.picture_grammar.specs.Refusal.{Refusal}
 use Rattle.picture_grammar.specs.Grammar.{Grammar, done, ◌>>=◌, optional, many, SpellsList, Next}
 use Rattle.picture_grammar.specs.Grammar.Next.{more, last}
 use Rattle.picture_grammar.specs.Element.{Rule, element, one_flag}
-use Rattle.picture_grammar.specs.Exact.{IsExact, IsLocal}
+use Rattle.picture_grammar.specs.Exact.{IsLocal}
 use Rattle.picture_grammar.specs.Block.{Coefficient, dc_coefficient, after_code, coefficient, block}
 use Rattle.picture_grammar.specs.Block.Coefficient.{end_of_block, run_size, escape}
 use Rattle.picture_grammar.proofs.PictureLaws.{exact-block}
@@ -20,11 +18,15 @@ pub local-element : {A : Type 0} (Codes : A → List ℕ → Type 0) (refusal : 
 local-element Codes refusal rules = record { anywhere = λ v bits rest (code, coded, passing, split). (code, split, λ following. (code, coded, passing, refl)) }
 
 pub local-bind : {A B : Type 0} (first : Grammar A) (next : A → Grammar B) → IsLocal first → ((a : A) → IsLocal (next a)) → IsLocal (first >>= next)
-local-bind first next local each = record { anywhere = λ v bits rest (a, middle, s, t).
-    let (f, p, q) = local.anywhere a bits middle s in
-    let (g, p', q') = (each a).anywhere v middle rest t in
-    (f ++ g, p ∙ ap (λ m. f ++ m) p' ∙ sym (append_assoc f g rest),
-    λ following. (a, g ++ following, subst (λ b. first.Spells a b (g ++ following)) (sym (append_assoc f g following)) (q (g ++ following)), q' following)) }
+local-bind first next local each = record {
+  anywhere = λ v bits rest (a, middle, s, t).
+      let (f, p, q) = local.anywhere a bits middle s in
+      let (g, p', q') = (each a).anywhere v middle rest t in (
+        f ++ g,
+        p ∙ ap (λ m. f ++ m) p' ∙ sym (append_assoc f g rest),
+        λ following. (a, g ++ following, subst (λ b. first.Spells a b (g ++ following)) (sym (append_assoc f g following)) (q (g ++ following)), q' following),
+      );
+}
 
 pub local-optional : {A : Type 0} (test : Bool) (grammar : Grammar A) → IsLocal grammar → IsLocal (optional test grammar)
 local-optional true grammar local = local-bind grammar (λ value. done (Some value)) local (λ value. local-done (Some value))
@@ -32,13 +34,15 @@ local-optional false grammar local = local-done None
 
 module _ {A B : Type 0} (next : List A → Grammar (Next A B)) (local : (before : List A) → IsLocal (next before)) where
   list_local : (before values : List A) (end : B) (bits rest : List ℕ) → SpellsList next before values end bits rest
-    → (front : List ℕ) × (bits ≡ front ++ rest) × ((following : List ℕ) → SpellsList next before values end (front ++ following) following)
+      → (front : List ℕ) × (bits ≡ front ++ rest) × ((following : List ℕ) → SpellsList next before values end (front ++ following) following)
   list_local before [] end bits rest s = (local before).anywhere (last end) bits rest s
   list_local before (value ∷ values) end bits rest (middle, s, t) =
       let (f, p, q) = (local before).anywhere (more value) bits middle s in
-      let (g, p', q') = list_local (before ++ value ∷ []) values end middle rest t in
-      (f ++ g, p ∙ ap (λ m. f ++ m) p' ∙ sym (append_assoc f g rest),
-      λ following. (g ++ following, subst (λ b. (next before).Spells (more value) b (g ++ following)) (sym (append_assoc f g following)) (q (g ++ following)), q' following))
+      let (g, p', q') = list_local (before ++ value ∷ []) values end middle rest t in (
+        f ++ g,
+        p ∙ ap (λ m. f ++ m) p' ∙ sym (append_assoc f g rest),
+        λ following. (g ++ following, subst (λ b. (next before).Spells (more value) b (g ++ following)) (sym (append_assoc f g following)) (q (g ++ following)), q' following),
+      )
 
   pub local-many : IsLocal (many next)
   local-many = record { anywhere = λ v bits rest s. list_local [] v.0 v.1 bits rest s }

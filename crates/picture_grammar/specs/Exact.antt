@@ -19,4 +19,4 @@ pub record IsExact {A : Type 0} (grammar : Grammar A) : Type 0 where
 -- What is spelled doesn't depend on what follows it: no element looks ahead.
 pub record IsLocal {A : Type 0} (grammar : Grammar A) : Type 0 where
   pub anywhere : (v : A) (bits rest : List ℕ) → grammar.Spells v bits rest
-    → (front : List ℕ) × (bits ≡ front ++ rest) × ((following : List ℕ) → grammar.Spells v (front ++ following) following)
+      → (front : List ℕ) × (bits ≡ front ++ rest) × ((following : List ℕ) → grammar.Spells v (front ++ following) following)
