@@ -1,0 +1,9 @@
+pub mod Cycles
+pub mod Elements
+pub mod Prefix
+pub mod Refusals
+pub mod RoundTrip
+pub mod Sound
+pub mod TimeFields
+pub mod WorkedExamples
+pub mod Words

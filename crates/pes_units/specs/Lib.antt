@@ -1,0 +1,5 @@
+pub mod PesHeader
+pub mod PesPackets
+pub mod TimeAxis
+pub mod Times
+pub mod VideoHeader

@@ -1,0 +1,85 @@
+use super::*;
+
+#[test]
+fn a_pts_alone_takes_fourteen_bytes(rt: HostRuntime) {
+    let times = Times {
+        pts: Some(90_000),
+        dts: Some(90_000),
+    };
+    let mut header = [0xFF; MOST_HEADER_BYTES];
+    assert_eq!(rt; write_video_header(&times, &mut header), 14);
+    assert_eq!(rt;
+        &header[..15],
+        [
+            0x00, 0x00, 0x01, 0xE0, 0x00, 0x00, 0x80, 0x80, 0x05, 0x21, 0x00, 0x05, 0xBF, 0x21,
+            0xFF
+        ]
+        .as_slice()
+    );
+}
+
+#[test]
+fn both_times_are_read(rt: HostRuntime) {
+    let bytes = [
+        0x00, 0x00, 0x01, 0xE3, 0x12, 0x34, 0x84, 0xC0, 0x0B, 0x31, 0x00, 0x05, 0xBF, 0x21, 0x1F,
+        0xFF, 0xFF, 0xFF, 0xFF, 0xFF, 0x00,
+    ];
+    let header = PesHeader {
+        stream_id: 0xE3,
+        stated: 0x1234,
+        times: Times {
+            pts: Some(90_000),
+            dts: Some((1 << 33) - 1),
+        },
+        len: 20,
+    };
+    assert_eq!(rt; PesHeader::read(&bytes, true), Ok(header));
+    assert_eq!(rt; PesHeader::read(&bytes, false), Err(PesFault::BadPrefix));
+    assert_eq!(rt; PesHeader::read(&bytes[..20], true), Err(PesFault::Short));
+}
+
+#[test]
+fn the_first_fault_is_answered(rt: HostRuntime) {
+    let mut bytes = [0x00, 0x00, 0x01, 0xC0, 0x00, 0x00, 0x30, 0x40, 0x00, 0x00];
+    assert_eq!(rt; PesHeader::read(&bytes[..2], false), Err(PesFault::Short));
+    assert_eq!(rt; PesHeader::read(&bytes[..9], false), Err(PesFault::Short));
+    assert_eq!(rt; PesHeader::read(&bytes, false), Err(PesFault::Scrambled));
+    bytes[6] = 0x80;
+    assert_eq!(rt; PesHeader::read(&bytes, false), Err(PesFault::BadMarker));
+    bytes[1] = 0x01;
+    assert_eq!(rt;
+        PesHeader::read(&bytes[..2], false),
+        Err(PesFault::BadPrefix)
+    );
+}
+
+#[test]
+fn a_cut_last_packet_is_taken_in_video_alone(rt: HostRuntime) {
+    let mut bytes = [
+        0x00, 0x00, 0x01, 0xE0, 0x00, 0x00, 0x80, 0x80, 0x05, 0x21, 0x00, 0x05, 0xBF, 0x21,
+    ];
+    let header = PesHeader {
+        stream_id: 0xE0,
+        stated: 0,
+        times: Times {
+            pts: Some(90_000),
+            dts: None,
+        },
+        len: 14,
+    };
+    assert_eq!(rt; PesHeader::read(&bytes, true), Err(PesFault::Short));
+    assert_eq!(rt; PesHeader::read_last(&bytes, true), Ok(Some(header)));
+    assert_eq!(rt; PesHeader::read_last(&bytes[..13], true), Ok(None));
+    bytes[3] = 0xC0;
+    bytes[5] = 0xFF;
+    assert_eq!(rt; PesHeader::read_last(&bytes, false), Ok(None));
+    bytes[5] = 8;
+    assert_eq!(rt; PesHeader::read_last(&bytes, false), Err(PesFault::Short));
+}
+
+#[test]
+fn times_go_on_past_their_cycle(rt: HostRuntime) {
+    assert_eq!(rt; unwrap_time(8_589_930_992, 0), 8_589_934_592);
+    assert_eq!(rt; unwrap_time(0, (1 << 33) - 1), -1);
+    assert_eq!(rt; unwrap_time(0, 1 << 32), 1 << 32);
+}

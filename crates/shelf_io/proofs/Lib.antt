@@ -1,0 +1,6 @@
+pub mod Held
+pub mod Written
+pub mod Whole
+pub mod OneFile
+pub mod Taken
+pub mod Started

@@ -1,0 +1,49 @@
+-- Files that are read or written in several calls.
+use Rattle.std.proofs.Common.{◌≡◌, ℕ, ◌-◌, ◌<◌, ◌≤◌, List, [], ◌++◌, Option, None, Some, Bool, true, false, cond, IsSomeAnd, unwrap_or, length, take, drop, refl, ap, sym, ◌∙◌, arith, length-drop, length-take-le}
+use Rattle.std.proofs.Math.Seq.{take-add}
+use Rattle.std.proofs.lemmas.List.{take_at}
+use Rattle.std.specs.Ordering.{nat_cmp, eq_by_cmp}
+use Rattle.std.specs.Cmp.{eq_by_cmp_equiv}
+use Rattle.std.specs.Cmp.Lexicographic.{slice_cmp, nat_list_cmp_total}
+use Rattle.std.specs.FinMap.{get, insert, get-insert, same_map, slice_cmp-IsAntisymmetric, nat_cmp-IsAntisymmetric}
+use Rattle.shelf_io.specs.Files.{Files, IfTold, content_of}
+use Rattle.shelf_io.specs.Buffer.{Fills}
+use Rattle.shelf_io.specs.WholeFile.{AddsNext}
+
+-- a choice made twice by one test is made once
+pub chosen_twice : {A : Type 0} (b : Bool) (x y z : A) → cond b x (cond b y z) ≡ cond b x z
+chosen_twice true x y z = refl
+chosen_twice false x y z = refl
+
+-- of two contents given to one file the second stays
+pub insert_twice : (files : Files) (name first second : List ℕ) → insert (insert files name first) name second ≡ insert files name second
+insert_twice files name first second = same_map nat_list_cmp_total (slice_cmp-IsAntisymmetric nat_cmp-IsAntisymmetric) _ _ (λ q.
+    get-insert nat_list_cmp_total (insert files name first) name second q
+    ∙ ap (cond (eq_by_cmp (slice_cmp nat_cmp) q name) (Some second)) (get-insert nat_list_cmp_total files name first q)
+    ∙ chosen_twice (eq_by_cmp (slice_cmp nat_cmp) q name) (Some second) (Some first) (get files q)
+    ∙ sym (get-insert nat_list_cmp_total files name second q))
+
+-- a file that got a content has it
+pub content_of-insert : (files : Files) (name content : List ℕ) → content_of (insert files name content) name ≡ content
+content_of-insert files name content =
+    ap (λ o. unwrap_or o []) (get-insert nat_list_cmp_total files name content name
+    ∙ ap (λ b. cond b (Some content) (get files name)) ((eq_by_cmp_equiv nat_list_cmp_total).refl name))
+
+-- n bytes that a read gave, at the end of what stands before them
+pub adds_next : (content old new before after : List ℕ) (at n : ℕ) → at ≡ length old → 0 < length before → new ≡ old ++ take n after → Fills (drop at content) before after n → AddsNext old new n content
+adds_next content old new before after at n place room added fills front =
+    let bytes : take n after ≡ take n (drop (length old) content) =
+    ap (take n) fills.front ∙ take_at _ (drop n before) n (length-take-le n (drop at content) fills.within) ∙ ap (λ place. take n (drop place content)) place in
+    (added ∙ ap (λ more. old ++ more) bytes ∙ ap (λ front. front ++ take n (drop (length old) content)) front ∙ sym (take-add (length old) n content), at_end (length-drop at content) fills.progress place room)
+  where
+    at_end : length (drop at content) ≡ length content - at → (0 < length before → 0 < length (drop at content) → 0 < n) → at ≡ length old → 0 < length before → n ≡ 0 → length content ≤ length old
+    at_end rest progress place room none = grind arith
+
+IsSomeAnd_then : {A : Type 0} (o : Option A) {P Q : A → Type 0} → IsSomeAnd o P → ((x : A) → P x → Q x) → IsSomeAnd o Q
+IsSomeAnd_then None h f = h
+IsSomeAnd_then (Some x) h f = f x h
+
+-- what follows of the content of a told file
+pub IfTold_then : (told : Option Files) (name : List ℕ) {P Q : List ℕ → Type 0} → IfTold told name P → ((content : List ℕ) → P content → Q content) → IfTold told name Q
+IfTold_then None name h f = tt
+IfTold_then (Some files) name h f = IsSomeAnd_then (get files name) h f

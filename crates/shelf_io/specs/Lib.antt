@@ -1,0 +1,12 @@
+pub mod Buffer
+pub mod CalmShelf
+pub mod Counts
+pub mod FileShelf
+pub mod Files
+pub mod MemShelf
+pub mod MemSink
+pub mod Reading
+pub mod Sink
+pub mod Source
+pub mod WholeFile
+pub mod Writing

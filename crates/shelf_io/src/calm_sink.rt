@@ -1,0 +1,63 @@
+ghost use Rattle.std.specs.Prelude.{◌≡◌, [], ◌++◌, length, IfOk, OnOk, OnErr, IsOkUnless};
+
+use crate::fault::Fault;
+use crate::sink::Sink;
+use std::alloc::Global;
+use std::marker::Model;
+
+/// A sink in memory that never fails: only want of memory stops a call. Contracts see what was written.
+#[derive(Debug, Drop)]
+pub struct CalmSink {
+    written: Vec<u8>,
+}
+
+impl Model for CalmSink {
+    ghost use Rattle.std.specs.Prelude.{ℕ, List};
+
+    ghost Value = { List ℕ };
+
+    ghost view = { λ a. a.written.items };
+}
+
+impl CalmSink {
+    /// An empty sink.
+    pub fn new(alloc: Global) -> Self
+        ensures { result ≡ [] }
+    {
+        CalmSink {
+            written: Vec::new(alloc),
+        }
+    }
+
+    /// What was written.
+    pub fn bytes(&self) -> &[u8]
+        ensures { result.now ≡ self.now }
+    {
+        self.written.as_slice()
+    }
+}
+
+impl Sink for CalmSink {
+    ghost use Rattle.std.specs.Prelude.{Some};
+    ghost use Rattle.std.proofs.Common.{rules};
+
+    ghost written = { λ sink. Some sink };
+
+    ghost faults = { λ _. 0 };
+
+    ghost keeps = { λ _ _. Unit {0} };
+
+    ghost keeps_itself = { Prim.search rules };
+
+    ghost keeps_on = { Prim.search rules };
+
+    fn put(&mut self, piece: &[u8]) -> Result<usize, Fault>
+        ensures whole { IfOk result (λ n. n ≡ length piece.now) }
+        ensures ok { OnOk result (self.new ≡ self.old ++ piece.now) }
+        ensures err { OnErr result (self.new ≡ self.old) }
+        ensures memory { IsOkUnless result Fault.OutOfMemory }
+    {
+        self.written.extend_from_slice(piece)?;
+        Ok(piece.len())
+    }
+}

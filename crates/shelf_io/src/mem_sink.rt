@@ -1,0 +1,79 @@
+ghost use Rattle.std.specs.Prelude.{◌≡◌, ◌≢◌, ℕ, [], ◌↔◌, length, IsTrue, IfOk, IsErrOf};
+ghost use Rattle.shelf_io.specs.Counts.{one_more};
+
+use crate::fault::Fault;
+use crate::numbered_calls::NumberedCalls;
+use crate::sink::Sink;
+use std::alloc::Global;
+use std::marker::Model;
+
+/// A sink in memory that fails in chosen calls. The calls of `put` are numbered from 1.
+#[derive(Debug, Drop)]
+pub struct MemSink {
+    written: Vec<u8>,
+    faults: u64,
+    calls: NumberedCalls,
+}
+
+impl Model for MemSink {
+    ghost use Rattle.shelf_io.specs.MemSink.{SinkState, sink_code};
+
+    ghost Value = { SinkState };
+
+    ghost coded = { sink_code };
+
+    ghost view = { λ a. record { written = a.written.items; faults = a.faults; calls = a.calls.count; failing = a.calls.failing.items } };
+}
+
+impl MemSink {
+    /// An empty sink, which fails in the calls with these numbers.
+    pub fn new(alloc: Global, fails: Vec<u64>) -> Self
+        ensures { result ≡ record { written = []; faults = 0; calls = 0; failing = fails.items } }
+    {
+        MemSink {
+            written: Vec::new(alloc),
+            faults: 0,
+            calls: NumberedCalls {
+                count: 0,
+                failing: fails,
+            },
+        }
+    }
+
+    /// What was written.
+    pub fn bytes(&self) -> &[u8]
+        ensures { result.now ≡ self.now.written }
+    {
+        self.written.as_slice()
+    }
+}
+
+impl Sink for MemSink {
+    ghost use Rattle.std.specs.Prelude.{Some};
+    ghost use Rattle.std.proofs.Common.{rules};
+    ghost use Rattle.shelf_io.specs.MemSink.{FailsNext, after_put};
+
+    ghost written = { λ sink. Some sink.written };
+
+    ghost faults = { λ sink. sink.faults };
+
+    ghost keeps = { λ old new. new.failing ≡ old.failing };
+
+    ghost keeps_itself = { Prim.search rules };
+
+    ghost keeps_on = { Prim.search rules };
+
+    fn put(&mut self, piece: &[u8]) -> Result<usize, Fault>
+        ensures failed { IsErrOf result Fault.Failed ↔ FailsNext self.old }
+        ensures never_missing { result ≢ Err Fault.Missing }
+        ensures whole { IfOk result (λ n. n ≡ length piece.now) }
+        ensures after { self.new ≡ after_put self.old result piece.now }
+    {
+        if self.calls.next_fails() {
+            self.faults = self.faults.saturating_add(1);
+            return Err(Fault::Failed);
+        }
+        self.written.extend_from_slice(piece)?;
+        Ok(piece.len())
+    }
+}

@@ -1,0 +1,59 @@
+ghost use Rattle.std.specs.Prelude.{◌≡◌};
+
+use crate::fault::Fault;
+use crate::file_shelf::write_some;
+use crate::sink::Sink;
+use std::io;
+use std::marker::Model;
+
+/// Standard output. It tells nothing of what was written.
+#[derive(Drop)]
+pub struct OutSink<'a, R> {
+    rt: &'a R,
+    faults: u64,
+}
+
+impl<'a, R> Model for OutSink<'a, R> {
+    ghost use Rattle.std.specs.Prelude.{ℕ};
+
+    ghost Value = { ℕ };
+
+    ghost view = { λ a. a.faults };
+}
+
+impl<'a, R: Print> OutSink<'a, R> {
+    /// Standard output of the process, with a count of 0 faults.
+    pub fn new(rt: &'a R) -> Self
+        ensures { result ≡ 0 }
+    {
+        OutSink { rt, faults: 0 }
+    }
+}
+
+impl<'a, R: Print> Sink for OutSink<'a, R> {
+    ghost use Rattle.std.specs.Prelude.{None};
+    ghost use Rattle.std.proofs.Common.{rules};
+
+    ghost written = { λ _. None };
+
+    ghost faults = { λ faults. faults };
+
+    ghost keeps = { λ _ _. Unit {0} };
+
+    ghost keeps_itself = { Prim.search rules };
+
+    ghost keeps_on = { Prim.search rules };
+
+    fn put(&mut self, piece: &[u8]) -> Result<usize, Fault> {
+        if piece.is_empty() {
+            return Ok(0);
+        }
+        match write_some(&mut io::writer(self.rt), piece) {
+            Ok(count) => Ok(count),
+            Err(_) => {
+                self.faults = self.faults.saturating_add(1);
+                Err(Fault::Failed)
+            }
+        }
+    }
+}

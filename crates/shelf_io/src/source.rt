@@ -1,0 +1,71 @@
+ghost use Rattle.std.specs.Prelude.{◌≡◌, ℕ, Option, List, length, ◌^◌, ◌<◌, ◌≤◌, IfOk, OnErr, IfSome, OnSome, IsErrOf};
+ghost use Rattle.shelf_io.specs.Buffer.{Fills};
+ghost use Rattle.shelf_io.specs.Counts.{Rose};
+ghost use Rattle.shelf_io.specs.Source.{Takes, FillsUp};
+
+use crate::fault::Fault;
+
+/// Gives bytes in order, and ends. A call that answers a fault takes nothing.
+pub trait Source {
+    /// The bytes that are left, where it tells them.
+    ghost left: { Self → Option (List ℕ) };
+
+    /// No more bytes than these are left, so that every loop over a source ends.
+    ghost most: { Self → ℕ };
+
+    /// How many calls have failed.
+    ghost faults: { Self → ℕ };
+
+    /// How many calls met something that isn't held.
+    ghost absences: { Self → ℕ };
+
+    /// A later state keeps what no call of `take` changes: what it borrows, and what that holds.
+    ghost keeps: { Self → Self → Type 0 };
+
+    /// Takes bytes from the front of what is left into the front of `buf`, and answers how many. It answers 0 for
+    /// a buffer that isn't empty only at the end.
+    fn take(&mut self, buf: &mut [u8]) -> Result<usize, Fault>
+        ensures count { IfOk result (λ n. n ≤ length buf.old) }
+        ensures told { IfOk result (λ n. IfSome (left self.old) (λ bytes. Fills bytes buf.old buf.new n)) }
+        ensures kept { OnErr result (OnSome (left self.old) (buf.new ≡ buf.old)) }
+        ensures ok { IfOk result (Takes (left self.old) (left self.new) (most self.old) (most self.new)) }
+        ensures err { OnErr result ((left self.new ≡ left self.old) × (most self.new ≡ most self.old)) }
+
+        ensures bounded { most self.old ≤ 2 ^ 60 }
+        ensures within { IfSome (left self.old) (λ bytes. length bytes ≤ most self.old) }
+
+        ensures failed { IsErrOf result Fault.Failed → Rose (faults self.old) (faults self.new) }
+        ensures missing { IsErrOf result Fault.Missing → Rose (absences self.old) (absences self.new) }
+        ensures faults { faults self.old ≤ faults self.new }
+        ensures absences { absences self.old ≤ absences self.new }
+        ensures keeps { keeps self.old self.new };
+
+    ghost keeps_itself: { (source : Self) → keeps source source };
+
+    ghost keeps_on: { (first second third : Self) → keeps first second → keeps second third → keeps first third };
+}
+
+/// Fills a buffer up to its end or the source's, and answers how many bytes it got. After a fault what was taken
+/// is lost.
+pub fn take_full<S: Source>(source: &mut S, buf: &mut [u8]) -> Result<usize, Fault>
+    ensures count { IfOk result (λ n. n ≤ length buf.old) }
+    ensures told { IfOk result (λ n. IfSome (S.left source.old) (λ bytes. FillsUp bytes buf.old buf.new n)) }
+    ensures ok { IfOk result (Takes (S.left source.old) (S.left source.new) (S.most source.old) (S.most source.new)) }
+    ensures err { OnErr result ((n : ℕ) × Takes (S.left source.old) (S.left source.new) (S.most source.old) (S.most source.new) n) }
+
+    ensures failed { IsErrOf result Fault.Failed → Rose (S.faults source.old) (S.faults source.new) }
+    ensures missing { IsErrOf result Fault.Missing → Rose (S.absences source.old) (S.absences source.new) }
+    ensures faults { S.faults source.old ≤ S.faults source.new }
+    ensures absences { S.absences source.old ≤ S.absences source.new }
+    ensures keeps { S.keeps source.old source.new }
+{
+    let mut done = 0;
+    while done < buf.len() {
+        let count = source.take(&mut buf[done..])?;
+        if count == 0 {
+            break;
+        }
+        done += count;
+    }
+    Ok(done)
+}
