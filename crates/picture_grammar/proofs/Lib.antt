@@ -1,0 +1,9 @@
+pub mod Codes
+pub mod ElementLaws
+pub mod Examples
+pub mod GrammarLaws
+pub mod HeaderLaws
+pub mod LocalLaws
+pub mod MacroblockLaws
+pub mod PictureLaws
+pub mod WrittenBlock

@@ -1,0 +1,13 @@
+pub mod Block
+pub mod Element
+pub mod Exact
+pub mod Grammar
+pub mod Head
+pub mod Headers
+pub mod Macroblock
+pub mod Motion
+pub mod Picture
+pub mod Refusal
+pub mod Slice
+pub mod StartCode
+pub mod Written

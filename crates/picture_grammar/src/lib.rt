@@ -1,0 +1,12 @@
+//! The grammar of a coded picture (ISO/IEC 13818-2, 6.2 and Annex B): which bits spell a block, a macroblock, a slice,
+//! the headers and a whole unit, how each is written, and why other bits are refused.
+//!
+//! The crate is definitions, which every reader and writer of pictures cites, and the numbers in them. A grammar is a
+//! sequence of elements in the order of the syntax tables; what it spells and what it refuses is said once, for all of
+//! them (specs/Grammar, specs/Element). Stands on `syntax_types`, `prefix_codes`, `quant_math` and `bit_lists`.
+#![tactic(auto)]
+
+pub mod escape;
+pub mod laws;
+pub mod limits;
+pub mod start_codes;

@@ -1,0 +1,55 @@
+//! The bytes behind the start code prefix (Table 6-1), and extension_start_code_identifier (Table 6-2).
+
+/// Bits of start_code_prefix, 23 zeros and a one.
+pub const PREFIX_BITS: u32 = 24;
+
+/// picture_start_code.
+pub const PICTURE: u8 = 0x00;
+
+/// slice_start_code of the first macroblock row.
+pub const FIRST_SLICE: u8 = 0x01;
+
+/// The greatest slice_start_code.
+pub const LAST_SLICE: u8 = 0xAF;
+
+/// user_data_start_code.
+pub const USER_DATA: u8 = 0xB2;
+
+/// sequence_header_code.
+pub const SEQUENCE_HEADER: u8 = 0xB3;
+
+/// extension_start_code.
+pub const EXTENSION: u8 = 0xB5;
+
+/// sequence_end_code.
+pub const SEQUENCE_END: u8 = 0xB7;
+
+/// group_start_code.
+pub const GROUP: u8 = 0xB8;
+
+/// Sequence extension.
+pub const SEQUENCE_EXTENSION: u8 = 1;
+
+/// Sequence display extension.
+pub const SEQUENCE_DISPLAY: u8 = 2;
+
+/// Quant matrix extension.
+pub const QUANT_MATRIX: u8 = 3;
+
+/// Copyright extension.
+pub const COPYRIGHT: u8 = 4;
+
+/// Sequence scalable extension.
+pub const SEQUENCE_SCALABLE: u8 = 5;
+
+/// Picture display extension.
+pub const PICTURE_DISPLAY: u8 = 7;
+
+/// Picture coding extension.
+pub const PICTURE_CODING: u8 = 8;
+
+/// Picture spatial scalable extension.
+pub const SPATIAL_SCALABLE: u8 = 9;
+
+/// Picture temporal scalable extension.
+pub const TEMPORAL_SCALABLE: u8 = 10;
