@@ -35,7 +35,7 @@ impl<'a, K: Shelf> Reading<'a, K> {
 
 impl<'a, K: Shelf> Source for Reading<'a, K> {
     ghost use Rattle.shelf_io.specs.Reading.{shelf_of, name_of, place_of, most_from, left_from, KeepsShelf};
-    ghost use Rattle.std.proofs.Common.{rules};
+    ghost use Rattle.std.proofs.Common.{rules, arith};
 
     ghost left = { λ reading. left_from (K.files (shelf_of reading).now) (name_of reading) (place_of reading) };
 
@@ -46,6 +46,8 @@ impl<'a, K: Shelf> Source for Reading<'a, K> {
     ghost absences = { λ reading. K.absences (shelf_of reading).now };
 
     ghost keeps = { KeepsShelf K.files K.write_faults };
+
+    ghost most_fits = { λ reading. Prim.omega arith };
 
     ghost keeps_itself = { Prim.search rules };
 

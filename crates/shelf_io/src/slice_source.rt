@@ -1,4 +1,4 @@
-ghost use Rattle.std.specs.Prelude.{◌≡◌, ◌≤◌, ◌^◌, length, drop, IsOkAnd};
+ghost use Rattle.std.specs.Prelude.{◌≡◌, ◌≤◌, ◌^◌, length, drop, min, slice_get, IsOkAnd};
 ghost use Rattle.shelf_io.specs.Buffer.{Fills};
 
 use crate::buffer::copy_front;
@@ -34,17 +34,19 @@ impl<'a> SliceSource<'a> {
 
 impl<'a> Source for SliceSource<'a> {
     ghost use Rattle.std.specs.Prelude.{Some};
-    ghost use Rattle.std.proofs.Common.{rules};
+    ghost use Rattle.std.proofs.Common.{rules, arith};
 
     ghost left = { λ bytes. Some bytes };
 
-    ghost most = { λ bytes. length bytes };
+    ghost most = { λ bytes. min (length bytes) (2 ^ 60) };
 
     ghost faults = { λ _. 0 };
 
     ghost absences = { λ _. 0 };
 
     ghost keeps = { λ _ _. Unit {0} };
+
+    ghost most_fits = { λ bytes. Prim.omega arith };
 
     ghost keeps_itself = { Prim.search rules };
 
@@ -59,5 +61,17 @@ impl<'a> Source for SliceSource<'a> {
         let count = copy_front(self.rest, buf);
         self.rest = &self.rest[count..];
         Ok(count)
+    }
+
+    fn take_byte(&mut self) -> Result<Option<u8>, Fault>
+        ensures first { IsOkAnd result (λ byte. byte ≡ slice_get self.old 0) }
+        ensures taken { self.new ≡ drop 1 self.old }
+        ensures bounded { length self.old ≤ 2 ^ 60 }
+    {
+        let Some((first, rest)) = self.rest.split_first() else {
+            return Ok(None);
+        };
+        self.rest = rest;
+        Ok(Some(*first))
     }
 }

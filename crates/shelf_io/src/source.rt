@@ -1,4 +1,4 @@
-ghost use Rattle.std.specs.Prelude.{◌≡◌, ℕ, Option, List, length, ◌^◌, ◌<◌, ◌≤◌, IfOk, OnErr, IfSome, OnSome, IsErrOf};
+ghost use Rattle.std.specs.Prelude.{◌≡◌, ℕ, Option, List, length, ◌^◌, ◌<◌, ◌≤◌, slice_get, is_some, if◌then◌else◌, IfOk, OnErr, IfSome, OnSome, IsErrOf};
 ghost use Rattle.shelf_io.specs.Buffer.{Fills};
 ghost use Rattle.shelf_io.specs.Counts.{Rose};
 ghost use Rattle.shelf_io.specs.Source.{Takes, FillsUp};
@@ -31,7 +31,6 @@ pub trait Source {
         ensures ok { IfOk result (Takes (left self.old) (left self.new) (most self.old) (most self.new)) }
         ensures err { OnErr result ((left self.new ≡ left self.old) × (most self.new ≡ most self.old)) }
 
-        ensures bounded { most self.old ≤ 2 ^ 60 }
         ensures within { IfSome (left self.old) (λ bytes. length bytes ≤ most self.old) }
 
         ensures failed { IsErrOf result Fault.Failed → Rose (faults self.old) (faults self.new) }
@@ -39,6 +38,26 @@ pub trait Source {
         ensures faults { faults self.old ≤ faults self.new }
         ensures absences { absences self.old ≤ absences self.new }
         ensures keeps { keeps self.old self.new };
+
+    /// Takes one byte, or answers None at the end.
+    fn take_byte(&mut self) -> Result<Option<u8>, Fault>
+        ensures told { IfOk result (λ byte. IfSome (left self.old) (λ bytes. byte ≡ slice_get bytes 0)) }
+        ensures ok { IfOk result (λ byte. Takes (left self.old) (left self.new) (most self.old) (most self.new)
+            (if is_some byte then 1 else 0)) }
+        ensures err { OnErr result ((left self.new ≡ left self.old) × (most self.new ≡ most self.old)) }
+
+        ensures failed { IsErrOf result Fault.Failed → Rose (faults self.old) (faults self.new) }
+        ensures missing { IsErrOf result Fault.Missing → Rose (absences self.old) (absences self.new) }
+        ensures faults { faults self.old ≤ faults self.new }
+        ensures absences { absences self.old ≤ absences self.new }
+        ensures keeps { keeps self.old self.new }
+    {
+        let mut byte = [0u8];
+        let count = self.take(&mut byte)?;
+        Ok(if count == 0 { None } else { Some(byte[0]) })
+    }
+
+    ghost most_fits: { (source : Self) → most source ≤ 2 ^ 60 };
 
     ghost keeps_itself: { (source : Self) → keeps source source };
 
