@@ -86,8 +86,13 @@ audios_in_audios (packets ∷ audios) =
 -- a program has one line of its own kind
 pub programs_in_program : (program : ProgramRow) → count_by is_program (lines_of_program program) ≡ 1
 programs_in_program program =
-    omega (arith, count-append is_program (Program program.vbv ∷ map line_of_unit program.units) (flat_map lines_of_audio program.audios), count-cons is_program (Program program.vbv) (map line_of_unit program.units),
-    count_none is_program line_of_unit (λ _. refl) program.units, programs_in_audios program.audios)
+    omega (
+      arith,
+      count-append is_program (Program program.vbv ∷ map line_of_unit program.units) (flat_map lines_of_audio program.audios),
+      count-cons is_program (Program program.vbv) (map line_of_unit program.units),
+      count_none is_program line_of_unit (λ _. refl) program.units,
+      programs_in_audios program.audios,
+    )
 
 pub programs_in_programs : (programs : List ProgramRow) → count_by is_program (flat_map lines_of_program programs) ≡ length programs
 programs_in_programs [] = refl

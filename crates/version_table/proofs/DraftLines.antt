@@ -66,8 +66,13 @@ programs_in_head draft = omega (arith, count-append is_program (head_of draft) (
 
 programs_in_open : (draft : Draft) → count_by is_program (open_program draft) ≡ 1
 programs_in_open draft =
-    omega (arith, count-append is_program (Program draft.vbv ∷ map line_of_unit draft.units) (flat_map lines_of_audio draft.audios), count-cons is_program (Program draft.vbv) (map line_of_unit draft.units),
-    count_none is_program line_of_unit (λ _. refl) draft.units, programs_in_audios draft.audios)
+    omega (
+      arith,
+      count-append is_program (Program draft.vbv ∷ map line_of_unit draft.units) (flat_map lines_of_audio draft.audios),
+      count-cons is_program (Program draft.vbv) (map line_of_unit draft.units),
+      count_none is_program line_of_unit (λ _. refl) draft.units,
+      programs_in_audios draft.audios,
+    )
 
 programs_in_stream : (draft : Draft) → count_by is_program (lines_of_audio draft.packets) ≡ 0
 programs_in_stream draft = omega (arith, count-cons is_program Audio (map line_of_packet draft.packets), count_none is_program line_of_packet (λ _. refl) draft.packets)

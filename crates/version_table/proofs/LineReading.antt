@@ -199,7 +199,7 @@ versions_sound (suc most) text rest versions e =
             few = omega (arith, others.few);
             each = All-cons IsStatedVersion v.0 vs.0 (here.bytes, here.distortion) others.each;
             parts = space ∙ ap (λ (t : List ℕ). codes " " ++ t) here.parts ∙ sym (one_version v.0 v.1) ∙ ap (λ (t : List ℕ). text_of_version v.0 ++ t) others.parts
-            ∙ sym (append_assoc (text_of_version v.0) (flat_map text_of_version vs.0) vs.1);
+                ∙ sym (append_assoc (text_of_version v.0) (flat_map text_of_version vs.0) vs.1);
           } in
           subst (λ (t : List ℕ). AreVersionTexts (suc most) text versions t) rest_is (subst (λ (ws : List StatedVersion). AreVersionTexts (suc most) text ws vs.1) versions_is whole)
     ]

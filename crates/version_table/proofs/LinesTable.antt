@@ -101,6 +101,7 @@ packets_kept slot more (packet ∷ packets) walk few =
     dues_go_on (other ∷ packets) first dues =
         let last = last_line_push (behind slot more) (line_of_packet packet) in
         (omega (arith, ap packet_due last, first.0), dues)
+
     gones_go_on : (packets : List AudioPacket) → ComesTo (last_line (behind slot (more ++ line_of_packet packet ∷ []))) packets → Adjacent ◌≤◌ (map (λ p. p.gone) packets) → Adjacent ◌≤◌ (packet.gone ∷ map (λ p. p.gone) packets)
     gones_go_on [] first gones = tt
     gones_go_on (other ∷ packets) first gones =

@@ -71,6 +71,7 @@ tested_next None before line old new whole tests stage = by new.limit refl
   where
     found : new.limit ≡ first_limit before line
     found = tests.0 ∙ ap (λ (ls : List Line). first_limit ls line) whole.lines
+
     by : (o : Option Limit) → new.limit ≡ o → Tested o new.stage new (before ++ line ∷ [])
     by (Some limit) is = break_here before line limit whole.kept (sym found ∙ is)
     by None is =
@@ -133,6 +134,7 @@ read_end text reader rest answer short at none finishes = by (is_whole reader.st
   where
     parts : text ≡ text_of_lines at.before
     parts = at.parts ∙ ap (λ (t : List ℕ). text_of_lines at.before ++ t) none ∙ append-nil (text_of_lines at.before)
+
     by : (b : _) → is_whole reader.stage ≡ b → Answered text answer
     by true whole =
         let ends = rw whole at finishes in

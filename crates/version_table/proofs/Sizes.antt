@@ -27,8 +27,14 @@ version_size : (version : Version) → IsValidVersion version → length (text_o
 version_size version valid =
     let bytes = decimal version.bytes in
     let distortion = decimal version.distortion in
-    omega (arith, length-append (codes " " ++ bytes ++ codes ":") distortion, length-append (codes " " ++ bytes) (codes ":"), length-append (codes " ") bytes,
-    length-decimal-le 7 version.bytes (omega arith) (omega (arith, valid.bytes)) (omega (arith, valid.bytes)), length-decimal-le 15 version.distortion (omega arith) (omega (arith, valid.distortion)) (omega (arith, valid.distortion)))
+    omega (
+      arith,
+      length-append (codes " " ++ bytes ++ codes ":") distortion,
+      length-append (codes " " ++ bytes) (codes ":"),
+      length-append (codes " ") bytes,
+      length-decimal-le 7 version.bytes (omega arith) (omega (arith, valid.bytes)) (omega (arith, valid.bytes)),
+      length-decimal-le 15 version.distortion (omega arith) (omega (arith, valid.distortion)) (omega (arith, valid.distortion)),
+    )
 
 versions_size : (versions : List Version) → All IsValidVersion versions → length (flat_map text_of_version (map stated versions)) ≤ 24 * length versions
 versions_size [] valid = omega arith
@@ -40,8 +46,15 @@ unfolding text_of_line
 unit_size slot coded small valid =
     let due = decimal coded.due in
     let versions = flat_map text_of_version (map stated coded.versions.items) in
-    omega (arith, length-append (codes "unit " ++ due ++ versions) line_end, length-append (codes "unit " ++ due) versions, length-append (codes "unit ") due,
-    length-decimal-le 12 coded.due (omega arith) (omega (arith, valid.due)) (omega (arith, valid.due)), versions_size coded.versions.items valid.versions, valid.few_versions)
+    omega (
+      arith,
+      length-append (codes "unit " ++ due ++ versions) line_end,
+      length-append (codes "unit " ++ due) versions,
+      length-append (codes "unit ") due,
+      length-decimal-le 12 coded.due (omega arith) (omega (arith, valid.due)) (omega (arith, valid.due)),
+      versions_size coded.versions.items valid.versions,
+      valid.few_versions,
+    )
 
 packet_size : (slot : ℕ) (packet : AudioPacket) → slot ≤ SLOT_MOST → IsValidPacket slot packet → length (text_of_line (line_of_packet packet)) ≤ 37
 unfolding text_of_line
@@ -52,10 +65,18 @@ packet_size slot packet small valid =
     let space = codes " " in
     let first = codes "packet " ++ due in
     let second = first ++ space ++ gone in
-    omega (arith, length-append (second ++ space ++ bytes) line_end, length-append (second ++ space) bytes, length-append second space, length-append (first ++ space) gone, length-append first space, length-append (codes "packet ") due,
-    length-decimal-le 12 packet.due (omega arith) (omega (arith, valid.due, valid.gone)) (omega (arith, valid.due, valid.gone)),
-    length-decimal-le 12 packet.gone (omega arith) (omega (arith, valid.gone)) (omega (arith, valid.gone)),
-    length-decimal-le 3 packet.bytes (omega arith) (omega (arith, valid.bytes)) (omega (arith, valid.bytes)))
+    omega (
+      arith,
+      length-append (second ++ space ++ bytes) line_end,
+      length-append (second ++ space) bytes,
+      length-append second space,
+      length-append (first ++ space) gone,
+      length-append first space,
+      length-append (codes "packet ") due,
+      length-decimal-le 12 packet.due (omega arith) (omega (arith, valid.due, valid.gone)) (omega (arith, valid.due, valid.gone)),
+      length-decimal-le 12 packet.gone (omega arith) (omega (arith, valid.gone)) (omega (arith, valid.gone)),
+      length-decimal-le 3 packet.bytes (omega arith) (omega (arith, valid.bytes)) (omega (arith, valid.bytes)),
+    )
 
 -- ---- lists of lines
 
@@ -83,8 +104,15 @@ audios_size : (slot : ℕ) (audios : List (List AudioPacket)) → slot ≤ SLOT_
 audios_size slot [] small valid = omega arith
 audios_size slot (packets ∷ audios) small valid =
     let here = All-head (IsValidAudio slot) packets audios valid in
-    omega (arith, size-append (lines_of_audio packets) (flat_map lines_of_audio audios), size-cons Audio (map line_of_packet packets), audio_line_size, packets_size slot packets small here.each,
-    audios_size slot audios small (All-tail (IsValidAudio slot) packets audios valid), length-append packets (packets_of audios))
+    omega (
+      arith,
+      size-append (lines_of_audio packets) (flat_map lines_of_audio audios),
+      size-cons Audio (map line_of_packet packets),
+      audio_line_size,
+      packets_size slot packets small here.each,
+      audios_size slot audios small (All-tail (IsValidAudio slot) packets audios valid),
+      length-append packets (packets_of audios),
+    )
 
 program_line_size : (vbv : ℕ) → vbv < 10 ^ 3 → length (text_of_line (Program vbv)) ≤ 12
 unfolding text_of_line
@@ -93,27 +121,55 @@ program_line_size vbv small = word_line_size (codes "program ") vbv 3 (omega ari
 program_size : (slot : ℕ) (program : ProgramRow) → slot ≤ SLOT_MOST → IsValidProgram slot program → length (text_of_lines (lines_of_program program)) ≤ 60 + 210 * length program.units + 37 * length (packets_of program.audios)
 program_size slot program small valid =
     let units = map line_of_unit program.units in
-    omega (arith, size-append (Program program.vbv ∷ units) (flat_map lines_of_audio program.audios), size-cons (Program program.vbv) units, program_line_size program.vbv (omega (arith, valid.vbv)),
-    units_size slot program.units small valid.units, audios_size slot program.audios small valid.audios, valid.few_audios)
+    omega (
+      arith,
+      size-append (Program program.vbv ∷ units) (flat_map lines_of_audio program.audios),
+      size-cons (Program program.vbv) units,
+      program_line_size program.vbv (omega (arith, valid.vbv)),
+      units_size slot program.units small valid.units,
+      audios_size slot program.audios small valid.audios,
+      valid.few_audios,
+    )
 
 programs_size : (slot : ℕ) (programs : List ProgramRow) → slot ≤ SLOT_MOST → All (IsValidProgram slot) programs
     → length (text_of_lines (flat_map lines_of_program programs)) ≤ 60 * length programs + 210 * length (units_in programs) + 37 * length (packets_in programs)
 programs_size slot [] small valid = omega arith
 programs_size slot (program ∷ programs) small valid =
-    omega (arith, size-append (lines_of_program program) (flat_map lines_of_program programs), program_size slot program small (All-head (IsValidProgram slot) program programs valid),
-    programs_size slot programs small (All-tail (IsValidProgram slot) program programs valid), length-append program.units (units_in programs), length-append (packets_of program.audios) (packets_in programs))
+    omega (
+      arith,
+      size-append (lines_of_program program) (flat_map lines_of_program programs),
+      program_size slot program small (All-head (IsValidProgram slot) program programs valid),
+      programs_size slot programs small (All-tail (IsValidProgram slot) program programs valid),
+      length-append program.units (units_in programs),
+      length-append (packets_of program.audios) (packets_in programs),
+    )
 
 -- ---- the table
 
 head_size : (slot nodes evaluations : ℕ) → slot < 10 ^ 7 → nodes < 10 ^ 7 → evaluations < 10 ^ 7 → length (text_of_lines (Title ∷ Slot slot ∷ Nodes nodes ∷ Evaluations evaluations ∷ [])) ≤ 100
 unfolding text_of_line
 head_size slot nodes evaluations s n e =
-    omega (arith, size-cons Title (Slot slot ∷ Nodes nodes ∷ Evaluations evaluations ∷ []), size-cons (Slot slot) (Nodes nodes ∷ Evaluations evaluations ∷ []), size-cons (Nodes nodes) (Evaluations evaluations ∷ []), size-cons (Evaluations evaluations) [],
-    word_line_size (codes "slot ") slot 7 (omega arith) s (omega arith), word_line_size (codes "nodes ") nodes 7 (omega arith) n (omega arith), word_line_size (codes "evaluations ") evaluations 7 (omega arith) e (omega arith))
+    omega (
+      arith,
+      size-cons Title (Slot slot ∷ Nodes nodes ∷ Evaluations evaluations ∷ []),
+      size-cons (Slot slot) (Nodes nodes ∷ Evaluations evaluations ∷ []),
+      size-cons (Nodes nodes) (Evaluations evaluations ∷ []),
+      size-cons (Evaluations evaluations) [],
+      word_line_size (codes "slot ") slot 7 (omega arith) s (omega arith),
+      word_line_size (codes "nodes ") nodes 7 (omega arith) n (omega arith),
+      word_line_size (codes "evaluations ") evaluations 7 (omega arith) e (omega arith),
+    )
 
 pub spelling_is_short : (table : Table) → IsTextTable table → length (spelling table) ≤ TABLE_TEXT_MOST
 spelling_is_short table h =
     let valid = h.valid in
     let head = Title ∷ Slot table.slot ∷ Nodes table.nodes ∷ Evaluations table.evaluations ∷ [] in
-    omega (arith, size-append head (flat_map lines_of_program table.programs), head_size table.slot table.nodes table.evaluations (omega (arith, valid.slot_most)) (omega (arith, valid.nodes)) (omega (arith, valid.evaluations)),
-    programs_size table.slot table.programs valid.slot_most valid.programs, valid.few_programs, valid.units, h.few_packets)
+    omega (
+      arith,
+      size-append head (flat_map lines_of_program table.programs),
+      head_size table.slot table.nodes table.evaluations (omega (arith, valid.slot_most)) (omega (arith, valid.nodes)) (omega (arith, valid.evaluations)),
+      programs_size table.slot table.programs valid.slot_most valid.programs,
+      valid.few_programs,
+      valid.units,
+      h.few_packets,
+    )

@@ -53,8 +53,7 @@ unit_syntax : (slot : ℕ) (coded : CodedUnit) → slot ≤ SLOT_MOST → IsVali
 unfolding HasSyntax
 unit_syntax slot coded small valid =
     let versions = coded.versions.items in
-    let len = length-map versions stated in
-    (
+    let len = length-map versions stated in (
       omega (arith, valid.due),
       omega (arith, valid.some_version),
       omega (arith, valid.few_versions),
@@ -74,8 +73,7 @@ units_good slot more (coded ∷ units) small at valid first rising few =
     let here = All-head (IsValidUnit slot) coded units valid in
     let line = line_of_unit coded in
     let keeps : Keeps before line = record { units = omega arith; time = here.due; rising = first; each = unit_versions slot coded here } in
-    let count = count_push is_unit before line in
-    (
+    let count = count_push is_unit before line in (
       (may_stand before line stages.Units at tt (unit_syntax slot coded small here), keeps),
       units_good slot (more ++ line ∷ []) units small (stage_of_push before line) (All-tail (IsValidUnit slot) coded units valid) (next units rising) (rest units rising) (omega arith),
     )
@@ -83,6 +81,7 @@ units_good slot more (coded ∷ units) small at valid first rising few =
     next : (units : List CodedUnit) → Adjacent ◌<◌ (coded.due ∷ map (λ c. c.due) units) → RisesTo (last_line (behind slot (more ++ line_of_unit coded ∷ []))) units
     next [] rising = tt
     next (other ∷ units) rising = ap (λ (last : Option Line). rises last other.due) (last_line_push (behind slot more) (line_of_unit coded)) ∙ lt-ltb coded.due other.due rising.0
+
     rest : (units : List CodedUnit) → Adjacent ◌<◌ (coded.due ∷ map (λ c. c.due) units) → Adjacent ◌<◌ (map (λ c. c.due) units)
     rest [] rising = tt
     rest (other ∷ units) rising = rising.1
@@ -116,11 +115,10 @@ packets_good slot more (packet ∷ packets) small at valid first dues gones few 
       some = here.some_bytes;
       bytes_most = here.bytes;
     } in
-    let count = count_push is_packet before line in
-    (
+    let count = count_push is_packet before line in (
       (may_stand before line stages.Packets at tt (omega (arith, here.due, here.gone), omega (arith, here.gone), omega (arith, here.bytes)), keeps),
       packets_good slot (more ++ line ∷ []) packets small (stage_of_push before line) (All-tail (IsValidPacket slot) packet packets valid) (next packets dues gones)
-      (tail_of ◌≤◌ packet.due (map (λ p. p.due) packets) dues) (tail_of ◌≤◌ packet.gone (map (λ p. p.gone) packets) gones) (omega arith),
+          (tail_of ◌≤◌ packet.due (map (λ p. p.due) packets) dues) (tail_of ◌≤◌ packet.gone (map (λ p. p.gone) packets) gones) (omega arith),
     )
   where
     next : (packets : List AudioPacket) → Adjacent ◌≤◌ (packet.due ∷ map (λ p. p.due) packets) → Adjacent ◌≤◌ (packet.gone ∷ map (λ p. p.gone) packets) → ComesTo (last_line (behind slot (more ++ line_of_packet packet ∷ []))) packets
@@ -154,8 +152,7 @@ unfolding HasSyntax
 stream_good slot more packets small allows valid audios few =
     let before = behind slot more in
     let count = count_push is_packet before Audio in
-    let first : ComesTo (last_line (behind slot (more ++ Audio ∷ []))) packets = begins packets in
-    (
+    let first : ComesTo (last_line (behind slot (more ++ Audio ∷ []))) packets = begins packets in (
       ((allows_follows (last_line before) Audio allows, tt), audios),
       packets_good slot (more ++ Audio ∷ []) packets small (stage_of_push before Audio) valid.each first (steady_adjacent (map (λ p. p.due) packets) valid.dues) (steady_adjacent (map (λ p. p.gone) packets) valid.gones) (omega arith),
     )
@@ -247,12 +244,11 @@ program_good slot more program small allows valid few few_units few_packets =
     let unit_count = count_push is_unit before line in
     let packet_count = count_push is_packet before line in
     let packets_behind : count_by is_packet (begun ++ units) ≡ count_by is_packet before = omega (arith, count-append is_packet begun units, count_none is_packet line_of_unit (λ _. refl) program.units) in
-    let keeps : Keeps before line = record { programs = few; some = valid.some_vbv; vbv_most = valid.vbv } in
-    (
+    let keeps : Keeps before line = record { programs = few; some = valid.some_vbv; vbv_most = valid.vbv } in (
       ((allows_follows (last_line before) line (any_program (stage_of before) program.vbv allows), omega (arith, valid.vbv)), keeps),
       walk_append Good begun units (flat_map lines_of_audio program.audios)
-      (units_good slot (more ++ line ∷ []) program.units small at valid.units (begins program.units) (rising_adjacent (map (λ c. c.due) program.units) valid.dues) (omega arith))
-      (audios_good slot (more ++ line ∷ [] ++ units) program.audios small (subst (λ (s : Stage). Allows s Audio) (sym with_units) tt) valid.audios (omega (arith, valid.few_audios)) (omega arith)),
+          (units_good slot (more ++ line ∷ []) program.units small at valid.units (begins program.units) (rising_adjacent (map (λ c. c.due) program.units) valid.dues) (omega arith))
+          (audios_good slot (more ++ line ∷ [] ++ units) program.audios small (subst (λ (s : Stage). Allows s Audio) (sym with_units) tt) valid.audios (omega (arith, valid.few_audios)) (omega arith)),
     )
   where
     begins : (units : List CodedUnit) → RisesTo (last_line (behind slot (more ++ Program program.vbv ∷ []))) units
@@ -296,11 +292,13 @@ unfolding HasSyntax MayFollow
 table_good table h =
     let valid = h.valid in
     let head = Nodes table.nodes ∷ Evaluations table.evaluations ∷ [] in
-    let programs = programs_good table.slot head table.programs valid.slot_most tt valid.programs (omega (arith, valid.few_programs)) (omega (arith, valid.units)) (omega (arith, h.few_packets)) in
-    (((tt, tt), tt), (
-      ((tt, omega (arith, valid.slot_most)), (valid.slot_least, valid.slot_most)),
-      (((tt, omega (arith, valid.nodes)), (valid.some_nodes, valid.nodes)), (((tt, omega (arith, valid.evaluations)), valid.evaluations), programs)),
-    ))
+    let programs = programs_good table.slot head table.programs valid.slot_most tt valid.programs (omega (arith, valid.few_programs)) (omega (arith, valid.units)) (omega (arith, h.few_packets)) in (
+      ((tt, tt), tt),
+      (
+        ((tt, omega (arith, valid.slot_most)), (valid.slot_least, valid.slot_most)),
+        (((tt, omega (arith, valid.nodes)), (valid.some_nodes, valid.nodes)), (((tt, omega (arith, valid.evaluations)), valid.evaluations), programs)),
+      ),
+    )
 
 walk_weaker : (R Q : List Line → Line → Type 0) → ((before : List Line) (line : Line) → R before line → Q before line) → (before lines : List Line) → Walk R before lines → Walk Q before lines
 walk_weaker R Q leads before [] walk = tt

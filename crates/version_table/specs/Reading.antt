@@ -57,9 +57,9 @@ version_at text = do
 unfoldable pub versions_at : ℕ → List ℕ → Read (List StatedVersion)
 versions_at zero text = option_map_or (λ front. None) (after (codes " ") text) (Some ([], text))
 versions_at (suc most) text = option_map_or (λ front. do
-    version ← version_at front
-    others ← versions_at most version.1
-    Some (version.0 ∷ others.0, others.1)) (after (codes " ") text) (Some ([], text))
+  version ← version_at front
+  others ← versions_at most version.1
+  Some (version.0 ∷ others.0, others.1)) (after (codes " ") text) (Some ([], text))
 
 unfoldable pub unit_at : List ℕ → Read Line
 unit_at text = do

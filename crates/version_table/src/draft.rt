@@ -1,8 +1,8 @@
 ghost use Rattle.std.specs.Prelude.{◌≡◌, ◌<◌, ◌^◌, All, map};
 ghost use Rattle.version_table.specs.Draft.{kept};
 
-use crate::line::{Line, Stage, StatedVersion};
 use crate::limits::{TEXT_AUDIO_PACKETS_MOST, UNITS_MOST, VERSIONS_MOST};
+use crate::line::{Line, Stage, StatedVersion};
 use crate::table::{AudioPacket, ProgramRow, Table, Unit, Version};
 use arrayvec::ArrayVec;
 use list_types::{ListOf, OutOfMemory};
@@ -86,8 +86,24 @@ impl Draft {
         ensures { IfOk result (λ table. lines_of_table table ≡ lines_of_draft stage self) }
     {
         self.close_program(alloc, stage)?;
-        let Draft { slot, nodes, evaluations, programs, vbv: _, units: _, audios: _, packets: _, unit_count: _, packet_count: _ } = self;
-        Ok(Table { slot, nodes, evaluations, programs })
+        let Draft {
+            slot,
+            nodes,
+            evaluations,
+            programs,
+            vbv: _,
+            units: _,
+            audios: _,
+            packets: _,
+            unit_count: _,
+            packet_count: _,
+        } = self;
+        Ok(Table {
+            slot,
+            nodes,
+            evaluations,
+            programs,
+        })
     }
 
     /// Opens a program.
@@ -135,7 +151,11 @@ impl Draft {
         self.close_audio(alloc, stage)?;
         let units = mem::replace(&mut self.units, ListOf::new(alloc));
         let audios = mem::replace(&mut self.audios, ListOf::new(alloc));
-        self.programs.push(ProgramRow { vbv: self.vbv, units, audios })?;
+        self.programs.push(ProgramRow {
+            vbv: self.vbv,
+            units,
+            audios,
+        })?;
         Ok(())
     }
 

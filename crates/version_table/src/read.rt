@@ -112,7 +112,12 @@ impl Reader {
         requires few { self.lines ≤ TABLE_TEXT_MOST }
         ensures { Finishes self result }
     {
-        let Reader { lines, stage, limit, draft } = self;
+        let Reader {
+            lines,
+            stage,
+            limit,
+            draft,
+        } = self;
         if !stage.is_whole() {
             return Err(TableFault::TableSyntax(lines + 1));
         }

@@ -144,7 +144,9 @@ fn digits_at(text: &[u8]) -> Option<(u64, usize)>
     let mut value: u64 = 0;
     let mut len = 0;
     while len < text.len() && text[len].is_ascii_digit() {
-        value = value.checked_mul(10)?.checked_add(u64::from(text[len] - b'0'))?;
+        value = value
+            .checked_mul(10)?
+            .checked_add(u64::from(text[len] - b'0'))?;
         len += 1;
     }
     if len == 0 {

@@ -7,17 +7,14 @@ ghost use Rattle.version_table.specs.Text.{IsTextTable, IsRead, Reading, Holds, 
 /// Each text is read in one way: as the text of a table, or refused in a line, or refused for a limit.
 pub fn some_reading()
     ensures { (text : List ℕ) → (reading : Reading) × IsRead text reading }
-{
-}
+{}
 
 /// No text is read in two ways.
 pub fn one_reading()
     ensures { (text : List ℕ) (a b : Reading) → IsRead text a → IsRead text b → a ≡ b }
-{
-}
+{}
 
 /// The round trip: the spelling of a table is read as that table.
 pub fn spelling_is_read()
     ensures { (table : Table) → IsTextTable table → IsRead (spelling table) (Holds table) }
-{
-}
+{}
