@@ -1,0 +1,59 @@
+-- What TABLE holds, from the bytes that were read of it.
+use Rattle.std.proofs.Common.{◌≡◌, ℕ, ◌+◌, ◌<◌, ◌≤◌, ◌⊎◌, List, length, take, Option, Some, None, IfSome, refl, sym, subst, ap, inl, inr, ◌∙◌, min, arith}
+use Rattle.std.proofs.lemmas.List.{length-take, take_all}
+use Rattle.std.specs.Option.{IsSomeAnd}
+use Rattle.std.specs.FinMap.{get}
+use Rattle.std.specs.String.{string_bytes}
+use Rattle.shelf_io.specs.Files.{Files}
+use Rattle.version_table.specs.declared.limits.TheConstants.{TABLE_TEXT_MOST}
+use Rattle.version_table.specs.declared.fault.Limit.{Limit}
+use Rattle.version_table.specs.declared.fault.TableFault.{TableFault}
+use Rattle.version_table.specs.declared.fault.TableFault.TheVariants as faults
+use Rattle.version_table.specs.Text.{IsRead, IsFaultOf, Reading, Holds, RefusedAt, RefusedFor}
+use Rattle.remux_core.specs.declared.outcome.Ended.{Ended}
+use Rattle.remux_core.specs.declared.status.Status.{Status}
+use Rattle.remux_core.specs.Outcome.{Decides, Ends, HoldsText, IsRefusedFor}
+
+-- a front of at most one byte past the limit is the whole text, or passes the limit as the text does
+take_all_of : (n : ℕ) (text front : List ℕ) → front ≡ take (n + 1) text → length front ≤ n → front ≡ text
+take_all_of n text front is short =
+    let size : length front ≡ min (n + 1) (length text) = ap length is ∙ length-take (n + 1) text in
+    is ∙ take_all (n + 1) text (omega arith)
+
+-- a text is read as its front of one byte past the limit
+pub read_whole : (text front : List ℕ) (reading : Reading) → front ≡ take (TABLE_TEXT_MOST + 1) text → IsRead front reading → IsRead text reading
+read_whole text front (Holds table) is (short, valid, spelled) =
+    let whole : front ≡ text = take_all_of TABLE_TEXT_MOST text front is short in
+    subst (λ (t : List ℕ). IsRead t (Holds table)) whole (short, valid, spelled)
+read_whole text front (RefusedAt n) is (short, refused) =
+    let whole : front ≡ text = take_all_of TABLE_TEXT_MOST text front is short in
+    subst (λ (t : List ℕ). IsRead t (RefusedAt n)) whole (short, refused)
+read_whole text front (RefusedFor limit) is (inl (long, bytes)) =
+    let cut : length front ≤ length text = subst (λ (t : List ℕ). length t ≤ length text) (sym is) (omega (arith, length-take (TABLE_TEXT_MOST + 1) text)) in
+    inl (omega arith, bytes)
+read_whole text front (RefusedFor limit) is (inr (short, refused)) =
+    let whole : front ≡ text = take_all_of TABLE_TEXT_MOST text front is short in
+    subst (λ (t : List ℕ). IsRead t (RefusedFor limit)) whole (inr (short, refused))
+
+-- what a told file holds
+pub held_text : (told : Option Files) (held : Files) (name bytes : List ℕ) (n : ℕ) → told ≡ Some held
+    → IfSome told (λ files. IsSomeAnd (get files name) (λ content. bytes ≡ take n content)) → (text : List ℕ) × (get held name ≡ Some text) × (bytes ≡ take n text)
+held_text None held name bytes n is found = cc
+held_text (Some files) held name bytes n is found =
+    let one : files ≡ held = cc in
+    elim (get files name) as (λ got. get files name ≡ got → IsSomeAnd got (λ content. bytes ≡ take n content) → (text : List ℕ) × (get held name ≡ Some text) × (bytes ≡ take n text)) [
+      | None ↦ λ e none. absurd none
+      | Some text ↦ λ e same. (text, subst (λ (f : Files). get f name ≡ Some text) one e, same)
+    ] refl found
+
+-- a text that is refused ends the command with its refusal
+pub refused_ends : (words : List (List ℕ)) (held : Files) (certificate front : List ℕ) (result : Option Ended) (fault : TableFault)
+    → HoldsText words held certificate front → IsFaultOf front fault → IfSome result (IsRefusedFor fault) → Ends words held result held
+refused_ends words held certificate front None fault holds is so = inl refl
+refused_ends words held certificate front (Some ended) (faults.TableSyntax n) holds is so =
+    subst (λ (s : Status). Decides words held s (string_bytes ended.line) held) (sym so.0)
+    (certificate, holds.text, holds.plans, read_whole holds.text front (RefusedAt n) holds.front_is is, so.1, refl)
+refused_ends words held certificate front (Some ended) (faults.TableLimit name) holds is so =
+    subst (λ (s : Status). Decides words held s (string_bytes ended.line) held) (sym so.0)
+    (certificate, holds.text, holds.plans, (is.0, read_whole holds.text front (RefusedFor is.0) holds.front_is is.1, is.2), so.1, refl)
+refused_ends words held certificate front (Some ended) faults.OutOfMemory holds is so = absurd so

@@ -1,0 +1,5 @@
+mod Causes
+mod Ended
+mod Floats
+mod Held
+mod Told

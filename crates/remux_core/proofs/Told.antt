@@ -1,0 +1,51 @@
+-- Files that a shelf tells, over calls that leave them, or write one of them.
+use Rattle.std.proofs.Common.{◌≡◌, ℕ, ◌≤◌, ◌⊎◌, List, length, take, Option, Some, None, refl, sym, subst, ◌∙◌, inl, inr}
+use Rattle.std.specs.FinMap.{insert}
+use Rattle.shelf_io.specs.Files.{Files, with_content}
+use Rattle.shelf_io.specs.WholeFile.{HoldsPrefix}
+use Rattle.remux_core.specs.Certificate.{Certificate, certificate_bytes}
+use Rattle.remux_core.specs.Outcome.{OnFiles, HoldsFront}
+
+-- a call that left the files
+pub on_same : (old new : Option Files) (P : Files → Files → Type 0) → new ≡ old → ((held : Files) → old ≡ Some held → P held held) → OnFiles old new P
+on_same None new P same each = tt
+on_same (Some held) None P same each = cc
+on_same (Some held) (Some after) P same each =
+    let one : held ≡ after = cc in
+    subst (λ (files : Files). P held files) one (each held refl)
+
+-- a call that made these bytes the content of a file
+pub on_content : (old new : Option Files) (name bytes : List ℕ) (P : Files → Files → Type 0) → new ≡ with_content old name bytes
+    → ((held : Files) → old ≡ Some held → P held (insert held name bytes)) → OnFiles old new P
+on_content None new name bytes P is each = tt
+on_content (Some held) None name bytes P is each = cc
+on_content (Some held) (Some after) name bytes P is each =
+    let one : insert held name bytes ≡ after = cc in
+    subst (λ (files : Files). P held files) one (each held refl)
+
+-- a call that wrote a front of a certificate
+pub on_prefix : (old new : Option Files) (name : List ℕ) (plan : Certificate) (P : Files → Files → Type 0) → HoldsPrefix old new name (certificate_bytes plan)
+    → ((held after : Files) → HoldsFront held name plan after → P held after) → OnFiles old new P
+on_prefix None new name plan P holds each = tt
+on_prefix (Some held) None name plan P (inl same) each = cc
+on_prefix (Some held) None name plan P (inr more) each = let is = more.2 in cc
+on_prefix (Some held) (Some after) name plan P (inl same) each = each held after (inl (cc))
+on_prefix (Some held) (Some after) name plan P (inr more) each = let is = more.2 in each held after (inr (more.0, more.1, cc))
+
+-- a call that came after one that left the files
+pub on_after : (old middle new : Option Files) (P Q : Files → Files → Type 0) → middle ≡ old → OnFiles middle new P
+    → ((held after : Files) → old ≡ Some held → P held after → Q held after) → OnFiles old new Q
+on_after None middle new P Q same holds each = tt
+on_after (Some held) None new P Q same holds each = cc
+on_after (Some held) (Some kept) None P Q same holds each = absurd holds
+on_after (Some held) (Some kept) (Some after) P Q same holds each =
+    let one : kept ≡ held = cc in
+    each held after refl (subst (λ (files : Files). P files after) one holds)
+
+-- what holds of told files, and of those after them
+pub on_told : (old new : Option Files) (files : Files) (P : Files → Files → Type 0) → OnFiles old new P → old ≡ Some files → (after : Files) × P files after
+on_told None new files P holds told = cc
+on_told (Some held) None files P holds told = absurd holds
+on_told (Some held) (Some after) files P holds told =
+    let one : held ≡ files = cc in
+    (after, subst (λ (f : Files). P f after) one holds)
