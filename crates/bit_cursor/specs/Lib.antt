@@ -1,0 +1,2 @@
+pub mod BitWriter
+pub mod WaitingBits
