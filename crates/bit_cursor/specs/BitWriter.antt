@@ -1,11 +1,11 @@
 -- A writer of bits over a sink. A bit is the number 0 or 1, and the first one of a byte is its most significant
 -- (bslbf and uimsbf of ISO/IEC 13818-1, 2.2.6, and 13818-2, 5.2).
-use Rattle.std.specs.Prelude.{◌≡◌, ℕ, ◌-◌, ◌%◌, ◌<◌, ◌^◌, Bool, List, ◌++◌, Option, length, replicate}
+use Rattle.std.specs.Prelude.{◌≡◌, ℕ, ◌-◌, ◌%◌, Bool, List, ◌++◌, Option, length, replicate}
 use Rattle.std.specs.Borrow.{MutBor}
-use Rattle.std.specs.List.{AllByRecursion}
 use Rattle.shelf_io.specs.Sink.{with_bytes}
 use Rattle.bit_lists.specs.Bits.{IsPrefix}
 use Rattle.bit_lists.specs.Fields.{bit_list}
+use Rattle.bit_cursor.specs.WaitingBits.{AreBytes}
 use Rattle.bit_cursor.specs.declared.bit_writer.BitWriter.{BitWriter}
 
 -- the sink that it borrows
@@ -27,10 +27,6 @@ odd_bits writer = length (waiting_in writer) % 8
 -- the least zero bits to a whole byte
 abbrev pub zeros_to_byte : ℕ → List ℕ
 zeros_to_byte odd = replicate ((8 - odd % 8) % 8) 0
-
--- bytes, as numbers below 256
-abbrev pub AreBytes : List ℕ → Type 0
-AreBytes bytes = AllByRecursion (λ byte. byte < 2 ^ 8) bytes
 
 -- The sink got these bytes: what waited and what was put are their bits and what waits now.
 pub record Gets (told told_after : Option (List ℕ)) (waited put waits : List ℕ) : Type 0 where

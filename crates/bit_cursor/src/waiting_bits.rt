@@ -1,7 +1,7 @@
 ghost use Rattle.std.specs.Prelude.{◌≡◌, ℕ, ◌-◌, ◌<◌, ◌≤◌, ◌^◌, List, [], ◌++◌, length, replicate, MatchOption};
 ghost use Rattle.bit_lists.specs.Bits.{bits_of};
 ghost use Rattle.bit_lists.specs.Fields.{bit_list};
-ghost use Rattle.bit_cursor.specs.WaitingBits.{IsWord};
+ghost use Rattle.bit_cursor.specs.WaitingBits.{IsWord, AreBytes};
 
 use std::marker::Model;
 
@@ -38,7 +38,7 @@ impl WaitingBits {
     pub fn push(&mut self, value: u32, n: u32) -> Option<[u8; 4]>
         requires number { value < 2 ^ n }
         requires width { n ≤ 32 }
-        ensures { MatchOption result (self.new ≡ self.old ++ bits_of n value) (λ bytes. bit_list bytes ++ self.new ≡ self.old ++ bits_of n value) }
+        ensures { MatchOption result (self.new ≡ self.old ++ bits_of n value) (λ bytes. AreBytes bytes × (bit_list bytes ++ self.new ≡ self.old ++ bits_of n value)) }
     {
         let word = (self.word << n) + u64::from(value);
         let count = self.count + n;
@@ -56,7 +56,8 @@ impl WaitingBits {
 
     /// The bits, and zero bits behind them.
     pub fn filled_up(&self) -> [u8; 4]
-        ensures { bit_list result ≡ self.now ++ replicate (32 - length self.now) 0 }
+        ensures bytes { AreBytes result }
+        ensures bits { bit_list result ≡ self.now ++ replicate (32 - length self.now) 0 }
     {
         ((self.word << (32 - self.count)) as u32).to_be_bytes()
     }

@@ -1,0 +1,1 @@
+-- What a sink got, in several calls.
