@@ -26,7 +26,7 @@ odd_bits writer = length (waiting_in writer) % 8
 
 -- the least zero bits to a whole byte
 abbrev pub zeros_to_byte : ℕ → List ℕ
-zeros_to_byte odd = replicate ((8 - odd % 8) % 8) 0
+zeros_to_byte odd = replicate ((8 - odd) % 8) 0
 
 -- The sink got these bytes: what waited and what was put are their bits and what waits now.
 pub record Gets (told told_after : Option (List ℕ)) (waited put waits : List ℕ) : Type 0 where

@@ -1,0 +1,9 @@
+use Rattle.bit_lists.specs.Bits.{bits_of}
+use Rattle.bit_cursor.proofs.Gets.{gets_none, gets_bytes, gets_front}
+use Rattle.bit_cursor.proofs.bit_writer.BitWriter.put_bits.Goals as goal
+
+pub returns-clause-ok : goal.returns-clause-ok
+returns-clause-ok g c = gets_bytes c.put_all-result.result _ _ c.in-Some.bytes _ (bits_of c.args.n c.args.value) c.push.new.self c.in-Some.ensures.0 c.in-Some.ensures.1 c.put_all-result.ensures.ok
+
+pub returns-clause-err : goal.returns-clause-err
+returns-clause-err g c = gets_front c.put_all-result.result _ _ c.in-Some.bytes _ (bits_of c.args.n c.args.value) c.push.new.self c.in-Some.ensures.0 c.in-Some.ensures.1 c.put_all-result.ensures.err
