@@ -114,3 +114,7 @@ gets_odd {waited} {put} {waits} a =
     let lengths : 8 * length a.bytes + length waits ≡ length waited + length put =
     ap (λ n. n + length waits) (sym (length-bit_list a.bytes)) ∙ sym (length-append (bit_list a.bytes) waits) ∙ ap (length {A = ℕ}) a.in_order ∙ length-append waited put in
     omega arith
+
+pub odd_later : {X Y : Type 0} (r : Result X Y) {told after : Option (List ℕ)} {waited put waits : List ℕ} {n : ℕ} → OnOk r (Gets told after waited put waits) → length put ≡ n → OnOk r (length waits % 8 ≡ (length waited % 8 + n) % 8)
+odd_later (Ok x) {waited} {put} {waits} a is = let odd : length waits % 8 ≡ (length waited + length put) % 8 = gets_odd a in omega arith
+odd_later (Err e) a is = tt

@@ -1,4 +1,4 @@
--- A writer of bits over a sink. A bit is the number 0 or 1, and the first one of a byte is its most significant
+-- What a writer of bits puts into its sink, and what waits in it. The first bit of a byte is its most significant one
 -- (bslbf and uimsbf of ISO/IEC 13818-1, 2.2.6, and 13818-2, 5.2).
 use Rattle.std.specs.Prelude.{◌≡◌, ℕ, ◌-◌, ◌%◌, Bool, List, ◌++◌, Option, length, replicate}
 use Rattle.std.specs.Borrow.{MutBor}
@@ -12,7 +12,11 @@ use Rattle.bit_cursor.specs.declared.bit_writer.BitWriter.{BitWriter}
 abbrev pub sink_of : {K : Type 0} → BitWriter K → MutBor K
 sink_of writer = writer.sink
 
--- the bits that were put and aren't in the sink yet, since they don't fill a piece
+-- what the sink holds, where it tells it
+abbrev pub told_by : {K : Type 0} → (K → Option (List ℕ)) → BitWriter K → Option (List ℕ)
+told_by written writer = written (sink_of writer).now
+
+-- the bits that were put and that the sink hasn't got yet
 abbrev pub waiting_in : {K : Type 0} → BitWriter K → List ℕ
 waiting_in writer = writer.waiting
 
@@ -28,24 +32,24 @@ odd_bits writer = length (waiting_in writer) % 8
 abbrev pub zeros_to_byte : ℕ → List ℕ
 zeros_to_byte odd = replicate ((8 - odd) % 8) 0
 
--- The sink got these bytes: what waited and what was put are their bits and what waits now.
+-- a sink got bytes: their bits and then those that wait now are the bits that waited and then those that were put
 pub record Gets (told told_after : Option (List ℕ)) (waited put waits : List ℕ) : Type 0 where
   pub bytes : List ℕ
   pub are_bytes : AreBytes bytes
   pub at_the_end : told_after ≡ with_bytes told bytes
   pub in_order : bit_list bytes ++ waits ≡ waited ++ put
 
--- The sink got bytes whose bits are a front of what waited and what was put.
+-- a sink got bytes whose bits are a front of the bits that waited and then those that were put
 pub record GetsFront (told told_after : Option (List ℕ)) (waited put : List ℕ) : Type 0 where
   pub bytes : List ℕ
   pub are_bytes : AreBytes bytes
   pub at_the_end : told_after ≡ with_bytes told bytes
   pub front : IsPrefix (bit_list bytes) (waited ++ put)
 
--- the bits were put
+-- between two states these bits were put
 abbrev pub Puts : {K : Type 0} → (K → Option (List ℕ)) → BitWriter K → BitWriter K → List ℕ → Type 0
-Puts written old new bits = Gets (written (sink_of old).now) (written (sink_of new).now) (waiting_in old) bits (waiting_in new)
+Puts written old new bits = Gets (told_by written old) (told_by written new) (waiting_in old) bits (waiting_in new)
 
--- a fault came, and a front of what was put went out
+-- a fault came while these bits were put, and a front of all that was put went out
 abbrev pub PutsFront : {K : Type 0} → (K → Option (List ℕ)) → BitWriter K → BitWriter K → List ℕ → Type 0
-PutsFront written old new bits = GetsFront (written (sink_of old).now) (written (sink_of new).now) (waiting_in old) bits
+PutsFront written old new bits = GetsFront (told_by written old) (told_by written new) (waiting_in old) bits

@@ -1,24 +1,25 @@
-ghost use Rattle.std.specs.Prelude.{◌≡◌, ◌≢◌, ◌<◌, ◌≤◌, ◌^◌, [], false, is_err, OnOk, OnErr, IsErrOf};
+ghost use Rattle.std.specs.Prelude.{◌≡◌, ◌≢◌, ◌+◌, ◌%◌, ◌<◌, ◌≤◌, ◌^◌, [], false, is_err, OnOk, OnErr, IsErrOf};
 ghost use Rattle.shelf_io.specs.Counts.{Rose};
 ghost use Rattle.bit_lists.specs.Bits.{bits_of};
 
 use crate::waiting_bits::WaitingBits;
 use shelf_io::{Fault, Sink, put_all};
 
-/// Writes bits to a sink, the most significant one first (bslbf and uimsbf of ISO/IEC 13818-1, 2.2.6).
+/// Puts bits into a sink, most significant bit of each byte first. It borrows the sink, and adds to what that holds.
 ///
-/// After a fault it is stopped: a front of the bytes of what was put went out, and only `is_stopped` may be called.
+/// After a fault it is stopped: a front of the bytes of all that was put went out, and no call but `is_stopped` may
+/// follow. What was put is whole in the sink only after `finish`.
 #[derive(Drop)]
-pub struct BitWriter<'a, K> {
+pub struct BitWriter<'a, K: Sink> {
     sink: &'a mut K,
     waiting: WaitingBits,
     stopped: bool,
 }
 
 impl<'a, K: Sink> BitWriter<'a, K> {
-    ghost use Rattle.bit_cursor.specs.BitWriter.{sink_of, waiting_in, is_stopped, odd_bits, zeros_to_byte, Puts, PutsFront, Gets, GetsFront};
+    ghost use Rattle.bit_cursor.specs.BitWriter.{sink_of, waiting_in, is_stopped, told_by, odd_bits, zeros_to_byte, Puts, PutsFront, Gets, GetsFront};
 
-    /// A writer of bits behind what the sink holds.
+    /// A writer behind what the sink holds.
     pub fn new(sink: &'a mut K) -> Self
         ensures same_sink { (sink_of result).ghost_name ≡ sink.entry.ghost_name }
         ensures sink { (sink_of result).now ≡ sink.old }
@@ -32,13 +33,14 @@ impl<'a, K: Sink> BitWriter<'a, K> {
         }
     }
 
-    /// Puts the lowest `n` bits of a number, at most 32.
+    /// Puts a number in n bits (uimsbf of ISO/IEC 13818-2, 5.2), n at most 32. A fault is the sink's own.
     pub fn put_bits(&mut self, value: u32, n: u32) -> Result<(), Fault>
         requires goes { is_stopped self.old ≡ false }
         requires number { value < 2 ^ n }
         requires width { n ≤ 32 }
         ensures ok { OnOk result (Puts K.written self.old self.new (bits_of n value)) }
         ensures err { OnErr result (PutsFront K.written self.old self.new (bits_of n value)) }
+        ensures odd { OnOk result (odd_bits self.new ≡ (odd_bits self.old + n) % 8) }
         ensures stopped { is_stopped self.new ≡ is_err result }
 
         ensures failed { IsErrOf result Fault.Failed → Rose (K.faults (sink_of self.old).now) (K.faults (sink_of self.new).now) }
@@ -55,11 +57,12 @@ impl<'a, K: Sink> BitWriter<'a, K> {
         result
     }
 
-    /// Puts the least zero bits up to a whole byte, none where nothing stands behind one.
+    /// Puts the least zero bits to a whole byte, none where nothing stands behind one. A fault is the sink's own.
     pub fn align_zero(&mut self) -> Result<(), Fault>
         requires goes { is_stopped self.old ≡ false }
         ensures ok { OnOk result (Puts K.written self.old self.new (zeros_to_byte (odd_bits self.old))) }
         ensures err { OnErr result (PutsFront K.written self.old self.new (zeros_to_byte (odd_bits self.old))) }
+        ensures whole { OnOk result (odd_bits self.new ≡ 0) }
         ensures stopped { is_stopped self.new ≡ is_err result }
 
         ensures failed { IsErrOf result Fault.Failed → Rose (K.faults (sink_of self.old).now) (K.faults (sink_of self.new).now) }
@@ -72,12 +75,13 @@ impl<'a, K: Sink> BitWriter<'a, K> {
         self.put_bits(0, (8 - odd) % 8)
     }
 
-    /// Writes what waits. What was put must be whole bytes.
+    /// Hands out what waits, so that the sink holds all that was put, which must be whole bytes. A fault is the sink's
+    /// own, and then a front of these bytes went out.
     pub fn finish(self) -> Result<(), Fault>
         requires goes { is_stopped self ≡ false }
         requires whole { odd_bits self ≡ 0 }
-        ensures ok { OnOk result (Gets (K.written (sink_of self.entry).now) (K.written self.exit.0.now) (waiting_in self.entry) [] []) }
-        ensures err { OnErr result (GetsFront (K.written (sink_of self.entry).now) (K.written self.exit.0.now) (waiting_in self.entry) []) }
+        ensures ok { OnOk result (Gets (told_by K.written self.entry) (K.written self.exit.0.now) (waiting_in self.entry) [] []) }
+        ensures err { OnErr result (GetsFront (told_by K.written self.entry) (K.written self.exit.0.now) (waiting_in self.entry) []) }
 
         ensures failed { IsErrOf result Fault.Failed → Rose (K.faults (sink_of self.entry).now) (K.faults self.exit.0.now) }
         ensures never_missing { result ≢ Err Fault.Missing }
@@ -101,3 +105,6 @@ impl<'a, K: Sink> BitWriter<'a, K> {
         self.stopped
     }
 }
+
+#[cfg(test)]
+mod tests;
