@@ -115,6 +115,5 @@ gets_odd {waited} {put} {waits} a =
     ap (λ n. n + length waits) (sym (length-bit_list a.bytes)) ∙ sym (length-append (bit_list a.bytes) waits) ∙ ap (length {A = ℕ}) a.in_order ∙ length-append waited put in
     omega arith
 
-pub odd_later : {X Y : Type 0} (r : Result X Y) {told after : Option (List ℕ)} {waited put waits : List ℕ} {n : ℕ} → OnOk r (Gets told after waited put waits) → length put ≡ n → OnOk r (length waits % 8 ≡ (length waited % 8 + n) % 8)
-odd_later (Ok x) {waited} {put} {waits} a is = let odd : length waits % 8 ≡ (length waited + length put) % 8 = gets_odd a in omega arith
-odd_later (Err e) a is = tt
+pub odd_after : {told after : Option (List ℕ)} {waited put waits : List ℕ} (n : ℕ) → length put ≡ n → Gets told after waited put waits → length waits % 8 ≡ (length waited % 8 + n) % 8
+odd_after {waited} {put} {waits} n is a = let odd : length waits % 8 ≡ (length waited + length put) % 8 = gets_odd a in omega arith
