@@ -1,3 +1,6 @@
+ghost use Rattle.std.specs.Prelude.{◌≡◌, false, OnOk};
+ghost use Rattle.bit_cursor.specs.BitWriter.{is_stopped};
+
 use super::*;
 use shelf_io::{MemSink, VecSink};
 use std::test::Fail;
@@ -34,8 +37,8 @@ fn a_whole_word_goes_behind_odd_bits(rt: HostRuntime) -> Result<(), Fail> {
 
 // Ten bytes, which go out in three pieces.
 fn put_ten(writer: &mut BitWriter<MemSink>) -> Result<(), Fault>
-    requires { writer.old.stopped ≡ false }
-    ensures { OnOk result (writer.new.stopped ≡ false) }
+    requires { is_stopped writer.old ≡ false }
+    ensures { OnOk result (is_stopped writer.new ≡ false) }
 {
     writer.put_bits(0x0001_0203, 32)?;
     writer.put_bits(0x0405_0607, 32)?;
