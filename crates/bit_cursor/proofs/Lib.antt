@@ -1,0 +1,3 @@
+pub mod Words
+pub mod Left
+pub mod Given
