@@ -1,2 +1,5 @@
 pub mod Gets
+pub mod Given
+pub mod Left
 pub mod WordBits
+pub mod Words

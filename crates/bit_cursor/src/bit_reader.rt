@@ -90,10 +90,10 @@ impl<'a, S: Source> BitReader<'a, S> {
     {
         if self.held < n {
             self.fetch(n)?;
-        }
-        if self.held < n {
-            let window = lowest(self.word, self.held) << (n - self.held);
-            return Ok((window, self.held));
+            if self.held < n {
+                let window = lowest(self.word, self.held) << (n - self.held);
+                return Ok((window, self.held));
+            }
         }
         Ok((lowest(self.word >> (self.held - n), n), n))
     }
