@@ -1,3 +1,4 @@
+pub mod Composed
 pub mod Gets
 pub mod Given
 pub mod Left

@@ -6,39 +6,10 @@ use Rattle.std.proofs.lemmas.Nat.{pow-add, pow_pos, shr_high, mod_low, shl_below
 use Rattle.std.specs.List.{flat_map}
 use Rattle.std.specs.Int.{w32, to_be_bytes}
 use Rattle.bit_lists.specs.Bits.{bits_of}
-use Rattle.bit_lists.specs.Fields.{bit_list, bits_of_byte}
+use Rattle.bit_lists.specs.Fields.{AreBytes, bit_list, bits_of_byte}
 use Rattle.bit_lists.proofs.BitLemmas.{bits_of-mod}
-use Rattle.bit_cursor.specs.WaitingBits.{IsWord, AreBytes}
-
--- the bits of a number are those of its high part, then those of its low part
-pub bits_of-add : (m n x : ℕ) → bits_of (m + n) x ≡ bits_of m (x / 2 ^ n) ++ bits_of n x
-unfolding bits_of
-bits_of-add zero n x =
-    let none : zero + n ≡ n = omega arith in
-    ap (λ k. bits_of k x) none
-bits_of-add (suc m) n x =
-    let more : suc m + n ≡ suc (m + n) = omega arith in
-    let first : x / 2 ^ (m + n) ≡ x / 2 ^ n / 2 ^ m =
-    (let swap : m + n ≡ n + m = omega arith in ap (λ k. x / 2 ^ k) swap) ∙ ap (λ k. x / k) (pow-add 2 n m) ∙ sym (div-div-eq-div-mul x (2 ^ n) (2 ^ m)) in
-    rw more (ap₂ (λ (b : ℕ) (bs : List ℕ). b ∷ bs) (ap (λ k. k % 2) first) (bits_of-add m n x))
-
-pub bits_of-zero : (n : ℕ) → bits_of n 0 ≡ replicate n 0
-unfolding bits_of
-bits_of-zero zero = refl
-bits_of-zero (suc n) = ap₂ (λ (b : ℕ) (bs : List ℕ). b ∷ bs) (zero_bit (2 ^ n) (pow_pos n)) (bits_of-zero n)
-  where
-    zero_bit : (k : ℕ) → 0 < k → 0 / k % 2 ≡ 0
-    zero_bit k some = omega arith
-
--- bits put behind those of a number
-pub bits_of-put : (m n v w : ℕ) → w < 2 ^ n → bits_of (m + n) (v * 2 ^ n + w) ≡ bits_of m v ++ bits_of n w
-bits_of-put m n v w fits =
-    bits_of-add m n (v * 2 ^ n + w)
-    ∙ ap₂ (λ (a b : List ℕ). a ++ b) (ap (bits_of m) (shr_high v n w fits)) (sym (bits_of-mod n (v * 2 ^ n + w)) ∙ ap (bits_of n) (mod_low v n w fits))
-
-bits_of-byte : (byte : ℕ) → bits_of 8 byte ≡ bits_of_byte byte
-unfolding bits_of
-bits_of-byte byte = refl
+use Rattle.bit_lists.proofs.JoinedLemmas.{bits_of-append, bits_of-put, bits_of-zero, bits_of-byte}
+use Rattle.bit_cursor.specs.WaitingBits.{IsWord}
 
 low_byte : (x : ℕ) → bits_of_byte (x % 256) ≡ bits_of 8 x
 low_byte x = sym (bits_of-byte (x % 256)) ∙ bits_of-mod 8 x
@@ -47,11 +18,11 @@ low_byte x = sym (bits_of-byte (x % 256)) ∙ bits_of-mod 8 x
 pub bit_list-to_be_bytes : (x : ℕ) → bit_list (to_be_bytes w32 x) ≡ bits_of 32 x
 bit_list-to_be_bytes x =
     ap₂ (λ (a b : List ℕ). a ++ b) (low_byte (x / 256 ^ 3)) (
-      ap₂ (λ (a b : List ℕ). a ++ b) (low_byte (x / 256 ^ 2)) (
-        ap₂ (λ (a b : List ℕ). a ++ b) (low_byte (x / 256 ^ 1)) (append-nil (bits_of_byte (x % 256)) ∙ low_byte x)
-        ∙ sym (bits_of-add 8 8 x))
-      ∙ sym (bits_of-add 8 16 x))
-    ∙ sym (bits_of-add 8 24 x)
+    ap₂ (λ (a b : List ℕ). a ++ b) (low_byte (x / 256 ^ 2)) (
+    ap₂ (λ (a b : List ℕ). a ++ b) (low_byte (x / 256 ^ 1)) (append-nil (bits_of_byte (x % 256)) ∙ low_byte x)
+    ∙ sym (bits_of-append 8 8 x))
+    ∙ sym (bits_of-append 8 16 x))
+    ∙ sym (bits_of-append 8 24 x)
 
 pub AreBytes-to_be_bytes : (x : ℕ) → AreBytes (to_be_bytes w32 x)
 AreBytes-to_be_bytes x = (below (x / 256 ^ 3), (below (x / 256 ^ 2), (below (x / 256 ^ 1), (below x, tt))))
@@ -124,6 +95,6 @@ module _ (word count n value x : ℕ) (is : IsWord word count) (below : value < 
       let rest = count + n - 32 in
       let whole : 32 + rest ≡ count + n = omega arith in
       ap₂ (λ (a b : List ℕ). a ++ b) (ap bit_list are ∙ bit_list-to_be_bytes (x / 2 ^ rest)) (ap (bits_of rest) (left_over x rest x_fits) ∙ bits_of-mod rest x)
-      ∙ sym (bits_of-add 32 rest x)
+      ∙ sym (bits_of-append 32 rest x)
       ∙ ap (λ k. bits_of k x) whole
       ∙ x_bits

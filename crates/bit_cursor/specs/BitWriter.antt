@@ -4,8 +4,7 @@ use Rattle.std.specs.Prelude.{◌≡◌, ℕ, ◌-◌, ◌%◌, Bool, List, ◌+
 use Rattle.std.specs.Borrow.{MutBor}
 use Rattle.shelf_io.specs.Sink.{with_bytes}
 use Rattle.bit_lists.specs.Bits.{IsPrefix}
-use Rattle.bit_lists.specs.Fields.{bit_list}
-use Rattle.bit_cursor.specs.WaitingBits.{AreBytes}
+use Rattle.bit_lists.specs.Fields.{AreBytes, bit_list}
 use Rattle.bit_cursor.specs.declared.bit_writer.BitWriter.{BitWriter}
 
 -- the sink that it borrows

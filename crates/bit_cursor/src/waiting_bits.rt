@@ -1,7 +1,7 @@
 ghost use Rattle.std.specs.Prelude.{◌≡◌, ℕ, ◌-◌, ◌<◌, ◌≤◌, ◌^◌, List, [], ◌++◌, length, replicate, MatchOption};
 ghost use Rattle.bit_lists.specs.Bits.{bits_of};
-ghost use Rattle.bit_lists.specs.Fields.{bit_list};
-ghost use Rattle.bit_cursor.specs.WaitingBits.{IsWord, AreBytes};
+ghost use Rattle.bit_lists.specs.Fields.{AreBytes, bit_list};
+ghost use Rattle.bit_cursor.specs.WaitingBits.{IsWord};
 
 use std::marker::Model;
 

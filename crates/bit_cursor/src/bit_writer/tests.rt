@@ -31,7 +31,10 @@ fn a_whole_word_goes_behind_odd_bits(rt: HostRuntime) -> Result<(), Fail> {
     writer.align_zero()?;
     assert!(rt; !writer.is_stopped());
     writer.finish()?;
-    assert_eq!(rt; sink.bytes(), [b'x', 0xad, 0xea, 0xdb, 0xee, 0xf0].as_slice());
+    assert_eq!(rt;
+        sink.bytes(),
+        [b'x', 0xad, 0xea, 0xdb, 0xee, 0xf0].as_slice()
+    );
     Ok(())
 }
 

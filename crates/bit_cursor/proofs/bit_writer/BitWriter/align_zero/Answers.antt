@@ -1,7 +1,7 @@
 use Rattle.std.proofs.Common.{◌≡◌, ◌-◌, ◌%◌, ℕ, List, OnOk, OnErr, replicate, subst, ap, ◌∙◌}
 use Rattle.bit_lists.specs.Bits.{bits_of}
 use Rattle.bit_cursor.specs.BitWriter.{odd_bits, zeros_to_byte, Puts, PutsFront}
-use Rattle.bit_cursor.proofs.WordBits.{bits_of-zero}
+use Rattle.bit_lists.proofs.JoinedLemmas.{bits_of-zero}
 use Rattle.bit_cursor.proofs.bit_writer.BitWriter.align_zero.Goals as goal
 
 pub returns-clause-ok : goal.returns-clause-ok

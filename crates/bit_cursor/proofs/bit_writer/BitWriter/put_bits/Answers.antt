@@ -1,7 +1,8 @@
 use Rattle.std.proofs.lemmas.Result.{on_ok_weaker}
 use Rattle.bit_lists.specs.Bits.{bits_of}
 use Rattle.bit_lists.proofs.BitLemmas.{length-bits_of}
-use Rattle.bit_cursor.proofs.Gets.{gets_none, gets_bytes, gets_front, odd_after}
+use Rattle.bit_cursor.proofs.Gets.{gets_none, gets_bytes, gets_front}
+use Rattle.bit_cursor.proofs.Composed.{odd_after}
 use Rattle.bit_cursor.proofs.bit_writer.BitWriter.put_bits.Goals as goal
 
 pub returns-clause-ok : goal.returns-clause-ok

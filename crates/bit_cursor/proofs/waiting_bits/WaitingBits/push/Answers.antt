@@ -23,9 +23,8 @@ overflow_cast-front-2 c =
 
 pub returns : goal.returns
 returns c =
-    let put : c.self.inside.word * 2 ^ c.args.n % 18446744073709551616 + c.from.result ≡ c.self.inside.word * 2 ^ c.args.n + c.args.value = ap₂ (λ (a b : ℕ). a + b) (shifted c.self.inside.word c.self.inside.count c.args.n c.self.invariant c.requires.width) c.from.ensures in
-    (
+    let put : c.self.inside.word * 2 ^ c.args.n % 18446744073709551616 + c.from.result ≡ c.self.inside.word * 2 ^ c.args.n + c.args.value = ap₂ (λ (a b : ℕ). a + b) (shifted c.self.inside.word c.self.inside.count c.args.n c.self.invariant c.requires.width) c.from.ensures in (
       rw c.to_be_bytes.ensures (AreBytes-to_be_bytes _),
       front_and_rest c.self.inside.word c.self.inside.count c.args.n c.args.value (c.self.inside.word * 2 ^ c.args.n % 18446744073709551616 + c.from.result) c.self.invariant c.requires.number c.requires.width put c.to_be_bytes.result c.to_be_bytes.ensures c.if-count-lt32.false
-      ∙ ap (λ before. before ++ bits_of c.args.n c.args.value) c.self.view_is,
+          ∙ ap (λ before. before ++ bits_of c.args.n c.args.value) c.self.view_is,
     )
