@@ -1,11 +1,15 @@
 -- What a sink got in several calls: what each function that puts bits by other ones needs. They speak of `Gets` and
 -- `GetsFront`, so of `Puts` and `PutsFront` between states of a writer.
-use Rattle.std.proofs.Common.{◌≡◌, ℕ, ◌+◌, ◌*◌, ◌%◌, List, [], ◌∷◌, ◌++◌, Option, None, Some, length, drop, refl, sym, ap, ◌∙◌, arith, append_assoc, append-nil, length-append}
+use Rattle.std.proofs.Common.{◌≡◌, ℕ, ◌+◌, ◌*◌, ◌%◌, List, [], ◌∷◌, ◌++◌, Option, None, Some, Result, Ok, Err, ◌≤◌, length, drop, refl, sym, ap, ◌∙◌, arith, append_assoc, append-nil, length-append}
+use Rattle.std.proofs.lemmas.Result.{on_ok_weaker, on_err_weaker}
+use Rattle.shelf_io.specs.declared.fault.Fault.{Fault}
+use Rattle.shelf_io.specs.Counts.{Rose}
 use Rattle.shelf_io.specs.Sink.{with_bytes}
 use Rattle.bit_lists.specs.Bits.{IsPrefix}
 use Rattle.bit_lists.specs.Fields.{AreBytes, bit_list}
 use Rattle.bit_lists.proofs.PrefixLemmas.{IsPrefix-append, IsPrefix-split, IsPrefix-through}
-use Rattle.bit_cursor.specs.BitWriter.{Gets, GetsFront}
+use Rattle.bit_cursor.specs.declared.bit_writer.BitWriter.{BitWriter}
+use Rattle.bit_cursor.specs.BitWriter.{Gets, GetsFront, Writes}
 use Rattle.bit_cursor.proofs.Gets.{bit_list-append, length-bit_list}
 
 AreBytes-append : (xs ys : List ℕ) → AreBytes xs → AreBytes ys → AreBytes (xs ++ ys)
@@ -67,3 +71,36 @@ pub gets_whole : {told mid after : Option (List ℕ)} {put waits : List ℕ} →
 gets_whole {put} a b =
     let all = gets_twice a b in
     (all.bytes, all.are_bytes, all.at_the_end, sym (append-nil (bit_list all.bytes)) ∙ all.in_order ∙ append-nil put)
+
+-- ---- how calls end
+
+rose_later : (a b c : ℕ) → a ≤ b → b ≤ c → Rose b c → Rose a c
+rose_later a b c first then rose small = omega arith
+
+module _ {K : Type 0} {written : K → Option (List ℕ)} {faults : K → ℕ} {keeps : K → K → Type 0} where
+  -- a call behind one that ended well
+  pub writes_then : {T U : Type 0} {a b c : BitWriter K} {x : T} {r : Result U Fault} {xs ys : List ℕ} → ((first second third : K) → keeps first second → keeps second third → keeps first third)
+      → Writes written faults keeps a b (Ok x) xs → Writes written faults keeps b c r ys → Writes written faults keeps a c r (xs ++ ys)
+  writes_then {r} keeps_on first then = record {
+    ok = on_ok_weaker r (gets_twice first.ok) then.ok;
+    err = on_err_weaker r (gets_then_front first.ok) then.err;
+    stopped = then.stopped;
+    failed = λ is. rose_later _ _ _ first.counts then.counts (then.failed is);
+    never_missing = then.never_missing;
+    counts = omega (arith, first.counts, then.counts);
+    kept = keeps_on _ _ _ first.kept then.kept;
+    same_sink = then.same_sink ∙ first.same_sink;
+  }
+
+  -- a call that failed, with more to come behind it
+  pub writes_no_more : {T U : Type 0} {a b : BitWriter K} {e : Fault} {xs : List ℕ} (more : List ℕ) → Writes written faults keeps {T = T} a b (Err e) xs → Writes written faults keeps {T = U} a b (Err e) (xs ++ more)
+  writes_no_more more call = record {
+    ok = tt;
+    err = gets_front_more more call.err;
+    stopped = call.stopped;
+    failed = λ is. call.failed (let e = is in cc);
+    never_missing = λ is. call.never_missing (let e = is in cc);
+    counts = call.counts;
+    kept = call.kept;
+    same_sink = call.same_sink;
+  }

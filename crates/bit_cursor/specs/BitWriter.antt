@@ -1,7 +1,10 @@
 -- What a writer of bits puts into its sink, and what waits in it. The first bit of a byte is its most significant one
 -- (bslbf and uimsbf of ISO/IEC 13818-1, 2.2.6, and 13818-2, 5.2).
-use Rattle.std.specs.Prelude.{◌≡◌, ℕ, ◌-◌, ◌%◌, Bool, List, ◌++◌, Option, length, replicate}
+use Rattle.std.specs.Prelude.{◌≡◌, ◌≢◌, ℕ, ◌-◌, ◌%◌, ◌≤◌, Bool, List, ◌++◌, Option, Result, Err, OnOk, OnErr, IsErrOf, is_err, length, replicate}
 use Rattle.std.specs.Borrow.{MutBor}
+use Rattle.shelf_io.specs.declared.fault.Fault.{Fault}
+use Rattle.shelf_io.specs.declared.fault.Fault.TheVariants.{Failed, Missing}
+use Rattle.shelf_io.specs.Counts.{Rose}
 use Rattle.shelf_io.specs.Sink.{with_bytes}
 use Rattle.bit_lists.specs.Bits.{IsPrefix}
 use Rattle.bit_lists.specs.Fields.{AreBytes, bit_list}
@@ -52,3 +55,15 @@ Puts written old new bits = Gets (told_by written old) (told_by written new) (wa
 -- a fault came while these bits were put, and a front of all that was put went out
 abbrev pub PutsFront : {K : Type 0} → (K → Option (List ℕ)) → BitWriter K → BitWriter K → List ℕ → Type 0
 PutsFront written old new bits = GetsFront (told_by written old) (told_by written new) (waiting_in old) bits
+
+-- How a call that puts these bits ends: they were put, or a fault of the sink's own stopped the writer and a front of
+-- all that was put went out.
+pub record Writes {K T : Type 0} (written : K → Option (List ℕ)) (faults : K → ℕ) (keeps : K → K → Type 0) (old new : BitWriter K) (result : Result T Fault) (bits : List ℕ) : Type 0 where
+  pub ok : OnOk result (Puts written old new bits)
+  pub err : OnErr result (PutsFront written old new bits)
+  pub stopped : is_stopped new ≡ is_err result
+  pub failed : IsErrOf result Failed → Rose (faults (sink_of old).now) (faults (sink_of new).now)
+  pub never_missing : result ≢ Err Missing
+  pub counts : faults (sink_of old).now ≤ faults (sink_of new).now
+  pub kept : keeps (sink_of old).now (sink_of new).now
+  pub same_sink : (sink_of new).ghost_name ≡ (sink_of old).ghost_name

@@ -17,7 +17,7 @@ pub struct BitWriter<'a, K: Sink> {
 }
 
 impl<'a, K: Sink> BitWriter<'a, K> {
-    ghost use Rattle.bit_cursor.specs.BitWriter.{sink_of, waiting_in, is_stopped, told_by, odd_bits, zeros_to_byte, Puts, PutsFront, Gets, GetsFront};
+    ghost use Rattle.bit_cursor.specs.BitWriter.{sink_of, waiting_in, is_stopped, told_by, odd_bits, zeros_to_byte, Gets, GetsFront, Writes};
 
     /// A writer behind what the sink holds.
     pub fn new(sink: &'a mut K) -> Self
@@ -38,16 +38,8 @@ impl<'a, K: Sink> BitWriter<'a, K> {
         requires goes { is_stopped self.old ≡ false }
         requires number { value < 2 ^ n }
         requires width { n ≤ 32 }
-        ensures ok { OnOk result (Puts K.written self.old self.new (bits_of n value)) }
-        ensures err { OnErr result (PutsFront K.written self.old self.new (bits_of n value)) }
+        ensures writes { Writes K.written K.faults K.keeps self.old self.new result (bits_of n value) }
         ensures odd { OnOk result (odd_bits self.new ≡ (odd_bits self.old + n) % 8) }
-        ensures stopped { is_stopped self.new ≡ is_err result }
-
-        ensures failed { IsErrOf result Fault.Failed → Rose (K.faults (sink_of self.old).now) (K.faults (sink_of self.new).now) }
-        ensures never_missing { result ≢ Err Fault.Missing }
-        ensures faults { K.faults (sink_of self.old).now ≤ K.faults (sink_of self.new).now }
-        ensures keeps { K.keeps (sink_of self.old).now (sink_of self.new).now }
-        ensures same_sink { (sink_of self.new).ghost_name ≡ (sink_of self.old).ghost_name }
     {
         let Some(bytes) = self.waiting.push(value, n) else {
             return Ok(());
@@ -60,16 +52,8 @@ impl<'a, K: Sink> BitWriter<'a, K> {
     /// Puts the least zero bits to a whole byte, none where nothing stands behind one. A fault is the sink's own.
     pub fn align_zero(&mut self) -> Result<(), Fault>
         requires goes { is_stopped self.old ≡ false }
-        ensures ok { OnOk result (Puts K.written self.old self.new (zeros_to_byte (odd_bits self.old))) }
-        ensures err { OnErr result (PutsFront K.written self.old self.new (zeros_to_byte (odd_bits self.old))) }
+        ensures writes { Writes K.written K.faults K.keeps self.old self.new result (zeros_to_byte (odd_bits self.old)) }
         ensures whole { OnOk result (odd_bits self.new ≡ 0) }
-        ensures stopped { is_stopped self.new ≡ is_err result }
-
-        ensures failed { IsErrOf result Fault.Failed → Rose (K.faults (sink_of self.old).now) (K.faults (sink_of self.new).now) }
-        ensures never_missing { result ≢ Err Fault.Missing }
-        ensures faults { K.faults (sink_of self.old).now ≤ K.faults (sink_of self.new).now }
-        ensures keeps { K.keeps (sink_of self.old).now (sink_of self.new).now }
-        ensures same_sink { (sink_of self.new).ghost_name ≡ (sink_of self.old).ghost_name }
     {
         let odd = self.waiting.count() % 8;
         self.put_bits(0, (8 - odd) % 8)
