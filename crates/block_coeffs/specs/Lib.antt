@@ -1,0 +1,3 @@
+pub mod Cut
+pub mod Standing
+pub mod Why
