@@ -1,0 +1,2 @@
+pub mod BitReader
+pub mod Reading

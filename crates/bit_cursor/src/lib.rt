@@ -1,0 +1,12 @@
+//! Bits of a source and of a sink of bytes, most significant bit first (ISO/IEC 13818-1, 2.2.6 and 13818-2, 5.2).
+//!
+//! `BitReader` gives the bits of a `Source` in order, however the source cuts its bytes, and takes no byte before a bit
+//! of it is asked for. It promises which bits each answer holds, where the source tells its bytes, and that a fault is
+//! the source's own. Stands on `shelf_io` and on the words of `bit_lists`.
+#![tactic(auto)]
+
+mod bit_fault;
+mod bit_reader;
+
+pub use bit_fault::BitFault;
+pub use bit_reader::BitReader;
