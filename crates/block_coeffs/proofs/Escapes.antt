@@ -219,11 +219,12 @@ module _ {table : TableName} (is : IsCoefficients table) (place : ℕ) (window :
         )
 
     past-whole : 64 ≤ place + the_run → IsFound table place window (Refused why.TooMany 0)
-    past-whole past = whole-breaks [] (rule BadEscape is_level ∷ []) (rule TooMany (is_within place)) refl refl (le-ltb (place + the_run) 64 past)
+    past-whole past = (omega arith, whole-breaks [] (rule BadEscape is_level ∷ []) (rule TooMany (is_within place)) refl refl (le-ltb (place + the_run) 64 past))
 
     pub forbidden-whole : place + the_run < 64 → (the_level ≡ 0) ⊎ (the_level ≡ 2048) → IsFound table place window (Refused why.BadEscape 0)
     forbidden-whole fits forbidden =
-        whole-breaks (rule TooMany (is_within place) ∷ []) [] (rule BadEscape is_level) refl (and_from (nat_lt (place + the_run) 64) true (lt-ltb (place + the_run) 64 fits) refl) (is_level-forbidden the_run the_level forbidden)
+        let within = and_from (nat_lt (place + the_run) 64) true (lt-ltb (place + the_run) 64 fits) refl in
+        (omega arith, whole-breaks (rule TooMany (is_within place) ∷ []) [] (rule BadEscape is_level) refl within (is_level-forbidden the_run the_level forbidden))
 
     pub pair-whole : (level : ℤ) → place + the_run < 64 → (the_level ≡ 0 → ⊥) → (the_level ≡ 2048 → ⊥) → level ≡ escape_level the_level → IsFound table place window (Pair (record { run = the_run; level = level }) 24)
     pair-whole level fits not_zero not_least level_is =
@@ -335,9 +336,9 @@ module _ {table : TableName} (is : IsCoefficients table) (place : ℕ) (window :
 
   pub past-found : 64 ≤ place + the_run → IsFound table place window (Refused why.TooMany 0)
   past-found past = elim (cases_lt window.known 24) [
-    | inl short ↦ λ bits shows. past-cut short bits shows past
+    | inl short ↦ (omega arith, λ bits shows. past-cut short bits shows past)
     | inr full ↦ past-whole (let within = window.within in omega arith) past
   ]
 
   pub end-found : place + the_run < 64 → window.known < 24 → IsFound table place window (Refused why.End 0)
-  end-found fits short = λ bits shows. end-cut short bits shows fits
+  end-found fits short = (omega arith, λ bits shows. end-cut short bits shows fits)

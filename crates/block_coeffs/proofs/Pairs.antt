@@ -101,15 +101,21 @@ module _ {table : TableName} (is : IsCoefficients table) (place : ℕ) (window :
   at = seen-code window b.code len within b.counted b.first
 
   pub past-found : 64 ≤ place + run → IsFound table place window (Refused why.TooMany 0)
-  past-found past = λ bits shows. refuses-past table place run (symbol % LEVELS_PER_RUN) b.code listed bits past (begins-seen window bits b.code (length-code symbol b.code is b.listed) shows b.first)
+  past-found past = (
+    omega arith,
+    λ bits shows. refuses-past table place run (symbol % LEVELS_PER_RUN) b.code listed bits past (begins-seen window bits b.code (length-code symbol b.code is b.listed) shows b.first),
+  )
 
   pub unsigned-found : place + run < 64 → len ≡ window.known → IsFound table place window (Refused why.End len)
-  unsigned-found fits full = λ bits shows.
-      let short = shorter-code symbol b.code is b.listed in
-      let all : bits ≡ b.code = shows-all window bits within (λ filled. omega (arith, b.counted)) shows ∙ ap (seen window) (sym full) ∙ at.1 in
-      let none_left : drop len bits ≡ [] = drop_all len bits (omega (arith, ap length all, b.counted)) in
-      subst (λ x. (coefficient_at table place).Refuses x End (drop len bits)) (sym all)
-      (subst ((coefficient_at table place).Refuses b.code End) (sym none_left) (refuses-unsigned table place run (symbol % LEVELS_PER_RUN) b.code listed fits))
+  unsigned-found fits full = (
+    omega arith,
+    λ bits shows.
+        let short = shorter-code symbol b.code is b.listed in
+        let all : bits ≡ b.code = shows-all window bits within (λ filled. omega (arith, b.counted)) shows ∙ ap (seen window) (sym full) ∙ at.1 in
+        let none_left : drop len bits ≡ [] = drop_all len bits (omega (arith, ap length all, b.counted)) in
+        subst (λ x. (coefficient_at table place).Refuses x End (drop len bits)) (sym all)
+        (subst ((coefficient_at table place).Refuses b.code End) (sym none_left) (refuses-unsigned table place run (symbol % LEVELS_PER_RUN) b.code listed fits)),
+  )
 
   pub pair-found : (negative : Bool) (level : ℤ) → place + run < 64 → (len ≡ window.known → ⊥) → level ≡ signed (symbol % LEVELS_PER_RUN) negative
       → seen window (len + 1) ≡ seen window len ++ flag negative ∷ [] → IsFound table place window (Pair (record { run = run; level = level }) (len + 1))

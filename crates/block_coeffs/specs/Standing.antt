@@ -34,4 +34,4 @@ IsFound table place window (EndOfBlock len) =
 IsFound table place window (Pair pair len) =
     (len ≤ window.known) × (place + pair.run < BLOCK_PLACES) × (coefficient_at table place).Spells (more pair) (seen window len) []
 IsFound table place window (Refused why behind) =
-    (bits : List ℕ) → Shows window bits → (coefficient_at table place).Refuses bits (refusal_of why) (drop behind bits)
+    (behind ≤ window.known) × ((bits : List ℕ) → Shows window bits → (coefficient_at table place).Refuses bits (refusal_of why) (drop behind bits))

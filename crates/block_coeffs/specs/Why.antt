@@ -5,6 +5,8 @@ use Rattle.prefix_codes.specs.declared.table_name.TableName.TheVariants.{Address
 use Rattle.picture_grammar.specs.Refusal.{Refusal}
 use Rattle.picture_grammar.specs.Element.{Rule, rule, IsRefused}
 use Rattle.picture_grammar.specs.Block.{Coefficient, CoefficientCode, is_within, is_level}
+use Rattle.block_coeffs.specs.declared.block_fault.BlockFault.{BlockFault}
+use Rattle.block_coeffs.specs.declared.block_fault.BlockFault.TheVariants as fault
 use Rattle.block_coeffs.specs.declared.why.Why.{Why}
 use Rattle.block_coeffs.specs.declared.why.Why.TheVariants as why
 
@@ -28,6 +30,13 @@ refusal_of why.NoCode = Refusal.NoCode
 refusal_of why.TooMany = Refusal.TooMany
 refusal_of why.BadEscape = Refusal.BadEscape
 refusal_of why.End = Refusal.End
+
+-- the fault that names it, at a place in bits
+abbrev pub fault_at : Why → ℕ → BlockFault
+fault_at why.NoCode at = fault.NoCode at
+fault_at why.TooMany at = fault.TooMany at
+fault_at why.BadEscape at = fault.BadEscape at
+fault_at why.End at = fault.End at
 
 -- the rules of a coefficient at a place: it stands within the block, and its level isn't forbidden
 abbrev pub rules_at : ℕ → List (Rule Coefficient)

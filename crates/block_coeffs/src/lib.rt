@@ -5,8 +5,12 @@
 //! window of bits. No call takes memory. Stands on `bit_cursor`, `prefix_codes`, `syntax_types` and `picture_grammar`.
 #![tactic(auto)]
 
+mod block_fault;
 mod coefficient_table;
 mod cut;
+mod read_block;
 mod standing;
 mod why;
 mod window;
+
+pub use block_fault::BlockFault;

@@ -10,7 +10,7 @@ pub why_none-requires-clause-none : goal.why_none-requires-clause-none
 why_none-requires-clause-none c = λ s n b. none-some _ (sym c.in-None.is ∙ (c.find.ensures.front s n).1 b)
 
 pub returns-in-None : goal.returns-in-None
-returns-in-None c = λ bits shows. inl (refl, c.why_none.ensures bits shows)
+returns-in-None c = (omega arith, λ bits shows. inl (refl, c.why_none.ensures bits shows))
 
 pub returns-in-Some-eq4000-default : goal.returns-in-Some-eq4000-default
 returns-in-Some-eq4000-default c =
