@@ -21,13 +21,6 @@ pub record Shows (n : ℕ) (bits : List ℕ) (shown count : ℕ) : Type 0 where
 abbrev pub bytes_beyond : ℕ → ℕ → ℕ
 bytes_beyond held n = (n - held + 7) / 8
 
--- the held bits became more by whole bytes of the source, none of which was taken before n bits asked for a bit of it;
--- most bounds the bytes that are left in the source
-pub record Fetches (n held held_after most most_after : ℕ) : Type 0 where
-  pub taken : most_after ≤ most
-  pub asked : most ≤ most_after + bytes_beyond held n
-  pub whole : held_after + 8 * most_after ≡ held + 8 * most
-
 -- the next place at a whole byte, or the same one where it is at one
 abbrev pub byte_aligned : ℕ → ℕ
 byte_aligned place = (place + 7) / 8 * 8

@@ -1,6 +1,6 @@
 ghost use Rattle.std.specs.Prelude.{◌≡◌, ◌+◌, ◌-◌, ◌*◌, ◌%◌, ◌^◌, ◌<◌, ◌≤◌, length, IfOk, OnErr, IfSome, IsErrOf};
 ghost use Rattle.shelf_io.specs.Counts.{Rose};
-ghost use Rattle.bit_cursor.specs.Reading.{IsFront, Shows, Fetches, bytes_beyond, byte_aligned};
+ghost use Rattle.bit_cursor.specs.Reading.{IsFront, Shows, bytes_beyond, byte_aligned};
 
 use crate::bit_fault::BitFault;
 use shelf_io::{Fault, Source};
@@ -23,7 +23,7 @@ pub struct BitReader<'a, S: Source> {
 impl<'a, S: Source> BitReader<'a, S> {
     ghost use Rattle.std.specs.Option.{option_map};
     ghost use Rattle.bit_lists.specs.Fields.{bit_list};
-    ghost use Rattle.bit_cursor.specs.BitReader.{source_of, bits_held, bits_left, without_bits, place, most_of, faults_of, absences_of, KeepsSource};
+    ghost use Rattle.bit_cursor.specs.BitReader.{source_of, bits_held, bits_left, without_bits, place, faults_of, absences_of, TakesBytes, Fetches, KeepsSource};
 
     /// A reader at the source's first bit.
     pub fn new(source: &'a mut S) -> Self
@@ -50,12 +50,12 @@ impl<'a, S: Source> BitReader<'a, S> {
         ensures left { IfOk result (λ _. bits_left self.new ≡ without_bits (bits_left self.old) n) }
         ensures place { IfOk result (λ _. place self.new ≡ place self.old + n) }
         ensures held { IfOk result (λ _. bits_held self.new + n ≡ bits_held self.old + 8 * bytes_beyond (bits_held self.old) n) }
-        ensures taken { IfOk result (λ _. most_of self.new + bytes_beyond (bits_held self.old) n ≡ most_of self.old) }
+        ensures taken { IfOk result (λ _. TakesBytes self.old self.new (bytes_beyond (bits_held self.old) n)) }
 
         ensures end { IsErrOf result BitFault.End → IfSome (bits_left self.old) (λ bits. length bits < n) }
         ensures kept { OnErr result (bits_left self.new ≡ bits_left self.old) }
         ensures kept_place { OnErr result (place self.new ≡ place self.old) }
-        ensures fetched { OnErr result (Fetches n (bits_held self.old) (bits_held self.new) (most_of self.old) (most_of self.new)) }
+        ensures fetched { OnErr result (Fetches n self.old self.new) }
 
         ensures failed { IsErrOf result (BitFault.Outside Fault.Failed) → Rose (faults_of self.old) (faults_of self.new) }
         ensures missing { IsErrOf result (BitFault.Outside Fault.Missing) → Rose (absences_of self.old) (absences_of self.new) }
@@ -82,7 +82,7 @@ impl<'a, S: Source> BitReader<'a, S> {
 
         ensures left { bits_left self.new ≡ bits_left self.old }
         ensures place { place self.new ≡ place self.old }
-        ensures fetched { Fetches n (bits_held self.old) (bits_held self.new) (most_of self.old) (most_of self.new) }
+        ensures fetched { Fetches n self.old self.new }
 
         ensures failed { IsErrOf result Fault.Failed → Rose (faults_of self.old) (faults_of self.new) }
         ensures missing { IsErrOf result Fault.Missing → Rose (absences_of self.old) (absences_of self.new) }
@@ -122,7 +122,7 @@ impl<'a, S: Source> BitReader<'a, S> {
         ensures enough { IfOk result (λ _. bits_held self.new < n → IfSome (bits_left self.old) (λ bits. length bits ≡ bits_held self.new)) }
         ensures left { bits_left self.new ≡ bits_left self.old }
         ensures place { place self.new ≡ place self.old }
-        ensures fetched { Fetches n (bits_held self.old) (bits_held self.new) (most_of self.old) (most_of self.new) }
+        ensures fetched { Fetches n self.old self.new }
 
         ensures failed { IsErrOf result Fault.Failed → Rose (faults_of self.old) (faults_of self.new) }
         ensures missing { IsErrOf result Fault.Missing → Rose (absences_of self.old) (absences_of self.new) }

@@ -1,6 +1,7 @@
 use Rattle.std.proofs.Common.{◌≡◌, ◌∙◌, ◌<◌, ◌≤◌, ◌+◌, ◌*◌, ◌%◌, ◌^◌, cond, is_some, Some, None, IfSome, slice_get, subst, ap, arith, bit_or}
 use Rattle.shelf_io.specs.Source.{Takes}
 use Rattle.bit_cursor.specs.BitReader.{bits_left}
+use Rattle.shelf_io.proofs.Taken.{takes_twice}
 use Rattle.bit_cursor.proofs.Left.{told_bits, told_more, told_end}
 use Rattle.bit_cursor.proofs.bit_reader.BitReader.fetch.Goals as goal
 
@@ -19,7 +20,12 @@ loop-self-preserved g c =
     record {
       left = ap (λ x. told_bits after (h + 8) (bit_or (w * 2 ^ 8 % 2 ^ 64) x)) c.from.ensures ∙ told_more told after h w byte short small first takes.rest ∙ c.loop-self.invariant.left;
       place = omega arith;
-      fetched = record { taken = omega arith; asked = omega arith; whole = omega arith };
+      fetched = record {
+        count = c.loop-self.invariant.fetched.count + 1;
+        asked = omega arith;
+        held = omega arith;
+        taken = takes_twice _ _ _ _ _ _ _ _ c.loop-self.invariant.fetched.taken takes;
+      };
       keeps = record {
         same_source = c.loop-self.invariant.keeps.same_source;
         keeps = g.met.S.Source.keeps_on _ _ _ c.loop-self.invariant.keeps.keeps c.in_ok-byte.ensures.keeps;

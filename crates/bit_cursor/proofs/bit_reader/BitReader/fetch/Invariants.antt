@@ -1,13 +1,12 @@
 use Rattle.std.proofs.Common.{◌-◌, ◌≡◌}
-use Rattle.bit_cursor.specs.Reading.{Fetches}
-use Rattle.bit_cursor.specs.BitReader.{bits_held, bits_left, place, most_of, KeepsSource}
+use Rattle.bit_cursor.specs.BitReader.{bits_left, place, Fetches, KeepsSource}
 use Rattle.bit_cursor.proofs.bit_reader.BitReader.fetch.Given as goal
 
 abbrev pub invariant-loop-self : goal.invariant-loop-self
 invariant-loop-self g l = record {
   left : bits_left l.self ≡ bits_left l.fn.self;
   place : place l.self ≡ place l.fn.self;
-  fetched : Fetches l.n (bits_held l.fn.self) (bits_held l.self) (most_of l.fn.self) (most_of l.self);
+  fetched : Fetches l.n l.fn.self l.self;
   keeps : KeepsSource l.fn.self l.self;
 }
 

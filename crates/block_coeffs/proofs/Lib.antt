@@ -1,0 +1,5 @@
+pub mod Cuts
+pub mod Escapes
+pub mod Fronts
+pub mod Pairs
+pub mod Symbols

@@ -1,0 +1,4 @@
+pub mod Cut
+pub mod Reading
+pub mod Standing
+pub mod Why

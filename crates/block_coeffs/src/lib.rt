@@ -1,0 +1,16 @@
+//! Blocks of coefficients both ways (ISO/IEC 13818-2, 6.2.6 and 7.2).
+//!
+//! `read_block` reads a block from a `BitReader`: it answers the block that the bits spell, or the kind and the place of
+//! their refusal, each exactly where the grammar of `picture_grammar` has it. Each coefficient is one look-up on one
+//! window of bits. No call takes memory. Stands on `bit_cursor`, `prefix_codes`, `syntax_types` and `picture_grammar`.
+#![tactic(auto)]
+
+mod block_fault;
+mod coefficient_table;
+mod cut;
+mod read_block;
+mod standing;
+mod why;
+mod window;
+
+pub use block_fault::BlockFault;

@@ -1,0 +1,87 @@
+ghost use Rattle.std.specs.Prelude.{◌≡◌, ◌≤◌, ◌<◌, ◌+◌, ℕ, IfOk, IfErr, OnErr, IfSome, IsErrOf, IsTrue, length};
+ghost use Rattle.shelf_io.specs.Counts.{Rose};
+ghost use Rattle.bit_cursor.specs.BitReader.{bits_left, without_bits, place, faults_of, absences_of, KeepsSource};
+ghost use Rattle.picture_grammar.specs.Grammar.{many, more_of};
+ghost use Rattle.picture_grammar.specs.Block.{block, coefficient};
+ghost use Rattle.block_coeffs.specs.Why.{is_coefficients};
+ghost use Rattle.block_coeffs.specs.Standing.{coefficient_at, Shows};
+ghost use Rattle.block_coeffs.specs.Reading.{Advances, Reads, Explains, IsOutside};
+
+use crate::block_fault::BlockFault;
+use crate::coefficient_table::table_at;
+use crate::standing::{Standing, what_stands};
+use crate::window::Window;
+use arrayvec::ArrayVec;
+use bit_cursor::{BitFault, BitReader};
+use prefix_codes::{TableName, WINDOW_BITS};
+use shelf_io::{Fault, Source};
+use syntax_types::{BLOCK_PLACES, Block, BlockWay, RunLevel};
+
+/// The coefficient that stands next, at this index of the block's places, or None for the end of block. It takes no bit
+/// where none of them stands there.
+fn next_coefficient<S: Source>(
+    from: &mut BitReader<'_, S>,
+    table: TableName,
+    index: u32,
+) -> Result<Option<RunLevel>, BlockFault>
+    requires table { IsTrue (is_coefficients table) }
+    requires index { index ≤ BLOCK_PLACES }
+    ensures ok { IfOk result (λ pair. Reads (coefficient_at table index) (more_of pair) (bits_left from.old) (bits_left from.new) (place from.old) (place from.new)) }
+    ensures within { IfOk result (λ pair. IfSome pair (λ pair. index + pair.run < BLOCK_PLACES)) }
+    ensures refused { IfErr result (λ fault. IfSome (bits_left from.old) (λ bits. Explains (coefficient_at table index) fault bits (place from.old))) }
+    ensures kept { OnErr result (bits_left from.new ≡ bits_left from.old) }
+    ensures kept_place { OnErr result (place from.new ≡ place from.old) }
+
+    ensures failed { IsErrOf result (BlockFault.Outside Fault.Failed) → Rose (faults_of from.old) (faults_of from.new) }
+    ensures missing { IsErrOf result (BlockFault.Outside Fault.Missing) → Rose (absences_of from.old) (absences_of from.new) }
+    ensures keeps { KeepsSource from.old from.new }
+{
+    let window = look(from)?;
+    match what_stands(table, index, window) {
+        Standing::EndOfBlock { len } => {
+            skip(from, len)?;
+            Ok(None)
+        }
+        Standing::Pair { pair, len } => {
+            skip(from, len)?;
+            Ok(Some(pair))
+        }
+        Standing::Refused { why, behind } => Err(why.at(from.place() + u64::from(behind))),
+    }
+}
+
+/// What is seen of the bits that are left.
+fn look<S: Source>(from: &mut BitReader<'_, S>) -> Result<Window, BlockFault>
+    ensures shows { IfOk result (λ window. IfSome (bits_left from.old) (Shows window)) }
+    ensures outside { IfErr result IsOutside }
+    ensures left { bits_left from.new ≡ bits_left from.old }
+    ensures place { place from.new ≡ place from.old }
+
+    ensures failed { IsErrOf result (BlockFault.Outside Fault.Failed) → Rose (faults_of from.old) (faults_of from.new) }
+    ensures missing { IsErrOf result (BlockFault.Outside Fault.Missing) → Rose (absences_of from.old) (absences_of from.new) }
+    ensures keeps { KeepsSource from.old from.new }
+{
+    let (bits, known) = from.peek(WINDOW_BITS)?;
+    Ok(Window { bits, known })
+}
+
+/// Takes so many of the bits that are left, which a window showed.
+fn skip<S: Source>(from: &mut BitReader<'_, S>, len: u32) -> Result<(), BlockFault>
+    requires len { len ≤ WINDOW_BITS }
+    requires shown { IfSome (bits_left from.old) (λ bits. len ≤ length bits) }
+    ensures left { IfOk result (λ _. bits_left from.new ≡ without_bits (bits_left from.old) len) }
+    ensures place { IfOk result (λ _. place from.new ≡ place from.old + len) }
+    ensures outside { IfErr result (λ fault. IfSome (bits_left from.old) (λ _. IsOutside fault)) }
+    ensures kept { OnErr result (bits_left from.new ≡ bits_left from.old) }
+    ensures kept_place { OnErr result (place from.new ≡ place from.old) }
+
+    ensures failed { IsErrOf result (BlockFault.Outside Fault.Failed) → Rose (faults_of from.old) (faults_of from.new) }
+    ensures missing { IsErrOf result (BlockFault.Outside Fault.Missing) → Rose (absences_of from.old) (absences_of from.new) }
+    ensures keeps { KeepsSource from.old from.new }
+{
+    match from.bits(len) {
+        Ok(_) => Ok(()),
+        Err(BitFault::End) => Err(BlockFault::End { at: from.place() }),
+        Err(BitFault::Outside(fault)) => Err(BlockFault::Outside(fault)),
+    }
+}
