@@ -1,6 +1,7 @@
 -- What a sink got in several calls: what each function that puts bits by other ones needs. They speak of `Gets` and
 -- `GetsFront`, so of `Puts` and `PutsFront` between states of a writer.
-use Rattle.std.proofs.Common.{◌≡◌, ℕ, ◌+◌, ◌*◌, ◌%◌, List, [], ◌∷◌, ◌++◌, Option, None, Some, Result, Ok, Err, ◌≤◌, length, drop, refl, sym, ap, ◌∙◌, arith, append_assoc, append-nil, length-append}
+use Rattle.std.proofs.Common.{◌≡◌, ℕ, ◌+◌, ◌-◌, ◌*◌, ◌%◌, ◌^◌, ◌<◌, List, [], ◌∷◌, ◌++◌, Option, None, Some, Result, Ok, Err, ◌≤◌, length, drop, refl, sym, ap, inl, inr, ◌∙◌, arith, append_assoc, append-nil, length-append}
+use Rattle.std.proofs.lemmas.Bool.{cases_lt}
 use Rattle.std.proofs.lemmas.Result.{on_ok_weaker, on_err_weaker}
 use Rattle.shelf_io.specs.declared.fault.Fault.{Fault}
 use Rattle.shelf_io.specs.Counts.{Rose}
@@ -75,7 +76,10 @@ gets_whole {put} a b =
 -- ---- how calls end
 
 rose_later : (a b c : ℕ) → a ≤ b → b ≤ c → Rose b c → Rose a c
-rose_later a b c first then rose small = omega arith
+rose_later a b c first then rose small = elim (cases_lt b (2 ^ 64 - 1)) [
+  | inl below ↦ let more : b < c = rose below in omega arith
+  | inr full ↦ omega arith
+]
 
 module _ {K : Type 0} {written : K → Option (List ℕ)} {faults : K → ℕ} {keeps : K → K → Type 0} where
   -- a call behind one that ended well
@@ -93,7 +97,7 @@ module _ {K : Type 0} {written : K → Option (List ℕ)} {faults : K → ℕ} {
   }
 
   -- a call that failed, with more to come behind it
-  pub writes_no_more : {T U : Type 0} {a b : BitWriter K} {e : Fault} {xs : List ℕ} (more : List ℕ) → Writes written faults keeps {T = T} a b (Err e) xs → Writes written faults keeps {T = U} a b (Err e) (xs ++ more)
+  pub writes_no_more : {T U : Type 0} {a b : BitWriter K} {e : Fault} {xs : List ℕ} (more : List ℕ) → Writes {T = T} written faults keeps a b (Err e) xs → Writes {T = U} written faults keeps a b (Err e) (xs ++ more)
   writes_no_more more call = record {
     ok = tt;
     err = gets_front_more more call.err;
