@@ -3,3 +3,4 @@ pub mod Escapes
 pub mod Fronts
 pub mod Pairs
 pub mod Symbols
+pub mod Writing

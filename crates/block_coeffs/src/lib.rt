@@ -12,8 +12,8 @@ mod read_block;
 mod standing;
 mod why;
 mod window;
-mod write_block;
+mod written;
 mod written_codes;
 
 pub use block_fault::BlockFault;
-pub use write_block::write_block;
+pub use written::write_block;
