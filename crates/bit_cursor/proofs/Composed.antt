@@ -1,6 +1,6 @@
 -- What a sink got in several calls: what each function that puts bits by other ones needs. They speak of `Gets` and
 -- `GetsFront`, so of `Puts` and `PutsFront` between states of a writer.
-use Rattle.std.proofs.Common.{◌≡◌, ℕ, ◌+◌, ◌-◌, ◌*◌, ◌%◌, ◌^◌, ◌<◌, List, [], ◌∷◌, ◌++◌, Option, None, Some, Result, Ok, Err, ◌≤◌, length, drop, refl, sym, ap, inl, inr, ◌∙◌, arith, append_assoc, append-nil, length-append}
+use Rattle.std.proofs.Common.{◌≡◌, ℕ, ◌+◌, ◌-◌, ◌*◌, ◌%◌, ◌^◌, ◌<◌, List, [], ◌∷◌, ◌++◌, Option, None, Some, false, Result, Ok, Err, IsErrAnd, ◌≤◌, length, drop, refl, sym, ap, subst, inl, inr, ◌∙◌, arith, append_assoc, append-nil, length-append}
 use Rattle.std.proofs.lemmas.Bool.{cases_lt}
 use Rattle.std.proofs.lemmas.Result.{on_ok_weaker, on_err_weaker}
 use Rattle.shelf_io.specs.declared.fault.Fault.{Fault}
@@ -10,8 +10,8 @@ use Rattle.bit_lists.specs.Bits.{IsPrefix}
 use Rattle.bit_lists.specs.Fields.{AreBytes, bit_list}
 use Rattle.bit_lists.proofs.PrefixLemmas.{IsPrefix-append, IsPrefix-split, IsPrefix-through}
 use Rattle.bit_cursor.specs.declared.bit_writer.BitWriter.{BitWriter}
-use Rattle.bit_cursor.specs.BitWriter.{Gets, GetsFront, Writes}
-use Rattle.bit_cursor.proofs.Gets.{bit_list-append, length-bit_list}
+use Rattle.bit_cursor.specs.BitWriter.{Gets, GetsFront, Writes, told_by, waiting_in, is_stopped, sink_of}
+use Rattle.bit_cursor.proofs.Gets.{bit_list-append, length-bit_list, gets_none}
 
 AreBytes-append : (xs ys : List ℕ) → AreBytes xs → AreBytes ys → AreBytes (xs ++ ys)
 AreBytes-append [] ys are are' = are'
@@ -82,6 +82,19 @@ rose_later a b c first then rose small = elim (cases_lt b (2 ^ 64 - 1)) [
 ]
 
 module _ {K : Type 0} {written : K → Option (List ℕ)} {faults : K → ℕ} {keeps : K → K → Type 0} where
+  -- nothing was put
+  pub writes_none : {T : Type 0} (x : T) (a : BitWriter K) → ((first : K) → keeps first first) → is_stopped a ≡ false → Writes written faults keeps a a (Ok x) []
+  writes_none x a keeps_itself goes = record {
+    ok = gets_none (told_by written a) (waiting_in a) [] (waiting_in a) (sym (append-nil (waiting_in a)));
+    err = tt;
+    stopped = goes;
+    failed = λ is. cc;
+    never_missing = λ is. cc;
+    counts = omega arith;
+    kept = keeps_itself (sink_of a).now;
+    same_sink = refl;
+  }
+
   -- a call behind one that ended well
   pub writes_then : {T U : Type 0} {a b c : BitWriter K} {x : T} {r : Result U Fault} {xs ys : List ℕ} → ((first second third : K) → keeps first second → keeps second third → keeps first third)
       → Writes written faults keeps a b (Ok x) xs → Writes written faults keeps b c r ys → Writes written faults keeps a c r (xs ++ ys)
@@ -108,3 +121,8 @@ module _ {K : Type 0} {written : K → Option (List ℕ)} {faults : K → ℕ} {
     kept = call.kept;
     same_sink = call.same_sink;
   }
+
+  -- the same at the exit of a `?`
+  pub writes_exit : {T U : Type 0} {a b : BitWriter K} {e : Fault} {xs : List ℕ} (r : Result U Fault) (more : List ℕ) → IsErrAnd r (λ f. f ≡ e) → Writes {T = T} written faults keeps a b (Err e) xs → Writes {T = U} written faults keeps a b r (xs ++ more)
+  writes_exit (Ok x) more is call = absurd is
+  writes_exit {U} {a} {b} {xs} (Err f) more is call = subst (λ (fault : Fault). Writes {T = U} written faults keeps a b (Err fault) (xs ++ more)) (sym is) (writes_no_more more call)

@@ -3,4 +3,5 @@ pub mod Escapes
 pub mod Fronts
 pub mod Pairs
 pub mod Symbols
+pub mod Writable
 pub mod Writing

@@ -39,7 +39,11 @@ fn write_dc<K: Sink>(to: &mut BitWriter<'_, K>, way: BlockWay, dc: Dc) -> Result
     to.put_bits(u32::from(dc.bits), u32::from(dc.size))
 }
 
-fn write_code<K: Sink>(to: &mut BitWriter<'_, K>, table: TableName, symbol: u16) -> Result<(), Fault>
+fn write_code<K: Sink>(
+    to: &mut BitWriter<'_, K>,
+    table: TableName,
+    symbol: u16,
+) -> Result<(), Fault>
     requires { is_stopped to.old ≡ false }
     ensures { Writes K.written K.faults K.keeps to.old to.new result (bits_for table symbol) }
 {
@@ -65,7 +69,11 @@ fn write_coefficients<K: Sink>(
     write_code(to, table_at(way, place), symbol::END_OF_BLOCK)
 }
 
-fn write_coefficient<K: Sink>(to: &mut BitWriter<'_, K>, table: TableName, pair: RunLevel) -> Result<(), Fault>
+fn write_coefficient<K: Sink>(
+    to: &mut BitWriter<'_, K>,
+    table: TableName,
+    pair: RunLevel,
+) -> Result<(), Fault>
     requires goes { is_stopped to.old ≡ false }
     requires stands { CanStand pair }
     ensures { Writes K.written K.faults K.keeps to.old to.new result (written_coefficient table pair) }
@@ -79,7 +87,11 @@ fn write_coefficient<K: Sink>(to: &mut BitWriter<'_, K>, table: TableName, pair:
     }
 }
 
-fn write_escape<K: Sink>(to: &mut BitWriter<'_, K>, table: TableName, pair: RunLevel) -> Result<(), Fault>
+fn write_escape<K: Sink>(
+    to: &mut BitWriter<'_, K>,
+    table: TableName,
+    pair: RunLevel,
+) -> Result<(), Fault>
     requires goes { is_stopped to.old ≡ false }
     requires stands { CanStand pair }
     ensures { Writes K.written K.faults K.keeps to.old to.new result (written_escape table pair) }

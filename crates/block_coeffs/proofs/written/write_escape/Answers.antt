@@ -17,7 +17,7 @@ pub returns : goal.returns
 returns g c =
     writes_as (writes_then g.met.K.Sink.keeps_on c.in_ok-write_code.ensures c.put_bits.ensures.writes)
     (
-      ap (λ bits. code_for c.args.table ESCAPE ++ bits) (fields c.from-run.result c.args.pair.run c.level_field.result c.from-run.ensures c.requires.stands.run c.level_field.ensures.fits)
-      ∙ sym (append_assoc (code_for c.args.table ESCAPE) (bits_of 6 c.args.pair.run) (bits_of 12 c.level_field.result))
-      ∙ ap (λ level. code_for c.args.table ESCAPE ++ bits_of 6 c.args.pair.run ++ bits_of 12 level) (c.level_field.ensures.field ∙ ap level_bits (held_level c.args.pair.level c.requires.stands.level))
+    ap (λ bits. code_for c.args.table ESCAPE ++ bits) (fields c.from-run.result c.args.pair.run c.level_field.result c.from-run.ensures c.requires.stands.run c.level_field.ensures.fits)
+    ∙ sym (append_assoc (code_for c.args.table ESCAPE) (bits_of 6 c.args.pair.run) (bits_of 12 c.level_field.result))
+    ∙ ap (λ level. code_for c.args.table ESCAPE ++ bits_of 6 c.args.pair.run ++ bits_of 12 level) (c.level_field.ensures.field ∙ ap level_bits (held_level c.args.pair.level c.requires.stands.level))
     )

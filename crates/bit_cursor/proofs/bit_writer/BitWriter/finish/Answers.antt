@@ -7,9 +7,9 @@ use Rattle.bit_cursor.proofs.bit_writer.BitWriter.finish.Goals as goal
 -- the bytes that go out are those of what waits
 whole : (count : ℕ) (bytes waiting : List ℕ) → count ≡ length waiting → count < 32 → length waiting % 8 ≡ 0 → bit_list bytes ≡ waiting ++ replicate (32 - length waiting) 0 → bit_list (take (count / 8) bytes) ++ [] ≡ waiting ++ []
 whole count bytes waiting is few odd filled =
-    let zeros = replicate (32 - length waiting) 0 in
+    let zeros : List ℕ = replicate (32 - length waiting) 0 in
     let lengths : 8 * length bytes ≡ length waiting + length zeros = sym (length-bit_list bytes) ∙ ap (length {A = ℕ}) filled ∙ length-append waiting zeros in
-    let four : 8 * length bytes ≡ length waiting + (32 - length waiting) = lengths ∙ ap (λ n. length waiting + n) (length-replicate (32 - length waiting) 0) in
+    let four : 8 * length bytes ≡ length waiting + (32 - length waiting) = lengths ∙ ap (λ n. length waiting + n) (length-replicate {A = ℕ} (32 - length waiting) 0) in
     whole_bytes (count / 8) bytes waiting zeros (omega arith) (omega arith) filled
 
 pub returns-clause-ok : goal.returns-clause-ok
