@@ -2,4 +2,5 @@ pub mod Cuts
 pub mod Escapes
 pub mod Fronts
 pub mod Pairs
+pub mod Steps
 pub mod Symbols
