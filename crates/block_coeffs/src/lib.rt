@@ -8,6 +8,7 @@
 mod block_fault;
 mod coefficient_table;
 mod cut;
+mod dc_standing;
 mod read_block;
 mod standing;
 mod why;
