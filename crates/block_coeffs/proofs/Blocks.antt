@@ -5,12 +5,13 @@ use Rattle.syntax_types.specs.declared.block.Block.{Block}
 use Rattle.syntax_types.specs.declared.block.BlockWay.{BlockWay}
 use Rattle.syntax_types.specs.declared.block.Dc.{Dc}
 use Rattle.syntax_types.specs.declared.block.RunLevel.{RunLevel}
-use Rattle.picture_grammar.specs.Grammar.{Grammar, done, ◌>>=◌, optional, many}
-use Rattle.picture_grammar.specs.Block.{dc_table, dc_coefficient, coefficient, block}
+use Rattle.picture_grammar.specs.Grammar.{Grammar, done, ◌>>=◌, optional, many, more_of}
+use Rattle.picture_grammar.specs.Block.{dc_table, dc_coefficient, coefficient, coefficient_table, next_place, block}
 use Rattle.picture_grammar.proofs.LocalLaws.{local-dc, local-many, local-coefficient, local-bind, local-done}
 use Rattle.block_coeffs.specs.declared.block_fault.BlockFault.{BlockFault}
 use Rattle.block_coeffs.specs.Reading.{Advances, Reads, RefusedAt, Explains}
 use Rattle.block_coeffs.specs.Dc.{dc_by}
+use Rattle.block_coeffs.specs.Standing.{coefficient_at}
 use Rattle.block_coeffs.proofs.Grammars.{reads-then, reads-some, explains-first, explains-then}
 
 -- what holds where bits are told, and follows there, holds where they are told
@@ -46,6 +47,22 @@ reads-absent way false e (Some bits) place = record { front = []; spelled = (ref
 
 pub reads-no_dc : (way : BlockWay) → way.intra ≡ false → (bits : Option (List ℕ)) (place : ℕ) → Reads (optional way.intra (dc_coefficient way)) None bits bits place place
 reads-no_dc way e bits place = reads-absent way way.intra e bits place
+
+-- ---- a coefficient
+
+-- the grammar of a coefficient behind others, by its table and its place
+pub reads-coefficient : (way : BlockWay) (before : List RunLevel) (table : TableName) (index : ℕ) → table ≡ coefficient_table way index → index ≡ next_place way before → (found value : Option RunLevel) → found ≡ value
+    → (bits after : Option (List ℕ)) (place place_after : ℕ) → Reads (coefficient_at table index) (more_of found) bits after place place_after → Reads (coefficient way before) (more_of value) bits after place place_after
+reads-coefficient way before table index table_is index_is found value is bits after place place_after r =
+    subst (λ v. Reads (coefficient way before) (more_of v) bits after place place_after) is
+    (subst (λ n. Reads (coefficient_at (coefficient_table way n) n) (more_of found) bits after place place_after) index_is
+    (subst (λ t. Reads (coefficient_at t index) (more_of found) bits after place place_after) table_is r))
+
+pub explains-coefficient : (way : BlockWay) (before : List RunLevel) (table : TableName) (index : ℕ) → table ≡ coefficient_table way index → index ≡ next_place way before → (f : BlockFault) (told : Option (List ℕ)) (place : ℕ)
+    → IfSome told (λ bits. Explains (coefficient_at table index) f bits place) → IfSome told (λ bits. Explains (coefficient way before) f bits place)
+explains-coefficient way before table index table_is index_is f told place h =
+    subst (λ n. IfSome told (λ bits. Explains (coefficient_at (coefficient_table way n) n) f bits place)) index_is
+    (subst (λ t. IfSome told (λ bits. Explains (coefficient_at t index) f bits place)) table_is h)
 
 -- ---- the block
 
