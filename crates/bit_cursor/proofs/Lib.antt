@@ -2,3 +2,4 @@ pub mod Words
 pub mod Left
 pub mod Given
 pub mod Source
+pub mod Examples
