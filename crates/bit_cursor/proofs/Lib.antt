@@ -1,4 +1,5 @@
 pub mod Words
 pub mod Left
-pub mod Given
+pub mod Fronts
 pub mod Source
+pub mod Examples

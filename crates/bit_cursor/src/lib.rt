@@ -10,3 +10,6 @@ mod bit_reader;
 
 pub use bit_fault::BitFault;
 pub use bit_reader::BitReader;
+
+#[cfg(test)]
+mod tests;
