@@ -7,7 +7,8 @@ use Rattle.bit_lists.specs.Bits.{bits_of}
 use Rattle.bit_lists.specs.Fields.{bit_list, bits_of_byte}
 use Rattle.bit_lists.proofs.BitLemmas.{length-bits_of}
 use Rattle.bit_cursor.specs.BitReader.{without_bits}
-use Rattle.bit_cursor.proofs.Words.{bits_of-more, drop-bits_of}
+use Rattle.bit_lists.proofs.JoinedLemmas.{drop-bits_of}
+use Rattle.bit_cursor.proofs.Words.{bits_of-more}
 
 -- the lowest h bits of a word, then those of a source
 abbrev pub told_bits : Option (List ℕ) → ℕ → ℕ → Option (List ℕ)

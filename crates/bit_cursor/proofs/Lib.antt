@@ -1,6 +1,7 @@
 pub mod Composed
+pub mod Examples
+pub mod Fronts
 pub mod Gets
-pub mod Given
 pub mod Left
 pub mod Source
 pub mod WordBits

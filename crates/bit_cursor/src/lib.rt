@@ -15,3 +15,6 @@ mod waiting_bits;
 pub use bit_fault::BitFault;
 pub use bit_reader::BitReader;
 pub use bit_writer::BitWriter;
+
+#[cfg(test)]
+mod tests;

@@ -1,5 +1,6 @@
 ghost use Rattle.std.specs.Prelude.{◌≡◌, IsTrue};
 ghost use Rattle.picture_grammar.specs.Block.{dc_table, coefficient_table};
+ghost use Rattle.block_coeffs.specs.Dc.{is_sizes};
 ghost use Rattle.block_coeffs.specs.Why.{is_coefficients};
 
 use prefix_codes::TableName;
@@ -7,7 +8,8 @@ use syntax_types::BlockWay;
 
 /// The table of the DC coefficient's size (7.2.1).
 pub fn size_table(way: BlockWay) -> TableName
-    ensures { result ≡ dc_table way.luma }
+    ensures table { result ≡ dc_table way.luma }
+    ensures sizes { IsTrue (is_sizes result) }
 {
     if way.luma {
         TableName::DcLuma

@@ -44,7 +44,7 @@ fn may_begin(table: TableName, place: u32, window: Window) -> bool
 }
 
 /// Whether the known bits begin the code of a symbol.
-fn begin_code(table: TableName, symbol: u16, window: Window) -> bool
+pub fn begin_code(table: TableName, symbol: u16, window: Window) -> bool
     ensures { IsTrue result ↔ BeginCode table symbol (seen window window.known) }
 {
     let Some(code) = code_of(table, symbol) else {

@@ -2,12 +2,14 @@
 //!
 //! `read_block` reads a block from a `BitReader`: it answers the block that the bits spell, or the kind and the place of
 //! their refusal, each exactly where the grammar of `picture_grammar` has it. Each coefficient is one look-up on one
-//! window of bits. No call takes memory. Stands on `bit_cursor`, `prefix_codes`, `syntax_types` and `picture_grammar`.
+//! window of bits. `write_block` puts a block's written spelling into a `BitWriter`, which is read back as that block.
+//! No call takes memory. Stands on `bit_cursor`, `prefix_codes`, `syntax_types` and `picture_grammar`.
 #![tactic(auto)]
 
 mod block_fault;
 mod coefficient_table;
 mod cut;
+mod dc_standing;
 mod read_block;
 mod standing;
 mod why;

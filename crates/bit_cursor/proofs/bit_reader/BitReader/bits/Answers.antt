@@ -1,7 +1,7 @@
 use Rattle.std.proofs.Common.{◌≡◌, ◌≤◌, ◌∙◌, ap}
 use Rattle.bit_cursor.specs.BitReader.{bits_left, without_bits}
 use Rattle.bit_cursor.proofs.Left.{told_fewer}
-use Rattle.bit_cursor.proofs.Given.{told_front}
+use Rattle.bit_cursor.proofs.Fronts.{told_front}
 use Rattle.bit_cursor.proofs.bit_reader.BitReader.bits.Goals as goal
 use Rattle.bit_cursor.proofs.bit_reader.BitReader.bits.Goals.{then-self-n+in_ok-fetch+else-self-n-2, else-self-n}
 

@@ -2,7 +2,7 @@ use Rattle.std.proofs.Common.{◌≡◌, ◌≤◌, ◌-◌, ◌*◌, ◌%◌, �
 use Rattle.bit_cursor.specs.Reading.{Shows}
 use Rattle.bit_cursor.specs.BitReader.{bits_left}
 use Rattle.bit_cursor.proofs.Words.{window_of, window_below, window_zeros}
-use Rattle.bit_cursor.proofs.Given.{told_shown, told_few}
+use Rattle.bit_cursor.proofs.Fronts.{told_shown, told_few}
 use Rattle.bit_cursor.proofs.bit_reader.BitReader.peek.Goals as goal
 use Rattle.bit_cursor.proofs.bit_reader.BitReader.peek.Goals.{then-self-n+in_ok-fetch+else-self-n-2, else-self-n}
 
