@@ -1,3 +1,5 @@
+ghost use Rattle.std.specs.Prelude.{◌≤◌, length};
+
 use super::*;
 use crate::read_block::read_block;
 use bit_cursor::BitReader;
@@ -12,7 +14,9 @@ const NON_INTRA: BlockWay = BlockWay {
 };
 
 // What is written of the block that some bytes begin with, and zero bits to a whole byte.
-fn written_again(alloc: Global, way: BlockWay, bytes: &[u8]) -> Result<Vec<u8>, Fail> {
+fn written_again(alloc: Global, way: BlockWay, bytes: &[u8]) -> Result<Vec<u8>, Fail>
+    requires { length bytes.now ≤ 4 }
+{
     let mut source = SliceSource::new(bytes);
     let mut reader = BitReader::new(&mut source);
     let block = read_block(&mut reader, way)?;
