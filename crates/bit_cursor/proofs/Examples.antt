@@ -11,8 +11,8 @@ in_order : two_bytes ≡ 1 ∷ 0 ∷ 1 ∷ 1 ∷ 0 ∷ 1 ∷ 0 ∷ 0 ∷ 0 ∷ 0
 in_order = refl
 
 first_three : IsFront 3 two_bytes 5
-unfolding number_of
-first_three = record { enough = lit≤ tt; value = refl }
+unfolding bits_of number_of
+first_three = record { enough = lit≤ tt; value = refl; front = refl }
 
 -- ---- behind the first three bits
 
@@ -24,8 +24,8 @@ thirteen_left : length (drop 3 two_bytes) ≡ 13
 thirteen_left = refl
 
 last_thirteen : IsFront 13 (drop 3 two_bytes) 5121
-unfolding number_of
-last_thirteen = record { enough = lit≤ tt; value = refl }
+unfolding bits_of number_of
+last_thirteen = record { enough = lit≤ tt; value = refl; front = refl }
 
 -- more are seen than are left, and then zero bits
 sixteen_seen : Shows 16 (drop 3 two_bytes) 40968 13

@@ -12,22 +12,27 @@ use Rattle.bit_cursor.proofs.Words.{bits_of-shifted, number_of-front}
 use Rattle.bit_cursor.proofs.Left.{told_bits}
 
 -- enough bits are held
+held_front : (n m w : ℕ) (rest : List ℕ) → take n (bits_of (n + m) w ++ rest) ≡ bits_of n (w / 2 ^ m % 2 ^ n)
+held_front n m w rest =
+    let long : n ≤ length (bits_of (n + m) w) = omega (arith, length-bits_of (n + m) w) in
+    take-append-le n (bits_of (n + m) w) rest long ∙ take-bits_of n m w ∙ sym (bits_of-mod n (w / 2 ^ m))
+
 front_is : (n m w : ℕ) (rest : List ℕ) → IsFront n (bits_of (n + m) w ++ rest) (w / 2 ^ m % 2 ^ n)
 front_is n m w rest = record {
   enough = omega (arith, length-append (bits_of (n + m) w) rest, length-bits_of (n + m) w);
   value = sym (number_of-front n m w rest);
+  front = held_front n m w rest;
 }
 
 front_shows : (n m w : ℕ) (rest : List ℕ) → Shows n (bits_of (n + m) w ++ rest) (w / 2 ^ m % 2 ^ n) n
 front_shows n m w rest =
-    let bits = bits_of (n + m) w in
+    let bits = bits_of (n + m) w ++ rest in
     let part = w / 2 ^ m % 2 ^ n in
-    let long : n ≤ length bits = omega (arith, length-bits_of (n + m) w) in
-    let all : n ≤ length (bits ++ rest) = omega (arith, length-append bits rest) in
+    let long : n ≤ length bits = omega (arith, length-append (bits_of (n + m) w) rest, length-bits_of (n + m) w) in
     record {
       known = omega arith;
-      window = sym (ap number_of (take-append-le n (bits ++ rest) (replicate n 0) all) ∙ number_of-front n m w rest);
-      front = take_all n (bits_of n part) (omega (arith, length-bits_of n part)) ∙ bits_of-mod n (w / 2 ^ m) ∙ sym (take-append-le n bits rest long ∙ take-bits_of n m w);
+      window = sym (ap number_of (take-append-le n bits (replicate n 0) long) ∙ number_of-front n m w rest);
+      front = take_all n (bits_of n part) (omega (arith, length-bits_of n part)) ∙ sym (held_front n m w rest);
     }
 
 -- fewer bits are left than are shown

@@ -1,6 +1,6 @@
 -- What a reader of bits gives, shows and takes (ISO/IEC 13818-2, 5.2: most significant bit first).
 use Rattle.std.specs.Prelude.{◌≡◌, ℕ, ◌+◌, ◌-◌, ◌*◌, ◌/◌, ◌≤◌, List, ◌++◌, length, take, replicate, min}
-use Rattle.bit_lists.specs.Bits.{number_of, front_of}
+use Rattle.bit_lists.specs.Bits.{bits_of, number_of, front_of}
 
 -- the first n bits, filled up with zero bits where there are fewer
 abbrev pub zero_filled : ℕ → List ℕ → List ℕ
@@ -10,6 +10,7 @@ zero_filled n bits = take n (bits ++ replicate n 0)
 pub record IsFront (n : ℕ) (bits : List ℕ) (number : ℕ) : Type 0 where
   pub enough : n ≤ length bits
   pub value : number ≡ number_of (take n bits)
+  pub front : take n bits ≡ bits_of n number
 
 -- a window of n bits shows the first bits of a list, so many as there are, and then zero bits
 pub record Shows (n : ℕ) (bits : List ℕ) (shown count : ℕ) : Type 0 where

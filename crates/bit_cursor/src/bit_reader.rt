@@ -71,8 +71,8 @@ impl<'a, S: Source> BitReader<'a, S> {
         Ok(lowest(self.word >> self.held, n))
     }
 
-    /// The next n bits as a window, n at most 24, and how many of them are known, without moving. Where fewer are left
-    /// the window's bits behind them are 0. A fault is the source's own.
+    /// The next n bits as a window, n at most 24, and how many of them are known. Where fewer are left the window's bits
+    /// behind them are 0. The reader stays where it is, also where the source failed.
     pub fn peek(&mut self, n: u32) -> Result<(u32, u32), Fault>
         requires { n ≤ 24 }
         ensures window { IfOk result (λ seen. IfSome (bits_left self.old) (λ bits. Shows n bits seen.0 seen.1)) }

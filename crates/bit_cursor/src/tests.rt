@@ -1,3 +1,8 @@
+ghost use Rattle.std.specs.Prelude.{◌≡◌, IfOk, IfSome};
+ghost use Rattle.shelf_io.specs.Source.{Takes};
+ghost use Rattle.bit_lists.specs.Fields.{bit_list};
+ghost use Rattle.bit_cursor.specs.Reading.{IsFront};
+
 use super::*;
 use shelf_io::{Fault, MemShelf, Reading, SliceSource, Source};
 use std::test::Fail;
@@ -32,6 +37,15 @@ impl<'a> Source for Slow<'a> {
         let size = buf.len().min(1);
         self.bytes.take(&mut buf[..size])
     }
+}
+
+// The first byte, and the source with what follows it.
+fn first_byte<S: Source>(source: &mut S) -> Result<u32, BitFault>
+    ensures value { IfOk result (λ value. IfSome (S.left source.old) (λ bytes. IsFront 8 (bit_list bytes) value)) }
+    ensures taken { IfOk result (λ _. Takes (S.left source.old) (S.left source.new) (S.most source.old) (S.most source.new) 1) }
+{
+    let mut reader = BitReader::new(source);
+    reader.bits(8)
 }
 
 #[test]
@@ -95,9 +109,8 @@ fn aligning_moves_to_the_next_byte_and_stays_at_one(rt: HostRuntime) -> Result<(
 #[test]
 fn a_source_goes_on_behind_the_bytes_that_were_asked_for(rt: HostRuntime) -> Result<(), Fail> {
     let mut source = SliceSource::new(&[0xB4, 0x01, 0x47]);
-    let mut reader = BitReader::new(&mut source);
-    assert_eq!(rt; reader.bits(9), Ok(0x168));
-    drop(reader);
+    assert_eq!(rt; first_byte(&mut source), Ok(0xB4));
+    assert_eq!(rt; first_byte(&mut source), Ok(0x01));
     assert_eq!(rt; source.take_byte(), Ok(Some(0x47)));
     Ok(())
 }
