@@ -9,9 +9,13 @@ mod block_fault;
 mod coefficient_table;
 mod cut;
 mod dc_standing;
-mod read_block;
+mod reading;
 mod standing;
 mod why;
 mod window;
 
 pub use block_fault::BlockFault;
+pub use reading::read_block;
+
+#[cfg(test)]
+mod tests;
