@@ -23,7 +23,7 @@ use Rattle.block_coeffs.specs.declared.dc_standing.DcStanding.{DcStanding}
 use Rattle.block_coeffs.specs.declared.dc_standing.DcStanding.TheVariants.{Coefficient, Refused}
 use Rattle.block_coeffs.specs.Cut.{BeginCode}
 use Rattle.block_coeffs.specs.Standing.{seen, Shows}
-use Rattle.block_coeffs.specs.Dc.{is_sizes, dc_by, IsWhyNoSize, IsDcFound}
+use Rattle.block_coeffs.specs.DcStanding.{is_sizes, dc_by, IsWhyNoSize, IsDcFound}
 use Rattle.block_coeffs.proofs.Fronts.{front_of-more, length-front_of, take-front_of}
 use Rattle.block_coeffs.proofs.Cuts.{begun-length, shows-all, shows-filled, seen-begins, begins-seen}
 use Rattle.block_coeffs.proofs.Pairs.{seen-code}

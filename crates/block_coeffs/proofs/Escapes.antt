@@ -7,6 +7,7 @@ use Rattle.std.proofs.lemmas.List.{length-take, length-append, take_all}
 use Rattle.std.proofs.lemmas.Nat.{div-mul-add, pow_pos, pow-add}
 use Rattle.bit_lists.specs.Bits.{IsPrefix, bits_of, front_of}
 use Rattle.bit_lists.proofs.BitLemmas.{length-bits_of, bits_of-mod, bits_of-same}
+use Rattle.bit_lists.proofs.JoinedLemmas.{bits_of-append}
 use Rattle.bit_lists.proofs.PrefixLemmas.{IsPrefix-either, IsPrefix-through}
 use Rattle.prefix_codes.specs.declared.symbol.TheConstants.{END_OF_BLOCK, ESCAPE, LEVELS_PER_RUN}
 use Rattle.prefix_codes.specs.declared.table_name.TableName.{TableName}
@@ -26,7 +27,7 @@ use Rattle.block_coeffs.specs.declared.standing.Standing.TheVariants.{EndOfBlock
 use Rattle.block_coeffs.specs.declared.why.Why.TheVariants as why
 use Rattle.block_coeffs.specs.Why.{rules_at}
 use Rattle.block_coeffs.specs.Standing.{seen, Shows, coefficient_at, IsFound}
-use Rattle.block_coeffs.proofs.Fronts.{bits_of-add, front_of-bits, length-front_of, take-front_of}
+use Rattle.block_coeffs.proofs.Fronts.{front_of-bits, length-front_of, take-front_of}
 use Rattle.block_coeffs.proofs.Symbols.{escape_code}
 use Rattle.block_coeffs.proofs.Cuts.{shows-all, shows-filled, begins-seen, begun-length}
 use Rattle.block_coeffs.proofs.Pairs.{seen-code}
@@ -55,8 +56,8 @@ escape_number run level = 2 ^ 18 + run * 2 ^ 12 + level
 
 fields-bits : (w : ℕ) → bits_of 24 w ≡ bits_of 6 (w / 2 ^ 18) ++ bits_of 6 (w / 2 ^ 12 % 2 ^ 6) ++ bits_of 12 (w % 2 ^ 12)
 fields-bits w =
-    bits_of-add 12 12 w
-    ∙ ap₂ (λ a b. a ++ b) (bits_of-add 6 6 (w / 2 ^ 12)) (sym (bits_of-mod 12 w))
+    bits_of-append 12 12 w
+    ∙ ap₂ (λ a b. a ++ b) (bits_of-append 6 6 (w / 2 ^ 12)) (sym (bits_of-mod 12 w))
     ∙ ap₂ (λ n a. (bits_of 6 n ++ a) ++ bits_of 12 (w % 2 ^ 12)) (let high : w / 2 ^ 12 / 2 ^ 6 ≡ w / 2 ^ 18 = omega arith in high) (sym (bits_of-mod 6 (w / 2 ^ 12)))
 
 -- a number's fields, where its first 6 bits are the escape's

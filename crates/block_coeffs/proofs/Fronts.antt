@@ -5,16 +5,7 @@ use Rattle.std.proofs.lemmas.List.{length-take, take-take}
 use Rattle.std.proofs.lemmas.Nat.{pow-add}
 use Rattle.bit_lists.specs.Bits.{bits_of, front_of, IsPrefix}
 use Rattle.bit_lists.proofs.BitLemmas.{length-bits_of, take-bits_of}
-
--- a number's bits are those of its high part, then those of its low part
-pub bits_of-add : (k m v : ℕ) → bits_of (k + m) v ≡ bits_of k (v / 2 ^ m) ++ bits_of m v
-unfolding bits_of
-bits_of-add zero m v = let none : 0 + m ≡ m = omega arith in ap (λ n. bits_of n v) none
-bits_of-add (suc k) m v =
-    let more : suc k + m ≡ suc (k + m) = omega arith in
-    let split : v / 2 ^ (k + m) ≡ v / 2 ^ m / 2 ^ k =
-    (let swap : k + m ≡ m + k = omega arith in ap (λ n. v / 2 ^ n) swap) ∙ ap (λ n. v / n) (pow-add 2 m k) ∙ sym (div-div-eq-div-mul v (2 ^ m) (2 ^ k)) in
-    rw more (ap₂ (λ (b : ℕ) (bs : List ℕ). b ∷ bs) (ap (λ n. n % 2) split) (bits_of-add k m v))
+use Rattle.bit_lists.proofs.JoinedLemmas.{bits_of-append}
 
 -- the front of a window is its number's high part
 pub front_of-bits : (size w k : ℕ) → k ≤ size → front_of size w k ≡ bits_of k (w / 2 ^ (size - k))
@@ -32,7 +23,7 @@ front_of-more size w k m le =
     let places : size - k ≡ (size - (k + m)) + m = omega arith in
     let first : w / 2 ^ (size - k) ≡ high / 2 ^ m =
     ap (λ n. w / 2 ^ n) places ∙ ap (λ n. w / n) (pow-add 2 (size - (k + m)) m) ∙ sym (div-div-eq-div-mul w (2 ^ (size - (k + m))) (2 ^ m)) in
-    front_of-bits size w (k + m) le ∙ bits_of-add k m high ∙ ap (λ f. f ++ bits_of m high) (sym (front_of-bits size w k (omega arith) ∙ ap (bits_of k) first))
+    front_of-bits size w (k + m) le ∙ bits_of-append k m high ∙ ap (λ f. f ++ bits_of m high) (sym (front_of-bits size w k (omega arith) ∙ ap (bits_of k) first))
 
 -- a shorter front begins a longer one
 pub take-front_of : (size w k known : ℕ) → k ≤ known → take k (front_of size w known) ≡ front_of size w k

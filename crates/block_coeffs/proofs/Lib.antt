@@ -2,6 +2,7 @@ pub mod Blocks
 pub mod Cuts
 pub mod Dcs
 pub mod Escapes
+pub mod Examples
 pub mod Fronts
 pub mod Grammars
 pub mod Pairs

@@ -10,7 +10,7 @@ use Rattle.block_coeffs.specs.declared.why.Why.TheVariants as why
 use Rattle.block_coeffs.specs.declared.window.Window.{Window}
 use Rattle.block_coeffs.specs.Why.{refusal_of, fault_at}
 use Rattle.block_coeffs.specs.Standing.{seen, Shows}
-use Rattle.block_coeffs.specs.Reading.{Reads, RefusedAt, Explains}
+use Rattle.block_coeffs.specs.Reading.{ReadsFrom, RefusedAt, ExplainsFrom}
 use Rattle.block_coeffs.proofs.Fronts.{length-front_of, take-front_of}
 
 -- a front of the bits, as far as the window knows them
@@ -34,7 +34,7 @@ front-left (Some bits) window len shows le = ap Some (sym (take-append-drop len 
 
 -- what the window shows of a value was read once it is taken
 pub reads-found : {A : Type 0} (grammar : Grammar A) (value : A) (told after : Option (List ℕ)) (window : Window) (len place place_after : ℕ)
-    → IfSome told (Shows window) → len ≤ window.known → grammar.Spells value (seen window len) [] → after ≡ without_bits told len → place_after ≡ place + len → Reads grammar value told after place place_after
+    → IfSome told (Shows window) → len ≤ window.known → grammar.Spells value (seen window len) [] → after ≡ without_bits told len → place_after ≡ place + len → ReadsFrom grammar value told after place place_after
 reads-found grammar value told after window len place place_after shows le spelled left moved =
     let within = window.within in record {
       front = seen window len;
@@ -55,7 +55,7 @@ refused-at grammar refusal window bits behind place at shows le refused moved =
       moved = omega (arith, length-take behind bits);
     }
 
-explains-why : {A : Type 0} (grammar : Grammar A) (reason : Why) (bits : List ℕ) (place at : ℕ) → RefusedAt grammar (refusal_of reason) bits place at → Explains grammar (fault_at reason at) bits place
+explains-why : {A : Type 0} (grammar : Grammar A) (reason : Why) (bits : List ℕ) (place at : ℕ) → RefusedAt grammar (refusal_of reason) bits place at → ExplainsFrom grammar (fault_at reason at) bits place
 explains-why grammar why.NoCode bits place at r = r
 explains-why grammar why.TooMany bits place at r = r
 explains-why grammar why.BadEscape bits place at r = r
@@ -63,7 +63,7 @@ explains-why grammar why.End bits place at r = r
 
 pub explains-found : {A : Type 0} (grammar : Grammar A) (reason : Why) (told : Option (List ℕ)) (window : Window) (behind place at : ℕ)
     → IfSome told (Shows window) → behind ≤ window.known → ((bits : List ℕ) → Shows window bits → grammar.Refuses bits (refusal_of reason) (drop behind bits)) → at ≡ place + behind
-    → IfSome told (λ bits. Explains grammar (fault_at reason at) bits place)
+    → IfSome told (λ bits. ExplainsFrom grammar (fault_at reason at) bits place)
 explains-found grammar reason None window behind place at shows le refused moved = tt
 explains-found grammar reason (Some bits) window behind place at shows le refused moved =
     explains-why grammar reason bits place at (refused-at grammar (refusal_of reason) window bits behind place at shows le (refused bits shows) moved)

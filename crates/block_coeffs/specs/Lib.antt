@@ -1,5 +1,5 @@
 pub mod Cut
-pub mod Dc
+pub mod DcStanding
 pub mod Reading
 pub mod Standing
 pub mod Why

@@ -10,7 +10,7 @@ mod block_fault;
 mod coefficient_table;
 mod cut;
 mod dc_standing;
-mod read_block;
+mod reading;
 mod standing;
 mod why;
 mod window;
@@ -18,4 +18,8 @@ mod written;
 mod written_codes;
 
 pub use block_fault::BlockFault;
+pub use reading::read_block;
 pub use written::write_block;
+
+#[cfg(test)]
+mod tests;

@@ -1,7 +1,7 @@
 ghost use Rattle.std.specs.Prelude.{◌≤◌, length};
 
 use super::*;
-use crate::read_block::read_block;
+use crate::reading::read_block;
 use bit_cursor::BitReader;
 use shelf_io::{SliceSource, VecSink};
 use std::alloc::Global;

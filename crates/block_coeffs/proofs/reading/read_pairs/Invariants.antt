@@ -2,7 +2,7 @@ use Rattle.std.proofs.Common.{◌≡◌, ◌≤◌, ◌-◌, length}
 use Rattle.bit_cursor.specs.BitReader.{bits_left, place, KeepsSource}
 use Rattle.picture_grammar.specs.Block.{coefficient, next_place}
 use Rattle.block_coeffs.proofs.Grammars.{ReadSoFar}
-use Rattle.block_coeffs.proofs.read_block.read_pairs.Given as goal
+use Rattle.block_coeffs.proofs.reading.read_pairs.Given as goal
 
 abbrev pub invariant-coefficients : goal.invariant-coefficients
 invariant-coefficients g l = record {

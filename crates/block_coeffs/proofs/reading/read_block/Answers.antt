@@ -5,7 +5,7 @@ use Rattle.picture_grammar.specs.Grammar.{many, optional}
 use Rattle.picture_grammar.specs.Block.{coefficient, dc_coefficient, block}
 use Rattle.block_coeffs.proofs.Grammars.{advances-on, reads-advances}
 use Rattle.block_coeffs.proofs.Blocks.{reads-block, explains-dc, explains-pairs}
-use Rattle.block_coeffs.proofs.read_block.read_block.Goals as goal
+use Rattle.block_coeffs.proofs.reading.read_block.Goals as goal
 
 pub returns-in_err-dc-clause-refused : goal.returns-in_err-dc-clause-refused
 returns-in_err-dc-clause-refused g c =

@@ -3,7 +3,7 @@ ghost use Rattle.shelf_io.specs.Counts.{Rose};
 ghost use Rattle.bit_cursor.specs.BitReader.{bits_left, without_bits, place, faults_of, absences_of, KeepsSource};
 ghost use Rattle.picture_grammar.specs.Grammar.{many, optional, more_of};
 ghost use Rattle.picture_grammar.specs.Block.{block, coefficient, dc_coefficient};
-ghost use Rattle.block_coeffs.specs.Dc.{is_sizes, dc_by};
+ghost use Rattle.block_coeffs.specs.DcStanding.{is_sizes, dc_by};
 ghost use Rattle.block_coeffs.specs.Why.{is_coefficients};
 ghost use Rattle.block_coeffs.specs.Standing.{coefficient_at, Shows};
 ghost use Rattle.block_coeffs.specs.Reading.{Advances, Reads, Explains, IsOutside};
@@ -23,9 +23,9 @@ use syntax_types::{BLOCK_PLACES, Block, BlockWay, Dc, RunLevel};
 /// of block. The answer is the kind and the place of the refusal where they spell none, and Outside where the source
 /// failed. After an answer that isn't Ok the next bits are still the source's in order, behind some that were taken.
 pub fn read_block<S: Source>(from: &mut BitReader<'_, S>, way: BlockWay) -> Result<Block, BlockFault>
-    ensures ok { IfOk result (λ b. Reads (block way) b (bits_left from.old) (bits_left from.new) (place from.old) (place from.new)) }
-    ensures refused { IfErr result (λ fault. IfSome (bits_left from.old) (λ bits. Explains (block way) fault bits (place from.old))) }
-    ensures advances { Advances (bits_left from.old) (bits_left from.new) (place from.old) (place from.new) }
+    ensures ok { IfOk result (λ b. Reads (block way) b from.old from.new) }
+    ensures refused { IfErr result (Explains (block way) from.old) }
+    ensures advances { Advances from.old from.new }
 
     ensures failed { IsErrOf result (BlockFault.Outside Fault.Failed) → Rose (faults_of from.old) (faults_of from.new) }
     ensures missing { IsErrOf result (BlockFault.Outside Fault.Missing) → Rose (absences_of from.old) (absences_of from.new) }
@@ -38,8 +38,8 @@ pub fn read_block<S: Source>(from: &mut BitReader<'_, S>, way: BlockWay) -> Resu
 
 /// The DC coefficient of an intra block, and None of another one.
 fn read_first<S: Source>(from: &mut BitReader<'_, S>, way: BlockWay) -> Result<Option<Dc>, BlockFault>
-    ensures ok { IfOk result (λ dc. Reads (optional way.intra (dc_coefficient way)) dc (bits_left from.old) (bits_left from.new) (place from.old) (place from.new)) }
-    ensures refused { IfErr result (λ fault. IfSome (bits_left from.old) (λ bits. Explains (optional way.intra (dc_coefficient way)) fault bits (place from.old))) }
+    ensures ok { IfOk result (λ dc. Reads (optional way.intra (dc_coefficient way)) dc from.old from.new) }
+    ensures refused { IfErr result (Explains (optional way.intra (dc_coefficient way)) from.old) }
     ensures kept { OnErr result (bits_left from.new ≡ bits_left from.old) }
     ensures kept_place { OnErr result (place from.new ≡ place from.old) }
 
@@ -58,8 +58,8 @@ fn read_first<S: Source>(from: &mut BitReader<'_, S>, way: BlockWay) -> Result<O
 /// The DC coefficient that stands next, by a table of sizes. It takes no bit where none stands there.
 fn read_dc<S: Source>(from: &mut BitReader<'_, S>, table: TableName) -> Result<Dc, BlockFault>
     requires { IsTrue (is_sizes table) }
-    ensures ok { IfOk result (λ dc. Reads (dc_by table) dc (bits_left from.old) (bits_left from.new) (place from.old) (place from.new)) }
-    ensures refused { IfErr result (λ fault. IfSome (bits_left from.old) (λ bits. Explains (dc_by table) fault bits (place from.old))) }
+    ensures ok { IfOk result (λ dc. Reads (dc_by table) dc from.old from.new) }
+    ensures refused { IfErr result (Explains (dc_by table) from.old) }
     ensures kept { OnErr result (bits_left from.new ≡ bits_left from.old) }
     ensures kept_place { OnErr result (place from.new ≡ place from.old) }
 
@@ -82,9 +82,9 @@ fn read_pairs<S: Source>(
     from: &mut BitReader<'_, S>,
     way: BlockWay,
 ) -> Result<ArrayVec<RunLevel, BLOCK_PLACES>, BlockFault>
-    ensures ok { IfOk result (λ pairs. Reads (many (coefficient way)) (pairs.items, tt) (bits_left from.old) (bits_left from.new) (place from.old) (place from.new)) }
-    ensures refused { IfErr result (λ fault. IfSome (bits_left from.old) (λ bits. Explains (many (coefficient way)) fault bits (place from.old))) }
-    ensures advances { OnErr result (Advances (bits_left from.old) (bits_left from.new) (place from.old) (place from.new)) }
+    ensures ok { IfOk result (λ pairs. Reads (many (coefficient way)) (pairs.items, tt) from.old from.new) }
+    ensures refused { IfErr result (Explains (many (coefficient way)) from.old) }
+    ensures advances { OnErr result (Advances from.old from.new) }
 
     ensures failed { IsErrOf result (BlockFault.Outside Fault.Failed) → Rose (faults_of from.old) (faults_of from.new) }
     ensures missing { IsErrOf result (BlockFault.Outside Fault.Missing) → Rose (absences_of from.old) (absences_of from.new) }
@@ -111,9 +111,9 @@ fn next_coefficient<S: Source>(
 ) -> Result<Option<RunLevel>, BlockFault>
     requires table { IsTrue (is_coefficients table) }
     requires index { index ≤ BLOCK_PLACES }
-    ensures ok { IfOk result (λ pair. Reads (coefficient_at table index) (more_of pair) (bits_left from.old) (bits_left from.new) (place from.old) (place from.new)) }
+    ensures ok { IfOk result (λ pair. Reads (coefficient_at table index) (more_of pair) from.old from.new) }
     ensures within { IfOk result (λ pair. IfSome pair (λ pair. index + pair.run < BLOCK_PLACES)) }
-    ensures refused { IfErr result (λ fault. IfSome (bits_left from.old) (λ bits. Explains (coefficient_at table index) fault bits (place from.old))) }
+    ensures refused { IfErr result (Explains (coefficient_at table index) from.old) }
     ensures kept { OnErr result (bits_left from.new ≡ bits_left from.old) }
     ensures kept_place { OnErr result (place from.new ≡ place from.old) }
 

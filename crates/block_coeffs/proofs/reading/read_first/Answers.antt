@@ -2,7 +2,7 @@ use Rattle.std.proofs.Common.{◌≡◌}
 use Rattle.std.proofs.lemmas.Result.{err_from_is_err_and}
 use Rattle.bit_cursor.specs.BitReader.{bits_left, place}
 use Rattle.block_coeffs.proofs.Blocks.{explains-first_dc}
-use Rattle.block_coeffs.proofs.read_block.read_first.Goals as goal
+use Rattle.block_coeffs.proofs.reading.read_first.Goals as goal
 
 pub returns-in_err-dc-clause-refused : goal.returns-in_err-dc-clause-refused
 returns-in_err-dc-clause-refused g c =

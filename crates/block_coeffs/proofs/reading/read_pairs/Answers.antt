@@ -7,7 +7,7 @@ use Rattle.picture_grammar.proofs.LocalLaws.{local-coefficient}
 use Rattle.picture_grammar.proofs.WrittenBlock.{next_place-push}
 use Rattle.block_coeffs.proofs.Grammars.{ReadSoFar, one_more-read, all-read, explains-so_far}
 use Rattle.block_coeffs.proofs.Blocks.{reads-coefficient, explains-coefficient}
-use Rattle.block_coeffs.proofs.read_block.read_pairs.Goals as goal
+use Rattle.block_coeffs.proofs.reading.read_pairs.Goals as goal
 
 pub returns-in_err-pair-clause-refused : goal.returns-in_err-pair-clause-refused
 returns-in_err-pair-clause-refused g c =

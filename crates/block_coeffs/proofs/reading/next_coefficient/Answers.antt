@@ -3,9 +3,9 @@ use Rattle.std.proofs.Common.{◌≡◌, ℕ, ◌+◌, ◌≤◌, List, length, 
 use Rattle.bit_cursor.specs.BitReader.{bits_left, place}
 use Rattle.picture_grammar.specs.Grammar.{Grammar}
 use Rattle.block_coeffs.specs.Standing.{coefficient_at, Shows}
-use Rattle.block_coeffs.specs.Reading.{Explains}
+use Rattle.block_coeffs.specs.Reading.{ExplainsFrom}
 use Rattle.block_coeffs.proofs.Steps.{shown-told, reads-found, explains-found}
-use Rattle.block_coeffs.proofs.read_block.next_coefficient.Goals as goal
+use Rattle.block_coeffs.proofs.reading.next_coefficient.Goals as goal
 
 pub skip-requires-clause-shown : goal.skip-requires-clause-shown
 skip-requires-clause-shown g c =
@@ -31,6 +31,6 @@ returns-in_ok-skip-in-Pair-clause-ok g c =
 
 pub returns-in-Refused-clause-refused : goal.returns-in-Refused-clause-refused
 returns-in-Refused-clause-refused g c =
-    subst (λ fault. IfSome (bits_left c.args.from.now) (λ bits. Explains (coefficient_at c.args.table c.args.index) fault bits (place c.args.from.now))) (sym c.at.ensures)
+    subst (λ fault. IfSome (bits_left c.args.from.now) (λ bits. ExplainsFrom (coefficient_at c.args.table c.args.index) fault bits (place c.args.from.now))) (sym c.at.ensures)
     (explains-found (coefficient_at c.args.table c.args.index) c.in-Refused.why (bits_left c.args.from.now) c.in_ok-window.window c.in-Refused.behind (place c.args.from.now) _
     c.in_ok-window.ensures.shows c.in-Refused.ensures.0 c.in-Refused.ensures.1 (omega arith))
