@@ -1,10 +1,11 @@
-ghost use Rattle.std.specs.Prelude.{◌≡◌, ◌≤◌, ◌<◌, ◌^◌, IfSome, IfNone, unsigned_abs};
+ghost use Rattle.std.specs.Prelude.{◌≡◌, ◌≤◌, ◌<◌, ◌^◌, ◌↔◌, IsTrue, IfSome, IfNone, unsigned_abs};
 ghost use Rattle.bit_lists.specs.Bits.{bits_of};
 ghost use Rattle.prefix_codes.specs.TableName.{coefficient_code as code_of_coefficient};
 ghost use Rattle.picture_grammar.specs.Written.{code_for as bits_for, level_bits};
 
 use picture_grammar::escape::LEVEL_BITS;
-use prefix_codes::{Code, TableName, WINDOW_BITS, code_of, symbol};
+use prefix_codes::symbol::{LEVELS_PER_RUN, RUNS};
+use prefix_codes::{Code, TableName, WINDOW_BITS, code_of};
 
 /// The code of a symbol, and no bits where the table lacks it.
 pub fn code_for(table: TableName, symbol: u16) -> Code
@@ -26,11 +27,18 @@ pub fn coefficient_code(table: TableName, run: u8, size: u16) -> Option<Code>
     ensures none { IfNone result (code_of_coefficient table run size ≡ None) }
 {
     let run = u16::from(run);
-    if run < symbol::RUNS && 0 < size && size < symbol::LEVELS_PER_RUN {
-        code_of(table, symbol::LEVELS_PER_RUN * run + size)
+    if is_listed(run, size) {
+        code_of(table, LEVELS_PER_RUN * run + size)
     } else {
         None
     }
+}
+
+/// Whether the tables may have a code: past these limits the sum would be another symbol.
+fn is_listed(run: u16, size: u16) -> bool
+    ensures { IsTrue result ↔ ((run < RUNS) × (0 < size) × (size < LEVELS_PER_RUN)) }
+{
+    run < RUNS && 0 < size && size < LEVELS_PER_RUN
 }
 
 /// A level behind an escape: 12 bits of two's complement (Table B-16).

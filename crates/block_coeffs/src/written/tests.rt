@@ -37,7 +37,9 @@ fn an_escape_gives_way_to_a_code_of_the_table(rt: HostRuntime) -> Result<(), Fai
 }
 
 #[test]
-fn the_first_coefficient_and_the_others_have_codes_of_their_own(rt: HostRuntime) -> Result<(), Fail> {
+fn the_first_coefficient_and_the_others_have_codes_of_their_own(
+    rt: HostRuntime,
+) -> Result<(), Fail> {
     // 11 110 10: levels -1 and 1
     let bytes = written_again(rt.alloc(), NON_INTRA, &[0xf4])?;
     assert_eq!(rt; bytes.as_slice(), [0xf4].as_slice());
