@@ -43,9 +43,9 @@ begins-code len bits w known le within fits =
     let whole : front_of len bits len ≡ bits_of len bits = take_all len (bits_of len bits) (omega (arith, length-bits_of len bits)) in
     let law = IsPrefix-known known len bits len high within within (high-below w known le) in (
       λ begins. ap (λ n. n / 2 ^ (len - known)) (sym (mod-eq_of_lt fits))
-      ∙ law.0 (subst (λ f. IsPrefix f (front_of len bits len)) (front-high w known le) (subst (IsPrefix (front_of 24 w known)) (sym whole) begins)),
+          ∙ law.0 (subst (λ f. IsPrefix f (front_of len bits len)) (front-high w known le) (subst (IsPrefix (front_of 24 w known)) (sym whole) begins)),
       λ same. subst (λ f. IsPrefix f (bits_of len bits)) (sym (front-high w known le))
-      (subst (IsPrefix (bits_of known high)) whole (law.1 (ap (λ n. n / 2 ^ (len - known)) (mod-eq_of_lt fits) ∙ same))),
+          (subst (IsPrefix (bits_of known high)) whole (law.1 (ap (λ n. n / 2 ^ (len - known)) (mod-eq_of_lt fits) ∙ same))),
     )
 
 -- what begins a code has no more bits
@@ -134,23 +134,23 @@ module _ {table : TableName} (is : IsCoefficients table) (place : ℕ) (window :
     why-end a =
         let b = begun place a.symbol (seen window window.known) is a.begun in
         inr (inr (
-            record { value = b.value; code = b.code; coded = b.coded; passing = b.passing a.fits; agrees = inr (subst (λ x. IsPrefix x b.code) (sym all) b.cut) },
-            no_stand (rules_at place),
-            refl,
-          ))
+          record { value = b.value; code = b.code; coded = b.coded; passing = b.passing a.fits; agrees = inr (subst (λ x. IsPrefix x b.code) (sym all) b.cut) },
+          no_stand (rules_at place),
+          refl,
+        ))
 
     pub why-too_many : (BeginAllowed table place (seen window window.known) → ⊥) → BeginAllowed table 0 (seen window window.known) → IsWhy table place why.TooMany bits
     why-too_many missing a =
         let b = begun 0 a.symbol (seen window window.known) is a.begun in
         inr (inl (record {
-            before = [];
-            broken = rule TooMany (is_within place);
-            after = rule BadEscape is_level ∷ [];
-            order = refl;
-            so_far = record { value = b.value; code = b.code; coded = b.coded; passing = refl; agrees = inr (subst (λ x. IsPrefix x b.code) (sym all) b.cut) };
-            none = λ m. missing (subst (BeginAllowed table place) all (allowed m));
-            named = refl;
-          }))
+          before = [];
+          broken = rule TooMany (is_within place);
+          after = rule BadEscape is_level ∷ [];
+          order = refl;
+          so_far = record { value = b.value; code = b.code; coded = b.coded; passing = refl; agrees = inr (subst (λ x. IsPrefix x b.code) (sym all) b.cut) };
+          none = λ m. missing (subst (BeginAllowed table place) all (allowed m));
+          named = refl;
+        }))
 
     pub why-no_code : (BeginAllowed table 0 (seen window window.known) → ⊥) → IsWhy table place why.NoCode bits
     why-no_code missing = inl (λ m. missing (subst (BeginAllowed table 0) all (allowed-first m)), refl)

@@ -89,10 +89,10 @@ module _ (table : TableName) (tests : is_sizes table ≡ true) (window : Window)
     no_size-end s b =
         let all = seen-short s b.code b.listed b.cut in
         inr (inr (
-            record { value = s; code = b.code; coded = b.listed; passing = refl; agrees = inr (subst (λ x. IsPrefix x b.code) (sym all) b.cut) },
-            λ st. no_code st.value st.code st.coded st.first,
-            refl,
-          ))
+          record { value = s; code = b.code; coded = b.listed; passing = refl; agrees = inr (subst (λ x. IsPrefix x b.code) (sym all) b.cut) },
+          λ st. no_code st.value st.code st.coded st.first,
+          refl,
+        ))
 
     pub no_size-none : ((s : ℕ) → s < 12 → BeginCode table s (seen window window.known) → ⊥) → IsWhyNoSize table why.NoCode bits
     no_size-none missing = inl (none_may, refl) where
@@ -169,12 +169,12 @@ module _ (table : TableName) (tests : is_sizes table ≡ true) (window : Window)
             inl (
               refl,
               inr (inr (
-                  record { value = the_bits; code = bits_of size the_bits; coded = (bits-below, refl); passing = refl; agrees = inr left-begins },
-                  λ s.
-                      let long : length s.code ≡ size = ap length s.coded.1 ∙ length-bits_of size s.value in
-                      omega (arith, begun-length s.code (drop len bits) s.first, left-length),
-                  refl,
-                )),
+                record { value = the_bits; code = bits_of size the_bits; coded = (bits-below, refl); passing = refl; agrees = inr left-begins },
+                λ s.
+                    let long : length s.code ≡ size = ap length s.coded.1 ∙ length-bits_of size s.value in
+                    omega (arith, begun-length s.code (drop len bits) s.first, left-length),
+                refl,
+              )),
             ),
           )
 

@@ -93,8 +93,8 @@ least-run w known run level le fits first divides run_fits level_fits same =
     let other_fits : other < 2 ^ 24 = omega arith in
     let least : w ≤ other = least-quotient w other (2 ^ (24 - known)) divides (high-same w other known le fits other_fits same) in
     run-least w run level first level_fits least where
-  run-least : (n r l : ℕ) → n / 2 ^ 18 ≡ 1 → l < 2 ^ 12 → n ≤ escape_number r l → n / 2 ^ 12 % 2 ^ 6 ≤ r
-  run-least n r l is_one small below = omega arith
+      run-least : (n r l : ℕ) → n / 2 ^ 18 ≡ 1 → l < 2 ^ 12 → n ≤ escape_number r l → n / 2 ^ 12 % 2 ^ 6 ≤ r
+      run-least n r l is_one small below = omega arith
 
 -- a number whose unknown bits are 0, and the next one, begin with the same bits; its level is even
 next-front : (w known : ℕ) → known < 24 → w % 2 ^ (24 - known) ≡ 0 → front_of 24 (w + 1) known ≡ front_of 24 w known
@@ -278,24 +278,24 @@ module _ {table : TableName} (is : IsCoefficients table) (place : ℕ) (window :
         inl (
           refl,
           inr (inl (record {
-              before = [];
-              broken = rule TooMany (is_within place);
-              after = rule BadEscape is_level ∷ [];
-              order = refl;
-              so_far = record {
-                value = escape the_run the_level;
-                code = seen window 24;
-                coded = whole-coded is place window len b;
-                passing = refl;
-                agrees = inr (subst (IsPrefix bits) (sym (take_all 24 (bits_of 24 window.bits) (omega (arith, length-bits_of 24 window.bits)))) (cut-front window.bits refl));
-              };
-              none = λ m.
-                  let e = the-escape bits shows (rule TooMany (is_within place) ∷ []) m in
-                  let within : nat_lt (place + e.run) 64 ≡ true = ap (is_within place) (sym e.value_is) ∙ (and_parts (is_within place m.value) true m.passing).0 in
-                  let fits = ltb-true (place + e.run) 64 within in
-                  omega (arith, least (rule TooMany (is_within place) ∷ []) m);
-              named = refl;
-            })),
+            before = [];
+            broken = rule TooMany (is_within place);
+            after = rule BadEscape is_level ∷ [];
+            order = refl;
+            so_far = record {
+              value = escape the_run the_level;
+              code = seen window 24;
+              coded = whole-coded is place window len b;
+              passing = refl;
+              agrees = inr (subst (IsPrefix bits) (sym (take_all 24 (bits_of 24 window.bits) (omega (arith, length-bits_of 24 window.bits)))) (cut-front window.bits refl));
+            };
+            none = λ m.
+                let e = the-escape bits shows (rule TooMany (is_within place) ∷ []) m in
+                let within : nat_lt (place + e.run) 64 ≡ true = ap (is_within place) (sym e.value_is) ∙ (and_parts (is_within place m.value) true m.passing).0 in
+                let fits = ltb-true (place + e.run) 64 within in
+                omega (arith, least (rule TooMany (is_within place) ∷ []) m);
+            named = refl;
+          })),
         )
 
     -- the level may go on as an allowed one
@@ -321,18 +321,18 @@ module _ {table : TableName} (is : IsCoefficients table) (place : ℕ) (window :
         inl (
           refl,
           inr (inr (
-              record {
-                value = escape the_run (the_level + 1);
-                code = bits_of 24 (w + 1);
-                coded = next-coded;
-                passing = and_from (nat_lt (place + the_run) 64) (is_level (escape the_run (the_level + 1)) && true) within allowed;
-                agrees = inr (cut-front (w + 1) (next-front w window.known short window.filled));
-              },
-              λ s.
-                  let m : MayStand (CoefficientCode table) (rules_at place) bits = record { value = s.value; code = s.code; coded = s.coded; passing = s.passing; agrees = inl s.first } in
-                  no-whole s.value s.code (the-escape bits shows (rules_at place) m) s.first,
-              refl,
-            )),
+            record {
+              value = escape the_run (the_level + 1);
+              code = bits_of 24 (w + 1);
+              coded = next-coded;
+              passing = and_from (nat_lt (place + the_run) 64) (is_level (escape the_run (the_level + 1)) && true) within allowed;
+              agrees = inr (cut-front (w + 1) (next-front w window.known short window.filled));
+            },
+            λ s.
+                let m : MayStand (CoefficientCode table) (rules_at place) bits = record { value = s.value; code = s.code; coded = s.coded; passing = s.passing; agrees = inl s.first } in
+                no-whole s.value s.code (the-escape bits shows (rules_at place) m) s.first,
+            refl,
+          )),
         )
 
   pub past-found : 64 ≤ place + the_run → IsFound table place window (Refused why.TooMany 0)

@@ -82,10 +82,10 @@ module _ (table : TableName) (place : ℕ) where
           inl (
             refl,
             inr (inr (
-                record { value = true; code = 1 ∷ []; coded = refl; passing = refl; agrees = inr refl },
-                λ s. let none : List ℕ = [] in omega (arith, ap length s.first, ap length s.coded, length-take (length s.code) none),
-                refl,
-              )),
+              record { value = true; code = 1 ∷ []; coded = refl; passing = refl; agrees = inr refl },
+              λ s. let none : List ℕ = [] in omega (arith, ap length s.first, ap length s.coded, length-take (length s.code) none),
+              refl,
+            )),
           ),
         )
 
@@ -125,7 +125,7 @@ module _ {table : TableName} (is : IsCoefficients table) (place : ℕ) (window :
         omega arith,
         fits,
         subst (λ (l : ℤ). (coefficient_at table place).Spells (more (record { run = run; level = l })) (seen window (len + 1)) []) (sym level_is)
-        (spells-pair table place run (symbol % LEVELS_PER_RUN) b.code listed negative (seen window (len + 1)) fits split),
+            (spells-pair table place run (symbol % LEVELS_PER_RUN) b.code listed negative (seen window (len + 1)) fits split),
       )
 
 -- the end of block

@@ -122,7 +122,7 @@ begun-escape table place symbol bits same b = record {
   code = b.code ++ bits_of 6 0 ++ bits_of 12 1;
   coded = (b.code, ap (code_in table) (sym same) ∙ b.listed, omega arith, omega arith, refl);
   cut = IsPrefix-through bits b.code (b.code ++ bits_of 6 0 ++ bits_of 12 1) b.cut
-  (subst (IsPrefix b.code) (sym (append_assoc b.code (bits_of 6 0) (bits_of 12 1))) (IsPrefix-append b.code (bits_of 6 0 ++ bits_of 12 1)));
+      (subst (IsPrefix b.code) (sym (append_assoc b.code (bits_of 6 0) (bits_of 12 1))) (IsPrefix-append b.code (bits_of 6 0 ++ bits_of 12 1)));
   passing = λ fits. let here : nat_lt (place + 0) 64 ≡ true = ap (symbol_fits place) (sym same) ∙ fits in and_from (nat_lt (place + 0) 64) true here refl;
 }
 

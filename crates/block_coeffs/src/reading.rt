@@ -22,7 +22,10 @@ use syntax_types::{BLOCK_PLACES, Block, BlockWay, Dc, RunLevel};
 /// The block that the next bits spell (6.2.6): the DC coefficient of an intra block, then runs and levels up to the end
 /// of block. The answer is the kind and the place of the refusal where they spell none, and Outside where the source
 /// failed. After an answer that isn't Ok the next bits are still the source's in order, behind some that were taken.
-pub fn read_block<S: Source>(from: &mut BitReader<'_, S>, way: BlockWay) -> Result<Block, BlockFault>
+pub fn read_block<S: Source>(
+    from: &mut BitReader<'_, S>,
+    way: BlockWay,
+) -> Result<Block, BlockFault>
     ensures ok { IfOk result (λ b. Reads (block way) b from.old from.new) }
     ensures refused { IfErr result (Explains (block way) from.old) }
     ensures advances { Advances from.old from.new }
@@ -37,7 +40,10 @@ pub fn read_block<S: Source>(from: &mut BitReader<'_, S>, way: BlockWay) -> Resu
 }
 
 /// The DC coefficient of an intra block, and None of another one.
-fn read_first<S: Source>(from: &mut BitReader<'_, S>, way: BlockWay) -> Result<Option<Dc>, BlockFault>
+fn read_first<S: Source>(
+    from: &mut BitReader<'_, S>,
+    way: BlockWay,
+) -> Result<Option<Dc>, BlockFault>
     ensures ok { IfOk result (λ dc. Reads (optional way.intra (dc_coefficient way)) dc from.old from.new) }
     ensures refused { IfErr result (Explains (optional way.intra (dc_coefficient way)) from.old) }
     ensures kept { OnErr result (bits_left from.new ≡ bits_left from.old) }

@@ -37,7 +37,7 @@ fn bytes_of(printed: &str) -> ArrayVec<u8, 16> {
     for c in printed.bytes() {
         if c != b' ' {
             byte = byte.wrapping_mul(2).wrapping_add(u8::from(c == b'1'));
-            count = (count + 1) % 8;
+            count = count.wrapping_add(1) % 8;
             if count == 0 {
                 let _ = bytes.try_push(byte);
             }
@@ -60,7 +60,11 @@ fn bit_count(printed: &str) -> u64 {
 
 fn are_pairs(block: &Block, pairs: &[(u8, i16)]) -> bool {
     block.pairs.len() == pairs.len()
-        && block.pairs.iter().zip(pairs).all(|(found, pair)| (found.run, found.level) == *pair)
+        && block
+            .pairs
+            .iter()
+            .zip(pairs)
+            .all(|(found, pair)| (found.run, found.level) == *pair)
 }
 
 /// Whether the bits are those of a block with these coefficients, no more and no fewer.
@@ -69,7 +73,9 @@ fn spell(printed: &str, way: BlockWay, dc: Option<Dc>, pairs: &[(u8, i16)]) -> b
     let mut source = SliceSource::new(bytes.as_slice());
     let mut reader = BitReader::new(&mut source);
     match read_block(&mut reader, way) {
-        Ok(block) => block.dc == dc && are_pairs(&block, pairs) && reader.place() == bit_count(printed),
+        Ok(block) => block.dc == dc
+            && are_pairs(&block, pairs)
+            && reader.place() == bit_count(printed),
         Err(_) => false,
     }
 }
@@ -87,15 +93,50 @@ fn a_non_intra_block_is_read_by_the_first_table_and_then_by_the_other(rt: HostRu
     assert!(rt; spell("1 0 11 1 10", NON_INTRA, None, &[(0, 1), (0, -1)]));
     assert!(rt; spell("011 0 011 1 10", NON_INTRA, None, &[(1, 1), (1, -1)]));
     assert!(rt; spell("0000000000011011 1 10", NON_INTRA, None, &[(31, -1)]));
-    assert!(rt; spell("1 1 0000000000011011 0 10", NON_INTRA, None, &[(0, -1), (31, 1)]));
+    assert!(rt;
+        spell(
+            "1 1 0000000000011011 0 10",
+            NON_INTRA,
+            None,
+            &[(0, -1), (31, 1)]
+        )
+    );
 }
 
 #[test]
 fn an_escape_gives_each_run_and_level_but_two(rt: HostRuntime) {
-    assert!(rt; spell("000001 000000 011111111111 10", NON_INTRA, None, &[(0, 2047)]));
-    assert!(rt; spell("000001 000000 100000000001 10", NON_INTRA, None, &[(0, -2047)]));
-    assert!(rt; spell("000001 111111 111111111111 10", NON_INTRA, None, &[(63, -1)]));
-    assert!(rt; spell("1 0 000001 000000 000000000001 10", NON_INTRA, None, &[(0, 1), (0, 1)]));
+    assert!(rt;
+        spell(
+            "000001 000000 011111111111 10",
+            NON_INTRA,
+            None,
+            &[(0, 2047)]
+        )
+    );
+    assert!(rt;
+        spell(
+            "000001 000000 100000000001 10",
+            NON_INTRA,
+            None,
+            &[(0, -2047)]
+        )
+    );
+    assert!(rt;
+        spell(
+            "000001 111111 111111111111 10",
+            NON_INTRA,
+            None,
+            &[(63, -1)]
+        )
+    );
+    assert!(rt;
+        spell(
+            "1 0 000001 000000 000000000001 10",
+            NON_INTRA,
+            None,
+            &[(0, 1), (0, 1)]
+        )
+    );
     let bad = BlockFault::BadEscape { at: 0 };
     assert!(rt; refused("000001 000000 100000000000 10 000000", NON_INTRA, bad));
     assert!(rt; refused("000001 000000 000000000000 10 000000", NON_INTRA, bad));
@@ -120,9 +161,23 @@ fn an_intra_block_begins_with_its_dc_coefficient(rt: HostRuntime) {
 fn the_other_table_of_intra_blocks_has_its_own_codes(rt: HostRuntime) {
     let none = Some(Dc { size: 0, bits: 0 });
     assert!(rt; spell("100 0110", LUMA_ONE, none, &[]));
-    assert!(rt; spell("100 10 1 11111111 0 0110", LUMA_ONE, none, &[(0, -1), (0, 15)]));
+    assert!(rt;
+        spell(
+            "100 10 1 11111111 0 0110",
+            LUMA_ONE,
+            none,
+            &[(0, -1), (0, 15)]
+        )
+    );
     assert!(rt; spell("100 0000000000011011 0 0110", LUMA_ONE, none, &[(31, 1)]));
-    assert!(rt; spell("100 000001 000010 000000000111 0110", LUMA_ONE, none, &[(2, 7)]));
+    assert!(rt;
+        spell(
+            "100 000001 000010 000000000111 0110",
+            LUMA_ONE,
+            none,
+            &[(2, 7)]
+        )
+    );
 }
 
 #[test]
@@ -158,9 +213,21 @@ fn a_cut_coefficient_that_can_only_pass_the_last_place_is_one_too_many(rt: HostR
     let escape = BlockFault::TooMany { at: 2 };
     assert!(rt; refused("10 000001 111111 00", NON_INTRA, escape));
     let long = BlockFault::TooMany { at: 26 };
-    assert!(rt; refused("10 000001 100011 000000000001 00000000000111", NON_INTRA, long));
+    assert!(rt;
+        refused(
+            "10 000001 100011 000000000001 00000000000111",
+            NON_INTRA,
+            long
+        )
+    );
     let open = BlockFault::End { at: 26 };
-    assert!(rt; refused("10 000001 100010 000000000001 00000000000111", NON_INTRA, open));
+    assert!(rt;
+        refused(
+            "10 000001 100010 000000000001 00000000000111",
+            NON_INTRA,
+            open
+        )
+    );
 }
 
 #[test]

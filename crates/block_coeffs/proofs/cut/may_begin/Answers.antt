@@ -5,8 +5,8 @@ use Rattle.block_coeffs.proofs.cut.may_begin.Goals as goal
 
 pub returns : goal.returns
 returns c = (
-    λ found. absurd (both_ways false refl found),
-    λ a.
-        let most = symbol-most a.symbol a.begun.code (coefficients-is c.args.table c.requires.table) a.begun.listed in
-        absurd (c.loop-symbol.invariant a.symbol (omega arith) a.fits a.begun),
-  )
+  λ found. absurd (both_ways false refl found),
+  λ a.
+      let most = symbol-most a.symbol a.begun.code (coefficients-is c.args.table c.requires.table) a.begun.listed in
+      absurd (c.loop-symbol.invariant a.symbol (omega arith) a.fits a.begun),
+)

@@ -29,8 +29,8 @@ coefficients-preserved g c =
     let count : length c.push.new.self.items ≡ length before + 1 = ap length c.push.ensures.items ∙ length-append before (pair ∷ []) in
     record {
       so_far = subst (λ pairs. ReadSoFar (coefficient way) pairs (bits_left c.args.from.now) (bits_left c.next_coefficient.new.from) (place c.args.from.now) (place c.next_coefficient.new.from)) (sym c.push.ensures.items)
-      (one_more-read (coefficient way) before pair (bits_left c.args.from.now) (bits_left c.coefficients.from) (bits_left c.next_coefficient.new.from) (place c.args.from.now) (place c.coefficients.from) (place c.next_coefficient.new.from)
-      (local-coefficient way before) c.coefficients.invariant.so_far read);
+          (one_more-read (coefficient way) before pair (bits_left c.args.from.now) (bits_left c.coefficients.from) (bits_left c.next_coefficient.new.from) (place c.args.from.now) (place c.coefficients.from) (place c.next_coefficient.new.from)
+          (local-coefficient way before) c.coefficients.invariant.so_far read);
       index = ap (λ n. n + (c.from.result + 1)) c.coefficients.invariant.index ∙ ap (λ r. next_place way before + (r + 1)) c.from.ensures ∙ sym (next_place-push way before pair) ∙ ap (next_place way) (sym c.push.ensures.items);
       few = let few = c.coefficients.invariant.few in omega arith;
       within = let run = c.from.ensures in omega arith;
