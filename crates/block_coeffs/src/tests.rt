@@ -37,7 +37,7 @@ fn bytes_of(printed: &str) -> ArrayVec<u8, 16> {
     for c in printed.bytes() {
         if c != b' ' {
             byte = byte.wrapping_mul(2).wrapping_add(u8::from(c == b'1'));
-            count = (count + 1) % 8;
+            count = count.wrapping_add(1) % 8;
             if count == 0 {
                 let _ = bytes.try_push(byte);
             }
