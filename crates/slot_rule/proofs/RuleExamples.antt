@@ -7,8 +7,9 @@ use Rattle.slot_rule.specs.declared.constants.TheConstants.{AUDIO_TB_SUBTICKS}
 use Rattle.slot_rule.specs.Streams.{Audio}
 use Rattle.slot_rule.specs.Buffers.{Row, transport_work}
 use Rattle.slot_rule.specs.Schedule.{IsSchedule, IsScheduled, IsFirstMiss}
+use Rattle.slot_rule.specs.SlotList.{slots_of}
 use Rattle.slot_rule.proofs.RuleRun.{Run, Clean, Missed, first_rows, IsSchedule-from_run, IsFirstMiss-from_run}
-use Rattle.slot_rule.proofs.RuleSchedules.{slots_of, slots_of-same}
+use Rattle.slot_rule.proofs.RuleSchedules.{slots_of-same}
 
 -- ---- tables of 1,080 ticks a slot
 abbrev table_of : List ProgramRow → Table

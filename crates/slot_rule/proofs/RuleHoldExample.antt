@@ -13,9 +13,10 @@ use Rattle.slot_rule.specs.Timetable.{reserved, period}
 use Rattle.slot_rule.specs.Streams.{Kind, Video, Packet, Stream, streams_of}
 use Rattle.slot_rule.specs.Buffers.{Row, Reserved, Carries, Empty, is_of, transport_work, multiplex_work, outstanding, outstanding_in, packets_in, payload_in, tb_subticks, slot_subticks}
 use Rattle.slot_rule.specs.Schedule.{IsHead, Goes, NothingGoes, IsRow, FollowRule, Overdue, NoMiss, IsSchedule, IsScheduled, arrival, main_work}
+use Rattle.slot_rule.specs.SlotList.{slots_of}
 use Rattle.slot_rule.proofs.RuleExamples.{one_unit}
 use Rattle.slot_rule.proofs.RuleRows.{NoneMisses, FollowRule-nil, FollowRule-push, NoMiss-nil, NoMiss-push}
-use Rattle.slot_rule.proofs.RuleSchedules.{slots_of, slots_of-same}
+use Rattle.slot_rule.proofs.RuleSchedules.{slots_of-same}
 use Rattle.slot_rule.proofs.RuleSent.{count-carried}
 use Rattle.slot_rule.proofs.RuleUnits.{piece_of}
 use Rattle.slot_rule.proofs.RuleWork.{waiting-none, packets_in-le, multiplex_work-push}
