@@ -98,6 +98,3 @@ TellsMisses-missed table choice found is memory miss = (
   (λ e. (let same : found ≡ miss = cc in subst (λ (m : Miss). IsFirstMiss table choice m) same is)),
   (λ first. ap (λ (m : Miss). Err (Missed m)) (IsFirstMiss-same table choice found miss is first)),
 )
-
-pub TellsMisses-no_memory : (table : Table) (choice : List ℕ) (fault : ScheduleFault) → fault ≡ OutOfMemory → TellsMisses table choice (Err fault)
-TellsMisses-no_memory table choice fault is memory = absurd (memory (ap (λ (f : ScheduleFault). Err f) is))

@@ -9,7 +9,7 @@ use Rattle.version_table.specs.declared.table.Table.{Table}
 use Rattle.slot_rule.specs.declared.constants.TheConstants.{SUBTICKS_PER_TICK, PACKET_BYTES, MB_SUBTICKS}
 use Rattle.slot_rule.specs.declared.sent.Sent.{Sent}
 use Rattle.slot_rule.specs.declared.sent.Sent.TheVariants.{Pat, Pmt, Pcr}
-use Rattle.slot_rule.specs.Timetable.{reserved, period}
+use Rattle.slot_rule.specs.Timetable.{reserved}
 use Rattle.slot_rule.specs.Streams.{Kind, Video, Packet, Stream, streams_of}
 use Rattle.slot_rule.specs.Buffers.{Row, Reserved, Carries, Empty, is_of, transport_work, multiplex_work, outstanding, outstanding_in, packets_in, payload_in, tb_subticks, slot_subticks}
 use Rattle.slot_rule.specs.Schedule.{IsHead, Goes, NothingGoes, IsRow, FollowRule, Overdue, NoMiss, IsSchedule, IsScheduled, arrival, main_work}
@@ -27,9 +27,6 @@ long_table = record { slot = 27000; nodes = 1; evaluations = 0; programs = one_u
 
 streams_are : streams_of long_table (0 ∷ []) ≡ record { kind = Video 0 112; packets = piece_of 0 54000000 0 184 ∷ [] } ∷ []
 streams_are = refl
-
-period_is : period 27000 ≡ 40
-period_is = refl
 
 -- what stands in a slot where no packet goes
 abbrev quiet_row : ℕ → Row

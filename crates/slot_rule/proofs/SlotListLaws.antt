@@ -1,5 +1,5 @@
 -- The list of slots of a choice: how many there are, what they show, and that there is one list.
-use Rattle.std.proofs.Common.{◌≡◌, ℕ, ◌+◌, ◌*◌, ◌/◌, ◌<◌, ◌≤◌, ◌⊎◌, List, [], ◌∷◌, ◌++◌, length, map, take, drop, get_or, slice_get, count_by, Some, refl, sym, ap, ap₂, subst, ◌∙◌, inl, inr, append_assoc, length-append, mul-le-mul_right, arith}
+use Rattle.std.proofs.Common.{◌≡◌, ℕ, ◌+◌, ◌*◌, ◌/◌, ◌<◌, ◌≤◌, ◌⊎◌, List, [], ◌∷◌, ◌++◌, length, map, take, drop, get_or, slice_get, Some, refl, sym, ap, ap₂, subst, ◌∙◌, inl, inr, append_assoc, length-append, mul-le-mul_right, arith}
 use Rattle.std.proofs.Math.Nat.{le_antisymm}
 use Rattle.std.proofs.lemmas.Nat.{div_below, le-div}
 use Rattle.std.proofs.lemmas.Bool.{cases_lt}
@@ -13,8 +13,8 @@ use Rattle.slot_rule.specs.declared.slot_list.SlotList.{SlotList}
 use Rattle.slot_rule.specs.declared.stream_state.StreamState.{StreamState}
 use Rattle.slot_rule.specs.Timetable.{period}
 use Rattle.slot_rule.specs.Streams.{Kind, Packet, Stream, streams_of, Audio}
-use Rattle.slot_rule.specs.Buffers.{Row, Reserved, Carries, Empty, is_of}
-use Rattle.slot_rule.specs.Schedule.{IsHead, FollowRule, AllSent, IsSchedule}
+use Rattle.slot_rule.specs.Buffers.{Row, Reserved, Carries, Empty}
+use Rattle.slot_rule.specs.Schedule.{IsHead, AllSent, IsSchedule}
 use Rattle.slot_rule.specs.SlotList.{kind_at, piece_sent, sent_of, CarriesPacket, PassesSent, IsSlotCount, IsSlotList, FillsPeriod, idle_slots}
 use Rattle.slot_rule.specs.Slots.{HasRun, Shows}
 use Rattle.slot_rule.proofs.IdleRows.{AllSent-more, IsSchedule-idle, idle_rows, idle_rows-sent, length-idle_rows}

@@ -10,7 +10,7 @@ use crate::sent::Miss;
 use crate::slot::run_slot;
 use crate::slot_list::SlotList;
 use crate::states::first_states;
-use crate::timetable::timetable_of;
+use crate::timetable::Timetable;
 use list_types::{ListOf, OutOfMemory};
 use std::alloc::Global;
 use thiserror::Error;
@@ -56,7 +56,7 @@ pub fn schedule(alloc: Global, table: &Table, choice: &Choice) -> Result<SlotLis
         rows.push(row.sent(states))?;
         match After::slot(states, row, table.slot, n) {
             After::Missed(miss) => return Err(ScheduleFault::Missed(miss)),
-            After::AllSent => return Ok(SlotList::fill(timetable_of(table), rows, n)?),
+            After::AllSent => return Ok(SlotList::fill(Timetable::of(table), rows, n)?),
             After::Waiting => {}
         }
     }

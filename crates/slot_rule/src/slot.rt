@@ -16,7 +16,7 @@ use crate::row::Row;
 use crate::sent::Sent;
 use crate::states::{drain_all, release_all, take_clock};
 use crate::stream_state::StreamState;
-use crate::timetable::timetable_of;
+use crate::timetable::Timetable;
 use version_table::{Choice, Table};
 
 /// What stands in slot `n`, where the states are those before it; they become those after it.
@@ -29,7 +29,7 @@ pub fn run_slot(table: &Table, choice: &Choice, states: &mut [StreamState], n: u
         → IsRow table.now.slot (length table.now.programs) (streams_of table.now choice.now) rows result
         × HasRun table.now choice.now (rows ++ result ∷ []) states.new }
 {
-    let row = match timetable_of(table).at(n) {
+    let row = match Timetable::of(table).at(n) {
         Some(reserved) => reserve(states, reserved),
         None => send_first(table, choice, states, u64::from(n) * u64::from(table.slot)),
     };

@@ -18,9 +18,9 @@ pub struct SlotList {
 impl SlotList {
     ghost use Rattle.slot_rule.specs.SlotList.{FillsPeriod};
 
-    /// The slots in `rows`, of which the last is slot `last`, and up to the end of the period those in which no packet
-    /// of a stream is sent. Fails only for want of memory.
-    pub fn fill(
+    /// The slots in `rows`, of which the last is slot `last`, and those after it up to the end of its period, in which
+    /// stands what the timetable has there, else a null packet. Fails only for want of memory.
+    pub(crate) fn fill(
         timetable: Timetable,
         mut rows: ListOf<Sent>,
         last: u32,

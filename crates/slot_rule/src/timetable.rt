@@ -37,8 +37,20 @@ impl Timetable {
         }
     }
 
+    /// The timetable of a table.
+    pub(crate) fn of(table: &Table) -> Timetable
+        requires { IsValidTable table.now }
+        ensures slot { result.slot ≡ table.now.slot }
+        ensures programs { result.programs ≡ length table.now.programs }
+    {
+        Timetable {
+            slot: table.slot,
+            programs: table.programs.len() as u8,
+        }
+    }
+
     /// Slots after which the timetable begins again.
-    pub fn period(&self) -> u32
+    pub(crate) fn period(&self) -> u32
         requires least { SLOT_LEAST ≤ self.now.slot }
         requires most { self.now.slot ≤ SLOT_MOST }
         ensures value { result ≡ period self.now.slot }
@@ -46,17 +58,5 @@ impl Timetable {
         ensures few { result ≤ PERIOD_TICKS }
     {
         PERIOD_TICKS / self.slot
-    }
-}
-
-/// The timetable of a table.
-pub fn timetable_of(table: &Table) -> Timetable
-    requires { IsValidTable table.now }
-    ensures slot { result.slot ≡ table.now.slot }
-    ensures programs { result.programs ≡ length table.now.programs }
-{
-    Timetable {
-        slot: table.slot,
-        programs: table.programs.len() as u8,
     }
 }

@@ -1,4 +1,4 @@
-use Rattle.std.proofs.Common.{◌≡◌, ◌+◌, ◌*◌, ◌≤◌, ℕ, ◌∷◌, [], ◌++◌, List, length, map, All, refl, sym, ap, subst, subst₂, ◌∙◌, arith}
+use Rattle.std.proofs.Common.{◌≡◌, ◌+◌, ℕ, ◌∷◌, [], ◌++◌, List, length, map, All, sym, subst, subst₂, arith}
 use Rattle.std.proofs.lemmas.List.{length_push}
 use Rattle.slot_rule.specs.declared.sent.Sent.{Sent}
 use Rattle.slot_rule.specs.declared.stream_state.StreamState.{StreamState}
@@ -6,7 +6,7 @@ use Rattle.slot_rule.specs.SlotList.{FillsPeriod}
 use Rattle.slot_rule.specs.States.{IsFirstState, stream_of}
 use Rattle.slot_rule.specs.Streams.{streams_of}
 use Rattle.slot_rule.proofs.ListedLaws.{Listed, Listed-first, Listed-next, IsSlotList-found, TellsMisses-listed, TellsMisses-missed, nothing_left_at_end}
-use Rattle.slot_rule.proofs.MissLaws.{HasRun-first, RowStands-next, miss_found}
+use Rattle.slot_rule.proofs.MissLaws.{RowStands-next, miss_found}
 use Rattle.slot_rule.proofs.SlotListLaws.{some_period}
 use Rattle.slot_rule.proofs.SmallLaws.{all_soon}
 use Rattle.slot_rule.proofs.schedules.schedule.Goals as goal
@@ -57,7 +57,7 @@ returns-in-AllSent-clause-slots c =
     let step = c.run_slot-row.ensures listed.reached.rows listed.reached.slots_are listed.reached.run in
     let list = c.in_ok-fill-in-AllSent.field-0 in
     let at : FillsPeriod table.slot (length table.programs) c.loop-n.n c.push.new.self list =
-    subst₂ (λ (slot programs : ℕ). FillsPeriod slot programs c.loop-n.n c.push.new.self list) c.timetable_of.ensures.slot c.timetable_of.ensures.programs c.in_ok-fill-in-AllSent.ensures in
+    subst₂ (λ (slot programs : ℕ). FillsPeriod slot programs c.loop-n.n c.push.new.self list) c.of.ensures.slot c.of.ensures.programs c.in_ok-fill-in-AllSent.ensures in
     IsSlotList-found table choice c.requires.valid c.requires.fits c.loop-n.n c.loop-n.states c.run_slot-row.new.states c.run_slot-row.result c.loop-n.rows c.sent.result listed step.0 step.1 c.sent.ensures
     c.in-AllSent.ensures list (some_period table c.requires.valid) (subst (λ (rows : List Sent). FillsPeriod table.slot (length table.programs) c.loop-n.n rows list) c.in_ok-push.ensures.ok at)
 

@@ -36,8 +36,8 @@ returns c rows len run =
     let olds = c.args.states.now in
     let mids = c.match-at.states in
     let news = c.drain_all.new.states in
-    let at : reserved table.slot (length table.programs) (length rows) ≡ c.at.result = ap (λ (slot : ℕ). reserved slot (length table.programs) (length rows)) (sym c.timetable_of.ensures.slot)
-    ∙ ap₂ (λ (p n : ℕ). reserved c.timetable_of.result.slot p n) (sym c.timetable_of.ensures.programs) len ∙ sym c.at.ensures in
+    let at : reserved table.slot (length table.programs) (length rows) ≡ c.at.result = ap (λ (slot : ℕ). reserved slot (length table.programs) (length rows)) (sym c.of.ensures.slot)
+    ∙ ap₂ (λ (p n : ℕ). reserved c.of.result.slot p n) (sym c.of.ensures.programs) len ∙ sym c.at.ensures in
     let drains : ChangesEach (Drains (slot_subticks table.slot)) mids news = subst (λ (slot : ℕ). ChangesEach (Drains (slot_subticks slot)) mids news) c.from-2.ensures c.drain_all.ensures in
     elim c.match-at.branch [
       | in-Some w ↦
