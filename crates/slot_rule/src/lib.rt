@@ -31,6 +31,3 @@ pub use schedules::{ScheduleFault, schedule};
 pub use sent::{Miss, Sent};
 pub use slot_list::SlotList;
 pub use timetable::Timetable;
-
-#[cfg(test)]
-mod tests;
