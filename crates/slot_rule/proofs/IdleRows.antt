@@ -9,7 +9,8 @@ use Rattle.slot_rule.specs.Timetable.{reserved}
 use Rattle.slot_rule.specs.Streams.{Stream, streams_of}
 use Rattle.slot_rule.specs.Buffers.{Row, Reserved, Empty}
 use Rattle.slot_rule.specs.Schedule.{IsRow, AllSent, IsSchedule}
-use Rattle.slot_rule.specs.SlotList.{sent_of, idle_sent, idle_slots}
+use Rattle.slot_rule.specs.IdleSlots.{idle_sent, idle_slots}
+use Rattle.slot_rule.specs.SlotList.{sent_of}
 use Rattle.slot_rule.proofs.RuleRows.{FollowRule-push, NoMiss-push}
 use Rattle.slot_rule.proofs.RuleUnique.{IsHead-before, Misses-all_sent}
 

@@ -15,7 +15,8 @@ use Rattle.slot_rule.specs.declared.slot_list.SlotList.{SlotList}
 use Rattle.slot_rule.specs.declared.stream_state.StreamState.{StreamState}
 use Rattle.slot_rule.specs.Buffers.{Row}
 use Rattle.slot_rule.specs.Schedule.{AllSent, IsFirstMiss}
-use Rattle.slot_rule.specs.SlotList.{sent_of, IsSlotList, FillsPeriod, CarriesPacket}
+use Rattle.slot_rule.specs.IdleSlots.{FillsPeriod}
+use Rattle.slot_rule.specs.SlotList.{sent_of, IsSlotList, CarriesPacket}
 use Rattle.slot_rule.specs.Slots.{HasRun, Shows, TellsAfter}
 use Rattle.slot_rule.specs.States.{IsFirstState, stream_of}
 use Rattle.slot_rule.specs.Streams.{streams_of}

@@ -15,7 +15,8 @@ use Rattle.slot_rule.specs.Timetable.{period}
 use Rattle.slot_rule.specs.Streams.{Kind, Packet, Stream, streams_of, Audio}
 use Rattle.slot_rule.specs.Buffers.{Row, Reserved, Carries, Empty}
 use Rattle.slot_rule.specs.Schedule.{IsHead, AllSent, IsSchedule}
-use Rattle.slot_rule.specs.SlotList.{kind_at, piece_sent, sent_of, CarriesPacket, PassesSent, IsSlotCount, IsSlotList, FillsPeriod, idle_slots}
+use Rattle.slot_rule.specs.IdleSlots.{FillsPeriod, idle_slots}
+use Rattle.slot_rule.specs.SlotList.{kind_at, piece_sent, sent_of, CarriesPacket, PassesSent, IsSlotCount, IsSlotList}
 use Rattle.slot_rule.specs.Slots.{HasRun, Shows}
 use Rattle.slot_rule.proofs.IdleRows.{AllSent-more, IsSchedule-idle, idle_rows, idle_rows-sent, length-idle_rows}
 use Rattle.slot_rule.proofs.RuleRows.{IsNext, FollowRule-at, FollowRule-take}

@@ -1,5 +1,6 @@
 pub mod Buffers
 pub mod Heads
+pub mod IdleSlots
 pub mod Schedule
 pub mod SlotList
 pub mod Slots

@@ -1,10 +1,10 @@
 -- The schedule as a list of slots: whole periods of the timetable, and in each slot what stands there.
-use Rattle.std.specs.Prelude.{◌≡◌, ℕ, zero, suc, ◌+◌, ◌*◌, ◌/◌, ◌<◌, ◌≤◌, List, [], ◌∷◌, ◌++◌, length, map, slice_get, slice_index_or, unwrap_or, Some, if◌then◌else◌}
+use Rattle.std.specs.Prelude.{◌≡◌, ℕ, ◌+◌, ◌*◌, ◌<◌, ◌≤◌, List, [], ◌∷◌, length, map, slice_get, slice_index_or, Some, if◌then◌else◌}
 use Rattle.version_table.specs.declared.table.Table.{Table}
 use Rattle.slot_rule.specs.declared.sent.Sent.{Sent}
 use Rattle.slot_rule.specs.declared.sent.Sent.TheVariants.{Null, Video as VideoPiece, Audio as AudioPiece}
 use Rattle.slot_rule.specs.declared.slot_list.SlotList.{SlotList}
-use Rattle.slot_rule.specs.Timetable.{period, reserved}
+use Rattle.slot_rule.specs.Timetable.{period}
 use Rattle.slot_rule.specs.Streams.{Kind, Video, Audio, Packet, Stream, streams_of}
 use Rattle.slot_rule.specs.Buffers.{Row, Reserved, Carries, Empty, is_of}
 use Rattle.slot_rule.specs.Schedule.{IsSchedule}
@@ -53,20 +53,3 @@ pub record IsSlotList (table : Table) (choice : List ℕ) (list : SlotList) : Ty
 abbrev pub slots_of : (stream slot : ℕ) → List Row → List ℕ
 slots_of stream slot [] = []
 slots_of stream slot (row ∷ rows) = if is_of stream row then slot ∷ slots_of stream (slot + 1) rows else slots_of stream (slot + 1) rows
-
--- ---- how the code lists the last slots
--- what stands in slot n once all packets are sent
-abbrev pub idle_sent : (slot programs n : ℕ) → Sent
-idle_sent slot programs n = unwrap_or (reserved slot programs n) Null
-
--- so many slots from the first on, once all packets are sent
-abbrev pub idle_slots : (slot programs first count : ℕ) → List Sent
-idle_slots slot programs first zero = []
-idle_slots slot programs first (suc count) = idle_slots slot programs first count ++ idle_sent slot programs (first + count) ∷ []
-
--- these slots, of which the last has this number, and idle ones up to the end of the period
-pub record FillsPeriod (slot programs last : ℕ) (rows : List Sent) (list : SlotList) : Type 0 where
-  pub whole : list.slots ≡ (last / period slot + 1) * period slot
-  pub idle : ℕ
-  pub ends : list.slots ≡ last + 1 + idle
-  pub rows_are : list.rows ≡ rows ++ idle_slots slot programs (last + 1) idle

@@ -16,7 +16,7 @@ pub struct SlotList {
 }
 
 impl SlotList {
-    ghost use Rattle.slot_rule.specs.SlotList.{FillsPeriod};
+    ghost use Rattle.slot_rule.specs.IdleSlots.{FillsPeriod};
 
     /// The slots in `rows`, of which the last is slot `last`, and those after it up to the end of its period, in which
     /// stands what the timetable has there, else a null packet. Fails only for want of memory.

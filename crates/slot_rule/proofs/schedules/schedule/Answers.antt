@@ -2,7 +2,7 @@ use Rattle.std.proofs.Common.{◌≡◌, ◌+◌, ℕ, ◌∷◌, [], ◌++◌, 
 use Rattle.std.proofs.lemmas.List.{length_push}
 use Rattle.slot_rule.specs.declared.sent.Sent.{Sent}
 use Rattle.slot_rule.specs.declared.stream_state.StreamState.{StreamState}
-use Rattle.slot_rule.specs.SlotList.{FillsPeriod}
+use Rattle.slot_rule.specs.IdleSlots.{FillsPeriod}
 use Rattle.slot_rule.specs.States.{IsFirstState, stream_of}
 use Rattle.slot_rule.specs.Streams.{streams_of}
 use Rattle.slot_rule.proofs.ListedLaws.{Listed, Listed-first, Listed-next, IsSlotList-found, TellsMisses-listed, TellsMisses-missed, nothing_left_at_end}
