@@ -62,7 +62,7 @@ impl Row {
     {
         match self {
             Row::Reserved(sent) => sent,
-            Row::Carries { stream, packet } => { packet.sent(stream as u32, states[stream].kind) }
+            Row::Carries { stream, packet } => packet.sent(stream as u32, states[stream].kind),
             Row::Empty => Sent::Null,
         }
     }

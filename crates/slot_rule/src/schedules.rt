@@ -39,8 +39,9 @@ impl From<OutOfMemory> for ScheduleFault {
     }
 }
 
-/// The slots of a table under a choice, with what stands in each. `Missed` comes exactly where `first_miss` has that
-/// miss, unless memory is wanted.
+/// The slots of a table under a choice, from slot 0, with what stands in each by the slot rule (ISO/IEC 13818-1, 2.4.2,
+/// taken at slots). `Missed` comes exactly where `first_miss` has that miss, unless memory is wanted. Takes memory for
+/// the list alone.
 pub fn schedule(alloc: Global, table: &Table, choice: &Choice) -> Result<SlotList, ScheduleFault>
     requires valid { IsValidTable table.now }
     requires fits { Fits table.now choice.now }
