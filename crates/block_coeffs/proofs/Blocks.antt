@@ -1,5 +1,5 @@
 -- A block read as a DC coefficient and a list of coefficients.
-use Rattle.std.proofs.Common.{◌≡◌, ℕ, ◌+◌, ◌≤◌, Bool, true, false, List, [], ◌∷◌, ◌++◌, length, Option, Some, None, IfSome, refl, sym, ap, ap₂, subst, ◌∙◌, arith}
+use Rattle.std.proofs.Common.{◌≡◌, ℕ, Bool, true, false, List, [], Option, Some, None, IfSome, refl, subst, arith}
 use Rattle.prefix_codes.specs.declared.table_name.TableName.{TableName}
 use Rattle.syntax_types.specs.declared.block.Block.{Block}
 use Rattle.syntax_types.specs.declared.block.BlockWay.{BlockWay}
@@ -7,9 +7,9 @@ use Rattle.syntax_types.specs.declared.block.Dc.{Dc}
 use Rattle.syntax_types.specs.declared.block.RunLevel.{RunLevel}
 use Rattle.picture_grammar.specs.Grammar.{Grammar, done, ◌>>=◌, optional, many, more_of}
 use Rattle.picture_grammar.specs.Block.{dc_table, dc_coefficient, coefficient, coefficient_table, next_place, block}
-use Rattle.picture_grammar.proofs.LocalLaws.{local-dc, local-many, local-coefficient, local-bind, local-done}
+use Rattle.picture_grammar.proofs.LocalLaws.{local-dc}
 use Rattle.block_coeffs.specs.declared.block_fault.BlockFault.{BlockFault}
-use Rattle.block_coeffs.specs.Reading.{AdvancesFrom, ReadsFrom, RefusedAt, ExplainsFrom}
+use Rattle.block_coeffs.specs.Reading.{ReadsFrom, ExplainsFrom}
 use Rattle.block_coeffs.specs.DcStanding.{dc_by}
 use Rattle.block_coeffs.specs.Standing.{coefficient_at}
 use Rattle.block_coeffs.proofs.Grammars.{reads-then, reads-some, explains-first, explains-then}

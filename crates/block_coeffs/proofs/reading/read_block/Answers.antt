@@ -1,8 +1,7 @@
-use Rattle.std.proofs.Common.{◌≡◌, IfSome, sym, ap, subst, ◌∙◌}
 use Rattle.std.proofs.lemmas.Result.{err_from_is_err_and}
 use Rattle.bit_cursor.specs.BitReader.{bits_left, place}
 use Rattle.picture_grammar.specs.Grammar.{many, optional}
-use Rattle.picture_grammar.specs.Block.{coefficient, dc_coefficient, block}
+use Rattle.picture_grammar.specs.Block.{coefficient, dc_coefficient}
 use Rattle.block_coeffs.proofs.Grammars.{advances-on, reads-advances}
 use Rattle.block_coeffs.proofs.Blocks.{reads-block, explains-dc, explains-pairs}
 use Rattle.block_coeffs.proofs.reading.read_block.Goals as goal
