@@ -98,10 +98,7 @@ fn read_pairs<S: Source>(
 {
     let mut pairs = ArrayVec::new();
     let mut index = u32::from(way.intra);
-    'coefficients: loop {
-        let Some(pair) = next_coefficient(from, table_at(way, index), index)? else {
-            break;
-        };
+    'coefficients: while let Some(pair) = next_coefficient(from, table_at(way, index), index)? {
         pairs.push(pair);
         index += u32::from(pair.run) + 1;
     }
