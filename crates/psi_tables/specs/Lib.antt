@@ -1,1 +1,5 @@
 pub mod Crc
+pub mod Section
+pub mod Pat
+pub mod Descriptors
+pub mod ProgramMap

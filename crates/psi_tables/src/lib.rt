@@ -7,7 +7,17 @@
 
 mod crc;
 mod crc_table;
+mod descriptors;
+mod pat;
+mod pmt;
+mod program_map;
 mod section;
+mod stream;
+mod streams;
 
 pub use crc::crc32;
+pub use pat::{is_pat, read_pat, write_pat};
+pub use pmt::{PACKET_SECTION_BYTES, read_pmt, write_pmt};
+pub use program_map::ProgramMap;
 pub use section::{SECTION_BYTES, Section, SectionFault};
+pub use stream::{DESCRIPTOR_BYTES, STREAMS_MOST, Stream};
