@@ -6,11 +6,11 @@
 #![tactic(auto)]
 
 mod crc;
-mod crc_table;
 mod descriptors;
 mod pat;
 mod pmt;
 mod program_map;
+mod remainders;
 mod section;
 mod stream;
 mod streams;
