@@ -4,3 +4,6 @@ pub mod Multiples
 pub mod Dividends
 pub mod RemainderTable
 pub mod CrcLaws
+pub mod DescriptorRows
+pub mod Rows
+pub mod Elements

@@ -15,8 +15,11 @@ pub record IsDescriptor (descriptor bytes : List ℕ) : Type 0 where
   pub size : length bytes ≡ 2 + descriptor_length bytes
 
 -- video_stream_descriptor, audio_stream_descriptor and ISO_639_language_descriptor (2.6.2, 2.6.4, 2.6.18)
+abbrev pub is_tag_kept : ℕ → Bool
+is_tag_kept tag = (tag == 2) || (tag == 3) || (tag == 10)
+
 abbrev pub is_kept : List ℕ → Bool
-is_kept descriptor = (descriptor_tag descriptor == 2) || (descriptor_tag descriptor == 3) || (descriptor_tag descriptor == 10)
+is_kept descriptor = is_tag_kept (descriptor_tag descriptor)
 
 -- the bytes of those that are kept
 abbrev pub kept_bytes : List (List ℕ) → List ℕ

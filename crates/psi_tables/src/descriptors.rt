@@ -25,7 +25,7 @@ pub(crate) fn read_descriptors(bytes: &[u8]) -> Option<(ArrayVec<u8, DESCRIPTOR_
     let mut rest = bytes;
     while !rest.is_empty() {
         let (descriptor, after) = split_descriptor(rest)?;
-        if is_tag_kept(descriptor[0]) {
+        if keeps(descriptor) {
             let Ok(()) = kept.try_extend_from_slice(descriptor) else {
                 return None;
             };
@@ -54,6 +54,7 @@ pub(crate) fn count_descriptors(bytes: &[u8]) -> Option<u32>
 }
 
 /// The first descriptor and what stands behind it. None where there is no whole one.
+#[tactic(auto, using(crate::proofs::Elements::elements))]
 fn split_descriptor(bytes: &[u8]) -> Option<(&[u8], &[u8])>
     ensures { MatchOption result ((front behind : List ℕ) → bytes.now ≡ front ++ behind → IsDescriptor front front → ⊥) (λ parts. IsDescriptor parts.0.now parts.0.now × (bytes.now ≡ parts.0.now ++ parts.1.now)) }
 {
@@ -67,6 +68,12 @@ fn split_descriptor(bytes: &[u8]) -> Option<(&[u8], &[u8])>
     Some(bytes.split_at(size))
 }
 
-fn is_tag_kept(tag: u8) -> bool {
+/// True for a descriptor of a tag that is kept.
+#[tactic(auto, using(crate::proofs::Elements::elements))]
+fn keeps(descriptor: &[u8]) -> bool
+    requires { 0 < length descriptor.now }
+    ensures { result ≡ is_kept descriptor.now }
+{
+    let tag = descriptor[0];
     tag == VIDEO_STREAM || tag == AUDIO_STREAM || tag == ISO_639_LANGUAGE
 }

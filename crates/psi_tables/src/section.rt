@@ -54,6 +54,7 @@ pub enum SectionFault {
 }
 
 /// True where the bytes begin as a current section of this table.
+#[tactic(auto, using(crate::proofs::Elements::elements))]
 pub(crate) fn is_current(bytes: &[u8], table: u8) -> bool
     ensures { IsTrue result ↔ IsCurrent table bytes.now }
 {
@@ -65,6 +66,7 @@ pub(crate) fn is_current(bytes: &[u8], table: u8) -> bool
 
 /// The bytes between header and CRC. None where `section_length` doesn't count the section's bytes, or has no room for
 /// both.
+#[tactic(auto, using(crate::proofs::Elements::elements))]
 pub(crate) fn content_of(bytes: &[u8]) -> Option<&[u8]>
     ensures { MatchOption result (IsWhole bytes.now → ⊥) (λ found. IsWhole bytes.now × (found.now ≡ content bytes.now)) }
 {
@@ -123,7 +125,7 @@ pub(crate) fn put_length(into: &mut Section, count: u16)
 pub(crate) fn put_crc(into: &mut Section)
     requires { length into.old.items ≤ 1000 }
     ensures bytes { IsWithCrc into.old.items into.new.items }
-    ensures right { 4 ≤ length into.old.items → HasRightCrc into.new.items }
+    ensures right { HasRightCrc into.new.items }
 {
     let crc = crc32(into.as_slice());
     put(into, &crc.to_be_bytes());

@@ -77,6 +77,7 @@ fn read_stream(bytes: &[u8]) -> Option<(Stream, u32)>
 }
 
 /// The bytes of the first stream and what stands behind them. None where there is no whole one.
+#[tactic(auto, using(crate::proofs::Elements::elements))]
 fn split_info(bytes: &[u8]) -> Option<(&[u8], &[u8])>
     ensures { MatchOption result ((front behind : List ℕ) → bytes.now ≡ front ++ behind → length front ≡ 5 + ES_info_length front → ⊥) (λ parts. (length parts.0.now ≡ 5 + ES_info_length parts.0.now) × (bytes.now ≡ parts.0.now ++ parts.1.now)) }
 {
