@@ -61,6 +61,7 @@ pub(crate) fn put_streams(into: &mut Section, streams: &[Stream])
 
 /// What is kept of one stream, and the number of its descriptors that aren't. None where descriptors don't fill the
 /// rest of the bytes, or the kept ones have no room.
+#[tactic(auto, using(crate::proofs::Elements::elements))]
 fn read_stream(bytes: &[u8]) -> Option<(Stream, u32)>
     requires small { length bytes.now ≤ 1024 }
     requires size { length bytes.now ≡ 5 + ES_info_length bytes.now }
