@@ -1,4 +1,4 @@
-ghost use Rattle.std.specs.Prelude.{◌≡◌, ℕ, ◌+◌, ◌*◌, ◌^◌, ◌<◌, ◌≤◌, List, length, ◌++◌, map, All, Some, IsSome, MatchOption};
+ghost use Rattle.std.specs.Prelude.{◌≡◌, ℕ, ◌+◌, ◌*◌, ◌^◌, ◌<◌, ◌≤◌, List, length, ◌++◌, map, All, Some, IsSome, IfSome, MatchOption};
 ghost use Rattle.std.specs.List.{sum_by, flat_map};
 ghost use Rattle.psi_tables.specs.Section.{IsRow};
 ghost use Rattle.psi_tables.specs.Descriptors.{count_dropped};
@@ -19,6 +19,7 @@ pub(crate) fn read_streams(bytes: &[u8]) -> Option<(ArrayVec<Stream, STREAMS_MOS
     requires { length bytes.now ≤ 1024 }
     ensures exact { (infos : List StreamInfo) → IsRow IsStreamInfo infos bytes.now → length infos ≤ 64 → All IsKeepable infos → result ≡ Some (record { items = map stream_of infos }, sum_by (λ info. count_dropped info.descriptors) infos) }
     ensures some { IsSome result → (infos : List StreamInfo) × IsRow IsStreamInfo infos bytes.now × (length infos ≤ 64) × All IsKeepable infos }
+    ensures few { IfSome result (λ read. read.1 ≤ length bytes.now) }
 {
     let mut streams = ArrayVec::new();
     let mut dropped = 0;
