@@ -1,13 +1,13 @@
 -- Rows of programs in a program association section.
-use Rattle.std.proofs.Common.{◌≡◌, ◌≢◌, ℕ, zero, suc, ◌+◌, ◌*◌, ◌%◌, ◌<◌, ◌≤◌, Bool, true, false, cond, List, [], ◌∷◌, ◌++◌, length, get_or, take, drop, refl, sym, ap, ap₂, subst, ◌∙◌, arith, length-append, length-take, length-drop}
+use Rattle.std.proofs.Common.{◌≡◌, ◌≢◌, ℕ, zero, suc, ◌+◌, ◌*◌, ◌/◌, ◌%◌, ◌<◌, ◌≤◌, Bool, true, false, cond, List, [], ◌∷◌, ◌++◌, length, get_or, take, drop, refl, sym, ap, ap₂, subst, ◌∙◌, arith, length-append, length-take, length-drop}
 use Rattle.std.specs.Prelude.{bit_and, ◌==◌, Option, Some, None}
 use Rattle.std.specs.List.{find}
 use Rattle.std.specs.Option.{option_map}
 use Rattle.std.proofs.lemmas.Bool.{ne_eqb, eq-eqb}
 use Rattle.std.proofs.lemmas.List.{get_or-take, get_or-drop, take-append-drop, nil_from_length}
 use Rattle.bit_lists.specs.Fields.{bits}
-use Rattle.psi_tables.specs.Section.{IsRow}
-use Rattle.psi_tables.specs.Pat.{IsProgram}
+use Rattle.psi_tables.specs.Section.{IsCurrent, IsWhole, IsRow, content}
+use Rattle.psi_tables.specs.Pat.{IsProgram, IsPat}
 use Rattle.psi_tables.proofs.Elements.{program_number-is, program_map_PID-is, and_31}
 use Rattle.psi_tables.proofs.Rows.{IsTold, IsUnderWay, IsRow-first, under_way_none, under_way_more, under_way_rest}
 
@@ -118,3 +118,15 @@ found_nowhere content rest number programs passed row short =
     nothing : (ys : List (ℕ × ℕ)) → IsRow IsProgram ys rest → find (λ p. p.0 == number) ys ≡ None
     nothing [] row = refl
     nothing (y ∷ ys) row = absurd (omega (arith, short, row.3.size, ap length row.2, length-append row.0 row.1))
+
+-- ---- whole sections
+
+-- a current section whose content is of whole programs is one of some programs
+pub pat_from : (bytes found : List ℕ) → IsCurrent 0 bytes → IsWhole bytes → found ≡ content bytes → length found % 4 ≡ 0 → (programs : List (ℕ × ℕ)) × IsPat programs bytes
+pat_from bytes found current whole found_is even =
+    let row = programs_of (length found / 4) found (omega (arith, even)) in
+    (row.0, record { current = current; whole = whole; programs_are = subst (IsRow IsProgram row.0) found_is row.1 })
+
+-- and one of any programs has such a content
+pub pat_fills : (programs : List (ℕ × ℕ)) (bytes found : List ℕ) → IsPat programs bytes → found ≡ content bytes → length found % 4 ≡ 0
+pat_fills programs bytes found is found_is = omega (arith, ap length found_is, length-programs programs (content bytes) is.programs_are)
