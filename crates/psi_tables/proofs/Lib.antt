@@ -4,6 +4,7 @@ pub mod Multiples
 pub mod Dividends
 pub mod RemainderTable
 pub mod CrcLaws
+pub mod WrittenPmt
 pub mod WrittenPat
 pub mod ProgramRows
 pub mod MapContents

@@ -7,7 +7,7 @@ use Rattle.psi_tables.proofs.pat.write_pat.Goals as goal
 
 pub put_crc-requires : goal.put_crc-requires
 put_crc-requires c =
-    omega (arith, c.requires.few, ap length c.put_programs.ensures.bytes, ap length c.put_header.ensures, length-append c.put_header.new.into.items (flat_map written_program c.args.programs.now), length-written_programs c.args.programs.now)
+    omega (arith, c.requires.few, ap length c.put_programs.ensures.bytes, ap length c.put_header.ensures.bytes, length-append c.put_header.new.into.items (flat_map written_program c.args.programs.now), length-written_programs c.args.programs.now)
 
 pub returns-clause-bytes : goal.returns-clause-bytes
 returns-clause-bytes c =
@@ -15,7 +15,7 @@ returns-clause-bytes c =
     let size : 5 + 4 * length programs + 4 ≡ 9 + 4 * length programs = omega arith in
     let front : c.put_programs.new.into.items ≡ written_pat c.args.stream_id programs =
     c.put_programs.ensures.bytes
-    ∙ ap (λ (header : List ℕ). header ++ flat_map written_program programs) (c.put_header.ensures ∙ ap (λ (n : ℕ). written_header 0 n c.args.stream_id) size) in
+    ∙ ap (λ (header : List ℕ). header ++ flat_map written_program programs) (c.put_header.ensures.bytes ∙ ap (λ (n : ℕ). written_header 0 n c.args.stream_id) size) in
     subst (λ (bytes : List ℕ). IsWithCrc bytes c.put_crc.new.into.items) front c.put_crc.ensures.bytes
 
 pub returns-clause-pat : goal.returns-clause-pat
