@@ -1,11 +1,10 @@
 -- What is written as a program association section is one.
-use Rattle.std.proofs.Common.{◌≡◌, ℕ, zero, suc, ◌+◌, ◌-◌, ◌*◌, ◌/◌, ◌%◌, ◌^◌, ◌<◌, ◌≤◌, List, [], ◌∷◌, ◌++◌, All, length, get_or, take, drop, refl, sym, ap, ap₂, subst, ◌∙◌, arith, length-append, append_assoc}
+use Rattle.std.proofs.Common.{◌≡◌, ℕ, ◌+◌, ◌-◌, ◌*◌, ◌^◌, ◌<◌, ◌≤◌, List, [], ◌∷◌, ◌++◌, All, length, get_or, take, drop, refl, sym, ap, ap₂, subst, ◌∙◌, arith, length-append, append_assoc}
 use Rattle.std.specs.List.{flat_map}
-use Rattle.std.specs.Int.{w16, w32, to_be_bytes}
+use Rattle.std.specs.Int.{w32, to_be_bytes}
 use Rattle.std.proofs.lemmas.List.{take_at}
 use Rattle.std.proofs.lemmas.List.Elements.{All-head, All-tail}
-use Rattle.bit_lists.specs.Fields.{bits}
-use Rattle.psi_tables.specs.Section.{table_id, section_length, table_id_extension, IsCurrent, IsWhole, IsRow, content, IsWithCrc, written_header, written_pid}
+use Rattle.psi_tables.specs.Section.{section_length, table_id_extension, IsCurrent, IsWhole, IsRow, content, IsWithCrc, written_header}
 use Rattle.psi_tables.specs.Pat.{IsProgram, IsPat, written_program, written_pat}
 use Rattle.psi_tables.proofs.Elements.{table_id-is, section_length-is, table_id_extension-is, current_next_indicator-is, program_number-is, program_map_PID-is}
 

@@ -1,5 +1,5 @@
 -- What is written as a program map section is one.
-use Rattle.std.proofs.Common.{◌≡◌, ℕ, ◌+◌, ◌-◌, ◌*◌, ◌/◌, ◌%◌, ◌^◌, ◌<◌, ◌≤◌, Bool, true, cond, List, [], ◌∷◌, ◌++◌, All, length, get_or, take, drop, map, refl, sym, ap, ap₂, subst, ◌∙◌, arith, length-append}
+use Rattle.std.proofs.Common.{◌≡◌, ℕ, ◌+◌, ◌*◌, ◌^◌, ◌<◌, ◌≤◌, Bool, true, cond, List, [], ◌∷◌, ◌++◌, All, length, get_or, take, drop, map, refl, sym, ap, ap₂, subst, ◌∙◌, arith, length-append}
 use Rattle.std.specs.Prelude.{not}
 use Rattle.std.specs.List.{flat_map, sum_by, AllPass, filter, concat}
 use Rattle.std.proofs.lemmas.List.Elements.{All-head, All-tail}
@@ -7,9 +7,9 @@ use Rattle.std.proofs.lemmas.List.Folds.{length-flat_map-take}
 use Rattle.std.proofs.lemmas.List.Sums.{sum_by-cons}
 use Rattle.psi_tables.specs.declared.stream.Stream.{Stream}
 use Rattle.psi_tables.specs.declared.program_map.ProgramMap.{ProgramMap}
-use Rattle.psi_tables.specs.Section.{IsRow, content, IsWithCrc, written_header, written_pid, written_length}
+use Rattle.psi_tables.specs.Section.{IsRow, IsWithCrc, written_header, written_pid, written_length}
 use Rattle.psi_tables.specs.Descriptors.{IsDescriptor, is_kept, kept_bytes, count_dropped}
-use Rattle.psi_tables.specs.ProgramMap.{StreamInfo, ES_info_length, PCR_PID, program_info_length, IsStreamInfo, stream_of, IsMapContent, IsPmt, HasRoom, IsStreamWritable, IsWritable, written_stream, written_streams, written_pmt, without_dropped}
+use Rattle.psi_tables.specs.ProgramMap.{StreamInfo, PCR_PID, program_info_length, IsStreamInfo, stream_of, IsMapContent, IsPmt, HasRoom, IsStreamWritable, IsWritable, written_stream, written_streams, written_pmt, without_dropped}
 use Rattle.psi_tables.proofs.Elements.{descriptor_tag-is, elementary_PID-is, ES_info_length-is, PCR_PID-is, program_info_length-is}
 use Rattle.psi_tables.proofs.MapContents.{IsCut, content_says}
 use Rattle.psi_tables.proofs.WrittenPat.{section_says}

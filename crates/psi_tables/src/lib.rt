@@ -21,3 +21,6 @@ pub use pmt::{PACKET_SECTION_BYTES, read_pmt, write_pmt};
 pub use program_map::ProgramMap;
 pub use section::{SECTION_BYTES, Section, SectionFault};
 pub use stream::{DESCRIPTOR_BYTES, STREAMS_MOST, Stream};
+
+#[cfg(test)]
+mod tests;

@@ -57,7 +57,7 @@ pub fn write_pmt(map: &ProgramMap, into: &mut Section) -> Result<(), SectionFaul
     ensures map { OnOk result (IsPmt (without_dropped map.now) into.new.items) }
     ensures room { OnOk result (HasRoom map.now) }
     ensures crc { OnOk result (HasRightCrc into.new.items) }
-    ensures long { (result ≡ Err SectionFault.TooLong) ↔ (PACKET_SECTION_BYTES < pmt_length map.now) }
+    ensures long { (result ≡ Err SectionFault.TooLong) ↔ (183 < pmt_length map.now) }
     ensures err { IfErr result (λ fault. (fault ≡ SectionFault.TooLong) × (into.new ≡ into.old)) }
 {
     let streams = streams_length(map.streams.as_slice());

@@ -1,4 +1,4 @@
-use Rattle.std.proofs.Common.{List, ℕ, take, drop, length, length-drop, sym, ap, ◌∙◌, arith}
+use Rattle.std.proofs.Common.{sym, ◌∙◌, arith}
 use Rattle.psi_tables.proofs.ProgramRows.{passed_none, passed_more, found_there, found_nowhere}
 use Rattle.psi_tables.proofs.pat.find_pid.Goals as goal
 

@@ -1,5 +1,5 @@
 use Rattle.std.proofs.Common.{length}
-use Rattle.psi_tables.proofs.ProgramRows.{HasPassed, passed_none, passed_more, found_there, found_nowhere}
+use Rattle.psi_tables.proofs.ProgramRows.{HasPassed}
 use Rattle.psi_tables.proofs.pat.find_pid.Given as goal
 
 abbrev pub invariant-loop-high : goal.invariant-loop-high

@@ -1,9 +1,9 @@
-use Rattle.std.proofs.Common.{◌≡◌, ℕ, ◌<◌, ◌^◌, ◌++◌, List, length, get_or, take, sym, ap, ◌∙◌, arith, length-append, length-take}
+use Rattle.std.proofs.Common.{ℕ, ◌<◌, ◌^◌, ◌++◌, List, length, get_or, take, sym, ap, ◌∙◌, arith, length-append, length-take}
 use Rattle.std.specs.List.{flat_map}
 use Rattle.std.proofs.lemmas.List.{flat_map_more, take_more}
 use Rattle.std.proofs.lemmas.List.Elements.{All-more}
 use Rattle.psi_tables.specs.Pat.{written_program}
-use Rattle.psi_tables.proofs.WrittenPat.{length-written_programs, written_pat_is}
+use Rattle.psi_tables.proofs.WrittenPat.{length-written_programs}
 use Rattle.psi_tables.proofs.pat.put_programs.Goals as goal
 
 pub put_program-requires-clause-room : goal.put_program-requires-clause-room

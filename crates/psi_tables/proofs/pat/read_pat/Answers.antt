@@ -1,4 +1,4 @@
-use Rattle.std.proofs.Common.{◌≡◌, ℕ, List, ap, subst, ◌∙◌}
+use Rattle.std.proofs.Common.{◌≡◌, ap, subst, ◌∙◌}
 use Rattle.psi_tables.specs.Section.{IsWhole, content}
 use Rattle.psi_tables.proofs.ProgramRows.{pat_from, pat_fills}
 use Rattle.psi_tables.proofs.pat.read_pat.Goals as goal

@@ -1,4 +1,4 @@
-use Rattle.std.proofs.Common.{◌≡◌, ◌+◌, List, ℕ, Some, length, map, take, drop, refl, sym, ap, subst, ◌∙◌, arith}
+use Rattle.std.proofs.Common.{◌≡◌, ◌+◌, List, ℕ, Some, length, map, refl, sym, ap, subst, arith}
 use Rattle.std.proofs.lemmas.List.{length-take, length-drop}
 use Rattle.std.specs.Prelude.{Option}
 use Rattle.std.specs.Option.{unwrap_or}
@@ -8,8 +8,8 @@ use Rattle.psi_tables.specs.declared.program_map.ProgramMap.{ProgramMap}
 use Rattle.psi_tables.specs.declared.stream.Stream.{Stream}
 use Rattle.psi_tables.specs.Section.{IsRow}
 use Rattle.psi_tables.specs.Descriptors.{count_dropped}
-use Rattle.psi_tables.specs.ProgramMap.{IsStreamInfo, stream_of, IsMapContent}
-use Rattle.psi_tables.proofs.MapContents.{keepable_from, room_from, IsCut, cut_at, pcr_at, content_says, one_map}
+use Rattle.psi_tables.specs.ProgramMap.{IsStreamInfo, stream_of}
+use Rattle.psi_tables.proofs.MapContents.{keepable_from, room_from, cut_at, pcr_at, content_says, one_map}
 use Rattle.psi_tables.proofs.StreamRows.{same_pair}
 use Rattle.psi_tables.proofs.pmt.read_map.Goals as goal
 

@@ -1,4 +1,4 @@
-use Rattle.std.proofs.Common.{◌≡◌, ◌+◌, ◌*◌, ◌++◌, ◌%◌, List, ℕ, length, take, drop, get_or, subst, sym, ap₂, ◌∙◌, arith}
+use Rattle.std.proofs.Common.{◌≡◌, ◌+◌, ◌++◌, List, ℕ, length, get_or, subst, sym, ap₂, ◌∙◌, arith}
 use Rattle.std.proofs.lemmas.List.{take-append-drop}
 use Rattle.psi_tables.specs.ProgramMap.{ES_info_length}
 use Rattle.psi_tables.proofs.Elements.{and_15}
