@@ -2,4 +2,5 @@ pub mod Crc
 pub mod Section
 pub mod Pat
 pub mod Descriptors
-pub mod ProgramMap
+pub mod Streams
+pub mod Pmt

@@ -1,6 +1,7 @@
 ghost use Rattle.std.specs.Prelude.{◌≡◌, ℕ, ◌+◌, ◌*◌, ◌^◌, ◌<◌, ◌≤◌, true, length, IfOk};
 ghost use Rattle.psi_tables.specs.Descriptors.{is_tag_kept};
-ghost use Rattle.psi_tables.specs.ProgramMap.{IsStreamWritable, IsWritable};
+ghost use Rattle.psi_tables.specs.Streams.{IsStreamWritable};
+ghost use Rattle.psi_tables.specs.Pmt.{IsWritable};
 
 use super::*;
 use arrayvec::{ArrayVec, CapacityError};
