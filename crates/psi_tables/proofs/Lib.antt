@@ -1,0 +1,14 @@
+mod Examples
+pub mod Xor
+pub mod Multiples
+pub mod Dividends
+pub mod RemainderTable
+pub mod CrcLaws
+pub mod WrittenPmt
+pub mod WrittenPat
+pub mod ProgramRows
+pub mod MapContents
+pub mod StreamRows
+pub mod DescriptorRows
+pub mod Rows
+pub mod Elements
