@@ -1,1 +1,5 @@
 pub mod Crc
+pub mod Section
+pub mod SectionBuilder
+pub mod SectionFront
+pub mod Sections

@@ -8,6 +8,12 @@
 mod crc;
 mod crc_table;
 mod section;
+mod section_builder;
+mod section_front;
 
 pub use crc::crc32;
 pub use section::{SECTION_BYTES, Section, SectionFault};
+pub use section_builder::{MOST_PAYLOAD_BYTES, SectionBuilder};
+
+#[cfg(test)]
+mod section_tests;

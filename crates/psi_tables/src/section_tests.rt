@@ -1,0 +1,14 @@
+//! Sections from payloads, with expected values by hand.
+
+use crate::{Section, SectionBuilder, SectionFault};
+use std::test::Fail;
+
+#[test]
+fn a_pat_in_one_payload(rt: HostRuntime) -> Result<(), Fail> {
+    let mut builder = SectionBuilder::new();
+    builder.feed(true, &[0, 0x00, 0xB0, 0x0D, 0x00, 0x01, 0xC1, 0x00, 0x00, 0x00, 0x01, 0xE1, 0x00, 0xE8, 0xF9, 0x5E, 0x7D, 0xFF, 0xFF]);
+    let found = builder.pull();
+    assert!(rt; matches!(&found, Some(Ok(section)) if section.as_slice() == [0x00, 0xB0, 0x0D, 0x00, 0x01, 0xC1, 0x00, 0x00, 0x00, 0x01, 0xE1, 0x00, 0xE8, 0xF9, 0x5E, 0x7D].as_slice()));
+    assert!(rt; builder.pull().is_none());
+    Ok(())
+}
