@@ -28,7 +28,7 @@ pub record IsSound (front : SectionFront) : Type 0 where
 -- Bytes of a section so far: they don't begin with stuffing, and reach no further than the section.
 pub record IsFront (bytes : List ℕ) : Type 0 where
   pub no_stuffing : slice_index bytes 0 ≢ stuffing_byte
-  pub ends : is_settled bytes ≡ true → is_bad bytes ≡ false → length bytes ≡ section_size bytes
+  pub within : length bytes ≤ section_size bytes
 
 -- the same section as far as anything is found of it
 pub record IsLike (bytes others : List ℕ) : Type 0 where
@@ -41,7 +41,7 @@ pub record TakesIn (before bytes : List ℕ) (n : ℕ) (now : List ℕ) : Type 0
   pub bound : n ≤ length bytes
   pub like : IsLike now (before ++ take n bytes)
   pub all : is_settled now ≡ false → n ≡ length bytes
-  pub ends : is_settled now ≡ true → is_bad now ≡ false → length now ≡ section_size now
+  pub within : length now ≤ section_size now
 
 -- what a builder holds: a section so far, or a whole one that is read
 pub record IsHeld (front : SectionFront) : Type 0 where

@@ -1,0 +1,1 @@
+use Rattle.psi_tables.proofs.Steps.{takes_in}
