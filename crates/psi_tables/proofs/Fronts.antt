@@ -216,3 +216,32 @@ found_from-like a b behind next like within =
     by_heads [] b like within header passed = absurd (omega (arith, like.size, header))
     by_heads (byte ∷ us) [] like within header passed = absurd (omega (arith, header))
     by_heads (byte ∷ us) (other ∷ vs) like within header passed = both-other byte us other vs behind next like header passed within
+
+-- ---- a length that isn't bad
+
+or-none : (x y : Bool) → x || y ≡ false → y ≡ false
+or-none true y is = cc
+or-none false y is = is
+
+pub good-size : (a : List ℕ) → is_bad a ≡ false → is_read a ≡ true → section_size a ≤ 1024
+good-size a good read = omega (arith, ltb-false 1021 (section_length a) (or-none _ _ (bad-length (is_read a) (has_bad_length a) good read)))
+
+-- ---- what is found of a settled section that is read
+
+pub found_at-bad : (a : List ℕ) → is_settled a ≡ true → is_bad a ≡ true → found_at a ≡ Err BadSection ∷ []
+found_at-bad a settled bad =
+    by_tests (nat_lt (length a) 3) (is_read a) (has_bad_length a) _ (le-ltb (length a) 3 (settled-header a settled)) bad
+  where
+    by_tests : (short read bad : Bool) (whole : List Found) → short ≡ false → read && bad ≡ true → cond (short || not read) [] (cond bad (Err BadSection ∷ []) whole) ≡ Err BadSection ∷ []
+    by_tests true read bad whole header is = cc
+    by_tests false false bad whole header is = cc
+    by_tests false true true whole header is = refl
+    by_tests false true false whole header is = cc
+
+pub found_at-whole : (a : List ℕ) → is_settled a ≡ true → is_bad a ≡ false → is_read a ≡ true → length a ≤ section_size a → found_at a ≡ checked a ∷ []
+found_at-whole a settled good read within =
+    let whole : take (section_size a) a ≡ a = take_all (section_size a) a within in
+    by_tests (nat_lt (length a) 3) (is_read a) (has_bad_length a) (nat_lt (length a) (section_size a)) (checked (take (section_size a) a) ∷ []) (le-ltb (length a) 3 (settled-header a settled)) read (bad-length (is_read a) (has_bad_length a) good read) (le-ltb (length a) (section_size a) (settled-size a settled good)) ∙ ap (λ (section : List ℕ). checked section ∷ []) whole
+  where
+    by_tests : (short read bad more : Bool) (all : List Found) → short ≡ false → read ≡ true → bad ≡ false → more ≡ false → pick short read bad more all ≡ all
+    by_tests short read bad more all header is_read good there = rw (header, is_read, good, there) refl

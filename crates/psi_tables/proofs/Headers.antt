@@ -1,5 +1,7 @@
 -- The header of a section, of which only the first three bytes are looked at.
-use Rattle.std.proofs.Common.{◌≡◌, ℕ, ◌+◌, ◌*◌, ◌%◌, ◌<◌, ◌≤◌, List, ◌++◌, length, get_or, take, refl, sym, ap, ◌∙◌, arith}
+use Rattle.std.proofs.Common.{◌≡◌, ℕ, ◌+◌, ◌*◌, ◌%◌, ◌^◌, ◌<◌, ◌≤◌, List, ◌++◌, length, get_or, take, drop, refl, sym, ap, ◌∙◌, arith}
+use Rattle.std.specs.Prelude.{bit_and}
+use Rattle.std.proofs.lemmas.Nat.{and_mask}
 use Rattle.std.proofs.lemmas.List.{take-append-le}
 use Rattle.std.proofs.lemmas.Grind.{common_steps}
 use Rattle.bit_lists.proofs.FieldLemmas.{bits-byte, bits-add}
@@ -32,3 +34,13 @@ table_id-append a x whole = table_id-same (a ++ x) a (header-append a x whole)
 
 pub section_length-append : (a x : List ℕ) → 3 ≤ length a → section_length (a ++ x) ≡ section_length a
 section_length-append a x whole = section_length-same (a ++ x) a (header-append a x whole)
+
+-- ---- as the code looks at it
+
+pub and_15 : (n : ℕ) → bit_and n 15 ≡ n % 16
+and_15 n = and_mask n 4
+
+pub section_length-below : (bytes : List ℕ) → section_length bytes < 2 ^ 12
+section_length-below bytes = omega (arith, section_length-is bytes)
+
+pub ruleset elements = (table_id-is, section_length-is, and_15)

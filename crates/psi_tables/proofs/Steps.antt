@@ -122,3 +122,9 @@ takes_in a bytes h b k now unsettled bound is all header more like =
     from_a : (m : ℕ) → b ≡ a ++ take m bytes → (0 < m → length b ≤ 3) → length b ≤ section_size b
     from_a zero same few = let is_a : b ≡ a = same ∙ append-nil a in subst (λ (c : List ℕ). length c ≤ section_size c) (sym is_a) (omega (arith, unsettled-size a unsettled))
     from_a (suc m) same few = omega (arith, few (omega arith))
+
+-- no bytes behind it change nothing
+pub like-none : (b x : List ℕ) → x ≡ [] → IsLike b (b ++ x)
+like-none b x none =
+    let is : b ++ x ≡ b = ap (λ (bs : List ℕ). b ++ bs) none ∙ append-nil b in
+    record { size = ap length (sym is); header = ap (λ (bs : List ℕ). take 3 bs) (sym is); read = λ _. sym is }

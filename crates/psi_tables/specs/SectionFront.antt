@@ -1,5 +1,5 @@
 -- The bytes of a section so far. No public clause cites these words: they say how a builder keeps what it has taken.
-use Rattle.std.specs.Prelude.{◌≡◌, ◌≢◌, ℕ, ◌+◌, ◌-◌, ◌<◌, ◌≤◌, nat_lt, nat_le, Bool, true, false, ◌&&◌, ◌||◌, List, [], ◌∷◌, ◌++◌, length, take, drop, replicate, slice_index, if◌then◌else◌}
+use Rattle.std.specs.Prelude.{◌≡◌, ◌≢◌, ℕ, ◌+◌, ◌-◌, ◌^◌, ◌<◌, ◌≤◌, nat_lt, nat_le, Bool, true, false, ◌&&◌, ◌||◌, List, [], ◌∷◌, ◌++◌, length, take, drop, replicate, slice_index, if◌then◌else◌}
 use Rattle.psi_tables.specs.declared.section_front.SectionFront.{SectionFront}
 use Rattle.psi_tables.specs.Sections.{Payload, Found, length_end, stuffing_byte, is_read, has_bad_length, section_size, found_from}
 
@@ -24,6 +24,7 @@ pub record IsSound (front : SectionFront) : Type 0 where
   pub kept : length_end < length front.section.items → is_read front.section.items ≡ true
   pub passed : 0 < front.passed → (length_end ≡ length front.section.items) × (is_read front.section.items ≡ false)
   pub size : length front.section.items ≤ 1024
+  pub count : front.passed < 2 ^ 12
 
 -- Bytes of a section so far: they don't begin with stuffing, and reach no further than the section.
 pub record IsFront (bytes : List ℕ) : Type 0 where

@@ -1,4 +1,4 @@
-ghost use Rattle.std.specs.Prelude.{◌≡◌, ℕ, true, false, ◌+◌, ◌<◌, ◌≤◌, ◌++◌, [], ◌∷◌, length, take, not, ◌&&◌, Ok, Err, MatchOption};
+ghost use Rattle.std.specs.Prelude.{◌≡◌, ℕ, true, false, ◌+◌, ◌^◌, ◌<◌, ◌≤◌, nat_le, ◌++◌, [], ◌∷◌, length, take, not, ◌&&◌, Ok, Err, MatchOption};
 ghost use Rattle.psi_tables.specs.Section.{section_length};
 ghost use Rattle.psi_tables.specs.Sections.{length_end, is_read, has_bad_length, section_size, found_at};
 ghost use Rattle.psi_tables.specs.SectionFront.{front_bytes, is_settled, is_bad, missing_bytes, IsSound, IsHeld, IsLike, TakesIn, GoesOn, ReadsOn};
@@ -91,11 +91,12 @@ impl SectionFront {
     }
 
     /// True where nothing more belongs to the section: its length is bad, or all its bytes are there.
+    #[tactic(auto, using(crate::proofs::Bytes::fronts))]
     pub fn is_settled(&self) -> bool
         requires { IsSound self.now }
         ensures { result ≡ is_settled (front_bytes self.now) }
     {
-        self.has_header() && (self.has_bad_length() || self.size() <= self.len())
+        self.has_header() && (self.is_bad() || self.size() <= self.len())
     }
 
     /// What is wrong with a settled section that is read.
@@ -105,7 +106,7 @@ impl SectionFront {
         ensures { MatchOption result (found_at (front_bytes self.now) ≡ Ok self.now.section.items ∷ [])
             (λ fault. found_at (front_bytes self.now) ≡ Err fault ∷ []) }
     {
-        if self.has_bad_length() {
+        if self.is_bad() {
             return Some(SectionFault::BadSection);
         }
         if crc32(&self.section) != 0 {
@@ -130,7 +131,15 @@ impl SectionFront {
     }
 
     /// Takes bytes of the header, and gives their number.
-    fn take_header(&mut self, bytes: &[u8]) -> usize {
+    #[tactic(auto, using(crate::proofs::Bytes::fronts))]
+    fn take_header(&mut self, bytes: &[u8]) -> usize
+        requires { IsSound self.old }
+        ensures bound { result ≤ length bytes.now }
+        ensures bytes { front_bytes self.new ≡ front_bytes self.old ++ take result bytes.now }
+        ensures sound { IsSound self.new }
+        ensures all { length (front_bytes self.new) < length_end → result ≡ length bytes.now }
+        ensures no_more { 0 < result → length (front_bytes self.new) ≤ length_end }
+    {
         if self.has_header() {
             return 0;
         }
@@ -140,7 +149,15 @@ impl SectionFront {
     }
 
     /// Adds bytes behind the header.
-    fn add(&mut self, bytes: &[u8]) {
+    #[tactic(auto, using(crate::proofs::Bytes::fronts))]
+    fn add(&mut self, bytes: &[u8])
+        requires sound { IsSound self.old }
+        requires header { length_end ≤ length (front_bytes self.old) }
+        requires good { is_bad (front_bytes self.old) ≡ false }
+        requires room { length (front_bytes self.old) + length bytes.now ≤ section_size (front_bytes self.old) }
+        ensures like { IsLike (front_bytes self.new) (front_bytes self.old ++ bytes.now) }
+        ensures sound { IsSound self.new }
+    {
         if is_read(&self.section) {
             let _fits = self.section.try_extend_from_slice(bytes);
         } else {
@@ -149,17 +166,19 @@ impl SectionFront {
     }
 
     /// How many bytes are still to come, as far as the header says.
+    #[tactic(auto, using(crate::proofs::Bytes::fronts))]
     fn missing(&self) -> usize
         requires { IsSound self.now }
         ensures { result ≡ missing_bytes (front_bytes self.now) }
     {
-        if !self.has_header() || self.has_bad_length() {
+        if !self.has_header() || self.is_bad() {
             return 0;
         }
         self.size().saturating_sub(self.len())
     }
 
     /// True where the section is of another table and all its bytes are there.
+    #[tactic(auto, using(crate::proofs::Bytes::fronts))]
     fn is_passed_over(&self) -> bool
         requires { IsSound self.now }
         ensures { result ≡ (is_settled (front_bytes self.now) && not (is_read (front_bytes self.now))) }
@@ -168,37 +187,62 @@ impl SectionFront {
     }
 
     /// True where the header's bytes up to `section_length` are there.
-    fn has_header(&self) -> bool {
+    fn has_header(&self) -> bool
+        requires { IsSound self.now }
+        ensures value { result ≡ nat_le length_end (length (front_bytes self.now)) }
+        ensures kept { result ≡ nat_le length_end (length self.now.section.items) }
+    {
         LENGTH_END <= self.section.len()
     }
 
-    fn len(&self) -> usize {
+    fn len(&self) -> usize
+        requires { IsSound self.now }
+        ensures { result ≡ length (front_bytes self.now) }
+    {
         self.section.len() + self.passed
     }
 
-    fn size(&self) -> usize {
+    #[tactic(auto, using(crate::proofs::Bytes::fronts))]
+    fn size(&self) -> usize
+        requires { length_end ≤ length self.now.section.items }
+        ensures { result ≡ section_size (front_bytes self.now) }
+    {
         LENGTH_END + section_length(&self.section)
     }
 
-    fn has_bad_length(&self) -> bool {
-        let size = section_length(&self.section);
-        is_read(&self.section) && !(LEAST_LENGTH..=GREATEST_LENGTH).contains(&size)
+    #[tactic(auto, using(crate::proofs::Bytes::fronts))]
+    fn is_bad(&self) -> bool
+        requires { length_end ≤ length self.now.section.items }
+        ensures { result ≡ is_bad (front_bytes self.now) }
+    {
+        is_read(&self.section) && has_bad_length(&self.section)
     }
-
 }
 
 /// True where the section is of a table that is read.
+#[tactic(auto, using(crate::proofs::Headers::elements))]
 fn is_read(section: &[u8]) -> bool
-    requires { 0 < length section.now }
+    requires { length_end ≤ length section.now }
     ensures { result ≡ is_read section.now }
 {
     section[0] == PAT_TABLE_ID || section[0] == PMT_TABLE_ID
 }
 
+/// True where the section is shorter or longer than a PAT or PMT section may be.
+fn has_bad_length(section: &[u8]) -> bool
+    requires { length_end ≤ length section.now }
+    ensures { result ≡ has_bad_length section.now }
+{
+    let length = section_length(section);
+    length < LEAST_LENGTH || GREATEST_LENGTH < length
+}
+
 /// `section_length`.
+#[tactic(auto, using(crate::proofs::Headers::elements))]
 fn section_length(section: &[u8]) -> usize
     requires { length_end ≤ length section.now }
-    ensures { result ≡ section_length section.now }
+    ensures value { result ≡ section_length section.now }
+    ensures bound { result < 2 ^ 12 }
 {
     u16::from_be_bytes([section[1] & LENGTH_HIGH, section[2]]) as usize
 }

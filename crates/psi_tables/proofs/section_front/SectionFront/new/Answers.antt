@@ -1,1 +1,0 @@
-use Rattle.psi_tables.proofs.Steps.{takes_in}
