@@ -1,18 +1,10 @@
 -- The header of a section, of which only the first three bytes are looked at.
 use Rattle.std.proofs.Common.{◌≡◌, ℕ, ◌+◌, ◌*◌, ◌%◌, ◌^◌, ◌<◌, ◌≤◌, List, ◌++◌, length, get_or, take, drop, refl, sym, ap, ◌∙◌, arith}
-use Rattle.std.specs.Prelude.{bit_and}
-use Rattle.std.proofs.lemmas.Nat.{and_mask}
 use Rattle.std.proofs.lemmas.List.{take-append-le}
 use Rattle.std.proofs.lemmas.Grind.{common_steps}
-use Rattle.bit_lists.proofs.FieldLemmas.{bits-byte, bits-add}
+use Rattle.psi_tables.proofs.Elements.{table_id-is, section_length-is}
 use Rattle.psi_tables.specs.Section.{table_id, section_length}
 use Rattle.psi_tables.specs.Sections.{is_read, has_bad_length, section_size}
-
-pub table_id-is : (bytes : List ℕ) → table_id bytes ≡ get_or bytes 0 0 % 256
-table_id-is bytes = omega (arith, bits-byte bytes 0 8 0 0 0 refl refl)
-
-pub section_length-is : (bytes : List ℕ) → section_length bytes ≡ get_or bytes 1 0 % 16 * 256 + get_or bytes 2 0 % 256
-section_length-is bytes = omega (arith, bits-add bytes 12 4 8, bits-byte bytes 12 4 1 4 0 refl refl, bits-byte bytes 16 8 2 0 0 refl refl)
 
 pub get_or-header : (a b : List ℕ) (k : ℕ) → k < 3 → take 3 a ≡ take 3 b → get_or a k 0 ≡ get_or b k 0
 get_or-header a b k below same = grind (arith, common_steps)
@@ -37,10 +29,5 @@ section_length-append a x whole = section_length-same (a ++ x) a (header-append 
 
 -- ---- as the code looks at it
 
-pub and_15 : (n : ℕ) → bit_and n 15 ≡ n % 16
-and_15 n = and_mask n 4
-
 pub section_length-below : (bytes : List ℕ) → section_length bytes < 2 ^ 12
 section_length-below bytes = omega (arith, section_length-is bytes)
-
-pub ruleset elements = (table_id-is, section_length-is, and_15)

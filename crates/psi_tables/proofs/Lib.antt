@@ -4,3 +4,12 @@ pub mod Headers
 pub mod Held
 pub mod Reading
 pub mod Steps
+mod Examples
+pub mod Xor
+pub mod Multiples
+pub mod Dividends
+pub mod RemainderTable
+pub mod CrcLaws
+pub mod DescriptorRows
+pub mod Rows
+pub mod Elements

@@ -1,7 +1,7 @@
-ghost use Rattle.std.specs.Prelude.{◌≡◌, ℕ, ◌↔◌};
+ghost use Rattle.std.specs.Prelude.{◌≡◌, ℕ, ◌↔◌, List, [], ◌∷◌, ◌++◌};
 ghost use Rattle.psi_tables.specs.Crc.{IsCrcOf, HasRightCrc};
 
-use crate::crc_table::REMAINDERS;
+use crate::remainders::remainder_of;
 
 /// The CRC_32 of the bytes (ISO/IEC 13818-1, Annex A): the remainder that their bits, the first 32 inverted, leave
 /// after 32 more zero bits. Of a section that ends with its CRC_32 it is 0.
@@ -18,7 +18,9 @@ pub fn crc32(bytes: &[u8]) -> u32
 }
 
 /// The CRC with one more byte behind.
-fn with_byte(crc: u32, byte: u8) -> u32 {
-    let first = (crc >> 24) ^ byte as u32;
-    ((crc & 0xFF_FFFF) << 8) ^ REMAINDERS[first as usize]
+fn with_byte(crc: u32, byte: u8) -> u32
+    ensures { (bytes : List ℕ) → IsCrcOf crc bytes → IsCrcOf result (bytes ++ byte ∷ []) }
+{
+    let first = (crc >> 24) as u8 ^ byte;
+    ((crc & 0xFF_FFFF) << 8) ^ remainder_of(first)
 }

@@ -220,7 +220,7 @@ impl SectionFront {
 }
 
 /// True where the section is of a table that is read.
-#[tactic(auto, using(crate::proofs::Headers::elements))]
+#[tactic(auto, using(crate::proofs::Elements::elements))]
 fn is_read(section: &[u8]) -> bool
     requires { length_end ≤ length section.now }
     ensures { result ≡ is_read section.now }
@@ -238,7 +238,7 @@ fn has_bad_length(section: &[u8]) -> bool
 }
 
 /// `section_length`.
-#[tactic(auto, using(crate::proofs::Headers::elements))]
+#[tactic(auto, using(crate::proofs::Elements::elements))]
 fn section_length(section: &[u8]) -> usize
     requires { length_end ≤ length section.now }
     ensures value { result ≡ section_length section.now }

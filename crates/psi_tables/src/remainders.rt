@@ -1,5 +1,9 @@
-/// For each byte the remainder that it leaves, followed by 32 zero bits, by the polynomial of `crc32`.
-pub static REMAINDERS: [u32; 256] = [
+ghost use Rattle.std.specs.Prelude.{◌++◌, replicate};
+ghost use Rattle.bit_lists.specs.Fields.{bits_of_byte};
+ghost use Rattle.psi_tables.specs.Crc.{IsRemainder};
+
+/// For each byte the remainder that it leaves, followed by 32 zero bits, by the polynomial of the CRC.
+static REMAINDERS: [u32; 256] = [
     0x00000000, 0x04C11DB7, 0x09823B6E, 0x0D4326D9, 0x130476DC, 0x17C56B6B, 0x1A864DB2, 0x1E475005,
     0x2608EDB8, 0x22C9F00F, 0x2F8AD6D6, 0x2B4BCB61, 0x350C9B64, 0x31CD86D3, 0x3C8EA00A, 0x384FBDBD,
     0x4C11DB70, 0x48D0C6C7, 0x4593E01E, 0x4152FDA9, 0x5F15ADAC, 0x5BD4B01B, 0x569796C2, 0x52568B75,
@@ -33,3 +37,10 @@ pub static REMAINDERS: [u32; 256] = [
     0x89B8FD09, 0x8D79E0BE, 0x803AC667, 0x84FBDBD0, 0x9ABC8BD5, 0x9E7D9662, 0x933EB0BB, 0x97FFAD0C,
     0xAFB010B1, 0xAB710D06, 0xA6322BDF, 0xA2F33668, 0xBCB4666D, 0xB8757BDA, 0xB5365D03, 0xB1F740B4,
 ];
+
+/// The remainder that the byte leaves, followed by 32 zero bits, by the polynomial of the CRC.
+pub(crate) fn remainder_of(byte: u8) -> u32
+    ensures { IsRemainder result (bits_of_byte byte ++ replicate 32 0) }
+{
+    REMAINDERS[byte as usize]
+}
