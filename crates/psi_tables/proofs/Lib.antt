@@ -1,4 +1,5 @@
 pub mod Bytes
+pub mod CrcDivision
 pub mod Fronts
 pub mod Headers
 pub mod Held

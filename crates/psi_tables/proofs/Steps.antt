@@ -1,6 +1,6 @@
 -- What is held of a section, before and behind bytes that are taken.
 use Rattle.std.proofs.Common.{◌≡◌, ℕ, zero, suc, ◌+◌, ◌-◌, ◌<◌, ◌≤◌, ◌≢◌, Bool, true, false, cond, List, [], ◌∷◌, ◌++◌, length, get_or, take, drop, Ok, Err, refl, sym, ap, ◌∙◌, subst, append_assoc, arith, length-append, length-drop, ⊎_elim}
-use Rattle.std.specs.Prelude.{slice_index, min, ◌&&◌, ◌||◌, nat_lt}
+use Rattle.std.specs.Prelude.{slice_index, min, not, ◌&&◌, ◌||◌, nat_lt}
 use Rattle.std.proofs.lemmas.List.{append-nil, take-append-drop, take_all, get_or-take, length-take-le}
 use Rattle.std.proofs.Math.Seq.{take-add}
 use Rattle.std.proofs.lemmas.Bool.{cases_lt, le-ltb}
@@ -128,3 +128,15 @@ pub like-none : (b x : List ℕ) → x ≡ [] → IsLike b (b ++ x)
 like-none b x none =
     let is : b ++ x ≡ b = ap (λ (bs : List ℕ). b ++ bs) none ∙ append-nil b in
     record { size = ap length (sym is); header = ap (λ (bs : List ℕ). take 3 bs) (sym is); read = λ _. sym is }
+
+-- ---- tests of the code
+
+pub passed-over : (settled read : Bool) → settled && not read ≡ true → (settled ≡ true) × (read ≡ false)
+passed-over true true is = cc
+passed-over true false is = (refl, refl)
+passed-over false read is = cc
+
+pub not-passed-over : (settled read : Bool) → settled && not read ≡ false → settled ≡ true → read ≡ true
+not-passed-over true true is there = refl
+not-passed-over true false is there = cc
+not-passed-over false read is there = cc
