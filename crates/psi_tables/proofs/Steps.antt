@@ -1,12 +1,13 @@
 -- What is held of a section, before and behind bytes that are taken.
-use Rattle.std.proofs.Common.{◌≡◌, ℕ, zero, suc, ◌+◌, ◌-◌, ◌<◌, ◌≤◌, ◌≢◌, Bool, true, false, cond, List, [], ◌∷◌, ◌++◌, length, get_or, take, drop, Ok, Err, refl, sym, ap, ◌∙◌, subst, append_assoc, arith, length-append, length-drop, ⊎_elim}
+use Rattle.std.proofs.Common.{◌≡◌, ℕ, zero, suc, ◌+◌, ◌-◌, ◌<◌, ◌≤◌, ◌≢◌, Bool, true, false, cond, List, [], ◌∷◌, ◌++◌, length, get_or, take, drop, Ok, Err, refl, sym, ap, ◌∙◌, subst, append_assoc, arith, length-append, length-drop, drop-cons, ⊎_elim}
 use Rattle.std.specs.Prelude.{slice_index, min, not, ◌&&◌, ◌||◌, nat_lt}
-use Rattle.std.proofs.lemmas.List.{append-nil, take-append-drop, take_all, get_or-take, length-take-le}
+use Rattle.std.proofs.lemmas.List.{append-nil, take-append-drop, take_all, get_or-take, length-take-le, drop-drop}
 use Rattle.std.proofs.Math.Seq.{take-add}
 use Rattle.std.proofs.lemmas.Bool.{cases_lt, le-ltb}
 use Rattle.psi_tables.specs.declared.section.SectionFault.{SectionFault}
 use Rattle.psi_tables.specs.Sections.{Found, is_read, has_bad_length, section_size, found_at, found_from, until_error}
-use Rattle.psi_tables.specs.SectionFront.{is_bad, is_settled, IsFront, IsLike, TakesIn, missing_bytes}
+use Rattle.psi_tables.specs.SectionFront.{is_bad, is_settled, IsFront, IsLike, IsHeld, IsSound, TakesIn, ReadsOn, front_bytes, missing_bytes}
+use Rattle.psi_tables.specs.declared.section_front.SectionFront.{SectionFront}
 use Rattle.psi_tables.proofs.Headers.{get_or-header}
 use Rattle.psi_tables.proofs.Fronts.{section_size-append, is_bad-append, is_bad-like, unsettled-good, settled-header, settled-size, unsettled-size, found_at-passed, found_at-append, found_at-like, found_from-one, found_from-whole, found_from-error, found_from-like, section_size-like, is_settled-like}
 
@@ -129,6 +130,13 @@ like-none b x none =
     let is : b ++ x ≡ b = ap (λ (bs : List ℕ). b ++ bs) none ∙ append-nil b in
     record { size = ap length (sym is); header = ap (λ (bs : List ℕ). take 3 bs) (sym is); read = λ _. sym is }
 
+-- sections that are passed over at the head of bytes, up to a place
+pub record PassesOver (bytes : List ℕ) (at : ℕ) (front : SectionFront) : Type 0 where
+  pub bound : at ≤ length bytes
+  pub held : IsHeld front
+  pub empty : front_bytes front ≡ []
+  pub same : (next : List ℕ) → found_from 0 bytes next ≡ found_from 0 (drop at bytes) next
+
 -- ---- tests of the code
 
 pub passed-over : (settled read : Bool) → settled && not read ≡ true → (settled ≡ true) × (read ≡ false)
@@ -140,3 +148,47 @@ pub not-passed-over : (settled read : Bool) → settled && not read ≡ false �
 not-passed-over true true is there = refl
 not-passed-over true false is there = cc
 not-passed-over false read is there = cc
+
+-- ---- the next section, at a place behind those that are passed over
+
+-- the bytes from a place on, as a slice of them
+abbrev pub rest_from : List ℕ → ℕ → List ℕ
+rest_from bytes at = take (length bytes - at) (drop at bytes)
+
+begun-taken : (bytes : List ℕ) (at n : ℕ) (front : SectionFront) (now : List ℕ) → PassesOver bytes at front → TakesIn (front_bytes front) (rest_from bytes at) n now → TakesIn [] (drop at bytes) n now
+begun-taken bytes at n front now passed taken =
+    let all : rest_from bytes at ≡ drop at bytes = take_all (length bytes - at) (drop at bytes) (omega (arith, length-drop at bytes)) in
+    subst (λ (before : List ℕ). TakesIn before (drop at bytes) n now) passed.empty (subst (λ (rest : List ℕ). TakesIn (front_bytes front) rest n now) all taken)
+
+begun-is : (bytes : List ℕ) (at n : ℕ) (front : SectionFront) (now : List ℕ) → PassesOver bytes at front → at < length bytes → get_or bytes at 0 ≢ 255 → TakesIn (front_bytes front) (rest_from bytes at) n now → IsFront now
+begun-is bytes at n front now passed within no_stuffing taken =
+    begun-front (get_or bytes at 0) (drop (suc at) bytes) n now no_stuffing (subst (λ (bs : List ℕ). TakesIn [] bs n now) (drop-cons bytes at 0 within) (begun-taken bytes at n front now passed taken))
+
+drop-on : (at n : ℕ) (bytes : List ℕ) → drop n (drop at bytes) ≡ drop (at + n) bytes
+drop-on at n bytes = drop-drop n at bytes
+
+pub begins-read : (bytes : List ℕ) (at n : ℕ) (front now : SectionFront) → PassesOver bytes at front → at < length bytes → get_or bytes at 0 ≢ 255 → TakesIn (front_bytes front) (rest_from bytes at) n (front_bytes now) → IsSound now → is_settled (front_bytes now) && not (is_read (front_bytes now)) ≡ false → ReadsOn bytes (at + n) now
+begins-read bytes at n front now passed within no_stuffing taken sound read =
+    let t : TakesIn [] (drop at bytes) n (front_bytes now) = begun-taken bytes at n front (front_bytes now) passed taken in
+    record {
+      bound = omega (arith, t.bound, length-drop at bytes);
+      held = record { sound = sound; front_is = begun-is bytes at n front (front_bytes now) passed within no_stuffing taken; read = not-passed-over (is_settled (front_bytes now)) (is_read (front_bytes now)) read };
+      all = λ unsettled. omega (arith, t.all unsettled, within, length-drop at bytes);
+      same = λ (next : List ℕ). passed.same next ∙ begun-same (drop at bytes) n (front_bytes now) t next ∙ ap (λ (bs : List ℕ). found_from 0 (front_bytes now ++ bs) next) (drop-on at n bytes);
+    }
+
+pub begins-passed : (bytes : List ℕ) (at n : ℕ) (front : SectionFront) (now : List ℕ) (cleared : SectionFront) → PassesOver bytes at front → at < length bytes → get_or bytes at 0 ≢ 255 → TakesIn (front_bytes front) (rest_from bytes at) n now → is_settled now && not (is_read now) ≡ true → IsHeld cleared → front_bytes cleared ≡ [] → PassesOver bytes (at + n) cleared
+begins-passed bytes at n front now cleared passed within no_stuffing taken over held empty =
+    let t : TakesIn [] (drop at bytes) n now = begun-taken bytes at n front now passed taken in
+    let tests = passed-over (is_settled now) (is_read now) over in
+    record {
+      bound = omega (arith, t.bound, length-drop at bytes);
+      held = held;
+      empty = empty;
+      same = λ (next : List ℕ). passed.same next ∙ begun-passed (drop at bytes) n now (begun-is bytes at n front now passed within no_stuffing taken) t tests.0 tests.1 next ∙ ap (λ (bs : List ℕ). found_from 0 bs next) (drop-on at n bytes);
+    }
+
+-- it has a byte
+pub begins-some : (bytes : List ℕ) (at n : ℕ) (front : SectionFront) (now : List ℕ) → PassesOver bytes at front → at < length bytes → TakesIn (front_bytes front) (rest_from bytes at) n now → 0 < n
+begins-some bytes at n front now passed within taken =
+    begun-some (drop at bytes) n now (omega (arith, within, length-drop at bytes)) (begun-taken bytes at n front now passed taken)
