@@ -64,7 +64,7 @@ held-error (x ∷ v) fault found later = behind-error [] (held_as x v) fault lat
 -- ---- a builder that is fed
 
 -- where no error is found from them, bytes held are read together with the payloads behind
-behind-held : (u : List ℕ) (later : List Payload) → found_from 0 u [] ≡ [] → sections_behind [] (payloads_of u ++ later) ≡ sections_behind (payloads_of u) later
+pub behind-held : (u : List ℕ) (later : List Payload) → found_from 0 u [] ≡ [] → sections_behind [] (payloads_of u ++ later) ≡ sections_behind (payloads_of u) later
 behind-held [] later none = refl
 behind-held (x ∷ u) later none = behind-none [] (held_as x u) later (none-alone _ [] refl (found_in_all-alone (x ∷ u) ∙ none))
 
@@ -73,6 +73,11 @@ fed-on u p [] all later =
     let joined : (more : List Payload) → found_in_all ((payloads_of u ++ p ∷ []) ++ more) ≡ found_in_all more = λ (more : List Payload). ap found_in_all (append_assoc (payloads_of u) (p ∷ []) more) ∙ all more in
     behind-none (payloads_of u) p later (none-alone _ [] refl (all [])) ∙ behind-same (payloads_of u ++ p ∷ []) [] [] refl joined later
 fed-on u p (y ∷ v) all later = next-same (payloads_of u) [] p (held_as y v) [] refl all later
+
+-- bytes held, and nothing behind them
+pub found_alone : (u : List ℕ) → found_from 0 u [] ≡ [] → sections_behind [] (payloads_of u) ≡ []
+found_alone u none =
+    ap (sections_behind []) (sym (append-nil (payloads_of u))) ∙ behind-held u [] none ∙ ap until_error (found_in_all-alone u ∙ none)
 
 -- a payload and the bytes held before it, by the bytes that are held behind it
 pub fed-same : (u : List ℕ) (p : Payload) (v : List ℕ) → found_from 0 u [] ≡ [] → ((later : List Payload) → found_from 0 u (bytes_on (p ∷ later)) ++ found_in p (bytes_on later) ≡ found_from 0 v (bytes_on later)) → (later : List Payload) → sections_behind [] (payloads_of u ++ p ∷ later) ≡ sections_behind [] (payloads_of v ++ later)

@@ -108,7 +108,8 @@ impl SectionBuilder {
             return Some(Err(fault));
         }
         let front = mem::replace(&mut self.front, SectionFront::new());
-        self.at += self.front.begin(&self.waiting[self.at..self.end]);
+        let waiting: &[u8] = &self.waiting;
+        self.at += self.front.begin(&waiting[self.at..self.end]);
         let SectionFront { section, passed: _ } = front;
         Some(Ok(section))
     }
