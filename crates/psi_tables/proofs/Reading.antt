@@ -65,3 +65,12 @@ pub behind-error : (before : List Payload) (payload : Payload) (fault : SectionF
 behind-error before payload fault later found =
     let choice : List Found → List Found = λ (found : List Found). cond (has_error found) (found ++ sections_behind [] later) (sections_behind (before ++ payload ∷ []) later) in
     ap choice found
+
+-- what stands behind an error doesn't matter
+pub until_error-stops : (found more : List Found) (fault : SectionFault) → until_error found ≡ Err fault ∷ [] → until_error (found ++ more) ≡ Err fault ∷ []
+until_error-stops [] more fault is = cc
+until_error-stops (Ok section ∷ found) more fault is = absurd (apart is)
+  where
+    apart : Ok section ∷ until_error found ≡ Err fault ∷ [] → ⊥
+    apart both = cc
+until_error-stops (Err other ∷ found) more fault is = is
