@@ -7,6 +7,7 @@ pub mod Held
 pub mod Reading
 pub mod Steps
 mod Examples
+mod SectionExamples
 pub mod Xor
 pub mod Multiples
 pub mod Dividends
