@@ -6,6 +6,7 @@ pub mod Headers
 pub mod Held
 pub mod Reading
 pub mod Steps
+pub mod Turns
 mod Examples
 mod SectionExamples
 pub mod Xor

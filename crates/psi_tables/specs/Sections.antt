@@ -1,5 +1,5 @@
 -- The sections in the payloads of one PID (ISO/IEC 13818-1, 2.4.4), as a list for any list of payloads.
-use Rattle.std.specs.Prelude.{ℕ, zero, suc, ◌+◌, ◌-◌, ◌*◌, ◌^◌, ◌==◌, nat_lt, nat_le, bit_xor, Bool, not, ◌&&◌, ◌||◌, List, [], ◌∷◌, ◌++◌, length, take, drop, replicate, slice_index, Result, Ok, Err, is_err, if◌then◌else◌, refl}
+use Rattle.std.specs.Prelude.{◌≡◌, ℕ, zero, suc, ◌+◌, ◌-◌, ◌*◌, ◌^◌, ◌==◌, nat_lt, nat_le, bit_xor, Bool, not, ◌&&◌, ◌||◌, List, [], ◌∷◌, ◌++◌, length, take, drop, replicate, slice_index, Result, Ok, Err, is_err, if◌then◌else◌, refl}
 use Rattle.std.specs.List.{list_any}
 use Rattle.std.specs.Coded.{Coded, code_by, coded×, coded_bool, coded_list, coded_ℕ}
 use Rattle.bit_lists.specs.Fields.{bit_list}
@@ -131,3 +131,10 @@ sections_behind before (payload ∷ payloads) =
 -- the sections of payloads, and the errors in their places
 unfoldable pub sections_of : List Payload → List Found
 sections_of payloads = sections_behind [] payloads
+
+-- ---- reading in turn
+
+-- What was given of the payloads that were fed, and what others, which are held, still give, are the sections of all
+-- payloads, whatever follows.
+pub record GivesInTurn (fed : List Payload) (given : List Found) (held : List Payload) : Type 0 where
+  pub all : (later : List Payload) → sections_of (fed ++ later) ≡ given ++ sections_of (held ++ later)

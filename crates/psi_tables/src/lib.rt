@@ -8,6 +8,7 @@
 
 mod crc;
 mod descriptors;
+pub mod laws;
 mod pat;
 mod pmt;
 mod program_map;

@@ -1,4 +1,4 @@
-ghost use Rattle.std.specs.Prelude.{◌≡◌, ◌≤◌, [], ◌∷◌, ◌++◌, List, length, IfNone, IfSome, IfErr};
+ghost use Rattle.std.specs.Prelude.{◌≡◌, ◌≤◌, [], ◌∷◌, ◌++◌, List, length, Err, IfNone, IfSome, IfErr};
 ghost use Rattle.psi_tables.specs.Sections.{Payload, sections_of};
 
 use crate::section::{Section, SectionFault};
@@ -71,7 +71,7 @@ impl SectionBuilder {
         }
         let pointed = 1 + payload[0] as usize;
         if payload.len() <= pointed {
-            *self = Self::new();
+            self.front.clear();
             self.points_past = true;
             return;
         }
@@ -97,20 +97,27 @@ impl SectionBuilder {
         ensures anew { IfSome result (λ found. IfErr found (λ _. self.new ≡ [])) }
     {
         if self.points_past {
-            *self = Self::new();
-            return Some(Err(SectionFault::BadSection));
+            return Some(self.fail(SectionFault::BadSection));
         }
         if !self.front.is_settled() {
             return None;
         }
         if let Some(fault) = self.front.fault() {
-            *self = Self::new();
-            return Some(Err(fault));
+            return Some(self.fail(fault));
         }
         let front = mem::replace(&mut self.front, SectionFront::new());
         let waiting: &[u8] = &self.waiting;
         self.at += self.front.begin(&waiting[self.at..self.end]);
         let SectionFront { section, passed: _ } = front;
         Some(Ok(section))
+    }
+
+    /// Gives the fault, and is as new.
+    fn fail(&mut self, fault: SectionFault) -> Result<Section, SectionFault>
+        ensures fault { result ≡ Err fault }
+        ensures anew { self.new ≡ [] }
+    {
+        *self = Self::new();
+        Err(fault)
     }
 }

@@ -25,6 +25,16 @@ invariant_of-self c =
       unsettled = λ _. order.unsettled (nothing-settled c.self.inside order (ap sections_of c.self.view_is ∙ c.requires.pulled));
     }
 
+pub invariant_of-self-then-payload-pointed : goal.invariant_of-self-then-payload-pointed
+invariant_of-self-then-payload-pointed c =
+    let order = c.self.invariant in
+    record {
+      places = order.places;
+      end = order.end;
+      held = c.clear.ensures.held;
+      unsettled = λ _. order.unsettled (nothing-settled c.self.inside order (ap sections_of c.self.view_is ∙ c.requires.pulled));
+    }
+
 pub returns-then-not-start : goal.returns-then-not-start
 returns-then-not-start c = λ later.
     let no_pointer : has_pointer (record { start = c.args.start; bytes = c.args.payload.now }) ≡ false =
