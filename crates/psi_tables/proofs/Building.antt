@@ -72,7 +72,7 @@ pulls-section builder now n section order points settled found reads waiting at 
     let rest : waiting_bytes now ≡ drop n w = waits-on builder.at n builder.end builder.waiting now.at now.end now.waiting (omega (arith, order.places, reads.bound, length-take (builder.end - builder.at) (drop builder.at builder.waiting))) waiting at end in
     let held : payloads_held now ≡ payloads_of behind = held-bytes now (still ∙ points) ∙ ap (λ (bytes : List ℕ). payloads_of (front_bytes now.front ++ bytes)) rest in
     let same : (next : List ℕ) → found_from 0 (u ++ w) next ≡ (Ok section ∷ []) ++ found_from 0 behind next = λ (next : List ℕ).
-      front-whole u w next order.held.front_is settled (found-good u section settled found) ∙ ap (λ (fs : List Found). fs ++ found_from 0 w next) found ∙ ap (λ (fs : List Found). Ok section ∷ fs) (reads.same next) in
+    front-whole u w next order.held.front_is settled (found-good u section settled found) ∙ ap (λ (fs : List Found). fs ++ found_from 0 w next) found ∙ ap (λ (fs : List Found). Ok section ∷ fs) (reads.same next) in
     ap (λ (bytes : List Payload). sections_behind [] (bytes ++ later)) (held-bytes builder points) ∙ held-same (u ++ w) behind (Ok section ∷ []) refl same later ∙ ap (λ (bytes : List Payload). Ok section ∷ sections_behind [] (bytes ++ later)) (sym held)
 
 -- a fault that isn't there
@@ -86,7 +86,7 @@ no-fault (Some x) P Q is none = absurd (none x refl)
 settled-found : (front : SectionFront) → IsHeld front → is_settled (front_bytes front) ≡ true → (found : Found) × (found_at (front_bytes front) ≡ found ∷ [])
 settled-found front held settled =
     elim (is_bad (front_bytes front)) as (λ (bad : Bool). is_bad (front_bytes front) ≡ bad → (found : Found) × (found_at (front_bytes front) ≡ found ∷ [])) [
-      true ↦ λ bad. (Err BadSection, found_at-bad (front_bytes front) settled bad)
+      | true ↦ λ bad. (Err BadSection, found_at-bad (front_bytes front) settled bad)
       | false ↦ λ good. (checked (front_bytes front), found_at-whole (front_bytes front) settled good (held.read settled) held.front_is.within)
     ] refl
 
@@ -105,9 +105,9 @@ gives-found builder (Ok section) order points settled found none =
     let u : List ℕ = front_bytes builder.front in
     let w : List ℕ = waiting_bytes builder in
     let same : (next : List ℕ) → found_from 0 (u ++ w) next ≡ (Ok section ∷ []) ++ found_from 0 w next = λ (next : List ℕ).
-      front-whole u w next order.held.front_is settled (found-good u section settled found) ∙ ap (λ (fs : List Found). fs ++ found_from 0 w next) found in
+    front-whole u w next order.held.front_is settled (found-good u section settled found) ∙ ap (λ (fs : List Found). fs ++ found_from 0 w next) found in
     let some : Ok section ∷ sections_behind [] (payloads_of w ++ []) ≡ [] =
-      sym (held-same (u ++ w) w (Ok section ∷ []) refl same []) ∙ ap (sections_behind []) (append-nil (payloads_of (u ++ w)) ∙ sym (held-bytes builder points)) ∙ none in
+    sym (held-same (u ++ w) w (Ok section ∷ []) refl same []) ∙ ap (sections_behind []) (append-nil (payloads_of (u ++ w)) ∙ sym (held-bytes builder points)) ∙ none in
     cc
 
 pub nothing-past : (builder : Inside) → sections_of (payloads_held builder) ≡ [] → builder.points_past ≡ false
@@ -117,7 +117,7 @@ nothing-past builder none =
 pub nothing-settled : (builder : Inside) → IsInOrder builder → sections_of (payloads_held builder) ≡ [] → is_settled (front_bytes builder.front) ≡ false
 nothing-settled builder order none =
     elim (is_settled (front_bytes builder.front)) as (λ (settled : Bool). is_settled (front_bytes builder.front) ≡ settled → is_settled (front_bytes builder.front) ≡ false) [
-      true ↦ λ settled. let found = settled-found builder.front order.held settled in absurd (gives-found builder found.0 order (nothing-past builder none) settled found.1 none)
+      | true ↦ λ settled. let found = settled-found builder.front order.held settled in absurd (gives-found builder found.0 order (nothing-past builder none) settled found.1 none)
       | false ↦ λ unsettled. unsettled
     ] refl
 
@@ -136,8 +136,8 @@ feeds-on builder now start bytes order none no_pointer goes points at end later 
     let waiting : v ++ waiting_bytes now ≡ v = ap (λ (n : ℕ). v ++ take n (drop now.at now.waiting)) empty ∙ append-nil v in
     let held : payloads_held now ≡ payloads_of v = held-bytes now (points ∙ nothing-past builder none) ∙ ap payloads_of waiting in
     let same : (more : List Payload) → found_from 0 u (bytes_on (p ∷ more)) ++ found_in p (bytes_on more) ≡ found_from 0 v (bytes_on more) = λ (more : List Payload).
-      ap (λ (pointer : Bool). found_from 0 u (cond pointer (before_pointer p) (bytes ++ bytes_on more)) ++ cond pointer (cond (points_past p) (Err BadSection ∷ []) (found_from 0 (behind_pointer p) (bytes_on more))) []) no_pointer
-      ∙ append-nil (found_from 0 u (bytes ++ bytes_on more)) ∙ goes.same (bytes_on more) in
+    ap (λ (pointer : Bool). found_from 0 u (cond pointer (before_pointer p) (bytes ++ bytes_on more)) ++ cond pointer (cond (points_past p) (Err BadSection ∷ []) (found_from 0 (behind_pointer p) (bytes_on more))) []) no_pointer
+    ∙ append-nil (found_from 0 u (bytes ++ bytes_on more)) ∙ goes.same (bytes_on more) in
     ap (λ (hold : List Payload). sections_behind [] (hold ++ later)) held ∙ sym (fed-same u p v (front-none u order.held.front_is (nothing-settled builder order none)) same later) ∙ ap (λ (hold : List Payload). sections_behind [] (hold ++ p ∷ later)) (sym (held-none builder order none))
 
 -- a payload whose pointer is past it
@@ -148,7 +148,7 @@ feeds-past builder start bytes order none pointer past later =
     let u : List ℕ = front_bytes builder.front in
     let nothing : found_from 0 u [] ≡ [] = front-none u order.held.front_is (nothing-settled builder order none) in
     let found : until_error (found_from 0 u (bytes_on (p ∷ [])) ++ found_in p []) ≡ Err BadSection ∷ [] =
-      rw (pointer, past, nothing) refl in
+    rw (pointer, past, nothing) refl in
     behind-error [] pointing_past BadSection later refl ∙ sym (fed-error u p BadSection nothing found later) ∙ ap (λ (hold : List Payload). sections_behind [] (hold ++ p ∷ later)) (sym (held-none builder order none))
 
 -- with a pointer into it: the bytes before its place go on with the section, and the sections behind it wait
@@ -170,8 +170,8 @@ feeds-pointed builder now start bytes before behind n between order none pointer
     let v : List ℕ = front_bytes now.front ++ drop n behind in
     let held : payloads_held now ≡ payloads_of v = held-bytes now (points ∙ nothing-past builder none) ∙ ap (λ (bs : List ℕ). payloads_of (front_bytes now.front ++ bs)) waiting in
     let same : (more : List Payload) → found_from 0 u (bytes_on (p ∷ more)) ++ found_in p (bytes_on more) ≡ found_from 0 v (bytes_on more) = λ (more : List Payload).
-      let first : found_from 0 u (bytes_on (p ∷ more)) ≡ [] = pointed-before p u before pointer is_before more ∙ before-found u before between goes ∙ front-none (front_bytes between) goes.held.front_is unsettled in
-      ap (λ (fs : List Found). fs ++ found_in p (bytes_on more)) first ∙ pointed-in p behind pointer inside is_behind (bytes_on more) ∙ reads.same (bytes_on more) in
+    let first : found_from 0 u (bytes_on (p ∷ more)) ≡ [] = pointed-before p u before pointer is_before more ∙ before-found u before between goes ∙ front-none (front_bytes between) goes.held.front_is unsettled in
+    ap (λ (fs : List Found). fs ++ found_in p (bytes_on more)) first ∙ pointed-in p behind pointer inside is_behind (bytes_on more) ∙ reads.same (bytes_on more) in
     ap (λ (hold : List Payload). sections_behind [] (hold ++ later)) held ∙ sym (fed-same u p v (front-none u order.held.front_is (nothing-settled builder order none)) same later) ∙ ap (λ (hold : List Payload). sections_behind [] (hold ++ p ∷ later)) (sym (held-none builder order none))
 
 -- where the section ends before the place
@@ -185,9 +185,9 @@ ends-found u p before behind between (Ok section) nothing pointer inside is_befo
     let m : List ℕ = front_bytes between in
     let good : is_bad m ≡ false = found-good m section settled found in
     let first : (more : List Payload) → found_from 0 u (bytes_on (p ∷ more)) ≡ found_at m = λ (more : List Payload).
-      pointed-before p u before pointer is_before more ∙ before-found u before between goes ∙ ap (λ (bs : List ℕ). found_from 0 bs []) (sym (append-nil m)) ∙ front-whole m [] [] goes.held.front_is settled good ∙ append-nil (found_at m) in
+    pointed-before p u before pointer is_before more ∙ before-found u before between goes ∙ ap (λ (bs : List ℕ). found_from 0 bs []) (sym (append-nil m)) ∙ front-whole m [] [] goes.held.front_is settled good ∙ append-nil (found_at m) in
     let same : (more : List Payload) → found_from 0 u (bytes_on (p ∷ more)) ++ found_in p (bytes_on more) ≡ found_from 0 (m ++ behind) (bytes_on more) = λ (more : List Payload).
-      ap (λ (fs : List Found). fs ++ found_in p (bytes_on more)) (first more) ∙ ap (λ (fs : List Found). found_at m ++ fs) (pointed-in p behind pointer inside is_behind (bytes_on more)) ∙ sym (front-whole m behind (bytes_on more) goes.held.front_is settled good) in
+    ap (λ (fs : List Found). fs ++ found_in p (bytes_on more)) (first more) ∙ ap (λ (fs : List Found). found_at m ++ fs) (pointed-in p behind pointer inside is_behind (bytes_on more)) ∙ sym (front-whole m behind (bytes_on more) goes.held.front_is settled good) in
     sym (fed-same u p (m ++ behind) nothing same later)
 
 pub feeds-ending : (builder now : Inside) (start : Bool) (bytes before behind : List ℕ) → IsInOrder builder → sections_of (payloads_held builder) ≡ [] → has_pointer (record { start = start; bytes = bytes }) ≡ true → points_past (record { start = start; bytes = bytes }) ≡ false → before ≡ before_pointer (record { start = start; bytes = bytes }) → behind ≡ behind_pointer (record { start = start; bytes = bytes }) → GoesOn (front_bytes builder.front) before now.front → is_settled (front_bytes now.front) ≡ true → waiting_bytes now ≡ behind → now.points_past ≡ builder.points_past → (later : List Payload) → sections_of (payloads_held now ++ later) ≡ sections_of (payloads_held builder ++ record { start = start; bytes = bytes } ∷ later)

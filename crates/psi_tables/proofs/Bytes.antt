@@ -23,7 +23,7 @@ header-front front sound whole = by_passed front.passed refl
 pub has_header-front : (front : SectionFront) → IsSound front → nat_le 3 (length (front_bytes front)) ≡ nat_le 3 (length front.section.items)
 has_header-front front sound =
     elim (nat_le 3 (length front.section.items)) as (λ (kept : Bool). nat_le 3 (length front.section.items) ≡ kept → nat_le 3 (length (front_bytes front)) ≡ kept) [
-      true ↦ λ kept. le-leb 3 (length (front_bytes front)) (omega (arith, length-front front, leb-true 3 (length front.section.items) kept))
+      | true ↦ λ kept. le-leb 3 (length (front_bytes front)) (omega (arith, length-front front, leb-true 3 (length front.section.items) kept))
       | false ↦ λ kept. lt-leb 3 (length (front_bytes front)) (few (leb-false 3 (length front.section.items) kept))
     ] refl
   where

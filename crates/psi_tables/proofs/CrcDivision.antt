@@ -69,14 +69,14 @@ divided-step front r bit low is =
     (λ small.
     let stays : brought_down r bit ≡ 2 * r + bit = ap (λ (fits : Bool). cond fits (2 * r + bit) (bit_xor (2 * r + bit) crc_polynomial)) (lt-ltb (2 * r + bit) (2 ^ 32) small) in
     let remainder : IsRemainder (2 * r + bit) (front ++ bit ∷ []) =
-      record { quotient = is.quotient ++ false ∷ []; below = small; dividend = dividend ∙ ap (λ (m : ℕ). bit_xor m (2 * r + bit)) (sym (multiple-shifted is.quotient 1)) } in
+    record { quotient = is.quotient ++ false ∷ []; below = small; dividend = dividend ∙ ap (λ (m : ℕ). bit_xor m (2 * r + bit)) (sym (multiple-shifted is.quotient 1)) } in
     subst (λ (n : ℕ). IsRemainder n (front ++ bit ∷ [])) (sym stays) remainder)
     (λ great.
     let goes : brought_down r bit ≡ bit_xor (2 * r + bit) crc_polynomial = ap (λ (fits : Bool). cond fits (2 * r + bit) (bit_xor (2 * r + bit) crc_polynomial)) (le-ltb (2 * r + bit) (2 ^ 32) great) in
     let more : bit_xor (multiple (is.quotient ++ true ∷ [])) (bit_xor (2 * r + bit) crc_polynomial) ≡ bit_xor (multiple is.quotient * 2 ^ 1) (2 * r + bit) =
-      ap₂ bit_xor (multiple-append is.quotient (true ∷ []) ∙ xor_comm (multiple is.quotient * 2 ^ 1) crc_polynomial) (xor_comm (2 * r + bit) crc_polynomial) ∙ xor_shared crc_polynomial (multiple is.quotient * 2 ^ 1) (2 * r + bit) in
+    ap₂ bit_xor (multiple-append is.quotient (true ∷ []) ∙ xor_comm (multiple is.quotient * 2 ^ 1) crc_polynomial) (xor_comm (2 * r + bit) crc_polynomial) ∙ xor_shared crc_polynomial (multiple is.quotient * 2 ^ 1) (2 * r + bit) in
     let remainder : IsRemainder (bit_xor (2 * r + bit) crc_polynomial) (front ++ bit ∷ []) =
-      record { quotient = is.quotient ++ true ∷ []; below = reduced-below (2 * r + bit) great (omega (arith, is.below, low)); dividend = dividend ∙ sym more } in
+    record { quotient = is.quotient ++ true ∷ []; below = reduced-below (2 * r + bit) great (omega (arith, is.below, low)); dividend = dividend ∙ sym more } in
     subst (λ (n : ℕ). IsRemainder n (front ++ bit ∷ [])) (sym goes) remainder)
     (cases_lt (2 * r + bit) (2 ^ 32))
 

@@ -109,7 +109,7 @@ found_at-append a x settled =
     let fits : section_size a ≤ length a = whole read good in
     (le-ltb (length (a ++ x)) (section_size a) (omega (arith, length-append a x)) ∙ sym (le-ltb (length a) (section_size a) fits), ap (λ (s : List ℕ). checked s ∷ []) (take-append-le (section_size a) a x fits)) in
     let renamed : found_at (a ++ x) ≡ pick (nat_lt (length (a ++ x)) 3) (is_read a) (has_bad_length a) (nat_lt (length (a ++ x)) (section_size a)) (checked (take (section_size a) (a ++ x)) ∷ []) =
-      rw (table_id-append a x header, section_length-append a x header) refl in
+    rw (table_id-append a x header, section_length-append a x header) refl in
     renamed ∙ pick-same (nat_lt (length (a ++ x)) 3) (nat_lt (length a) 3) (is_read a) (has_bad_length a) _ _ _ _ (le-ltb (length (a ++ x)) 3 longer) (le-ltb (length a) 3 header) tests
 
 -- ---- one section behind the other

@@ -30,8 +30,8 @@ until_error-none (Err fault ∷ found) none = cc
 step : (a b g anew on_a on_b : List Found) → a ≡ g ++ b → has_error a ≡ has_error b → on_a ≡ g ++ on_b → cond (has_error a) (a ++ anew) on_a ≡ g ++ cond (has_error b) (b ++ anew) on_b
 step a b g anew on_a on_b is same on =
     let error : cond (has_error b) (a ++ anew) on_a ≡ g ++ cond (has_error b) (b ++ anew) on_b =
-      elim (has_error b) as (λ (bad : Bool). cond bad (a ++ anew) on_a ≡ g ++ cond bad (b ++ anew) on_b)
-      [ true ↦ ap (λ (found : List Found). found ++ anew) is ∙ append_assoc g b anew | false ↦ on ] in
+    elim (has_error b) as (λ (bad : Bool). cond bad (a ++ anew) on_a ≡ g ++ cond bad (b ++ anew) on_b)
+    [ true ↦ ap (λ (found : List Found). found ++ anew) is ∙ append_assoc g b anew | false ↦ on ] in
     ap (λ (bad : Bool). cond bad (a ++ anew) on_a) same ∙ error
 
 -- payloads that give the same but for what was found before go on to give the same

@@ -46,13 +46,13 @@ taken-held a bytes n now held taken = omega (arith, taken.like.size, length-appe
 taken-found : (a bytes : List ℕ) (n : ℕ) (now : List ℕ) → TakesIn a bytes n now → (next : List ℕ) → found_at (a ++ (bytes ++ next)) ≡ found_at (now ++ next)
 taken-found a bytes n now taken next =
     elim (is_settled now) as (λ (settled : Bool). is_settled now ≡ settled → found_at (a ++ (bytes ++ next)) ≡ found_at (now ++ next)) [
-      true ↦ λ settled.
-      let joined : a ++ (bytes ++ next) ≡ (a ++ take n bytes) ++ (drop n bytes ++ next) =
-        ap (λ (bs : List ℕ). a ++ (bs ++ next)) (sym (take-append-drop n bytes)) ∙ ap (λ (bs : List ℕ). a ++ bs) (append_assoc (take n bytes) (drop n bytes) next) ∙ sym (append_assoc a (take n bytes) (drop n bytes ++ next)) in
-      ap found_at joined ∙ sym (found_at-like now (a ++ take n bytes) (drop n bytes ++ next) taken.like) ∙ found_at-append now (drop n bytes ++ next) settled ∙ sym (found_at-append now next settled)
+      | true ↦ λ settled.
+          let joined : a ++ (bytes ++ next) ≡ (a ++ take n bytes) ++ (drop n bytes ++ next) =
+          ap (λ (bs : List ℕ). a ++ (bs ++ next)) (sym (take-append-drop n bytes)) ∙ ap (λ (bs : List ℕ). a ++ bs) (append_assoc (take n bytes) (drop n bytes) next) ∙ sym (append_assoc a (take n bytes) (drop n bytes ++ next)) in
+          ap found_at joined ∙ sym (found_at-like now (a ++ take n bytes) (drop n bytes ++ next) taken.like) ∙ found_at-append now (drop n bytes ++ next) settled ∙ sym (found_at-append now next settled)
       | false ↦ λ unsettled.
-      let all : take n bytes ≡ bytes = take_all n bytes (omega (arith, taken.all unsettled)) in
-      ap found_at (sym (append_assoc a bytes next)) ∙ ap (λ (bs : List ℕ). found_at ((a ++ bs) ++ next)) (sym all) ∙ sym (found_at-like now (a ++ take n bytes) next taken.like)
+          let all : take n bytes ≡ bytes = take_all n bytes (omega (arith, taken.all unsettled)) in
+          ap found_at (sym (append_assoc a bytes next)) ∙ ap (λ (bs : List ℕ). found_at ((a ++ bs) ++ next)) (sym all) ∙ sym (found_at-like now (a ++ take n bytes) next taken.like)
     ] refl
 
 -- the same is found from what is held then
@@ -71,7 +71,7 @@ begun-some : (bytes : List ℕ) (n : ℕ) (now : List ℕ) → 0 < length bytes 
 begun-some bytes zero now some taken =
     let empty : length now ≡ 0 = taken.like.size in
     elim (is_settled now) as (λ (settled : Bool). is_settled now ≡ settled → 0 < 0) [
-      true ↦ λ settled. absurd (omega (arith, empty, settled-header now settled))
+      | true ↦ λ settled. absurd (omega (arith, empty, settled-header now settled))
       | false ↦ λ unsettled. omega (arith, taken.all unsettled)
     ] refl
 begun-some bytes (suc n) now some taken = omega arith

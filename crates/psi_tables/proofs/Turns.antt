@@ -1,5 +1,5 @@
 -- Reading in turn.
-use Rattle.std.proofs.Common.{◌≡◌, List, [], ◌∷◌, ◌++◌, refl, sym, ap, ◌∙◌, append_assoc}
+use Rattle.std.proofs.Common.{◌≡◌, List, [], ◌∷◌, ◌++◌, refl, sym, ap, ◌∙◌, append_assoc, ◌+◌, length, arith}
 use Rattle.std.proofs.lemmas.List.{append-nil}
 use Rattle.psi_tables.specs.Sections.{Payload, Found, sections_of, GivesInTurn}
 
@@ -20,3 +20,8 @@ pub turn-all : (fed : List Payload) (given : List Found) (held : List Payload) �
 turn-all fed given held turn none =
     let last : sections_of (held ++ []) ≡ [] = ap sections_of (append-nil held) ∙ none in
     sym (ap sections_of (sym (append-nil fed)) ∙ turn.all [] ∙ ap (λ (more : List Found). given ++ more) last ∙ append-nil given)
+
+pub turn-fewer : (held now : List Payload) (found : Found) → ((later : List Payload) → sections_of (held ++ later) ≡ found ∷ sections_of (now ++ later)) → length (sections_of held) ≡ length (sections_of now) + 1
+turn-fewer held now found pulls =
+    let here : sections_of held ≡ found ∷ sections_of now = ap sections_of (sym (append-nil held)) ∙ pulls [] ∙ ap (λ (more : List Payload). found ∷ sections_of more) (append-nil now) in
+    omega (arith, ap length here)

@@ -1,6 +1,6 @@
 //! Laws of the definitions, each the contract of a function that does nothing.
 
-ghost use Rattle.std.specs.Prelude.{◌≡◌, ℕ, ◌↔◌, List, [], ◌∷◌, ◌++◌};
+ghost use Rattle.std.specs.Prelude.{◌≡◌, ℕ, ◌↔◌, List, [], ◌∷◌, ◌++◌, ◌+◌, length};
 ghost use Rattle.psi_tables.specs.Crc.{IsCrcOf};
 ghost use Rattle.psi_tables.specs.Sections.{Payload, Found, crc_over, sections_of, GivesInTurn};
 
@@ -10,7 +10,8 @@ pub fn crc_by_long_division()
 {}
 
 /// How `SectionBuilder` is read in turn: it starts with nothing, and each `feed` and each `pull` that gives keeps what
-/// was given in step with what was fed. Where nothing more waits, all sections were given.
+/// was given in step with what was fed. Where nothing more waits, all sections were given. After each one that is given
+/// fewer wait, by which a loop of pulls ends.
 pub fn sections_in_turn()
     ensures start { GivesInTurn [] [] [] }
     ensures fed { (fed : List Payload) (given : List Found) (held now : List Payload) (payload : Payload) →
@@ -23,4 +24,7 @@ pub fn sections_in_turn()
         GivesInTurn fed (given ++ found ∷ []) now }
     ensures all { (fed : List Payload) (given : List Found) (held : List Payload) →
         GivesInTurn fed given held → sections_of held ≡ [] → given ≡ sections_of fed }
+    ensures fewer { (held now : List Payload) (found : Found) →
+        ((later : List Payload) → sections_of (held ++ later) ≡ found ∷ sections_of (now ++ later)) →
+        length (sections_of held) ≡ length (sections_of now) + 1 }
 {}

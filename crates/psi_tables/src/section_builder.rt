@@ -46,7 +46,8 @@ impl SectionBuilder {
 
     /// A builder that was fed nothing.
     pub fn new() -> Self
-        ensures { result ≡ [] }
+        ensures empty { result ≡ [] }
+        ensures nothing_waits { sections_of result ≡ [] }
     {
         SectionBuilder {
             front: SectionFront::new(),

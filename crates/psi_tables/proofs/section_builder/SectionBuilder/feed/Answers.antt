@@ -38,10 +38,10 @@ invariant_of-self-then-payload-pointed c =
 pub returns-then-not-start : goal.returns-then-not-start
 returns-then-not-start c = λ later.
     let no_pointer : has_pointer (record { start = c.args.start; bytes = c.args.payload.now }) ≡ false =
-      elim c.then-not-start.branch [
-        then-not-start-via-then-not-start w ↦ ap (λ (start : Bool). has_pointer (record { start = start; bytes = c.args.payload.now })) w.if-not-start.true
-        | then-not-start-via-else-not-start+then-is_empty w ↦ no-bytes c.args.start c.args.payload.now (eqb-true (length c.args.payload.now) 0 (sym w.is_empty.ensures ∙ w.if-is_empty.true))
-      ] in
+    elim c.then-not-start.branch [
+      | then-not-start-via-then-not-start w ↦ ap (λ (start : Bool). has_pointer (record { start = start; bytes = c.args.payload.now })) w.if-not-start.true
+      | then-not-start-via-else-not-start+then-is_empty w ↦ no-bytes c.args.start c.args.payload.now (eqb-true (length c.args.payload.now) 0 (sym w.is_empty.ensures ∙ w.if-is_empty.true))
+    ] in
     feeds-on c.self.inside (record c.self.inside { front = c.go_on.new.self }) c.args.start c.args.payload.now c.self.invariant (ap sections_of c.self.view_is ∙ c.requires.pulled) no_pointer c.go_on.ensures refl refl refl later
     ∙ ap (λ (held : List Payload). sections_of (held ++ record { start = c.args.start; bytes = c.args.payload.now } ∷ later)) c.self.view_is
 
