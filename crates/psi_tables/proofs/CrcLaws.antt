@@ -1,12 +1,12 @@
 -- What the definitions of the CRC say together.
-use Rattle.std.proofs.Common.{◌≡◌, ◌⊎◌, inl, inr, ℕ, zero, suc, ◌+◌, ◌-◌, ◌*◌, ◌/◌, ◌%◌, ◌^◌, ◌<◌, ◌≤◌, ◌↔◌, Bool, true, false, List, [], ◌∷◌, ◌++◌, length, replicate, refl, sym, ap, ap₂, ◌∙◌, arith, add-zero, lit<, length-append, subst}
+use Rattle.std.proofs.Common.{◌≡◌, inl, inr, ℕ, ◌+◌, ◌-◌, ◌*◌, ◌/◌, ◌%◌, ◌^◌, ◌<◌, ◌≤◌, ◌↔◌, Bool, false, List, [], ◌∷◌, ◌++◌, length, replicate, refl, sym, ap, ap₂, ◌∙◌, arith, lit<, length-append, subst}
 use Rattle.std.specs.Int.{w32, to_be_bytes}
-use Rattle.std.specs.Int.Bits.{bit_xor, xor_assoc, xor_shifted, xor_zero_r}
+use Rattle.std.specs.Int.Bits.{bit_xor, xor_shifted, xor_zero_r}
 use Rattle.std.proofs.Math.Nat.{mul_assoc}
 use Rattle.std.proofs.lemmas.Bool.{cases_lt}
-use Rattle.std.proofs.lemmas.Nat.{xor_lt, pow-add, pow_pos, shl_below}
+use Rattle.std.proofs.lemmas.Nat.{xor_lt, pow-add, shl_below}
 use Rattle.bit_lists.specs.Bits.{number_of}
-use Rattle.psi_tables.specs.Crc.{multiple, IsRemainder, IsCrcOf, HasRightCrc}
+use Rattle.psi_tables.specs.Crc.{multiple, IsCrcOf, HasRightCrc}
 use Rattle.psi_tables.specs.Section.{IsWithCrc}
 use Rattle.psi_tables.proofs.Xor.{xor_shl, xor_swap, xor_twice, same_from_xor}
 use Rattle.psi_tables.proofs.Multiples.{one_remainder, none_or_great, divided, multiple-shifted}

@@ -1,6 +1,6 @@
 -- Rows of descriptors, and what is kept of them.
-use Rattle.std.proofs.Common.{◌≡◌, ℕ, zero, suc, ◌+◌, ◌%◌, ◌<◌, ◌≤◌, Bool, true, false, cond, List, [], ◌∷◌, ◌++◌, length, get_or, take, drop, refl, sym, ap, ap₂, subst, ◌∙◌, arith, length-append, length-take}
-use Rattle.std.specs.Prelude.{not, count_by}
+use Rattle.std.proofs.Common.{◌≡◌, ℕ, ◌+◌, ◌%◌, ◌<◌, ◌≤◌, Bool, true, false, cond, List, [], ◌∷◌, ◌++◌, length, get_or, take, refl, sym, ap, ◌∙◌, arith, length-append, length-take}
+use Rattle.std.specs.Prelude.{not}
 use Rattle.std.specs.List.{filter, concat}
 use Rattle.std.proofs.lemmas.List.{append-nil, get_or_append_left, get_or-take}
 use Rattle.std.proofs.lemmas.List.Elements.{filter-append}

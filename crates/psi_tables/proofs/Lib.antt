@@ -14,6 +14,11 @@ pub mod Multiples
 pub mod Dividends
 pub mod RemainderTable
 pub mod CrcLaws
+pub mod WrittenPmt
+pub mod WrittenPat
+pub mod ProgramRows
+pub mod MapContents
+pub mod StreamRows
 pub mod DescriptorRows
 pub mod Rows
 pub mod Elements

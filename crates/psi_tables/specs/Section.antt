@@ -1,5 +1,5 @@
 -- What PAT and PMT sections have in common (ISO/IEC 13818-1, 2.4.4.3 and 2.4.4.8).
-use Rattle.std.specs.Prelude.{◌≡◌, ℕ, ◌+◌, ◌-◌, ◌*◌, ◌^◌, ◌<◌, ◌≤◌, List, [], ◌∷◌, ◌++◌, length, take, drop}
+use Rattle.std.specs.Prelude.{◌≡◌, ℕ, ◌+◌, ◌-◌, ◌≤◌, List, [], ◌∷◌, ◌++◌, length, take, drop}
 use Rattle.std.specs.Int.{w16, w32, to_be_bytes}
 use Rattle.bit_lists.specs.Fields.{bits}
 use Rattle.psi_tables.specs.Crc.{IsCrcOf}

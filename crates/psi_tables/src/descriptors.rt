@@ -1,4 +1,4 @@
-ghost use Rattle.std.specs.Prelude.{◌≡◌, ℕ, ◌+◌, ◌*◌, ◌^◌, ◌<◌, ◌≤◌, List, length, ◌++◌, Some, IsSome, MatchOption};
+ghost use Rattle.std.specs.Prelude.{◌≡◌, ℕ, ◌+◌, ◌*◌, ◌^◌, ◌<◌, ◌≤◌, List, length, ◌++◌, Some, IsSome, IfSome, MatchOption};
 ghost use Rattle.psi_tables.specs.Section.{IsRow};
 ghost use Rattle.psi_tables.specs.Descriptors.{IsDescriptor, is_kept, kept_bytes, count_dropped};
 
@@ -41,6 +41,7 @@ pub(crate) fn read_descriptors(bytes: &[u8]) -> Option<(ArrayVec<u8, DESCRIPTOR_
 pub(crate) fn count_descriptors(bytes: &[u8]) -> Option<u32>
     requires { length bytes.now ≤ 1024 }
     ensures exact { (descriptors : List (List ℕ)) → IsRow IsDescriptor descriptors bytes.now → result ≡ Some (length descriptors) }
+    ensures few { IfSome result (λ count. count ≤ length bytes.now) }
     ensures some { IsSome result → (descriptors : List (List ℕ)) × IsRow IsDescriptor descriptors bytes.now }
 {
     let mut count = 0;

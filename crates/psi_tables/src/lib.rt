@@ -2,8 +2,8 @@
 //!
 //! `read_pat` and `read_pmt` answer what a program association section and a program map section say, and `write_pat`
 //! and `write_pmt` make such sections, with their CRC, that are read as the same. `crc32` is the remainder of Annex A,
-//! and a `SectionBuilder` reads the sections in the payloads of a PID.
-//! No call takes memory. Stands on the definitions of `bit_lists`.
+//! and a `SectionBuilder` reads the sections in the payloads of a PID. No call takes memory. Stands on the definitions
+//! of `bit_lists`.
 #![tactic(auto)]
 
 mod crc;
@@ -29,3 +29,5 @@ pub use stream::{DESCRIPTOR_BYTES, STREAMS_MOST, Stream};
 
 #[cfg(test)]
 mod section_tests;
+#[cfg(test)]
+mod tests;

@@ -1,9 +1,9 @@
-ghost use Rattle.std.specs.Prelude.{◌≡◌, ℕ, ◌+◌, ◌*◌, ◌%◌, ◌^◌, ◌<◌, ◌≤◌, ◌==◌, ◌↔◌, IsTrue, All, IfOk, IfErr, List, length};
-ghost use Rattle.std.specs.List.{find};
+ghost use Rattle.std.specs.Prelude.{◌≡◌, ℕ, ◌+◌, ◌*◌, ◌%◌, ◌^◌, ◌<◌, ◌≤◌, ◌==◌, ◌↔◌, IsTrue, All, IfOk, IfErr, List, length, ◌++◌};
+ghost use Rattle.std.specs.List.{find, flat_map};
 ghost use Rattle.std.specs.Option.{option_map};
 ghost use Rattle.psi_tables.specs.Crc.{HasRightCrc};
 ghost use Rattle.psi_tables.specs.Section.{IsCurrent, IsRow, IsWithCrc};
-ghost use Rattle.psi_tables.specs.Pat.{IsProgram, IsPat, map_pid, written_pat};
+ghost use Rattle.psi_tables.specs.Pat.{IsProgram, IsPat, map_pid, written_pat, written_program};
 
 use crate::section::{
     CRC_BYTES, HEADER_BYTES, Section, SectionFault, UNCOUNTED_BYTES, content_of, is_current, put,
@@ -67,11 +67,32 @@ pub fn write_pat(stream_id: u16, programs: &[(u16, u16)], into: &mut Section)
         + PROGRAM_BYTES * programs.len()
         + CRC_BYTES;
     put_header(into, PAT_TABLE, section_length as u16, stream_id);
-    for (number, pid) in programs {
-        put(into, &number.to_be_bytes());
-        put_pid(into, *pid);
-    }
+    put_programs(into, programs);
     put_crc(into);
+}
+
+/// Appends the programs.
+fn put_programs(into: &mut Section, programs: &[(u16, u16)])
+    requires few { length programs.now ≤ 8 }
+    requires pids { All (λ program. program.1 < 2 ^ 13) programs.now }
+    requires room { length into.old.items ≤ 8 }
+    ensures bytes { into.new.items ≡ into.old.items ++ flat_map written_program programs.now }
+    ensures numbers { All (λ program. program.0 < 2 ^ 16) programs.now }
+{
+    for (number, pid) in programs {
+        put_program(into, *number, *pid);
+    }
+}
+
+/// Appends one program.
+fn put_program(into: &mut Section, number: u16, pid: u16)
+    requires pid { pid < 2 ^ 13 }
+    requires room { length into.old.items ≤ 900 }
+    ensures bytes { into.new.items ≡ into.old.items ++ written_program (number, pid) }
+    ensures number { number < 2 ^ 16 }
+{
+    put(into, &number.to_be_bytes());
+    put_pid(into, pid);
 }
 
 /// The PID of the first program of this number.

@@ -25,6 +25,7 @@ const MAP_BYTES: usize = 4;
 /// What a current PMT section says of its program (ISO/IEC 13818-1, 2.4.4.8), and None of any other section. The only
 /// error is BadSection, where the descriptors and streams of a current PMT section don't fill it, it has more than 64
 /// streams, or the kept descriptors of one stream pass 183 bytes. The CRC isn't looked at.
+#[tactic(auto, using(crate::proofs::Elements::elements))]
 pub fn read_pmt(section: &Section) -> Result<Option<ProgramMap>, SectionFault>
     ensures none { (result ≡ Ok None) ↔ (IsCurrent 2 section.now.items → ⊥) }
     // What is read is what the section says, and a section that says something that has room is read.
@@ -56,7 +57,7 @@ pub fn write_pmt(map: &ProgramMap, into: &mut Section) -> Result<(), SectionFaul
     ensures map { OnOk result (IsPmt (without_dropped map.now) into.new.items) }
     ensures room { OnOk result (HasRoom map.now) }
     ensures crc { OnOk result (HasRightCrc into.new.items) }
-    ensures long { (result ≡ Err SectionFault.TooLong) ↔ (PACKET_SECTION_BYTES < pmt_length map.now) }
+    ensures long { (result ≡ Err SectionFault.TooLong) ↔ (183 < pmt_length map.now) }
     ensures err { IfErr result (λ fault. (fault ≡ SectionFault.TooLong) × (into.new ≡ into.old)) }
 {
     let streams = streams_length(map.streams.as_slice());
@@ -73,6 +74,7 @@ pub fn write_pmt(map: &ProgramMap, into: &mut Section) -> Result<(), SectionFaul
 }
 
 /// What the content of a PMT section says. None where descriptors and streams don't fill it, or have no room.
+#[tactic(auto, using(crate::proofs::Elements::elements))]
 fn read_map(content: &[u8], number: u16) -> Option<ProgramMap>
     requires { length content.now ≤ 1024 }
     ensures some { IfSome result (λ program. IsMapContent program content.now × HasRoom program × (program.number ≡ number)) }

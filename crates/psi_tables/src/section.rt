@@ -83,7 +83,8 @@ pub(crate) fn content_of(bytes: &[u8]) -> Option<&[u8]>
 /// Begins a section with its header.
 pub(crate) fn put_header(into: &mut Section, table: u8, section_length: u16, extension: u16)
     requires { section_length < 2 ^ 12 }
-    ensures { into.new.items ≡ written_header table section_length extension }
+    ensures bytes { into.new.items ≡ written_header table section_length extension }
+    ensures extension { extension < 2 ^ 16 }
 {
     let [length_high, length_low] = (SYNTAX_AND_RESERVED + section_length).to_be_bytes();
     let [high, low] = extension.to_be_bytes();

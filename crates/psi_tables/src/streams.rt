@@ -1,4 +1,4 @@
-ghost use Rattle.std.specs.Prelude.{◌≡◌, ℕ, ◌+◌, ◌*◌, ◌^◌, ◌<◌, ◌≤◌, List, length, ◌++◌, map, All, Some, IsSome, MatchOption};
+ghost use Rattle.std.specs.Prelude.{◌≡◌, ℕ, ◌+◌, ◌*◌, ◌^◌, ◌<◌, ◌≤◌, List, length, ◌++◌, ◌∷◌, [], map, All, Some, IsSome, IfSome, MatchOption};
 ghost use Rattle.std.specs.List.{sum_by, flat_map};
 ghost use Rattle.psi_tables.specs.Section.{IsRow};
 ghost use Rattle.psi_tables.specs.Descriptors.{count_dropped};
@@ -7,7 +7,7 @@ ghost use Rattle.psi_tables.specs.ProgramMap.{StreamInfo, ES_info_length, IsStre
 use crate::descriptors::read_descriptors;
 use crate::pat::PID_HIGH;
 use crate::section::{LENGTH_HIGH, Section, put, put_length, put_pid};
-use crate::stream::{STREAMS_MOST, Stream};
+use crate::stream::{DESCRIPTOR_BYTES, STREAMS_MOST, Stream};
 use arrayvec::ArrayVec;
 
 /// Length of a stream's type, PID and length of descriptors in bytes.
@@ -19,6 +19,7 @@ pub(crate) fn read_streams(bytes: &[u8]) -> Option<(ArrayVec<Stream, STREAMS_MOS
     requires { length bytes.now ≤ 1024 }
     ensures exact { (infos : List StreamInfo) → IsRow IsStreamInfo infos bytes.now → length infos ≤ 64 → All IsKeepable infos → result ≡ Some (record { items = map stream_of infos }, sum_by (λ info. count_dropped info.descriptors) infos) }
     ensures some { IsSome result → (infos : List StreamInfo) × IsRow IsStreamInfo infos bytes.now × (length infos ≤ 64) × All IsKeepable infos }
+    ensures few { IfSome result (λ read. read.1 ≤ length bytes.now) }
 {
     let mut streams = ArrayVec::new();
     let mut dropped = 0;
@@ -39,7 +40,8 @@ pub(crate) fn read_streams(bytes: &[u8]) -> Option<(ArrayVec<Stream, STREAMS_MOS
 /// The length in bytes of the written streams.
 pub(crate) fn streams_length(streams: &[Stream]) -> usize
     requires { length streams.now ≤ 64 }
-    ensures { result ≡ length (flat_map written_stream streams.now) }
+    ensures value { result ≡ length (flat_map written_stream streams.now) }
+    ensures few { result ≤ STREAMS_MOST * (STREAM_BYTES + DESCRIPTOR_BYTES) }
 {
     let mut total = 0;
     for stream in streams {
@@ -52,7 +54,8 @@ pub(crate) fn streams_length(streams: &[Stream]) -> usize
 pub(crate) fn put_streams(into: &mut Section, streams: &[Stream])
     requires each { All IsStreamWritable streams.now }
     requires room { length into.old.items + length (flat_map written_stream streams.now) ≤ 1000 }
-    ensures { into.new.items ≡ into.old.items ++ flat_map written_stream streams.now }
+    ensures bytes { into.new.items ≡ into.old.items ++ flat_map written_stream streams.now }
+    ensures kinds { All (λ stream. stream.kind < 256) streams.now }
 {
     for stream in streams {
         put_stream(into, stream);
@@ -61,6 +64,7 @@ pub(crate) fn put_streams(into: &mut Section, streams: &[Stream])
 
 /// What is kept of one stream, and the number of its descriptors that aren't. None where descriptors don't fill the
 /// rest of the bytes, or the kept ones have no room.
+#[tactic(auto, using(crate::proofs::Elements::elements))]
 fn read_stream(bytes: &[u8]) -> Option<(Stream, u32)>
     requires small { length bytes.now ≤ 1024 }
     requires size { length bytes.now ≡ 5 + ES_info_length bytes.now }
@@ -96,10 +100,20 @@ fn split_info(bytes: &[u8]) -> Option<(&[u8], &[u8])>
 fn put_stream(into: &mut Section, stream: &Stream)
     requires pid { stream.now.pid < 2 ^ 13 }
     requires room { length into.old.items + length (written_stream stream.now) ≤ 1000 }
-    ensures { into.new.items ≡ into.old.items ++ written_stream stream.now }
+    ensures bytes { into.new.items ≡ into.old.items ++ written_stream stream.now }
+    ensures kind { stream.now.kind < 256 }
 {
-    put(into, &[stream.kind]);
+    put_kind(into, stream.kind);
     put_pid(into, stream.pid);
     put_length(into, stream.descriptors.len() as u16);
     put(into, stream.descriptors.as_slice());
+}
+
+/// Appends a stream's type.
+fn put_kind(into: &mut Section, kind: u8)
+    requires { length into.old.items ≤ 1000 }
+    ensures bytes { into.new.items ≡ into.old.items ++ kind ∷ [] }
+    ensures kind { kind < 256 }
+{
+    put(into, &[kind]);
 }

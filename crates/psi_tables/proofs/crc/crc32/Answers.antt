@@ -1,8 +1,8 @@
-use Rattle.std.proofs.Common.{◌≡◌, ℕ, ◌*◌, ◌%◌, ◌^◌, List, [], ◌∷◌, ◌++◌, length, get_or, take, sym, subst, ◌∙◌, ap, arith}
+use Rattle.std.proofs.Common.{take, sym, subst, arith}
 use Rattle.std.proofs.lemmas.List.{take_more, take_all}
 use Rattle.psi_tables.specs.Crc.{IsCrcOf}
 use Rattle.psi_tables.proofs.Multiples.{one_remainder}
-use Rattle.psi_tables.proofs.CrcLaws.{crc_of_none, zero_is_right, with_crc_is_right}
+use Rattle.psi_tables.proofs.CrcLaws.{crc_of_none, zero_is_right}
 use Rattle.psi_tables.proofs.crc.crc32.Goals as goal
 
 pub loop-byte-init : goal.loop-byte-init

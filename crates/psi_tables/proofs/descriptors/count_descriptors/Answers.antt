@@ -1,4 +1,4 @@
-use Rattle.std.proofs.Common.{◌≡◌, ◌+◌, ◌<◌, ◌∷◌, [], ◌++◌, List, ℕ, Some, length, length-append, ap, sym, ◌∙◌, arith}
+use Rattle.std.proofs.Common.{◌∷◌, [], ◌++◌, List, ℕ, Some, length, length-append, ap, sym, ◌∙◌, arith}
 use Rattle.psi_tables.specs.Descriptors.{IsDescriptor}
 use Rattle.psi_tables.proofs.Rows.{not_empty, empty, under_way_more, one_row}
 use Rattle.psi_tables.proofs.DescriptorRows.{descriptors_told, next_descriptor}

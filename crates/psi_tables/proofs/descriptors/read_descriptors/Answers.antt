@@ -1,8 +1,8 @@
-use Rattle.std.proofs.Common.{◌≡◌, ◌+◌, ◌<◌, ◌∷◌, [], ◌++◌, List, ℕ, Some, length, length-append, ap, ap₂, sym, refl, true, subst, ◌∙◌, arith}
+use Rattle.std.proofs.Common.{◌≡◌, ◌∷◌, ◌++◌, List, ℕ, Some, length, ap, ap₂, sym, refl, true, subst, ◌∙◌, arith}
 use Rattle.std.proofs.lemmas.Bool.{false≢true}
 use Rattle.psi_tables.specs.Section.{IsRow}
 use Rattle.psi_tables.specs.Descriptors.{IsDescriptor, is_kept, kept_bytes, count_dropped}
-use Rattle.psi_tables.proofs.Rows.{not_empty, empty, IsRow-first, under_way_more, under_way_rest, under_way_all, one_row}
+use Rattle.psi_tables.proofs.Rows.{not_empty, empty, IsRow-first, under_way_rest, under_way_all, one_row}
 use Rattle.psi_tables.proofs.DescriptorRows.{descriptors_told, next_descriptor, kept_at_least, read_kept, read_dropped}
 use Rattle.psi_tables.proofs.descriptors.read_descriptors.Goals as goal
 

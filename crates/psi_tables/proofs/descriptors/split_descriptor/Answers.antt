@@ -1,4 +1,4 @@
-use Rattle.std.proofs.Common.{◌≡◌, ◌+◌, ◌++◌, List, ℕ, take, drop, get_or, subst, sym, ap₂, ◌∙◌, arith}
+use Rattle.std.proofs.Common.{◌+◌, ◌++◌, List, ℕ, get_or, subst, sym, ap₂, ◌∙◌, arith}
 use Rattle.std.proofs.lemmas.List.{take-append-drop}
 use Rattle.psi_tables.specs.Descriptors.{IsDescriptor}
 use Rattle.psi_tables.proofs.DescriptorRows.{descriptor_fits, is_descriptor}
