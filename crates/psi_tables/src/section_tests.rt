@@ -1,10 +1,12 @@
 //! Sections from payloads, with expected values by hand and by a bitwise CRC in another language.
 
-ghost use Rattle.std.specs.Prelude.{◌≡◌, ◌<◌, ◌≤◌, [], length, OnOk};
-ghost use Rattle.psi_tables.specs.Sections.{sections_of};
+ghost use Rattle.std.specs.Prelude.{◌≡◌, ℕ, ◌<◌, ◌≤◌, Bool, List, [], length, map, All, IfOk, OnOk};
+ghost use Rattle.psi_tables.specs.Sections.{Payload, sections_of, GivesInTurn};
+ghost use Rattle.std.specs.Borrow.{Bor};
+ghost use Rattle.psi_tables.specs.SectionBuilder.{found_of};
 
 use crate::{Section, SectionBuilder, SectionFault};
-use std::alloc::AllocError;
+use std::alloc::{AllocError, Global};
 use std::test::Fail;
 
 /// The PAT section of stream 1 with program 1 on PID 0x100.
@@ -37,14 +39,33 @@ fn is_section(found: &Found, bytes: &[u8]) -> bool {
     }
 }
 
-/// Pulls until nothing waits.
+/// Pulls until nothing waits, behind what was found before.
 fn pull_all(builder: &mut SectionBuilder, found: &mut Vec<Found>) -> Result<(), AllocError>
-    ensures { OnOk result (sections_of builder.new ≡ []) }
+    ensures nothing_waits { OnOk result (sections_of builder.new ≡ []) }
+    ensures turn { OnOk result ((fed : List Payload) →
+        GivesInTurn fed (map found_of found.old.items) builder.old →
+        GivesInTurn fed (map found_of found.new.items) builder.new) }
 {
     while let Some(next) = builder.pull() {
         found.push(next)?;
     }
     Ok(())
+}
+
+/// The sections of payloads, with their start flags: the clauses of a builder's calls are enough to say that these are
+/// they.
+fn read_all(alloc: Global, payloads: &[(bool, &[u8])]) -> Result<Vec<Found>, AllocError>
+    requires { All (λ fed. length fed.1.now ≤ 184) payloads.now }
+    ensures { IfOk result (λ found. map found_of found.items ≡ sections_of (map
+        (λ (fed : Bool × Bor (List ℕ)). record { start = fed.0; bytes = fed.1.now }) payloads.now)) }
+{
+    let mut builder = SectionBuilder::new();
+    let mut found = Vec::new(alloc);
+    for fed in payloads {
+        builder.feed(fed.0, fed.1);
+        pull_all(&mut builder, &mut found)?;
+    }
+    Ok(found)
 }
 
 /// Feeds bytes in payloads of at most so many, the first with the pointer 0.
@@ -91,25 +112,28 @@ fn any_cutting_gives_the_same(rt: HostRuntime) -> Result<(), Fail> {
 }
 
 #[test]
-fn two_sections_in_one_payload_and_one_around_a_pointer(rt: HostRuntime) -> Result<(), Fail> {
-    let mut payload = [0xFF; 184];
-    payload[0] = 0;
-    payload[1..17].copy_from_slice(&PAT);
-    payload[17..29].copy_from_slice(&SHORTEST);
-    payload[29..33].copy_from_slice(&PAT[..4]);
-    let mut builder = SectionBuilder::new();
-    let mut found = Vec::new(rt.alloc());
-    builder.feed(true, &payload[..33]);
-    pull_all(&mut builder, &mut found)?;
-    assert_eq!(rt; found.len(), 2);
+fn sections_in_turn(rt: HostRuntime) -> Result<(), Fail> {
+    let none: [u8; 0] = [];
+    let mut first = [0xFF; 184];
+    first[0] = 0;
+    first[1..17].copy_from_slice(&PAT);
+    first[17..29].copy_from_slice(&SHORTEST);
+    let mut second = [0; 17];
+    second[0] = 12;
+    second[1..13].copy_from_slice(&PAT[4..]);
+    second[13..].copy_from_slice(&SHORTEST[..4]);
+    let payloads = [
+        (true, first.as_slice()),
+        (true, &[0, 0x00, 0xB0, 0x0D, 0x00]),
+        (true, none.as_slice()),
+        (true, second.as_slice()),
+        (false, &SHORTEST[4..]),
+        (false, PAT.as_slice()),
+    ];
+    let found = read_all(rt.alloc(), &payloads)?;
+    assert_eq!(rt; found.len(), 4);
     assert!(rt; is_section(&found[0], &PAT));
     assert!(rt; is_section(&found[1], &SHORTEST));
-    payload[0] = 14;
-    payload[1..13].copy_from_slice(&PAT[4..]);
-    payload[15..27].copy_from_slice(&SHORTEST);
-    builder.feed(true, &payload);
-    pull_all(&mut builder, &mut found)?;
-    assert_eq!(rt; found.len(), 4);
     assert!(rt; is_section(&found[2], &PAT));
     assert!(rt; is_section(&found[3], &SHORTEST));
     Ok(())
@@ -121,13 +145,15 @@ fn a_bad_crc_then_a_good_section(rt: HostRuntime) -> Result<(), Fail> {
     payload[1..17].copy_from_slice(&PAT);
     payload[16] ^= 1;
     payload[17..].copy_from_slice(&PAT);
-    let mut builder = SectionBuilder::new();
-    let mut found = Vec::new(rt.alloc());
-    builder.feed(true, &payload);
-    pull_all(&mut builder, &mut found)?;
-    builder.feed(true, &payload[..1]);
-    pull_all(&mut builder, &mut found)?;
-    feed_in_pieces(&mut builder, &PAT, 184, &mut found)?;
+    let mut good = [0; 17];
+    good[1..].copy_from_slice(&PAT);
+    let payloads = [
+        (true, payload.as_slice()),
+        (false, PAT.as_slice()),
+        (true, &good[..1]),
+        (true, good.as_slice()),
+    ];
+    let found = read_all(rt.alloc(), &payloads)?;
     assert_eq!(rt; found.len(), 3);
     assert!(rt; matches!(&found[0], Err(SectionFault::BadCrc)));
     assert!(rt; matches!(&found[1], Err(SectionFault::BadSection)));
