@@ -1,4 +1,14 @@
+pub mod Building
+pub mod Bytes
+pub mod CrcDivision
+pub mod Fronts
+pub mod Headers
+pub mod Held
+pub mod Reading
+pub mod Steps
+pub mod Turns
 mod Examples
+mod SectionExamples
 pub mod Xor
 pub mod Multiples
 pub mod Dividends
