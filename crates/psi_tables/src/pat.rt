@@ -6,12 +6,9 @@ ghost use Rattle.psi_tables.specs.Section.{IsCurrent, IsRow, IsWithCrc};
 ghost use Rattle.psi_tables.specs.Pat.{IsProgram, IsPat, map_pid, written_pat, written_program};
 
 use crate::section::{
-    CRC_BYTES, HEADER_BYTES, Section, SectionFault, UNCOUNTED_BYTES, content_of, is_current, put,
-    put_crc, put_header, put_pid,
+    CRC_BYTES, HEADER_BYTES, PAT_TABLE, Section, SectionFault, UNCOUNTED_BYTES, content_of,
+    is_current, put, put_crc, put_header, put_pid,
 };
-
-/// The table id of PAT sections.
-const PAT_TABLE: u8 = 0;
 
 /// Length of a program in the section, in bytes.
 const PROGRAM_BYTES: usize = 4;

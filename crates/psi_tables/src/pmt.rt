@@ -8,16 +8,13 @@ use crate::descriptors::count_descriptors;
 use crate::pat::PID_HIGH;
 use crate::program_map::ProgramMap;
 use crate::section::{
-    CRC_BYTES, HEADER_BYTES, LENGTH_HIGH, Section, SectionFault, UNCOUNTED_BYTES, content_of,
-    is_current, put_crc, put_header, put_length, put_pid,
+    CRC_BYTES, HEADER_BYTES, LENGTH_HIGH, PMT_TABLE, Section, SectionFault, UNCOUNTED_BYTES,
+    content_of, is_current, put_crc, put_header, put_length, put_pid,
 };
 use crate::streams::{put_streams, read_streams, streams_length};
 
 /// The most bytes of a section that stands in one packet, behind a pointer.
 pub const PACKET_SECTION_BYTES: usize = 183;
-
-/// The table id of PMT sections.
-const PMT_TABLE: u8 = 2;
 
 /// Length of the PCR's PID and the length of the program's own descriptors, in bytes.
 const MAP_BYTES: usize = 4;

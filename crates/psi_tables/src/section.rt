@@ -18,8 +18,14 @@ pub(crate) const HEADER_BYTES: usize = 8;
 /// Length of a section's CRC in bytes.
 pub(crate) const CRC_BYTES: usize = 4;
 
-/// The bytes that `section_length` doesn't count.
+/// The bytes that `section_length` doesn't count, itself the last of them.
 pub(crate) const UNCOUNTED_BYTES: usize = 3;
+
+/// The table id of PAT sections.
+pub(crate) const PAT_TABLE: u8 = 0;
+
+/// The table id of PMT sections.
+pub(crate) const PMT_TABLE: u8 = 2;
 
 /// The high bits of a length in its first byte.
 pub(crate) const LENGTH_HIGH: u8 = 0x0F;

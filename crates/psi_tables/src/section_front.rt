@@ -4,28 +4,16 @@ ghost use Rattle.psi_tables.specs.Sections.{length_end, is_read, has_bad_length,
 ghost use Rattle.psi_tables.specs.SectionFront.{front_bytes, is_settled, is_bad, missing_bytes, IsSound, IsHeld, IsLike, TakesIn, GoesOn, ReadsOn};
 
 use crate::crc::crc32;
-use crate::section::{Section, SectionFault};
-
-/// Length of a section's header up to `section_length` in bytes.
-const LENGTH_END: usize = 3;
+use crate::section::{LENGTH_HIGH, PAT_TABLE, PMT_TABLE, Section, SectionFault, UNCOUNTED_BYTES};
 
 /// The byte that stands behind the last section of a payload.
 const STUFFING_BYTE: u8 = 0xFF;
-
-/// The table id of the PAT.
-const PAT_TABLE_ID: u8 = 0;
-
-/// The table id of PMT sections.
-const PMT_TABLE_ID: u8 = 2;
 
 /// The least `section_length` of a PAT or PMT section: the rest of its header, and its CRC.
 const LEAST_LENGTH: usize = 9;
 
 /// The greatest `section_length` of a PAT or PMT section.
 const GREATEST_LENGTH: usize = 1021;
-
-/// The high bits of `section_length` in the header's second byte.
-const LENGTH_HIGH: u8 = 0xF;
 
 /// The bytes of a section so far.
 #[derive(Drop)]
@@ -143,7 +131,7 @@ impl SectionFront {
         if self.has_header() {
             return 0;
         }
-        let taken = (LENGTH_END - self.section.len()).min(bytes.len());
+        let taken = (UNCOUNTED_BYTES - self.section.len()).min(bytes.len());
         let _fits = self.section.try_extend_from_slice(&bytes[..taken]);
         taken
     }
@@ -192,7 +180,7 @@ impl SectionFront {
         ensures value { result ≡ nat_le length_end (length (front_bytes self.now)) }
         ensures kept { result ≡ nat_le length_end (length self.now.section.items) }
     {
-        LENGTH_END <= self.section.len()
+        UNCOUNTED_BYTES <= self.section.len()
     }
 
     fn len(&self) -> usize
@@ -207,7 +195,7 @@ impl SectionFront {
         requires { length_end ≤ length self.now.section.items }
         ensures { result ≡ section_size (front_bytes self.now) }
     {
-        LENGTH_END + section_length(&self.section)
+        UNCOUNTED_BYTES + section_length(&self.section)
     }
 
     #[tactic(auto, using(crate::proofs::Bytes::fronts))]
@@ -225,7 +213,7 @@ fn is_read(section: &[u8]) -> bool
     requires { length_end ≤ length section.now }
     ensures { result ≡ is_read section.now }
 {
-    section[0] == PAT_TABLE_ID || section[0] == PMT_TABLE_ID
+    section[0] == PAT_TABLE || section[0] == PMT_TABLE
 }
 
 /// True where the section is shorter or longer than a PAT or PMT section may be.
