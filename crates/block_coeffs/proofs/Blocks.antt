@@ -1,18 +1,21 @@
 -- A block read as a DC coefficient and a list of coefficients.
-use Rattle.std.proofs.Common.{◌≡◌, ℕ, ◌+◌, ◌≤◌, Bool, true, false, List, [], ◌∷◌, ◌++◌, length, Option, Some, None, IfSome, refl, sym, ap, ap₂, subst, ◌∙◌, arith}
+use Rattle.std.proofs.Common.{◌≡◌, ℕ, Bool, true, false, List, [], ◌++◌, Option, Some, None, IfSome, IsSomeAnd, refl, sym, ap, subst, arith}
 use Rattle.prefix_codes.specs.declared.table_name.TableName.{TableName}
 use Rattle.syntax_types.specs.declared.block.Block.{Block}
 use Rattle.syntax_types.specs.declared.block.BlockWay.{BlockWay}
 use Rattle.syntax_types.specs.declared.block.Dc.{Dc}
 use Rattle.syntax_types.specs.declared.block.RunLevel.{RunLevel}
+use Rattle.picture_grammar.specs.Refusal.{Refusal}
 use Rattle.picture_grammar.specs.Grammar.{Grammar, done, ◌>>=◌, optional, many, more_of}
 use Rattle.picture_grammar.specs.Block.{dc_table, dc_coefficient, coefficient, coefficient_table, next_place, block}
-use Rattle.picture_grammar.proofs.LocalLaws.{local-dc, local-many, local-coefficient, local-bind, local-done}
+use Rattle.picture_grammar.proofs.LocalLaws.{local-block, local-dc}
+use Rattle.picture_grammar.proofs.PictureLaws.{exact-block}
 use Rattle.block_coeffs.specs.declared.block_fault.BlockFault.{BlockFault}
-use Rattle.block_coeffs.specs.Reading.{AdvancesFrom, ReadsFrom, RefusedAt, ExplainsFrom}
+use Rattle.block_coeffs.specs.declared.block_fault.BlockFault.TheVariants as fault
+use Rattle.block_coeffs.specs.Reading.{ReadsFrom, RefusedAt, ExplainsFrom, IsOutside}
 use Rattle.block_coeffs.specs.DcStanding.{dc_by}
 use Rattle.block_coeffs.specs.Standing.{coefficient_at}
-use Rattle.block_coeffs.proofs.Grammars.{reads-then, reads-some, explains-first, explains-then}
+use Rattle.block_coeffs.proofs.Grammars.{anywhere, reads-then, reads-some, explains-first, explains-then}
 
 -- what holds where bits are told, and follows there, holds where they are told
 if_some : (told : Option (List ℕ)) (P Q : List ℕ → Type 0) → ((bits : List ℕ) → P bits → Q bits) → IfSome told P → IfSome told Q
@@ -97,3 +100,31 @@ explains-pairs way dc bits middle place place_middle first f h =
     explains-then (optional way.intra (dc_coefficient way)) (rest_of way) dc bits middle place place_middle (local-dc way) first f
     (if_some middle (λ rest. ExplainsFrom (many (coefficient way)) f rest place_middle) (λ rest. ExplainsFrom (rest_of way dc) f rest place_middle)
     (λ rest e. explains-first (many (coefficient way)) (λ coefficients. done (record { dc = dc; pairs = record { items = coefficients.0 } })) f rest place_middle e) h)
+
+-- ---- where the bits are told, the answer is theirs
+
+pub exact-read : (way : BlockWay) (v b : Block) (told after : Option (List ℕ)) (from to : ℕ) (rest : List ℕ) → ReadsFrom (block way) v told after from to
+    → IsSomeAnd told (λ bits. (block way).Spells b bits rest) → (v ≡ b) × (after ≡ Some rest)
+exact-read way v b None after from to rest r comes = absurd comes
+exact-read way v b (Some bits) None from to rest r comes = absurd (let never = r.left in cc)
+exact-read way v b (Some bits) (Some others) from to rest r comes =
+    let both : Some bits ≡ Some (r.front ++ others) = r.left in
+    let split : bits ≡ r.front ++ others = cc in
+    let spelled = subst (λ x. (block way).Spells v x others) (sym split) (anywhere (block way) v r.front (local-block way) r.spelled others) in
+    let same = (exact-block way).one_value v b bits others rest spelled comes in
+    (same.0, ap Some same.1)
+
+not-refused : (way : BlockWay) (b : Block) (refusal : Refusal) (bits rest : List ℕ) (from at : ℕ) → RefusedAt (block way) refusal bits from at → (block way).Spells b bits rest → ⊥
+not-refused way b refusal bits rest from at r comes = (exact-block way).not_both b bits rest r.left refusal comes r.refused
+
+exact-fault : (way : BlockWay) (b : Block) (f : BlockFault) (bits rest : List ℕ) (from : ℕ) → ExplainsFrom (block way) f bits from → (block way).Spells b bits rest → IsOutside f
+exact-fault way b (fault.NoCode at) bits rest from r comes = not-refused way b Refusal.NoCode bits rest from at r comes
+exact-fault way b (fault.TooMany at) bits rest from r comes = not-refused way b Refusal.TooMany bits rest from at r comes
+exact-fault way b (fault.BadEscape at) bits rest from r comes = not-refused way b Refusal.BadEscape bits rest from at r comes
+exact-fault way b (fault.End at) bits rest from r comes = not-refused way b Refusal.End bits rest from at r comes
+exact-fault way b (fault.Outside f) bits rest from r comes = tt
+
+pub exact-refused : (way : BlockWay) (b : Block) (f : BlockFault) (told : Option (List ℕ)) (rest : List ℕ) (from : ℕ) → IfSome told (λ bits. ExplainsFrom (block way) f bits from)
+    → IsSomeAnd told (λ bits. (block way).Spells b bits rest) → IsOutside f
+exact-refused way b f None rest from e comes = absurd comes
+exact-refused way b f (Some bits) rest from e comes = exact-fault way b f bits rest from e comes

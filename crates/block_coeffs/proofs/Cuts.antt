@@ -1,5 +1,5 @@
 -- Where bits end within a code, and why nothing stands at bits that no code begins.
-use Rattle.std.proofs.Common.{◌≡◌, ℕ, ◌+◌, ◌-◌, ◌/◌, ◌%◌, ◌^◌, ◌<◌, ◌≤◌, ◌↔◌, Bool, true, false, List, [], ◌∷◌, ◌++◌, length, take, Some, refl, sym, ap, ap₂, subst, ◌∙◌, inl, inr, arith}
+use Rattle.std.proofs.Common.{◌≡◌, ℕ, ◌+◌, ◌-◌, ◌/◌, ◌%◌, ◌^◌, ◌<◌, ◌≤◌, ◌↔◌, true, List, [], ◌∷◌, length, take, Some, refl, sym, ap, subst, ◌∙◌, inl, inr, arith}
 use Rattle.std.proofs.Math.Nat.{mod-lt, mod-eq_of_lt}
 use Rattle.std.proofs.lemmas.Bool.{and_parts}
 use Rattle.std.proofs.lemmas.List.{length-take, take_all, take-take}
@@ -11,13 +11,13 @@ use Rattle.prefix_codes.specs.declared.table_name.TableName.{TableName}
 use Rattle.prefix_codes.specs.TableName.{code_in, Begins}
 use Rattle.prefix_codes.proofs.CoefficientLemmas.{IsCoefficients}
 use Rattle.picture_grammar.specs.Refusal.Refusal.{TooMany, BadEscape}
-use Rattle.picture_grammar.specs.Element.{Rule, rule, passes, MayStand, Stands}
+use Rattle.picture_grammar.specs.Element.{Rule, rule, MayStand, Stands}
 use Rattle.picture_grammar.specs.Block.{Coefficient, CoefficientCode, is_within, is_level}
 use Rattle.picture_grammar.proofs.Codes.{symbol_of, fronts}
 use Rattle.block_coeffs.specs.declared.why.Why.TheVariants as why
 use Rattle.block_coeffs.specs.declared.window.Window.{Window}
 use Rattle.block_coeffs.specs.Why.{rules_at, IsWhy}
-use Rattle.block_coeffs.specs.Cut.{symbol_fits, BeginCode, BeginAllowed}
+use Rattle.block_coeffs.specs.Cut.{BeginCode, BeginAllowed}
 use Rattle.block_coeffs.specs.Standing.{seen, Shows}
 use Rattle.block_coeffs.proofs.Fronts.{front_of-bits, length-front_of}
 use Rattle.block_coeffs.proofs.Symbols.{length-code, symbol_fits-of, is_within-first, begun, NoCodeStands, may-begin}

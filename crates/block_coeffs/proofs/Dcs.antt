@@ -1,12 +1,12 @@
 -- A DC coefficient: the code of its size, and its bits.
-use Rattle.std.proofs.Common.{◌≡◌, ℕ, ◌+◌, ◌-◌, ◌*◌, ◌/◌, ◌%◌, ◌^◌, ◌<◌, ◌≤◌, ◌&&◌, ◌⊎◌, Bool, true, false, nat_le, nat_lt, List, [], ◌∷◌, ◌++◌, length, take, drop, Some, refl, sym, ap, ap₂, subst, ◌∙◌, inl, inr, arith, append-nil}
+use Rattle.std.proofs.Common.{◌≡◌, ℕ, ◌+◌, ◌-◌, ◌*◌, ◌/◌, ◌%◌, ◌^◌, ◌<◌, ◌≤◌, ◌&&◌, ◌⊎◌, Bool, true, nat_lt, List, [], ◌∷◌, ◌++◌, length, take, drop, Some, refl, sym, ap, ap₂, subst, ◌∙◌, inl, inr, arith, append-nil}
 use Rattle.std.specs.List.{list_all}
 use Rattle.std.proofs.Math.Nat.{mod-lt}
-use Rattle.std.proofs.lemmas.Bool.{and_parts, ltb-true, leb-true, cases_eq}
-use Rattle.std.proofs.lemmas.List.{length-take, length-drop, take-append-drop}
+use Rattle.std.proofs.lemmas.Bool.{and_parts, ltb-true}
+use Rattle.std.proofs.lemmas.List.{length-drop, take-append-drop}
 use Rattle.std.proofs.Math.Pow.{pow-lt}
 use Rattle.std.proofs.lemmas.Nat.{pow_pos, one_shl}
-use Rattle.bit_lists.specs.Bits.{IsPrefix, bits_of, front_of}
+use Rattle.bit_lists.specs.Bits.{IsPrefix, bits_of}
 use Rattle.bit_lists.proofs.BitLemmas.{length-bits_of, bits_of-mod}
 use Rattle.prefix_codes.specs.declared.table_name.TableName.{TableName}
 use Rattle.prefix_codes.specs.declared.table_name.TableName.TheVariants.{Address, TypeI, TypeP, TypeB, Pattern, Motion, DcLuma, DcChroma, CoeffZero, CoeffFirst, CoeffOne}
@@ -14,18 +14,16 @@ use Rattle.prefix_codes.specs.Entry.{Entry}
 use Rattle.prefix_codes.specs.TableName.{entries, code_in, Begins}
 use Rattle.prefix_codes.proofs.Computing.{tables}
 use Rattle.prefix_codes.proofs.TableLemmas.{code_in-passes}
-use Rattle.syntax_types.specs.declared.block.Dc.{Dc}
-use Rattle.picture_grammar.specs.Refusal.Refusal.{NoCode, End}
-use Rattle.picture_grammar.specs.Element.{Rule, MayStand, Stands}
+use Rattle.picture_grammar.specs.Refusal.Refusal.{End}
+use Rattle.picture_grammar.specs.Element.{MayStand}
 use Rattle.block_coeffs.specs.declared.window.Window.{Window}
 use Rattle.block_coeffs.specs.declared.why.Why.TheVariants as why
-use Rattle.block_coeffs.specs.declared.dc_standing.DcStanding.{DcStanding}
 use Rattle.block_coeffs.specs.declared.dc_standing.DcStanding.TheVariants.{Coefficient, Refused}
 use Rattle.block_coeffs.specs.Cut.{BeginCode}
 use Rattle.block_coeffs.specs.Standing.{seen, Shows}
 use Rattle.block_coeffs.specs.DcStanding.{is_sizes, dc_by, IsWhyNoSize, IsDcFound}
 use Rattle.block_coeffs.proofs.Fronts.{front_of-more, length-front_of, take-front_of}
-use Rattle.block_coeffs.proofs.Cuts.{begun-length, shows-all, shows-filled, seen-begins, begins-seen}
+use Rattle.block_coeffs.proofs.Cuts.{begun-length, shows-all, shows-filled, seen-begins}
 use Rattle.block_coeffs.proofs.Pairs.{seen-code}
 
 -- a size is at most 11, and its code and bits fit a window

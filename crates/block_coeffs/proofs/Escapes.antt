@@ -1,35 +1,34 @@
 -- An escape, whole or cut: 6 bits of code, 6 bits of run and 12 bits of level.
-use Rattle.std.proofs.Common.{◌≡◌, ℕ, ℤ, ◌+◌, ◌-◌, ◌*◌, ◌/◌, ◌%◌, ◌^◌, ◌<◌, ◌≤◌, ◌&&◌, ◌⊎◌, Bool, true, false, not, nat_eq, nat_lt, List, [], ◌∷◌, ◌++◌, length, take, drop, Some, refl, sym, ap, ap₂, subst, ◌∙◌, inl, inr, arith, append_assoc, append-nil}
+use Rattle.std.proofs.Common.{◌≡◌, ℕ, ℤ, ◌+◌, ◌-◌, ◌*◌, ◌/◌, ◌%◌, ◌^◌, ◌<◌, ◌≤◌, ◌&&◌, ◌⊎◌, true, false, not, nat_eq, nat_lt, List, [], ◌∷◌, ◌++◌, length, take, Some, refl, sym, ap, ap₂, subst, ◌∙◌, inl, inr, arith, append-nil}
 use Rattle.std.proofs.Math.Nat.{div-add-mod, mod-eq_of_lt, div-lt_iff_lt-mul}
 use Rattle.std.proofs.Math.Pow.{mod-mod-pow, pow-lt}
 use Rattle.std.proofs.lemmas.Bool.{cases_lt, and_parts, and_left, and_right, and_from, ne_eqb, eq-eqb, ltb-true, lt-ltb, le-ltb}
-use Rattle.std.proofs.lemmas.List.{length-take, length-append, take_all}
+use Rattle.std.proofs.lemmas.List.{take_all}
 use Rattle.std.proofs.lemmas.Nat.{div-mul-add, pow_pos, pow-add}
 use Rattle.bit_lists.specs.Bits.{IsPrefix, bits_of, front_of}
 use Rattle.bit_lists.proofs.BitLemmas.{length-bits_of, bits_of-mod, bits_of-same}
 use Rattle.bit_lists.proofs.JoinedLemmas.{bits_of-append}
 use Rattle.bit_lists.proofs.PrefixLemmas.{IsPrefix-either, IsPrefix-through}
-use Rattle.prefix_codes.specs.declared.symbol.TheConstants.{END_OF_BLOCK, ESCAPE, LEVELS_PER_RUN}
+use Rattle.prefix_codes.specs.declared.symbol.TheConstants.{ESCAPE}
 use Rattle.prefix_codes.specs.declared.table_name.TableName.{TableName}
 use Rattle.prefix_codes.specs.TableName.{code_in, Begins}
 use Rattle.prefix_codes.proofs.CoefficientLemmas.{IsCoefficients}
 use Rattle.prefix_codes.proofs.TableLemmas.{prefix_free}
 use Rattle.picture_grammar.specs.Refusal.Refusal.{TooMany, BadEscape, End}
-use Rattle.picture_grammar.specs.Grammar.Next.{more, last}
-use Rattle.picture_grammar.specs.Element.{Rule, rule, passes, MayStand, Stands, Breaks}
+use Rattle.picture_grammar.specs.Grammar.Next.{more}
+use Rattle.picture_grammar.specs.Element.{Rule, rule, passes, MayStand, Breaks}
 use Rattle.picture_grammar.specs.Block.{Coefficient, CoefficientCode, is_within, is_level, escape_level}
 use Rattle.picture_grammar.specs.Block.Coefficient.{end_of_block, run_size, escape}
 use Rattle.picture_grammar.proofs.Codes.{symbol_of, fronts, coefficient_code-listed, free-coefficient}
 use Rattle.picture_grammar.proofs.ElementLaws.{breaks}
 use Rattle.block_coeffs.specs.declared.window.Window.{Window}
-use Rattle.block_coeffs.specs.declared.standing.Standing.{Standing}
-use Rattle.block_coeffs.specs.declared.standing.Standing.TheVariants.{EndOfBlock, Pair, Refused}
+use Rattle.block_coeffs.specs.declared.standing.Standing.TheVariants.{Pair, Refused}
 use Rattle.block_coeffs.specs.declared.why.Why.TheVariants as why
 use Rattle.block_coeffs.specs.Why.{rules_at}
 use Rattle.block_coeffs.specs.Standing.{seen, Shows, coefficient_at, IsFound}
-use Rattle.block_coeffs.proofs.Fronts.{front_of-bits, length-front_of, take-front_of}
+use Rattle.block_coeffs.proofs.Fronts.{front_of-bits, length-front_of}
 use Rattle.block_coeffs.proofs.Symbols.{escape_code}
-use Rattle.block_coeffs.proofs.Cuts.{shows-all, shows-filled, begins-seen, begun-length}
+use Rattle.block_coeffs.proofs.Cuts.{shows-all, begins-seen, begun-length}
 use Rattle.block_coeffs.proofs.Pairs.{seen-code}
 
 -- ---- numbers

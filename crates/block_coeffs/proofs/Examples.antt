@@ -9,7 +9,7 @@ use Rattle.picture_grammar.specs.Block.{block}
 use Rattle.picture_grammar.proofs.Examples.{non_intra, one_escape, bad_escape}
 use Rattle.block_coeffs.specs.declared.block_fault.BlockFault.TheVariants as fault
 use Rattle.block_coeffs.specs.declared.window.Window.{Window}
-use Rattle.block_coeffs.specs.Cut.{symbol_fits, BeginCode, BeginAllowed}
+use Rattle.block_coeffs.specs.Cut.{symbol_fits, BeginAllowed}
 use Rattle.block_coeffs.specs.Standing.{seen, Shows}
 use Rattle.block_coeffs.specs.Reading.{ReadsFrom, ExplainsFrom}
 

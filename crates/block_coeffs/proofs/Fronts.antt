@@ -1,9 +1,9 @@
 -- The front of a window, in the bits of its number.
-use Rattle.std.proofs.Common.{◌≡◌, ℕ, zero, suc, ◌+◌, ◌-◌, ◌*◌, ◌/◌, ◌%◌, ◌^◌, ◌<◌, ◌≤◌, List, [], ◌∷◌, ◌++◌, length, take, refl, sym, ap, ap₂, subst, ◌∙◌, arith}
+use Rattle.std.proofs.Common.{◌≡◌, ℕ, ◌+◌, ◌-◌, ◌/◌, ◌^◌, ◌≤◌, ◌++◌, length, take, sym, ap, subst, ◌∙◌, arith}
 use Rattle.std.proofs.Math.Nat.{div-div-eq-div-mul}
-use Rattle.std.proofs.lemmas.List.{length-take, take-take}
+use Rattle.std.proofs.lemmas.List.{take-take}
 use Rattle.std.proofs.lemmas.Nat.{pow-add}
-use Rattle.bit_lists.specs.Bits.{bits_of, front_of, IsPrefix}
+use Rattle.bit_lists.specs.Bits.{bits_of, front_of}
 use Rattle.bit_lists.proofs.BitLemmas.{length-bits_of, take-bits_of}
 use Rattle.bit_lists.proofs.JoinedLemmas.{bits_of-append}
 

@@ -1,9 +1,9 @@
 -- Grammars read one after another.
-use Rattle.std.proofs.Common.{◌≡◌, ℕ, ◌+◌, List, [], ◌∷◌, ◌++◌, length, Option, Some, None, IfSome, refl, sym, ap, ap₂, subst, ◌∙◌, inl, inr, arith, append_assoc, append-nil, true}
+use Rattle.std.proofs.Common.{◌≡◌, ℕ, ◌+◌, List, [], ◌∷◌, ◌++◌, length, Option, Some, None, IfSome, refl, sym, ap, subst, ◌∙◌, inl, inr, arith, append_assoc, append-nil, true}
 use Rattle.std.specs.Option.{option_map}
 use Rattle.std.proofs.lemmas.List.{length-append}
 use Rattle.picture_grammar.specs.Refusal.{Refusal}
-use Rattle.picture_grammar.specs.Grammar.{Grammar, done, ◌>>=◌, optional, many, SpellsList, RefusesAfter, Next}
+use Rattle.picture_grammar.specs.Grammar.{Grammar, ◌>>=◌, optional, many, SpellsList, RefusesAfter, Next}
 use Rattle.picture_grammar.specs.Grammar.Next.{more, last}
 use Rattle.picture_grammar.specs.Exact.{IsLocal}
 use Rattle.block_coeffs.specs.declared.block_fault.BlockFault.{BlockFault}

@@ -1,28 +1,25 @@
 -- A coefficient by a code of the tables, and its sign.
-use Rattle.std.proofs.Common.{◌≡◌, ℕ, ℤ, ◌+◌, ◌-◌, ◌/◌, ◌%◌, ◌^◌, ◌<◌, ◌≤◌, Bool, true, false, nat_eq, nat_lt, List, [], ◌∷◌, ◌++◌, length, take, drop, Some, refl, sym, ap, ap₂, subst, ◌∙◌, inl, inr, arith, append-nil}
+use Rattle.std.proofs.Common.{◌≡◌, ℕ, ℤ, ◌+◌, ◌-◌, ◌/◌, ◌%◌, ◌^◌, ◌<◌, ◌≤◌, Bool, true, nat_eq, nat_lt, List, [], ◌∷◌, ◌++◌, length, take, drop, Some, refl, sym, ap, subst, ◌∙◌, inl, inr, arith, append-nil}
 use Rattle.std.proofs.lemmas.Bool.{and_from, cases_eq, eq-eqb, ne_eqb, lt-ltb, le-ltb}
-use Rattle.std.proofs.lemmas.List.{length-take, take_all, drop_all}
-use Rattle.bit_lists.specs.Bits.{IsPrefix, bits_of, front_of}
+use Rattle.std.proofs.lemmas.List.{length-take, drop_all}
+use Rattle.bit_lists.specs.Bits.{IsPrefix, bits_of}
 use Rattle.bit_lists.specs.Fields.{flag}
 use Rattle.prefix_codes.specs.declared.symbol.TheConstants.{END_OF_BLOCK, ESCAPE, LEVELS_PER_RUN}
 use Rattle.prefix_codes.specs.declared.table_name.TableName.{TableName}
 use Rattle.prefix_codes.specs.TableName.{code_in, coefficient_code, Begins}
 use Rattle.prefix_codes.proofs.CoefficientLemmas.{IsCoefficients, coefficient_code-symbol}
-use Rattle.syntax_types.specs.declared.block.RunLevel.{RunLevel}
-use Rattle.picture_grammar.specs.Refusal.{Refusal}
 use Rattle.picture_grammar.specs.Refusal.Refusal.{TooMany, BadEscape, End}
 use Rattle.picture_grammar.specs.Grammar.Next.{more, last}
-use Rattle.picture_grammar.specs.Element.{Rule, rule, MayStand, Stands}
-use Rattle.picture_grammar.specs.Block.{Coefficient, CoefficientCode, is_within, is_level, signed}
-use Rattle.picture_grammar.specs.Block.Coefficient.{end_of_block, run_size, escape}
+use Rattle.picture_grammar.specs.Element.{rule}
+use Rattle.picture_grammar.specs.Block.{CoefficientCode, is_within, is_level, signed}
+use Rattle.picture_grammar.specs.Block.Coefficient.{end_of_block, run_size}
 use Rattle.picture_grammar.proofs.Codes.{free-coefficient}
 use Rattle.picture_grammar.proofs.ElementLaws.{breaks}
 use Rattle.block_coeffs.specs.declared.window.Window.{Window}
-use Rattle.block_coeffs.specs.declared.standing.Standing.{Standing}
 use Rattle.block_coeffs.specs.declared.standing.Standing.TheVariants.{EndOfBlock, Pair, Refused}
 use Rattle.block_coeffs.specs.declared.why.Why.TheVariants as why
-use Rattle.block_coeffs.specs.Standing.{seen, Shows, coefficient_at, IsFound}
-use Rattle.block_coeffs.proofs.Fronts.{front_of-bits, front_of-more, length-front_of, take-front_of}
+use Rattle.block_coeffs.specs.Standing.{seen, coefficient_at, IsFound}
+use Rattle.block_coeffs.proofs.Fronts.{front_of-more, length-front_of, take-front_of}
 use Rattle.block_coeffs.proofs.Symbols.{shorter-code, length-code}
 use Rattle.block_coeffs.proofs.Cuts.{shows-all, begins-seen}
 

@@ -1,24 +1,24 @@
 -- The symbols of coefficients, and the codes that some bits begin.
-use Rattle.std.proofs.Common.{◌≡◌, ℕ, ◌+◌, ◌*◌, ◌/◌, ◌%◌, ◌<◌, ◌≤◌, ◌&&◌, ◌⊎◌, Bool, true, false, cond, nat_eq, nat_lt, nat_le, List, [], ◌∷◌, ◌++◌, length, take, Some, refl, sym, ap, ap₂, subst, ◌∙◌, inl, inr, arith, append_assoc}
+use Rattle.std.proofs.Common.{◌≡◌, ℕ, ◌+◌, ◌*◌, ◌/◌, ◌%◌, ◌<◌, ◌≤◌, ◌⊎◌, Bool, true, false, cond, nat_eq, nat_lt, List, ◌++◌, length, Some, refl, sym, ap, subst, ◌∙◌, inl, inr, arith, append_assoc}
 use Rattle.std.specs.List.{list_all}
-use Rattle.std.proofs.lemmas.Bool.{and_parts, and_from, cases_eq, cond_both, cond-true, cond-false, eq-eqb, ne_eqb, ltb-true, lt-ltb, leb-true, both_ways}
+use Rattle.std.proofs.lemmas.Bool.{and_from, cases_eq, cond_both, cond-false, ne_eqb, ltb-true, lt-ltb}
 use Rattle.bit_lists.specs.Bits.{IsPrefix, bits_of}
 use Rattle.bit_lists.proofs.PrefixLemmas.{IsPrefix-append, IsPrefix-either, IsPrefix-through}
 use Rattle.prefix_codes.specs.declared.symbol.TheConstants.{END_OF_BLOCK, ESCAPE, LEVELS_PER_RUN}
 use Rattle.prefix_codes.specs.declared.table_name.TableName.{TableName}
 use Rattle.prefix_codes.specs.declared.table_name.TableName.TheVariants.{Address, TypeI, TypeP, TypeB, Pattern, Motion, DcLuma, DcChroma, CoeffZero, CoeffFirst, CoeffOne}
 use Rattle.prefix_codes.specs.Entry.{Entry}
-use Rattle.prefix_codes.specs.TableName.{entries, code_in, coefficient_code}
+use Rattle.prefix_codes.specs.TableName.{entries, code_in}
 use Rattle.prefix_codes.proofs.Computing.{tables}
 use Rattle.prefix_codes.proofs.TableLemmas.{code_in-passes}
 use Rattle.prefix_codes.proofs.CoefficientLemmas.{IsCoefficients, coefficient_code-symbol}
 use Rattle.prefix_codes.proofs.CoefficientLemmas.IsCoefficients.{zero_is, first_is, one_is}
 use Rattle.picture_grammar.specs.Element.{Rule, passes, MayStand}
-use Rattle.picture_grammar.specs.Block.{Coefficient, CoefficientCode, is_within, is_level}
+use Rattle.picture_grammar.specs.Block.{Coefficient, CoefficientCode, is_within}
 use Rattle.picture_grammar.specs.Block.Coefficient.{end_of_block, run_size, escape}
 use Rattle.picture_grammar.proofs.Codes.{symbol_of, fronts, coefficient_code-listed}
 use Rattle.block_coeffs.specs.Why.{is_coefficients, rules_at}
-use Rattle.block_coeffs.specs.Cut.{least_run, symbol_fits, BeginCode, BeginAllowed}
+use Rattle.block_coeffs.specs.Cut.{least_run, symbol_fits, BeginCode}
 
 pub coefficients-is : (table : TableName) → is_coefficients table ≡ true → IsCoefficients table
 coefficients-is Address e = cc

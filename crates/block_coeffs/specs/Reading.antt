@@ -1,5 +1,5 @@
 -- What a reader of blocks took of the bits that are left, and what it says of those that it didn't.
-use Rattle.std.specs.Prelude.{◌≡◌, ◌+◌, ℕ, List, [], ◌++◌, length, Option, IfSome}
+use Rattle.std.specs.Prelude.{◌≡◌, ◌+◌, ℕ, List, [], ◌++◌, length, Option, IfSome, IsSomeAnd}
 use Rattle.std.specs.Option.{option_map}
 use Rattle.shelf_io.specs.declared.source.Source.{Ghosts}
 use Rattle.bit_cursor.specs.declared.bit_reader.BitReader.{BitReader}
@@ -49,6 +49,10 @@ Advances old new = AdvancesFrom (bits_left old) (bits_left new) (place old) (pla
 -- the bits that were taken spell this value
 abbrev pub Reads : {A : Type 0} {S : Type 0} {g : Ghosts S} → Grammar A → A → BitReader S g → BitReader S g → Type 0
 Reads grammar value old new = ReadsFrom grammar value (bits_left old) (bits_left new) (place old) (place new)
+
+-- the next bits, which are told, begin with a spelling of this value
+abbrev pub Comes : {A : Type 0} {S : Type 0} {g : Ghosts S} → Grammar A → A → BitReader S g → List ℕ → Type 0
+Comes grammar value reader rest = IsSomeAnd (bits_left reader) (λ bits. grammar.Spells value bits rest)
 
 -- the fault says how and where the next bits are refused, where they are told
 abbrev pub Explains : {A : Type 0} {S : Type 0} {g : Ghosts S} → Grammar A → BitReader S g → BlockFault → Type 0

@@ -1,12 +1,13 @@
-ghost use Rattle.std.specs.Prelude.{◌≡◌, ◌≤◌, ◌<◌, ◌+◌, IfOk, IfErr, OnErr, IfSome, IsErrOf, IsTrue, length};
+ghost use Rattle.std.specs.Prelude.{◌≡◌, ◌≤◌, ◌<◌, ◌+◌, IfOk, IfErr, OnErr, IfSome, IsErrOf, IsTrue, MatchResult, List, ℕ, length};
 ghost use Rattle.shelf_io.specs.Counts.{Rose};
 ghost use Rattle.bit_cursor.specs.BitReader.{bits_left, without_bits, place, faults_of, absences_of, KeepsSource};
+ghost use Rattle.syntax_types.specs.declared.block.Block.{Block};
 ghost use Rattle.picture_grammar.specs.Grammar.{many, optional, more_of};
 ghost use Rattle.picture_grammar.specs.Block.{block, coefficient, dc_coefficient};
 ghost use Rattle.block_coeffs.specs.DcStanding.{is_sizes, dc_by};
 ghost use Rattle.block_coeffs.specs.Why.{is_coefficients};
 ghost use Rattle.block_coeffs.specs.Standing.{coefficient_at, Shows};
-ghost use Rattle.block_coeffs.specs.Reading.{Advances, Reads, Explains, IsOutside};
+ghost use Rattle.block_coeffs.specs.Reading.{Advances, Reads, Comes, Explains, IsOutside};
 
 use crate::block_fault::BlockFault;
 use crate::coefficient_table::{size_table, table_at};
@@ -27,6 +28,8 @@ pub fn read_block<S: Source>(
     way: BlockWay,
 ) -> Result<Block, BlockFault>
     ensures ok { IfOk result (λ b. Reads (block way) b from.old from.new) }
+    ensures exact { (b : Block) (rest : List ℕ) → Comes (block way) b from.old rest →
+        MatchResult result (λ found. (found ≡ b) × (bits_left from.new ≡ Some rest)) IsOutside }
     ensures refused { IfErr result (Explains (block way) from.old) }
     ensures advances { Advances from.old from.new }
 
@@ -98,10 +101,7 @@ fn read_pairs<S: Source>(
 {
     let mut pairs = ArrayVec::new();
     let mut index = u32::from(way.intra);
-    'coefficients: loop {
-        let Some(pair) = next_coefficient(from, table_at(way, index), index)? else {
-            break;
-        };
+    'coefficients: while let Some(pair) = next_coefficient(from, table_at(way, index), index)? {
         pairs.push(pair);
         index += u32::from(pair.run) + 1;
     }

@@ -1,4 +1,3 @@
-use Rattle.std.proofs.Common.{◌≡◌, arith}
 use Rattle.std.proofs.lemmas.Bool.{iff_false}
 use Rattle.block_coeffs.proofs.Symbols.{coefficients-is}
 use Rattle.block_coeffs.proofs.Cuts.{why-full, why-end, why-too_many, why-no_code}

@@ -1,8 +1,7 @@
 use Rattle.std.specs.Option.{option_map}
-use Rattle.std.proofs.Common.{◌≡◌, ℕ, ◌+◌, ◌≤◌, List, length, drop, Option, IfSome, sym, ap, subst, ◌∙◌, arith}
+use Rattle.std.proofs.Common.{◌+◌, ◌≤◌, length, drop, IfSome, sym, ap, subst, ◌∙◌, arith}
 use Rattle.bit_cursor.specs.BitReader.{bits_left, place}
-use Rattle.picture_grammar.specs.Grammar.{Grammar}
-use Rattle.block_coeffs.specs.Standing.{coefficient_at, Shows}
+use Rattle.block_coeffs.specs.Standing.{coefficient_at}
 use Rattle.block_coeffs.specs.Reading.{ExplainsFrom}
 use Rattle.block_coeffs.proofs.Steps.{shown-told, reads-found, explains-found}
 use Rattle.block_coeffs.proofs.reading.next_coefficient.Goals as goal

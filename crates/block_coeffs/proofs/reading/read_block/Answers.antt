@@ -1,10 +1,9 @@
-use Rattle.std.proofs.Common.{◌≡◌, IfSome, sym, ap, subst, ◌∙◌}
 use Rattle.std.proofs.lemmas.Result.{err_from_is_err_and}
 use Rattle.bit_cursor.specs.BitReader.{bits_left, place}
 use Rattle.picture_grammar.specs.Grammar.{many, optional}
-use Rattle.picture_grammar.specs.Block.{coefficient, dc_coefficient, block}
+use Rattle.picture_grammar.specs.Block.{coefficient, dc_coefficient}
 use Rattle.block_coeffs.proofs.Grammars.{advances-on, reads-advances}
-use Rattle.block_coeffs.proofs.Blocks.{reads-block, explains-dc, explains-pairs}
+use Rattle.block_coeffs.proofs.Blocks.{reads-block, explains-dc, explains-pairs, exact-read, exact-refused}
 use Rattle.block_coeffs.proofs.reading.read_block.Goals as goal
 
 pub returns-in_err-dc-clause-refused : goal.returns-in_err-dc-clause-refused
@@ -35,3 +34,23 @@ returns-clause-advances g c =
     let first = reads-advances (optional way.intra (dc_coefficient way)) c.in_ok-dc.dc (bits_left c.args.from.now) (bits_left c.read_first.new.from) (place c.args.from.now) (place c.read_first.new.from) c.in_ok-dc.ensures.ok in
     let others = reads-advances (many (coefficient way)) (c.in_ok-pairs.pairs.items, tt) (bits_left c.read_first.new.from) (bits_left c.read_pairs.new.from) (place c.read_first.new.from) (place c.read_pairs.new.from) c.in_ok-pairs.ensures.ok in
     advances-on (bits_left c.args.from.now) (bits_left c.read_first.new.from) (bits_left c.read_pairs.new.from) (place c.args.from.now) (place c.read_first.new.from) (place c.read_pairs.new.from) first others
+
+pub returns-in_err-dc-clause-exact : goal.returns-in_err-dc-clause-exact
+returns-in_err-dc-clause-exact g c = λ b rest comes.
+    let p = err_from_is_err_and c.from_residual.result c.from_residual.ensures.1 in
+    rw (p.1, p.2) (exact-refused c.args.way b c.in_err-dc.field-0.0 (bits_left c.args.from.now) rest (place c.args.from.now)
+    (explains-dc c.args.way c.in_err-dc.field-0.0 (bits_left c.args.from.now) (place c.args.from.now) c.in_err-dc.ensures.refused) comes)
+
+pub returns-in_err-pairs-clause-exact : goal.returns-in_err-pairs-clause-exact
+returns-in_err-pairs-clause-exact g c = λ b rest comes.
+    let p = err_from_is_err_and c.from_residual-in_err-pairs.result c.from_residual-in_err-pairs.ensures.1 in
+    rw (p.1, p.2) (exact-refused c.args.way b c.in_err-pairs.field-0.0 (bits_left c.args.from.now) rest (place c.args.from.now)
+    (explains-pairs c.args.way c.in_ok-dc.dc (bits_left c.args.from.now) (bits_left c.read_first.new.from) (place c.args.from.now) (place c.read_first.new.from) c.in_ok-dc.ensures.ok
+    c.in_err-pairs.field-0.0 c.in_err-pairs.ensures.refused) comes)
+
+pub returns-clause-exact : goal.returns-clause-exact
+returns-clause-exact g c = λ b rest comes.
+    exact-read c.args.way (record { dc = c.in_ok-dc.dc; pairs = record { items = c.in_ok-pairs.pairs.items } }) b (bits_left c.args.from.now) (bits_left c.read_pairs.new.from) (place c.args.from.now) (place c.read_pairs.new.from) rest
+    (reads-block c.args.way c.in_ok-dc.dc c.in_ok-pairs.pairs.items (bits_left c.args.from.now) (bits_left c.read_first.new.from) (bits_left c.read_pairs.new.from) (place c.args.from.now) (place c.read_first.new.from) (place c.read_pairs.new.from)
+    c.in_ok-dc.ensures.ok c.in_ok-pairs.ensures.ok)
+    comes

@@ -1,4 +1,3 @@
-use Rattle.std.proofs.Common.{◌≡◌}
 use Rattle.std.proofs.lemmas.Result.{err_from_is_err_and}
 use Rattle.bit_cursor.specs.BitReader.{bits_left, place}
 use Rattle.block_coeffs.proofs.Blocks.{explains-first_dc}

@@ -1,4 +1,4 @@
-use Rattle.std.proofs.Common.{◌≡◌, ◌≤◌, rules, w16, SFits, to_z, of_z, inl, inr, ◌∙◌, arith}
+use Rattle.std.proofs.Common.{◌≡◌, rules, w16, SFits, to_z, of_z, inl, inr, ◌∙◌, arith}
 use Rattle.std.proofs.lemmas.Int.{to_z-of_z}
 use Rattle.block_coeffs.proofs.Symbols.{coefficients-is}
 use Rattle.block_coeffs.proofs.Escapes.{past-found, end-found, forbidden-whole, pair-whole}

@@ -1,8 +1,6 @@
-use Rattle.std.proofs.Common.{◌≡◌, ℕ, List, Some, None, refl, sym, ap, ap₂, subst, ◌∙◌, arith, inl}
+use Rattle.std.proofs.Common.{◌≡◌, Some, refl, sym, ap, ap₂, ◌∙◌, arith, inl}
 use Rattle.std.proofs.lemmas.Option.{none-some}
 use Rattle.prefix_codes.specs.declared.symbol.TheConstants.{END_OF_BLOCK, ESCAPE}
-use Rattle.prefix_codes.specs.TableName.{Begins}
-use Rattle.block_coeffs.specs.Standing.{seen}
 use Rattle.block_coeffs.proofs.Pairs.{end-found}
 use Rattle.block_coeffs.proofs.standing.what_stands.Goals as goal
 

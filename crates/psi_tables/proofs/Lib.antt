@@ -1,0 +1,24 @@
+pub mod Building
+pub mod Bytes
+pub mod CrcDivision
+pub mod Fronts
+pub mod Headers
+pub mod Held
+pub mod Reading
+pub mod Steps
+pub mod Turns
+mod Examples
+mod SectionExamples
+pub mod Xor
+pub mod Multiples
+pub mod Dividends
+pub mod RemainderTable
+pub mod CrcLaws
+pub mod WrittenPmt
+pub mod WrittenPat
+pub mod ProgramRows
+pub mod MapContents
+pub mod StreamRows
+pub mod DescriptorRows
+pub mod Rows
+pub mod Elements

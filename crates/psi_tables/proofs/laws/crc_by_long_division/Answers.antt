@@ -1,0 +1,8 @@
+use Rattle.std.proofs.Common.{◌≡◌, ℕ, sym, subst}
+use Rattle.psi_tables.specs.Crc.{IsCrcOf}
+use Rattle.psi_tables.specs.Sections.{crc_over}
+use Rattle.psi_tables.proofs.CrcDivision.{crc_over-is, crc_over-only}
+use Rattle.psi_tables.proofs.laws.crc_by_long_division.Goals as goal
+
+pub returns : goal.returns
+returns c bytes crc = (crc_over-only bytes crc, λ is. subst (λ (n : ℕ). IsCrcOf n bytes) (sym is) (crc_over-is bytes))
