@@ -1,8 +1,8 @@
 -- Blocks that some bits spell can be written.
-use Rattle.std.proofs.Common.{◌≡◌, ℕ, zero, suc, ℤ, pos, negsuc, neg_ℤ, unsigned_abs, ◌+◌, ◌-◌, ◌*◌, ◌^◌, ◌<◌, ◌≤◌, ◌&&◌, List, [], ◌∷◌, ◌++◌, Option, Some, None, Result, Bool, true, false, not, cond, nat_eq, nat_lt, if◌then◌else◌, refl, w16, to_z, of_z, sym, ap, ap₂, subst, ◌∙◌, inl, inr, add-zero, add-one, length, get_or, drop, drop-cons, append_assoc, arith}
+use Rattle.std.proofs.Common.{◌≡◌, ℕ, ℤ, unsigned_abs, ◌+◌, ◌*◌, ◌^◌, ◌<◌, ◌≤◌, ◌&&◌, List, [], ◌∷◌, ◌++◌, Option, None, Result, Bool, true, false, nat_lt, if◌then◌else◌, refl, w16, to_z, of_z, sym, ap, subst, ◌∙◌, add-one, length, get_or, drop, drop-cons, append_assoc, arith}
 use mir.Val.{bool_byte}
 use Rattle.std.proofs.lemmas.Int.{to_z-of_z, fits_signed_from_abs}
-use Rattle.std.proofs.lemmas.Bool.{and_parts, cases_lt, lt-ltb, le-ltb, ltb-true, eq-eqb}
+use Rattle.std.proofs.lemmas.Bool.{lt-ltb, ltb-true}
 use Rattle.std.proofs.lemmas.List.{drop_all}
 use Rattle.shelf_io.specs.declared.fault.Fault.{Fault}
 use Rattle.bit_lists.specs.Bits.{bits_of}
@@ -11,7 +11,6 @@ use Rattle.bit_cursor.specs.declared.bit_writer.BitWriter.{BitWriter}
 use Rattle.bit_cursor.specs.BitWriter.{Writes}
 use Rattle.prefix_codes.specs.declared.symbol.TheConstants.{END_OF_BLOCK}
 use Rattle.prefix_codes.specs.declared.table_name.TableName.{TableName}
-use Rattle.prefix_codes.specs.declared.table_name.TableName.TheVariants.{DcLuma, DcChroma}
 use Rattle.prefix_codes.specs.TableName.{code_in, coefficient_code}
 use Rattle.syntax_types.specs.declared.block.BlockWay.{BlockWay}
 use Rattle.syntax_types.specs.declared.block.RunLevel.{RunLevel}

@@ -1,5 +1,4 @@
-use Rattle.std.proofs.Common.{◌≡◌, Ok, Option, List, ◌++◌, ap, ap₂, sym, ◌∙◌, subst}
-use Rattle.syntax_types.specs.declared.block.Dc.{Dc}
+use Rattle.std.proofs.Common.{Ok, ◌++◌, ap, sym, subst}
 use Rattle.bit_cursor.specs.BitWriter.{Writes}
 use Rattle.bit_cursor.proofs.Composed.{writes_none, writes_then, writes_exit}
 use Rattle.picture_grammar.specs.Written.{if_any, written_dc, written_coefficients, written_block}

@@ -1,11 +1,11 @@
-use Rattle.std.proofs.Common.{◌≡◌, ◌+◌, ◌*◌, ◌^◌, ◌<◌, ℕ, ℤ, pos, w16, to_z, of_z, Bool, true, false, refl, unsigned_abs, int_lt, List, [], ◌∷◌, ◌++◌, Option, Some, ap, ap₂, sym, ◌∙◌, arith}
+use Rattle.std.proofs.Common.{◌≡◌, ◌+◌, ◌*◌, ◌^◌, ◌<◌, ℕ, ℤ, pos, w16, to_z, of_z, Bool, unsigned_abs, int_lt, [], ◌∷◌, ◌++◌, ap, ap₂, sym, ◌∙◌, arith}
 use mir.Val.{bool_byte}
 use Rattle.std.specs.Option.{option_map_or}
 use Rattle.bit_lists.specs.Bits.{bits_of}
 use Rattle.bit_lists.specs.Fields.{flag}
 use Rattle.bit_lists.proofs.JoinedLemmas.{bits_of-put}
 use Rattle.prefix_codes.specs.TableName.{coefficient_code}
-use Rattle.picture_grammar.specs.Written.{written_escape, written_coefficient}
+use Rattle.picture_grammar.specs.Written.{written_escape}
 use Rattle.block_coeffs.proofs.Writing.{writes_as, as_flag, sign_bit, flag_below, held_level}
 use Rattle.block_coeffs.proofs.written.write_coefficient.Goals as goal
 

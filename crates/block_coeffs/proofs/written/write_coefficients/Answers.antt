@@ -1,10 +1,8 @@
-use Rattle.std.proofs.Common.{rules, ◌≡◌, ◌+◌, ◌<◌, ◌≤◌, ℕ, Ok, List, [], ◌∷◌, ◌++◌, drop, get_or, length, pos, ap, ap₂, sym, ◌∙◌, subst, refl, arith}
+use Rattle.std.proofs.Common.{◌≡◌, ◌+◌, ◌<◌, ◌≤◌, ℕ, [], ◌++◌, drop, get_or, length, pos, ap, ap₂, sym, ◌∙◌, subst, arith}
 use Rattle.prefix_codes.specs.declared.symbol.TheConstants.{END_OF_BLOCK}
 use Rattle.prefix_codes.specs.declared.table_name.TableName.{TableName}
 use Rattle.syntax_types.specs.declared.block.RunLevel.{RunLevel}
-use Rattle.bit_cursor.specs.BitWriter.{Writes}
 use Rattle.bit_cursor.proofs.Composed.{writes_none, writes_then, writes_exit}
-use Rattle.picture_grammar.specs.Block.{coefficient_table}
 use Rattle.picture_grammar.specs.Written.{code_for, written_coefficient, written_coefficients}
 use Rattle.block_coeffs.specs.Writing.{first_place, CanFollow}
 use Rattle.block_coeffs.proofs.Writing.{writes_as, one_more, others_follow, only_the_end, as_flag}

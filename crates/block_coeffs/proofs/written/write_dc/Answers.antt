@@ -1,4 +1,4 @@
-use Rattle.std.proofs.Common.{◌++◌, ap₂, ◌∙◌}
+use Rattle.std.proofs.Common.{◌++◌, ap₂}
 use Rattle.bit_lists.specs.Bits.{bits_of}
 use Rattle.bit_cursor.proofs.Composed.{writes_then}
 use Rattle.picture_grammar.specs.Written.{code_for}
