@@ -1,4 +1,4 @@
-ghost use Rattle.std.specs.Prelude.{◌≡◌, ◌≤◌, ◌<◌, ◌^◌, ◌↔◌, IsTrue, IfSome, IfNone, unsigned_abs};
+ghost use Rattle.std.specs.Prelude.{◌≡◌, ◌-◌, ◌≤◌, ◌<◌, ◌^◌, ◌↔◌, IsTrue, IfSome, IfNone, unsigned_abs};
 ghost use Rattle.bit_lists.specs.Bits.{bits_of};
 ghost use Rattle.prefix_codes.specs.TableName.{coefficient_code as code_of_coefficient};
 ghost use Rattle.picture_grammar.specs.Written.{code_for as bits_for, level_bits};
@@ -43,7 +43,7 @@ fn is_listed(run: u16, size: u16) -> bool
 
 /// A level behind an escape: 12 bits of two's complement (Table B-16).
 pub fn level_field(level: i16) -> u32
-    requires { unsigned_abs level < 2 ^ 11 }
+    requires { unsigned_abs level < 2 ^ (LEVEL_BITS - 1) }
     ensures field { result ≡ level_bits level }
     ensures fits { result < 2 ^ LEVEL_BITS }
 {
