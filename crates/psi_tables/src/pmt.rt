@@ -55,7 +55,7 @@ pub fn write_pmt(map: &ProgramMap, into: &mut Section) -> Result<(), SectionFaul
     ensures bytes { OnOk result (IsWithCrc (written_pmt map.now) into.new.items) }
     // What is written is a section of this program, nothing dropped, that has room, and its CRC is right.
     ensures map { OnOk result (IsPmt (without_dropped map.now) into.new.items) }
-    ensures room { OnOk result (HasRoom map.now) }
+    ensures room { OnOk result (HasRoom (without_dropped map.now)) }
     ensures crc { OnOk result (HasRightCrc into.new.items) }
     ensures long { (result ≡ Err SectionFault.TooLong) ↔ (183 < pmt_length map.now) }
     ensures err { IfErr result (λ fault. (fault ≡ SectionFault.TooLong) × (into.new ≡ into.old)) }
