@@ -5,11 +5,10 @@ ghost use Rattle.psi_tables.specs.Section.{IsCurrent, IsWithCrc};
 ghost use Rattle.psi_tables.specs.Pmt.{IsMapContent, IsPmt, HasRoom, IsWritable, written_pmt, pmt_length, without_dropped};
 
 use crate::descriptors::count_descriptors;
-use crate::pat::PID_HIGH;
 use crate::program_map::ProgramMap;
 use crate::section::{
-    CRC_BYTES, HEADER_BYTES, LENGTH_HIGH, Section, SectionFault, UNCOUNTED_BYTES, content_of,
-    is_current, put_crc, put_header, put_length, put_pid,
+    CRC_BYTES, HEADER_BYTES, LENGTH_HIGH, PID_HIGH, Section, SectionFault, UNCOUNTED_BYTES,
+    content_of, is_current, put_crc, put_header, put_length, put_pid,
 };
 use crate::streams::{put_streams, read_streams, streams_length};
 

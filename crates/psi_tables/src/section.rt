@@ -21,6 +21,9 @@ pub(crate) const CRC_BYTES: usize = 4;
 /// The bytes that `section_length` doesn't count.
 pub(crate) const UNCOUNTED_BYTES: usize = 3;
 
+/// The high bits of a PID in its first byte.
+pub(crate) const PID_HIGH: u8 = 0x1F;
+
 /// The high bits of a length in its first byte.
 pub(crate) const LENGTH_HIGH: u8 = 0x0F;
 
