@@ -1,4 +1,5 @@
 pub mod BitLemmas
 pub mod FieldLemmas
+pub mod JoinedLemmas
 pub mod PrefixLemmas
 pub mod WordLemmas

@@ -2,11 +2,11 @@
 use Rattle.std.proofs.Common.{◌≡◌, ℕ, ◌^◌, ◌<◌, ◌≤◌, ◌⊎◌, List, [], ◌∷◌, ◌++◌, length, take, drop, refl, sym, ap, ap₂, ◌∙◌, inl, inr, arith}
 use Rattle.std.proofs.lemmas.Bool.{cases_lt}
 use Rattle.std.proofs.lemmas.List.{take-append-le, take-append-drop, take-take, take_all, length-take}
-use Rattle.std.specs.List.{AllByRecursion}
 use Rattle.std.proofs.Math.Nat.{mod-eq_of_lt}
-use Rattle.bit_lists.specs.Bits.{IsPrefix, bits_of}
-use Rattle.bit_lists.specs.Fields.{bit_list, bits_of_byte}
+use Rattle.bit_lists.specs.Bits.{IsPrefix}
+use Rattle.bit_lists.specs.Fields.{AreBytes, bit_list, bits_of_byte}
 use Rattle.bit_lists.proofs.BitLemmas.{bits_of-same}
+use Rattle.bit_lists.proofs.JoinedLemmas.{bits_of-byte}
 
 -- what is put in front is at the front
 pub IsPrefix-append : (front rest : List ℕ) → IsPrefix front (front ++ rest)
@@ -42,17 +42,12 @@ IsPrefix-whole c d same begins = sym begins ∙ take_all (length c) d (omega ari
 
 -- ---- bytes
 
--- a byte's bits are the lowest eight of its number
-bits_of-byte : (byte : ℕ) → bits_of 8 byte ≡ bits_of_byte byte
-unfolding bits_of
-bits_of-byte byte = refl
-
 pub bits_of_byte-same : (x y : ℕ) → x < 2 ^ 8 → y < 2 ^ 8 → bits_of_byte x ≡ bits_of_byte y → x ≡ y
 bits_of_byte-same x y lt lt' same =
     sym (mod-eq_of_lt lt) ∙ bits_of-same 8 x y (bits_of-byte x ∙ same ∙ sym (bits_of-byte y)) ∙ mod-eq_of_lt lt'
 
 -- bytes with the same bits are the same bytes
-pub bit_list-same : (xs ys : List ℕ) → AllByRecursion (λ byte. byte < 2 ^ 8) xs → AllByRecursion (λ byte. byte < 2 ^ 8) ys → bit_list xs ≡ bit_list ys → xs ≡ ys
+pub bit_list-same : (xs ys : List ℕ) → AreBytes xs → AreBytes ys → bit_list xs ≡ bit_list ys → xs ≡ ys
 bit_list-same [] [] are are' same = refl
 bit_list-same [] (y ∷ ys) are are' same = cc
 bit_list-same (x ∷ xs) [] are are' same = cc

@@ -1,6 +1,6 @@
 -- Numbers and flags in the bits of bytes (ISO/IEC 13818-1, 2.2.6).
-use Rattle.std.specs.Prelude.{ℕ, zero, suc, ◌+◌, ◌-◌, ◌*◌, ◌/◌, ◌%◌, Bool, List, [], ◌∷◌, slice_index, if◌then◌else◌}
-use Rattle.std.specs.List.{flat_map}
+use Rattle.std.specs.Prelude.{ℕ, zero, suc, ◌+◌, ◌-◌, ◌*◌, ◌/◌, ◌%◌, ◌^◌, ◌<◌, Bool, List, [], ◌∷◌, slice_index, if◌then◌else◌}
+use Rattle.std.specs.List.{flat_map, AllByRecursion}
 use Rattle.std.specs.Int.{bit_at}
 
 -- bit i of the bytes, bit 0 being the most significant one of the first byte; past the end all are 0
@@ -11,6 +11,10 @@ bit bytes i = bit_at (slice_index bytes (i / 8)) (7 - i % 8)
 unfoldable pub bits : List ℕ → ℕ → ℕ → ℕ
 bits bytes first zero = 0
 bits bytes first (suc n) = 2 * bits bytes first n + bit bytes (first + n)
+
+-- bytes, as numbers below 256
+abbrev pub AreBytes : List ℕ → Type 0
+AreBytes bytes = AllByRecursion (λ byte. byte < 2 ^ 8) bytes
 
 -- a byte's bits, most significant first
 abbrev pub bits_of_byte : ℕ → List ℕ

@@ -129,7 +129,7 @@ free-type table v w c d p q begins =
 -- ---- coefficients
 
 -- the symbol of a coefficient's code
-symbol_of : Coefficient → ℕ
+unfoldable pub symbol_of : Coefficient → ℕ
 symbol_of end_of_block = END_OF_BLOCK
 symbol_of (run_size run size) = LEVELS_PER_RUN * run + size
 symbol_of (escape run level) = ESCAPE
@@ -148,7 +148,7 @@ coefficient_code-listed table run size code found =
     (ltb-true run RUNS firsts.0, ltb-true 0 size firsts.1, ltb-true size LEVELS_PER_RUN tests.1, parts.1)
 
 -- a coefficient's code begins with that of its symbol
-fronts : (table : TableName) (v : Coefficient) (c : List ℕ) → CoefficientCode table v c → (front : List ℕ) × (code_in table (symbol_of v) ≡ Some front) × IsPrefix front c
+pub fronts : (table : TableName) (v : Coefficient) (c : List ℕ) → CoefficientCode table v c → (front : List ℕ) × (code_in table (symbol_of v) ≡ Some front) × IsPrefix front c
 unfolding symbol_of
 fronts table end_of_block c p = (c, p, IsPrefix-self c)
 fronts table (run_size run size) c p = (c, (coefficient_code-listed table run size c p).3, IsPrefix-self c)

@@ -14,11 +14,11 @@ use Rattle.picture_grammar.proofs.Codes.{free-coefficient}
 use Rattle.picture_grammar.proofs.ElementLaws.{breaks}
 use Rattle.picture_grammar.specs.Block.Coefficient.{end_of_block, escape}
 
-non_intra : BlockWay
+pub non_intra : BlockWay
 non_intra = record { intra = false; luma = true; vlc_one = false }
 
 -- an escape with run 0 and level 2047, then the end of block
-one_escape : (block non_intra).Spells (record { dc = None; pairs = record { items = record { run = 0; level = pos 2047 } ∷ [] } }) (printed_bits "000001 000000 011111111111 10") []
+pub one_escape : (block non_intra).Spells (record { dc = None; pairs = record { items = record { run = 0; level = pos 2047 } ∷ [] } }) (printed_bits "000001 000000 011111111111 10") []
 unfolding non_intra block tables
 one_escape =
     let pair : RunLevel = record { run = 0; level = pos 2047 } in (
@@ -38,7 +38,7 @@ one_escape =
     )
 
 -- with the level -2048 the escape is refused at its first bit
-bad_escape : (block non_intra).Refuses (printed_bits "000001 000000 100000000000 10") BadEscape (printed_bits "000001 000000 100000000000 10")
+pub bad_escape : (block non_intra).Refuses (printed_bits "000001 000000 100000000000 10") BadEscape (printed_bits "000001 000000 100000000000 10")
 unfolding non_intra block tables
 bad_escape =
     let bits = printed_bits "000001 000000 100000000000 10" in

@@ -2,6 +2,7 @@
 use Rattle.std.proofs.Common.{◌≡◌, ℕ, List, [], ◌∷◌, ◌++◌, Some, None, Bool, true, false, refl, sym, ap, subst, ◌∙◌, append_assoc, append-nil}
 use Rattle.syntax_types.specs.declared.block.BlockWay.{BlockWay}
 use Rattle.syntax_types.specs.declared.block.Block.{Block}
+use Rattle.syntax_types.specs.declared.block.RunLevel.{RunLevel}
 use Rattle.picture_grammar.specs.Refusal.{Refusal}
 use Rattle.picture_grammar.specs.Grammar.{Grammar, done, ◌>>=◌, optional, many, SpellsList, Next}
 use Rattle.picture_grammar.specs.Grammar.Next.{more, last}
@@ -54,11 +55,17 @@ local-after_code end_of_block = local-done _
 local-after_code (run_size run size) = local-bind one_flag _ (local-element _ _ _) (λ negative. local-done _)
 local-after_code (escape run level) = local-done _
 
+-- the DC coefficient, where there is one
+pub local-dc : (way : BlockWay) → IsLocal (optional way.intra (dc_coefficient way))
+local-dc way = local-optional way.intra (dc_coefficient way) (local-bind _ _ (local-element _ _ _) (λ size. local-bind _ _ (local-element _ _ _) (λ bits. local-done _)))
+
+pub local-coefficient : (way : BlockWay) (before : List RunLevel) → IsLocal (coefficient way before)
+local-coefficient way before = local-bind _ after_code (local-element _ _ _) local-after_code
+
 pub local-block : (way : BlockWay) → IsLocal (block way)
 unfolding block
 local-block way =
-    local-bind _ _ (local-optional way.intra (dc_coefficient way) (local-bind _ _ (local-element _ _ _) (λ size. local-bind _ _ (local-element _ _ _) (λ bits. local-done _))))
-    (λ dc. local-bind _ _ (local-many (coefficient way) (λ before. local-bind _ after_code (local-element _ _ _) local-after_code)) (λ coefficients. local-done _))
+    local-bind _ _ (local-dc way) (λ dc. local-bind _ _ (local-many (coefficient way) (local-coefficient way)) (λ coefficients. local-done _))
 
 -- no block's spelling begins another one's
 pub block-one : (way : BlockWay) (a b : Block) (bits more : List ℕ) → (block way).Spells a bits [] → (block way).Spells b (bits ++ more) [] → (a ≡ b) × (more ≡ [])

@@ -115,7 +115,7 @@ module _ (way : BlockWay) (before : List RunLevel) where
     by_code (run_size run size) m s (negative, m', s', (e, f)) = absurd (let e' : last tt ≡ more (record { run = run; level = signed size negative }) = e in cc)
     by_code (escape run level) m s (e, f) = absurd (let e' : last tt ≡ more (record { run = run; level = escape_level level }) = e in cc)
 
-next_place-push : (way : BlockWay) (before : List RunLevel) (pair : RunLevel) → next_place way (before ++ pair ∷ []) ≡ next_place way before + (pair.run + 1)
+pub next_place-push : (way : BlockWay) (before : List RunLevel) (pair : RunLevel) → next_place way (before ++ pair ∷ []) ≡ next_place way before + (pair.run + 1)
 next_place-push way before pair =
     ap (λ n. (if way.intra then 1 else 0) + n) (sum_by-append (λ (p : RunLevel). p.run + 1) before (pair ∷ [])) ∙ omega arith
 

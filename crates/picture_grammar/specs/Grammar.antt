@@ -1,8 +1,7 @@
 -- Grammars: what bits spell, and why bits are refused. A format is a sequence of elements in the order of its syntax
 -- table (ISO/IEC 13818-2, 6.2), put together here; the elements themselves are those of Element.
-use Rattle.std.specs.Prelude.{◌≡◌, ◌⊎◌, ◌<◌, ◌^◌, ℕ, zero, suc, Option, Some, None, List, [], ◌∷◌, ◌++◌, Bool, true, false}
-use Rattle.std.specs.List.{AllByRecursion}
-use Rattle.bit_lists.specs.Fields.{bit_list}
+use Rattle.std.specs.Prelude.{◌≡◌, ◌⊎◌, ℕ, zero, suc, Option, Some, None, List, [], ◌∷◌, ◌++◌, Bool, true, false}
+use Rattle.bit_lists.specs.Fields.{AreBytes, bit_list}
 use Rattle.picture_grammar.specs.Refusal.{Refusal}
 
 -- The bits of a format.
@@ -115,10 +114,6 @@ module _ {A B : Type 0} (next : List A → Grammar (Next A B)) where
   }
 
 -- ---- bytes
-
--- bytes, as numbers below 256
-abbrev pub AreBytes : List ℕ → Type 0
-AreBytes bytes = AllByRecursion (λ byte. byte < 2 ^ 8) bytes
 
 -- a value together with the bytes that spell it
 abbrev pub with_bytes : {A : Type 0} → Grammar A → Grammar (A × List ℕ)

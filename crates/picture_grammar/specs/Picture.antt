@@ -1,7 +1,7 @@
 -- Units, each a coded picture with its headers, and lawful pictures (ISO/IEC 13818-2, 6.1.2, 6.2.2 and 6.3.3).
 use Rattle.std.specs.Prelude.{◌≡◌, ◌⊎◌, ◌<◌, ◌≤◌, ◌+◌, ◌-◌, ◌*◌, ◌/◌, ◌^◌, ◌==◌, ◌||◌, ℕ, Option, Some, None, List, [], ◌∷◌, length, replicate, Bool, true, false, if◌then◌else◌}
 use Rattle.std.specs.List.{sum_by, flat_map, range_with_len, AllByRecursion}
-use Rattle.bit_lists.specs.Fields.{bit_list}
+use Rattle.bit_lists.specs.Fields.{AreBytes, bit_list}
 use Rattle.syntax_types.specs.declared.block.TheConstants.{BLOCK_PLACES}
 use Rattle.syntax_types.specs.declared.macroblock.Macroblock.{Macroblock}
 use Rattle.syntax_types.specs.declared.picture.PicCoding.{PicCoding}
@@ -12,7 +12,7 @@ use Rattle.picture_grammar.specs.declared.limits.TheConstants.{WIDTH_LEAST, WIDT
 use Rattle.picture_grammar.specs.declared.start_codes.TheConstants.{FIRST_SLICE, SEQUENCE_END}
 use Rattle.picture_grammar.specs.Refusal.{Refusal}
 use Rattle.picture_grammar.specs.Refusal.Refusal.{BadHeader, Uncovered}
-use Rattle.picture_grammar.specs.Grammar.{Grammar, done, ◌>>=◌, ◌>>◌, optional, if_next, many, Next, with_bytes, AreBytes}
+use Rattle.picture_grammar.specs.Grammar.{Grammar, done, ◌>>=◌, ◌>>◌, optional, if_next, many, Next, with_bytes}
 use Rattle.picture_grammar.specs.Grammar.Next.{more, last}
 use Rattle.picture_grammar.specs.StartCode.{start_code, zero_bits, only_zero_bytes, is_slice}
 use Rattle.picture_grammar.specs.Slice.{slice, columns}

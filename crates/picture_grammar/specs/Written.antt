@@ -4,7 +4,7 @@ use Rattle.std.specs.Prelude.{◌≡◌, ◌+◌, ◌-◌, ◌*◌, ◌/◌, ◌
 use Rattle.std.specs.List.{flat_map, range_with_len}
 use Rattle.std.specs.Option.{option_map_or}
 use Rattle.bit_lists.specs.Bits.{bits_of}
-use Rattle.bit_lists.specs.Fields.{bit_list, flag}
+use Rattle.bit_lists.specs.Fields.{AreBytes, bit_list, flag}
 use Rattle.prefix_codes.specs.declared.symbol.TheConstants.{ADDRESS_ESCAPE, END_OF_BLOCK, ESCAPE}
 use Rattle.prefix_codes.specs.declared.table_name.TableName.{TableName}
 use Rattle.prefix_codes.specs.declared.table_name.TableName.TheVariants.{Address, Motion, Pattern}
@@ -22,7 +22,6 @@ use Rattle.syntax_types.specs.declared.slice.Slice.{Slice}
 use Rattle.syntax_types.specs.declared.slice.SliceInfo.{SliceInfo}
 use Rattle.picture_grammar.specs.declared.escape.TheConstants.{RUN_BITS, LEVEL_BITS}
 use Rattle.picture_grammar.specs.declared.start_codes.TheConstants.{FIRST_SLICE, SEQUENCE_END}
-use Rattle.picture_grammar.specs.Grammar.{AreBytes}
 use Rattle.picture_grammar.specs.Block.{dc_table, coefficient_table}
 use Rattle.picture_grammar.specs.Motion.{has_residual, dmvector_code}
 use Rattle.picture_grammar.specs.Macroblock.{escape_increment, type_table, type_symbol, has_motion_type, has_dct_type, has_concealment, f_codes, is_coded, block_way, no_block}

@@ -6,7 +6,8 @@ use Rattle.bit_lists.specs.Fields.{bits}
 use Rattle.bit_lists.proofs.FieldLemmas.{bits-byte, bits-add}
 use Rattle.psi_tables.specs.Section.{table_id, section_length, table_id_extension, current_next_indicator}
 use Rattle.psi_tables.specs.Descriptors.{descriptor_tag, descriptor_length}
-use Rattle.psi_tables.specs.ProgramMap.{ES_info_length, PCR_PID, program_info_length}
+use Rattle.psi_tables.specs.Streams.{ES_info_length}
+use Rattle.psi_tables.specs.Pmt.{PCR_PID, program_info_length}
 
 -- ---- of the header
 

@@ -7,7 +7,8 @@ use Rattle.psi_tables.specs.declared.program_map.ProgramMap.{ProgramMap}
 use Rattle.psi_tables.specs.Crc.{IsCrcOf, HasRightCrc}
 use Rattle.psi_tables.specs.Section.{IsWithCrc}
 use Rattle.psi_tables.specs.Pat.{IsPat, map_pid, written_pat}
-use Rattle.psi_tables.specs.ProgramMap.{StreamInfo, IsPmt, written_pmt}
+use Rattle.psi_tables.specs.Streams.{StreamInfo}
+use Rattle.psi_tables.specs.Pmt.{IsPmt, written_pmt}
 
 -- ---- the CRC of an ASCII text
 

@@ -1,16 +1,17 @@
 -- The content of program map sections, and what is kept of it.
-use Rattle.std.proofs.Common.{◌≡◌, ℕ, ◌+◌, ◌*◌, ◌<◌, ◌≤◌, List, [], All, length, get_or, take, drop, map, refl, sym, ap, ap₂, subst, ◌∙◌, arith, length-drop}
+use Rattle.std.proofs.Common.{◌≡◌, ℕ, ◌+◌, ◌*◌, ◌<◌, ◌≤◌, List, All, length, get_or, take, drop, map, sym, ap, ap₂, subst, ◌∙◌, arith, length-drop}
 use Rattle.std.specs.Prelude.{bit_and}
 use Rattle.std.specs.List.{sum_by}
-use Rattle.std.proofs.lemmas.List.{length-map, get_or-map, get_or-take, drop-drop, append-nil}
+use Rattle.std.proofs.lemmas.List.{length-map, get_or-map, get_or-take, drop-drop}
 use Rattle.std.proofs.lemmas.List.Elements.{All-map, All-same}
 use Rattle.psi_tables.specs.declared.stream.Stream.{Stream}
 use Rattle.psi_tables.specs.declared.program_map.ProgramMap.{ProgramMap}
 use Rattle.psi_tables.specs.Section.{IsRow}
 use Rattle.psi_tables.specs.Descriptors.{IsDescriptor, count_dropped}
-use Rattle.psi_tables.specs.ProgramMap.{StreamInfo, IsStreamInfo, IsKeepable, stream_of, PCR_PID, program_info_length, IsMapContent, HasRoom}
+use Rattle.psi_tables.specs.Streams.{StreamInfo, IsStreamInfo, IsKeepable, stream_of}
+use Rattle.psi_tables.specs.Pmt.{PCR_PID, program_info_length, IsMapContent, HasRoom}
 use Rattle.psi_tables.proofs.Elements.{PCR_PID-is, program_info_length-is, and_15, and_31}
-use Rattle.psi_tables.proofs.Rows.{IsTold, one_row}
+use Rattle.psi_tables.proofs.Rows.{same_row}
 use Rattle.psi_tables.proofs.DescriptorRows.{descriptors_told}
 use Rattle.psi_tables.proofs.StreamRows.{streams_told}
 
@@ -68,10 +69,6 @@ content_says content info streams program descriptors infos cut pcr descriptors_
   kept = kept;
   dropped_are = dropped;
 }
-
--- bytes are one row at most
-same_row : {A : Type 0} (spells : A → List ℕ → Type 0) → IsTold spells → (xs ys : List A) (bytes : List ℕ) → IsRow spells xs bytes → IsRow spells ys bytes → xs ≡ ys
-same_row spells told xs ys bytes first second = one_row spells told bytes [] ys xs (record { taken = bytes; row = second; joined = sym (append-nil bytes) }) refl first
 
 -- a content says one thing of a program at most
 pub one_map : (p q : ProgramMap) (content : List ℕ) → IsMapContent p content → IsMapContent q content → p.number ≡ q.number → p ≡ q

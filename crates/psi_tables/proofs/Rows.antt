@@ -84,3 +84,7 @@ pub one_row : {A : Type 0} (spells : A → List ℕ → Type 0) → IsTold spell
 one_row {A} spells told bytes rest done xs is none row =
     let behind = under_way_rest spells told bytes rest done xs is row in
     behind.1 ∙ ap (λ (ys : List A). done ++ ys) (row_of_none spells told behind.0 rest none behind.2) ∙ append-nil done
+
+-- and of all the bytes
+pub same_row : {A : Type 0} (spells : A → List ℕ → Type 0) → IsTold spells → (xs ys : List A) (bytes : List ℕ) → IsRow spells xs bytes → IsRow spells ys bytes → xs ≡ ys
+same_row spells told xs ys bytes first second = one_row spells told bytes [] ys xs (record { taken = bytes; row = second; joined = sym (append-nil bytes) }) refl first

@@ -3,14 +3,14 @@ use Rattle.std.proofs.Common.{◌≡◌, ℕ, ◌+◌, ◌*◌, ◌%◌, ◌<◌
 use Rattle.std.specs.Prelude.{Option, Some}
 use Rattle.std.specs.Option.{unwrap_or}
 use Rattle.std.specs.List.{sum_by}
-use Rattle.std.proofs.lemmas.List.{append-nil, get_or_append_left, get_or-take, get_or_at, map_push, length-map}
+use Rattle.std.proofs.lemmas.List.{get_or_append_left, get_or-take, get_or_at, map_push, length-map}
 use Rattle.std.proofs.lemmas.List.Elements.{All-push, All-nil}
 use Rattle.std.proofs.lemmas.List.Sums.{sum_by_push}
 use Rattle.psi_tables.specs.declared.stream.Stream.{Stream}
 use Rattle.psi_tables.specs.Section.{IsRow}
 use Rattle.psi_tables.specs.Descriptors.{IsDescriptor, kept_bytes, count_dropped}
-use Rattle.psi_tables.specs.ProgramMap.{StreamInfo, ES_info_length, IsStreamInfo, IsKeepable, stream_of}
-use Rattle.psi_tables.proofs.Rows.{IsTold, IsUnderWay, same_parts, one_row, under_way_none, under_way_more, under_way_rest}
+use Rattle.psi_tables.specs.Streams.{StreamInfo, ES_info_length, IsStreamInfo, IsKeepable, stream_of}
+use Rattle.psi_tables.proofs.Rows.{IsTold, IsUnderWay, same_parts, same_row, under_way_none, under_way_more, under_way_rest}
 use Rattle.psi_tables.proofs.DescriptorRows.{descriptors_told, count_dropped-row}
 use Rattle.psi_tables.proofs.Elements.{ES_info_length-is}
 
@@ -42,16 +42,11 @@ is_info bytes n is fits =
 
 -- ---- rows of streams
 
--- bytes are the descriptors of one row at most
-one_descriptors : (xs ys : List (List ℕ)) (bytes : List ℕ) → IsRow IsDescriptor xs bytes → IsRow IsDescriptor ys bytes → xs ≡ ys
-one_descriptors xs ys bytes first second =
-    one_row IsDescriptor descriptors_told bytes [] ys xs (record { taken = bytes; row = second; joined = sym (append-nil bytes) }) refl first
-
 one_info : (x y : StreamInfo) (bytes : List ℕ) → IsStreamInfo x bytes → IsStreamInfo y bytes → x ≡ y
 one_info x y bytes first second =
     let types : x.stream_type ≡ y.stream_type = first.type_is ∙ sym second.type_is in
     let pids : x.elementary_PID ≡ y.elementary_PID = first.pid ∙ sym second.pid in
-    let descriptors : x.descriptors ≡ y.descriptors = one_descriptors x.descriptors y.descriptors (drop 5 bytes) first.descriptors_are second.descriptors_are in
+    let descriptors : x.descriptors ≡ y.descriptors = same_row IsDescriptor descriptors_told x.descriptors y.descriptors (drop 5 bytes) first.descriptors_are second.descriptors_are in
     ap₂ (λ (t p : ℕ). record { stream_type = t; elementary_PID = p; descriptors = x.descriptors }) types pids
     ∙ ap (λ (ds : List (List ℕ)). record { stream_type = y.stream_type; elementary_PID = y.elementary_PID; descriptors = ds }) descriptors
 

@@ -9,7 +9,8 @@ use Rattle.psi_tables.specs.declared.stream.Stream.{Stream}
 use Rattle.psi_tables.specs.declared.program_map.ProgramMap.{ProgramMap}
 use Rattle.psi_tables.specs.Section.{IsRow, IsWithCrc, written_header, written_pid, written_length}
 use Rattle.psi_tables.specs.Descriptors.{IsDescriptor, is_kept, kept_bytes, count_dropped}
-use Rattle.psi_tables.specs.ProgramMap.{StreamInfo, PCR_PID, program_info_length, IsStreamInfo, stream_of, IsMapContent, IsPmt, HasRoom, IsStreamWritable, IsWritable, written_stream, written_streams, written_pmt, without_dropped}
+use Rattle.psi_tables.specs.Streams.{StreamInfo, IsStreamInfo, stream_of, IsStreamWritable, written_stream}
+use Rattle.psi_tables.specs.Pmt.{PCR_PID, program_info_length, IsMapContent, IsPmt, HasRoom, IsWritable, written_streams, written_pmt, without_dropped}
 use Rattle.psi_tables.proofs.Elements.{descriptor_tag-is, elementary_PID-is, ES_info_length-is, PCR_PID-is, program_info_length-is}
 use Rattle.psi_tables.proofs.MapContents.{IsCut, content_says}
 use Rattle.psi_tables.proofs.WrittenPat.{section_says}

@@ -5,4 +5,5 @@ pub mod SectionBuilder
 pub mod SectionFront
 pub mod Pat
 pub mod Descriptors
-pub mod ProgramMap
+pub mod Streams
+pub mod Pmt

@@ -2,7 +2,7 @@ ghost use Rattle.std.specs.Prelude.{◌≡◌, ℕ, ◌+◌, ◌*◌, ◌^◌, �
 ghost use Rattle.psi_tables.specs.declared.program_map.ProgramMap.{ProgramMap};
 ghost use Rattle.psi_tables.specs.Crc.{HasRightCrc};
 ghost use Rattle.psi_tables.specs.Section.{IsCurrent, IsWithCrc};
-ghost use Rattle.psi_tables.specs.ProgramMap.{IsMapContent, IsPmt, HasRoom, IsWritable, written_pmt, pmt_length, without_dropped};
+ghost use Rattle.psi_tables.specs.Pmt.{IsMapContent, IsPmt, HasRoom, IsWritable, written_pmt, pmt_length, without_dropped};
 
 use crate::descriptors::count_descriptors;
 use crate::pat::PID_HIGH;

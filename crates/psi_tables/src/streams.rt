@@ -2,7 +2,7 @@ ghost use Rattle.std.specs.Prelude.{◌≡◌, ℕ, ◌+◌, ◌*◌, ◌^◌, �
 ghost use Rattle.std.specs.List.{sum_by, flat_map};
 ghost use Rattle.psi_tables.specs.Section.{IsRow};
 ghost use Rattle.psi_tables.specs.Descriptors.{count_dropped};
-ghost use Rattle.psi_tables.specs.ProgramMap.{StreamInfo, ES_info_length, IsStreamInfo, IsKeepable, stream_of, IsStreamWritable, written_stream};
+ghost use Rattle.psi_tables.specs.Streams.{StreamInfo, ES_info_length, IsStreamInfo, IsKeepable, stream_of, IsStreamWritable, written_stream};
 
 use crate::descriptors::read_descriptors;
 use crate::pat::PID_HIGH;

@@ -1,6 +1,7 @@
 ghost use Rattle.std.specs.Prelude.{◌≡◌, ℕ, ◌+◌, ◌*◌, ◌^◌, ◌<◌, ◌≤◌, true, length, IfOk};
-ghost use Rattle.psi_tables.specs.Descriptors.{IsDescriptor, is_kept};
-ghost use Rattle.psi_tables.specs.ProgramMap.{IsStreamWritable, IsWritable};
+ghost use Rattle.psi_tables.specs.Descriptors.{is_tag_kept};
+ghost use Rattle.psi_tables.specs.Streams.{IsStreamWritable};
+ghost use Rattle.psi_tables.specs.Pmt.{IsWritable};
 
 use super::*;
 use arrayvec::{ArrayVec, CapacityError};
@@ -26,21 +27,21 @@ const OTHER_PMT: [u8; 34] = [
     0x00, 0x00,
 ];
 
-/// A language descriptor.
-const ENGLISH: [u8; 6] = [0x0A, 4, 0x65, 0x6E, 0x67, 0];
-
 fn section_of(bytes: &[u8]) -> Result<Section, CapacityError> {
     Section::try_from(bytes)
 }
 
 /// A stream with one descriptor.
-fn stream_of(kind: u8, pid: u16, descriptor: &[u8]) -> Result<Stream, CapacityError>
+fn stream_of(kind: u8, pid: u16, tag: u8, content: &[u8]) -> Result<Stream, CapacityError>
     requires pid { pid < 2 ^ 13 }
-    requires whole { IsDescriptor descriptor.now descriptor.now }
-    requires kept { is_kept descriptor.now ≡ true }
+    requires kept { is_tag_kept tag ≡ true }
+    requires size { length content.now < 256 }
     ensures { IfOk result IsStreamWritable }
 {
-    let descriptors = ArrayVec::try_from(descriptor)?;
+    let mut descriptors = ArrayVec::new();
+    descriptors.push(tag);
+    descriptors.push(content.len() as u8);
+    descriptors.try_extend_from_slice(content)?;
     Ok(Stream {
         kind,
         pid,
@@ -147,7 +148,7 @@ fn a_pat_is_written_byte_for_byte(rt: HostRuntime) {
 #[test]
 fn a_pmt_is_written_byte_for_byte_and_read_back(rt: HostRuntime) -> Result<(), Fail> {
     let mut section = Section::new();
-    let map = with_video(stream_of(3, 0x102, &ENGLISH)?);
+    let map = with_video(stream_of(3, 0x102, 10, &[0x65, 0x6E, 0x67, 0])?);
     assert_eq!(rt; write_pmt(&map, &mut section), Ok(()));
     assert_eq!(rt; section.as_slice(), PMT.as_slice());
     assert_eq!(rt; read_pmt(&section), Ok(Some(map)));
@@ -157,7 +158,7 @@ fn a_pmt_is_written_byte_for_byte_and_read_back(rt: HostRuntime) -> Result<(), F
 #[test]
 fn descriptors_of_other_tags_are_counted(rt: HostRuntime) -> Result<(), Fail> {
     let mut streams = ArrayVec::new();
-    streams.push(stream_of(2, 0x101, &[2, 3, 0x11, 0x22, 0x33])?);
+    streams.push(stream_of(2, 0x101, 2, &[0x11, 0x22, 0x33])?);
     let map = ProgramMap {
         number: 7,
         pcr_pid: 0x101,
@@ -202,18 +203,12 @@ fn no_more_than_183_bytes_of_a_stream_are_kept(rt: HostRuntime) -> Result<(), Fa
 
 #[test]
 fn a_section_of_183_bytes_is_written_and_a_longer_one_is_not(rt: HostRuntime) -> Result<(), Fail> {
-    let mut longest = [0; 157];
-    longest[0] = 3;
-    longest[1] = 155;
     let mut section = Section::new();
-    let map = with_video(stream_of(3, 0x102, &longest)?);
+    let map = with_video(stream_of(3, 0x102, 3, &[0; 155])?);
     assert_eq!(rt; write_pmt(&map, &mut section), Ok(()));
     assert_eq!(rt; section.len(), 183);
-    let mut longer = [0; 158];
-    longer[0] = 3;
-    longer[1] = 156;
     let mut other = section_of(&PAT)?;
-    let map = with_video(stream_of(3, 0x102, &longer)?);
+    let map = with_video(stream_of(3, 0x102, 3, &[0; 156])?);
     assert_eq!(rt; write_pmt(&map, &mut other), Err(SectionFault::TooLong));
     assert_eq!(rt; other.as_slice(), PAT.as_slice());
     Ok(())

@@ -1,12 +1,11 @@
 -- What TABLE holds, from the bytes that were read of it.
-use Rattle.std.proofs.Common.{◌≡◌, ℕ, ◌+◌, ◌<◌, ◌≤◌, ◌⊎◌, List, length, take, Option, Some, None, IfSome, refl, sym, subst, ap, inl, inr, ◌∙◌, min, arith}
+use Rattle.std.proofs.Common.{◌≡◌, ℕ, ◌+◌, ◌≤◌, List, length, take, Option, Some, None, IfSome, refl, sym, subst, ap, inl, inr, ◌∙◌, min, arith}
 use Rattle.std.proofs.lemmas.List.{length-take, take_all}
 use Rattle.std.specs.Option.{IsSomeAnd}
 use Rattle.std.specs.FinMap.{get}
 use Rattle.std.specs.String.{string_bytes}
 use Rattle.shelf_io.specs.Files.{Files}
 use Rattle.version_table.specs.declared.limits.TheConstants.{TABLE_TEXT_MOST}
-use Rattle.version_table.specs.declared.fault.Limit.{Limit}
 use Rattle.version_table.specs.declared.fault.TableFault.{TableFault}
 use Rattle.version_table.specs.declared.fault.TableFault.TheVariants as faults
 use Rattle.version_table.specs.Text.{IsRead, IsFaultOf, Reading, Holds, RefusedAt, RefusedFor}

@@ -1,5 +1,5 @@
 -- Files that a shelf tells, over calls that leave them, or write one of them.
-use Rattle.std.proofs.Common.{◌≡◌, ℕ, ◌≤◌, ◌⊎◌, List, length, take, Option, Some, None, refl, sym, subst, ◌∙◌, inl, inr}
+use Rattle.std.proofs.Common.{◌≡◌, ℕ, List, Option, Some, None, refl, subst, inl, inr}
 use Rattle.std.specs.FinMap.{insert}
 use Rattle.shelf_io.specs.Files.{Files, with_content}
 use Rattle.shelf_io.specs.WholeFile.{HoldsPrefix}

@@ -1,5 +1,5 @@
 -- What a plan of a table is.
-use Rattle.std.specs.Prelude.{◌≡◌, ℕ, ◌<◌, ◌≤◌, List, [], ◌∷◌, length}
+use Rattle.std.specs.Prelude.{◌≡◌, ℕ, ◌≤◌, List, [], ◌∷◌, length}
 use Rattle.version_table.specs.declared.table.Table.{Table}
 use Rattle.version_table.specs.Choice.{Fits, distortion_of_choice, IsSmallestChoice, level_choice, least_distortions}
 use Rattle.slot_rule.specs.Schedule.{IsScheduled}

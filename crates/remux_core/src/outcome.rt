@@ -68,6 +68,7 @@ pub fn run<K: Shelf, O: Sink>(alloc: Global, words: &[String], shelf: &mut K, ou
         (counts_of K.faults K.write_faults K.absences O.faults shelf.old out.old)
         (counts_of K.faults K.write_faults K.absences O.faults shelf.new out.new) }
 {
+    // Laws that the clauses stand on: a text has one reading, a table one smallest choice, and a choice is scheduled or has one first miss.
     one_reading();
     smallest_choice_is_one();
     no_miss_where_scheduled();

@@ -1,7 +1,7 @@
 -- The head packet that goes first among some streams, and among those and one more.
-use Rattle.std.proofs.Common.{◌≡◌, ℕ, ◌+◌, ◌<◌, ◌≤◌, ◌⊎◌, ltb, List, [], length, get_or, take, slice_get, Option, Some, None, sym, ap, subst, ◌∙◌, inl, inr, lt-ltb, le-ltb, arith}
+use Rattle.std.proofs.Common.{◌≡◌, ℕ, ◌+◌, ◌<◌, ◌≤◌, ◌⊎◌, ltb, List, length, get_or, take, slice_get, Option, Some, None, sym, ap, subst, ◌∙◌, inl, inr, lt-ltb, le-ltb, arith}
 use Rattle.std.proofs.lemmas.Bool.{cases_lt, cond-true, cond-false}
-use Rattle.std.proofs.lemmas.Option.{none-some, same_Some, slice_get-get_or}
+use Rattle.std.proofs.lemmas.Option.{same_Some, slice_get-get_or}
 use Rattle.std.proofs.lemmas.List.{take_all}
 use Rattle.slot_rule.specs.declared.heads.Head.{Head}
 use Rattle.slot_rule.specs.declared.stream_state.StreamState.{StreamState}
@@ -22,9 +22,6 @@ front_cases n xs x k y last got =
 
 longer_front : {X : Type 0} (n : ℕ) (xs : List X) (k : ℕ) (y : X) → slice_get (take n xs) k ≡ Some y → slice_get (take (n + 1) xs) k ≡ Some y
 longer_front n xs k y got = let there = slice_get_of_front n xs k y got in slice_get-take (n + 1) xs k (omega (arith, there.0)) ∙ there.1
-
-pub IsFirstHead-nil : (P : StreamState → Packet → Type 0) → IsFirstHead P [] None
-IsFirstHead-nil P stream state packet there head passes = none-some state there
 
 -- none of the front passes, and the stream after it has nothing to offer
 none_more : (P : StreamState → Packet → Type 0) (states : List StreamState) (n : ℕ) (state : StreamState) → slice_get states n ≡ Some state

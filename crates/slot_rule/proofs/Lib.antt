@@ -3,7 +3,9 @@ pub mod AudioPackets
 pub mod BringLaws
 pub mod FirstStates
 pub mod HeadLaws
+pub mod IdleRows
 pub mod ListSteps
+pub mod ListedLaws
 pub mod MissLaws
 pub mod Places
 pub mod RuleEnd
@@ -24,6 +26,7 @@ pub mod RuleVideo
 pub mod RuleWork
 pub mod SendLaws
 pub mod SlotLaws
+pub mod SlotListLaws
 pub mod SmallLaws
 pub mod StateLaws
 pub mod TrackLaws

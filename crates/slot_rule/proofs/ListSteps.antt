@@ -23,9 +23,6 @@ pub record ChangesFirst (R : StreamState → StreamState → Type 0) (n : ℕ) (
   pub each : (k : ℕ) (old new : StreamState) → k < n → slice_get olds k ≡ Some old → slice_get news k ≡ Some new → R old new
   pub others : (k : ℕ) → n ≤ k → slice_get news k ≡ slice_get olds k
 
-pub ChangesFirst-none : (R : StreamState → StreamState → Type 0) (olds : List StreamState) → ChangesFirst R 0 olds olds
-ChangesFirst-none R olds = record { as_many = refl; each = λ k old new below. absurd (omega arith); others = λ k from. refl }
-
 -- one more state is changed
 pub ChangesFirst-more : (R : StreamState → StreamState → Type 0) (n : ℕ) (olds news : List StreamState) (d new : StreamState) → ChangesFirst R n olds news → n < length news
     → R (get_or news n d) new → ChangesFirst R (n + 1) olds (set news n new)
@@ -42,11 +39,6 @@ ChangesFirst-more R n olds news d new first within related = record {
   ];
   others = λ k from. slice_get-set_other news n k new (λ e. absurd (omega arith)) ∙ first.others k (omega arith);
 }
-
--- the state that is next to be changed is as it was
-pub ChangesFirst-next : (R : StreamState → StreamState → Type 0) (n : ℕ) (olds news : List StreamState) (d : StreamState) → ChangesFirst R n olds news → n < length news
-    → slice_get olds n ≡ Some (get_or news n d)
-ChangesFirst-next R n olds news d first within = sym (first.others n (omega arith)) ∙ slice_get-get_or news n d within
 
 pub ChangesEach-from_first : (R : StreamState → StreamState → Type 0) (n : ℕ) (olds news : List StreamState) → ChangesFirst R n olds news → length news ≤ n → ChangesEach R olds news
 ChangesEach-from_first R n olds news first all = record {

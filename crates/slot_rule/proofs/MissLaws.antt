@@ -172,7 +172,7 @@ module _ (table : Table) (choice : List ℕ) (valid : IsValidTable table) (fits 
         due_is = ap (λ (m : Miss). m.due) tells.1;
       }
 
-  no_miss_found : NoneLate news (SUBTICKS_PER_TICK * ((n + 1) * table.slot) + MARGIN_SUBTICKS) row → NoneOverdue news (SUBTICKS_PER_TICK * ((n + 1) * table.slot) + MARGIN_SUBTICKS)
+  pub no_miss_found : NoneLate news (SUBTICKS_PER_TICK * ((n + 1) * table.slot) + MARGIN_SUBTICKS) row → NoneOverdue news (SUBTICKS_PER_TICK * ((n + 1) * table.slot) + MARGIN_SUBTICKS)
       → NoMiss table.slot (streams_of table choice) (reached.rows ++ row ∷ [])
   no_miss_found none_late none_overdue =
       let at : SUBTICKS_PER_TICK * ((n + 1) * table.slot) + MARGIN_SUBTICKS ≡ arrival table.slot (reached.rows ++ row ∷ []) = sym (arrival-is table reached.rows row n reached.slots_are) in

@@ -1,14 +1,20 @@
 -- The worked examples, computed from the definitions.
-use Rattle.std.proofs.Common.{◌≡◌, ℕ, ◌*◌, take, List, [], ◌∷◌, refl, ◌∙◌}
+use Rattle.std.proofs.Common.{◌≡◌, ℕ, ◌*◌, ◌≤◌, ◌⊎◌, take, get_or, length, map, List, [], ◌∷◌, ◌++◌, refl, ◌∙◌, inl, inr, lit≤, arith}
 use Rattle.version_table.specs.declared.table.AudioPacket.{AudioPacket}
 use Rattle.version_table.specs.declared.table.ProgramRow.{ProgramRow}
 use Rattle.version_table.specs.declared.table.Table.{Table}
 use Rattle.slot_rule.specs.declared.constants.TheConstants.{AUDIO_TB_SUBTICKS}
-use Rattle.slot_rule.specs.Streams.{Audio}
-use Rattle.slot_rule.specs.Buffers.{Row, transport_work}
+use Rattle.slot_rule.specs.declared.sent.Sent.TheVariants.{Null, Pat, Pmt, Pcr, Video as VideoPiece, Audio as AudioPiece}
+use Rattle.slot_rule.specs.declared.slot_list.SlotList.{SlotList}
+use Rattle.slot_rule.specs.Streams.{Audio, streams_of}
+use Rattle.slot_rule.specs.Buffers.{Row, Reserved, Empty, transport_work}
+use Rattle.slot_rule.specs.IdleSlots.{FillsPeriod, idle_slots}
+use Rattle.slot_rule.specs.Timetable.{period}
 use Rattle.slot_rule.specs.Schedule.{IsSchedule, IsScheduled, IsFirstMiss}
+use Rattle.slot_rule.specs.SlotList.{CarriesPacket, IsSlotList, sent_of, slots_of}
 use Rattle.slot_rule.proofs.RuleRun.{Run, Clean, Missed, first_rows, IsSchedule-from_run, IsFirstMiss-from_run}
-use Rattle.slot_rule.proofs.RuleSchedules.{slots_of, slots_of-same}
+use Rattle.slot_rule.proofs.RuleSchedules.{slots_of-same}
+use Rattle.slot_rule.proofs.SlotListLaws.{IsSlotList-filled, IsSlotList-same}
 
 -- ---- tables of 1,080 ticks a slot
 abbrev table_of : List ProgramRow → Table
@@ -82,3 +88,55 @@ audio_work = refl
 -- one tick less, and the last of them misses
 pub audio_misses : IsFirstMiss (table_of (three_packets 71351 ∷ [])) [] (record { stream = 1; unit = 2; slot = 9; due = 71351 })
 audio_misses = IsFirstMiss-from_run (table_of (three_packets 71351 ∷ [])) [] 10 (record { stream = 1; unit = 2; slot = 9; due = 71351 }) refl
+
+-- ---- the two tests of a miss in one slot
+-- the packet that went in slot 5 has work before it, and the other, which is due later, can't come in time
+pub went_misses_first : IsFirstMiss (table_of (one_unit 12600 184 ∷ one_unit 13679 184 ∷ [])) (0 ∷ 0 ∷ []) (record { stream = 0; unit = 0; slot = 5; due = 12600 })
+went_misses_first = IsFirstMiss-from_run (table_of (one_unit 12600 184 ∷ one_unit 13679 184 ∷ [])) (0 ∷ 0 ∷ []) 6 (record { stream = 0; unit = 0; slot = 5; due = 12600 }) refl
+
+pub went_misses_first_above : IsFirstMiss (table_of (one_unit 13679 184 ∷ one_unit 12600 184 ∷ [])) (0 ∷ 0 ∷ []) (record { stream = 1; unit = 0; slot = 5; due = 12600 })
+went_misses_first_above = IsFirstMiss-from_run (table_of (one_unit 13679 184 ∷ one_unit 12600 184 ∷ [])) (0 ∷ 0 ∷ []) 6 (record { stream = 1; unit = 0; slot = 5; due = 12600 }) refl
+
+-- ---- the lists of slots
+-- a list of slots is the one that is filled up after the last sent slot, or after the first slot where nothing is sent
+pub the_list : (table : Table) (choice : List ℕ) (before : List Row) (row : Row) (last : ℕ) (filled list : SlotList) → 1 ≤ period table.slot → length before ≡ last
+    → IsSchedule table choice (before ++ row ∷ []) → (length before ≡ 0) ⊎ CarriesPacket row
+    → FillsPeriod table.slot (length table.programs) last (map (sent_of (streams_of table choice)) (before ++ row ∷ [])) filled → IsSlotList table choice list → list ≡ filled
+the_list table choice before row last filled list some last_is schedule carries fills is =
+    IsSlotList-same table choice list filled is
+    (IsSlotList-filled table choice before row last (map (sent_of (streams_of table choice)) (before ++ row ∷ [])) filled some last_is schedule carries refl fills)
+
+-- ten pieces of a unit, and 1,000 slots
+pub unit_list : (idle : ℕ) → idle ≡ 977 → (list : SlotList) → IsSlotList just_in_time (0 ∷ []) list
+    → list ≡ record {
+      slots = 1000;
+      rows = (Pat ∷ Pmt 0 ∷ Pcr 0 ∷ VideoPiece 0 0 0 ∷ Null ∷ VideoPiece 0 0 1 ∷ Null ∷ VideoPiece 0 0 2 ∷ Null ∷ VideoPiece 0 0 3 ∷ Null ∷ Null
+          ∷ VideoPiece 0 0 4 ∷ Null ∷ VideoPiece 0 0 5 ∷ Null ∷ VideoPiece 0 0 6 ∷ Null ∷ VideoPiece 0 0 7 ∷ Null ∷ VideoPiece 0 0 8 ∷ Null ∷ VideoPiece 0 0 9 ∷ [])
+          ++ idle_slots 1080 1 23 idle;
+    }
+unit_list idle e list is =
+    let rows = rows_in (first_rows just_in_time (0 ∷ []) 23) in
+    the_list just_in_time (0 ∷ []) (take 22 rows) (get_or rows 22 Empty) 22 _ list (lit≤ tt) refl unit_schedule (inr tt)
+    (record { whole = refl; idle = idle; ends = omega arith; rows_are = refl }) is
+
+-- two programs: their tables, their clocks, and a piece of each
+pub two_list : (idle : ℕ) → idle ≡ 993 → (list : SlotList) → IsSlotList two_programs (0 ∷ 0 ∷ []) list
+    → list ≡ record { slots = 1000; rows = (Pat ∷ Pmt 0 ∷ Pmt 1 ∷ Pcr 0 ∷ Pcr 1 ∷ VideoPiece 0 0 0 ∷ VideoPiece 1 0 0 ∷ []) ++ idle_slots 1080 2 7 idle }
+two_list idle e list is =
+    let rows = rows_in (first_rows two_programs (0 ∷ 0 ∷ []) 7) in
+    the_list two_programs (0 ∷ 0 ∷ []) (take 6 rows) (get_or rows 6 Empty) 6 _ list (lit≤ tt) refl two_schedule (inr tt)
+    (record { whole = refl; idle = idle; ends = omega arith; rows_are = refl }) is
+
+-- three packets of audio
+pub audio_list : (idle : ℕ) → idle ≡ 990 → (list : SlotList) → IsSlotList three_in_time [] list
+    → list ≡ record { slots = 1000; rows = (Pat ∷ Pmt 0 ∷ Pcr 0 ∷ AudioPiece 1 0 ∷ AudioPiece 1 1 ∷ Null ∷ Null ∷ Null ∷ Null ∷ AudioPiece 1 2 ∷ []) ++ idle_slots 1080 1 10 idle }
+audio_list idle e list is =
+    let rows = rows_in (first_rows three_in_time [] 10) in
+    the_list three_in_time [] (take 9 rows) (get_or rows 9 Empty) 9 _ list (lit≤ tt) refl audio_schedule (inr tt)
+    (record { whole = refl; idle = idle; ends = omega arith; rows_are = refl }) is
+
+-- where nothing is sent, one period
+pub no_packets : (idle : ℕ) → idle ≡ 999 → (list : SlotList) → IsSlotList (table_of []) [] list → list ≡ record { slots = 1000; rows = (Pat ∷ []) ++ idle_slots 1080 0 1 idle }
+no_packets idle e list is =
+    the_list (table_of []) [] [] (Reserved Pat) 0 _ list (lit≤ tt) refl (IsSchedule-from_run (table_of []) [] 1 (Reserved Pat ∷ []) refl refl) (inl refl)
+    (record { whole = refl; idle = idle; ends = omega arith; rows_are = refl }) is

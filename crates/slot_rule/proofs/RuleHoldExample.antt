@@ -1,5 +1,5 @@
 -- A worked example: a packet may go no sooner than a second before it is gone.
-use Rattle.std.proofs.Common.{◌≡◌, ℕ, zero, suc, ◌+◌, ◌-◌, ◌*◌, ◌<◌, ◌≤◌, List, [], ◌∷◌, ◌++◌, All, length, count_by, slice_get, get_or, Option, Some, None, refl, sym, ap, subst, ◌∙◌, inl, inr, add-zero, le_of_eq, map, cond, zero-le, arith}
+use Rattle.std.proofs.Common.{◌≡◌, ℕ, zero, suc, ◌+◌, ◌-◌, ◌*◌, ◌<◌, ◌≤◌, List, [], ◌∷◌, ◌++◌, All, length, count_by, slice_get, get_or, Option, Some, None, refl, sym, ap, subst, ◌∙◌, inl, inr, add-zero, le_of_eq, map, cond, zero-le, ◌/◌, lit≤, arith}
 use Rattle.std.proofs.lemmas.Bool.{cases_lt, cases_eq}
 use Rattle.std.proofs.lemmas.List.{length_push, same_from_push}
 use Rattle.std.proofs.lemmas.List.Elements.{All-nil, All-push, All-map, All-head, All-tail}
@@ -9,13 +9,17 @@ use Rattle.version_table.specs.declared.table.Table.{Table}
 use Rattle.slot_rule.specs.declared.constants.TheConstants.{SUBTICKS_PER_TICK, PACKET_BYTES, MB_SUBTICKS}
 use Rattle.slot_rule.specs.declared.sent.Sent.{Sent}
 use Rattle.slot_rule.specs.declared.sent.Sent.TheVariants.{Pat, Pmt, Pcr}
-use Rattle.slot_rule.specs.Timetable.{reserved, period}
+use Rattle.slot_rule.specs.declared.slot_list.SlotList.{SlotList}
+use Rattle.slot_rule.specs.Timetable.{reserved}
 use Rattle.slot_rule.specs.Streams.{Kind, Video, Packet, Stream, streams_of}
 use Rattle.slot_rule.specs.Buffers.{Row, Reserved, Carries, Empty, is_of, transport_work, multiplex_work, outstanding, outstanding_in, packets_in, payload_in, tb_subticks, slot_subticks}
 use Rattle.slot_rule.specs.Schedule.{IsHead, Goes, NothingGoes, IsRow, FollowRule, Overdue, NoMiss, IsSchedule, IsScheduled, arrival, main_work}
-use Rattle.slot_rule.proofs.RuleExamples.{one_unit}
+use Rattle.slot_rule.specs.IdleSlots.{idle_slots}
+use Rattle.slot_rule.specs.SlotList.{slots_of, sent_of, IsSlotList}
+use Rattle.slot_rule.proofs.IdleRows.{idle_row}
+use Rattle.slot_rule.proofs.RuleExamples.{one_unit, the_list}
 use Rattle.slot_rule.proofs.RuleRows.{NoneMisses, FollowRule-nil, FollowRule-push, NoMiss-nil, NoMiss-push}
-use Rattle.slot_rule.proofs.RuleSchedules.{slots_of, slots_of-same}
+use Rattle.slot_rule.proofs.RuleSchedules.{slots_of-same}
 use Rattle.slot_rule.proofs.RuleSent.{count-carried}
 use Rattle.slot_rule.proofs.RuleUnits.{piece_of}
 use Rattle.slot_rule.proofs.RuleWork.{waiting-none, packets_in-le, multiplex_work-push}
@@ -27,15 +31,9 @@ long_table = record { slot = 27000; nodes = 1; evaluations = 0; programs = one_u
 streams_are : streams_of long_table (0 ∷ []) ≡ record { kind = Video 0 112; packets = piece_of 0 54000000 0 184 ∷ [] } ∷ []
 streams_are = refl
 
-period_is : period 27000 ≡ 40
-period_is = refl
-
 -- what stands in a slot where no packet goes
 abbrev quiet_row : ℕ → Row
-quiet_row n = elim (reserved 27000 1 n) [
-  | Some sent ↦ Reserved sent
-  | None ↦ Empty
-]
+quiet_row n = idle_row 27000 1 n
 
 -- the rows of the first slots, in which no packet goes
 abbrev quiet : ℕ → List Row
@@ -239,3 +237,13 @@ long_scheduled = at 1003 refl
   where
     at : (n : ℕ) → n ≡ 1003 → IsScheduled long_table (0 ∷ [])
     at n e = (with_packet n, long_schedule n e)
+
+-- and there are 26 periods of 40 slots
+pub long_slot_count : (list : SlotList) → IsSlotList long_table (0 ∷ []) list → list.slots ≡ 1040
+long_slot_count list is = at 1003 36 refl refl
+  where
+    at : (n idle : ℕ) → n ≡ 1003 → idle ≡ 36 → list.slots ≡ 1040
+    at n idle e i =
+        let rows = map (sent_of (streams_of long_table (0 ∷ []))) (with_packet n) in
+        ap (λ (l : SlotList). l.slots) (the_list long_table (0 ∷ []) (quiet n) (Carries 0 (piece_of 0 54000000 0 184)) n (record { slots = 1040; rows = rows ++ idle_slots 27000 1 (n + 1) idle }) list
+        (lit≤ tt) (length-quiet n) (long_schedule n e) (inr tt) (record { whole = sym (ap (λ m. (m / 40 + 1) * 40) e); idle = idle; ends = omega arith; rows_are = refl }) is)

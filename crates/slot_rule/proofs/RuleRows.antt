@@ -44,9 +44,5 @@ pub NoMiss-push : (slot : ℕ) (streams : List Stream) (rows : List Row) (row : 
 NoMiss-push slot streams rows row none at before x after stream packet e =
     AtEach-push (NoneMisses slot streams) rows row (λ before' x' after' e' stream' packet'. none before' x' after' stream' packet' e') at before x after e stream packet
 
-pub NoMiss-front : (slot : ℕ) (streams : List Stream) (rows more : List Row) → NoMiss slot streams (rows ++ more) → NoMiss slot streams rows
-NoMiss-front slot streams rows more none before x after stream packet e =
-    AtEach-front (NoneMisses slot streams) rows more (λ before' x' after' e' stream' packet'. none before' x' after' stream' packet' e') before x after e stream packet
-
 pub NoMiss-last : (slot : ℕ) (streams : List Stream) (rows : List Row) (row : Row) → NoMiss slot streams (rows ++ row ∷ []) → NoneMisses slot streams rows row
 NoMiss-last slot streams rows row none stream packet = none rows row [] stream packet refl

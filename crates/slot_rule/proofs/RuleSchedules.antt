@@ -6,14 +6,10 @@ use Rattle.version_table.specs.declared.table.Table.{Table}
 use Rattle.slot_rule.specs.Streams.{Packet, streams_of}
 use Rattle.slot_rule.specs.Buffers.{Row, Reserved, Carries, Empty, is_of}
 use Rattle.slot_rule.specs.Schedule.{IsHead, FollowRule, AllSent, IsSchedule}
+use Rattle.slot_rule.specs.SlotList.{slots_of}
 use Rattle.slot_rule.proofs.RuleFronts.{by_push}
 use Rattle.slot_rule.proofs.RuleRows.{IsNext, FollowRule-front, FollowRule-last}
 use Rattle.slot_rule.proofs.RuleUnique.{IsHead-before, FollowRule-longer}
-
--- the slots, of which the first has this number, in which packets of the stream stand
-abbrev pub slots_of : (stream slot : ℕ) → List Row → List ℕ
-slots_of stream slot [] = []
-slots_of stream slot (row ∷ rows) = if is_of stream row then slot ∷ slots_of stream (slot + 1) rows else slots_of stream (slot + 1) rows
 
 -- no row carries a packet of the stream
 abbrev pub CarryNone : (stream : ℕ) → List Row → Type 0

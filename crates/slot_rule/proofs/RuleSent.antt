@@ -1,12 +1,12 @@
 -- The packets of a stream that stand in the rows, and their bytes that are still in the decoder.
-use Rattle.std.proofs.Common.{◌≡◌, ℕ, zero, suc, ◌+◌, ◌-◌, ◌<◌, ◌≤◌, false, cond, eqb, ltb, eq-eqb, ne_eqb, List, [], ◌∷◌, ◌++◌, length, get_or, take, drop, count_by, sum_by, slice_get, Some, nat_lt, ◌==◌, if◌then◌else◌, refl, sym, ap, subst, ◌∙◌, inl, inr, append-nil, add-zero, zero-add, zero-le, le_refl, le_trans, lt_of_lt_of_le, lt_of_le_of_lt, length-take, ap₂, lt-ltb, le-ltb, arith, All, length-drop, mul-le-mul_right, ◌*◌}
+use Rattle.std.proofs.Common.{◌≡◌, ℕ, zero, suc, ◌+◌, ◌-◌, ◌<◌, ◌≤◌, false, cond, eqb, ltb, eq-eqb, ne_eqb, List, [], ◌∷◌, ◌++◌, length, get_or, take, drop, count_by, sum_by, slice_get, Some, nat_lt, ◌==◌, if◌then◌else◌, refl, sym, ap, subst, ◌∙◌, inl, inr, append-nil, add-zero, zero-add, zero-le, le_trans, lt_of_lt_of_le, length-take, ap₂, lt-ltb, le-ltb, arith, All, length-drop, mul-le-mul_right, ◌*◌}
 use Rattle.std.specs.List.{flat_map}
 use Rattle.std.specs.List.Sorted.{IsNonDecreasingBy}
-use Rattle.std.proofs.lemmas.Bool.{cases_eq, cases_Bool, cases_lt, cond-true, cond-false}
+use Rattle.std.proofs.lemmas.Bool.{cases_eq, cases_Bool, cond-true, cond-false}
 use Rattle.std.proofs.lemmas.Option.{same_Some, slice_get_within, get_or_from_slice_get}
-use Rattle.std.proofs.lemmas.List.{take_more, get_or-take, length-take-le, get_or_default, drop_all, drop-append-le}
+use Rattle.std.proofs.lemmas.List.{take_more, get_or-take, length-take-le, get_or_default, drop-append-le}
 use Rattle.std.proofs.lemmas.List.Concat.{flat_map-append}
-use Rattle.std.proofs.lemmas.List.Sums.{sum_by-append, sum_by-cons, sum_by_push, sum_by-drop_more, sum_by-le-sum_by, sum_by-le}
+use Rattle.std.proofs.lemmas.List.Sums.{sum_by-append, sum_by-cons, sum_by_push, sum_by-drop_more, sum_by-le}
 use Rattle.std.proofs.lemmas.List.Elements.{All-drop, All-take}
 use Rattle.version_table.specs.declared.table.Table.{Table}
 use Rattle.slot_rule.specs.declared.sent.Sent.{Sent}
@@ -41,9 +41,6 @@ count-push stream rows row = sum_by_push (λ r. cond (is_of stream r) 1 0) rows 
 
 pub count-carried : (stream s : ℕ) (packet : Packet) (rows : List Row) → s ≡ stream → count_by (is_of stream) (rows ++ Carries s packet ∷ []) ≡ count_by (is_of stream) rows + 1
 count-carried stream s packet rows e = count-push stream rows (Carries s packet) ∙ ap (λ n. count_by (is_of stream) rows + n) (cond-true (eqb s stream) 1 0 (eq-eqb s stream e))
-
-pub count-other : (stream s : ℕ) (packet : Packet) (rows : List Row) → (s ≡ stream → ⊥) → count_by (is_of stream) (rows ++ Carries s packet ∷ []) ≡ count_by (is_of stream) rows
-count-other stream s packet rows apart = count-push stream rows (Carries s packet) ∙ ap (λ n. count_by (is_of stream) rows + n) (cond-false (eqb s stream) 1 0 (ne_eqb s stream apart)) ∙ add-zero _
 
 pub count-reserved : (stream : ℕ) (sent : Sent) (rows : List Row) → count_by (is_of stream) (rows ++ Reserved sent ∷ []) ≡ count_by (is_of stream) rows
 count-reserved stream sent rows = count-push stream rows (Reserved sent) ∙ add-zero _
@@ -118,28 +115,6 @@ outstanding-sent stream time (row ∷ rows) =
     sum_by-cons (outstanding_in stream time) row rows ∙ ap₂ ◌+◌ (outstanding_in-is stream time row) (outstanding-sent stream time rows)
     ∙ sym (sum_by-append (payload_after time) (packet_of stream row) (sent_of stream rows))
 
-pub outstanding-push : (stream time : ℕ) (rows : List Row) (row : Row)
-    → outstanding stream time (rows ++ row ∷ []) ≡ outstanding stream time rows + outstanding_in stream time row
-outstanding-push stream time rows row = sum_by_push (outstanding_in stream time) rows row
-
-outstanding_in-falls : (stream time later : ℕ) (row : Row) → time ≤ later → outstanding_in stream later row ≤ outstanding_in stream time row
-outstanding_in-falls stream time later (Reserved sent) past = le_refl 0
-outstanding_in-falls stream time later Empty past = le_refl 0
-outstanding_in-falls stream time later (Carries s packet) past =
-    elim (cases_Bool (eqb s stream)) as (λ _. outstanding_in stream later (Carries s packet) ≤ outstanding_in stream time (Carries s packet)) [
-      | inl e ↦
-          (rw e (elim (cases_lt later packet.gone) as (λ _. cond (ltb later packet.gone) packet.payload 0 ≤ cond (ltb time packet.gone) packet.payload 0) [
-            | inl late ↦ rw (lt-ltb later packet.gone late, lt-ltb time packet.gone (lt_of_le_of_lt past late)) (le_refl packet.payload)
-            | inr gone ↦ rw (le-ltb later packet.gone gone) zero-le
-          ]))
-      | inr e ↦ rw e zero-le
-    ]
-
--- what is outstanding doesn't grow with time
-pub outstanding-falls : (stream time later : ℕ) (rows : List Row) → time ≤ later → outstanding stream later rows ≤ outstanding stream time rows
-outstanding-falls stream time later rows past =
-    sum_by-le-sum_by (outstanding_in stream later) (outstanding_in stream time) rows (λ row. outstanding_in-falls stream time later row past)
-
 -- the packets before place j are gone at the time, and the others are not
 abbrev pub GoneBefore : (time j : ℕ) → List Packet → Type 0
 GoneBefore time j packets =
@@ -184,9 +159,6 @@ GoneBefore-from_ends time j k packets d rises below fits gone late =
 -- the payload bytes of packets j up to k: those that were sent and are not gone
 abbrev pub held : (j k : ℕ) → List Packet → ℕ
 held j k packets = sum_by payload_of (drop j (take k packets))
-
-pub held-none : (j : ℕ) (packets : List Packet) → held j j packets ≡ 0
-held-none j packets = ap (λ list. sum_by payload_of list) (drop_all j (take j packets) (rw length-take (omega arith)))
 
 -- one more packet is sent
 pub held-push : (j k : ℕ) (packets : List Packet) (d : Packet) → j ≤ k → k < length packets → held j (k + 1) packets ≡ held j k packets + (get_or packets k d).payload

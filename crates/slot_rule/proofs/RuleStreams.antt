@@ -2,9 +2,8 @@
 use Rattle.std.proofs.Common.{◌≡◌, ℕ, suc, ◌+◌, ◌*◌, ◌^◌, ◌<◌, ◌≤◌, List, [], ◌∷◌, ◌++◌, All, length, map, get_or, take, drop, sum_by, slice_get, Some, refl, sym, ap, ap₂, subst, ◌∙◌, append_assoc, append-nil, zero-add, add-zero, zero-le, count_by, eqb, arith}
 use Rattle.std.specs.List.{enumerate_from, flat_map, AllZip}
 use Rattle.std.specs.List.Sorted.{IsNonDecreasingBy, IsNonDecreasing}
-use Rattle.std.specs.Option.{option_map}
-use Rattle.std.proofs.lemmas.Option.{slice_get-map, slice_get-get_or, slice_get_within, get_or_from_slice_get}
-use Rattle.std.proofs.lemmas.List.{drop-drop, take-append-drop, drop_more, length-take-le, length-append, length-map, get_or-map}
+use Rattle.std.proofs.lemmas.Option.{slice_get_within, get_or_from_slice_get}
+use Rattle.std.proofs.lemmas.List.{drop-drop, take-append-drop, drop_more, length-append, length-map, get_or-map}
 use Rattle.std.proofs.lemmas.List.Concat.{flat_map-append}
 use Rattle.std.proofs.lemmas.List.Elements.{All-nil, All-cons, All-append, All-head, All-tail, All-weaker}
 use Rattle.std.proofs.lemmas.List.FromFn.{length-enumerate_from, get_or-enumerate_from}
@@ -22,7 +21,6 @@ use Rattle.slot_rule.specs.Schedule.{IsHead, FollowRule}
 use Rattle.slot_rule.proofs.RuleRows.{IsNext, FollowRule-at}
 use Rattle.std.proofs.lemmas.Bool.{cond_both}
 use Rattle.slot_rule.specs.Streams.{Kind, Packet, Stream, video_of, audio_of, streams_from, streams_of}
-use Rattle.slot_rule.proofs.Places.{slice_get-append_left, slice_get-append_right}
 use Rattle.slot_rule.proofs.RuleVideo.{packets_from-each, packets_from-dues, packets_from-gones, length-packets_from, DuesRise-from_increasing, HasSizes}
 
 -- the units of these programs
@@ -68,41 +66,9 @@ streams_of-few table choice valid =
     omega (arith, length-streams_from 0 table.programs choice, valid.few_programs)
 
 -- ---- the streams by number
--- the number of the video of program p
-abbrev pub video_number : List ProgramRow → ℕ → ℕ
-video_number rows p = sum_by (λ row. suc (length row.audios)) (take p rows)
-
 -- the version numbers for the units of program p and those after it
 abbrev pub choice_from : List ProgramRow → ℕ → List ℕ → List ℕ
 choice_from rows p choice = drop (length (all_units (take p rows))) choice
-
-streams_of-at : (rows : List ProgramRow) (choice : List ℕ) (p k : ℕ) (d : ProgramRow) → p < length rows
-    → slice_get (streams_from 0 rows choice) (video_number rows p + k)
-    ≡ slice_get (streams_in p (get_or rows p d) (choice_from rows p choice) ++ streams_from (p + 1) (drop (p + 1) rows) (drop (length (get_or rows p d).units) (choice_from rows p choice))) k
-streams_of-at rows choice p k d within =
-    let split : rows ≡ take p rows ++ get_or rows p d ∷ drop (p + 1) rows = sym (take-append-drop p rows) ∙ ap (λ rest. take p rows ++ rest) (drop_more rows p d within) in
-    let number : 0 + length (take p rows) ≡ p = zero-add _ ∙ length-take-le p rows (omega arith) in
-    let parts : streams_from 0 rows choice ≡ streams_from 0 (take p rows) choice ++ streams_from p (get_or rows p d ∷ drop (p + 1) rows) (choice_from rows p choice) =
-    ap (λ (all : List ProgramRow). streams_from 0 all choice) split ∙ streams_from-append 0 (take p rows) (get_or rows p d ∷ drop (p + 1) rows) choice
-    ∙ ap (λ n. streams_from 0 (take p rows) choice ++ streams_from n (get_or rows p d ∷ drop (p + 1) rows) (choice_from rows p choice)) number in
-    ap (λ (streams : List Stream). slice_get streams (video_number rows p + k)) parts
-    ∙ slice_get-append_right (streams_from 0 (take p rows) choice) (streams_from p (get_or rows p d ∷ drop (p + 1) rows) (choice_from rows p choice)) (video_number rows p + k) k
-    (ap (λ n. n + k) (sym (length-streams_from 0 (take p rows) choice)))
-
--- the video of program p
-pub streams_of-video : (table : Table) (choice : List ℕ) (p : ℕ) (d : ProgramRow) → p < length table.programs
-    → slice_get (streams_of table choice) (video_number table.programs p) ≡ Some (video_of p (get_or table.programs p d) (choice_from table.programs p choice))
-streams_of-video table choice p d within =
-    ap (λ n. slice_get (streams_of table choice) n) (sym (add-zero (video_number table.programs p))) ∙ streams_of-at table.programs choice p 0 d within
-
--- audio stream j of program p
-pub streams_of-audio : (table : Table) (choice : List ℕ) (p j : ℕ) (d : ProgramRow) (e : List AudioPacket) → p < length table.programs → j < length (get_or table.programs p d).audios
-    → slice_get (streams_of table choice) (video_number table.programs p + suc j) ≡ Some (audio_of (get_or (get_or table.programs p d).audios j e))
-streams_of-audio table choice p j d e within within' =
-    let row = get_or table.programs p d in
-    streams_of-at table.programs choice p (suc j) d within
-    ∙ slice_get-append_left (map audio_of row.audios) (streams_from (p + 1) (drop (p + 1) table.programs) (drop (length row.units) (choice_from table.programs p choice))) j (rw length-map within')
-    ∙ slice_get-map audio_of row.audios j ∙ ap (option_map audio_of) (slice_get-get_or row.audios j e within')
 
 -- ---- what each stream keeps
 -- what each packet of a valid table keeps, where a slot lasts this many ticks

@@ -1,14 +1,13 @@
 -- The packets of a coded picture: their sizes, their sum, and those from a place on.
-use Rattle.std.proofs.Common.{◌≡◌, ℕ, zero, suc, min, ◌+◌, ◌-◌, ◌*◌, ◌/◌, ◌<◌, ◌≤◌, List, [], ◌∷◌, ◌++◌, All, length, map, get_or, drop, replicate, sum, sum_by, refl, sym, ap, ap₂, ◌∙◌, inl, inr, zero-add, add-zero, arith}
+use Rattle.std.proofs.Common.{◌≡◌, ℕ, zero, suc, min, ◌+◌, ◌-◌, ◌*◌, ◌/◌, ◌<◌, ◌≤◌, List, [], ◌∷◌, ◌++◌, All, length, map, get_or, drop, replicate, sum, sum_by, refl, sym, ap, ap₂, ◌∙◌, inl, inr, add-zero, arith}
 use Rattle.std.specs.List.{enumerate_from}
 use Rattle.std.proofs.lemmas.Bool.{cases_lt}
 use Rattle.std.proofs.lemmas.List.{length-append, length-map, length-replicate, get_or_append_left, get_or-replicate, get_or_at, get_or-map}
 use Rattle.std.proofs.lemmas.List.Elements.{All-nil, All-cons, All-append, All-replicate, All-head, All-tail}
-use Rattle.std.proofs.lemmas.List.Folds.{sum_by-replicate}
 use Rattle.std.proofs.lemmas.List.FromFn.{length-enumerate_from, get_or-enumerate_from}
-use Rattle.std.proofs.lemmas.List.Sums.{sum_by-append, sum_by-cons}
+use Rattle.std.proofs.lemmas.List.Sums.{sum_by-cons}
 use Rattle.slot_rule.specs.declared.constants.TheConstants.{PAYLOAD_BYTES}
-use Rattle.slot_rule.specs.Streams.{Packet, payloads, unit_packets}
+use Rattle.slot_rule.specs.Streams.{Packet, payloads}
 use Rattle.slot_rule.proofs.RuleSent.{payload_of}
 
 -- ---- the payloads of so many bytes
@@ -26,13 +25,6 @@ payloads-more bytes large =
 
 pub length-payloads : (bytes : ℕ) → length (payloads bytes) ≡ (bytes - 1) / PAYLOAD_BYTES + 1
 length-payloads bytes = length-append (replicate ((bytes - 1) / PAYLOAD_BYTES) PAYLOAD_BYTES) (_ ∷ []) ∙ ap (λ n. n + 1) (length-replicate ((bytes - 1) / PAYLOAD_BYTES) PAYLOAD_BYTES)
-
-pub sum-payloads : (bytes : ℕ) → sum (payloads bytes) ≡ bytes
-sum-payloads bytes =
-    let full = (bytes - 1) / PAYLOAD_BYTES in
-    sum_by-append (λ x. x) (replicate full PAYLOAD_BYTES) ((bytes - PAYLOAD_BYTES * full) ∷ [])
-    ∙ ap (λ n. n + (0 + (bytes - PAYLOAD_BYTES * full))) (sum_by-replicate (λ x. x) full PAYLOAD_BYTES)
-    ∙ (let e : full * PAYLOAD_BYTES + (0 + (bytes - PAYLOAD_BYTES * full)) ≡ bytes = omega arith in e)
 
 -- a payload has 1 byte to a packet's full payload
 abbrev pub IsPayload : ℕ → Type 0
@@ -86,9 +78,6 @@ drop-unit_rest item piece due left (suc n) fits =
     ap (λ (list : List Packet). drop (suc n) list) (unit_rest-more item piece due left (omega arith))
     ∙ drop-unit_rest item (piece + 1) due (left - PAYLOAD_BYTES) n (omega arith) ∙ ap₂ (λ (p l : ℕ). unit_rest item p due l) next rest
 
-pub drop-unit_packets : (item due bytes piece : ℕ) → PAYLOAD_BYTES * piece < bytes → drop piece (unit_packets item due bytes) ≡ unit_rest item piece due (bytes - PAYLOAD_BYTES * piece)
-drop-unit_packets item due bytes piece fits = drop-unit_rest item 0 due bytes piece fits ∙ ap (λ (p : ℕ). unit_rest item p due (bytes - PAYLOAD_BYTES * piece)) (zero-add piece)
-
 pub length-unit_rest : (item piece due left : ℕ) → length (unit_rest item piece due left) ≡ (left - 1) / PAYLOAD_BYTES + 1
 length-unit_rest item piece due left =
     length-map (enumerate_from piece (payloads left)) (λ (n, payload). piece_of item due n payload) ∙ length-enumerate_from piece (payloads left) ∙ length-payloads left
@@ -98,10 +87,6 @@ sum_of_pieces item piece due [] = refl
 sum_of_pieces item piece due (payload ∷ list) =
     sum_by-cons payload_of (piece_of item due piece payload) (map (λ (n, payload). piece_of item due n payload) (enumerate_from (piece + 1) list))
     ∙ ap (λ n. payload + n) (sum_of_pieces item (piece + 1) due list) ∙ sym (sum_by-cons (λ x. x) payload list)
-
--- the payloads of what is left of a unit are its bytes left
-pub sum_by-unit_rest : (item piece due left : ℕ) → sum_by payload_of (unit_rest item piece due left) ≡ left
-sum_by-unit_rest item piece due left = sum_of_pieces item piece due (payloads left) ∙ sum-payloads left
 
 -- what each packet of a unit has
 pub record IsOfUnit (item due : ℕ) (packet : Packet) : Type 0 where

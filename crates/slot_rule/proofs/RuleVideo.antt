@@ -1,9 +1,9 @@
 -- The packets of a video stream: those from a unit on, their order, and what each keeps.
-use Rattle.std.proofs.Common.{◌≡◌, ℕ, zero, suc, ◌+◌, ◌-◌, ◌*◌, ◌/◌, ◌<◌, ◌≤◌, ◌⊎◌, List, [], ◌∷◌, ◌++◌, All, length, map, get_or, take, drop, refl, sym, ap, ◌∙◌, inl, inr, append_assoc, zero-add, add-zero, le_refl, arith, zero-le, lt_of_lt_of_le, subst}
+use Rattle.std.proofs.Common.{◌≡◌, ℕ, zero, suc, ◌+◌, ◌-◌, ◌*◌, ◌/◌, ◌<◌, ◌≤◌, ◌⊎◌, List, [], ◌∷◌, ◌++◌, All, length, map, get_or, take, drop, refl, sym, ap, ◌∙◌, inl, inr, append_assoc, add-zero, le_refl, arith, zero-le, lt_of_lt_of_le, subst}
 use Rattle.std.specs.List.{enumerate_from, flat_map, zip, AllPairs}
 use Rattle.std.specs.List.Sorted.{IsNonDecreasingBy, IsStrictlyIncreasing}
 use Rattle.std.proofs.lemmas.Bool.{cases_lt}
-use Rattle.std.proofs.lemmas.List.{drop_more, drop_all, drop-drop, drop_at, drop-append-le, length-append, length-map, get_or_append_left, get_or-append_right, get_or-map}
+use Rattle.std.proofs.lemmas.List.{drop_more, drop_all, length-append, length-map, get_or_append_left, get_or-append_right, get_or-map}
 use Rattle.std.proofs.lemmas.List.Kept.{AllPairs-from_increasing}
 use Rattle.std.proofs.lemmas.List.Elements.{All-nil, All-append}
 use Rattle.version_table.specs.declared.limits.TheConstants.{VERSION_BYTES_MOST}
@@ -11,7 +11,7 @@ use Rattle.version_table.specs.declared.table.Unit.{Unit as CodedUnit}
 use Rattle.version_table.specs.Choice.{version_at}
 use Rattle.slot_rule.specs.declared.constants.TheConstants.{PAYLOAD_BYTES}
 use Rattle.slot_rule.specs.Streams.{Packet, unit_packets}
-use Rattle.slot_rule.proofs.RuleUnits.{piece_of, unit_rest, unit_rest-more, unit_rest-last, drop-unit_packets, unit_rest-each, unit_rest-pieces, get_or-unit_rest, length-unit_rest, IsOfUnit}
+use Rattle.slot_rule.proofs.RuleUnits.{piece_of, unit_rest, unit_rest-more, unit_rest-last, unit_rest-each, unit_rest-pieces, get_or-unit_rest, length-unit_rest, IsOfUnit}
 pub use Rattle.slot_rule.specs.Source.{HasSizes}
 
 -- the packets of these units, of which the first has this number; those of a program's units from 0 on are the packets of `video_of`
@@ -53,28 +53,6 @@ pub video_from-last : (item piece due left : ℕ) (units : List CodedUnit) (choi
     → video_from item piece due left units choice ≡ piece_of item due piece left ∷ packets_from (item + 1) (drop (item + 1) units) (drop (item + 1) choice)
 video_from-last item piece due left units choice small =
     ap (λ (rest : List Packet). rest ++ packets_from (item + 1) (drop (item + 1) units) (drop (item + 1) choice)) (unit_rest-last item piece due left small)
-
--- where packet k of a video stream is this piece of unit n, the packets from k on
-pub drop-packets_from : (n piece : ℕ) (units : List CodedUnit) (choice : List ℕ) (d : CodedUnit) (e : ℕ) → n < length units → n < length choice
-    → let bytes = (version_at (get_or units n d) (get_or choice n e)).bytes in PAYLOAD_BYTES * piece < bytes
-    → drop (length (packets_from 0 (take n units) choice) + piece) (packets_from 0 units choice)
-    ≡ video_from n piece (get_or units n d).due (bytes - PAYLOAD_BYTES * piece) units choice
-drop-packets_from n piece units choice d e within within' fits =
-    let coded = get_or units n d in
-    let bytes = (version_at coded (get_or choice n e)).bytes in
-    let front = packets_from 0 (take n units) choice in
-    let back = packets_from n (drop n units) (drop n choice) in
-    let others = packets_from (n + 1) (drop (n + 1) units) (drop (n + 1) choice) in
-    let split : packets_from 0 units choice ≡ packets_from 0 (take n units) choice ++ packets_from n (drop n units) (drop n choice) =
-    packets_from-split 0 n units choice (omega arith) ∙ ap (λ m. front ++ packets_from m (drop n units) (drop n choice)) (zero-add n) in
-    let whole : packets_from n (drop n units) (drop n choice) ≡ unit_rest n 0 coded.due bytes ++ others = packets_from-at n n units choice d e within within' in
-    let size : length (unit_rest n 0 coded.due bytes) ≡ (bytes - 1) / PAYLOAD_BYTES + 1 = length-unit_rest n 0 coded.due bytes in
-    sym (drop-drop piece (length front) (packets_from 0 units choice))
-    ∙ ap (λ (all : List Packet). drop piece (drop (length front) all)) split
-    ∙ ap (λ (all : List Packet). drop piece all) (drop_at front back (length front) refl)
-    ∙ ap (λ (all : List Packet). drop piece all) whole
-    ∙ drop-append-le piece (unit_rest n 0 coded.due bytes) others (omega arith)
-    ∙ ap (λ (rest : List Packet). rest ++ others) (drop-unit_packets n coded.due bytes piece fits)
 
 -- ---- the order of packets
 pub AllPairs-append : {X : Type 0} (R : X → X → Type 0) (xs ys : List X) → AllPairs R xs → AllPairs R ys

@@ -1,5 +1,5 @@
 -- What a stream's state keeps through its steps.
-use Rattle.std.proofs.Common.{◌≡◌, ℕ, ◌+◌, ◌<◌, ◌≤◌, ◌-◌, List, length, get_or, slice_get, Option, Some, refl, sym, ap, ◌∙◌, inl, inr, le_refl, arith}
+use Rattle.std.proofs.Common.{◌≡◌, ℕ, ◌+◌, ◌<◌, ◌≤◌, ◌-◌, List, length, get_or, slice_get, Option, Some, sym, ap, ◌∙◌, inl, inr, arith}
 use Rattle.std.proofs.lemmas.Bool.{cases_lt}
 use Rattle.std.proofs.lemmas.Option.{same_Some, slice_get_within, get_or_from_slice_get}
 use Rattle.slot_rule.specs.declared.stream_state.StreamState.{StreamState}
@@ -37,9 +37,6 @@ Keeps-release packets old packet next keeps some oldest next_is =
       omega arith,
       record { within = keeps.within; head = keeps.head; order = omega arith; oldest = next_is; held = omega arith },
     )
-
-pub Releases-none : (packets : List Packet) (start : ℕ) (state : StreamState) → Releases packets start state state
-Releases-none packets start state = record { changed = refl; rises = le_refl state.gone; fewer = le_refl state.held; gone = λ k packet from to got. absurd (omega arith) }
 
 -- one more packet is gone
 pub Releases-more : (packets : List Packet) (start : ℕ) (old new : StreamState) (packet : Packet) (next : Option Packet) → Releases packets start old new

@@ -1,6 +1,8 @@
 pub mod Buffers
 pub mod Heads
+pub mod IdleSlots
 pub mod Schedule
+pub mod SlotList
 pub mod Slots
 pub mod Source
 pub mod States

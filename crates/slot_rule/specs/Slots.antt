@@ -10,6 +10,7 @@ use Rattle.slot_rule.specs.declared.stream_state.StreamState.{StreamState}
 use Rattle.slot_rule.specs.Buffers.{Row, Reserved, Carries, Empty, is_of, multiplex_work, tb_subticks, transport_work}
 use Rattle.slot_rule.specs.Heads.{IsFirst, IsFirstHead, Passes, PassesAt}
 use Rattle.slot_rule.specs.Schedule.{FollowRule}
+use Rattle.slot_rule.specs.SlotList.{piece_sent}
 use Rattle.slot_rule.specs.Source.{IsPlace}
 use Rattle.slot_rule.specs.States.{ChangesEach, TakesClock, stream_of}
 use Rattle.slot_rule.specs.StreamState.{IsKind, IsSmall, Keeps, work_of_main}
@@ -82,6 +83,12 @@ RowStands states (Carries stream packet) = (stream < length states) × (packet.d
 RowStands states (Reserved sent) = Unit {0}
 RowStands states Empty = Unit {0}
 
+-- what stands in the slot of the row, by the kind in the state of its stream
+abbrev pub Shows : List StreamState → Row → Sent → Type 0
+Shows states (Reserved reserved) sent = sent ≡ reserved
+Shows states (Carries stream packet) sent = (state : StreamState) → slice_get states stream ≡ Some state → sent ≡ piece_sent state.kind stream packet
+Shows states Empty sent = sent ≡ Null
+
 -- the packet that stands in the row comes late, by the states after it
 pub record ComesLate (states : List StreamState) (arrival : ℕ) (row : Row) (stream : ℕ) (packet : Packet) : Type 0 where
   pub state : StreamState
@@ -110,3 +117,4 @@ TellsAfter states arrival row n (Missed miss) =
 TellsAfter states arrival row n AllSent = NoneLate states arrival row × IsFirstHead Passes states None
 TellsAfter states arrival row n Waiting =
     NoneLate states arrival row × NoneOverdue states arrival
+    × ((stream : ℕ) × (packet : Packet) × IsFirst Passes states stream packet)

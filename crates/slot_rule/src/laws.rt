@@ -3,8 +3,10 @@
 ghost use Rattle.std.specs.Prelude.{◌≡◌, ℕ, ◌≤◌, List, length, take};
 ghost use Rattle.version_table.specs.declared.table.Table.{Table};
 ghost use Rattle.slot_rule.specs.declared.sent.Miss.{Miss};
+ghost use Rattle.slot_rule.specs.declared.slot_list.SlotList.{SlotList};
 ghost use Rattle.slot_rule.specs.Buffers.{Row};
 ghost use Rattle.slot_rule.specs.Schedule.{FollowRule, IsSchedule, IsScheduled, IsFirstMiss};
+ghost use Rattle.slot_rule.specs.SlotList.{IsSlotList, slots_of};
 
 /// A choice that is scheduled has no first miss.
 pub fn no_miss_where_scheduled()
@@ -21,4 +23,14 @@ pub fn first_miss_is_one()
 pub fn schedules_agree()
     ensures one { (table : Table) (choice : List ℕ) (a b : List Row) → IsSchedule table choice a → IsSchedule table choice b → length a ≡ length b → a ≡ b }
     ensures fronts { (table : Table) (choice : List ℕ) (a b : List Row) → FollowRule table choice a → FollowRule table choice b → (n : ℕ) → n ≤ length a → n ≤ length b → take n a ≡ take n b }
+{}
+
+/// A table has at most one list of slots under a choice.
+pub fn slot_list_is_one()
+    ensures { (table : Table) (choice : List ℕ) (a b : SlotList) → IsSlotList table choice a → IsSlotList table choice b → a ≡ b }
+{}
+
+/// The packets of a stream stand in the same slots in every schedule of a choice, however many idle slots end it.
+pub fn packets_keep_slots()
+    ensures { (table : Table) (choice : List ℕ) (stream : ℕ) (a b : List Row) → IsSchedule table choice a → IsSchedule table choice b → slots_of stream 0 a ≡ slots_of stream 0 b }
 {}

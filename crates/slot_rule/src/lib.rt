@@ -3,7 +3,7 @@
 //! One transport packet goes in each slot. A timetable reserves slots for the program tables and the clocks; in each
 //! other slot goes the permitted packet that is due first, where the gates of the decoder's buffers permit one
 //! (ISO/IEC 13818-1, 2.4.2, taken at slots). A packet that would come too late is a miss.
-//! Stands on `version_table`.
+//! Stands on `version_table` and `list_types`.
 #![tactic(auto)]
 
 mod after;
@@ -13,17 +13,21 @@ mod kind;
 mod laws;
 mod misses;
 mod row;
+mod schedules;
 mod sent;
 mod slot;
+mod slot_list;
 mod source;
 mod states;
 mod stream_state;
 mod timetable;
 
-pub use laws::{first_miss_is_one, no_miss_where_scheduled, schedules_agree};
+pub use laws::{
+    first_miss_is_one, no_miss_where_scheduled, packets_keep_slots, schedules_agree,
+    slot_list_is_one,
+};
 pub use misses::first_miss;
+pub use schedules::{ScheduleFault, schedule};
 pub use sent::{Miss, Sent};
+pub use slot_list::SlotList;
 pub use timetable::Timetable;
-
-#[cfg(test)]
-mod tests;

@@ -29,11 +29,7 @@ pub fn run_slot(table: &Table, choice: &Choice, states: &mut [StreamState], n: u
         → IsRow table.now.slot (length table.now.programs) (streams_of table.now choice.now) rows result
         × HasRun table.now choice.now (rows ++ result ∷ []) states.new }
 {
-    let timetable = Timetable {
-        slot: table.slot,
-        programs: table.programs.len() as u8,
-    };
-    let row = match timetable.at(n) {
+    let row = match Timetable::of(table).at(n) {
         Some(reserved) => reserve(states, reserved),
         None => send_first(table, choice, states, u64::from(n) * u64::from(table.slot)),
     };

@@ -1,9 +1,11 @@
-ghost use Rattle.std.specs.Prelude.{◌≡◌, ◌≤◌};
+ghost use Rattle.std.specs.Prelude.{◌≡◌, ◌≤◌, length};
 ghost use Rattle.version_table.specs.declared.limits.TheConstants.{SLOT_LEAST, SLOT_MOST, PROGRAMS_MOST};
-ghost use Rattle.slot_rule.specs.Timetable.{reserved};
+ghost use Rattle.version_table.specs.Table.{IsValidTable};
+ghost use Rattle.slot_rule.specs.Timetable.{period, reserved};
 
 use crate::constants::PERIOD_TICKS;
 use crate::sent::Sent;
+use version_table::Table;
 
 /// Which slots are reserved.
 #[derive(Clone, Copy, Debug, PartialEq, Eq)]
@@ -22,8 +24,7 @@ impl Timetable {
         requires programs { self.now.programs ≤ PROGRAMS_MOST }
         ensures { result ≡ reserved self.now.slot self.now.programs n }
     {
-        let period = PERIOD_TICKS / self.slot;
-        let offset = n % period;
+        let offset = n % self.period();
         let programs = u32::from(self.programs);
         if offset == 0 {
             Some(Sent::Pat)
@@ -34,5 +35,28 @@ impl Timetable {
         } else {
             None
         }
+    }
+
+    /// The timetable of a table.
+    pub(crate) fn of(table: &Table) -> Timetable
+        requires { IsValidTable table.now }
+        ensures slot { result.slot ≡ table.now.slot }
+        ensures programs { result.programs ≡ length table.now.programs }
+    {
+        Timetable {
+            slot: table.slot,
+            programs: table.programs.len() as u8,
+        }
+    }
+
+    /// Slots after which the timetable begins again.
+    pub(crate) fn period(&self) -> u32
+        requires least { SLOT_LEAST ≤ self.now.slot }
+        requires most { self.now.slot ≤ SLOT_MOST }
+        ensures value { result ≡ period self.now.slot }
+        ensures some { 1 ≤ result }
+        ensures few { result ≤ PERIOD_TICKS }
+    {
+        PERIOD_TICKS / self.slot
     }
 }

@@ -8,7 +8,7 @@ use Rattle.psi_tables.specs.declared.program_map.ProgramMap.{ProgramMap}
 use Rattle.psi_tables.specs.declared.stream.Stream.{Stream}
 use Rattle.psi_tables.specs.Section.{IsRow}
 use Rattle.psi_tables.specs.Descriptors.{count_dropped}
-use Rattle.psi_tables.specs.ProgramMap.{IsStreamInfo, stream_of}
+use Rattle.psi_tables.specs.Streams.{IsStreamInfo, stream_of}
 use Rattle.psi_tables.proofs.MapContents.{keepable_from, room_from, cut_at, pcr_at, content_says, one_map}
 use Rattle.psi_tables.proofs.StreamRows.{same_pair}
 use Rattle.psi_tables.proofs.pmt.read_map.Goals as goal

@@ -3,7 +3,8 @@ use Rattle.std.specs.List.{flat_map}
 use Rattle.psi_tables.specs.declared.stream.Stream.{Stream}
 use Rattle.psi_tables.specs.declared.program_map.ProgramMap.{ProgramMap}
 use Rattle.psi_tables.specs.Section.{IsWithCrc, written_header, written_pid, written_length}
-use Rattle.psi_tables.specs.ProgramMap.{written_stream, written_streams, written_pmt}
+use Rattle.psi_tables.specs.Streams.{written_stream}
+use Rattle.psi_tables.specs.Pmt.{written_streams, written_pmt}
 use Rattle.psi_tables.proofs.WrittenPmt.{written_has_room, written_pmt_is}
 use Rattle.psi_tables.proofs.pmt.write_pmt.Goals as goal
 

@@ -4,7 +4,7 @@ use Rattle.std.proofs.lemmas.List.{flat_map_more, take_more}
 use Rattle.std.proofs.lemmas.List.Folds.{length-flat_map-take}
 use Rattle.std.proofs.lemmas.List.Elements.{All-more}
 use Rattle.psi_tables.specs.declared.stream.Stream.{Stream}
-use Rattle.psi_tables.specs.ProgramMap.{written_stream}
+use Rattle.psi_tables.specs.Streams.{written_stream}
 use Rattle.psi_tables.proofs.streams.put_streams.Goals as goal
 
 pub put_stream-requires-clause-room : goal.put_stream-requires-clause-room

@@ -1,6 +1,6 @@
 use Rattle.std.proofs.Common.{◌≡◌, ◌*◌, ◌≤◌, length, take}
 use Rattle.std.specs.List.{flat_map}
-use Rattle.psi_tables.specs.ProgramMap.{written_stream}
+use Rattle.psi_tables.specs.Streams.{written_stream}
 use Rattle.psi_tables.proofs.streams.streams_length.Given as goal
 
 abbrev pub invariant-loop-stream : goal.invariant-loop-stream

@@ -1,4 +1,4 @@
-use Rattle.std.proofs.Common.{◌≡◌, List, ℕ, refl, map}
+use Rattle.std.proofs.Common.{List, ℕ, refl, map}
 use Rattle.std.specs.String.{string_bytes}
 use Rattle.remux_core.specs.Command.{IsPlanCommand}
 use Rattle.remux_core.specs.Outcome.{Ends}

@@ -1,4 +1,4 @@
-use Rattle.std.proofs.Common.{◌≡◌, ◌+◌, ◌∙◌, List, ℕ, refl, Some}
+use Rattle.std.proofs.Common.{◌+◌, ◌∙◌, List, ℕ}
 use Rattle.version_table.specs.declared.limits.TheConstants.{TABLE_TEXT_MOST}
 use Rattle.remux_core.specs.Command.{IsPlanCommand}
 use Rattle.remux_core.specs.Outcome.{HoldsText, Ends}

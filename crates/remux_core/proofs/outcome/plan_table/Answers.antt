@@ -1,4 +1,4 @@
-use Rattle.std.proofs.Common.{◌≡◌, List, ℕ, ◌<◌, ◌≤◌, refl, length, arith}
+use Rattle.std.proofs.Common.{List, ℕ, refl}
 use Rattle.remux_core.specs.Outcome.{HasPlan, PlansTable, Ends}
 use Rattle.remux_core.specs.Planned.{contents_of}
 use Rattle.remux_core.proofs.Told.{on_after}

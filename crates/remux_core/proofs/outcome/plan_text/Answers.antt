@@ -1,4 +1,4 @@
-use Rattle.std.proofs.Common.{◌≡◌, List, ℕ, refl}
+use Rattle.std.proofs.Common.{List, ℕ, refl}
 use Rattle.remux_core.specs.Outcome.{HoldsText, PlansTable, Ends}
 use Rattle.remux_core.proofs.Held.{read_whole, refused_ends}
 use Rattle.remux_core.proofs.Told.{on_after, on_same}

@@ -1,4 +1,4 @@
-use Rattle.std.proofs.Common.{◌≡◌, List, ℕ, false, codes, refl, subst, IfOk, inr, ◌∙◌}
+use Rattle.std.proofs.Common.{◌≡◌, List, ℕ, codes, refl, subst, IfOk, inr, ◌∙◌}
 use Rattle.serde_json.specs.View.{view}
 use Rattle.shelf_io.specs.WholeFile.{HoldsPrefix}
 use Rattle.remux_core.specs.declared.status.Status.TheVariants.{WriteFault}

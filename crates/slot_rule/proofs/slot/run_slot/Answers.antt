@@ -1,4 +1,4 @@
-use Rattle.std.proofs.Common.{◌≡◌, ℕ, ◌*◌, List, length, sym, ap₂, subst, ◌∙◌, arith}
+use Rattle.std.proofs.Common.{◌≡◌, ℕ, ◌*◌, List, length, sym, ap, ap₂, subst, ◌∙◌, arith}
 use Rattle.slot_rule.specs.declared.stream_state.StreamState.{StreamState}
 use Rattle.slot_rule.specs.Buffers.{Row, slot_subticks}
 use Rattle.slot_rule.specs.Slots.{Fills, Reserves}
@@ -36,7 +36,8 @@ returns c rows len run =
     let olds = c.args.states.now in
     let mids = c.match-at.states in
     let news = c.drain_all.new.states in
-    let at : reserved table.slot (length table.programs) (length rows) ≡ c.at.result = ap₂ (λ (p n : ℕ). reserved table.slot p n) (sym c.len.ensures) len ∙ sym c.at.ensures in
+    let at : reserved table.slot (length table.programs) (length rows) ≡ c.at.result = ap (λ (slot : ℕ). reserved slot (length table.programs) (length rows)) (sym c.of.ensures.slot)
+    ∙ ap₂ (λ (p n : ℕ). reserved c.of.result.slot p n) (sym c.of.ensures.programs) len ∙ sym c.at.ensures in
     let drains : ChangesEach (Drains (slot_subticks table.slot)) mids news = subst (λ (slot : ℕ). ChangesEach (Drains (slot_subticks slot)) mids news) c.from-2.ensures c.drain_all.ensures in
     elim c.match-at.branch [
       | in-Some w ↦

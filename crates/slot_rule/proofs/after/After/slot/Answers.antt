@@ -14,6 +14,7 @@ returns-in-Some-2 c =
         | in_default w ↦ NoneLate-other states arrival c.args.row w.in_default.not-Carries
       ],
       NoneOverdue-from_first states arrival c.in-Some.head.stream c.in-Some.head.packet c.in-Some.ensures (omega (arith, c.if-head-arrival.false)),
+      (c.in-Some.head.stream, c.in-Some.head.packet, c.in-Some.ensures),
     )
 
 pub returns-in-None : goal.returns-in-None

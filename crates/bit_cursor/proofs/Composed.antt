@@ -1,0 +1,128 @@
+-- What a sink got in several calls: what each function that puts bits by other ones needs. They speak of `Gets` and
+-- `GetsFront`, so of `Puts` and `PutsFront` between states of a writer.
+use Rattle.std.proofs.Common.{◌≡◌, ℕ, ◌+◌, ◌-◌, ◌*◌, ◌%◌, ◌^◌, ◌<◌, List, [], ◌∷◌, ◌++◌, Option, None, Some, false, Result, Ok, Err, IsErrAnd, ◌≤◌, length, drop, refl, sym, ap, subst, inl, inr, ◌∙◌, arith, append_assoc, append-nil, length-append}
+use Rattle.std.proofs.lemmas.Bool.{cases_lt}
+use Rattle.std.proofs.lemmas.Result.{on_ok_weaker, on_err_weaker}
+use Rattle.shelf_io.specs.declared.fault.Fault.{Fault}
+use Rattle.shelf_io.specs.Counts.{Rose}
+use Rattle.shelf_io.specs.Sink.{with_bytes}
+use Rattle.bit_lists.specs.Bits.{IsPrefix}
+use Rattle.bit_lists.specs.Fields.{AreBytes, bit_list}
+use Rattle.bit_lists.proofs.PrefixLemmas.{IsPrefix-append, IsPrefix-split, IsPrefix-through}
+use Rattle.bit_cursor.specs.declared.bit_writer.BitWriter.{BitWriter}
+use Rattle.bit_cursor.specs.BitWriter.{Gets, GetsFront, Writes, told_by, waiting_in, is_stopped, sink_of}
+use Rattle.bit_cursor.proofs.Gets.{bit_list-append, length-bit_list, gets_none}
+
+AreBytes-append : (xs ys : List ℕ) → AreBytes xs → AreBytes ys → AreBytes (xs ++ ys)
+AreBytes-append [] ys are are' = are'
+AreBytes-append (x ∷ xs) ys are are' = (are.0, AreBytes-append xs ys are.1 are')
+
+with_bytes-twice : (told : Option (List ℕ)) (xs ys : List ℕ) → with_bytes (with_bytes told xs) ys ≡ with_bytes told (xs ++ ys)
+with_bytes-twice None xs ys = refl
+with_bytes-twice (Some bytes) xs ys = ap Some (append_assoc bytes xs ys)
+
+IsPrefix-behind : (front c d : List ℕ) → IsPrefix c d → IsPrefix (front ++ c) (front ++ d)
+IsPrefix-behind front c d begins =
+    let split : front ++ d ≡ (front ++ c) ++ drop (length c) d = ap (λ rest. front ++ rest) (IsPrefix-split c d begins) ∙ sym (append_assoc front c (drop (length c) d)) in
+    rw split (IsPrefix-append (front ++ c) (drop (length c) d))
+
+-- what was put in two calls, one after the other
+pub gets_twice : {told mid after : Option (List ℕ)} {waited first waits then still : List ℕ} → Gets told mid waited first waits → Gets mid after waits then still → Gets told after waited (first ++ then) still
+gets_twice {told} {waited} {first} {waits} {then} {still} a b = record {
+  bytes = a.bytes ++ b.bytes;
+  are_bytes = AreBytes-append a.bytes b.bytes a.are_bytes b.are_bytes;
+  at_the_end = b.at_the_end ∙ ap (λ t. with_bytes t b.bytes) a.at_the_end ∙ with_bytes-twice told a.bytes b.bytes;
+  in_order = ap (λ bits. bits ++ still) (bit_list-append a.bytes b.bytes) ∙ append_assoc (bit_list a.bytes) (bit_list b.bytes) still ∙ ap (λ bits. bit_list a.bytes ++ bits) b.in_order
+      ∙ sym (append_assoc (bit_list a.bytes) waits then) ∙ ap (λ bits. bits ++ then) a.in_order ∙ append_assoc waited first then;
+}
+
+-- and in two calls of which the second one failed
+pub gets_then_front : {told mid after : Option (List ℕ)} {waited first waits then : List ℕ} → Gets told mid waited first waits → GetsFront mid after waits then → GetsFront told after waited (first ++ then)
+gets_then_front {told} {waited} {first} {waits} {then} a b =
+    let order : bit_list a.bytes ++ (waits ++ then) ≡ waited ++ (first ++ then) =
+    sym (append_assoc (bit_list a.bytes) waits then) ∙ ap (λ bits. bits ++ then) a.in_order ∙ append_assoc waited first then in
+    record {
+      bytes = a.bytes ++ b.bytes;
+      are_bytes = AreBytes-append a.bytes b.bytes a.are_bytes b.are_bytes;
+      at_the_end = b.at_the_end ∙ ap (λ t. with_bytes t b.bytes) a.at_the_end ∙ with_bytes-twice told a.bytes b.bytes;
+      front = rw (bit_list-append a.bytes b.bytes, ← order) (IsPrefix-behind (bit_list a.bytes) (bit_list b.bytes) (waits ++ then) b.front);
+    }
+
+-- and in a call that failed, with more to come
+pub gets_front_more : {told after : Option (List ℕ)} {waited first : List ℕ} (more : List ℕ) → GetsFront told after waited first → GetsFront told after waited (first ++ more)
+gets_front_more {waited} {first} more a = record {
+  bytes = a.bytes;
+  are_bytes = a.are_bytes;
+  at_the_end = a.at_the_end;
+  front = IsPrefix-through (bit_list a.bytes) (waited ++ first) (waited ++ (first ++ more)) a.front (rw (← append_assoc waited first more) (IsPrefix-append (waited ++ first) more));
+}
+
+-- the bits that stand behind a whole byte are all that stood and all that were put, but for the whole bytes among them
+pub gets_odd : {told after : Option (List ℕ)} {waited put waits : List ℕ} → Gets told after waited put waits → length waits % 8 ≡ (length waited + length put) % 8
+gets_odd {waited} {put} {waits} a =
+    let lengths : 8 * length a.bytes + length waits ≡ length waited + length put =
+    ap (λ n. n + length waits) (sym (length-bit_list a.bytes)) ∙ sym (length-append (bit_list a.bytes) waits) ∙ ap (length {A = ℕ}) a.in_order ∙ length-append waited put in
+    omega arith
+
+pub odd_after : {told after : Option (List ℕ)} {waited put waits : List ℕ} (n : ℕ) → length put ≡ n → Gets told after waited put waits → length waits % 8 ≡ (length waited % 8 + n) % 8
+odd_after {waited} {put} {waits} n is a = let odd : length waits % 8 ≡ (length waited + length put) % 8 = gets_odd a in omega arith
+
+-- what was put by a writer in which nothing waited and that was finished: bytes behind what the sink held, with these bits
+pub gets_whole : {told mid after : Option (List ℕ)} {put waits : List ℕ} → Gets told mid [] put waits → Gets mid after waits [] [] → (bytes : List ℕ) × AreBytes bytes × (after ≡ with_bytes told bytes) × (bit_list bytes ≡ put)
+gets_whole {put} a b =
+    let all = gets_twice a b in
+    (all.bytes, all.are_bytes, all.at_the_end, sym (append-nil (bit_list all.bytes)) ∙ all.in_order ∙ append-nil put)
+
+-- ---- how calls end
+
+rose_later : (a b c : ℕ) → a ≤ b → b ≤ c → Rose b c → Rose a c
+rose_later a b c first then rose small = elim (cases_lt b (2 ^ 64 - 1)) [
+  | inl below ↦ let more : b < c = rose below in omega arith
+  | inr full ↦ omega arith
+]
+
+module _ {K : Type 0} {written : K → Option (List ℕ)} {faults : K → ℕ} {keeps : K → K → Type 0} where
+  -- nothing was put
+  pub writes_none : {T : Type 0} (x : T) (a : BitWriter K) → ((first : K) → keeps first first) → is_stopped a ≡ false → Writes written faults keeps a a (Ok x) []
+  writes_none x a keeps_itself goes = record {
+    ok = gets_none (told_by written a) (waiting_in a) [] (waiting_in a) (sym (append-nil (waiting_in a)));
+    err = tt;
+    stopped = goes;
+    failed = λ is. cc;
+    never_missing = λ is. cc;
+    counts = omega arith;
+    kept = keeps_itself (sink_of a).now;
+    same_sink = refl;
+  }
+
+  -- a call behind one that ended well
+  pub writes_then : {T U : Type 0} {a b c : BitWriter K} {x : T} {r : Result U Fault} {xs ys : List ℕ} → ((first second third : K) → keeps first second → keeps second third → keeps first third)
+      → Writes written faults keeps a b (Ok x) xs → Writes written faults keeps b c r ys → Writes written faults keeps a c r (xs ++ ys)
+  writes_then {r} keeps_on first then = record {
+    ok = on_ok_weaker r (gets_twice first.ok) then.ok;
+    err = on_err_weaker r (gets_then_front first.ok) then.err;
+    stopped = then.stopped;
+    failed = λ is. rose_later _ _ _ first.counts then.counts (then.failed is);
+    never_missing = then.never_missing;
+    counts = omega (arith, first.counts, then.counts);
+    kept = keeps_on _ _ _ first.kept then.kept;
+    same_sink = then.same_sink ∙ first.same_sink;
+  }
+
+  -- a call that failed, with more to come behind it
+  pub writes_no_more : {T U : Type 0} {a b : BitWriter K} {e : Fault} {xs : List ℕ} (more : List ℕ) → Writes {T = T} written faults keeps a b (Err e) xs → Writes {T = U} written faults keeps a b (Err e) (xs ++ more)
+  writes_no_more more call = record {
+    ok = tt;
+    err = gets_front_more more call.err;
+    stopped = call.stopped;
+    failed = λ is. call.failed (let e = is in cc);
+    never_missing = λ is. call.never_missing (let e = is in cc);
+    counts = call.counts;
+    kept = call.kept;
+    same_sink = call.same_sink;
+  }
+
+  -- the same at the exit of a `?`
+  pub writes_exit : {T U : Type 0} {a b : BitWriter K} {e : Fault} {xs : List ℕ} (r : Result U Fault) (more : List ℕ) → IsErrAnd r (λ f. f ≡ e) → Writes {T = T} written faults keeps a b (Err e) xs → Writes {T = U} written faults keeps a b r (xs ++ more)
+  writes_exit (Ok x) more is call = absurd is
+  writes_exit {U} {a} {b} {xs} (Err f) more is call = subst (λ (fault : Fault). Writes {T = U} written faults keeps a b (Err fault) (xs ++ more)) (sym is) (writes_no_more more call)

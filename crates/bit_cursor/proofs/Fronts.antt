@@ -1,0 +1,81 @@
+-- What is given and shown of the bits that are left, by the word that holds the first of them.
+use Rattle.std.proofs.Common.{◌≡◌, ℕ, ◌+◌, ◌-◌, ◌*◌, ◌/◌, ◌%◌, ◌^◌, ◌≤◌, List, ◌++◌, Option, None, Some, IfSome, length, take, replicate, sym, ap, subst, ◌∙◌, arith, append-nil}
+use Rattle.std.proofs.Math.Nat.{mod-eq_of_lt, mod-lt}
+use Rattle.std.proofs.Math.Seq.{take-append-add}
+use Rattle.std.proofs.lemmas.List.{length-append, take_all, take-append-le, take-replicate, nil_from_length}
+use Rattle.std.proofs.lemmas.Nat.{pow_pos, shl_below}
+use Rattle.bit_lists.specs.Bits.{bits_of, number_of}
+use Rattle.bit_lists.specs.Fields.{bit_list}
+use Rattle.bit_lists.proofs.BitLemmas.{length-bits_of, take-bits_of, number_of-bits_of, bits_of-mod}
+use Rattle.bit_cursor.specs.Reading.{IsFront, Shows}
+use Rattle.bit_cursor.proofs.Words.{bits_of-shifted, number_of-front}
+use Rattle.bit_cursor.proofs.Left.{told_bits}
+
+-- enough bits are held
+held_front : (n m w : ℕ) (rest : List ℕ) → take n (bits_of (n + m) w ++ rest) ≡ bits_of n (w / 2 ^ m % 2 ^ n)
+held_front n m w rest =
+    let long : n ≤ length (bits_of (n + m) w) = omega (arith, length-bits_of (n + m) w) in
+    take-append-le n (bits_of (n + m) w) rest long ∙ take-bits_of n m w ∙ sym (bits_of-mod n (w / 2 ^ m))
+
+front_is : (n m w : ℕ) (rest : List ℕ) → IsFront n (bits_of (n + m) w ++ rest) (w / 2 ^ m % 2 ^ n)
+front_is n m w rest = record {
+  enough = omega (arith, length-append (bits_of (n + m) w) rest, length-bits_of (n + m) w);
+  value = sym (number_of-front n m w rest);
+  front = held_front n m w rest;
+}
+
+front_shows : (n m w : ℕ) (rest : List ℕ) → Shows n (bits_of (n + m) w ++ rest) (w / 2 ^ m % 2 ^ n) n
+front_shows n m w rest =
+    let bits = bits_of (n + m) w ++ rest in
+    let part = w / 2 ^ m % 2 ^ n in
+    let long : n ≤ length bits = omega (arith, length-append (bits_of (n + m) w) rest, length-bits_of (n + m) w) in
+    record {
+      known = omega arith;
+      window = sym (ap number_of (take-append-le n bits (replicate n 0) long) ∙ number_of-front n m w rest);
+      front = take_all n (bits_of n part) (omega (arith, length-bits_of n part)) ∙ sym (held_front n m w rest);
+    }
+
+-- fewer bits are left than are shown
+few_show : (h m w : ℕ) → Shows (h + m) (bits_of h w) ((w % 2 ^ h) * 2 ^ m) h
+few_show h m w =
+    let bits = bits_of h w in
+    let window = (w % 2 ^ h) * 2 ^ m in
+    let size : length bits ≡ h = length-bits_of h w in
+    let filled : take (h + m) (bits ++ replicate (h + m) 0) ≡ bits_of (h + m) window =
+    ap (λ k. take (k + m) (bits ++ replicate (h + m) 0)) (sym size)
+    ∙ take-append-add bits (replicate (h + m) 0) m
+    ∙ ap (λ r. bits ++ r) (take-replicate m (h + m) 0 (omega arith))
+    ∙ sym (bits_of-shifted h m w) in
+    record {
+      known = omega arith;
+      window = sym (ap number_of filled ∙ number_of-bits_of (h + m) window ∙ mod-eq_of_lt (shl_below (w % 2 ^ h) h m (mod-lt w (pow_pos h))));
+      front = ap (take h) (bits_of-shifted h m w) ∙ take-append-le h bits (replicate m 0) (omega arith) ∙ take_all h bits (omega arith) ∙ sym (take_all (h + m) bits (omega arith));
+    }
+
+-- ---- where the source tells
+
+pub told_front : (told bits : Option (List ℕ)) (h n w : ℕ) → n ≤ h → told_bits told h w ≡ bits → IfSome bits (λ bs. IsFront n bs (w / 2 ^ (h - n) % 2 ^ n))
+told_front None bits h n w le is = subst (λ o. IfSome o (λ bs. IsFront n bs (w / 2 ^ (h - n) % 2 ^ n))) is tt
+told_front (Some bytes) bits h n w le is =
+    let whole : n + (h - n) ≡ h = omega arith in
+    subst (λ o. IfSome o (λ bs. IsFront n bs (w / 2 ^ (h - n) % 2 ^ n))) is
+    (subst (λ k. IsFront n (bits_of k w ++ bit_list bytes) (w / 2 ^ (h - n) % 2 ^ n)) whole (front_is n (h - n) w (bit_list bytes)))
+
+pub told_shown : (told bits : Option (List ℕ)) (h n w : ℕ) → n ≤ h → told_bits told h w ≡ bits → IfSome bits (λ bs. Shows n bs (w / 2 ^ (h - n) % 2 ^ n) n)
+told_shown None bits h n w le is = subst (λ o. IfSome o (λ bs. Shows n bs (w / 2 ^ (h - n) % 2 ^ n) n)) is tt
+told_shown (Some bytes) bits h n w le is =
+    let whole : n + (h - n) ≡ h = omega arith in
+    subst (λ o. IfSome o (λ bs. Shows n bs (w / 2 ^ (h - n) % 2 ^ n) n)) is
+    (subst (λ k. Shows n (bits_of k w ++ bit_list bytes) (w / 2 ^ (h - n) % 2 ^ n) n) whole (front_shows n (h - n) w (bit_list bytes)))
+
+-- the held bits are all that are left
+pub told_few : (told bits : Option (List ℕ)) (h n w : ℕ) → h ≤ n → told_bits told h w ≡ bits → IfSome bits (λ bs. length bs ≡ h) → IfSome bits (λ bs. Shows n bs ((w % 2 ^ h) * 2 ^ (n - h)) h)
+told_few None bits h n w le is all = subst (λ o. IfSome o (λ bs. Shows n bs ((w % 2 ^ h) * 2 ^ (n - h)) h)) is tt
+told_few (Some bytes) bits h n w le is all =
+    let whole : h + (n - h) ≡ n = omega arith in
+    let size : length (bits_of h w ++ bit_list bytes) ≡ h = subst (λ o. IfSome o (λ bs. length bs ≡ h)) (sym is) all in
+    let none : length (bit_list bytes) ≡ 0 = omega (arith, length-append (bits_of h w) (bit_list bytes), length-bits_of h w) in
+    let held : bits_of h w ++ bit_list bytes ≡ bits_of h w = ap (λ r. bits_of h w ++ r) (nil_from_length (bit_list bytes) none) ∙ append-nil (bits_of h w) in
+    subst (λ o. IfSome o (λ bs. Shows n bs ((w % 2 ^ h) * 2 ^ (n - h)) h)) is
+    (subst (λ bs. Shows n bs ((w % 2 ^ h) * 2 ^ (n - h)) h) (sym held)
+    (subst (λ k. Shows k (bits_of h w) ((w % 2 ^ h) * 2 ^ (n - h)) h) whole (few_show h (n - h) w)))

@@ -1,0 +1,4 @@
+pub mod BitReader
+pub mod BitWriter
+pub mod Reading
+pub mod WaitingBits

@@ -1,0 +1,149 @@
+ghost use Rattle.std.specs.Prelude.{◌≡◌, ◌+◌, ◌-◌, ◌*◌, ◌%◌, ◌^◌, ◌<◌, ◌≤◌, length, IfOk, OnErr, IfSome, IsErrOf};
+ghost use Rattle.shelf_io.specs.Counts.{Rose};
+ghost use Rattle.bit_cursor.specs.Reading.{IsFront, Shows, bytes_beyond, byte_aligned};
+
+use crate::bit_fault::BitFault;
+use shelf_io::{Fault, Source};
+
+/// The bits of a source in order, most significant bit of each byte first. It borrows the source, and takes no byte of
+/// it before a bit of that byte is asked for.
+#[derive(Drop)]
+pub struct BitReader<'a, S: Source> {
+    source: &'a mut S,
+    // the lowest `held` bits are those that were taken and not yet given
+    word: u64,
+    held: u32,
+    // bytes taken from the source
+    taken: u64,
+    ghost few_held: { held < 40 },
+    ghost held_taken: { held ≤ 8 * taken },
+    ghost source_ends: { taken + S.most source.now ≤ 2 ^ 60 },
+}
+
+impl<'a, S: Source> BitReader<'a, S> {
+    ghost use Rattle.std.specs.Option.{option_map};
+    ghost use Rattle.bit_lists.specs.Fields.{bit_list};
+    ghost use Rattle.bit_cursor.specs.BitReader.{source_of, bits_held, bits_left, without_bits, place, faults_of, absences_of, TakesBytes, Fetches, KeepsSource};
+
+    /// A reader at the source's first bit.
+    pub fn new(source: &'a mut S) -> Self
+        ensures same_source { (source_of result).ghost_name ≡ source.entry.ghost_name }
+        ensures source { (source_of result).now ≡ source.old }
+        ensures left { bits_left result ≡ option_map bit_list (S.left source.old) }
+        ensures place { place result ≡ 0 }
+        ensures held { bits_held result ≡ 0 }
+    {
+        BitReader {
+            source,
+            word: 0,
+            held: 0,
+            taken: 0,
+        }
+    }
+
+    /// The next n bits as a number, n at most 32. The answer is End where fewer are left, and Outside where the source
+    /// failed; then no bit is given and the place stays.
+    pub fn bits(&mut self, n: u32) -> Result<u32, BitFault>
+        requires { n ≤ 32 }
+        ensures value { IfOk result (λ value. IfSome (bits_left self.old) (λ bits. IsFront n bits value)) }
+        ensures below { IfOk result (λ value. value < 2 ^ n) }
+        ensures left { IfOk result (λ _. bits_left self.new ≡ without_bits (bits_left self.old) n) }
+        ensures place { IfOk result (λ _. place self.new ≡ place self.old + n) }
+        ensures held { IfOk result (λ _. bits_held self.new + n ≡ bits_held self.old + 8 * bytes_beyond (bits_held self.old) n) }
+        ensures taken { IfOk result (λ _. TakesBytes self.old self.new (bytes_beyond (bits_held self.old) n)) }
+
+        ensures end { IsErrOf result BitFault.End → IfSome (bits_left self.old) (λ bits. length bits < n) }
+        ensures kept { OnErr result (bits_left self.new ≡ bits_left self.old) }
+        ensures kept_place { OnErr result (place self.new ≡ place self.old) }
+        ensures fetched { OnErr result (Fetches n self.old self.new) }
+
+        ensures failed { IsErrOf result (BitFault.Outside Fault.Failed) → Rose (faults_of self.old) (faults_of self.new) }
+        ensures missing { IsErrOf result (BitFault.Outside Fault.Missing) → Rose (absences_of self.old) (absences_of self.new) }
+        ensures keeps { KeepsSource self.old self.new }
+    {
+        if self.held < n {
+            self.fetch(n)?;
+            if self.held < n {
+                return Err(BitFault::End);
+            }
+        }
+        self.held -= n;
+        Ok(lowest(self.word >> self.held, n))
+    }
+
+    /// The next n bits as a window, n at most 24, and how many of them are known. Where fewer are left the window's bits
+    /// behind them are 0. The reader stays where it is, also where the source failed.
+    pub fn peek(&mut self, n: u32) -> Result<(u32, u32), Fault>
+        requires { n ≤ 24 }
+        ensures window { IfOk result (λ seen. IfSome (bits_left self.old) (λ bits. Shows n bits seen.0 seen.1)) }
+        ensures known { IfOk result (λ seen. seen.1 ≤ n) }
+        ensures below { IfOk result (λ seen. seen.0 < 2 ^ n) }
+        ensures unknown { IfOk result (λ seen. seen.0 % 2 ^ (n - seen.1) ≡ 0) }
+
+        ensures left { bits_left self.new ≡ bits_left self.old }
+        ensures place { place self.new ≡ place self.old }
+        ensures fetched { Fetches n self.old self.new }
+
+        ensures failed { IsErrOf result Fault.Failed → Rose (faults_of self.old) (faults_of self.new) }
+        ensures missing { IsErrOf result Fault.Missing → Rose (absences_of self.old) (absences_of self.new) }
+        ensures keeps { KeepsSource self.old self.new }
+    {
+        if self.held < n {
+            self.fetch(n)?;
+            if self.held < n {
+                let window = lowest(self.word, self.held) << (n - self.held);
+                return Ok((window, self.held));
+            }
+        }
+        Ok((lowest(self.word >> (self.held - n), n), n))
+    }
+
+    /// Moves to the next byte, or stays at a whole byte. It takes no byte of the source.
+    pub fn align(&mut self)
+        ensures place { place self.new ≡ byte_aligned (place self.old) }
+        ensures left { bits_left self.new ≡ without_bits (bits_left self.old) (place self.new - place self.old) }
+        ensures held { bits_held self.new + (place self.new - place self.old) ≡ bits_held self.old }
+        ensures same_source { (source_of self.new).ghost_name ≡ (source_of self.old).ghost_name }
+        ensures source { (source_of self.new).now ≡ (source_of self.old).now }
+    {
+        self.held -= self.held % 8;
+    }
+
+    /// The place of the next bit, in bits from the source's first.
+    pub fn place(&self) -> u64
+        ensures { result ≡ place self.now }
+    {
+        8 * self.taken - u64::from(self.held)
+    }
+
+    // Takes bytes until n bits are held or the source ends.
+    fn fetch(&mut self, n: u32) -> Result<(), Fault>
+        requires { n ≤ 32 }
+        ensures enough { IfOk result (λ _. bits_held self.new < n → IfSome (bits_left self.old) (λ bits. length bits ≡ bits_held self.new)) }
+        ensures left { bits_left self.new ≡ bits_left self.old }
+        ensures place { place self.new ≡ place self.old }
+        ensures fetched { Fetches n self.old self.new }
+
+        ensures failed { IsErrOf result Fault.Failed → Rose (faults_of self.old) (faults_of self.new) }
+        ensures missing { IsErrOf result Fault.Missing → Rose (absences_of self.old) (absences_of self.new) }
+        ensures keeps { KeepsSource self.old self.new }
+    {
+        while self.held < n {
+            let Some(byte) = self.source.take_byte()? else {
+                break;
+            };
+            self.word = self.word << 8 | u64::from(byte);
+            self.held += 8;
+            self.taken += 1;
+        }
+        Ok(())
+    }
+}
+
+// The number in the lowest n bits of a word, n at most 32.
+fn lowest(word: u64, n: u32) -> u32
+    requires { n ≤ 32 }
+    ensures { result ≡ word % 2 ^ n }
+{
+    (word & ((1 << n) - 1)) as u32
+}

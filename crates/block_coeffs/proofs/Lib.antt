@@ -1,0 +1,12 @@
+pub mod Blocks
+pub mod Cuts
+pub mod Dcs
+pub mod Escapes
+pub mod Examples
+pub mod Fronts
+pub mod Grammars
+pub mod Pairs
+pub mod Steps
+pub mod Symbols
+pub mod Writable
+pub mod Writing

@@ -1,0 +1,37 @@
+-- What is found at the front of a window, where a coefficient or the end of block must stand (ISO/IEC 13818-2, 6.2.6).
+use Rattle.std.specs.Prelude.{◌≡◌, ◌≤◌, ◌+◌, ◌<◌, ℕ, List, [], take, drop}
+use Rattle.bit_lists.specs.Bits.{front_of}
+use Rattle.prefix_codes.specs.declared.lookup.TheConstants.{WINDOW_BITS}
+use Rattle.prefix_codes.specs.declared.table_name.TableName.{TableName}
+use Rattle.syntax_types.specs.declared.block.TheConstants.{BLOCK_PLACES}
+use Rattle.syntax_types.specs.declared.block.RunLevel.{RunLevel}
+use Rattle.picture_grammar.specs.Refusal.Refusal.{NoCode}
+use Rattle.picture_grammar.specs.Grammar.{Grammar, ◌>>=◌, Next}
+use Rattle.picture_grammar.specs.Grammar.Next.{more, last}
+use Rattle.picture_grammar.specs.Element.{element}
+use Rattle.picture_grammar.specs.Block.{CoefficientCode, after_code}
+use Rattle.block_coeffs.specs.declared.window.Window.{Window}
+use Rattle.block_coeffs.specs.declared.standing.Standing.{Standing}
+use Rattle.block_coeffs.specs.declared.standing.Standing.TheVariants.{EndOfBlock, Pair, Refused}
+use Rattle.block_coeffs.specs.Why.{rules_at, refusal_of}
+
+-- the first bits of a window
+abbrev pub seen : Window → ℕ → List ℕ
+seen window count = front_of WINDOW_BITS window.bits count
+
+-- the window shows the front of these bits, or all of them
+abbrev pub Shows : Window → List ℕ → Type 0
+Shows window bits = take WINDOW_BITS bits ≡ seen window window.known
+
+-- a coefficient or the end of block at a place, by a table
+abbrev pub coefficient_at : TableName → ℕ → Grammar (Next RunLevel (Unit {0}))
+coefficient_at table place = element (CoefficientCode table) NoCode (rules_at place) >>= after_code
+
+-- what is found there stands there, and a refusal is that of all bits that the window shows
+abbrev pub IsFound : TableName → ℕ → Window → Standing → Type 0
+IsFound table place window (EndOfBlock len) =
+    (len ≤ window.known) × (coefficient_at table place).Spells (last tt) (seen window len) []
+IsFound table place window (Pair pair len) =
+    (len ≤ window.known) × (place + pair.run < BLOCK_PLACES) × (coefficient_at table place).Spells (more pair) (seen window len) []
+IsFound table place window (Refused why behind) =
+    (behind ≤ window.known) × ((bits : List ℕ) → Shows window bits → (coefficient_at table place).Refuses bits (refusal_of why) (drop behind bits))

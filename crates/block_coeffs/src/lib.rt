@@ -1,0 +1,25 @@
+//! Blocks of coefficients both ways (ISO/IEC 13818-2, 6.2.6 and 7.2).
+//!
+//! `read_block` reads a block from a `BitReader`: it answers the block that the bits spell, or the kind and the place of
+//! their refusal, each exactly where the grammar of `picture_grammar` has it. Each coefficient is one look-up on one
+//! window of bits. `write_block` puts a block's written spelling into a `BitWriter`, which is read back as that block.
+//! No call takes memory. Stands on `bit_cursor`, `prefix_codes`, `syntax_types` and `picture_grammar`.
+#![tactic(auto)]
+
+mod block_fault;
+mod coefficient_table;
+mod cut;
+mod dc_standing;
+mod reading;
+mod standing;
+mod why;
+mod window;
+mod written;
+mod written_codes;
+
+pub use block_fault::BlockFault;
+pub use reading::read_block;
+pub use written::write_block;
+
+#[cfg(test)]
+mod tests;

@@ -1,0 +1,8 @@
+//! Tests of schedules and first misses over tables that are read from their text, with answers that were worked out by
+//! hand from the slot rule.
+//!
+//! They stand in a crate of their own, so that a change here proves nothing below again. Stands on `slot_rule`.
+#![tactic(auto)]
+
+#[cfg(test)]
+mod tests;
