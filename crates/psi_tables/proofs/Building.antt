@@ -1,5 +1,5 @@
 -- What a builder gives, by what it holds.
-use Rattle.std.proofs.Common.{◌≡◌, ℕ, zero, suc, ◌+◌, ◌-◌, ◌<◌, ◌≤◌, Bool, true, false, cond, List, [], ◌∷◌, ◌++◌, length, take, drop, Ok, Err, refl, sym, ap, ◌∙◌, subst, append_assoc, arith, length-append, length-drop, ⊎_elim, Option, Some, None, MatchOption}
+use Rattle.std.proofs.Common.{◌≡◌, ℕ, ◌+◌, ◌-◌, ◌<◌, ◌≤◌, Bool, true, false, cond, List, [], ◌∷◌, ◌++◌, length, take, drop, Ok, Err, refl, sym, ap, ◌∙◌, arith, length-drop, Option, Some, None, MatchOption}
 use Rattle.std.proofs.lemmas.List.{append-nil, drop-take, drop-drop, drop-append-le, length-take, take_all}
 use Rattle.std.specs.Prelude.{nat_lt, slice_index}
 use Rattle.std.proofs.lemmas.Bool.{lt-ltb}
@@ -9,12 +9,12 @@ use Rattle.psi_tables.specs.declared.section.SectionFault.TheVariants.{BadSectio
 use Rattle.psi_tables.specs.declared.section_front.SectionFront.{SectionFront}
 use Rattle.psi_tables.specs.declared.section_builder.SectionBuilder.TheInside.{Inside}
 use Rattle.psi_tables.specs.Sections.{Payload, Found, has_pointer, points_past, before_pointer, behind_pointer, bytes_on, checked, found_at, found_from, found_in, until_error, sections_behind, sections_of}
-use Rattle.psi_tables.specs.SectionFront.{front_bytes, is_settled, is_bad, IsFront, IsHeld, GoesOn, ReadsOn}
+use Rattle.psi_tables.specs.SectionFront.{front_bytes, is_settled, is_bad, IsHeld, GoesOn, ReadsOn}
 use Rattle.psi_tables.specs.SectionBuilder.{payloads_of, pointing_past, waiting_bytes, payloads_held, IsInOrder}
 use Rattle.psi_tables.proofs.Fronts.{found_at-bad, found_at-whole}
 use Rattle.psi_tables.proofs.Reading.{behind-error, until_error-stops}
 use Rattle.psi_tables.proofs.Held.{held-same, held-error, found_alone, fed-same, fed-error}
-use Rattle.psi_tables.proofs.Steps.{front-one, front-whole, front-error, front-none}
+use Rattle.psi_tables.proofs.Steps.{front-whole, front-error, front-none}
 
 -- ---- what is held
 

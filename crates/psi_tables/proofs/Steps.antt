@@ -1,5 +1,5 @@
 -- What is held of a section, before and behind bytes that are taken.
-use Rattle.std.proofs.Common.{◌≡◌, ℕ, zero, suc, ◌+◌, ◌-◌, ◌<◌, ◌≤◌, ◌≢◌, Bool, true, false, cond, List, [], ◌∷◌, ◌++◌, length, get_or, take, drop, Ok, Err, refl, sym, ap, ◌∙◌, subst, append_assoc, arith, length-append, length-drop, drop-cons, ⊎_elim}
+use Rattle.std.proofs.Common.{◌≡◌, ℕ, zero, suc, ◌+◌, ◌-◌, ◌<◌, ◌≤◌, ◌≢◌, Bool, true, false, cond, List, [], ◌∷◌, ◌++◌, length, get_or, take, drop, Err, refl, sym, ap, ◌∙◌, subst, append_assoc, arith, length-append, length-drop, drop-cons, ⊎_elim}
 use Rattle.std.specs.Prelude.{slice_index, min, not, ◌&&◌, ◌||◌, nat_lt}
 use Rattle.std.proofs.lemmas.List.{append-nil, take-append-drop, take_all, get_or-take, length-take-le, drop-drop}
 use Rattle.std.proofs.Math.Seq.{take-add}
@@ -9,7 +9,7 @@ use Rattle.psi_tables.specs.Sections.{Found, is_read, has_bad_length, section_si
 use Rattle.psi_tables.specs.SectionFront.{is_bad, is_settled, IsFront, IsLike, IsHeld, IsSound, TakesIn, ReadsOn, front_bytes, missing_bytes}
 use Rattle.psi_tables.specs.declared.section_front.SectionFront.{SectionFront}
 use Rattle.psi_tables.proofs.Headers.{get_or-header}
-use Rattle.psi_tables.proofs.Fronts.{section_size-append, is_bad-append, is_bad-like, unsettled-good, found_at-unsettled, found_at-bad, settled-header, settled-size, unsettled-size, found_at-passed, found_at-append, found_at-like, found_from-one, found_from-whole, found_from-error, found_from-like, section_size-like, is_settled-like}
+use Rattle.psi_tables.proofs.Fronts.{section_size-append, is_bad-append, is_bad-like, unsettled-good, found_at-unsettled, settled-header, settled-size, unsettled-size, found_at-passed, found_at-append, found_at-like, found_from-one, found_from-whole, found_from-error, found_from-like, section_size-like}
 
 -- ---- the lemmas on fronts, for any that holds bytes
 
