@@ -208,9 +208,6 @@ waits-from behind copied rest n is within =
 
 -- ---- tests of the code
 
-pub no-start : (bytes : List ℕ) → has_pointer (record { start = false; bytes = bytes }) ≡ false
-no-start bytes = refl
-
 pub no-bytes : (start : Bool) (bytes : List ℕ) → length bytes ≡ 0 → has_pointer (record { start = start; bytes = bytes }) ≡ false
 no-bytes true bytes none = ap (λ (n : ℕ). nat_lt 0 n) none
 no-bytes false bytes none = refl

@@ -173,9 +173,6 @@ is_bad-like a b like = ap (λ (read : Bool). read && has_bad_length a) (is_read-
 pub section_size-like : (a b : List ℕ) → IsLike a b → section_size a ≡ section_size b
 section_size-like a b like = ap (λ (n : ℕ). 3 + n) (section_length-same a b like.header)
 
-pub is_settled-like : (a b : List ℕ) → IsLike a b → is_settled a ≡ is_settled b
-is_settled-like a b like = rw (like.size, table_id-same a b like.header, section_length-same a b like.header) refl
-
 -- equal, or of another table with its header there
 like-cases : (a b : List ℕ) → IsLike a b → (a ≡ b) ⊎ ((3 ≤ length b) × (is_read b ≡ false))
 like-cases a b like =

@@ -188,11 +188,6 @@ begins-passed bytes at n front now cleared passed within no_stuffing taken over 
       same = λ (next : List ℕ). passed.same next ∙ begun-passed (drop at bytes) n now (begun-is bytes at n front now passed within no_stuffing taken) t tests.0 tests.1 next ∙ ap (λ (bs : List ℕ). found_from 0 bs next) (drop-on at n bytes);
     }
 
--- it has a byte
-pub begins-some : (bytes : List ℕ) (at n : ℕ) (front : SectionFront) (now : List ℕ) → PassesOver bytes at front → at < length bytes → TakesIn (front_bytes front) (rest_from bytes at) n now → 0 < n
-begins-some bytes at n front now passed within taken =
-    begun-some (drop at bytes) n now (omega (arith, within, length-drop at bytes)) (begun-taken bytes at n front now passed taken)
-
 -- nothing is found of what isn't settled
 pub front-none : (a : List ℕ) → IsFront a → is_settled a ≡ false → found_from 0 a [] ≡ []
 front-none [] front unsettled = refl

@@ -1,3 +1,4 @@
+-- The long division leaves a remainder, and there is one.
 use Rattle.std.proofs.Common.{ℕ, sym, subst}
 use Rattle.psi_tables.specs.Crc.{IsCrcOf}
 use Rattle.psi_tables.proofs.CrcDivision.{crc_over-is, crc_over-only}
