@@ -1,6 +1,6 @@
 -- What a sink got in several calls: what each function that puts bits by other ones needs. They speak of `Gets` and
 -- `GetsFront`, so of `Puts` and `PutsFront` between states of a writer.
-use Rattle.std.proofs.Common.{◌≡◌, ℕ, ◌+◌, ◌-◌, ◌*◌, ◌%◌, ◌^◌, ◌<◌, List, [], ◌∷◌, ◌++◌, Option, None, Some, false, Result, Ok, Err, IsErrAnd, ◌≤◌, length, drop, refl, sym, ap, subst, inl, inr, ◌∙◌, arith, append_assoc, append-nil, length-append}
+use Rattle.std.proofs.Common.{◌≡◌, ℕ, ◌+◌, ◌-◌, ◌*◌, ◌%◌, ◌^◌, ◌<◌, List, [], ◌∷◌, ◌++◌, Option, None, Some, false, Result, Ok, Err, OnOk, IsErrAnd, ◌≤◌, length, drop, refl, sym, ap, subst, inl, inr, ◌∙◌, arith, append_assoc, append-nil, length-append}
 use Rattle.std.proofs.lemmas.Bool.{cases_lt}
 use Rattle.std.proofs.lemmas.Result.{on_ok_weaker, on_err_weaker}
 use Rattle.shelf_io.specs.declared.fault.Fault.{Fault}
@@ -10,7 +10,7 @@ use Rattle.bit_lists.specs.Bits.{IsPrefix}
 use Rattle.bit_lists.specs.Fields.{AreBytes, bit_list}
 use Rattle.bit_lists.proofs.PrefixLemmas.{IsPrefix-append, IsPrefix-split, IsPrefix-through}
 use Rattle.bit_cursor.specs.declared.bit_writer.BitWriter.{BitWriter}
-use Rattle.bit_cursor.specs.BitWriter.{Gets, GetsFront, Writes, told_by, waiting_in, is_stopped, sink_of}
+use Rattle.bit_cursor.specs.BitWriter.{Gets, GetsFront, AddsBits, Writes, told_by, waiting_in, is_stopped, sink_of}
 use Rattle.bit_cursor.proofs.Gets.{bit_list-append, length-bit_list, gets_none}
 
 AreBytes-append : (xs ys : List ℕ) → AreBytes xs → AreBytes ys → AreBytes (xs ++ ys)
@@ -67,11 +67,16 @@ gets_odd {waited} {put} {waits} a =
 pub odd_after : {told after : Option (List ℕ)} {waited put waits : List ℕ} (n : ℕ) → length put ≡ n → Gets told after waited put waits → length waits % 8 ≡ (length waited % 8 + n) % 8
 odd_after {waited} {put} {waits} n is a = let odd : length waits % 8 ≡ (length waited + length put) % 8 = gets_odd a in omega arith
 
--- what was put by a writer in which nothing waited and that was finished: bytes behind what the sink held, with these bits
-pub gets_whole : {told mid after : Option (List ℕ)} {put waits : List ℕ} → Gets told mid [] put waits → Gets mid after waits [] [] → (bytes : List ℕ) × AreBytes bytes × (after ≡ with_bytes told bytes) × (bit_list bytes ≡ put)
+-- what was put by a writer in which nothing waited and that was finished
+pub gets_whole : {told mid after : Option (List ℕ)} {put waits : List ℕ} → Gets told mid [] put waits → Gets mid after waits [] [] → AddsBits told after put
 gets_whole {put} a b =
     let all = gets_twice a b in
-    (all.bytes, all.are_bytes, all.at_the_end, sym (append-nil (bit_list all.bytes)) ∙ all.in_order ∙ append-nil put)
+    record {
+      bytes = all.bytes;
+      are_bytes = all.are_bytes;
+      at_the_end = all.at_the_end;
+      spelled = sym (append-nil (bit_list all.bytes)) ∙ all.in_order ∙ append-nil put;
+    }
 
 -- ---- how calls end
 
@@ -126,3 +131,10 @@ module _ {K : Type 0} {written : K → Option (List ℕ)} {faults : K → ℕ} {
   pub writes_exit : {T U : Type 0} {a b : BitWriter K} {e : Fault} {xs : List ℕ} (r : Result U Fault) (more : List ℕ) → IsErrAnd r (λ f. f ≡ e) → Writes {T = T} written faults keeps a b (Err e) xs → Writes {T = U} written faults keeps a b r (xs ++ more)
   writes_exit (Ok x) more is call = absurd is
   writes_exit {U} {a} {b} {xs} (Err f) more is call = subst (λ (fault : Fault). Writes {T = U} written faults keeps a b (Err fault) (xs ++ more)) (sym is) (writes_no_more more call)
+
+  -- what the sink holds at last, when a writer was made at a, put these bits up to b and was finished
+  pub finished : {T U : Type 0} {a b : BitWriter K} {x : T} {bits put : List ℕ} {told : Option (List ℕ)} (r : Result U Fault) (out : K) {last : K} → told_by written a ≡ told → waiting_in a ≡ []
+      → Writes written faults keeps a b (Ok x) bits → OnOk r (Gets (told_by written b) (written out) (waiting_in b) [] []) → bits ≡ put → last ≡ out → OnOk r (AddsBits told (written last) put)
+  finished {a} {b} {bits} (Ok x) out start none call ends are back =
+      rw (← start, ← are, back) (gets_whole (subst (λ (waited : List ℕ). Gets (told_by written a) (told_by written b) waited bits (waiting_in b)) none call.ok) ends)
+  finished (Err e) out start none call ends are back = tt

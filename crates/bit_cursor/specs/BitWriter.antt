@@ -67,3 +67,10 @@ pub record Writes {K T : Type 0} (written : K → Option (List ℕ)) (faults : K
   pub counts : faults (sink_of old).now ≤ faults (sink_of new).now
   pub kept : keeps (sink_of old).now (sink_of new).now
   pub same_sink : (sink_of new).ghost_name ≡ (sink_of old).ghost_name
+
+-- a sink got whole bytes with these bits: what a writer put that was made and finished between the two states
+pub record AddsBits (told told_after : Option (List ℕ)) (bits : List ℕ) : Type 0 where
+  pub bytes : List ℕ
+  pub are_bytes : AreBytes bytes
+  pub at_the_end : told_after ≡ with_bytes told bytes
+  pub spelled : bit_list bytes ≡ bits

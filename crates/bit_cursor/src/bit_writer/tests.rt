@@ -1,9 +1,19 @@
 ghost use Rattle.std.specs.Prelude.{◌≡◌, false, OnOk};
-ghost use Rattle.bit_cursor.specs.BitWriter.{is_stopped};
+ghost use Rattle.bit_lists.specs.Bits.{bits_of};
+ghost use Rattle.bit_cursor.specs.BitWriter.{is_stopped, AddsBits};
 
 use super::*;
 use shelf_io::{MemSink, VecSink};
 use std::test::Fail;
+
+// What callers know of a sink once its writer was finished.
+fn put_byte<K: Sink>(sink: &mut K, byte: u8) -> Result<(), Fault>
+    ensures { OnOk result (AddsBits (K.written sink.old) (K.written sink.new) (bits_of 8 byte)) }
+{
+    let mut writer = BitWriter::new(sink);
+    writer.put_bits(u32::from(byte), 8)?;
+    writer.finish()
+}
 
 #[test]
 fn bits_stand_in_bytes_most_significant_first(rt: HostRuntime) -> Result<(), Fail> {
@@ -24,7 +34,7 @@ fn bits_stand_in_bytes_most_significant_first(rt: HostRuntime) -> Result<(), Fai
 #[test]
 fn a_whole_word_goes_behind_odd_bits(rt: HostRuntime) -> Result<(), Fail> {
     let mut sink = VecSink::new(rt.alloc());
-    put_all(&mut sink, b"x")?;
+    put_byte(&mut sink, b'x')?;
     let mut writer = BitWriter::new(&mut sink);
     writer.put_bits(0xa, 4)?;
     writer.put_bits(0xdead_beef, 32)?;

@@ -1,9 +1,7 @@
-use Rattle.std.proofs.Common.{◌≡◌, ◌+◌, ◌-◌, ◌*◌, ◌/◌, ◌%◌, ◌^◌, ◌<◌, ◌≤◌, ℕ, List, ◌++◌, ap, ap₂, sym, rules, ◌∙◌, arith}
+use Rattle.std.proofs.Common.{◌≡◌, ◌+◌, ◌*◌, ◌%◌, ◌^◌, ℕ, ◌++◌, ap, ap₂, ◌∙◌}
 use Rattle.std.proofs.Math.Facts.{Fits-of_lt}
-use Rattle.std.specs.Int.{w32, to_be_bytes}
 use Rattle.bit_lists.specs.Bits.{bits_of}
-use Rattle.bit_lists.specs.Fields.{bit_list}
-use Rattle.bit_cursor.proofs.WordBits.{shifted, x_bits, x_IsWord, front_below, rest_IsWord, front_and_rest, AreBytes-to_be_bytes}
+use Rattle.bit_cursor.proofs.WordBits.{shifted, x_bits, x_IsWord, front_below, front_and_rest, AreBytes-to_be_bytes}
 use Rattle.bit_cursor.proofs.waiting_bits.WaitingBits.push.Goals as goal
 
 pub invariant_of-self : goal.invariant_of-self
