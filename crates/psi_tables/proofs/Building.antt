@@ -1,5 +1,5 @@
 -- What a builder gives, by what it holds.
-use Rattle.std.proofs.Common.{◌≡◌, ℕ, zero, suc, ◌+◌, ◌-◌, ◌<◌, ◌≤◌, Bool, true, false, cond, List, [], ◌∷◌, ◌++◌, length, take, drop, Ok, Err, refl, sym, ap, ◌∙◌, subst, append_assoc, arith, length-append, length-drop, ⊎_elim, Option, Some, None, MatchOption}
+use Rattle.std.proofs.Common.{◌≡◌, ℕ, ◌+◌, ◌-◌, ◌<◌, ◌≤◌, Bool, true, false, cond, List, [], ◌∷◌, ◌++◌, length, take, drop, Ok, Err, refl, sym, ap, ◌∙◌, arith, length-drop, Option, Some, None, MatchOption}
 use Rattle.std.proofs.lemmas.List.{append-nil, drop-take, drop-drop, drop-append-le, length-take, take_all}
 use Rattle.std.specs.Prelude.{nat_lt, slice_index}
 use Rattle.std.proofs.lemmas.Bool.{lt-ltb}
@@ -9,12 +9,12 @@ use Rattle.psi_tables.specs.declared.section.SectionFault.TheVariants.{BadSectio
 use Rattle.psi_tables.specs.declared.section_front.SectionFront.{SectionFront}
 use Rattle.psi_tables.specs.declared.section_builder.SectionBuilder.TheInside.{Inside}
 use Rattle.psi_tables.specs.Sections.{Payload, Found, has_pointer, points_past, before_pointer, behind_pointer, bytes_on, checked, found_at, found_from, found_in, until_error, sections_behind, sections_of}
-use Rattle.psi_tables.specs.SectionFront.{front_bytes, is_settled, is_bad, IsFront, IsHeld, GoesOn, ReadsOn}
+use Rattle.psi_tables.specs.SectionFront.{front_bytes, is_settled, is_bad, IsHeld, GoesOn, ReadsOn}
 use Rattle.psi_tables.specs.SectionBuilder.{payloads_of, pointing_past, waiting_bytes, payloads_held, IsInOrder}
 use Rattle.psi_tables.proofs.Fronts.{found_at-bad, found_at-whole}
 use Rattle.psi_tables.proofs.Reading.{behind-error, until_error-stops}
 use Rattle.psi_tables.proofs.Held.{held-same, held-error, found_alone, fed-same, fed-error}
-use Rattle.psi_tables.proofs.Steps.{front-one, front-whole, front-error, front-none}
+use Rattle.psi_tables.proofs.Steps.{front-whole, front-error, front-none}
 
 -- ---- what is held
 
@@ -207,9 +207,6 @@ waits-from behind copied rest n is within =
     ap (λ (bs : List ℕ). take (length behind - n) (drop n (bs ++ rest))) is ∙ ap (λ (bs : List ℕ). take (length behind - n) bs) (drop-append-le n behind rest within) ∙ ap (λ (k : ℕ). take k (drop n behind ++ rest)) size ∙ take-append_seam (drop n behind) rest
 
 -- ---- tests of the code
-
-pub no-start : (bytes : List ℕ) → has_pointer (record { start = false; bytes = bytes }) ≡ false
-no-start bytes = refl
 
 pub no-bytes : (start : Bool) (bytes : List ℕ) → length bytes ≡ 0 → has_pointer (record { start = start; bytes = bytes }) ≡ false
 no-bytes true bytes none = ap (λ (n : ℕ). nat_lt 0 n) none

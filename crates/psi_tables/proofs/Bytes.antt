@@ -1,11 +1,11 @@
 -- The bytes of a section so far, by how they are kept.
-use Rattle.std.proofs.Common.{◌≡◌, ℕ, zero, suc, ◌+◌, ◌-◌, ◌^◌, ◌<◌, ◌≤◌, Bool, true, false, cond, leb, List, [], ◌∷◌, ◌++◌, length, take, replicate, refl, sym, ap, ◌∙◌, arith, length-append, append_assoc, ⊎_elim}
-use Rattle.std.specs.Prelude.{nat_le, ◌&&◌}
+use Rattle.std.proofs.Common.{◌≡◌, ℕ, zero, suc, ◌+◌, ◌^◌, ◌<◌, ◌≤◌, Bool, true, false, List, ◌++◌, length, take, replicate, refl, sym, ap, ◌∙◌, arith, length-append, append_assoc, ⊎_elim}
+use Rattle.std.specs.Prelude.{nat_le}
 use Rattle.std.proofs.lemmas.List.{append-nil, length-replicate, take-append-le}
 use Rattle.arrayvec.specs.ArrayVec.{ArrayVec}
 use Rattle.std.proofs.lemmas.Bool.{cases_lt, le-leb, leb-true, leb-false, lt-leb}
 use Rattle.psi_tables.specs.declared.section_front.SectionFront.{SectionFront}
-use Rattle.psi_tables.specs.Sections.{is_read, has_bad_length, section_size}
+use Rattle.psi_tables.specs.Sections.{is_read, section_size}
 use Rattle.psi_tables.specs.SectionFront.{front_bytes, is_bad, IsSound, IsLike}
 use Rattle.psi_tables.proofs.Fronts.{is_read-append, section_size-append, is_bad-append}
 
@@ -19,20 +19,6 @@ header-front front sound whole = by_passed front.passed refl
     by_passed : (n : ℕ) → front.passed ≡ n → 3 ≤ length front.section.items
     by_passed zero is = omega (arith, is, length-front front)
     by_passed (suc n) is = omega (arith, (sound.passed (omega (arith, is))).0)
-
-pub has_header-front : (front : SectionFront) → IsSound front → nat_le 3 (length (front_bytes front)) ≡ nat_le 3 (length front.section.items)
-has_header-front front sound =
-    elim (nat_le 3 (length front.section.items)) as (λ (kept : Bool). nat_le 3 (length front.section.items) ≡ kept → nat_le 3 (length (front_bytes front)) ≡ kept) [
-      | true ↦ λ kept. le-leb 3 (length (front_bytes front)) (omega (arith, length-front front, leb-true 3 (length front.section.items) kept))
-      | false ↦ λ kept. lt-leb 3 (length (front_bytes front)) (few (leb-false 3 (length front.section.items) kept))
-    ] refl
-  where
-    few : length front.section.items < 3 → length (front_bytes front) < 3
-    few short = by_passed front.passed refl
-      where
-        by_passed : (n : ℕ) → front.passed ≡ n → length (front_bytes front) < 3
-        by_passed zero is = omega (arith, is, short, length-front front)
-        by_passed (suc n) is = absurd (omega (arith, short, (sound.passed (omega (arith, is))).0))
 
 pub is_read-front : (front : SectionFront) → 3 ≤ length front.section.items → is_read (front_bytes front) ≡ is_read front.section.items
 is_read-front front kept = is_read-append front.section.items (replicate front.passed 0) kept

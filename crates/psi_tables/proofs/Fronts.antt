@@ -1,14 +1,13 @@
 -- What is found from bytes, by what is known of the section at their head.
-use Rattle.std.proofs.Common.{◌≡◌, ℕ, zero, suc, ◌+◌, ◌-◌, ◌<◌, ◌≤◌, ◌≢◌, Bool, true, false, cond, eqb, ltb, leb, List, [], ◌∷◌, ◌++◌, length, get_or, take, drop, Ok, Err, refl, sym, ap, ◌∙◌, subst, append_assoc, arith, length-append, ◌⊎◌, inl, inr, ⊎_elim}
+use Rattle.std.proofs.Common.{◌≡◌, ℕ, zero, suc, ◌+◌, ◌-◌, ◌<◌, ◌≤◌, ◌≢◌, Bool, true, false, cond, eqb, List, [], ◌∷◌, ◌++◌, length, take, Err, refl, sym, ap, ◌∙◌, append_assoc, arith, length-append, ◌⊎◌, inl, inr, ⊎_elim}
 use Rattle.std.specs.Prelude.{nat_lt, nat_le, not, ◌&&◌, ◌||◌}
 use Rattle.std.proofs.lemmas.List.{append-nil, take-append-le, take_all}
-use Rattle.std.proofs.lemmas.Bool.{cases_lt, ne_eqb, leb-true, leb-false, ltb-true, ltb-false, lt-ltb, le-ltb, le-leb, lt-leb}
-use Rattle.std.proofs.lemmas.Bool.Decides.{nat_tests}
+use Rattle.std.proofs.lemmas.Bool.{cases_lt, ne_eqb, leb-true, leb-false, ltb-false, lt-ltb, le-ltb, le-leb}
 use Rattle.psi_tables.specs.declared.section.SectionFault.{SectionFault}
 use Rattle.psi_tables.specs.declared.section.SectionFault.TheVariants.{BadSection}
-use Rattle.psi_tables.specs.Section.{table_id, section_length}
+use Rattle.psi_tables.specs.Section.{section_length}
 use Rattle.psi_tables.specs.Sections.{Found, is_read, has_bad_length, section_size, checked, found_at, found_from, until_error}
-use Rattle.psi_tables.specs.SectionFront.{is_bad, is_settled, IsFront, IsLike}
+use Rattle.psi_tables.specs.SectionFront.{is_bad, is_settled, IsLike}
 use Rattle.psi_tables.proofs.Headers.{table_id-append, section_length-append, table_id-same, section_length-same}
 
 -- ---- tests as truth values
@@ -173,9 +172,6 @@ is_bad-like a b like = ap (λ (read : Bool). read && has_bad_length a) (is_read-
 
 pub section_size-like : (a b : List ℕ) → IsLike a b → section_size a ≡ section_size b
 section_size-like a b like = ap (λ (n : ℕ). 3 + n) (section_length-same a b like.header)
-
-pub is_settled-like : (a b : List ℕ) → IsLike a b → is_settled a ≡ is_settled b
-is_settled-like a b like = rw (like.size, table_id-same a b like.header, section_length-same a b like.header) refl
 
 -- equal, or of another table with its header there
 like-cases : (a b : List ℕ) → IsLike a b → (a ≡ b) ⊎ ((3 ≤ length b) × (is_read b ≡ false))

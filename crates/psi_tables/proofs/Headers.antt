@@ -1,10 +1,9 @@
 -- The header of a section, of which only the first three bytes are looked at.
-use Rattle.std.proofs.Common.{◌≡◌, ℕ, ◌+◌, ◌*◌, ◌%◌, ◌^◌, ◌<◌, ◌≤◌, List, ◌++◌, length, get_or, take, drop, refl, sym, ap, ◌∙◌, arith}
+use Rattle.std.proofs.Common.{◌≡◌, ℕ, ◌%◌, ◌^◌, ◌<◌, ◌≤◌, List, ◌++◌, length, get_or, take, sym, ap, ◌∙◌, arith}
 use Rattle.std.proofs.lemmas.List.{take-append-le}
 use Rattle.std.proofs.lemmas.Grind.{common_steps}
 use Rattle.psi_tables.proofs.Elements.{table_id-is, section_length-is}
 use Rattle.psi_tables.specs.Section.{table_id, section_length}
-use Rattle.psi_tables.specs.Sections.{is_read, has_bad_length, section_size}
 
 pub get_or-header : (a b : List ℕ) (k : ℕ) → k < 3 → take 3 a ≡ take 3 b → get_or a k 0 ≡ get_or b k 0
 get_or-header a b k below same = grind (arith, common_steps)

@@ -1,10 +1,10 @@
 -- Payloads that hold bytes of sections, followed by others.
-use Rattle.std.proofs.Common.{◌≡◌, ℕ, zero, suc, ◌+◌, Bool, true, false, cond, List, [], ◌∷◌, ◌++◌, length, Ok, Err, refl, sym, ap, ◌∙◌, subst, append_assoc, arith}
+use Rattle.std.proofs.Common.{◌≡◌, ℕ, true, false, List, [], ◌∷◌, ◌++◌, length, Err, refl, sym, ap, ◌∙◌, append_assoc, arith}
 use Rattle.std.specs.Prelude.{nat_lt, nat_le}
 use Rattle.std.proofs.lemmas.List.{append-nil}
 use Rattle.std.proofs.lemmas.Bool.Decides.{nat_tests}
 use Rattle.psi_tables.specs.declared.section.SectionFault.{SectionFault}
-use Rattle.psi_tables.specs.Sections.{Payload, Found, has_pointer, points_past, bytes_on, found_from, found_in, found_in_all, has_error, until_error, sections_behind, sections_of}
+use Rattle.psi_tables.specs.Sections.{Payload, Found, bytes_on, found_from, found_in, found_in_all, has_error, until_error, sections_behind}
 use Rattle.psi_tables.specs.SectionBuilder.{payloads_of}
 use Rattle.psi_tables.proofs.Reading.{until_error-none, behind-same, next-same, behind-none, behind-error}
 

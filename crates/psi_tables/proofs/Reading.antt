@@ -1,11 +1,8 @@
 -- What is found in payloads, and where reading begins anew.
-use Rattle.std.proofs.Common.{◌≡◌, ℕ, zero, suc, ◌+◌, Bool, true, false, cond, List, [], ◌∷◌, ◌++◌, Ok, Err, refl, sym, ap, ◌∙◌, subst, append_assoc}
-use Rattle.std.specs.Prelude.{is_err, slice_index}
+use Rattle.std.proofs.Common.{◌≡◌, Bool, true, false, cond, List, [], ◌∷◌, ◌++◌, Ok, Err, refl, sym, ap, ◌∙◌, append_assoc}
 use Rattle.std.proofs.lemmas.List.{append-nil}
 use Rattle.psi_tables.specs.declared.section.SectionFault.{SectionFault}
-use Rattle.psi_tables.specs.declared.section.SectionFault.TheVariants.{BadSection}
-use Rattle.psi_tables.specs.Sections.{Payload, Found, has_pointer, bytes_on, found_from, found_in, found_in_all, has_error, until_error, sections_behind, sections_of}
-use Rattle.psi_tables.specs.SectionBuilder.{payloads_of, pointing_past}
+use Rattle.psi_tables.specs.Sections.{Payload, Found, found_in_all, has_error, until_error, sections_behind}
 
 -- ---- up to an error
 

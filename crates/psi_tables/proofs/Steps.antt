@@ -1,5 +1,5 @@
 -- What is held of a section, before and behind bytes that are taken.
-use Rattle.std.proofs.Common.{◌≡◌, ℕ, zero, suc, ◌+◌, ◌-◌, ◌<◌, ◌≤◌, ◌≢◌, Bool, true, false, cond, List, [], ◌∷◌, ◌++◌, length, get_or, take, drop, Ok, Err, refl, sym, ap, ◌∙◌, subst, append_assoc, arith, length-append, length-drop, drop-cons, ⊎_elim}
+use Rattle.std.proofs.Common.{◌≡◌, ℕ, zero, suc, ◌+◌, ◌-◌, ◌<◌, ◌≤◌, ◌≢◌, Bool, true, false, cond, List, [], ◌∷◌, ◌++◌, length, get_or, take, drop, Err, refl, sym, ap, ◌∙◌, subst, append_assoc, arith, length-append, length-drop, drop-cons, ⊎_elim}
 use Rattle.std.specs.Prelude.{slice_index, min, not, ◌&&◌, ◌||◌, nat_lt}
 use Rattle.std.proofs.lemmas.List.{append-nil, take-append-drop, take_all, get_or-take, length-take-le, drop-drop}
 use Rattle.std.proofs.Math.Seq.{take-add}
@@ -9,7 +9,7 @@ use Rattle.psi_tables.specs.Sections.{Found, is_read, has_bad_length, section_si
 use Rattle.psi_tables.specs.SectionFront.{is_bad, is_settled, IsFront, IsLike, IsHeld, IsSound, TakesIn, ReadsOn, front_bytes, missing_bytes}
 use Rattle.psi_tables.specs.declared.section_front.SectionFront.{SectionFront}
 use Rattle.psi_tables.proofs.Headers.{get_or-header}
-use Rattle.psi_tables.proofs.Fronts.{section_size-append, is_bad-append, is_bad-like, unsettled-good, found_at-unsettled, found_at-bad, settled-header, settled-size, unsettled-size, found_at-passed, found_at-append, found_at-like, found_from-one, found_from-whole, found_from-error, found_from-like, section_size-like, is_settled-like}
+use Rattle.psi_tables.proofs.Fronts.{section_size-append, is_bad-append, is_bad-like, unsettled-good, found_at-unsettled, settled-header, settled-size, unsettled-size, found_at-passed, found_at-append, found_at-like, found_from-one, found_from-whole, found_from-error, found_from-like, section_size-like}
 
 -- ---- the lemmas on fronts, for any that holds bytes
 
@@ -187,11 +187,6 @@ begins-passed bytes at n front now cleared passed within no_stuffing taken over 
       empty = empty;
       same = λ (next : List ℕ). passed.same next ∙ begun-passed (drop at bytes) n now (begun-is bytes at n front now passed within no_stuffing taken) t tests.0 tests.1 next ∙ ap (λ (bs : List ℕ). found_from 0 bs next) (drop-on at n bytes);
     }
-
--- it has a byte
-pub begins-some : (bytes : List ℕ) (at n : ℕ) (front : SectionFront) (now : List ℕ) → PassesOver bytes at front → at < length bytes → TakesIn (front_bytes front) (rest_from bytes at) n now → 0 < n
-begins-some bytes at n front now passed within taken =
-    begun-some (drop at bytes) n now (omega (arith, within, length-drop at bytes)) (begun-taken bytes at n front now passed taken)
 
 -- nothing is found of what isn't settled
 pub front-none : (a : List ℕ) → IsFront a → is_settled a ≡ false → found_from 0 a [] ≡ []

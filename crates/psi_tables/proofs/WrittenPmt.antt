@@ -79,7 +79,7 @@ written_has_room program few = record {
 
 -- ---- sections
 
-pub written_pmt_is : (program : ProgramMap) (bytes : List ℕ) → program.number < 2 ^ 16 → All (λ stream. stream.kind < 256) program.streams.items → IsWritable program → HasRoom program → length (written_streams program) ≤ 183 → IsWithCrc (written_pmt program) bytes → IsPmt (without_dropped program) bytes
+pub written_pmt_is : (program : ProgramMap) (bytes : List ℕ) → program.number < 2 ^ 16 → All (λ stream. stream.kind < 256) program.streams.items → IsWritable program → HasRoom (without_dropped program) → length (written_streams program) ≤ 183 → IsWithCrc (written_pmt program) bytes → IsPmt (without_dropped program) bytes
 written_pmt_is program bytes number_low kinds writable room few is =
     let streams : List ℕ = written_streams program in
     let body : List ℕ = written_pid program.pcr_pid ++ written_length 0 ++ streams in

@@ -1,8 +1,7 @@
 -- What a builder holds, as a list of payloads that give the same sections.
-use Rattle.std.specs.Prelude.{◌≡◌, ℕ, ◌-◌, ◌≤◌, Bool, true, false, List, [], ◌∷◌, ◌++◌, length, take, drop, Result, Ok, Err, if◌then◌else◌}
+use Rattle.std.specs.Prelude.{◌≡◌, ℕ, ◌-◌, ◌≤◌, true, false, List, [], ◌∷◌, ◌++◌, take, drop, Result, Ok, Err, if◌then◌else◌}
 use Rattle.arrayvec.specs.ArrayVec.{ArrayVec}
 use Rattle.psi_tables.specs.declared.section.SectionFault.{SectionFault}
-use Rattle.psi_tables.specs.declared.section_front.SectionFront.{SectionFront}
 use Rattle.psi_tables.specs.declared.section_builder.SectionBuilder.TheInside.{Inside}
 use Rattle.psi_tables.specs.Sections.{Payload, Found}
 use Rattle.psi_tables.specs.SectionFront.{front_bytes, is_settled, IsHeld}

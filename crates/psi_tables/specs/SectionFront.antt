@@ -1,7 +1,7 @@
 -- The bytes of a section so far. No public clause cites these words: they say how a builder keeps what it has taken.
-use Rattle.std.specs.Prelude.{◌≡◌, ◌≢◌, ℕ, ◌+◌, ◌-◌, ◌^◌, ◌<◌, ◌≤◌, nat_lt, nat_le, Bool, true, false, ◌&&◌, ◌||◌, List, [], ◌∷◌, ◌++◌, length, take, drop, replicate, slice_index, if◌then◌else◌}
+use Rattle.std.specs.Prelude.{◌≡◌, ◌≢◌, ℕ, ◌-◌, ◌^◌, ◌<◌, ◌≤◌, nat_lt, nat_le, Bool, true, false, ◌&&◌, ◌||◌, List, ◌++◌, length, take, drop, replicate, slice_index, if◌then◌else◌}
 use Rattle.psi_tables.specs.declared.section_front.SectionFront.{SectionFront}
-use Rattle.psi_tables.specs.Sections.{Payload, Found, length_end, stuffing_byte, is_read, has_bad_length, section_size, found_from}
+use Rattle.psi_tables.specs.Sections.{length_end, stuffing_byte, is_read, has_bad_length, section_size, found_from}
 
 -- of a section that is passed over only the header's bytes are kept; the others count as 0
 abbrev pub front_bytes : SectionFront → List ℕ

@@ -73,7 +73,8 @@ abbrev pub remainder_on : ℕ → List ℕ → ℕ
 remainder_on remainder [] = remainder
 remainder_on remainder (bit ∷ bits) = remainder_on (brought_down remainder bit) bits
 
--- the CRC_32 over bytes by long division
+-- The CRC_32 over bytes by long division. The division of polynomials has the same one (`laws::crc_by_long_division`);
+-- this form is here since a list of sections goes by a test.
 unfoldable pub crc_over : List ℕ → ℕ
 crc_over bytes = remainder_on 0 (inverted (bit_list bytes ++ replicate 32 0))
 

@@ -5,12 +5,16 @@ ghost use Rattle.psi_tables.specs.Descriptors.{IsDescriptor, is_kept, kept_bytes
 use crate::stream::DESCRIPTOR_BYTES;
 use arrayvec::ArrayVec;
 
-/// The tags of the descriptors that are kept: `video_stream_descriptor`, `audio_stream_descriptor` and
-/// `ISO_639_language_descriptor`.
+/// Length of a descriptor's tag and length in bytes.
+const DESCRIPTOR_HEADER_BYTES: usize = 2;
+
+/// Tag of `video_stream_descriptor`.
 const VIDEO_STREAM: u8 = 2;
 
+/// Tag of `audio_stream_descriptor`.
 const AUDIO_STREAM: u8 = 3;
 
+/// Tag of `ISO_639_language_descriptor`.
 const ISO_639_LANGUAGE: u8 = 10;
 
 /// The kept descriptors of one stream, one behind the other, and the number of the others. None where descriptors don't
@@ -62,7 +66,7 @@ fn split_descriptor(bytes: &[u8]) -> Option<(&[u8], &[u8])>
     let [_, length, ..] = bytes else {
         return None;
     };
-    let size = 2 + *length as usize;
+    let size = DESCRIPTOR_HEADER_BYTES + *length as usize;
     if bytes.len() < size {
         return None;
     }

@@ -6,15 +6,12 @@ ghost use Rattle.psi_tables.specs.Section.{IsCurrent, IsRow, IsWithCrc};
 ghost use Rattle.psi_tables.specs.Pat.{IsProgram, IsPat, map_pid, written_pat, written_program};
 
 use crate::section::{
-    CRC_BYTES, HEADER_BYTES, PAT_TABLE, Section, SectionFault, UNCOUNTED_BYTES, content_of,
-    is_current, put, put_crc, put_header, put_pid,
+    CRC_BYTES, HEADER_BYTES, PAT_TABLE, PID_HIGH, Section, SectionFault, UNCOUNTED_BYTES,
+    content_of, is_current, put, put_crc, put_header, put_pid,
 };
 
 /// Length of a program in the section, in bytes.
 const PROGRAM_BYTES: usize = 4;
-
-/// The high bits of a PID in its first byte.
-pub(crate) const PID_HIGH: u8 = 0x1F;
 
 /// True exactly where the section is a current PAT section (ISO/IEC 13818-1, 2.4.4.3). Nothing but the table id and
 /// the current flag is looked at.

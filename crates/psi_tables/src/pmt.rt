@@ -5,11 +5,10 @@ ghost use Rattle.psi_tables.specs.Section.{IsCurrent, IsWithCrc};
 ghost use Rattle.psi_tables.specs.Pmt.{IsMapContent, IsPmt, HasRoom, IsWritable, written_pmt, pmt_length, without_dropped};
 
 use crate::descriptors::count_descriptors;
-use crate::pat::PID_HIGH;
 use crate::program_map::ProgramMap;
 use crate::section::{
-    CRC_BYTES, HEADER_BYTES, LENGTH_HIGH, PMT_TABLE, Section, SectionFault, UNCOUNTED_BYTES,
-    content_of, is_current, put_crc, put_header, put_length, put_pid,
+    CRC_BYTES, HEADER_BYTES, LENGTH_HIGH, PID_HIGH, PMT_TABLE, Section, SectionFault,
+    UNCOUNTED_BYTES, content_of, is_current, put_crc, put_header, put_length, put_pid,
 };
 use crate::streams::{put_streams, read_streams, streams_length};
 
@@ -52,7 +51,7 @@ pub fn write_pmt(map: &ProgramMap, into: &mut Section) -> Result<(), SectionFaul
     ensures bytes { OnOk result (IsWithCrc (written_pmt map.now) into.new.items) }
     // What is written is a section of this program, nothing dropped, that has room, and its CRC is right.
     ensures map { OnOk result (IsPmt (without_dropped map.now) into.new.items) }
-    ensures room { OnOk result (HasRoom map.now) }
+    ensures room { OnOk result (HasRoom (without_dropped map.now)) }
     ensures crc { OnOk result (HasRightCrc into.new.items) }
     ensures long { (result ≡ Err SectionFault.TooLong) ↔ (183 < pmt_length map.now) }
     ensures err { IfErr result (λ fault. (fault ≡ SectionFault.TooLong) × (into.new ≡ into.old)) }

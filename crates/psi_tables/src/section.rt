@@ -27,6 +27,9 @@ pub(crate) const PAT_TABLE: u8 = 0;
 /// The table id of PMT sections.
 pub(crate) const PMT_TABLE: u8 = 2;
 
+/// The high bits of a PID in its first byte.
+pub(crate) const PID_HIGH: u8 = 0x1F;
+
 /// The high bits of a length in its first byte.
 pub(crate) const LENGTH_HIGH: u8 = 0x0F;
 

@@ -5,8 +5,7 @@ ghost use Rattle.psi_tables.specs.Descriptors.{count_dropped};
 ghost use Rattle.psi_tables.specs.Streams.{StreamInfo, ES_info_length, IsStreamInfo, IsKeepable, stream_of, IsStreamWritable, written_stream};
 
 use crate::descriptors::read_descriptors;
-use crate::pat::PID_HIGH;
-use crate::section::{LENGTH_HIGH, Section, put, put_length, put_pid};
+use crate::section::{LENGTH_HIGH, PID_HIGH, Section, put, put_length, put_pid};
 use crate::stream::{DESCRIPTOR_BYTES, STREAMS_MOST, Stream};
 use arrayvec::ArrayVec;
 

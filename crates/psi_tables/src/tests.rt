@@ -1,7 +1,8 @@
-ghost use Rattle.std.specs.Prelude.{◌≡◌, ℕ, ◌+◌, ◌*◌, ◌^◌, ◌<◌, ◌≤◌, true, length, IfOk};
+ghost use Rattle.std.specs.Prelude.{◌≡◌, ℕ, ◌+◌, ◌*◌, ◌^◌, ◌<◌, ◌≤◌, true, length, All, Some, IfOk};
 ghost use Rattle.psi_tables.specs.Descriptors.{is_tag_kept};
+ghost use Rattle.psi_tables.specs.Pat.{map_pid};
 ghost use Rattle.psi_tables.specs.Streams.{IsStreamWritable};
-ghost use Rattle.psi_tables.specs.Pmt.{IsWritable};
+ghost use Rattle.psi_tables.specs.Pmt.{IsWritable, without_dropped};
 
 use super::*;
 use arrayvec::{ArrayVec, CapacityError};
@@ -47,6 +48,27 @@ fn stream_of(kind: u8, pid: u16, tag: u8, content: &[u8]) -> Result<Stream, Capa
         pid,
         descriptors,
     })
+}
+
+/// What is read of a map that was written: the same, nothing dropped.
+fn read_back(map: &ProgramMap) -> Result<Option<ProgramMap>, SectionFault>
+    requires { IsWritable map.now }
+    ensures { IfOk result (λ read. read ≡ Some (without_dropped map.now)) }
+{
+    let mut section = Section::new();
+    write_pmt(map, &mut section)?;
+    read_pmt(&section)
+}
+
+/// What is read of programs that were written: the PID of the first of the number.
+fn pid_read_back(programs: &[(u16, u16)], number: u16) -> Result<Option<u16>, SectionFault>
+    requires few { length programs.now ≤ 8 }
+    requires pids { All (λ program. program.1 < 2 ^ 13) programs.now }
+    ensures { result ≡ Ok (map_pid number programs.now) }
+{
+    let mut section = Section::new();
+    write_pat(1, programs, &mut section);
+    read_pat(&section, number)
 }
 
 /// The map of program 1 with the clock on PID 0x101, a video stream without descriptors there, and another stream.
@@ -143,6 +165,10 @@ fn a_pat_is_written_byte_for_byte(rt: HostRuntime) {
     let mut section = Section::new();
     write_pat(1, &[(1, 0x100)], &mut section);
     assert_eq!(rt; section.as_slice(), PAT.as_slice());
+    assert_eq!(rt;
+        pid_read_back(&[(1, 0x100), (7, 0x1FFF)], 7),
+        Ok(Some(0x1FFF))
+    );
 }
 
 #[test]
@@ -151,7 +177,7 @@ fn a_pmt_is_written_byte_for_byte_and_read_back(rt: HostRuntime) -> Result<(), F
     let map = with_video(stream_of(3, 0x102, 10, &[0x65, 0x6E, 0x67, 0])?);
     assert_eq!(rt; write_pmt(&map, &mut section), Ok(()));
     assert_eq!(rt; section.as_slice(), PMT.as_slice());
-    assert_eq!(rt; read_pmt(&section), Ok(Some(map)));
+    assert_eq!(rt; read_back(&map)?, Some(map));
     Ok(())
 }
 

@@ -1,6 +1,6 @@
-use Rattle.std.proofs.Common.{◌≡◌, ℕ, sym, subst}
+-- The long division leaves a remainder, and there is one.
+use Rattle.std.proofs.Common.{ℕ, sym, subst}
 use Rattle.psi_tables.specs.Crc.{IsCrcOf}
-use Rattle.psi_tables.specs.Sections.{crc_over}
 use Rattle.psi_tables.proofs.CrcDivision.{crc_over-is, crc_over-only}
 use Rattle.psi_tables.proofs.laws.crc_by_long_division.Goals as goal
 

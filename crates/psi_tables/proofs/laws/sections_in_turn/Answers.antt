@@ -1,3 +1,4 @@
+-- Each clause is a lemma of `Turns`.
 use Rattle.psi_tables.proofs.Turns.{turn-start, turn-fed, turn-pulled, turn-all, turn-fewer}
 use Rattle.psi_tables.proofs.laws.sections_in_turn.Goals as goal
 

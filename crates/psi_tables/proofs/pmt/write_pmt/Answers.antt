@@ -4,7 +4,7 @@ use Rattle.psi_tables.specs.declared.stream.Stream.{Stream}
 use Rattle.psi_tables.specs.declared.program_map.ProgramMap.{ProgramMap}
 use Rattle.psi_tables.specs.Section.{IsWithCrc, written_header, written_pid, written_length}
 use Rattle.psi_tables.specs.Streams.{written_stream}
-use Rattle.psi_tables.specs.Pmt.{written_streams, written_pmt}
+use Rattle.psi_tables.specs.Pmt.{written_streams, written_pmt, without_dropped}
 use Rattle.psi_tables.proofs.WrittenPmt.{written_has_room, written_pmt_is}
 use Rattle.psi_tables.proofs.pmt.write_pmt.Goals as goal
 
@@ -26,7 +26,7 @@ returns-clause-bytes c =
 
 pub returns-clause-room : goal.returns-clause-room
 returns-clause-room c =
-    written_has_room c.args.map.now
+    written_has_room (without_dropped c.args.map.now)
     (omega (arith, c.streams_length-streams.ensures.value, ap (λ (streams : List Stream). length (flat_map written_stream streams)) c.as_slice.ensures.value, c.if-section_length-gt-PACKET_SECTION_BYTES.false))
 
 pub returns-clause-map : goal.returns-clause-map

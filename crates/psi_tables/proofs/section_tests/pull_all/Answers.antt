@@ -1,3 +1,4 @@
+-- Fewer sections wait after each one.
 use Rattle.std.proofs.Common.{arith}
 use Rattle.psi_tables.proofs.Turns.{turn-fewer}
 use Rattle.psi_tables.proofs.section_tests.pull_all.Goals as goal

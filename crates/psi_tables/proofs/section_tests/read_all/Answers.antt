@@ -1,4 +1,5 @@
-use Rattle.std.proofs.Common.{◌≡◌, ℕ, Bool, List, [], map, take, refl, ap, ◌∙◌, arith}
+-- Where nothing waits behind the last payload, all sections were given.
+use Rattle.std.proofs.Common.{◌≡◌, ℕ, Bool, List, map, take, ap, ◌∙◌, arith}
 use Rattle.std.specs.Borrow.{Bor}
 use Rattle.std.proofs.lemmas.List.{take_all}
 use Rattle.psi_tables.specs.Sections.{Payload, sections_of}

@@ -1,3 +1,4 @@
+-- Nothing is held.
 use Rattle.std.proofs.Common.{ℕ, List, [], ◌++◌, ap}
 use Rattle.psi_tables.specs.Sections.{sections_of}
 use Rattle.psi_tables.specs.SectionBuilder.{payloads_of}

@@ -1,5 +1,5 @@
 -- A section that is read is extended, which fits since its length is good; of another one the bytes are counted.
-use Rattle.std.proofs.Common.{◌≡◌, ℕ, true, false, ◌+◌, ◌^◌, ◌<◌, ◌≤◌, length, ◌++◌, refl, sym, ap, ◌∙◌, arith, length-append}
+use Rattle.std.proofs.Common.{◌≡◌, true, ◌+◌, ◌≤◌, length, ◌++◌, refl, sym, ap, ◌∙◌, arith, length-append}
 use Rattle.std.proofs.lemmas.Grind.{common_steps}
 use Rattle.psi_tables.specs.Sections.{is_read, section_size}
 use Rattle.psi_tables.specs.SectionFront.{front_bytes}

@@ -1,8 +1,8 @@
 -- A section whose length isn't bad is whole, and its CRC is that of the long division.
-use Rattle.std.proofs.Common.{◌≡◌, ◌≢◌, ℕ, Bool, true, false, cond, eqb, List, [], ◌∷◌, Ok, Err, refl, sym, ap, ◌∙◌}
+use Rattle.std.proofs.Common.{◌≡◌, ◌≢◌, ℕ, Bool, false, cond, List, [], ◌∷◌, Ok, Err, sym, ap, ◌∙◌}
 use Rattle.std.proofs.lemmas.Bool.{ne_eqb, eq-eqb}
 use Rattle.psi_tables.specs.declared.section.SectionFault.TheVariants.{BadCrc}
-use Rattle.psi_tables.specs.Sections.{Found, is_read, crc_over, checked, found_at}
+use Rattle.psi_tables.specs.Sections.{crc_over}
 use Rattle.psi_tables.specs.SectionFront.{front_bytes, is_bad}
 use Rattle.psi_tables.proofs.Bytes.{header-front, is_read-front, kept-front}
 use Rattle.psi_tables.proofs.CrcDivision.{crc_over-is}

@@ -1,5 +1,5 @@
 -- What goes on with a section gives the same, and nothing where it is passed over.
-use Rattle.std.proofs.Common.{◌≡◌, ◌≢◌, ℕ, ◌<◌, eqb, List, [], length, sym, ap, ◌∙◌, arith}
+use Rattle.std.proofs.Common.{◌≢◌, ℕ, ◌<◌, List, length, sym, ap, ◌∙◌, arith}
 use Rattle.std.proofs.lemmas.Bool.{eqb-false}
 use Rattle.psi_tables.specs.Sections.{is_read, found_from}
 use Rattle.psi_tables.specs.SectionFront.{front_bytes, is_settled}
