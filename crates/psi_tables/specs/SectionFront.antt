@@ -1,4 +1,5 @@
--- The bytes of a section so far. No public clause cites these words: they say how a builder keeps what it has taken.
+-- The bytes of a section so far. No clause of a public call cites these words: they say how a builder
+-- keeps what it has taken.
 use Rattle.std.specs.Prelude.{◌≡◌, ◌≢◌, ℕ, ◌-◌, ◌^◌, ◌<◌, ◌≤◌, nat_lt, nat_le, Bool, true, false, ◌&&◌, ◌||◌, List, ◌++◌, length, take, drop, replicate, slice_index, if◌then◌else◌}
 use Rattle.psi_tables.specs.declared.section_front.SectionFront.{SectionFront}
 use Rattle.psi_tables.specs.Sections.{length_end, stuffing_byte, is_read, has_bad_length, section_size, found_from}

@@ -25,6 +25,7 @@ payload_code =
 abbrev pub has_pointer : Payload → Bool
 has_pointer payload = payload.start && nat_lt 0 (length payload.bytes)
 
+-- its first byte: so many bytes stand between it and the place where a section begins
 abbrev pub pointer_field : Payload → ℕ
 pointer_field payload = slice_index payload.bytes 0
 
@@ -36,6 +37,7 @@ points_past payload = nat_le (length payload.bytes) (1 + pointer_field payload)
 abbrev pub before_pointer : Payload → List ℕ
 before_pointer payload = if points_past payload then [] else take (pointer_field payload) (drop 1 payload.bytes)
 
+-- the bytes from that place on
 abbrev pub behind_pointer : Payload → List ℕ
 behind_pointer payload = drop (1 + pointer_field payload) payload.bytes
 
@@ -62,6 +64,7 @@ is_read bytes = (table_id bytes == 0) || (table_id bytes == 2)
 abbrev pub has_bad_length : List ℕ → Bool
 has_bad_length bytes = nat_lt (section_length bytes) 9 || nat_lt 1021 (section_length bytes)
 
+-- its length in bytes
 abbrev pub section_size : List ℕ → ℕ
 section_size bytes = length_end + section_length bytes
 
@@ -69,6 +72,7 @@ section_size bytes = length_end + section_length bytes
 abbrev pub brought_down : ℕ → ℕ → ℕ
 brought_down remainder bit = if nat_lt (2 * remainder + bit) (2 ^ 32) then 2 * remainder + bit else bit_xor (2 * remainder + bit) crc_polynomial
 
+-- what is left once all bits are brought down
 abbrev pub remainder_on : ℕ → List ℕ → ℕ
 remainder_on remainder [] = remainder
 remainder_on remainder (bit ∷ bits) = remainder_on (brought_down remainder bit) bits
@@ -82,6 +86,7 @@ crc_over bytes = remainder_on 0 (inverted (bit_list bytes ++ replicate 32 0))
 abbrev pub Found : Type 0
 Found = Result (List ℕ) SectionFault
 
+-- the bytes of a section, where the CRC over them is 0
 abbrev pub checked : List ℕ → Found
 checked section = if crc_over section == 0 then Ok section else Err BadCrc
 
@@ -109,13 +114,16 @@ abbrev pub found_in : Payload → List ℕ → List Found
 found_in payload next =
     if has_pointer payload then if points_past payload then Err BadSection ∷ [] else found_from 0 (behind_pointer payload) next else []
 
+-- in all payloads, each with the bytes of those behind it in which its last section goes on
 abbrev pub found_in_all : List Payload → List Found
 found_in_all [] = []
 found_in_all (payload ∷ payloads) = found_in payload (bytes_on payloads) ++ found_in_all payloads
 
+-- one of them is an error
 abbrev pub has_error : List Found → Bool
 has_error found = list_any is_err found
 
+-- what is found up to the first error, with that error
 abbrev pub until_error : List Found → List Found
 until_error [] = []
 until_error (Ok section ∷ found) = Ok section ∷ until_error found
