@@ -1,13 +1,8 @@
 -- What a block must be to be written: each that some bits spell is such a block.
-use Rattle.std.specs.Prelude.{ℕ, ◌+◌, ◌-◌, ◌<◌, ◌^◌, List, [], ◌∷◌, unsigned_abs, if◌then◌else◌}
+use Rattle.std.specs.Prelude.{ℕ, ◌+◌, ◌-◌, ◌<◌, ◌^◌, List, [], ◌∷◌, unsigned_abs}
 use Rattle.syntax_types.specs.declared.block.TheConstants.{BLOCK_PLACES}
-use Rattle.syntax_types.specs.declared.block.BlockWay.{BlockWay}
 use Rattle.syntax_types.specs.declared.block.RunLevel.{RunLevel}
 use Rattle.picture_grammar.specs.declared.escape.TheConstants.{RUN_BITS, LEVEL_BITS}
-
--- the place of the first coefficient: the DC coefficient has place 0 (7.2.1)
-abbrev pub first_place : BlockWay → ℕ
-first_place way = if way.intra then 1 else 0
 
 -- the run and the level fit an escape (7.2.2.3, Table B-16)
 pub record CanStand (pair : RunLevel) : Type 0 where

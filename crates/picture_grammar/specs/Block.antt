@@ -78,9 +78,13 @@ after_code (run_size run size) = do
   done (more (record { run = run; level = signed size negative }))
 after_code (escape run level) = done (more (record { run = run; level = escape_level level }))
 
--- the place of the first coefficient behind these: the DC coefficient has place 0
+-- the place of the first coefficient behind the DC coefficient, which has place 0 and stands in intra blocks alone (7.2.1)
+abbrev pub first_place : BlockWay → ℕ
+first_place way = if way.intra then 1 else 0
+
+-- the place of the first coefficient behind these
 abbrev pub next_place : BlockWay → List RunLevel → ℕ
-next_place way pairs = (if way.intra then 1 else 0) + sum_by (λ pair. pair.run + 1) pairs
+next_place way pairs = first_place way + sum_by (λ pair. pair.run + 1) pairs
 
 -- a coefficient or the end of block, behind these coefficients
 abbrev pub coefficient : BlockWay → List RunLevel → Grammar (Next RunLevel (Unit {0}))

@@ -22,7 +22,7 @@ use Rattle.syntax_types.specs.declared.slice.Slice.{Slice}
 use Rattle.syntax_types.specs.declared.slice.SliceInfo.{SliceInfo}
 use Rattle.picture_grammar.specs.declared.escape.TheConstants.{RUN_BITS, LEVEL_BITS}
 use Rattle.picture_grammar.specs.declared.start_codes.TheConstants.{FIRST_SLICE, SEQUENCE_END}
-use Rattle.picture_grammar.specs.Block.{dc_table, coefficient_table}
+use Rattle.picture_grammar.specs.Block.{dc_table, coefficient_table, first_place}
 use Rattle.picture_grammar.specs.Motion.{has_residual, dmvector_code}
 use Rattle.picture_grammar.specs.Macroblock.{escape_increment, type_table, type_symbol, has_motion_type, has_dct_type, has_concealment, f_codes, is_coded, block_way, no_block}
 use Rattle.picture_grammar.specs.StartCode.{start_code_bits}
@@ -61,7 +61,7 @@ written_coefficients way place (pair ∷ pairs) =
     written_coefficient (coefficient_table way place) pair ++ written_coefficients way (place + (pair.run + 1)) pairs
 
 unfoldable pub written_block : BlockWay → Block → List ℕ
-written_block way block = if_any (written_dc way) block.dc ++ written_coefficients way (if way.intra then 1 else 0) block.pairs.items
+written_block way block = if_any (written_dc way) block.dc ++ written_coefficients way (first_place way) block.pairs.items
 
 -- ---- macroblocks
 
