@@ -1,5 +1,5 @@
 -- The cut of a video stream into units (start codes by ISO/IEC 13818-2, 6.2; the cut is this project's).
-use Rattle.std.specs.Prelude.{ℕ, ◌+◌, ◌-◌, ◌^◌, min, nat_lt, nat_le, Bool, not, ◌&&◌, List, [], ◌∷◌, length, filter, Option, if◌then◌else◌}
+use Rattle.std.specs.Prelude.{ℕ, ◌+◌, ◌-◌, ◌^◌, min, nat_lt, nat_le, Bool, not, ◌&&◌, List, [], ◌∷◌, length, filter, Option}
 use Rattle.std.specs.List.{find, list_any, list_all, range_with_len}
 use Rattle.std.specs.Option.{option_map}
 use Rattle.es_units.specs.declared.units.Units.{Units}

@@ -1,6 +1,4 @@
-use Rattle.std.proofs.Common.{◌≡◌, Bool, true, false, not, ◌+◌, ◌&&◌, ◌||◌, ◌∙◌, sym, ap, refl, arith}
-use Rattle.es_units.specs.StartCodes.{is_slice, is_unit_start}
-use Rattle.es_units.specs.Units.{is_behind_slice}
+use Rattle.std.proofs.Common.{◌≡◌, Bool, true, false, not, ◌&&◌, ◌||◌, ◌∙◌, sym, refl, arith}
 use Rattle.es_units.proofs.CutSteps.{cut_here, state_behind, none_up_to, no_cut_before_slice, no_cut_elsewhere, no_slice}
 use Rattle.es_units.proofs.cuts.next_cut.Goals as goal
 use Rattle.es_units.proofs.cuts.next_cut.Goals.{then-is_unit_start+else-behind_slice, else-is_unit_start+then-is_slice, else-is_unit_start+else-is_slice}

@@ -1,5 +1,4 @@
-use Rattle.std.proofs.Common.{◌^◌, ◌-◌, ◌+◌, length, ◌++◌, ◌≡◌, ◌∙◌, sym, ap, arith}
-use Rattle.es_units.specs.Units.{cuts_up_to, cuts_behind, spans}
+use Rattle.std.proofs.Common.{◌^◌, ◌-◌, ◌∙◌, arith}
 use Rattle.es_units.proofs.CutSteps.{state_behind_cut}
 use Rattle.es_units.proofs.Spans.{IsNextCut, dropped_more, dropped_same, dropped_all, spans_same, spans_more, spans_all, units_are}
 use Rattle.es_units.proofs.units.split_units.Goals as goal

@@ -1,5 +1,5 @@
-use Rattle.std.proofs.Common.{◌≡◌, false, ◌++◌, ◌+◌, ◌-◌, ◌^◌, ◌≤◌, min, length, filter, Some, nat_lt, nat_le, ◌&&◌}
-use Rattle.es_units.specs.Units.{places, is_behind_slice, is_cut, spans, cuts_up_to, cuts_behind, first_sequence}
+use Rattle.std.proofs.Common.{◌≡◌, false, ◌++◌, ◌+◌, ◌-◌, ◌^◌, ◌≤◌, min, length, filter, nat_lt, nat_le, ◌&&◌}
+use Rattle.es_units.specs.Units.{places, is_behind_slice, is_cut, spans, cuts_up_to, cuts_behind}
 use Rattle.es_units.proofs.units.split_units.Given as goal
 
 abbrev pub invariant-loop-cut : goal.invariant-loop-cut
