@@ -15,14 +15,14 @@ use Rattle.std.proofs.NetLemmas.Numbers.{NoDigit, read_number_some, read_number_
 use Rattle.std.proofs.NetLemmas.Options.{cond_none, and_then_some, map_some, same_parts}
 use Rattle.version_table.specs.declared.limits.TheConstants.{VERSIONS_MOST}
 use Rattle.version_table.specs.declared.line.Line.{Line}
-use Rattle.version_table.specs.declared.line.Line.TheVariants.{Title, Slot, Nodes, Evaluations, Program, Coded, Audio, Packet}
+use Rattle.version_table.specs.declared.line.Line.TheVariants.{Title, Slot, Nodes, Evaluations, Program, Unit as UnitLine, Audio, Packet}
 use Rattle.version_table.specs.declared.line.Stage.{Stage}
 use Rattle.version_table.specs.declared.line.Stage.TheVariants as stages
 use Rattle.version_table.specs.declared.line.StatedVersion.{StatedVersion}
 use Rattle.version_table.specs.Lines.{line_end, text_of_version, text_of_line}
 use Rattle.version_table.specs.Order.{IsStated, IsStatedVersion, HasSyntax}
-use Rattle.version_table.specs.Reading.{◌>>=◌, after, number_at, number_line, version_at, versions_at, unit_at, packet_at, program_at, stream_at, line_at}
-use Rattle.version_table.specs.Draft.{Allows}
+use Rattle.version_table.specs.Private.Reading.{◌>>=◌, after, number_at, number_line, version_at, versions_at, unit_at, packet_at, program_at, stream_at, line_at}
+use Rattle.version_table.specs.Private.Draft.{Allows}
 use Rattle.version_table.proofs.Words.{after-append, after_sound}
 
 -- ---- numbers

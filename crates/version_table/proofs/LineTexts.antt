@@ -8,14 +8,14 @@ use Rattle.std.proofs.NetLemmas.Numbers.{NoDigit}
 use Rattle.std.proofs.NetLemmas.Options.{cond_none, and_then_some, map_some, same_parts}
 use Rattle.version_table.specs.declared.limits.TheConstants.{VERSIONS_MOST}
 use Rattle.version_table.specs.declared.line.Line.{Line}
-use Rattle.version_table.specs.declared.line.Line.TheVariants.{Title, Slot, Nodes, Evaluations, Program, Coded, Audio, Packet}
+use Rattle.version_table.specs.declared.line.Line.TheVariants.{Title, Slot, Nodes, Evaluations, Program, Unit as UnitLine, Audio, Packet}
 use Rattle.version_table.specs.declared.line.Stage.{Stage}
 use Rattle.version_table.specs.declared.line.Stage.TheVariants as stages
 use Rattle.version_table.specs.declared.line.StatedVersion.{StatedVersion}
 use Rattle.version_table.specs.Lines.{line_end, text_of_version, text_of_line}
 use Rattle.version_table.specs.Order.{IsStated, IsStatedVersion, HasSyntax}
-use Rattle.version_table.specs.Reading.{◌>>=◌, after, number_at, number_line, versions_at, unit_at, packet_at, program_at, stream_at, line_at}
-use Rattle.version_table.specs.Draft.{Allows}
+use Rattle.version_table.specs.Private.Reading.{◌>>=◌, after, number_at, number_line, versions_at, unit_at, packet_at, program_at, stream_at, line_at}
+use Rattle.version_table.specs.Private.Draft.{Allows}
 use Rattle.version_table.proofs.Words.{after-append, after_sound}
 use Rattle.version_table.proofs.LineReading.{number_again, number_sound, number_line_again, number_line_sound, Ends, versions_again, versions_sound, versions_end, four_parts, map_or_cases}
 
@@ -77,7 +77,7 @@ behind_versions : (rest : List ℕ) → Ends (line_end ++ rest)
 unfolding after
 behind_versions rest = record { digit = lit≤ tt; space = refl }
 
-unit_again : (due : ℕ) (versions : ArrayVec StatedVersion) (rest : List ℕ) → HasSyntax (Coded due versions) → unit_at (text_of_line (Coded due versions) ++ rest) ≡ Some (Coded due versions, rest)
+unit_again : (due : ℕ) (versions : ArrayVec StatedVersion) (rest : List ℕ) → HasSyntax (UnitLine due versions) → unit_at (text_of_line (UnitLine due versions) ++ rest) ≡ Some (UnitLine due versions, rest)
 unfolding unit_at HasSyntax text_of_line
 unit_again due versions rest syntax =
     let others = flat_map text_of_version versions.items ++ (line_end ++ rest) in
@@ -102,7 +102,7 @@ unit_sound text rest line e =
     and_then_some _ (versions_at VERSIONS_MOST due.1) _ e2 λ versions versions_read e3.
     let (some, e4) = cond_none _ _ _ e3 in
     and_then_some _ (after line_end versions.1) _ e4 λ behind end_read e5.
-    let made : Line = Coded due.0 (record { items = versions.0 }) in
+    let made : Line = UnitLine due.0 (record { items = versions.0 }) in
     let (line_is, rest_is) = same_parts made line behind rest e5 in
     let number = number_sound front due.1 due.0 due_read in
     let texts = versions_sound VERSIONS_MOST due.1 versions.1 versions.0 versions_read in
@@ -185,7 +185,7 @@ line_again stages.Slot (Slot ticks) rest allows syntax = ap (option_map (λ n. (
 line_again stages.Nodes (Nodes n) rest allows syntax = ap (option_map (λ n. (Nodes n.0, n.1))) (number_line_again (codes "nodes ") n rest syntax)
 line_again stages.Evaluations (Evaluations n) rest allows syntax = ap (option_map (λ n. (Evaluations n.0, n.1))) (number_line_again (codes "evaluations ") n rest syntax)
 line_again stages.Programs (Program vbv) rest allows syntax = program_again vbv rest syntax
-line_again stages.Units (Coded due versions) rest allows syntax = ap (λ (o : Option (Line × List ℕ)). option_or o (stream_at (text_of_line (Coded due versions) ++ rest))) (unit_again due versions rest syntax)
+line_again stages.Units (UnitLine due versions) rest allows syntax = ap (λ (o : Option (Line × List ℕ)). option_or o (stream_at (text_of_line (UnitLine due versions) ++ rest))) (unit_again due versions rest syntax)
 line_again stages.Units Audio rest allows syntax = ap (λ (o : Option (Line × List ℕ)). option_or o (stream_at (text_of_line Audio ++ rest))) (audio_no_unit rest) ∙ audio_again rest
 line_again stages.Units (Program vbv) rest allows syntax = ap (λ (o : Option (Line × List ℕ)). option_or o (stream_at (text_of_line (Program vbv) ++ rest))) (program_no_unit vbv rest) ∙ program_in_stream vbv rest syntax
 line_again stages.Packets (Packet due gone bytes) rest allows syntax = ap (λ (o : Option (Line × List ℕ)). option_or o (stream_at (text_of_line (Packet due gone bytes) ++ rest))) (packet_again due gone bytes rest syntax)

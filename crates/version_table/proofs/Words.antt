@@ -5,7 +5,7 @@ use Rattle.std.specs.Option.{option_copied}
 use Rattle.std.specs.Borrow.{Bor}
 use Rattle.std.specs.Cmp.Lexicographic.{pointwise}
 use Rattle.std.proofs.lemmas.Bool.{eqb-true, eq-eqb, cases_Bool}
-use Rattle.version_table.specs.Reading.{after}
+use Rattle.version_table.specs.Private.Reading.{after}
 
 cond_and : {A : Type 0} (p q : Bool) (x y : A) → cond (p && q) x y ≡ cond p (cond q x y) y
 cond_and true q x y = refl

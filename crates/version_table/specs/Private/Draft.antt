@@ -5,7 +5,7 @@ use Rattle.std.specs.Option.{option_or}
 use Rattle.version_table.specs.declared.fault.Limit.{Limit}
 use Rattle.version_table.specs.declared.draft.Draft.{Draft}
 use Rattle.version_table.specs.declared.line.Line.{Line}
-use Rattle.version_table.specs.declared.line.Line.TheVariants.{Title, Slot, Nodes, Evaluations, Program, Coded, Audio, Packet}
+use Rattle.version_table.specs.declared.line.Line.TheVariants.{Title, Slot, Nodes, Evaluations, Program, Unit as UnitLine, Audio, Packet}
 use Rattle.version_table.specs.declared.line.Stage.{Stage}
 use Rattle.version_table.specs.declared.line.StatedVersion.{StatedVersion}
 use Rattle.version_table.specs.declared.table.Version.{Version}
@@ -20,7 +20,7 @@ stage_after (Slot ticks) = stages.Nodes
 stage_after (Nodes n) = stages.Evaluations
 stage_after (Evaluations n) = stages.Programs
 stage_after (Program vbv) = stages.Units
-stage_after (Coded due versions) = stages.Units
+stage_after (UnitLine due versions) = stages.Units
 stage_after Audio = stages.Packets
 stage_after (Packet due gone bytes) = stages.Packets
 
@@ -31,7 +31,7 @@ Allows stages.Slot (Slot ticks) = Unit {0}
 Allows stages.Nodes (Nodes n) = Unit {0}
 Allows stages.Evaluations (Evaluations n) = Unit {0}
 Allows stages.Programs (Program vbv) = Unit {0}
-Allows stages.Units (Coded due versions) = Unit {0}
+Allows stages.Units (UnitLine due versions) = Unit {0}
 Allows stages.Units Audio = Unit {0}
 Allows stages.Units (Program vbv) = Unit {0}
 Allows stages.Packets (Packet due gone bytes) = Unit {0}

@@ -6,7 +6,7 @@ use Rattle.std.specs.Net.Reader.{read_number}
 use Rattle.arrayvec.specs.ArrayVec.{ArrayVec}
 use Rattle.version_table.specs.declared.limits.TheConstants.{VERSIONS_MOST}
 use Rattle.version_table.specs.declared.line.Line.{Line}
-use Rattle.version_table.specs.declared.line.Line.TheVariants.{Title, Slot, Nodes, Evaluations, Program, Coded, Audio, Packet}
+use Rattle.version_table.specs.declared.line.Line.TheVariants.{Title, Slot, Nodes, Evaluations, Program, Unit as UnitLine, Audio, Packet}
 use Rattle.version_table.specs.declared.line.Stage.{Stage}
 use Rattle.version_table.specs.declared.line.Stage.TheVariants as stages
 use Rattle.version_table.specs.declared.line.StatedVersion.{StatedVersion}
@@ -66,7 +66,7 @@ unit_at text = do
   front ← after (codes "unit ") text
   due ← number_at front
   versions ← versions_at VERSIONS_MOST due.1
-  if length versions.0 == 0 then None else after (codes "\n") versions.1 >>= λ rest. Some (Coded due.0 (record { items = versions.0 }), rest)
+  if length versions.0 == 0 then None else after (codes "\n") versions.1 >>= λ rest. Some (UnitLine due.0 (record { items = versions.0 }), rest)
 
 unfoldable pub packet_at : List ℕ → Read Line
 packet_at text = do

@@ -8,7 +8,7 @@ use Rattle.version_table.specs.declared.read.Reader.{Reader}
 use Rattle.version_table.specs.declared.table.Table.{Table}
 use Rattle.version_table.specs.Lines.{lines_of_table}
 use Rattle.version_table.specs.Limits.{limit_name, first_limit}
-use Rattle.version_table.specs.Draft.{stage_after, is_whole, lines_of_draft, AddsLine}
+use Rattle.version_table.specs.Private.Draft.{stage_after, is_whole, lines_of_draft, AddsLine}
 
 -- a fault names a limit
 abbrev pub IsLimitFault : TableFault → Limit → Type 0
