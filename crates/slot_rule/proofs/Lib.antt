@@ -19,7 +19,7 @@ pub mod RuleRows
 pub mod RuleRun
 pub mod RuleSchedules
 pub mod RuleSent
-pub mod RuleStreams
+pub mod RuleQueues
 pub mod RuleUnique
 pub mod RuleUnits
 pub mod RuleVideo
