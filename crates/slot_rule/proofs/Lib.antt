@@ -25,6 +25,7 @@ pub mod RuleUnits
 pub mod RuleVideo
 pub mod RuleWork
 pub mod SendLaws
+pub mod SentLaws
 pub mod SlotLaws
 pub mod SlotListLaws
 pub mod SmallLaws

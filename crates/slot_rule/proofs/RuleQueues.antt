@@ -18,14 +18,14 @@ use Rattle.version_table.specs.Choice.{HasVersion, Fits, version_at}
 use Rattle.stream_constants.specs.declared.packets.TheConstants.{PAYLOAD_BYTES}
 use Rattle.slot_rule.specs.Buffers.{Row, Reserved, Carries, Empty, is_of, payload_in}
 use Rattle.slot_rule.specs.Schedule.{IsHead, FollowRule}
+use Rattle.slot_rule.specs.Sent.{choice_from}
 use Rattle.slot_rule.proofs.RuleRows.{IsNext, FollowRule-at}
 use Rattle.std.proofs.lemmas.Bool.{cond_both}
 use Rattle.slot_rule.specs.Queues.{QueueKind, QueuedPacket, Queue, video_of, audio_of, queues_from, queues_of}
-use Rattle.slot_rule.proofs.RuleVideo.{packets_from-each, packets_from-dues, packets_from-gones, length-packets_from, DuesRise-from_increasing, HasSizes}
-
+use Rattle.version_table.proofs.TableLines.{packets_of}
 -- the units of these programs
-abbrev pub all_units : List ProgramRow → List CodedUnit
-all_units rows = flat_map (λ row. row.units) rows
+pub use Rattle.version_table.proofs.TableLines.{units_in}
+use Rattle.slot_rule.proofs.RuleVideo.{packets_from-each, packets_from-dues, packets_from-gones, length-packets_from, DuesRise-from_increasing, HasSizes}
 
 -- the streams of a program: the video, then its audio streams
 abbrev pub queues_in : (program : ℕ) → ProgramRow → List ℕ → List Queue
@@ -33,23 +33,23 @@ queues_in program row choice = video_of program row choice ∷ map audio_of row.
 
 -- the streams of the first programs, and those of the others
 pub queues_from-append : (program : ℕ) (rows more : List ProgramRow) (choice : List ℕ)
-    → queues_from program (rows ++ more) choice ≡ queues_from program rows choice ++ queues_from (program + length rows) more (drop (length (all_units rows)) choice)
+    → queues_from program (rows ++ more) choice ≡ queues_from program rows choice ++ queues_from (program + length rows) more (drop (length (units_in rows)) choice)
 queues_from-append program [] more choice = ap (λ p. queues_from p more choice) (sym (add-zero program))
 queues_from-append program (first ∷ rows) more choice =
     let number : (program + 1) + length rows ≡ program + suc (length rows) = omega arith in
-    let units : drop (length (all_units rows)) (drop (length first.units) choice) ≡ drop (length (all_units (first ∷ rows))) choice =
-    drop-drop (length (all_units rows)) (length first.units) choice ∙ ap (λ n. drop n choice) (sym (length-append first.units (all_units rows))) in
+    let units : drop (length (units_in rows)) (drop (length first.units) choice) ≡ drop (length (units_in (first ∷ rows))) choice =
+    drop-drop (length (units_in rows)) (length first.units) choice ∙ ap (λ n. drop n choice) (sym (length-append first.units (units_in rows))) in
     ap (λ (others : List Queue). queues_in program first choice ++ others)
     (queues_from-append (program + 1) rows more (drop (length first.units) choice)
     ∙ ap₂ (λ p versions. queues_from (program + 1) rows (drop (length first.units) choice) ++ queues_from p more versions) number units)
-    ∙ sym (append_assoc (queues_in program first choice) (queues_from (program + 1) rows (drop (length first.units) choice)) (queues_from (program + suc (length rows)) more (drop (length (all_units (first ∷ rows))) choice)))
+    ∙ sym (append_assoc (queues_in program first choice) (queues_from (program + 1) rows (drop (length first.units) choice)) (queues_from (program + suc (length rows)) more (drop (length (units_in (first ∷ rows))) choice)))
 
 -- one more program
 pub queues_from-push : (program : ℕ) (rows : List ProgramRow) (row : ProgramRow) (choice : List ℕ)
-    → queues_from program (rows ++ row ∷ []) choice ≡ queues_from program rows choice ++ queues_in (program + length rows) row (drop (length (all_units rows)) choice)
+    → queues_from program (rows ++ row ∷ []) choice ≡ queues_from program rows choice ++ queues_in (program + length rows) row (drop (length (units_in rows)) choice)
 queues_from-push program rows row choice =
     queues_from-append program rows (row ∷ []) choice
-    ∙ ap (λ (others : List Queue). queues_from program rows choice ++ others) (append-nil (queues_in (program + length rows) row (drop (length (all_units rows)) choice)))
+    ∙ ap (λ (others : List Queue). queues_from program rows choice ++ others) (append-nil (queues_in (program + length rows) row (drop (length (units_in rows)) choice)))
 
 pub length-queues_from : (program : ℕ) (rows : List ProgramRow) (choice : List ℕ) → length (queues_from program rows choice) ≡ sum_by (λ row. suc (length row.audios)) rows
 length-queues_from program [] choice = refl
@@ -64,11 +64,6 @@ queues_of-few table choice valid =
     let each : All (λ row. suc (length row.audios) ≤ 1 + AUDIOS_MOST) table.programs = All-weaker (IsValidProgram table.slot) (λ row. suc (length row.audios) ≤ 1 + AUDIOS_MOST) (λ row h. omega (arith, h.few_audios)) table.programs valid.programs in
     let total : sum_by (λ row. suc (length row.audios)) table.programs ≤ length table.programs * (1 + AUDIOS_MOST) = sum_by-le (λ row. suc (length row.audios)) (1 + AUDIOS_MOST) table.programs each in
     omega (arith, length-queues_from 0 table.programs choice, valid.few_programs)
-
--- ---- the streams by number
--- the version numbers for the units of program p and those after it
-abbrev pub choice_from : List ProgramRow → ℕ → List ℕ → List ℕ
-choice_from rows p choice = drop (length (all_units (take p rows))) choice
 
 -- ---- what each stream keeps
 -- what each packet of a valid table keeps, where a slot lasts this many ticks
@@ -121,10 +116,6 @@ IsValidStream-video slot program row choice valid sizes few =
       few = omega (arith, length-packets_from 0 row.units choice sizes);
     }
 
--- the packets of audio streams, end to end
-abbrev pub all_packets : List (List AudioPacket) → List AudioPacket
-all_packets audios = flat_map (λ packets. packets) audios
-
 abbrev pub audio_packet : ℕ × AudioPacket → QueuedPacket
 audio_packet numbered = record { item = numbered.0; piece = 0; payload = numbered.1.bytes; due = numbered.1.due; gone = numbered.1.gone }
 
@@ -174,26 +165,26 @@ IsValidStream-audio slot packets valid few = record {
   few = omega (arith, length-audio_of packets);
 }
 
-audios_valid : (slot : ℕ) (audios : List (List AudioPacket)) → All (IsValidAudio slot) audios → length (all_packets audios) < AUDIO_PACKETS_LIMIT → All (IsValidStream slot) (map audio_of audios)
+audios_valid : (slot : ℕ) (audios : List (List AudioPacket)) → All (IsValidAudio slot) audios → length (packets_of audios) < AUDIO_PACKETS_LIMIT → All (IsValidStream slot) (map audio_of audios)
 audios_valid slot [] valid few = All-nil (IsValidStream slot)
 audios_valid slot (packets ∷ audios) valid few =
-    let size : length (all_packets (packets ∷ audios)) ≡ length packets + length (all_packets audios) = length-append packets (all_packets audios) in
+    let size : length (packets_of (packets ∷ audios)) ≡ length packets + length (packets_of audios) = length-append packets (packets_of audios) in
     All-cons (IsValidStream slot) (audio_of packets) (map audio_of audios)
     (IsValidStream-audio slot packets (All-head (IsValidAudio slot) packets audios valid) (omega arith)) (audios_valid slot audios (All-tail (IsValidAudio slot) packets audios valid) (omega arith))
 
-queues_from-valid : (slot program : ℕ) (rows : List ProgramRow) (choice : List ℕ) → All (IsValidProgram slot) rows → AllZip HasVersion (all_units rows) choice
-    → length (all_units rows) ≤ UNITS_MOST → length (flat_map (λ row. all_packets row.audios) rows) < AUDIO_PACKETS_LIMIT → All (IsValidStream slot) (queues_from program rows choice)
+queues_from-valid : (slot program : ℕ) (rows : List ProgramRow) (choice : List ℕ) → All (IsValidProgram slot) rows → AllZip HasVersion (units_in rows) choice
+    → length (units_in rows) ≤ UNITS_MOST → length (flat_map (λ row. packets_of row.audios) rows) < AUDIO_PACKETS_LIMIT → All (IsValidStream slot) (queues_from program rows choice)
 queues_from-valid slot program [] choice valid fits few few_packets = All-nil (IsValidStream slot)
 queues_from-valid slot program (row ∷ rows) choice valid fits few few_packets =
     let here : IsValidProgram slot row = All-head (IsValidProgram slot) row rows valid in
-    let units : length (all_units (row ∷ rows)) ≡ length row.units + length (all_units rows) = length-append row.units (all_units rows) in
-    let packets : length (flat_map (λ (r : ProgramRow). all_packets r.audios) (row ∷ rows)) ≡ length (all_packets row.audios) + length (flat_map (λ (r : ProgramRow). all_packets r.audios) rows) =
-    length-append (all_packets row.audios) (flat_map (λ (r : ProgramRow). all_packets r.audios) rows) in
+    let units : length (units_in (row ∷ rows)) ≡ length row.units + length (units_in rows) = length-append row.units (units_in rows) in
+    let packets : length (flat_map (λ (r : ProgramRow). packets_of r.audios) (row ∷ rows)) ≡ length (packets_of row.audios) + length (flat_map (λ (r : ProgramRow). packets_of r.audios) rows) =
+    length-append (packets_of row.audios) (flat_map (λ (r : ProgramRow). packets_of r.audios) rows) in
     All-append (IsValidStream slot) (queues_in program row choice) (queues_from (program + 1) rows (drop (length row.units) choice))
     (All-cons (IsValidStream slot) (video_of program row choice) (map audio_of row.audios)
-    (IsValidStream-video slot program row choice here (HasSizes-from_fits slot row.units (all_units rows) choice here.units fits) (omega arith))
+    (IsValidStream-video slot program row choice here (HasSizes-from_fits slot row.units (units_in rows) choice here.units fits) (omega arith))
     (audios_valid slot row.audios here.audios (omega arith)))
-    (queues_from-valid slot (program + 1) rows (drop (length row.units) choice) (All-tail (IsValidProgram slot) row rows valid) (fits_rest row.units (all_units rows) choice fits) (omega arith) (omega arith))
+    (queues_from-valid slot (program + 1) rows (drop (length row.units) choice) (All-tail (IsValidProgram slot) row rows valid) (fits_rest row.units (units_in rows) choice fits) (omega arith) (omega arith))
 
 -- the streams of a valid table under a choice that fits are valid
 pub queues_of-valid : (table : Table) (choice : List ℕ) → IsValidTable table → Fits table choice → All (IsValidStream table.slot) (queues_of table choice)
@@ -210,10 +201,10 @@ pub HasSizes-at_program : (table : Table) (choice : List ℕ) (p : ℕ) (d : Pro
 HasSizes-at_program table choice p d valid fits within =
     let row = get_or table.programs p d in
     let rest = drop (p + 1) table.programs in
-    let split : units_of table ≡ all_units (take p table.programs) ++ (row.units ++ all_units rest) =
-    ap all_units (sym (take-append-drop p table.programs) ∙ ap (λ more. take p table.programs ++ more) (drop_more table.programs p d within)) ∙ flat_map-append (λ (r : ProgramRow). r.units) (take p table.programs) (row ∷ rest) in
-    HasSizes-from_fits table.slot row.units (all_units rest) (choice_from table.programs p choice) (valid.programs p d within).units
-    (fits_rest (all_units (take p table.programs)) (row.units ++ all_units rest) choice (subst (λ (units : List CodedUnit). AllZip HasVersion units choice) split fits))
+    let split : units_of table ≡ units_in (take p table.programs) ++ (row.units ++ units_in rest) =
+    ap units_in (sym (take-append-drop p table.programs) ∙ ap (λ more. take p table.programs ++ more) (drop_more table.programs p d within)) ∙ flat_map-append (λ (r : ProgramRow). r.units) (take p table.programs) (row ∷ rest) in
+    HasSizes-from_fits table.slot row.units (units_in rest) (choice_from table.programs p choice) (valid.programs p d within).units
+    (fits_rest (units_in (take p table.programs)) (row.units ++ units_in rest) choice (subst (λ (units : List CodedUnit). AllZip HasVersion units choice) split fits))
 
 -- ---- the packets that rows carry
 pub IsHead-limited : (table : Table) (choice : List ℕ) (rows : List Row) (stream : ℕ) (kind : QueueKind) (packet : QueuedPacket) → IsValidTable table → Fits table choice

@@ -23,8 +23,8 @@ packet_of stream (Reserved sent) = []
 packet_of stream Empty = []
 
 -- the packets of the stream in the rows, in order
-abbrev pub sent_of : ℕ → List Row → List QueuedPacket
-sent_of stream rows = flat_map (packet_of stream) rows
+abbrev pub packets_sent : ℕ → List Row → List QueuedPacket
+packets_sent stream rows = flat_map (packet_of stream) rows
 
 pub packet_of-carried : (stream s : ℕ) (packet : QueuedPacket) → s ≡ stream → packet_of stream (Carries s packet) ≡ packet ∷ []
 packet_of-carried stream s packet e = cond-true (eqb s stream) (packet ∷ []) [] (eq-eqb s stream e)
@@ -32,8 +32,8 @@ packet_of-carried stream s packet e = cond-true (eqb s stream) (packet ∷ []) [
 pub packet_of-other : (stream s : ℕ) (packet : QueuedPacket) → (s ≡ stream → ⊥) → packet_of stream (Carries s packet) ≡ []
 packet_of-other stream s packet apart = cond-false (eqb s stream) (packet ∷ []) [] (ne_eqb s stream apart)
 
-pub sent_of-push : (stream : ℕ) (rows : List Row) (row : Row) → sent_of stream (rows ++ row ∷ []) ≡ sent_of stream rows ++ packet_of stream row
-sent_of-push stream rows row = flat_map-append (packet_of stream) rows (row ∷ []) ∙ ap (λ more. sent_of stream rows ++ more) (append-nil (packet_of stream row))
+pub packets_sent-push : (stream : ℕ) (rows : List Row) (row : Row) → packets_sent stream (rows ++ row ∷ []) ≡ packets_sent stream rows ++ packet_of stream row
+packets_sent-push stream rows row = flat_map-append (packet_of stream) rows (row ∷ []) ∙ ap (λ more. packets_sent stream rows ++ more) (append-nil (packet_of stream row))
 
 -- ---- how many packets of the stream were sent
 pub count-push : (stream : ℕ) (rows : List Row) (row : Row) → count_by (is_of stream) (rows ++ row ∷ []) ≡ count_by (is_of stream) rows + cond (is_of stream row) 1 0
@@ -52,21 +52,21 @@ count-empty stream rows = count-push stream rows Empty ∙ add-zero _
 -- what the rows tell of a stream with these packets
 abbrev pub SentFirst : ℕ → List QueuedPacket → List Row → Type 0
 SentFirst stream packets rows =
-    (count_by (is_of stream) rows ≤ length packets) × (sent_of stream rows ≡ take (count_by (is_of stream) rows) packets)
+    (count_by (is_of stream) rows ≤ length packets) × (packets_sent stream rows ≡ take (count_by (is_of stream) rows) packets)
 
 SentFirst-carried : (stream : ℕ) (packets : List QueuedPacket) (rows : List Row) (packet : QueuedPacket)
     → SentFirst stream packets rows → slice_get packets (count_by (is_of stream) rows) ≡ Some packet → SentFirst stream packets (rows ++ Carries stream packet ∷ [])
 SentFirst-carried stream packets rows packet (fits, same) got =
     let within : count_by (is_of stream) rows < length packets = slice_get_within packets (count_by (is_of stream) rows) packet got in (
       rw (count-carried stream stream packet rows refl) (omega arith),
-      rw (sent_of-push stream rows (Carries stream packet), packet_of-carried stream stream packet refl, count-carried stream stream packet rows refl, same) (sym (take_more packets (count_by (is_of stream) rows) packet within ∙ ap (λ p. take (count_by (is_of stream) rows) packets ++ p ∷ []) (get_or_from_slice_get packets (count_by (is_of stream) rows) packet packet got))),
+      rw (packets_sent-push stream rows (Carries stream packet), packet_of-carried stream stream packet refl, count-carried stream stream packet rows refl, same) (sym (take_more packets (count_by (is_of stream) rows) packet within ∙ ap (λ p. take (count_by (is_of stream) rows) packets ++ p ∷ []) (get_or_from_slice_get packets (count_by (is_of stream) rows) packet packet got))),
     )
 
 SentFirst-same : (stream : ℕ) (packets : List QueuedPacket) (rows : List Row) (row : Row)
     → is_of stream row ≡ false → packet_of stream row ≡ [] → SentFirst stream packets rows → SentFirst stream packets (rows ++ row ∷ [])
 SentFirst-same stream packets rows row other none (fits, same) =
     let count : count_by (is_of stream) (rows ++ row ∷ []) ≡ count_by (is_of stream) rows = count-push stream rows row ∙ ap (λ b. count_by (is_of stream) rows + cond b 1 0) other ∙ add-zero _ in
-    (rw count fits, rw (sent_of-push stream rows row, none, count, same) (append-nil _))
+    (rw count fits, rw (packets_sent-push stream rows row, none, count, same) (append-nil _))
 
 SentFirst-row : (table : Table) (choice : List ℕ) (stream : ℕ) (kind : QueueKind) (packets : List QueuedPacket) (rows : List Row) (row : Row)
     → slice_get (queues_of table choice) stream ≡ Some (record { kind = kind; packets = packets })
@@ -109,11 +109,11 @@ outstanding_in-is stream time (Carries s packet) =
       | inr e ↦ rw e refl
     ]
 
-outstanding-sent : (stream time : ℕ) (rows : List Row) → outstanding stream time rows ≡ sum_by (payload_after time) (sent_of stream rows)
+outstanding-sent : (stream time : ℕ) (rows : List Row) → outstanding stream time rows ≡ sum_by (payload_after time) (packets_sent stream rows)
 outstanding-sent stream time [] = refl
 outstanding-sent stream time (row ∷ rows) =
     sum_by-cons (outstanding_in stream time) row rows ∙ ap₂ ◌+◌ (outstanding_in-is stream time row) (outstanding-sent stream time rows)
-    ∙ sym (sum_by-append (payload_after time) (packet_of stream row) (sent_of stream rows))
+    ∙ sym (sum_by-append (payload_after time) (packet_of stream row) (packets_sent stream rows))
 
 -- the packets before place j are gone at the time, and the others are not
 abbrev pub GoneBefore : (time j : ℕ) → List QueuedPacket → Type 0
@@ -181,7 +181,7 @@ pub outstanding-is : (table : Table) (choice : List ℕ) (stream : ℕ) (kind : 
     → outstanding stream time rows ≡ held j k packets
 outstanding-is table choice stream kind packets got rises rows follows time j k d count below gone late =
     let first : SentFirst stream packets rows = FollowRule-sent table choice stream kind packets got rows follows in
-    let same : sent_of stream rows ≡ take k packets = first.1 ∙ ap (λ n. take n packets) (sym count) in
+    let same : packets_sent stream rows ≡ take k packets = first.1 ∙ ap (λ n. take n packets) (sym count) in
     outstanding-sent stream time rows ∙ ap (λ list. sum_by (payload_after time) list) same
     ∙ sum_by-payload_after time j (take k packets) (GoneBefore-from_ends time j k packets d rises below (omega arith) gone late)
 

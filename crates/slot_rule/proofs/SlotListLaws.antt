@@ -25,7 +25,7 @@ use Rattle.slot_rule.proofs.RuleUnique.{FollowRule-longer, FollowRule-unique}
 use Rattle.slot_rule.proofs.TrackLaws.{state_there}
 
 -- ---- what a row shows
-kind_at-head : (queues : List Queue) (rows : List Row) (stream : ℕ) (kind : QueueKind) (packet : QueuedPacket) → IsHead queues rows stream kind packet → kind_at queues stream ≡ kind
+pub kind_at-head : (queues : List Queue) (rows : List Row) (stream : ℕ) (kind : QueueKind) (packet : QueuedPacket) → IsHead queues rows stream kind packet → kind_at queues stream ≡ kind
 kind_at-head queues rows stream kind packet head =
     let none : Queue = record { kind = Audio; packets = [] } in
     let within : stream < length queues = slice_get_within queues stream _ head.1 in

@@ -2,5 +2,6 @@ pub mod Buffers
 pub mod Private
 pub mod Queues
 pub mod Schedule
+pub mod Sent
 pub mod SlotList
 pub mod Timetable

@@ -9,7 +9,7 @@ use Rattle.slot_rule.specs.Timetable.{reserved}
 use Rattle.slot_rule.specs.Queues.{QueueKind, Video, Audio, QueuedPacket, Queue, queues_of}
 use Rattle.slot_rule.specs.Buffers.{Row, Reserved, Carries, Empty, is_of, tb_work, mb_work, outstanding, eb_or_b_bytes, tb_gate, MbPermits}
 
--- the first packet of the stream of this number that stands in none of the rows
+-- the first packet of the queue of this number that stands in none of the rows
 abbrev pub IsHead : List Queue → List Row → (stream : ℕ) → QueueKind → QueuedPacket → Type 0
 IsHead queues rows stream kind packet =
     (packets : List QueuedPacket) × (slice_get queues stream ≡ Some (record { kind = kind; packets = packets }))
@@ -22,7 +22,7 @@ pub record IsPermitted (slot : ℕ) (rows : List Row) (stream : ℕ) (kind : Que
   pub eb_or_b : outstanding stream (length rows * slot) rows + packet.payload ≤ eb_or_b_bytes kind
   pub hold : packet.gone ≤ length rows * slot + HOLD_TICKS
 
--- a packet goes before another: it is due earlier, or at the same time in a lower stream
+-- a packet goes before another: it is due earlier, or at the same time in a queue of a lower number
 abbrev pub IsBefore : (stream : ℕ) → QueuedPacket → (other : ℕ) → QueuedPacket → Type 0
 IsBefore stream packet other packet' =
     (packet.due < packet'.due) ⊎ ((packet.due ≡ packet'.due) × (stream < other))
@@ -58,7 +58,7 @@ FollowRule table choice rows =
 abbrev pub end_with_margin : ℕ → List Row → ℕ
 end_with_margin slot rows = SUBTICKS_PER_TICK * (length rows * slot) + MARGIN_SUBTICKS
 
--- the work that waits for a packet of the stream which has come: in the multiplexing buffer, or in the transport buffer of audio
+-- the work that waits for a packet of the queue which has come: in MB, or in TB of audio
 abbrev pub mb_or_tb_work : (slot stream : ℕ) → QueueKind → List Row → ℕ
 mb_or_tb_work slot stream (Video program vbv) rows = mb_work slot stream rows
 mb_or_tb_work slot stream Audio rows = tb_work slot stream Audio rows
@@ -91,7 +91,7 @@ NoMiss slot queues rows =
     (before : List Row) (row : Row) (after : List Row) (stream : ℕ) (packet : QueuedPacket)
     → rows ≡ before ++ row ∷ after → Misses slot queues (before ++ row ∷ []) stream packet → ⊥
 
--- each packet of each stream stands in the rows
+-- each packet of each queue stands in the rows
 abbrev pub AllSent : List Queue → List Row → Type 0
 AllSent queues rows = (stream : ℕ) (kind : QueueKind) (packet : QueuedPacket) → IsHead queues rows stream kind packet → ⊥
 

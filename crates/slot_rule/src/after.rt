@@ -6,11 +6,11 @@ ghost use Rattle.slot_rule.specs.Private.Slots.{IsDueSoon, RowStands};
 
 use crate::constants::MARGIN_SUBTICKS;
 use crate::heads::due_head;
+use crate::queue_state::QueueState;
 use crate::queued_packet::QueuedPacket;
 use crate::row::Row;
 use crate::sent::Miss;
 use stream_constants::clock::SUBTICKS_PER_TICK;
-use crate::queue_state::QueueState;
 
 /// What is found after a slot.
 #[derive(Clone, Copy)]
@@ -35,7 +35,8 @@ impl After {
         requires slot { slot ≤ SLOT_MOST }
         ensures { TellsAfter states.now (SUBTICKS_PER_TICK * ((n + 1) * slot) + MARGIN_SUBTICKS) row n result }
     {
-        let end_with_margin = SUBTICKS_PER_TICK * (u64::from(n + 1) * u64::from(slot)) + MARGIN_SUBTICKS;
+        let end_with_margin = SUBTICKS_PER_TICK * (u64::from(n + 1) * u64::from(slot))
+            + MARGIN_SUBTICKS;
         if let Row::Carries { stream, packet } = row {
             if SUBTICKS_PER_TICK * packet.due < end_with_margin + states[stream].mb_or_tb_work() {
                 return After::Missed(miss_of(stream, packet, n));

@@ -2,8 +2,8 @@ ghost use Rattle.std.specs.Prelude.{◌≡◌, ◌^◌, ◌<◌, ◌≤◌, All}
 ghost use Rattle.slot_rule.specs.Private.Heads.{IsOffer, IsFirstHead, Passes, PassesAt, earlier_head};
 ghost use Rattle.slot_rule.specs.Private.QueueState.{IsReady};
 
-use crate::queued_packet::QueuedPacket;
 use crate::queue_state::QueueState;
+use crate::queued_packet::QueuedPacket;
 
 /// A stream's first packet that isn't sent.
 #[derive(Clone, Copy)]

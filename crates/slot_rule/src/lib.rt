@@ -25,7 +25,7 @@ mod timetable;
 
 pub use laws::{
     first_miss_is_one, no_miss_where_scheduled, packets_keep_slots, schedules_agree,
-    slot_list_is_one,
+    slot_list_is_one, slots_name_the_table,
 };
 pub use misses::first_miss;
 pub use schedules::{ScheduleFault, schedule};

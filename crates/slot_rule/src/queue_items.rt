@@ -33,12 +33,20 @@ impl QueueItems {
                     0,
                 )
             }
-            QueueItems::Packets { program, audio } => audio_packet(audio_at(table, program, audio), 0),
+            QueueItems::Packets { program, audio } => audio_packet(
+                audio_at(table, program, audio),
+                0,
+            ),
         }
     }
 
     /// The packet of the stream after this one; none where it is the last.
-    pub fn packet_after(self, table: &Table, choice: &Choice, packet: QueuedPacket) -> Option<QueuedPacket>
+    pub fn packet_after(
+        self,
+        table: &Table,
+        choice: &Choice,
+        packet: QueuedPacket,
+    ) -> Option<QueuedPacket>
         requires place { IsPlace table.now choice.now self }
         requires numbered { IsNumbered packet }
         ensures { (k : ℕ) → slice_get (packets_at table.now choice.now self) k ≡ Some packet

@@ -6,9 +6,9 @@ ghost use Rattle.slot_rule.specs.Private.QueueItems.{IsPlace};
 ghost use Rattle.slot_rule.specs.Private.States.{Drains, TakesPcr};
 ghost use Rattle.slot_rule.specs.Private.QueueState.{HoldsNoneGone, IsKind, IsNumbered, IsSmall, KeepsPlace, Permits, Releases, first_state, packets_at, mb_or_tb_of_state};
 
+use crate::queue_items::QueueItems;
 use crate::queue_kind::QueueKind;
 use crate::queued_packet::QueuedPacket;
-use crate::queue_items::QueueItems;
 use stream_constants::decoder::{HOLD_TICKS, MB_SUBTICKS};
 use stream_constants::packets::PACKET_BYTES;
 use version_table::{Choice, Table};

@@ -1,8 +1,8 @@
 ghost use Rattle.std.specs.Prelude.{◌≡◌, ◌^◌, ◌<◌, length};
 
+use crate::queue_state::QueueState;
 use crate::queued_packet::QueuedPacket;
 use crate::sent::Sent;
-use crate::queue_state::QueueState;
 
 /// What stands in a slot, with all that the rule asks of it.
 #[derive(Clone, Copy)]

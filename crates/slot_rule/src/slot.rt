@@ -11,10 +11,10 @@ ghost use Rattle.slot_rule.specs.Private.QueueState.{IsReady, IsSmall};
 ghost use Rattle.slot_rule.specs.Queues.{queues_of};
 
 use crate::heads::permitted_head;
+use crate::queue_state::QueueState;
 use crate::row::Row;
 use crate::sent::Sent;
 use crate::states::{drain_all, release_all, take_pcr};
-use crate::queue_state::QueueState;
 use crate::timetable::Timetable;
 use stream_constants::clock::SUBTICKS_PER_TICK;
 use version_table::{Choice, Table};

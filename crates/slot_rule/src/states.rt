@@ -9,8 +9,8 @@ ghost use Rattle.slot_rule.specs.Private.States.{ChangesEach, Drains, IsFirstSta
 ghost use Rattle.slot_rule.specs.Queues.{audio_of, queues_of, video_of};
 ghost use Rattle.slot_rule.specs.Private.QueueState.{IsKind, IsSmall};
 
-use crate::queue_kind::QueueKind;
 use crate::queue_items::{QueueItems, program_at};
+use crate::queue_kind::QueueKind;
 use crate::queue_state::QueueState;
 use arrayvec::ArrayVec;
 use version_table::limits::{AUDIOS_MOST, PROGRAMS_MOST};
@@ -74,7 +74,13 @@ fn add_program(table: &Table, choice: &Choice, states: &mut States, program: usi
     }
 }
 
-fn add_stream(table: &Table, choice: &Choice, states: &mut States, kind: QueueKind, items: QueueItems)
+fn add_stream(
+    table: &Table,
+    choice: &Choice,
+    states: &mut States,
+    kind: QueueKind,
+    items: QueueItems,
+)
     requires place { IsPlace table.now choice.now items }
     requires kind { kind ≡ (queue_at table.now choice.now items).kind }
     requires sized { IsKind kind }

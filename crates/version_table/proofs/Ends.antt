@@ -4,16 +4,15 @@ use Rattle.std.proofs.lemmas.Bool.{cases_lt}
 use Rattle.std.proofs.lemmas.List.{append-nil, length-append}
 use Rattle.std.proofs.lemmas.List.Concat.{flat_map-append}
 use Rattle.version_table.specs.declared.limits.TheConstants.{TABLE_TEXT_MOST}
-use Rattle.version_table.specs.declared.fault.Limit.{Limit}
 use Rattle.version_table.specs.declared.fault.Limit.TheVariants as limits
 use Rattle.version_table.specs.declared.line.Line.{Line}
 use Rattle.version_table.specs.declared.line.Line.TheVariants.{Title, Slot, Nodes, Evaluations, Program, Unit as UnitLine, Audio, Packet}
 use Rattle.version_table.specs.declared.line.Stage.{Stage}
 use Rattle.version_table.specs.declared.line.Stage.TheVariants as stages
-use Rattle.version_table.specs.Lines.{text_of_line, lines_of_table}
+use Rattle.version_table.specs.Lines.{text_of_line}
 use Rattle.version_table.specs.Order.{MayStand, IsOpening, IsForm}
-use Rattle.version_table.specs.Limits.{KeepLimits, BreakFirst}
-use Rattle.version_table.specs.Text.{text_of_lines, spelling, IsTextTable, IsSyntaxRefusal, IsLimitRefusal, TextReading, Holds, RefusedAt, RefusedFor, IsRead}
+use Rattle.version_table.specs.Limits.{KeepLimits}
+use Rattle.version_table.specs.Text.{text_of_lines, IsSyntaxRefusal, TextReading, Holds, RefusedAt, RefusedFor, IsRead}
 use Rattle.version_table.specs.Private.Reading.{line_at}
 use Rattle.version_table.specs.Private.Draft.{stage_after, Allows, is_whole}
 use Rattle.version_table.proofs.Openings.{stage_of, stage_of_push, opening_walk, opening_push, no_lines_open, no_lines_kept, Stuck}

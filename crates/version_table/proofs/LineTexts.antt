@@ -1,5 +1,5 @@
 -- Each line is read from its text where it may stand, and what is read is such a line.
-use Rattle.std.proofs.Common.{◌≡◌, ℕ, zero, suc, ◌<◌, ◌≤◌, ◌==◌, ◌⊎◌, true, false, cond, List, [], ◌∷◌, ◌++◌, length, codes, All, Option, Some, None, decimal, refl, sym, ap, subst, ◌∙◌, append_assoc, arith, inl, inr, lit≤, ne_eqb}
+use Rattle.std.proofs.Common.{◌≡◌, ℕ, ◌==◌, ◌⊎◌, false, List, ◌++◌, length, codes, Option, Some, None, decimal, refl, sym, ap, subst, ◌∙◌, append_assoc, arith, inl, inr, lit≤, ne_eqb}
 use Rattle.arrayvec.specs.ArrayVec.{ArrayVec}
 use Rattle.std.specs.List.{flat_map}
 use Rattle.std.specs.Option.{option_map, option_or, option_map_or}
@@ -13,8 +13,8 @@ use Rattle.version_table.specs.declared.line.Stage.{Stage}
 use Rattle.version_table.specs.declared.line.Stage.TheVariants as stages
 use Rattle.version_table.specs.declared.line.StatedVersion.{StatedVersion}
 use Rattle.version_table.specs.Lines.{line_end, text_of_version, text_of_line}
-use Rattle.version_table.specs.Order.{IsStated, IsStatedVersion, HasSyntax}
-use Rattle.version_table.specs.Private.Reading.{◌>>=◌, after, number_at, number_line, versions_at, unit_at, packet_at, program_at, stream_at, line_at}
+use Rattle.version_table.specs.Order.{IsStated, HasSyntax}
+use Rattle.version_table.specs.Private.Reading.{after, number_at, number_line, versions_at, unit_at, packet_at, program_at, stream_at, line_at}
 use Rattle.version_table.specs.Private.Draft.{Allows}
 use Rattle.version_table.proofs.Words.{after-append, after_sound}
 use Rattle.version_table.proofs.LineReading.{number_again, number_sound, number_line_again, number_line_sound, Ends, versions_again, versions_sound, versions_end, four_parts, map_or_cases}
@@ -27,6 +27,14 @@ pub record IsLineAt (stage : Stage) (text : List ℕ) (line : Line) (rest : List
 
 -- ---- programs
 
+-- where the line of one program may come, that of any may
+pub any_program : (stage : Stage) (vbv : ℕ) → Allows stage (Program 0) → Allows stage (Program vbv)
+any_program stages.Title vbv h = h
+any_program stages.Programs vbv h = h
+any_program stages.Units vbv h = h
+any_program stages.Packets vbv h = h
+any_program stage vbv h = absurd h
+
 program_again : (vbv : ℕ) (rest : List ℕ) → IsStated vbv → program_at (text_of_line (Program vbv) ++ rest) ≡ Some (Program vbv, rest)
 unfolding program_at text_of_line
 program_again vbv rest small = rw (number_line_again (codes "program ") vbv rest small) refl
@@ -37,17 +45,8 @@ program_sound stage text rest line allows e =
     and_then_some _ (number_line (codes "program ") text) _ e λ n read e1.
     let (line_is, rest_is) = same_parts (Program n.0) line n.1 rest e1 in
     let is = number_line_sound (codes "program ") text n.1 n.0 read in
-    let whole : IsLineAt stage text (Program n.0) n.1 = record { allows = any_vbv stage n.0 allows; syntax = is.stated; parts = is.parts } in
+    let whole : IsLineAt stage text (Program n.0) n.1 = record { allows = any_program stage n.0 allows; syntax = is.stated; parts = is.parts } in
     subst (λ (t : List ℕ). IsLineAt stage text line t) rest_is (subst (λ (l : Line). IsLineAt stage text l n.1) line_is whole)
-  where
-    any_vbv : (stage : Stage) (n : ℕ) → Allows stage (Program 0) → Allows stage (Program n)
-    any_vbv stages.Title n h = h
-    any_vbv stages.Slot n h = h
-    any_vbv stages.Nodes n h = h
-    any_vbv stages.Evaluations n h = h
-    any_vbv stages.Programs n h = h
-    any_vbv stages.Units n h = h
-    any_vbv stages.Packets n h = h
 
 -- ---- audio streams
 

@@ -1,23 +1,22 @@
 -- A table whose lines stand in order and keep all limits is one that a text may hold.
-use Rattle.std.proofs.Common.{◌≡◌, ℕ, zero, suc, ◌+◌, ◌*◌, ◌^◌, ◌<◌, ◌≤◌, true, nat_lt, List, [], ◌∷◌, ◌++◌, length, map, count_by, All, Option, Some, None, refl, sym, ap, subst, ◌∙◌, append_assoc, arith}
+use Rattle.std.proofs.Common.{◌≡◌, ℕ, ◌+◌, ◌<◌, ◌≤◌, true, List, [], ◌∷◌, ◌++◌, length, map, count_by, All, Option, Some, refl, sym, ap, ◌∙◌, arith}
 use Rattle.std.specs.List.{flat_map}
 use Rattle.std.proofs.lemmas.Bool.{ltb-true}
 use Rattle.std.proofs.lemmas.List.{length-append, length-map}
 use Rattle.std.proofs.lemmas.List.Elements.{All-nil, All-cons, All-head, All-tail, All-weaker}
 use Rattle.version_table.specs.declared.limits.TheConstants.{PROGRAMS_MOST, AUDIOS_MOST, UNITS_MOST, TEXT_AUDIO_PACKETS_MOST}
 use Rattle.version_table.specs.declared.line.Line.{Line}
-use Rattle.version_table.specs.declared.line.Line.TheVariants.{Title, Slot, Nodes, Evaluations, Program, Unit as UnitLine, Audio, Packet}
-use Rattle.version_table.specs.declared.table.Version.{Version}
+use Rattle.version_table.specs.declared.line.Line.TheVariants.{Nodes, Evaluations, Program, Audio}
 use Rattle.version_table.specs.declared.table.Unit.{Unit as CodedUnit}
 use Rattle.version_table.specs.declared.table.AudioPacket.{AudioPacket}
 use Rattle.version_table.specs.declared.table.ProgramRow.{ProgramRow}
 use Rattle.version_table.specs.declared.table.Table.{Table}
-use Rattle.version_table.specs.Table.{IsValidVersion, IsValidUnit, IsValidPacket, IsValidAudio, IsValidProgram, IsValidTable, units_of, audio_packets_of}
+use Rattle.version_table.specs.Table.{IsValidVersion, IsValidUnit, IsValidPacket, IsValidAudio, IsValidProgram}
 use Rattle.version_table.specs.Lines.{stated, line_of_unit, line_of_packet, lines_of_audio, lines_of_program, lines_of_table}
-use Rattle.version_table.specs.Order.{last_line, HasSyntax, MayStand, IsForm}
-use Rattle.version_table.specs.Limits.{is_program, is_unit, is_audio, is_packet, audios_here, rises, packet_due, packet_gone, first_limit, KeepLimits}
+use Rattle.version_table.specs.Order.{last_line, HasSyntax, IsForm}
+use Rattle.version_table.specs.Limits.{is_program, is_unit, is_audio, is_packet, audios_here, rises, packet_due, packet_gone, KeepLimits}
 use Rattle.version_table.specs.Text.{IsTextTable}
-use Rattle.version_table.proofs.Kept.{KeepsVersion, Keeps, keeps_from}
+use Rattle.version_table.proofs.Kept.{KeepsVersion, keeps_from}
 use Rattle.version_table.proofs.Counts.{last_line_push, count-append, count_push, count_none, audios_here-append, audios_here_push}
 use Rattle.version_table.proofs.Openings.{Walk, walk_from, walk_parts}
 use Rattle.version_table.proofs.Rising.{Adjacent, adjacent_rising, adjacent_steady}

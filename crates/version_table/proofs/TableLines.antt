@@ -1,28 +1,26 @@
 -- The lines of a table that a text may hold stand in order and keep all limits.
-use Rattle.std.proofs.Common.{◌≡◌, ℕ, zero, suc, ◌+◌, ◌*◌, ◌^◌, ◌<◌, ◌≤◌, true, nat_lt, List, [], ◌∷◌, ◌++◌, length, map, count_by, All, Option, Some, None, refl, sym, ap, subst, ◌∙◌, append_assoc, arith, inl, inr, lt-ltb}
+use Rattle.std.proofs.Common.{◌≡◌, ℕ, ◌+◌, ◌<◌, ◌≤◌, true, List, [], ◌∷◌, ◌++◌, length, map, count_by, All, Option, refl, sym, ap, subst, ◌∙◌, append_assoc, arith, lt-ltb}
 use Rattle.std.specs.List.{flat_map}
 use Rattle.std.proofs.lemmas.List.{append-nil, length-append, length-map}
 use Rattle.std.proofs.lemmas.List.Elements.{All-head, All-tail, All-map, All-weaker}
-use Rattle.std.proofs.lemmas.List.Concat.{flat_map-append}
-use Rattle.version_table.specs.declared.limits.TheConstants.{SLOT_MOST, PROGRAMS_MOST, AUDIOS_MOST, UNITS_MOST, VERSIONS_MOST, TIME_SLOTS_MOST, TEXT_AUDIO_PACKETS_MOST}
+use Rattle.version_table.specs.declared.limits.TheConstants.{SLOT_MOST, PROGRAMS_MOST, AUDIOS_MOST, UNITS_MOST, TEXT_AUDIO_PACKETS_MOST}
 use Rattle.version_table.specs.declared.line.Line.{Line}
-use Rattle.version_table.specs.declared.line.Line.TheVariants.{Title, Slot, Nodes, Evaluations, Program, Unit as UnitLine, Audio, Packet}
+use Rattle.version_table.specs.declared.line.Line.TheVariants.{Title, Slot, Nodes, Evaluations, Program, Audio}
 use Rattle.version_table.specs.declared.line.Stage.{Stage}
 use Rattle.version_table.specs.declared.line.Stage.TheVariants as stages
-use Rattle.version_table.specs.declared.line.StatedVersion.{StatedVersion}
-use Rattle.version_table.specs.declared.table.Version.{Version}
 use Rattle.version_table.specs.declared.table.Unit.{Unit as CodedUnit}
 use Rattle.version_table.specs.declared.table.AudioPacket.{AudioPacket}
 use Rattle.version_table.specs.declared.table.ProgramRow.{ProgramRow}
 use Rattle.version_table.specs.declared.table.Table.{Table}
-use Rattle.version_table.specs.Table.{IsValidVersion, IsValidUnit, IsValidPacket, IsValidAudio, IsValidProgram, IsValidTable, units_of, audio_packets_of}
+use Rattle.version_table.specs.Table.{IsValidVersion, IsValidUnit, IsValidPacket, IsValidAudio, IsValidProgram}
 use Rattle.version_table.specs.Lines.{stated, line_of_unit, line_of_packet, lines_of_audio, lines_of_program, lines_of_table}
 use Rattle.version_table.specs.Order.{last_line, IsStatedVersion, HasSyntax, MayFollow, MayStand, IsForm}
 use Rattle.version_table.specs.Limits.{is_program, is_unit, is_audio, is_packet, audios_here, rises, packet_due, packet_gone, KeepLimits}
 use Rattle.version_table.specs.Text.{IsTextTable}
 use Rattle.version_table.specs.Private.Draft.{stage_after, Allows}
 use Rattle.version_table.proofs.Kept.{KeepsVersion, Keeps, keeps_to}
-use Rattle.version_table.proofs.Counts.{last_line_push, count-append, count-cons, count_push, count_none, count_each, programs_in_audios, audios_in_audios, audios_here-append, audios_here_push}
+use Rattle.version_table.proofs.Counts.{last_line_push, count-append, count-cons, count_push, count_none, count_each, programs_in_audios, audios_here-append, audios_here_push}
+use Rattle.version_table.proofs.LineTexts.{any_program}
 use Rattle.version_table.proofs.Openings.{stage_of, stage_of_push, allows_follows, Walk, walk_to, walk_append, walk_opening, Kept}
 use Rattle.version_table.proofs.Rising.{Adjacent, rising_adjacent, steady_adjacent}
 
@@ -203,13 +201,6 @@ audio_program stages.Title h = h
 audio_program stages.Units h = h
 audio_program stages.Packets h = h
 audio_program stage h = absurd h
-
-pub any_program : (stage : Stage) (vbv : ℕ) → Allows stage (Program 0) → Allows stage (Program vbv)
-any_program stages.Title vbv h = h
-any_program stages.Programs vbv h = h
-any_program stages.Units vbv h = h
-any_program stages.Packets vbv h = h
-any_program stage vbv h = absurd h
 
 -- what one program adds to the counts
 pub record ProgramAdds (before : List Line) (program : ProgramRow) : Type 0 where

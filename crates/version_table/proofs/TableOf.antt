@@ -1,5 +1,5 @@
 -- The table of some lines: each table is that of its lines, and lines of the right form are those of a table.
-use Rattle.std.proofs.Common.{◌≡◌, ℕ, suc, ◌+◌, ◌<◌, ◌≤◌, List, [], ◌∷◌, ◌++◌, length, map, Option, Some, None, refl, sym, ap, subst, ◌∙◌, append_assoc, arith}
+use Rattle.std.proofs.Common.{◌≡◌, ℕ, ◌≤◌, List, [], ◌∷◌, ◌++◌, length, map, refl, sym, ap, subst, ◌∙◌, append_assoc, arith}
 use Rattle.std.specs.List.{flat_map}
 use Rattle.arrayvec.specs.ArrayVec.{ArrayVec}
 use Rattle.std.proofs.lemmas.List.{append-nil}
@@ -14,7 +14,7 @@ use Rattle.version_table.specs.declared.table.AudioPacket.{AudioPacket}
 use Rattle.version_table.specs.declared.table.ProgramRow.{ProgramRow}
 use Rattle.version_table.specs.declared.table.Table.{Table}
 use Rattle.version_table.specs.Lines.{stated, line_of_unit, line_of_packet, lines_of_audio, lines_of_program, lines_of_table}
-use Rattle.version_table.specs.Order.{last_line, MayStand, IsOpening, IsForm}
+use Rattle.version_table.specs.Order.{last_line, MayStand, IsForm}
 use Rattle.version_table.specs.Private.Draft.{stage_after, Allows, kept}
 use Rattle.version_table.proofs.Openings.{stage_of, stage_of_push, follows_allows, Walk, opening_walk}
 use Rattle.version_table.proofs.Drafts.{stated_kept}

@@ -1,8 +1,6 @@
 -- A table while its lines are read: what the private reader keeps.
-use Rattle.std.specs.Prelude.{◌≡◌, ℕ, ◌+◌, Bool, true, false, ◌<◌, ◌≤◌, List, [], ◌∷◌, ◌++◌, length, map, count_by, All, Option, Some, None, IfNone}
+use Rattle.std.specs.Prelude.{◌≡◌, ℕ, ◌+◌, Bool, true, false, List, [], ◌∷◌, ◌++◌, map, count_by}
 use Rattle.std.specs.List.{flat_map}
-use Rattle.std.specs.Option.{option_or}
-use Rattle.version_table.specs.declared.fault.Limit.{Limit}
 use Rattle.version_table.specs.declared.draft.Draft.{Draft}
 use Rattle.version_table.specs.declared.line.Line.{Line}
 use Rattle.version_table.specs.declared.line.Line.TheVariants.{Title, Slot, Nodes, Evaluations, Program, Unit as UnitLine, Audio, Packet}
@@ -10,8 +8,8 @@ use Rattle.version_table.specs.declared.line.Stage.{Stage}
 use Rattle.version_table.specs.declared.line.StatedVersion.{StatedVersion}
 use Rattle.version_table.specs.declared.table.Version.{Version}
 use Rattle.version_table.specs.declared.line.Stage.TheVariants as stages
-use Rattle.version_table.specs.Lines.{line_of_unit, line_of_packet, lines_of_audio, lines_of_program}
-use Rattle.version_table.specs.Limits.{first_limit, is_unit, is_packet}
+use Rattle.version_table.specs.Lines.{line_of_unit, lines_of_audio, lines_of_program}
+use Rattle.version_table.specs.Limits.{is_unit, is_packet}
 
 -- which lines may come behind a line
 abbrev pub stage_after : Line → Stage

@@ -1,5 +1,5 @@
 -- What the private reader of a table text knows of the lines that it read.
-use Rattle.std.specs.Prelude.{◌≡◌, ℕ, ◌+◌, true, false, List, Option, Some, None, MatchOption, MatchBool, Result, Ok, Err}
+use Rattle.std.specs.Prelude.{◌≡◌, ◌+◌, List, Option, Some, None, MatchOption, MatchBool, Result, Ok, Err}
 use Rattle.version_table.specs.declared.fault.Limit.{Limit}
 use Rattle.version_table.specs.declared.fault.TableFault.{TableFault}
 use Rattle.version_table.specs.declared.fault.TableFault.TheVariants.{TableSyntax, TableLimit, OutOfMemory}

@@ -1,9 +1,7 @@
-use Rattle.std.proofs.Common.{◌^◌, ◌<◌, sym, subst, arith}
+use Rattle.std.proofs.Common.{◌^◌, ◌<◌, arith}
 use Rattle.std.proofs.lemmas.List.Elements.{All-weaker}
-use Rattle.version_table.specs.declared.line.Line.{Line}
-use Rattle.version_table.specs.declared.line.Line.TheVariants.{Title, Slot, Nodes, Evaluations, Program, Unit as UnitLine, Audio, Packet}
-use Rattle.version_table.specs.Private.Draft.{AddsLine, Allows, lines_of_draft}
-use Rattle.version_table.proofs.Kept.{Keeps, KeepsVersion, keeps_from}
+use Rattle.version_table.specs.Private.Draft.{lines_of_draft}
+use Rattle.version_table.proofs.Kept.{KeepsVersion, keeps_from}
 use Rattle.version_table.proofs.Drafts.{adds_title, adds_slot, adds_nodes, adds_evaluations, adds_program, adds_unit, adds_audio, adds_packet}
 use Rattle.version_table.proofs.draft.Draft.add.Goals as goal
 
