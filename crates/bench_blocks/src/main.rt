@@ -9,8 +9,7 @@ ghost use Rattle.std.specs.Prelude.{◌≤◌, ◌^◌, length};
 use bit_cursor::BitReader;
 use block_coeffs::read_block;
 use shelf_io::{FileShelf, SliceSource, read_file};
-use std::env;
-use std::io;
+use std::{env, io};
 use syntax_types::BlockWay;
 
 /// The most bytes that are read of a file.
@@ -36,7 +35,10 @@ fn main(rt: HostRuntime) -> io::Result<()> {
         return println!(rt; "no such file");
     };
     let counts = count(bytes.as_slice(), way_of(way.as_str()));
-    println!(rt; "{} blocks, {} coefficients", counts.blocks, counts.coefficients)
+    println!(rt;
+        "{} blocks, {} coefficients",
+        counts.blocks, counts.coefficients
+    )
 }
 
 /// How blocks are coded, by the word for it.

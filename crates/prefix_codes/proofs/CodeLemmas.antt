@@ -1,11 +1,11 @@
 -- The words of a table's codes are its codes: a test of each entry and of each word, computed for each table, and what it
 -- says of symbols.
-use Rattle.std.proofs.Common.{◌≡◌, ◌≢◌, ℕ, zero, suc, ◌+◌, ◌-◌, ◌*◌, ◌/◌, ◌%◌, ◌^◌, ◌<◌, ◌≤◌, Bool, true, false, not, ◌&&◌, ◌||◌, nat_eq, nat_lt, nat_le, List, [], ◌∷◌, length, get_or, Option, Some, None, refl, sym, ap, ap₂, subst, ◌∙◌, inl, inr, arith, eq-eqb}
+use Rattle.std.proofs.Common.{◌≡◌, ◌≢◌, ℕ, zero, suc, ◌+◌, ◌-◌, ◌*◌, ◌/◌, ◌%◌, ◌^◌, ◌<◌, ◌≤◌, Bool, true, false, ◌&&◌, ◌||◌, nat_eq, nat_lt, nat_le, List, length, Option, Some, None, refl, sym, ap, ap₂, subst, ◌∙◌, inl, inr, arith}
 use Rattle.std.specs.List.{list_all}
 use Rattle.std.specs.Prelude.{is_some, IfSome, IfNone}
-use Rattle.std.proofs.lemmas.Bool.{and_parts, and_from, or_cases, eqb-true, ltb-true, leb-true, cond-true, cond-false, cases_Bool, cases_lt, cases_eq, not-true, both_ways, lt-ltb, le-ltb}
+use Rattle.std.proofs.lemmas.Bool.{and_parts, and_from, or_cases, eqb-true, ltb-true, leb-true, cond-true, cond-false, cases_Bool, cases_lt, cases_eq, lt-ltb}
 use Rattle.std.proofs.lemmas.List.{get_or_past}
-use Rattle.bit_lists.specs.Bits.{bits_of, IsPrefix}
+use Rattle.bit_lists.specs.Bits.{bits_of}
 use Rattle.bit_lists.proofs.BitLemmas.{length-bits_of}
 use Rattle.bit_lists.proofs.PrefixLemmas.{IsPrefix-whole}
 use Rattle.prefix_codes.specs.declared.code.Code.{Code}
@@ -13,13 +13,12 @@ use Rattle.prefix_codes.specs.declared.lookup.TheConstants.{WINDOW_BITS, NO_PLAC
 use Rattle.prefix_codes.specs.declared.symbol.TheConstants.{END_OF_BLOCK, ESCAPE, LEVELS_PER_RUN, RUNS}
 use Rattle.prefix_codes.specs.declared.table_name.TableName.{TableName}
 use Rattle.prefix_codes.specs.declared.table_name.TableName.TheVariants.{Address, TypeI, TypeP, TypeB, Pattern, Motion, DcLuma, DcChroma, CoeffZero, CoeffFirst, CoeffOne}
-use Rattle.prefix_codes.specs.Entry.{Entry, coefficient_symbol}
 use Rattle.prefix_codes.specs.TableName.{entries, code_in, coefficient_code, is_coefficients}
 use Rattle.prefix_codes.specs.Private.Words.{number_in, length_in}
 use Rattle.prefix_codes.specs.Private.Codes.{codes_of, code_word, run_place, coefficient_place, place_of_coefficient, place_of}
 use Rattle.prefix_codes.proofs.Computing.{tables}
 use Rattle.prefix_codes.proofs.TableLemmas.{begins, code_in-passes}
-use Rattle.prefix_codes.proofs.LevelLemmas.{IsPrefix_from_begins, not_zero}
+use Rattle.prefix_codes.proofs.LevelLemmas.{IsPrefix_from_begins}
 
 -- ---- the tests
 

@@ -1,6 +1,6 @@
 -- The words of a table's levels answer which code begins a window: a test of each word, computed for each table, and what
 -- it says of windows.
-use Rattle.std.proofs.Common.{◌≡◌, ℕ, zero, suc, ◌+◌, ◌-◌, ◌*◌, ◌/◌, ◌%◌, ◌^◌, ◌<◌, ◌≤◌, ◌↔◌, Bool, true, false, not, cond, ◌&&◌, ◌||◌, nat_eq, nat_lt, nat_le, List, [], ◌∷◌, length, take, drop, get_or, Option, Some, None, slice_get, refl, sym, ap, ap₂, subst, eq-eqb, ◌∙◌, inl, inr, arith, add-zero, zero-add}
+use Rattle.std.proofs.Common.{◌≡◌, ℕ, zero, suc, ◌+◌, ◌-◌, ◌*◌, ◌/◌, ◌%◌, ◌^◌, ◌<◌, ◌≤◌, ◌↔◌, Bool, true, false, not, ◌&&◌, ◌||◌, nat_eq, nat_lt, nat_le, List, [], ◌∷◌, length, take, drop, get_or, Option, Some, None, slice_get, refl, sym, ap, ap₂, subst, eq-eqb, ◌∙◌, inl, inr, arith, add-zero, zero-add}
 use Rattle.std.specs.List.{list_all}
 use Rattle.std.proofs.lemmas.Bool.{and_parts, and_from, or_cases, eqb-true, ltb-true, leb-true, cond-true, cond-false, cases_Bool, not-true, both_ways, lt-ltb, le-ltb}
 use Rattle.std.proofs.Math.Nat.{div-div-eq-div-mul, mod-lt}

@@ -1,4 +1,4 @@
-use Rattle.std.proofs.Common.{◌≡◌, ◌/◌, ◌%◌, ◌^◌, ◌<◌, get_or, sym, ap, subst, ◌∙◌, arith}
+use Rattle.std.proofs.Common.{◌≡◌, ◌/◌, ◌%◌, ◌^◌, ◌<◌, get_or, sym, ap, subst}
 use Rattle.prefix_codes.specs.declared.tables.TheConstants.{LINK}
 use Rattle.bit_lists.specs.Bits.{bits_of}
 use Rattle.prefix_codes.specs.Private.Levels.{first_of, Answers}
