@@ -1,30 +1,21 @@
 -- What a sink got in several calls: what each function that puts bits by other ones needs. They speak of `Gets` and
 -- `GetsFront`, so of `Puts` and `PutsFront` between states of a writer.
-use Rattle.std.proofs.Common.{◌≡◌, ℕ, ◌+◌, ◌-◌, ◌*◌, ◌%◌, ◌^◌, ◌<◌, List, [], ◌∷◌, ◌++◌, Option, None, Some, false, Result, Ok, Err, OnOk, IsErrAnd, ◌≤◌, length, drop, refl, sym, ap, subst, inl, inr, ◌∙◌, arith, append_assoc, append-nil, length-append}
+use Rattle.std.proofs.Common.{◌≡◌, ℕ, ◌+◌, ◌-◌, ◌*◌, ◌%◌, ◌^◌, ◌<◌, List, [], ◌++◌, Option, None, Some, false, Result, Ok, Err, OnOk, IsErrAnd, ◌≤◌, length, refl, sym, ap, subst, inl, inr, ◌∙◌, arith, append_assoc, append-nil, length-append}
 use Rattle.std.proofs.lemmas.Bool.{cases_lt}
 use Rattle.std.proofs.lemmas.Result.{on_ok_weaker, on_err_weaker}
 use Rattle.shelf_io.specs.declared.fault.Fault.{Fault}
 use Rattle.shelf_io.specs.Counts.{Rose}
 use Rattle.shelf_io.specs.Sink.{with_bytes}
-use Rattle.bit_lists.specs.Bits.{IsPrefix}
-use Rattle.bit_lists.specs.Fields.{AreBytes, bit_list}
-use Rattle.bit_lists.proofs.PrefixLemmas.{IsPrefix-append, IsPrefix-split, IsPrefix-through}
+use Rattle.bit_lists.specs.Fields.{bit_list}
+use Rattle.bit_lists.proofs.ByteLemmas.{bit_list-append, length-bit_list, AreBytes-append}
+use Rattle.bit_lists.proofs.PrefixLemmas.{IsPrefix-append, IsPrefix-behind, IsPrefix-through}
 use Rattle.bit_cursor.specs.declared.bit_writer.BitWriter.{BitWriter}
 use Rattle.bit_cursor.specs.BitWriter.{Gets, GetsFront, AddsBits, Writes, told_by, waiting_in, is_stopped, sink_of}
-use Rattle.bit_cursor.proofs.Gets.{bit_list-append, length-bit_list, gets_none}
-
-AreBytes-append : (xs ys : List ℕ) → AreBytes xs → AreBytes ys → AreBytes (xs ++ ys)
-AreBytes-append [] ys are are' = are'
-AreBytes-append (x ∷ xs) ys are are' = (are.0, AreBytes-append xs ys are.1 are')
+use Rattle.bit_cursor.proofs.Gets.{gets_none}
 
 with_bytes-twice : (told : Option (List ℕ)) (xs ys : List ℕ) → with_bytes (with_bytes told xs) ys ≡ with_bytes told (xs ++ ys)
 with_bytes-twice None xs ys = refl
 with_bytes-twice (Some bytes) xs ys = ap Some (append_assoc bytes xs ys)
-
-IsPrefix-behind : (front c d : List ℕ) → IsPrefix c d → IsPrefix (front ++ c) (front ++ d)
-IsPrefix-behind front c d begins =
-    let split : front ++ d ≡ (front ++ c) ++ drop (length c) d = ap (λ rest. front ++ rest) (IsPrefix-split c d begins) ∙ sym (append_assoc front c (drop (length c) d)) in
-    rw split (IsPrefix-append (front ++ c) (drop (length c) d))
 
 -- what was put in two calls, one after the other
 pub gets_twice : {told mid after : Option (List ℕ)} {waited first waits then still : List ℕ} → Gets told mid waited first waits → Gets mid after waits then still → Gets told after waited (first ++ then) still

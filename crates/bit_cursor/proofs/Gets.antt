@@ -1,32 +1,16 @@
 -- What a sink got in one call.
-use Rattle.std.proofs.Common.{◌≡◌, ℕ, zero, suc, ◌*◌, ◌≤◌, List, [], ◌∷◌, ◌++◌, Option, None, Some, Result, Ok, Err, OnOk, OnErr, length, take, drop, refl, sym, ap, subst, ◌∙◌, arith, append_assoc, append-nil}
-use Rattle.std.proofs.lemmas.Grind.{flat_map-append}
-use Rattle.std.proofs.lemmas.List.{take-append-drop, take_at, length-take-le}
+use Rattle.std.proofs.Common.{◌≡◌, ℕ, ◌*◌, ◌≤◌, List, [], ◌++◌, Option, None, Some, Result, Ok, Err, OnOk, OnErr, length, take, drop, refl, sym, ap, subst, ◌∙◌, append_assoc, append-nil}
+use Rattle.std.proofs.lemmas.List.{take_at, length-take-le}
 use Rattle.shelf_io.specs.Sink.{with_bytes, AddsPrefix}
 use Rattle.bit_lists.specs.Bits.{IsPrefix}
-use Rattle.bit_lists.specs.Fields.{AreBytes, bit_list, bits_of_byte}
+use Rattle.bit_lists.specs.Fields.{AreBytes, bit_list}
 use Rattle.bit_lists.proofs.PrefixLemmas.{IsPrefix-append}
+use Rattle.bit_lists.proofs.ByteLemmas.{length-bit_list, bit_list-take, AreBytes-take}
 use Rattle.bit_cursor.specs.BitWriter.{Gets, GetsFront}
-
-pub bit_list-append : (xs ys : List ℕ) → bit_list (xs ++ ys) ≡ bit_list xs ++ bit_list ys
-bit_list-append xs ys = flat_map-append bits_of_byte xs ys
-
-pub length-bit_list : (bytes : List ℕ) → length (bit_list bytes) ≡ 8 * length bytes
-length-bit_list [] = refl
-length-bit_list (x ∷ xs) = ap (λ n. suc (suc (suc (suc (suc (suc (suc (suc n)))))))) (length-bit_list xs) ∙ omega arith
-
-pub AreBytes-take : (k : ℕ) (xs : List ℕ) → AreBytes xs → AreBytes (take k xs)
-AreBytes-take zero xs are = tt
-AreBytes-take (suc k) [] are = tt
-AreBytes-take (suc k) (x ∷ xs) are = (are.0, AreBytes-take k xs are.1)
 
 with_bytes-none : (told : Option (List ℕ)) → told ≡ with_bytes told []
 with_bytes-none None = refl
 with_bytes-none (Some bytes) = ap Some (sym (append-nil bytes))
-
--- the bits of the first bytes begin those of all
-bit_list-take : (k : ℕ) (bytes : List ℕ) → bit_list bytes ≡ bit_list (take k bytes) ++ bit_list (drop k bytes)
-bit_list-take k bytes = ap bit_list (sym (take-append-drop k bytes)) ∙ bit_list-append (take k bytes) (drop k bytes)
 
 -- nothing went out
 pub gets_none : (told : Option (List ℕ)) (waited put waits : List ℕ) → waits ≡ waited ++ put → Gets told told waited put waits

@@ -45,10 +45,6 @@ pub as_flag : (is_set : Bool) → bool_byte is_set ≡ flag is_set
 as_flag true = refl
 as_flag false = refl
 
-pub flag_below : (negative : Bool) → flag negative < 2 ^ 1
-flag_below true = omega arith
-flag_below false = omega arith
-
 -- the same bits in another form
 pub writes_as : {K T : Type 0} {written : K → Option (List ℕ)} {faults : K → ℕ} {keeps : K → K → Type 0} {a b : BitWriter K} {r : Result T Fault} {xs ys : List ℕ}
     → Writes written faults keeps a b r xs → xs ≡ ys → Writes written faults keeps a b r ys
