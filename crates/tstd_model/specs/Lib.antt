@@ -1,0 +1,4 @@
+pub mod Instants
+pub mod PacketBytes
+pub mod Decoder
+pub mod Faults
