@@ -1,0 +1,7 @@
+pub mod Counts
+pub mod LateLaws
+pub mod OldLaws
+pub mod OverLaws
+pub mod RisingLaws
+pub mod Server
+pub mod Examples

@@ -1,3 +1,4 @@
+pub mod Private
 pub mod Instants
 pub mod PacketBytes
 pub mod Decoder
