@@ -1,4 +1,5 @@
 pub mod Counts
+pub mod FaultLaws
 pub mod LateLaws
 pub mod OldLaws
 pub mod OverLaws
