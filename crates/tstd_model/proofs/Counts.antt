@@ -1,7 +1,7 @@
 -- How many instants have come: one instant after another.
-use Rattle.std.proofs.Common.{◌≡◌, ℕ, zero, suc, ◌+◌, ◌*◌, ◌<◌, ◌≤◌, ltb, leb, cond, List, [], ◌∷◌, ◌++◌, length, get_or, refl, ◌∙◌, ap, arith, inl, inr, true, false}
+use Rattle.std.proofs.Common.{◌≡◌, ℕ, zero, suc, ◌+◌, ◌<◌, ◌≤◌, ltb, leb, cond, List, [], ◌∷◌, length, get_or, refl, ◌∙◌, arith, inl, inr}
 use Rattle.std.proofs.lemmas.Bool.{cases_lt, le-leb, lt-leb, lt-ltb, le-ltb, cond-true, cond-false}
-use Rattle.std.proofs.lemmas.List.Sums.{sum_by-cons, sum_by-append}
+use Rattle.std.proofs.lemmas.List.Sums.{sum_by-cons}
 use Rattle.tstd_model.specs.Instants.{came, came_before}
 use Rattle.tstd_model.specs.Private.Server.{Spaced, EachWithin}
 
@@ -87,10 +87,10 @@ came-from x before zero (instant ∷ later) rise within has = omega (arith, came
 came-from x before (suc c) (instant ∷ later) rise within has =
     omega (arith, came-from x instant c later rise.1 (omega arith) has, came-yes x instant later (came-first x instant c later rise.1 has (omega arith)))
   where
-  came-first : (x instant c : ℕ) (later : List ℕ) → Spaced 0 instant later → get_or later c 0 ≤ x → c < length later → instant ≤ x
-  came-first x instant c [] rise has within = absurd (omega arith)
-  came-first x instant zero (y ∷ later) rise has within = omega (arith, rise.0)
-  came-first x instant (suc c) (y ∷ later) rise has within = omega (arith, rise.0, came-first x y c later rise.1 has (omega arith))
+    came-first : (x instant c : ℕ) (later : List ℕ) → Spaced 0 instant later → get_or later c 0 ≤ x → c < length later → instant ≤ x
+    came-first x instant c [] rise has within = absurd (omega arith)
+    came-first x instant zero (y ∷ later) rise has within = omega (arith, rise.0)
+    came-first x instant (suc c) (y ∷ later) rise has within = omega (arith, rise.0, came-first x y c later rise.1 has (omega arith))
 
 pub came-length : (x : ℕ) (instants : List ℕ) → came x instants ≤ length instants
 came-length x [] = omega arith

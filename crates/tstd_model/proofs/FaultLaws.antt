@@ -1,21 +1,21 @@
 -- The earliest of what the walks find is the decoder's first fault.
-use Rattle.std.proofs.Common.{◌≡◌, ℕ, zero, suc, ◌+◌, ◌-◌, ◌*◌, ◌<◌, ◌≤◌, ◌⊎◌, List, [], ◌∷◌, length, map, drop, filter, get_or, min, refl, sym, ◌∙◌, ap, subst, arith, inl, inr, Option, Some, None, slice_get}
+use Rattle.std.proofs.Common.{◌≡◌, ℕ, zero, suc, ◌-◌, ◌*◌, ◌<◌, ◌≤◌, ◌⊎◌, List, [], ◌∷◌, length, map, filter, get_or, min, refl, sym, ◌∙◌, ap, subst, arith, inl, inr, Option, Some, None, slice_get}
 use Rattle.std.proofs.lemmas.Bool.{cases_lt}
 use Rattle.std.proofs.lemmas.Option.{same_Some, slice_get_within, slice_get-get_or}
 use Rattle.std.specs.List.Sorted.{IsStrictlyIncreasing, IsNonDecreasing}
-use Rattle.decoder_constants.specs.declared.TheConstants.{SUBTICKS_PER_TICK, PACKET_BYTES, MB_SUBTICKS, SYSTEM_SUBTICKS, TB_BYTES}
+use Rattle.decoder_constants.specs.declared.TheConstants.{SUBTICKS_PER_TICK, MB_SUBTICKS, SYSTEM_SUBTICKS, TB_BYTES}
 use Rattle.tstd_model.specs.Instants.{came, departures, departures_into}
-use Rattle.tstd_model.specs.PacketBytes.{Arrival, is_payload, is_data, byte_subticks, parts, arrives, kept, with_headers}
-use Rattle.tstd_model.specs.Decoder.{BufferKind, Video, Audio, System, Removal, DecoderBuffer, IsOverfull, tb_subticks, leave_tb, payload_passes, data_passes, removed, eb_bytes, eb_rooms, moves, buffers, transport_buffer, is_removed, completes}
+use Rattle.tstd_model.specs.PacketBytes.{Arrival, is_payload, parts, arrives, kept}
+use Rattle.tstd_model.specs.Decoder.{BufferKind, Video, Audio, System, Removal, DecoderBuffer, IsOverfull, tb_subticks, leave_tb, payload_passes, data_passes, removed, eb_bytes, eb_rooms, moves, transport_buffer, is_removed, completes}
 use Rattle.tstd_model.specs.Faults.{TstdFault, Overflow, Late, Old, Overflows, FindsLess, HeldPastLimit, hold_subticks, IsFault, instant_of, GoesBefore, IsFirstFault, IsFirstOrNone}
-use Rattle.tstd_model.specs.Private.Scans.{RemovedByte, first_over, taken_from}
+use Rattle.tstd_model.specs.Private.Scans.{RemovedByte}
 use Rattle.tstd_model.specs.Private.Server.{Spaced}
 use Rattle.tstd_model.specs.Private.Walks.{main_buffer, first_excess, earlier, excess_found, late_found, old_found, NotAfter, Before, BeforeByte, IsEarliest}
 use Rattle.tstd_model.proofs.Counts.{Spaced-rises}
 use Rattle.tstd_model.proofs.Server.{departures-spaced}
 use Rattle.tstd_model.proofs.OverLaws.{IsFirstExcess, first_over-is}
 use Rattle.tstd_model.proofs.LateLaws.{IsShort, IsFirstLate, first_late-is}
-use Rattle.tstd_model.proofs.OldLaws.{IsHeld, IsFirstHeld, first_old-is}
+use Rattle.tstd_model.proofs.OldLaws.{IsFirstHeld, first_old-is}
 use Rattle.tstd_model.proofs.RisingLaws.{Rising, Rising-from, Spaced-from_order, arrives-rise, kept-rises, departures_into-rises, with_headers-rises, removed-rises, came-moves}
 
 -- ---- the instants of a decoder's buffers don't fall
@@ -82,26 +82,27 @@ least-there P found at least is = subst (IsLeast P) is least
 -- the least of two
 least-earlier : (P Q R : ℕ → Type 0) (found other : Option ℕ) → IsLeast P found → IsLeast Q other → ((x : ℕ) → P x → R x) → ((x : ℕ) → Q x → R x) → ((x : ℕ) → R x → P x ⊎ Q x)
     → IsLeast R (earlier found other)
-least-earlier P Q R None None least least' one two both = λ x here. elim (both x here) as (λ _. ⊥) [ | inl p ↦ least x p | inr q ↦ least' x q ]
+least-earlier P Q R None None least least' one two both = λ x here. elim (both x here) as (λ _. ⊥) [ inl p ↦ least x p | inr q ↦ least' x q ]
 least-earlier P Q R None (Some at) least least' one two both =
-    (two at least'.0, λ x here. elim (both x here) as (λ _. at ≤ x) [ | inl p ↦ absurd (least x p) | inr q ↦ least'.1 x q ])
+    (two at least'.0, λ x here. elim (both x here) as (λ _. at ≤ x) [ inl p ↦ absurd (least x p) | inr q ↦ least'.1 x q ])
 least-earlier P Q R (Some at) None least least' one two both =
-    (one at least.0, λ x here. elim (both x here) as (λ _. at ≤ x) [ | inl p ↦ least.1 x p | inr q ↦ absurd (least' x q) ])
-least-earlier P Q R (Some at) (Some at') least least' one two both =
-    (elim (cases_lt at at') as (λ _. R (min at at')) [
-      | inl lt ↦ subst R (omega arith) (one at least.0)
-      | inr ge ↦ subst R (omega arith) (two at' least'.0)
-    ],
-    λ x here. elim (both x here) as (λ _. min at at' ≤ x) [ | inl p ↦ omega (arith, least.1 x p) | inr q ↦ omega (arith, least'.1 x q) ])
+    (one at least.0, λ x here. elim (both x here) as (λ _. at ≤ x) [ inl p ↦ least.1 x p | inr q ↦ absurd (least' x q) ])
+least-earlier P Q R (Some at) (Some at') least least' one two both = (
+  elim (cases_lt at at') as (λ _. R (min at at')) [
+    | inl lt ↦ subst R (omega arith) (one at least.0)
+    | inr ge ↦ subst R (omega arith) (two at' least'.0)
+  ],
+  λ x here. elim (both x here) as (λ _. min at at' ≤ x) [ inl p ↦ omega (arith, least.1 x p) | inr q ↦ omega (arith, least'.1 x q) ],
+)
 
 -- ---- a buffer over its size
 excess_least : (buffer : DecoderBuffer) → IsFirstExcess buffer.size buffer.ins buffer.outs (first_excess buffer) → IsLeast (IsOverfull buffer) (first_excess buffer)
 excess_least buffer is = excess_least_of buffer.size buffer.ins buffer.outs (first_excess buffer) is
   where
-  excess_least_of : (size : ℕ) (ins outs : List ℕ) (found : Option ℕ) → IsFirstExcess size ins outs found → IsLeast (λ x. size < came x ins - came x outs) found
-  excess_least_of size ins outs None is = λ x over. omega (arith, is x)
-  excess_least_of size ins outs (Some at) is =
-      (omega (arith, is.0), λ x over. elim (cases_lt x at) as (λ _. at ≤ x) [ | inl before ↦ absurd (omega (arith, is.1 x before)) | inr from ↦ from ])
+    excess_least_of : (size : ℕ) (ins outs : List ℕ) (found : Option ℕ) → IsFirstExcess size ins outs found → IsLeast (λ x. size < came x ins - came x outs) found
+    excess_least_of size ins outs None is = λ x over. omega (arith, is x)
+    excess_least_of size ins outs (Some at) is =
+        (omega (arith, is.0), λ x over. elim (cases_lt x at) as (λ _. at ≤ x) [ inl before ↦ absurd (omega (arith, is.1 x before)) | inr from ↦ from ])
 
 one_of_two : (first second buffer : DecoderBuffer) (place x : ℕ) → slice_get (first ∷ second ∷ []) place ≡ Some buffer → IsOverfull buffer x → IsOverfull first x ⊎ IsOverfull second x
 one_of_two first second buffer zero x there over = inl (subst (λ b. IsOverfull b x) (sym (same_Some first buffer there)) over)
@@ -142,9 +143,10 @@ old_least : (slot : ℕ) (kind : BufferKind) (arrivals : List Arrival) (removals
     → IsLeast (HeldPastLimit slot kind arrivals removals) found
 old_least slot kind arrivals removals None is = λ x held.
     is held.byte held.arrival (record { is_data = held.is_data; arrives = held.arrives; stays = held.stays })
-old_least slot kind arrivals removals (Some at) is =
-    (record { byte = is.0.0; arrival = is.0.1; is_data = is.0.2.is_data; arrives = is.0.2.arrives; past = is.0.3; stays = is.0.2.stays },
-    λ x held. omega (arith, held.past, is.1 held.byte held.arrival (record { is_data = held.is_data; arrives = held.arrives; stays = held.stays })))
+old_least slot kind arrivals removals (Some at) is = (
+  record { byte = is.0.0; arrival = is.0.1; is_data = is.0.2.is_data; arrives = is.0.2.arrives; past = is.0.3; stays = is.0.2.stays },
+  λ x held. omega (arith, held.past, is.1 held.byte held.arrival (record { is_data = held.is_data; arrives = held.arrives; stays = held.stays })),
+)
 
 -- ---- a removal that finds less
 short_from_less : (slot : ℕ) (kind : BufferKind) (arrivals : List Arrival) (removals : List Removal) (number : ℕ) → FindsLess slot kind arrivals removals number
@@ -167,10 +169,10 @@ times_rise before [] number other rise le within = absurd (omega arith)
 times_rise before (head ∷ removals) zero zero rise le within = omega arith
 times_rise before (head ∷ removals) zero (suc other) rise le within = from_first head.due removals other rise.1 (omega arith)
   where
-  from_first : (low : ℕ) (removals : List Removal) (other : ℕ) → Spaced 0 low (map (λ r. r.due) removals) → other < length removals → SUBTICKS_PER_TICK * low ≤ instant_of removals (Late other)
-  from_first low [] other rise within = absurd (omega arith)
-  from_first low (head ∷ removals) zero rise within = omega (arith, rise.0)
-  from_first low (head ∷ removals) (suc other) rise within = omega (arith, rise.0, from_first head.due removals other rise.1 (omega arith))
+    from_first : (low : ℕ) (removals : List Removal) (other : ℕ) → Spaced 0 low (map (λ r. r.due) removals) → other < length removals → SUBTICKS_PER_TICK * low ≤ instant_of removals (Late other)
+    from_first low [] other rise within = absurd (omega arith)
+    from_first low (head ∷ removals) zero rise within = omega (arith, rise.0)
+    from_first low (head ∷ removals) (suc other) rise within = omega (arith, rise.0, from_first head.due removals other rise.1 (omega arith))
 times_rise before (head ∷ removals) (suc number) zero rise le within = absurd (omega arith)
 times_rise before (head ∷ removals) (suc number) (suc other) rise le within = times_rise head.due removals number other rise.1 (omega arith) (omega arith)
 
@@ -178,12 +180,16 @@ before_short : (removals : List Removal) (completes : List ℕ) (found : Option 
     → BeforeByte at found → IsShort completes removals number → at < instant_of removals (Late number)
 before_short removals completes None at number rise is before short = absurd (is number short)
 before_short removals completes (Some byte) at number rise is before short =
-    omega (arith, is.1.2, time_of removals byte.removal is.1.0 is.1.1,
-    times_rise 0 removals byte.removal number rise (is.2 number short) (slice_get_within removals number short.removal short.one_of))
+    omega (
+      arith,
+      is.1.2,
+      time_of removals byte.removal is.1.0 is.1.1,
+      times_rise 0 removals byte.removal number rise (is.2 number short) (slice_get_within removals number short.removal short.one_of),
+    )
 
 -- ---- the earliest of what is found
 in_order : (m n : ℕ) (P : Type 0) → m ≤ n → P → (m < n) ⊎ ((m ≡ n) × P)
-in_order m n P le holds = elim (cases_lt m n) as (λ _. (m < n) ⊎ ((m ≡ n) × P)) [ | inl lt ↦ inl lt | inr ge ↦ inr (omega arith, holds) ]
+in_order m n P le holds = elim (cases_lt m n) as (λ _. (m < n) ⊎ ((m ≡ n) × P)) [ inl lt ↦ inl lt | inr ge ↦ inr (omega arith, holds) ]
 
 module _ (slot : ℕ) (kind : BufferKind) (arrivals : List Arrival) (removals : List Removal) (dues_rise : Spaced 0 0 (map (λ r. r.due) removals))
     (late : Option RemovedByte) (over old : Option ℕ) (is_late : IsFirstLate (completes slot kind arrivals removals) removals late)
@@ -221,11 +227,11 @@ module _ (slot : ℕ) (kind : BufferKind) (arrivals : List Arrival) (removals : 
   earliest-is : (fault : Option TstdFault) → IsEarliest late over old fault → IsFirstOrNone slot kind arrivals removals fault
   earliest-is None none = none_at_all
     where
-    none_at_all : (fault : TstdFault) → IsFault slot kind arrivals removals fault → ⊥
-    none_at_all (Late number) less =
-        subst (IsFirstLate (completes slot kind arrivals removals) removals) none.0 is_late number (short_from_less slot kind arrivals removals number less)
-    none_at_all (Overflow x) excess = subst (IsLeast (Overflows slot kind arrivals removals)) none.1 is_over x excess
-    none_at_all (Old x) held = subst (IsLeast (HeldPastLimit slot kind arrivals removals)) none.2 is_old x held
+      none_at_all : (fault : TstdFault) → IsFault slot kind arrivals removals fault → ⊥
+      none_at_all (Late number) less =
+          subst (IsFirstLate (completes slot kind arrivals removals) removals) none.0 is_late number (short_from_less slot kind arrivals removals number less)
+      none_at_all (Overflow x) excess = subst (IsLeast (Overflows slot kind arrivals removals)) none.1 is_over x excess
+      none_at_all (Old x) held = subst (IsLeast (HeldPastLimit slot kind arrivals removals)) none.2 is_old x held
   earliest-is (Some (Late number)) first =
       let is = subst (IsFirstLate (completes slot kind arrivals removals) removals) first.1 is_late in
       subst (λ n. IsFirstFault slot kind arrivals removals (Late n)) first.2
@@ -238,13 +244,11 @@ module _ (slot : ℕ) (kind : BufferKind) (arrivals : List Arrival) (removals : 
       record { there = is.0; first = after_old at is.1 first.1 first.2 }
 
 -- the earliest of what the walks find is the first fault
-pub first_fault-is : (slot : ℕ) (kind : BufferKind) (arrivals : List Arrival) (removals : List Removal) (fault : Option TstdFault)
-    → IsStrictlyIncreasing (map (λ a. a.slot_no) arrivals) → IsNonDecreasing (map (λ r. r.due) removals)
+pub first_fault-rises : (slot : ℕ) (kind : BufferKind) (arrivals : List Arrival) (removals : List Removal) (fault : Option TstdFault)
+    → Rising 0 (map (λ a. a.slot_no) arrivals) → Spaced 0 0 (map (λ r. r.due) removals)
     → IsEarliest (late_found slot kind arrivals removals) (excess_found slot kind arrivals removals) (old_found slot kind arrivals removals) fault
     → IsFirstOrNone slot kind arrivals removals fault
-first_fault-is slot kind arrivals removals fault slots dues earliest =
-    let slots_rise = Rising-from (map (λ a. a.slot_no) arrivals) slots in
-    let dues_rise = Spaced-from_order (map (λ r. r.due) removals) dues in
+first_fault-rises slot kind arrivals removals fault slots_rise dues_rise earliest =
     let tb = transport_buffer slot kind arrivals in
     let main = main_buffer slot kind arrivals removals in
     earliest-is slot kind arrivals removals dues_rise (late_found slot kind arrivals removals) (excess_found slot kind arrivals removals) (old_found slot kind arrivals removals)
@@ -257,3 +261,10 @@ first_fault-is slot kind arrivals removals fault slots dues earliest =
     (first_old-is hold_subticks 0 (filter (is_removed kind) (parts arrivals)) (kept (is_removed kind) (parts arrivals) (arrives slot arrivals)) (removed removals)
     (kept-rises (is_removed kind) 0 (parts arrivals) (arrives slot arrivals) (all_arrive slot arrivals removals slots_rise dues_rise))))
     fault earliest
+
+pub first_fault-is : (slot : ℕ) (kind : BufferKind) (arrivals : List Arrival) (removals : List Removal) (fault : Option TstdFault)
+    → IsStrictlyIncreasing (map (λ a. a.slot_no) arrivals) → IsNonDecreasing (map (λ r. r.due) removals)
+    → IsEarliest (late_found slot kind arrivals removals) (excess_found slot kind arrivals removals) (old_found slot kind arrivals removals) fault
+    → IsFirstOrNone slot kind arrivals removals fault
+first_fault-is slot kind arrivals removals fault slots dues earliest =
+    first_fault-rises slot kind arrivals removals fault (Rising-from (map (λ a. a.slot_no) arrivals) slots) (Spaced-from_order (map (λ r. r.due) removals) dues) earliest

@@ -1,10 +1,10 @@
 -- Which removal finds less than it takes, found by walking over the instants at which bytes complete and are taken.
-use Rattle.std.proofs.Common.{◌≡◌, ℕ, zero, suc, ◌+◌, ◌-◌, ◌*◌, ◌<◌, ◌≤◌, ltb, leb, cond, List, [], ◌∷◌, ◌++◌, length, take, replicate, map, refl, sym, ◌∙◌, ap, arith, inl, inr, Option, Some, None, slice_get, sum_by, count_by, subst, add-one}
+use Rattle.std.proofs.Common.{◌≡◌, ℕ, zero, suc, ◌+◌, ◌*◌, ◌<◌, ◌≤◌, ltb, leb, cond, List, [], ◌∷◌, ◌++◌, take, replicate, map, refl, ◌∙◌, ap, arith, inl, inr, Option, Some, None, slice_get, sum_by, count_by, subst, add-one}
 use Rattle.std.proofs.lemmas.Bool.{cases_lt, le-leb, lt-leb, lt-ltb, le-ltb, cond-true, cond-false}
 use Rattle.std.proofs.lemmas.Option.{same_Some}
 use Rattle.std.proofs.lemmas.List.Sums.{sum_by-cons, sum_by-append}
 use Rattle.decoder_constants.specs.declared.TheConstants.{SUBTICKS_PER_TICK}
-use Rattle.tstd_model.specs.Instants.{came, came_before}
+use Rattle.tstd_model.specs.Instants.{came_before}
 use Rattle.tstd_model.specs.Decoder.{Removal}
 use Rattle.tstd_model.specs.Private.Scans.{RemovedByte, first_late, taken_from}
 use Rattle.tstd_model.specs.Private.Server.{Spaced}
@@ -73,15 +73,17 @@ short-step number at instant byte completes bytes lt until rest = elim (cases_lt
 short-passes : (instant : ℕ) (byte : RemovedByte) (completes : List ℕ) (bytes : List RemovedByte) (found : Option RemovedByte) → instant < byte.at
     → NotBefore byte.removal found → IsFirstShort completes bytes found → IsFirstShort (instant ∷ completes) (byte ∷ bytes) found
 short-passes instant byte completes bytes None lt order is = λ number at until. short-step number at instant byte completes bytes lt until.0 (is number at until.1)
-short-passes instant byte completes bytes (Some found) lt order is =
-    (omega (arith, is.0, taken_by-yes found.removal byte bytes order, came_before-one_more found.at instant completes),
-    λ number at before until. short-step number at instant byte completes bytes lt until.0 (is.1 number at before until.1))
+short-passes instant byte completes bytes (Some found) lt order is = (
+  omega (arith, is.0, taken_by-yes found.removal byte bytes order, came_before-one_more found.at instant completes),
+  λ number at before until. short-step number at instant byte completes bytes lt until.0 (is.1 number at before until.1),
+)
 
 short-stops : (byte : RemovedByte) (completes : List ℕ) (bytes : List RemovedByte) → InOrder byte.removal bytes → came_before byte.at completes ≡ 0
     → IsFirstShort completes (byte ∷ bytes) (Some byte)
-short-stops byte completes bytes order none =
-    (omega (arith, none, taken_by-yes byte.removal byte bytes (omega arith)),
-    λ number at before until. omega (arith, taken_by-no number byte bytes before, taken_by_none number byte.removal bytes before order))
+short-stops byte completes bytes order none = (
+  omega (arith, none, taken_by-yes byte.removal byte bytes (omega arith)),
+  λ number at before until. omega (arith, taken_by-no number byte bytes before, taken_by_none number byte.removal bytes before order),
+)
 
 NotBefore-less : (number number' : ℕ) (found : Option RemovedByte) → number ≤ number' → NotBefore number' found → NotBefore number found
 NotBefore-less number number' None le order = tt
@@ -131,17 +133,23 @@ unfolding taken_from
 taken_by-is first k [] = refl
 taken_by-is first zero (removal ∷ removals) =
     let byte : RemovedByte = record { at = SUBTICKS_PER_TICK * removal.due; removal = first } in
-    omega (arith, sum_by-append (λ b. cond (leb b.removal (first + zero)) 1 0) (replicate removal.bytes byte) (taken_from (first + 1) removals),
-    taken_by-copies (first + zero) byte removal.bytes (omega arith),
-    taken_by_none (first + zero) (first + 1) (taken_from (first + 1) removals) (omega arith) (taken_from-order (first + 1) removals))
+    omega (
+      arith,
+      sum_by-append (λ b. cond (leb b.removal (first + zero)) 1 0) (replicate removal.bytes byte) (taken_from (first + 1) removals),
+      taken_by-copies (first + zero) byte removal.bytes (omega arith),
+      taken_by_none (first + zero) (first + 1) (taken_from (first + 1) removals) (omega arith) (taken_from-order (first + 1) removals),
+    )
 taken_by-is first (suc k) (removal ∷ removals) =
     let byte : RemovedByte = record { at = SUBTICKS_PER_TICK * removal.due; removal = first } in
     let place : (first + 1) + k ≡ first + suc k = omega arith in
-    omega (arith, sum_by-append (λ b. cond (leb b.removal (first + suc k)) 1 0) (replicate removal.bytes byte) (taken_from (first + 1) removals),
-    taken_by-copies (first + suc k) byte removal.bytes (omega arith),
-    ap (λ n. taken_by n (taken_from (first + 1) removals)) place,
-    taken_by-is (first + 1) k removals,
-    sum_by-cons (λ r. r.bytes) removal (take (suc k) removals))
+    omega (
+      arith,
+      sum_by-append (λ b. cond (leb b.removal (first + suc k)) 1 0) (replicate removal.bytes byte) (taken_from (first + 1) removals),
+      taken_by-copies (first + suc k) byte removal.bytes (omega arith),
+      ap (λ n. taken_by n (taken_from (first + 1) removals)) place,
+      taken_by-is (first + 1) k removals,
+      sum_by-cons (λ r. r.bytes) removal (take (suc k) removals),
+    )
 
 -- the bytes of later removals don't count
 later-until : (number at first : ℕ) (bytes : List RemovedByte) → number < first → InOrder first bytes → TakenUntil number at bytes
@@ -169,10 +177,10 @@ taken_from-until before first (suc k) (head ∷ removals) removal rise there =
     (omega (arith, due-rises head.due removals k removal rise.1 there))
     (subst (λ n. TakenUntil n (SUBTICKS_PER_TICK * removal.due) (taken_from (first + 1) removals)) place (taken_from-until head.due (first + 1) k removals removal rise.1 there))
   where
-  due-rises : (low : ℕ) (removals : List Removal) (k : ℕ) (removal : Removal) → Spaced 0 low (map (λ r. r.due) removals) → slice_get removals k ≡ Some removal → low ≤ removal.due
-  due-rises low [] k removal rise there = absurd (let e : None ≡ Some removal = there in cc)
-  due-rises low (head ∷ removals) zero removal rise there = omega (arith, rise.0, ap (λ r. r.due) (same_Some head removal there))
-  due-rises low (head ∷ removals) (suc k) removal rise there = omega (arith, rise.0, due-rises head.due removals k removal rise.1 there)
+    due-rises : (low : ℕ) (removals : List Removal) (k : ℕ) (removal : Removal) → Spaced 0 low (map (λ r. r.due) removals) → slice_get removals k ≡ Some removal → low ≤ removal.due
+    due-rises low [] k removal rise there = absurd (let e : None ≡ Some removal = there in cc)
+    due-rises low (head ∷ removals) zero removal rise there = omega (arith, rise.0, ap (λ r. r.due) (same_Some head removal there))
+    due-rises low (head ∷ removals) (suc k) removal rise there = omega (arith, rise.0, due-rises head.due removals k removal rise.1 there)
 
 -- ---- each byte is one of a removal, taken at its time
 pub record IsOf (first : ℕ) (removals : List Removal) (byte : RemovedByte) : Type 0 where
@@ -188,9 +196,10 @@ EachByte P (byte ∷ bytes) = P byte × EachByte P bytes
 
 IsOf-later : (first : ℕ) (head : Removal) (removals : List Removal) (bytes : List RemovedByte) → EachByte (IsOf (first + 1) removals) bytes → EachByte (IsOf first (head ∷ removals)) bytes
 IsOf-later first head removals [] each = tt
-IsOf-later first head removals (byte ∷ bytes) each =
-    (record { place = suc each.0.place; removal = each.0.removal; number = omega (arith, each.0.number); there = each.0.there; time = each.0.time },
-    IsOf-later first head removals bytes each.1)
+IsOf-later first head removals (byte ∷ bytes) each = (
+  record { place = suc each.0.place; removal = each.0.removal; number = omega (arith, each.0.number); there = each.0.there; time = each.0.time },
+  IsOf-later first head removals bytes each.1,
+)
 
 copies-each : (P : RemovedByte → Type 0) (byte : RemovedByte) (count : ℕ) (bytes : List RemovedByte) → P byte → EachByte P bytes → EachByte P (replicate count byte ++ bytes)
 copies-each P byte zero bytes here each = each
@@ -240,29 +249,42 @@ not_short : (before : ℕ) (completes : List ℕ) (removals : List Removal) (num
 not_short before completes removals number rise short enough =
     let zero_first : 0 + number ≡ number = omega arith in
     let until = subst (λ n. TakenUntil n (SUBTICKS_PER_TICK * short.removal.due) (taken_from 0 removals)) zero_first (taken_from-until before 0 number removals short.removal rise short.one_of) in
-    omega (arith, enough until, short.fewer, ap (λ n. taken_by n (taken_from 0 removals)) zero_first, taken_by-is 0 number removals,
-    ap (λ n. sum_by (λ r. r.bytes) (take n removals)) (add-one number))
+    omega (
+      arith,
+      enough until,
+      short.fewer,
+      ap (λ n. taken_by n (taken_from 0 removals)) zero_first,
+      taken_by-is 0 number removals,
+      ap (λ n. sum_by (λ r. r.bytes) (take n removals)) (add-one number),
+    )
 
 late-found : (before : ℕ) (completes : List ℕ) (removals : List Removal) (found : Option RemovedByte) → Spaced 0 before (map (λ r. r.due) removals)
     → FoundOf (IsOf 0 removals) found → IsFirstShort completes (taken_from 0 removals) found → IsFirstLate completes removals found
 late-found before completes removals None rise of is = λ number short. not_short before completes removals number rise short (is number (SUBTICKS_PER_TICK * short.removal.due))
 late-found before completes removals (Some byte) rise of is =
     let place : byte.removal ≡ of.place = omega (arith, of.number) in
-    let there : slice_get removals byte.removal ≡ Some of.removal = ap (λ n. slice_get removals n) place ∙ of.there in
-    (record {
-      removal = of.removal;
-      one_of = there;
-      fewer = omega (arith, is.0, ap (λ at. came_before at completes) of.time, ap (λ n. taken_by n (taken_from 0 removals)) zero_first, taken_by-is 0 byte.removal removals,
-          ap (λ n. sum_by (λ r. r.bytes) (take n removals)) (add-one byte.removal));
-    },
-    (of.removal, there, of.time),
-    λ number short. elim (cases_lt number byte.removal) as (λ _. byte.removal ≤ number) [
-      | inl earlier ↦ absurd (not_short before completes removals number rise short (is.1 number (SUBTICKS_PER_TICK * short.removal.due) earlier))
-      | inr not_earlier ↦ not_earlier
-    ])
+    let there : slice_get removals byte.removal ≡ Some of.removal = ap (λ n. slice_get removals n) place ∙ of.there in (
+      record {
+        removal = of.removal;
+        one_of = there;
+        fewer = omega (
+          arith,
+          is.0,
+          ap (λ at. came_before at completes) of.time,
+          ap (λ n. taken_by n (taken_from 0 removals)) zero_first,
+          taken_by-is 0 byte.removal removals,
+          ap (λ n. sum_by (λ r. r.bytes) (take n removals)) (add-one byte.removal),
+        );
+      },
+      (of.removal, there, of.time),
+      λ number short. elim (cases_lt number byte.removal) as (λ _. byte.removal ≤ number) [
+        | inl earlier ↦ absurd (not_short before completes removals number rise short (is.1 number (SUBTICKS_PER_TICK * short.removal.due) earlier))
+        | inr not_earlier ↦ not_earlier
+      ],
+    )
   where
-  zero_first : 0 + byte.removal ≡ byte.removal
-  zero_first = omega arith
+    zero_first : 0 + byte.removal ≡ byte.removal
+    zero_first = omega arith
 
 -- the walk finds the first removal that finds less than it takes
 pub first_late-is : (before before' : ℕ) (completes : List ℕ) (removals : List Removal) → Spaced 0 before completes → Spaced 0 before' (map (λ r. r.due) removals)

@@ -1,6 +1,6 @@
 -- Which byte is held past the limit, found by walking over bytes and the instants at which they are taken.
-use Rattle.std.proofs.Common.{◌≡◌, ℕ, zero, suc, ◌+◌, ◌*◌, ◌<◌, ◌≤◌, ltb, cond, List, [], ◌∷◌, drop, refl, sym, ◌∙◌, ap, arith, inl, inr, Bool, true, false, Option, Some, None, slice_get}
-use Rattle.std.proofs.lemmas.Bool.{cases_lt, cases_Bool, ltb-true, ltb-false, cond-true, cond-false}
+use Rattle.std.proofs.Common.{◌≡◌, ℕ, zero, suc, ◌+◌, ◌<◌, ◌≤◌, List, [], ◌∷◌, drop, refl, sym, ◌∙◌, arith, inl, inr, true, false, Option, Some, None, slice_get}
+use Rattle.std.proofs.lemmas.Bool.{cases_Bool, ltb-true, ltb-false, cond-true, cond-false}
 use Rattle.std.proofs.lemmas.Option.{same_Some}
 use Rattle.tstd_model.specs.PacketBytes.{PacketPart, Overhead, PesHeader, Data}
 use Rattle.tstd_model.specs.Private.Scans.{is_held, first_old}
@@ -70,15 +70,15 @@ held-passes : (limit : ℕ) (part : PacketPart) (parts : List PacketPart) (come 
     → is_held limit part come removed ≡ false → IsFirstHeld limit parts comes (drop 1 removed) found → IsFirstHeld limit (part ∷ parts) (come ∷ comes) removed found
 held-passes limit part parts come comes removed None fails is = held_none
   where
-  held_none : (byte arrival : ℕ) → IsHeld limit (part ∷ parts) (come ∷ comes) removed byte arrival → ⊥
-  held_none zero arrival held = not_held-here limit part parts come comes removed arrival fails held
-  held_none (suc byte) arrival held = is byte arrival (held-rest limit part parts come comes removed byte arrival held)
+    held_none : (byte arrival : ℕ) → IsHeld limit (part ∷ parts) (come ∷ comes) removed byte arrival → ⊥
+    held_none zero arrival held = not_held-here limit part parts come comes removed arrival fails held
+    held_none (suc byte) arrival held = is byte arrival (held-rest limit part parts come comes removed byte arrival held)
 held-passes limit part parts come comes removed (Some at) fails is =
     ((suc is.0.0, is.0.1, held-later limit part parts come comes removed is.0.0 is.0.1 is.0.2, is.0.3), held_least)
   where
-  held_least : (byte arrival : ℕ) → IsHeld limit (part ∷ parts) (come ∷ comes) removed byte arrival → at ≤ arrival + limit + 1
-  held_least zero arrival held = absurd (not_held-here limit part parts come comes removed arrival fails held)
-  held_least (suc byte) arrival held = is.1 byte arrival (held-rest limit part parts come comes removed byte arrival held)
+    held_least : (byte arrival : ℕ) → IsHeld limit (part ∷ parts) (come ∷ comes) removed byte arrival → at ≤ arrival + limit + 1
+    held_least zero arrival held = absurd (not_held-here limit part parts come comes removed arrival fails held)
+    held_least (suc byte) arrival held = is.1 byte arrival (held-rest limit part parts come comes removed byte arrival held)
 
 -- the walk finds the first instant past the limit
 pub first_old-is : (limit before : ℕ) (parts : List PacketPart) (comes removed : List ℕ) → Spaced 0 before comes → IsFirstHeld limit parts comes removed (first_old limit parts comes removed)
@@ -87,9 +87,10 @@ first_old-is limit before [] comes removed rise = λ byte arrival held. let e = 
 first_old-is limit before (part ∷ parts) [] removed rise = λ byte arrival held. let e = held.arrives in cc
 first_old-is limit before (part ∷ parts) (come ∷ comes) removed rise = elim (cases_Bool (is_held limit part come removed)) [
   | inl holds ↦
-      rw (cond-true (is_held limit part come removed) (Some (come + limit + 1)) (first_old limit parts comes (drop 1 removed)) holds)
-      ((zero, come, held-here limit part parts come comes removed holds, refl),
-      λ byte arrival held. omega (arith, rises-get come (come ∷ comes) byte arrival (omega arith, rise.1) held.arrives))
+      rw (cond-true (is_held limit part come removed) (Some (come + limit + 1)) (first_old limit parts comes (drop 1 removed)) holds) (
+        (zero, come, held-here limit part parts come comes removed holds, refl),
+        λ byte arrival held. omega (arith, rises-get come (come ∷ comes) byte arrival (omega arith, rise.1) held.arrives),
+      )
   | inr fails ↦
       rw (cond-false (is_held limit part come removed) (Some (come + limit + 1)) (first_old limit parts comes (drop 1 removed)) fails)
       (held-passes limit part parts come comes removed (first_old limit parts comes (drop 1 removed)) fails (first_old-is limit come parts comes (drop 1 removed) rise.1))

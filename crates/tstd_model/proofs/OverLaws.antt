@@ -1,5 +1,5 @@
 -- Where a buffer is over its size, found by walking over the instants at which bytes come and leave.
-use Rattle.std.proofs.Common.{◌≡◌, ℕ, zero, suc, ◌+◌, ◌-◌, ◌*◌, ◌<◌, ◌≤◌, leb, cond, List, [], ◌∷◌, ◌++◌, length, drop, refl, sym, ◌∙◌, ap, arith, inl, inr, Option, Some, None}
+use Rattle.std.proofs.Common.{◌≡◌, ℕ, zero, suc, ◌+◌, ◌<◌, ◌≤◌, leb, List, [], ◌∷◌, drop, refl, ◌∙◌, arith, inl, inr, Option, Some, None}
 use Rattle.std.proofs.lemmas.Bool.{cases_lt, le-leb, lt-leb, cond-true, cond-false}
 use Rattle.tstd_model.specs.Instants.{came}
 use Rattle.tstd_model.specs.Private.Scans.{first_over}
@@ -37,14 +37,16 @@ AtLeast-less low low' (Some at) le above = omega arith
 excess-passes : (i o : ℕ) (ins outs : List ℕ) (found : Option ℕ) → o ≤ i → AtLeast i found
     → IsFirstExcess 0 ins outs found → IsFirstExcess 0 (i ∷ ins) (o ∷ outs) found
 excess-passes i o ins outs None le later is = λ x. omega (arith, one_step i o x ins outs le (omega (arith, is x)))
-excess-passes i o ins outs (Some at) le later is =
-    (omega (arith, came-yes at i ins later, came-yes at o outs (omega arith), is.0),
-    λ x before. omega (arith, one_step i o x ins outs le (omega (arith, is.1 x before))))
+excess-passes i o ins outs (Some at) le later is = (
+  omega (arith, came-yes at i ins later, came-yes at o outs (omega arith), is.0),
+  λ x before. omega (arith, one_step i o x ins outs le (omega (arith, is.1 x before))),
+)
 
 excess-stops : (i : ℕ) (ins outs : List ℕ) → Spaced 0 i ins → came i outs ≡ 0 → IsFirstExcess 0 (i ∷ ins) outs (Some i)
-excess-stops i ins outs rise none =
-    (omega (arith, came-yes i i ins (omega arith)),
-    λ x before. omega (arith, came-no x i ins before, came_none x i ins before rise))
+excess-stops i ins outs rise none = (
+  omega (arith, came-yes i i ins (omega arith)),
+  λ x before. omega (arith, came-no x i ins before, came_none x i ins before rise),
+)
 
 found_from : (before before' : ℕ) (ins outs : List ℕ) → Spaced 0 before ins → Spaced 0 before' outs
     → IsFirstExcess 0 ins outs (first_over ins outs) × AtLeast before (first_over ins outs)
@@ -72,9 +74,10 @@ unfolding first_over
 found_past zero before before' ins outs rise rise' = found_from before before' ins outs rise rise'
 found_past (suc size) before before' [] outs rise rise' = (λ x. omega arith, tt)
 found_past (suc size) before before' (i ∷ ins) outs rise rise' =
-    let later = found_past size i before' ins outs rise.1 rise' in
-    (excess-larger size i ins outs (first_over (drop size ins) outs) later.1 later.0,
-    AtLeast-less before i (first_over (drop size ins) outs) (omega (arith, rise.0)) later.1)
+    let later = found_past size i before' ins outs rise.1 rise' in (
+      excess-larger size i ins outs (first_over (drop size ins) outs) later.1 later.0,
+      AtLeast-less before i (first_over (drop size ins) outs) (omega (arith, rise.0)) later.1,
+    )
 
 -- the walk finds the first instant at which more bytes than the size have come and not left
 pub first_over-is : (size before before' : ℕ) (ins outs : List ℕ) → Spaced 0 before ins → Spaced 0 before' outs → IsFirstExcess size ins outs (first_over (drop size ins) outs)

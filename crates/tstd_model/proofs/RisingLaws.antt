@@ -1,15 +1,14 @@
 -- The instants of a decoder don't fall from byte to byte.
-use Rattle.std.proofs.Common.{◌≡◌, ℕ, zero, suc, ◌+◌, ◌*◌, ◌<◌, ◌≤◌, List, [], ◌∷◌, ◌++◌, length, map, replicate, get_or, refl, sym, ap, arith, inl, inr, Bool, true, false, cond, max, subst}
+use Rattle.std.proofs.Common.{◌≡◌, ℕ, zero, suc, ◌+◌, ◌*◌, ◌<◌, ◌≤◌, List, [], ◌∷◌, ◌++◌, length, map, replicate, get_or, refl, sym, ap, arith, inl, inr, Bool, max, subst}
 use Rattle.std.proofs.lemmas.Bool.{cases_Bool, cases_lt, cond-true, cond-false}
-use Rattle.std.specs.List.{flat_map}
 use Rattle.std.specs.List.Sorted.{IsStrictlyIncreasing, IsNonDecreasing}
 use Rattle.std.proofs.lemmas.Nat.{mul-le}
 use Rattle.decoder_constants.specs.declared.TheConstants.{SUBTICKS_PER_TICK, PACKET_BYTES}
-use Rattle.tstd_model.specs.Instants.{spaced, came, departures, departures_into}
+use Rattle.tstd_model.specs.Instants.{spaced, came, departures_into}
 use Rattle.tstd_model.specs.PacketBytes.{Arrival, PacketPart, Overhead, PesHeader, Data, byte_subticks, arrives_in, arrives, kept, with_headers}
 use Rattle.tstd_model.specs.Decoder.{Removal, removed}
 use Rattle.tstd_model.specs.Private.Server.{Spaced}
-use Rattle.tstd_model.proofs.Counts.{came-yes, came-no, came-more, Spaced-rises}
+use Rattle.tstd_model.proofs.Counts.{came-yes, came-no, came-more}
 
 -- ---- from the words of the contract
 -- each number is greater than the one before, and the first is at least this one
@@ -37,9 +36,10 @@ Rising-from (x ∷ xs) rise = (omega arith, Rising-rest x xs rise)
 
 Spaced-rest : (x : ℕ) (xs : List ℕ) → IsNonDecreasing (x ∷ xs) → Spaced 0 x xs
 Spaced-rest x [] rise = tt
-Spaced-rest x (y ∷ xs) rise =
-    (omega (arith, rise 0 1 0 (omega arith) (omega arith)),
-    Spaced-rest y xs (λ i j d le within. rise (suc i) (suc j) d (omega arith) (omega arith)))
+Spaced-rest x (y ∷ xs) rise = (
+  omega (arith, rise 0 1 0 (omega arith) (omega arith)),
+  Spaced-rest y xs (λ i j d le within. rise (suc i) (suc j) d (omega arith) (omega arith)),
+)
 
 pub Spaced-from_order : (xs : List ℕ) → IsNonDecreasing xs → Spaced 0 0 xs
 Spaced-from_order [] rise = tt
@@ -50,9 +50,9 @@ pub Spaced-append : (step before : ℕ) (xs ys : List ℕ) (last : ℕ) → Spac
     → Spaced step before (xs ++ ys)
 Spaced-append step before [] ys last rise le each rise' = Spaced-lower step before last ys le rise'
   where
-  Spaced-lower : (step low high : ℕ) (ys : List ℕ) → low ≤ high → Spaced step high ys → Spaced step low ys
-  Spaced-lower step low high [] le rise = tt
-  Spaced-lower step low high (y ∷ ys) le rise = (omega (arith, rise.0), rise.1)
+    Spaced-lower : (step low high : ℕ) (ys : List ℕ) → low ≤ high → Spaced step high ys → Spaced step low ys
+    Spaced-lower step low high [] le rise = tt
+    Spaced-lower step low high (y ∷ ys) le rise = (omega (arith, rise.0), rise.1)
 Spaced-append step before (x ∷ xs) ys last rise le each rise' =
     (rise.0, Spaced-append step x xs ys last rise.1 (each 0 0 (omega arith)) (λ k d within. each (suc k) d (omega arith)) rise')
 
@@ -100,9 +100,9 @@ kept-rises test before (part ∷ parts) (instant ∷ instants) rise = elim (case
       (kept-rises test before parts instants (lower before instant instants (omega (arith, rise.0)) rise.1))
 ]
   where
-  lower : (low high : ℕ) (ys : List ℕ) → low ≤ high → Spaced 0 high ys → Spaced 0 low ys
-  lower low high [] le rise = tt
-  lower low high (y ∷ ys) le rise = (omega (arith, rise.0), rise.1)
+    lower : (low high : ℕ) (ys : List ℕ) → low ≤ high → Spaced 0 high ys → Spaced 0 low ys
+    lower low high [] le rise = tt
+    lower low high (y ∷ ys) le rise = (omega (arith, rise.0), rise.1)
 
 pub departures_into-rises : (s l : ℕ) (rooms comes : List ℕ) → Spaced s l (departures_into rooms s l comes)
 unfolding departures_into

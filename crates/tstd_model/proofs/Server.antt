@@ -1,9 +1,9 @@
 -- The laws of one server: bytes that come at given instants, and leave one after the other, each after so many subticks.
-use Rattle.std.proofs.Common.{◌≡◌, ℕ, zero, suc, ◌+◌, ◌-◌, ◌*◌, ◌<◌, ◌≤◌, ◌⊎◌, List, [], ◌∷◌, ◌++◌, length, drop, get_or, max, refl, ap, arith, inl, inr}
+use Rattle.std.proofs.Common.{◌≡◌, ℕ, zero, suc, ◌+◌, ◌*◌, ◌<◌, ◌≤◌, List, [], ◌∷◌, ◌++◌, length, drop, get_or, max, refl, ap, arith, inl, inr}
 use Rattle.std.proofs.lemmas.Bool.{cases_lt}
 use Rattle.tstd_model.specs.Instants.{spaced, came, departures}
 use Rattle.tstd_model.specs.Private.Server.{last_departure, latest_work, Spaced, EachWithin, UnderLine, UnderEither, EachAtMost}
-use Rattle.tstd_model.proofs.Counts.{came-nil, came-yes, came-no, came_none, came_none-spaced, came_none-far, came-within}
+use Rattle.tstd_model.proofs.Counts.{came-yes, came-no, came_none-spaced, came_none-far, came-within}
 
 -- ---- one list behind another
 pub departures-append : (s l : ℕ) (xs ys : List ℕ) → departures s l (xs ++ ys) ≡ departures s l xs ++ departures s (last_departure s l xs) ys
@@ -37,9 +37,9 @@ last_departure-most s l most [] under each = omega arith
 last_departure-most s l most (x ∷ xs) under each =
     omega (arith, last_departure-most s (max x l + s) (most + s) xs (omega arith) (EachAtMost-more most (most + s) xs (omega arith) each.1))
   where
-  EachAtMost-more : (m n : ℕ) (xs : List ℕ) → m ≤ n → EachAtMost m xs → EachAtMost n xs
-  EachAtMost-more m n [] le each = tt
-  EachAtMost-more m n (x ∷ xs) le each = (omega (arith, each.0), EachAtMost-more m n xs le each.1)
+    EachAtMost-more : (m n : ℕ) (xs : List ℕ) → m ≤ n → EachAtMost m xs → EachAtMost n xs
+    EachAtMost-more m n [] le each = tt
+    EachAtMost-more m n (x ∷ xs) le each = (omega (arith, each.0), EachAtMost-more m n xs le each.1)
 
 -- ---- departures rise
 pub departures-spaced : (s l : ℕ) (xs : List ℕ) → Spaced s l (departures s l xs)
@@ -87,9 +87,10 @@ pub departures-steps : (s l most first step count line other : ℕ) → line ≡
     → UnderEither line s other step (departures s l (spaced first step count))
 unfolding departures spaced
 departures-steps s l most first step zero line other line_is other_is slow under = tt
-departures-steps s l most first step (suc count) line other line_is other_is slow under =
-    (omega arith,
-    departures-steps s (max first l + s) (most + s) (first + step) step count (line + s) (other + step) (omega arith) (omega arith) slow (omega arith))
+departures-steps s l most first step (suc count) line other line_is other_is slow under = (
+  omega arith,
+  departures-steps s (max first l + s) (most + s) (first + step) step count (line + s) (other + step) (omega arith) (omega arith) slow (omega arith),
+)
 
 -- where they are at most the server's: under the line
 pub spaced-under_line : (most step first s count : ℕ) → first ≤ most → step ≤ s → UnderLine most s (spaced first step count)
@@ -128,8 +129,13 @@ came-window step before x (suc b) top (instant ∷ later) top_is rise = elim (ca
   | inl after ↦ elim (cases_lt top instant) [
     | inl above ↦ omega (arith, came-no top instant later above, came_none-spaced step top instant later above rise.1)
     | inr inside ↦
-        omega (arith, came-yes top instant later inside, came-no x instant later after,
-        came-window step instant (x + step) b top later (omega arith) rise.1, came_none-far step (x + step) instant later (omega arith) rise.1)
+        omega (
+          arith,
+          came-yes top instant later inside,
+          came-no x instant later after,
+          came-window step instant (x + step) b top later (omega arith) rise.1,
+          came_none-far step (x + step) instant later (omega arith) rise.1,
+        )
   ]
 ]
 

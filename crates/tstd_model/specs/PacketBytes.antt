@@ -1,5 +1,5 @@
 -- The bytes of the packets that come, in order: what each belongs to, and lists with an entry for each byte.
-use Rattle.std.specs.Prelude.{ℕ, ◌+◌, ◌-◌, ◌*◌, List, [], ◌∷◌, ◌++◌, replicate, Bool, true, false, if◌then◌else◌}
+use Rattle.std.specs.Prelude.{ℕ, ◌-◌, ◌*◌, List, [], ◌∷◌, ◌++◌, replicate, Bool, true, false, if◌then◌else◌}
 use Rattle.std.specs.List.{flat_map}
 use Rattle.decoder_constants.specs.declared.TheConstants.{PACKET_BYTES, BYTE_SUBTICKS_PER_SLOT_TICK}
 pub use Rattle.tstd_model.specs.declared.decoder_input.Arrival.{Arrival}

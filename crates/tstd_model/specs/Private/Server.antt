@@ -1,5 +1,5 @@
 -- What the laws of one server speak of; no public clause cites these.
-use Rattle.std.specs.Prelude.{ℕ, zero, suc, ◌+◌, ◌*◌, ◌≤◌, List, [], ◌∷◌, length, max}
+use Rattle.std.specs.Prelude.{ℕ, ◌+◌, ◌*◌, ◌≤◌, List, [], ◌∷◌, length, max}
 
 -- when the server is free again: the last departure, or what was before where nothing came
 unfoldable pub last_departure : (subticks before : ℕ) → (comes : List ℕ) → ℕ

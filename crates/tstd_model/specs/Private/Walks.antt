@@ -1,6 +1,5 @@
 -- What the walks over a decoder's bytes find, and which of it is said; no public clause cites these.
-use Rattle.std.specs.Prelude.{◌≡◌, ℕ, ◌*◌, ◌<◌, ◌≤◌, List, drop, filter, min, Option, Some, None}
-use Rattle.decoder_constants.specs.declared.TheConstants.{SUBTICKS_PER_TICK}
+use Rattle.std.specs.Prelude.{◌≡◌, ℕ, ◌<◌, ◌≤◌, List, drop, filter, min, Option, Some, None}
 use Rattle.tstd_model.specs.PacketBytes.{Arrival, parts, arrives, kept}
 use Rattle.tstd_model.specs.Decoder.{BufferKind, Video, Audio, System, Removal, DecoderBuffer, transport_buffer, multiplexing_buffer, audio_buffer, system_buffer, removed, is_removed, completes}
 use Rattle.tstd_model.specs.Faults.{TstdFault, Overflow, Late, Old, hold_subticks}
