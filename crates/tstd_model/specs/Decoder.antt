@@ -61,9 +61,11 @@ eb_rooms vbv removals = replicate (eb_bytes vbv) 0 ++ removed removals
 unfoldable pub moves : (slot vbv : ℕ) → List Arrival → List Removal → List ℕ
 moves slot vbv arrivals removals = departures_into (eb_rooms vbv removals) MB_SUBTICKS 0 (data_passes slot (Video vbv) arrivals)
 
+-- TB: all bytes of the packets come into it
 abbrev pub transport_buffer : (slot : ℕ) → BufferKind → List Arrival → DecoderBuffer
 transport_buffer slot kind arrivals = record { size = TB_BYTES; ins = arrives slot arrivals; outs = leave_tb slot kind arrivals }
 
+-- MB of video: payload comes into it, data moves on to EB, and PES headers vanish
 abbrev pub multiplexing_buffer : (slot vbv : ℕ) → List Arrival → List Removal → DecoderBuffer
 multiplexing_buffer slot vbv arrivals removals = record {
   size = VIDEO_BYTES - eb_bytes vbv;
@@ -71,12 +73,15 @@ multiplexing_buffer slot vbv arrivals removals = record {
   outs = with_headers (parts arrivals) (moves slot vbv arrivals removals);
 }
 
+-- EB of video: units are removed from it
 abbrev pub elementary_buffer : (slot vbv : ℕ) → List Arrival → List Removal → DecoderBuffer
 elementary_buffer slot vbv arrivals removals = record { size = eb_bytes vbv; ins = moves slot vbv arrivals removals; outs = removed removals }
 
+-- B of audio: frames are removed from it
 abbrev pub audio_buffer : (slot : ℕ) → List Arrival → List Removal → DecoderBuffer
 audio_buffer slot arrivals removals = record { size = AUDIO_BYTES; ins = payload_passes slot Audio arrivals; outs = removed removals }
 
+-- the main buffer of sections, which leaks
 abbrev pub system_buffer : (slot : ℕ) → List Arrival → DecoderBuffer
 system_buffer slot arrivals = record {
   size = SYSTEM_BYTES;

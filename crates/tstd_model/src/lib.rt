@@ -7,6 +7,7 @@
 
 mod decoder_input;
 mod fault;
+mod packet_bytes;
 mod removed_bytes;
 
 pub use decoder_input::{Arrival, BufferKind, PacketPart, Removal};

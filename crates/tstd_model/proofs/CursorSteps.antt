@@ -1,0 +1,23 @@
+-- One step of each cursor, over plain values.
+use Rattle.std.proofs.Common.{◌≡◌, ℕ, zero, suc, ◌+◌, ◌*◌, ◌^◌, ◌<◌, ◌≤◌, List, [], ◌∷◌, ◌++◌, length, refl, sym, ◌∙◌, ap, arith}
+use Rattle.decoder_constants.specs.declared.TheConstants.{PACKET_BYTES}
+use Rattle.tstd_model.specs.declared.packet_bytes.PacketByte.{PacketByte}
+use Rattle.tstd_model.specs.PacketBytes.{Arrival, PacketPart, parts_of}
+use Rattle.tstd_model.specs.Private.Cursors.{bytes_at, bytes_of, bytes_of_all, packets_left}
+
+-- ---- packets
+pub packets_left-byte : (step at : ℕ) (parts parts' : List PacketPart) (part : PacketPart) (later : List Arrival) → parts ≡ part ∷ parts'
+    → packets_left step at parts later ≡ record { part = part; at = at } ∷ packets_left step (at + step) parts' later
+unfolding bytes_at
+packets_left-byte step at parts parts' part later is = ap (λ p. packets_left step at p later) is
+
+pub packets_left-none : (step at : ℕ) (parts : List PacketPart) (later : List Arrival) → parts ≡ [] → later ≡ [] → packets_left step at parts later ≡ []
+unfolding bytes_at bytes_of_all
+packets_left-none step at parts later none is = ap (λ p. packets_left step at p later) none ∙ ap (λ l. packets_left step at [] l) is
+
+pub packets_left-packet : (step at first : ℕ) (parts parts' : List PacketPart) (packet : Arrival) (later later' : List Arrival) → parts ≡ [] → later ≡ packet ∷ later'
+    → first ≡ PACKET_BYTES * packet.slot_no * step → parts' ≡ parts_of packet → packets_left step at parts later ≡ packets_left step first parts' later'
+unfolding bytes_at bytes_of_all bytes_of
+packets_left-packet step at first parts parts' packet later later' none is first_is parts_are =
+    ap (λ p. packets_left step at p later) none ∙ ap (λ l. packets_left step at [] l) is
+    ∙ sym (ap (λ f. packets_left step f parts' later') first_is ∙ ap (λ p. packets_left step (PACKET_BYTES * packet.slot_no * step) p later') parts_are)
