@@ -1,9 +1,11 @@
 -- One step of each cursor, over plain values.
-use Rattle.std.proofs.Common.{◌≡◌, ℕ, zero, suc, ◌+◌, ◌*◌, ◌^◌, ◌<◌, ◌≤◌, List, [], ◌∷◌, ◌++◌, length, refl, sym, ◌∙◌, ap, arith}
-use Rattle.decoder_constants.specs.declared.TheConstants.{PACKET_BYTES}
+use Rattle.std.proofs.Common.{◌≡◌, ℕ, zero, suc, ◌+◌, ◌*◌, ◌^◌, ◌<◌, ◌≤◌, List, [], ◌∷◌, ◌++◌, length, replicate, refl, sym, ◌∙◌, ap, arith}
+use Rattle.decoder_constants.specs.declared.TheConstants.{PACKET_BYTES, SUBTICKS_PER_TICK}
 use Rattle.tstd_model.specs.declared.packet_bytes.PacketByte.{PacketByte}
+use Rattle.tstd_model.specs.Decoder.{Removal}
 use Rattle.tstd_model.specs.PacketBytes.{Arrival, PacketPart, parts_of}
 use Rattle.tstd_model.specs.Private.Cursors.{bytes_at, bytes_of, bytes_of_all, packets_left}
+use Rattle.tstd_model.specs.Private.Scans.{RemovedByte, taken_from}
 
 -- ---- packets
 pub packets_left-byte : (step at : ℕ) (parts parts' : List PacketPart) (part : PacketPart) (later : List Arrival) → parts ≡ part ∷ parts'
@@ -21,3 +23,15 @@ unfolding bytes_at bytes_of_all bytes_of
 packets_left-packet step at first parts parts' packet later later' none is first_is parts_are =
     ap (λ p. packets_left step at p later) none ∙ ap (λ l. packets_left step at [] l) is
     ∙ sym (ap (λ f. packets_left step f parts' later') first_is ∙ ap (λ p. packets_left step (PACKET_BYTES * packet.slot_no * step) p later') parts_are)
+
+-- ---- removals
+pub removed_left-none : (count number : ℕ) (byte : RemovedByte) (later : List Removal) → count ≤ 0 → later ≡ [] → replicate count byte ++ taken_from number later ≡ []
+unfolding taken_from
+removed_left-none zero number byte later done is = ap (λ l. taken_from number l) is
+removed_left-none (suc count) number byte later done is = absurd (omega arith)
+
+pub removed_left-removal : (count number : ℕ) (byte : RemovedByte) (removal : Removal) (later later' : List Removal) → count ≤ 0 → later ≡ removal ∷ later'
+    → replicate removal.bytes (record { at = SUBTICKS_PER_TICK * removal.due; removal = number }) ++ taken_from (number + 1) later' ≡ replicate count byte ++ taken_from number later
+unfolding taken_from
+removed_left-removal zero number byte removal later later' done is = sym (ap (λ l. taken_from number l) is)
+removed_left-removal (suc count) number byte removal later later' done is = absurd (omega arith)

@@ -7,8 +7,10 @@
 
 mod decoder_input;
 mod fault;
+mod instants;
 mod packet_bytes;
 mod removed_bytes;
+mod tb_bytes;
 
 pub use decoder_input::{Arrival, BufferKind, PacketPart, Removal};
 pub use fault::TstdFault;

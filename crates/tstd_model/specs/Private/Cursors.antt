@@ -31,3 +31,17 @@ bytes_of_all step arrivals = flat_map (bytes_of step) arrivals
 -- what is left of packets: bytes of these parts, the first of which comes here, and those of the later packets
 abbrev pub packets_left : (step at : ℕ) → List PacketPart → List Arrival → List PacketByte
 packets_left step at parts later = bytes_at step at parts ++ bytes_of_all step later
+
+-- bytes as they leave a buffer that each takes so many subticks to leave
+unfoldable pub passed : (subticks before : ℕ) → List PacketByte → List PacketByte
+passed subticks before [] = []
+passed subticks before (byte ∷ bytes) =
+    record { part = byte.part; at = max byte.at before + subticks } ∷ passed subticks (max byte.at before + subticks) bytes
+
+-- the instants of bytes
+abbrev pub instants_of : List PacketByte → List ℕ
+instants_of bytes = map (λ byte. byte.at) bytes
+
+-- the bytes whose part passes a test
+abbrev pub bytes_with : (PacketPart → Bool) → List PacketByte → List PacketByte
+bytes_with test bytes = filter (λ byte. test byte.part) bytes
