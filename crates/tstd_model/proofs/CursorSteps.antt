@@ -1,10 +1,12 @@
 -- One step of each cursor, over plain values.
-use Rattle.std.proofs.Common.{◌≡◌, ℕ, zero, suc, ◌+◌, ◌*◌, ◌^◌, ◌<◌, ◌≤◌, List, [], ◌∷◌, ◌++◌, length, replicate, refl, sym, ◌∙◌, ap, arith}
+use Rattle.std.proofs.Common.{◌≡◌, ℕ, zero, suc, ◌+◌, ◌*◌, ◌^◌, ◌<◌, ◌≤◌, List, [], ◌∷◌, ◌++◌, length, replicate, map, refl, sym, ◌∙◌, ap, arith, true, false}
+use Rattle.std.proofs.lemmas.Bool.{cond-true, cond-false}
 use Rattle.decoder_constants.specs.declared.TheConstants.{PACKET_BYTES, SUBTICKS_PER_TICK}
 use Rattle.tstd_model.specs.declared.packet_bytes.PacketByte.{PacketByte}
+use Rattle.tstd_model.specs.declared.passing.Wanted.{Wanted}
 use Rattle.tstd_model.specs.Decoder.{Removal}
 use Rattle.tstd_model.specs.PacketBytes.{Arrival, PacketPart, parts_of}
-use Rattle.tstd_model.specs.Private.Cursors.{bytes_at, bytes_of, bytes_of_all, packets_left}
+use Rattle.tstd_model.specs.Private.Cursors.{bytes_at, bytes_of, bytes_of_all, packets_left, is_wanted, bytes_with, wanted_instants}
 use Rattle.tstd_model.specs.Private.Scans.{RemovedByte, taken_from}
 
 -- ---- packets
@@ -35,3 +37,16 @@ pub removed_left-removal : (count number : ℕ) (byte : RemovedByte) (removal : 
 unfolding taken_from
 removed_left-removal zero number byte removal later later' done is = sym (ap (λ l. taken_from number l) is)
 removed_left-removal (suc count) number byte removal later later' done is = absurd (omega arith)
+
+-- ---- wanted bytes
+pub wanted-takes : (wanted : Wanted) (byte : PacketByte) (bytes bytes' : List PacketByte) → bytes ≡ byte ∷ bytes' → is_wanted wanted byte.part ≡ true
+    → wanted_instants wanted bytes ≡ byte.at ∷ wanted_instants wanted bytes'
+wanted-takes wanted byte bytes bytes' is takes =
+    ap (λ b. wanted_instants wanted b) is
+    ∙ ap (λ b. map (λ (x : PacketByte). x.at) b) (cond-true (is_wanted wanted byte.part) (byte ∷ bytes_with (is_wanted wanted) bytes') (bytes_with (is_wanted wanted) bytes') takes)
+
+pub wanted-skips : (wanted : Wanted) (byte : PacketByte) (bytes bytes' : List PacketByte) → bytes ≡ byte ∷ bytes' → is_wanted wanted byte.part ≡ false
+    → wanted_instants wanted bytes ≡ wanted_instants wanted bytes'
+wanted-skips wanted byte bytes bytes' is skips =
+    ap (λ b. wanted_instants wanted b) is
+    ∙ ap (λ b. map (λ (x : PacketByte). x.at) b) (cond-false (is_wanted wanted byte.part) (byte ∷ bytes_with (is_wanted wanted) bytes') (bytes_with (is_wanted wanted) bytes') skips)

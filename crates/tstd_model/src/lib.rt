@@ -9,6 +9,7 @@ mod decoder_input;
 mod fault;
 mod instants;
 mod packet_bytes;
+mod passing;
 mod removed_bytes;
 mod tb_bytes;
 

@@ -4,7 +4,9 @@ use Rattle.std.specs.List.{flat_map}
 use Rattle.decoder_constants.specs.declared.TheConstants.{PACKET_BYTES}
 use Rattle.tstd_model.specs.declared.packet_bytes.PacketByte.{PacketByte}
 use Rattle.tstd_model.specs.declared.packet_bytes.PartsLeft.{PartsLeft}
-use Rattle.tstd_model.specs.PacketBytes.{Arrival, PacketPart, Overhead, PesHeader, Data, parts_of}
+use Rattle.tstd_model.specs.declared.passing.Wanted.{Wanted}
+use Rattle.tstd_model.specs.declared.passing.Wanted.TheVariants.{Payload, DataAlone}
+use Rattle.tstd_model.specs.PacketBytes.{Arrival, PacketPart, Overhead, PesHeader, Data, parts_of, is_payload, is_data}
 
 -- one step of a cursor: an item and what is left behind it, or none where nothing is left
 abbrev pub Gives : {X : Type 0} → Option X → (before after : List X) → Type 0
@@ -45,3 +47,12 @@ instants_of bytes = map (λ byte. byte.at) bytes
 -- the bytes whose part passes a test
 abbrev pub bytes_with : (PacketPart → Bool) → List PacketByte → List PacketByte
 bytes_with test bytes = filter (λ byte. test byte.part) bytes
+
+-- the parts that are wanted
+abbrev pub is_wanted : Wanted → PacketPart → Bool
+is_wanted Payload part = is_payload part
+is_wanted DataAlone part = is_data part
+
+-- the instants of the wanted bytes
+abbrev pub wanted_instants : Wanted → List PacketByte → List ℕ
+wanted_instants wanted bytes = instants_of (bytes_with (is_wanted wanted) bytes)
