@@ -1,12 +1,11 @@
 -- One step of each cursor, over plain values.
 use Rattle.std.proofs.Common.{◌≡◌, ℕ, zero, suc, ◌+◌, ◌*◌, ◌^◌, ◌<◌, ◌≤◌, List, [], ◌∷◌, ◌++◌, length, replicate, map, refl, sym, ◌∙◌, ap, arith, true, false}
-use Rattle.std.proofs.lemmas.Bool.{cond-true, cond-false}
 use Rattle.decoder_constants.specs.declared.TheConstants.{PACKET_BYTES, SUBTICKS_PER_TICK}
 use Rattle.tstd_model.specs.declared.packet_bytes.PacketByte.{PacketByte}
-use Rattle.tstd_model.specs.declared.passing.Wanted.{Wanted}
+use Rattle.tstd_model.specs.Instants.{departures_into}
 use Rattle.tstd_model.specs.Decoder.{Removal}
-use Rattle.tstd_model.specs.PacketBytes.{Arrival, PacketPart, parts_of}
-use Rattle.tstd_model.specs.Private.Cursors.{bytes_at, bytes_of, bytes_of_all, packets_left, is_wanted, bytes_with, wanted_instants}
+use Rattle.tstd_model.specs.PacketBytes.{Arrival, PacketPart, Overhead, PesHeader, Data, parts_of, with_headers}
+use Rattle.tstd_model.specs.Private.Cursors.{bytes_at, bytes_of, bytes_of_all, packets_left}
 use Rattle.tstd_model.specs.Private.Scans.{RemovedByte, taken_from}
 
 -- ---- packets
@@ -38,15 +37,21 @@ unfolding taken_from
 removed_left-removal zero number byte removal later later' done is = sym (ap (λ l. taken_from number l) is)
 removed_left-removal (suc count) number byte removal later later' done is = absurd (omega arith)
 
--- ---- wanted bytes
-pub wanted-takes : (wanted : Wanted) (byte : PacketByte) (bytes bytes' : List PacketByte) → bytes ≡ byte ∷ bytes' → is_wanted wanted byte.part ≡ true
-    → wanted_instants wanted bytes ≡ byte.at ∷ wanted_instants wanted bytes'
-wanted-takes wanted byte bytes bytes' is takes =
-    ap (λ b. wanted_instants wanted b) is
-    ∙ ap (λ b. map (λ (x : PacketByte). x.at) b) (cond-true (is_wanted wanted byte.part) (byte ∷ bytes_with (is_wanted wanted) bytes') (bytes_with (is_wanted wanted) bytes') takes)
+-- ---- moves
+pub departures_into-no_room : (subticks before : ℕ) (comes : List ℕ) → departures_into [] subticks before comes ≡ []
+unfolding departures_into
+departures_into-no_room subticks before [] = refl
+departures_into-no_room subticks before (come ∷ comes) = refl
 
-pub wanted-skips : (wanted : Wanted) (byte : PacketByte) (bytes bytes' : List PacketByte) → bytes ≡ byte ∷ bytes' → is_wanted wanted byte.part ≡ false
-    → wanted_instants wanted bytes ≡ wanted_instants wanted bytes'
-wanted-skips wanted byte bytes bytes' is skips =
-    ap (λ b. wanted_instants wanted b) is
-    ∙ ap (λ b. map (λ (x : PacketByte). x.at) b) (cond-false (is_wanted wanted byte.part) (byte ∷ bytes_with (is_wanted wanted) bytes') (bytes_with (is_wanted wanted) bytes') skips)
+pub departures_into-none : (subticks before : ℕ) (rooms : List ℕ) → departures_into rooms subticks before [] ≡ []
+unfolding departures_into
+departures_into-none subticks before rooms = refl
+
+pub ruleset moves_end = (departures_into-no_room, departures_into-none)
+
+pub with_headers-none : (parts : List PacketPart) → with_headers parts [] ≡ []
+unfolding with_headers
+with_headers-none [] = refl
+with_headers-none (Overhead ∷ parts) = with_headers-none parts
+with_headers-none (PesHeader ∷ parts) = refl
+with_headers-none (Data ∷ parts) = refl

@@ -8,6 +8,7 @@
 mod decoder_input;
 mod fault;
 mod instants;
+mod moves;
 mod packet_bytes;
 mod passing;
 mod removed_bytes;
