@@ -1,6 +1,7 @@
 -- One step of each cursor, over plain values.
 use Rattle.std.proofs.Common.{◌≡◌, ℕ, zero, suc, ◌+◌, ◌*◌, ◌^◌, ◌<◌, ◌≤◌, List, [], ◌∷◌, ◌++◌, length, replicate, map, refl, sym, ◌∙◌, ap, arith, true, false}
-use Rattle.decoder_constants.specs.declared.TheConstants.{PACKET_BYTES, SUBTICKS_PER_TICK}
+use Rattle.stream_constants.specs.declared.clock.TheConstants.{SUBTICKS_PER_TICK}
+use Rattle.stream_constants.specs.declared.packets.TheConstants.{PACKET_BYTES}
 use Rattle.tstd_model.specs.declared.packet_bytes.PacketByte.{PacketByte}
 use Rattle.tstd_model.specs.Instants.{departures_into}
 use Rattle.tstd_model.specs.Decoder.{Removal}

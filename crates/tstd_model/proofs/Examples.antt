@@ -1,6 +1,7 @@
 -- Worked examples, computed from the definitions. The instants were worked out by another program, which moves bytes one by one.
 use Rattle.std.proofs.Common.{◌≡◌, ℕ, zero, suc, ◌+◌, ◌*◌, ◌≤◌, List, [], ◌∷◌, ◌++◌, map, refl, arith, Option, Some, None}
-use Rattle.decoder_constants.specs.declared.TheConstants.{BYTE_SUBTICKS_PER_SLOT_TICK, VIDEO_TB_SUBTICKS, AUDIO_TB_SUBTICKS, SYSTEM_TB_SUBTICKS, MB_SUBTICKS, EB_UNIT_BYTES, VIDEO_BYTES, SYSTEM_SUBTICKS}
+use Rattle.stream_constants.specs.declared.clock.TheConstants.{BYTE_SUBTICKS_PER_TICK}
+use Rattle.stream_constants.specs.declared.decoder.TheConstants.{VIDEO_TB_SUBTICKS, AUDIO_TB_SUBTICKS, SYSTEM_TB_SUBTICKS, MB_SUBTICKS, EB_UNIT_BYTES, VIDEO_BYTES, SYSTEM_SUBTICKS}
 use Rattle.tstd_model.specs.Instants.{spaced, departures, departures_into}
 use Rattle.tstd_model.specs.PacketBytes.{Arrival, Overhead, PesHeader, Data, parts_of, parts, arrives_in, arrives, kept, with_headers}
 use Rattle.tstd_model.specs.Decoder.{BufferKind, Video, Audio, System, Removal, bytes_in, leave_tb, payload_passes, data_passes, removed, moves, eb_rooms, multiplexing_buffer, elementary_buffer}
@@ -32,7 +33,7 @@ video_bytes = refl
 eb_unit_bytes : ◌≡◌ {A = ℕ} EB_UNIT_BYTES 2048
 eb_unit_bytes = refl
 
-byte_of_slot_tick : ◌≡◌ {A = ℕ} BYTE_SUBTICKS_PER_SLOT_TICK 5
+byte_of_slot_tick : ◌≡◌ {A = ℕ} BYTE_SUBTICKS_PER_TICK 5
 byte_of_slot_tick = refl
 
 -- ---- lists of instants

@@ -3,7 +3,8 @@ use Rattle.std.proofs.Common.{◌≡◌, ℕ, zero, suc, ◌-◌, ◌*◌, ◌<�
 use Rattle.std.proofs.lemmas.Bool.{cases_lt}
 use Rattle.std.proofs.lemmas.Option.{same_Some, slice_get_within, slice_get-get_or}
 use Rattle.std.specs.List.Sorted.{IsStrictlyIncreasing, IsNonDecreasing}
-use Rattle.decoder_constants.specs.declared.TheConstants.{SUBTICKS_PER_TICK, MB_SUBTICKS, SYSTEM_SUBTICKS, TB_BYTES}
+use Rattle.stream_constants.specs.declared.clock.TheConstants.{SUBTICKS_PER_TICK}
+use Rattle.stream_constants.specs.declared.decoder.TheConstants.{MB_SUBTICKS, SYSTEM_SUBTICKS, TB_BYTES}
 use Rattle.tstd_model.specs.Instants.{came, departures, departures_into}
 use Rattle.tstd_model.specs.PacketBytes.{Arrival, is_payload, parts, arrives, kept}
 use Rattle.tstd_model.specs.Decoder.{BufferKind, Video, Audio, System, Removal, DecoderBuffer, IsOverfull, tb_subticks, leave_tb, payload_passes, data_passes, removed, eb_bytes, eb_rooms, moves, transport_buffer, is_removed, completes}

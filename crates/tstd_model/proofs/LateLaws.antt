@@ -3,7 +3,7 @@ use Rattle.std.proofs.Common.{◌≡◌, ℕ, zero, suc, ◌+◌, ◌*◌, ◌<�
 use Rattle.std.proofs.lemmas.Bool.{cases_lt, le-leb, lt-leb, lt-ltb, le-ltb, cond-true, cond-false}
 use Rattle.std.proofs.lemmas.Option.{same_Some}
 use Rattle.std.proofs.lemmas.List.Sums.{sum_by-cons, sum_by-append}
-use Rattle.decoder_constants.specs.declared.TheConstants.{SUBTICKS_PER_TICK}
+use Rattle.stream_constants.specs.declared.clock.TheConstants.{SUBTICKS_PER_TICK}
 use Rattle.tstd_model.specs.Instants.{came_before}
 use Rattle.tstd_model.specs.Decoder.{Removal}
 use Rattle.tstd_model.specs.Private.Scans.{RemovedByte, first_late, taken_from}

@@ -3,7 +3,8 @@ use Rattle.std.proofs.Common.{◌≡◌, ℕ, zero, suc, ◌+◌, ◌*◌, ◌<�
 use Rattle.std.proofs.lemmas.Bool.{cases_Bool, cases_lt, cond-true, cond-false}
 use Rattle.std.specs.List.Sorted.{IsStrictlyIncreasing, IsNonDecreasing}
 use Rattle.std.proofs.lemmas.Nat.{mul-le}
-use Rattle.decoder_constants.specs.declared.TheConstants.{SUBTICKS_PER_TICK, PACKET_BYTES}
+use Rattle.stream_constants.specs.declared.clock.TheConstants.{SUBTICKS_PER_TICK}
+use Rattle.stream_constants.specs.declared.packets.TheConstants.{PACKET_BYTES}
 use Rattle.tstd_model.specs.Instants.{spaced, came, departures_into}
 use Rattle.tstd_model.specs.PacketBytes.{Arrival, PacketPart, Overhead, PesHeader, Data, byte_subticks, arrives_in, arrives, kept, with_headers}
 use Rattle.tstd_model.specs.Decoder.{Removal, removed}

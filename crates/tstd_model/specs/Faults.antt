@@ -1,6 +1,7 @@
 -- The faults of a decoder, and which of them is the first.
 use Rattle.std.specs.Prelude.{◌≡◌, ℕ, ◌+◌, ◌*◌, ◌<◌, ◌≤◌, ◌⊎◌, List, take, sum_by, filter, slice_get, slice_index_or, Option, Some, None}
-use Rattle.decoder_constants.specs.declared.TheConstants.{SUBTICKS_PER_TICK, HOLD_TICKS}
+use Rattle.stream_constants.specs.declared.clock.TheConstants.{SUBTICKS_PER_TICK}
+use Rattle.stream_constants.specs.declared.decoder.TheConstants.{HOLD_TICKS}
 pub use Rattle.tstd_model.specs.declared.fault.TstdFault.{TstdFault}
 pub use Rattle.tstd_model.specs.declared.fault.TstdFault.TheVariants.{Overflow, Late, Old}
 use Rattle.tstd_model.specs.Instants.{came_before}

@@ -1,7 +1,8 @@
 -- The bytes of the packets that come, in order: what each belongs to, and lists with an entry for each byte.
 use Rattle.std.specs.Prelude.{ℕ, ◌-◌, ◌*◌, List, [], ◌∷◌, ◌++◌, replicate, Bool, true, false, if◌then◌else◌}
 use Rattle.std.specs.List.{flat_map}
-use Rattle.decoder_constants.specs.declared.TheConstants.{PACKET_BYTES, BYTE_SUBTICKS_PER_SLOT_TICK}
+use Rattle.stream_constants.specs.declared.clock.TheConstants.{BYTE_SUBTICKS_PER_TICK}
+use Rattle.stream_constants.specs.declared.packets.TheConstants.{PACKET_BYTES}
 pub use Rattle.tstd_model.specs.declared.decoder_input.Arrival.{Arrival}
 pub use Rattle.tstd_model.specs.declared.decoder_input.PacketPart.{PacketPart}
 pub use Rattle.tstd_model.specs.declared.decoder_input.PacketPart.TheVariants.{Overhead, PesHeader, Data}
@@ -20,7 +21,7 @@ parts arrivals = flat_map parts_of arrivals
 
 -- subticks from byte to byte of the multiplex, by the ticks of a slot
 abbrev pub byte_subticks : (slot : ℕ) → ℕ
-byte_subticks slot = BYTE_SUBTICKS_PER_SLOT_TICK * slot
+byte_subticks slot = BYTE_SUBTICKS_PER_TICK * slot
 
 -- the instants at which the bytes of a packet come: byte k of slot n is byte 188 n + k of the multiplex
 unfoldable pub arrives_in : (slot : ℕ) → Arrival → List ℕ

@@ -1,5 +1,5 @@
 ghost use Rattle.std.specs.Prelude.{◌≡◌, ◌^◌, map, replicate, ◌++◌};
-ghost use Rattle.decoder_constants.specs.declared.TheConstants.{MB_SUBTICKS};
+ghost use Rattle.stream_constants.specs.declared.decoder.TheConstants.{MB_SUBTICKS};
 ghost use Rattle.tstd_model.specs.Instants.{departures_into};
 ghost use Rattle.tstd_model.specs.Private.Cursors.{Gives};
 ghost use Rattle.tstd_model.specs.Private.Server.{EachAtMost};
@@ -7,8 +7,8 @@ ghost use Rattle.tstd_model.specs.Private.Server.{EachAtMost};
 use crate::instants::Instants;
 use crate::passing::Passing;
 use crate::removed_bytes::RemovedBytes;
-use decoder_constants::MB_SUBTICKS;
 use std::marker::Model;
+use stream_constants::decoder::MB_SUBTICKS;
 
 /// The instants from which on a buffer has room for each byte.
 #[derive(Drop)]
@@ -58,7 +58,7 @@ pub struct Moves<'a> {
 
 impl<'a> Model for Moves<'a> {
     ghost use Rattle.std.specs.Prelude.{List, ℕ, ◌^◌};
-    ghost use Rattle.decoder_constants.specs.declared.TheConstants.{MB_SUBTICKS};
+    ghost use Rattle.stream_constants.specs.declared.decoder.TheConstants.{MB_SUBTICKS};
     ghost use Rattle.tstd_model.specs.Instants.{departures_into};
     ghost use Rattle.tstd_model.specs.Private.Server.{EachAtMost};
 

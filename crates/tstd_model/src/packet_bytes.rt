@@ -1,9 +1,9 @@
 ghost use Rattle.std.specs.Prelude.{◌≡◌, ℕ, ◌+◌, ◌*◌, ◌^◌, ◌≤◌, length};
-ghost use Rattle.decoder_constants.specs.declared.TheConstants.{PACKET_BYTES};
+ghost use Rattle.stream_constants.specs.declared.packets.TheConstants.{PACKET_BYTES};
 
 use crate::decoder_input::{Arrival, PacketPart};
-use decoder_constants::PACKET_BYTES;
 use std::marker::Model;
+use stream_constants::packets::PACKET_BYTES;
 
 /// A byte of a transport packet: what it belongs to, and when it comes.
 #[derive(Clone, Copy)]
@@ -132,5 +132,5 @@ fn first_instant(slot_no: u32, step: u64) -> u64
     ensures value { result ≡ PACKET_BYTES * slot_no * step }
     ensures small { result ≤ 2 ^ 59 }
 {
-    PACKET_BYTES * u64::from(slot_no) * step
+    PACKET_BYTES as u64 * u64::from(slot_no) * step
 }

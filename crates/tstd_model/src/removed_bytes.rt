@@ -4,8 +4,8 @@ ghost use Rattle.tstd_model.specs.Private.Cursors.{Gives};
 
 use crate::decoder_input::Removal;
 use crate::instants::Instants;
-use decoder_constants::SUBTICKS_PER_TICK;
 use std::marker::Model;
+use stream_constants::clock::SUBTICKS_PER_TICK;
 
 /// A byte that a removal takes: when, and which removal.
 #[derive(Clone, Copy)]

@@ -1,7 +1,7 @@
 -- What cursors over a decoder's bytes still give; no public clause cites these.
 use Rattle.std.specs.Prelude.{◌≡◌, ℕ, ◌+◌, ◌*◌, List, [], ◌∷◌, ◌++◌, replicate, map, filter, max, Bool, Option, Some, None}
 use Rattle.std.specs.List.{flat_map}
-use Rattle.decoder_constants.specs.declared.TheConstants.{PACKET_BYTES}
+use Rattle.stream_constants.specs.declared.packets.TheConstants.{PACKET_BYTES}
 use Rattle.tstd_model.specs.declared.packet_bytes.PacketByte.{PacketByte}
 use Rattle.tstd_model.specs.declared.packet_bytes.PartsLeft.{PartsLeft}
 use Rattle.tstd_model.specs.declared.passing.Wanted.{Wanted}

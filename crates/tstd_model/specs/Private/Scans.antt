@@ -1,6 +1,6 @@
 -- The first place at which two lists of instants, walked side by side, show a fault; no public clause cites these.
 use Rattle.std.specs.Prelude.{ℕ, ◌+◌, ◌*◌, nat_le, nat_lt, List, [], ◌∷◌, ◌++◌, replicate, drop, Bool, true, false, Option, Some, None, if◌then◌else◌}
-use Rattle.decoder_constants.specs.declared.TheConstants.{SUBTICKS_PER_TICK}
+use Rattle.stream_constants.specs.declared.clock.TheConstants.{SUBTICKS_PER_TICK}
 pub use Rattle.tstd_model.specs.declared.removed_bytes.RemovedByte.{RemovedByte}
 use Rattle.tstd_model.specs.Decoder.{Removal}
 use Rattle.tstd_model.specs.PacketBytes.{PacketPart, Overhead, PesHeader, Data}

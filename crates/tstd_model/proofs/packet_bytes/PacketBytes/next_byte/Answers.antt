@@ -17,9 +17,10 @@ returns-in_default-split_first c =
     let inside = c.packets.self-inside in
     let none : parts_left inside.parts ≡ [] = (c.in_default.ensures).0 in
     let after : parts_left c.next.new.self ≡ [] = (c.in_default.ensures).1 in
-    let end : inside.later.now ≡ [] = nil_from_length inside.later.now c.in_default-split_first.ensures.cases in
-    (sym c.self.view_is ∙ sym c.packets.invariant.same ∙ packets_left-none inside.step inside.at (parts_left inside.parts) inside.later.now none end,
-    packets_left-none inside.step inside.at (parts_left c.next.new.self) inside.later.now after end)
+    let end : inside.later.now ≡ [] = nil_from_length inside.later.now c.in_default-split_first.ensures.cases in (
+      sym c.self.view_is ∙ sym c.packets.invariant.same ∙ packets_left-none inside.step inside.at (parts_left inside.parts) inside.later.now none end,
+      packets_left-none inside.step inside.at (parts_left c.next.new.self) inside.later.now after end,
+    )
 
 pub packets-preserved : goal.packets-preserved
 packets-preserved c =
