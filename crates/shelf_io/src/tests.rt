@@ -1,3 +1,6 @@
+ghost use Rattle.std.specs.Prelude.{◌≡◌, OnOk, codes};
+ghost use Rattle.shelf_io.specs.Sink.{with_bytes};
+
 use super::*;
 use std::fmt::Display;
 use std::test::Fail;
@@ -81,6 +84,22 @@ fn sinks_in_memory_hold_what_was_put(rt: HostRuntime) -> Result<(), Fail> {
     put_all(&mut vector, b"cd")?;
     assert_eq!(rt; vector.bytes(), b"cd".as_slice());
     assert_eq!(rt; vector.into_bytes().as_slice(), b"cd".as_slice());
+    Ok(())
+}
+
+/// Puts ten bytes in two pieces. What a sink tells is known of each.
+fn put_ten<K: Sink>(to: &mut K) -> Result<(), Fault>
+    ensures { OnOk result (K.written to.new ≡ with_bytes (with_bytes (K.written to.old) (codes "0123")) (codes "456789")) }
+{
+    put_all(to, b"0123")?;
+    put_all(to, b"456789")
+}
+
+#[test]
+fn a_sink_that_counts_tells_how_many_bytes_a_writer_puts(rt: HostRuntime) -> Result<(), Fail> {
+    let mut sink = CountSink::new();
+    put_ten(&mut sink)?;
+    assert_eq!(rt; sink.count(), 10);
     Ok(())
 }
 
