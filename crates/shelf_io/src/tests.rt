@@ -1,4 +1,5 @@
-ghost use Rattle.std.specs.Prelude.{◌≡◌, OnOk, codes};
+ghost use Rattle.std.specs.Prelude.{◌≡◌, OnOk, codes, if◌then◌else◌};
+ghost use Rattle.std.specs.Str.{bytes_eq};
 ghost use Rattle.shelf_io.specs.Sink.{with_bytes};
 
 use super::*;
@@ -50,6 +51,55 @@ fn a_file_is_read_one_byte_past_its_limit_and_no_further(rt: HostRuntime) -> Res
         read_file(alloc, &mut shelf, "b", 3).err(),
         Some(Fault::Missing)
     );
+    Ok(())
+}
+
+/// A shelf over another one, which keeps count of the places that one of its files was asked for.
+#[derive(Drop)]
+struct WatchedShelf<'a, K> {
+    inner: K,
+    name: &'a str,
+    asked: u64,
+}
+
+impl<'a, K: Shelf> Shelf for WatchedShelf<'a, K> {
+    ghost files = { λ shelf. K.files shelf.inner };
+
+    ghost counts = { λ shelf. K.counts shelf.inner };
+
+    ghost asked = { λ shelf name. if bytes_eq name shelf.name.now then shelf.asked else 0 };
+
+    ghost since_fault = { λ shelf. K.since_fault shelf.inner };
+
+    fn read(&mut self, name: &str, at: u64, buf: &mut [u8]) -> Result<usize, Fault> {
+        if name == self.name {
+            self.asked = self.asked.max(at.saturating_add(buf.len() as u64));
+        }
+        self.inner.read(name, at, buf)
+    }
+
+    fn start(&mut self, name: &str) -> Result<(), Fault> {
+        self.inner.start(name)
+    }
+
+    fn append(&mut self, name: &str, piece: &[u8]) -> Result<usize, Fault> {
+        self.inner.append(name, piece)
+    }
+}
+
+#[test]
+fn a_file_is_asked_for_one_byte_past_its_limit_and_no_further(rt: HostRuntime) -> Result<(), Fail> {
+    let alloc = rt.alloc();
+    let mut inner = CalmShelf::new(alloc);
+    inner.put_file("a", b"abcdef")?;
+    let mut shelf = WatchedShelf {
+        inner,
+        name: "a",
+        asked: 0,
+    };
+    let front = read_file(alloc, &mut shelf, "a", 3)?;
+    assert_eq!(rt; front.as_slice(), b"abcd".as_slice());
+    assert_eq!(rt; shelf.asked, 4);
     Ok(())
 }
 
