@@ -3,8 +3,9 @@ use Rattle.std.specs.Prelude.{◌≡◌, ℕ, ◌-◌, ◌≤◌, true, false, L
 use Rattle.arrayvec.specs.ArrayVec.{ArrayVec}
 use Rattle.psi_tables.specs.declared.section.SectionFault.{SectionFault}
 use Rattle.psi_tables.specs.declared.section_builder.SectionBuilder.TheInside.{Inside}
-use Rattle.psi_tables.specs.Sections.{Payload, Found}
-use Rattle.psi_tables.specs.SectionFront.{front_bytes, is_settled, IsHeld}
+use Rattle.payload_lists.specs.Payload.{Payload}
+use Rattle.psi_tables.specs.Sections.{Found}
+use Rattle.psi_tables.specs.Private.SectionFront.{front_bytes, is_settled, IsHeld}
 
 -- a section in memory by its bytes
 abbrev pub found_of : Result (ArrayVec ℕ) SectionFault → Found

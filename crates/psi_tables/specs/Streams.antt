@@ -30,10 +30,6 @@ stream_of info = record {
   descriptors = record { items = kept_bytes info.descriptors };
 }
 
--- the bytes of its kept descriptors are no more than are kept
-abbrev pub IsKeepable : StreamInfo → Type 0
-IsKeepable info = length (kept_bytes info.descriptors) ≤ 183
-
 -- ---- how it is written
 
 -- a PID of 13 bits and whole descriptors of the kept tags

@@ -2,7 +2,8 @@
 
 ghost use Rattle.std.specs.Prelude.{◌≡◌, ℕ, ◌↔◌, List, [], ◌∷◌, ◌++◌, ◌+◌, length};
 ghost use Rattle.psi_tables.specs.Crc.{IsCrcOf};
-ghost use Rattle.psi_tables.specs.Sections.{Payload, Found, crc_over, sections_of, GivesInTurn};
+ghost use Rattle.payload_lists.specs.Payload.{Payload};
+ghost use Rattle.psi_tables.specs.Sections.{Found, crc_over, sections_of, GivesInTurn};
 
 /// The CRC by long division, of which sections are made, is the one that the division of polynomials leaves.
 pub fn crc_by_long_division()

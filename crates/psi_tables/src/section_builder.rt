@@ -1,5 +1,6 @@
 ghost use Rattle.std.specs.Prelude.{◌≡◌, ◌≤◌, [], ◌∷◌, ◌++◌, List, length, Err, IfNone, IfSome, IfErr};
-ghost use Rattle.psi_tables.specs.Sections.{Payload, sections_of};
+ghost use Rattle.payload_lists.specs.Payload.{Payload};
+ghost use Rattle.psi_tables.specs.Sections.{sections_of};
 
 use crate::section::{Section, SectionFault};
 use crate::section_front::SectionFront;
@@ -28,7 +29,7 @@ pub struct SectionBuilder {
 impl Model for SectionBuilder {
     ghost use Rattle.std.specs.Prelude.{List};
     ghost use Rattle.std.specs.Coded.{coded_list};
-    ghost use Rattle.psi_tables.specs.Sections.{Payload, payload_code};
+    ghost use Rattle.payload_lists.specs.Payload.{Payload, payload_code};
 
     ghost Value = { List Payload };
 

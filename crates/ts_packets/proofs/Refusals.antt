@@ -8,7 +8,8 @@ use Rattle.ts_packets.specs.declared.adaptation_field.AdaptationField.{Adaptatio
 use Rattle.ts_packets.specs.declared.packet_fault.PacketFault.{PacketFault}
 use Rattle.ts_packets.specs.declared.packet_fault.PacketFault.TheVariants.{Sync, ErrorFlag, Scrambled, BadField}
 use Rattle.ts_packets.specs.AdaptationField.{field_of, is_too_short}
-use Rattle.ts_packets.specs.Packet.{PacketRecord, sync_byte, packet_identifier, payload_unit_start_indicator, continuity_counter, adaptation_field_control, adaptation_field_length, has_field, field_bytes, is_length_allowed, has_fault, HasFieldAndPayload, IsFieldSound, IsPacket, fields_of, refusal, packet_of}
+use Rattle.ts_packets.specs.Packet.{PacketRecord, sync_byte, packet_identifier, payload_unit_start_indicator, continuity_counter, adaptation_field_control, adaptation_field_length, has_field, field_bytes, is_length_allowed, has_fault, IsFieldSound, IsPacket, fields_of, refusal, packet_of}
+use Rattle.ts_packets.specs.Private.Packet.{HasFieldAndPayload}
 use Rattle.ts_packets.proofs.Elements.{adaptation_field_control-is, transport_error_indicator-is, continuity_counter-is, pcr_flag-is, and_15, elements}
 
 -- what a sound field keeps is what the test of its length asks for

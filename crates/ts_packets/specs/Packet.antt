@@ -105,10 +105,6 @@ has_fault bytes ErrorFlag = transport_error_indicator bytes == 1
 has_fault bytes Scrambled = not (transport_scrambling_control bytes == 0)
 has_fault bytes BadField = not (is_length_allowed (adaptation_field_control bytes) (adaptation_field_length bytes)) || is_too_short (field_bytes bytes)
 
--- nothing is wrong with the field, and these are the field and the payload
-abbrev pub HasFieldAndPayload : List ℕ → Option AdaptationField → List ℕ → Type 0
-HasFieldAndPayload bytes field payload = (has_fault bytes BadField ≡ false) × (field ≡ (fields_of bytes).field) × (payload ≡ (fields_of bytes).payload)
-
 -- the first fault that the bytes have
 abbrev pub refusal : List ℕ → Option PacketFault
 refusal bytes = find (has_fault bytes) (Sync ∷ ErrorFlag ∷ Scrambled ∷ BadField ∷ [])

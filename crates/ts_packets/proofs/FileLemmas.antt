@@ -8,7 +8,7 @@ use Rattle.std.proofs.lemmas.Bool.{and_from, eq-eqb}
 use Rattle.std.proofs.lemmas.Slice.Eq.{bytes_eq-Decides}
 use Rattle.std.proofs.lemmas.List.{take_at, drop_at, drop-drop}
 use Rattle.ts_packets.specs.Packet.{PacketRecord, IsPacket, refusal, packet_of, fields_of, IsWritable, written}
-use Rattle.ts_packets.specs.TransportStream.{packets, rest_of, is_repeat, joined_payload}
+use Rattle.ts_packets.specs.TransportStream.{packets, rest_of}
 use Rattle.ts_packets.proofs.Refusals.{packet-passes, passes-packet, packet-found}
 use Rattle.ts_packets.proofs.WrittenPackets.{written-packet}
 
@@ -68,29 +68,3 @@ packets-written (packet ∷ list) rest each short =
     let first : packet_of (written packet) ≡ Some packet = packet-found packet (written packet) is in
     let others : packets (flat_map written list ++ rest) ≡ map Some list = packets-written list rest each.1 short in
     ap packets (append_assoc (written packet) (flat_map written list) rest) ∙ packets-append (written packet) (flat_map written list ++ rest) is.size ∙ cc
-
--- ---- a packet that comes twice is taken once
-
-repeats_itself : (packet : PacketRecord) → is_repeat packet packet ≡ true
-repeats_itself packet = and_from (packet.counter == packet.counter) (bytes_eq packet.payload packet.payload) (eq-eqb packet.counter packet.counter refl) ((bytes_eq-Decides packet.payload packet.payload).1 refl)
-
-abbrev payload_of : List PacketRecord → List ℕ
-payload_of list = flat_map (λ packet. packet.payload) (dedup is_repeat list)
-
-taken_once : (passes : Bool) (packet : PacketRecord) (list : List PacketRecord) → payload_of (cond passes (packet ∷ cond passes (packet ∷ list) list) (cond passes (packet ∷ list) list)) ≡ payload_of (cond passes (packet ∷ list) list)
-taken_once false packet list = refl
-taken_once true packet list = ap (λ (again : Bool). flat_map (λ (p : PacketRecord). p.payload) (cond again (dedup_from is_repeat packet list) (packet ∷ dedup_from is_repeat packet list))) (repeats_itself packet)
-
-abbrev passing : ℕ → List (Option PacketRecord) → List PacketRecord
-passing pid list = filter (λ packet. (packet.pid == pid) && nat_lt 0 (length packet.payload)) (filter_map (λ found. found) list)
-
-found_twice : (pid : ℕ) (found : Option PacketRecord) (list : List (Option PacketRecord)) → payload_of (passing pid (found ∷ found ∷ list)) ≡ payload_of (passing pid (found ∷ list))
-found_twice pid None list = refl
-found_twice pid (Some packet) list = taken_once ((packet.pid == pid) && nat_lt 0 (length packet.payload)) packet (passing pid list)
-
-pub joined_payload-twice : (piece file : List ℕ) (pid : ℕ) → length piece ≡ 188 → joined_payload (piece ++ (piece ++ file)) pid ≡ joined_payload (piece ++ file) pid
-joined_payload-twice piece file pid size =
-    let once : packets (piece ++ file) ≡ packet_of piece ∷ packets file = packets-append piece file size in
-    let twice : packets (piece ++ (piece ++ file)) ≡ packet_of piece ∷ packet_of piece ∷ packets file = packets-append piece (piece ++ file) size ∙ cc in
-    let of : List (Option PacketRecord) → List ℕ = λ list. payload_of (passing pid list) in
-    ap of twice ∙ found_twice pid (packet_of piece) (packets file) ∙ sym (ap of once)
