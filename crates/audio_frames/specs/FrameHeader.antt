@@ -17,9 +17,11 @@ id bytes = bits bytes 12 1
 abbrev pub layer : List ℕ → ℕ
 layer bytes = bits bytes 13 2
 
+-- the place of the bit rate in its table, from 1 on
 abbrev pub bit_rate_index : List ℕ → ℕ
 bit_rate_index bytes = bits bytes 16 4
 
+-- the place of the sampling rate in its table, from 0 on
 abbrev pub sampling_index : List ℕ → ℕ
 sampling_index bytes = bits bytes 20 2
 

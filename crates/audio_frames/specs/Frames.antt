@@ -3,10 +3,11 @@ use Rattle.std.specs.Prelude.{◌≡◌, ℕ, ◌+◌, nat_lt, nat_le, Bool, tru
 use Rattle.std.specs.List.{find, range_with_len}
 use Rattle.audio_frames.specs.FrameHeader.{syncword, frame_length, is_header, is_same_format}
 
--- a header at a place of the payload, and the place where its frame ends
+-- a header at a place of the payload
 abbrev pub has_header : List ℕ → ℕ → Bool
 has_header payload at = is_header (drop at payload)
 
+-- the place where the frame of a header ends
 abbrev pub end_of : List ℕ → ℕ → ℕ
 end_of payload at = at + frame_length (drop at payload)
 

@@ -7,7 +7,8 @@ use Rattle.pes_units.specs.declared.pes_fault.PesFault.TheVariants.{BadPrefix, S
 use Rattle.pes_units.specs.declared.pes_header.PesHeader.{PesHeader}
 use Rattle.pes_units.specs.declared.times.Times.{Times}
 use Rattle.pes_units.specs.PesHeader.{header_of, refusal}
-use Rattle.pes_units.specs.PesPackets.{gathered, is_dropped, is_length_sound, packet_refusal, last_refusal, pes_packets}
+use Rattle.pes_units.specs.PesPackets.{gathered, is_dropped, is_length_sound, packet_refusal, last_refusal}
+use Rattle.pes_units.specs.Private.PesPackets.{pes_packets}
 use Rattle.pes_units.specs.TimeAxis.{IsUnwrapped}
 use Rattle.pes_units.specs.VideoHeader.{written_header}
 

@@ -65,20 +65,3 @@ last_refusal video bytes =
 -- a cut packet is dropped, but in video it is taken as it is where its header is whole
 abbrev pub is_dropped : Bool → List ℕ → Bool
 is_dropped video bytes = is_cut video bytes && not (video && is_header_whole bytes)
-
--- ---- headers and payloads
-
--- a PES packet: its header, and what follows it
-pub record PesPacket : Type 0 where
-  pub header : PesHeader
-  pub payload : List ℕ
-
--- the packet that the bytes are
-abbrev pub packet_of : List ℕ → PesPacket
-packet_of bytes = record { header = fields_of bytes; payload = drop (header_length bytes) bytes }
-
--- the header and the payload of each of the gathered packets, where nothing refuses them; a dropped last one is left out
-abbrev pub pes_packets : Bool → List Gathered → List PesPacket
-pes_packets video [] = []
-pes_packets video (last ∷ []) = if is_dropped video last.bytes then [] else packet_of last.bytes ∷ []
-pes_packets video (packet ∷ next ∷ packets) = packet_of packet.bytes ∷ pes_packets video (next ∷ packets)

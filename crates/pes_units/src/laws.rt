@@ -1,7 +1,7 @@
 //! Laws of the definitions, each the contract of a function that does nothing.
 
 ghost use Rattle.std.specs.Prelude.{◌≡◌, ℕ, ℤ, List};
-ghost use Rattle.std.specs.List.{concat};
+ghost use Rattle.std.specs.List.{flat_map};
 ghost use Rattle.payload_lists.specs.Payload.{CarriedPayload};
 ghost use Rattle.pes_units.specs.PesPackets.{Gathered, gathered, AreCuts};
 ghost use Rattle.pes_units.specs.TimeAxis.{IsUnwrapped};
@@ -13,5 +13,5 @@ pub fn one_unwrapped_time()
 
 /// PES packets that are cut into payloads in any way, each with the start flag on its first one, are gathered again.
 pub fn gathered_again()
-    ensures { (packets : List Gathered) (cuts : List (List CarriedPayload)) → AreCuts packets cuts → gathered (concat cuts) ≡ packets }
+    ensures { (packets : List Gathered) (cuts : List (List CarriedPayload)) → AreCuts packets cuts → gathered (flat_map (λ pieces. pieces) cuts) ≡ packets }
 {}

@@ -1,5 +1,5 @@
 -- The sections in the payloads of one PID (ISO/IEC 13818-1, 2.4.4), as a list for any list of payloads.
-use Rattle.std.specs.Prelude.{◌≡◌, ℕ, zero, suc, ◌+◌, ◌-◌, ◌*◌, ◌^◌, ◌==◌, nat_lt, nat_le, bit_xor, Bool, not, ◌&&◌, ◌||◌, List, [], ◌∷◌, ◌++◌, length, take, drop, replicate, slice_index, Result, Ok, Err, is_err, if◌then◌else◌}
+use Rattle.std.specs.Prelude.{◌≡◌, ℕ, zero, suc, ◌+◌, ◌-◌, ◌*◌, ◌^◌, ◌==◌, nat_lt, nat_le, bit_xor, Bool, false, not, ◌||◌, List, [], ◌∷◌, ◌++◌, length, take, drop, replicate, slice_index, Result, Ok, Err, is_err, if◌then◌else◌}
 use Rattle.std.specs.List.{list_any}
 use Rattle.bit_lists.specs.Fields.{bit_list}
 use Rattle.payload_lists.specs.Payload.{Payload, is_start}
@@ -129,6 +129,14 @@ sections_behind before (payload ∷ payloads) =
 -- the sections of payloads, and the errors in their places
 unfoldable pub sections_of : List Payload → List Found
 sections_of payloads = sections_behind [] payloads
+
+-- what a payload adds to the sections of those before it
+abbrev pub added : List Payload → Payload → List Found
+added before payload = drop (length (sections_of before)) (sections_of (before ++ payload ∷ []))
+
+-- a payload that goes on with what is before it
+abbrev pub going : List ℕ → Payload
+going bytes = record { start = false; bytes = bytes }
 
 -- ---- reading in turn
 

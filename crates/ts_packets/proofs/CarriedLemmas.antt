@@ -66,18 +66,19 @@ without-append (y ∷ xs) x =
 pub carried_nothing : (before : List Piece) (piece : Piece) → payload_packets (piece ∷ []) ≡ [] → (carried (before ++ piece ∷ []) ≡ carried before) × (last_payload (before ++ piece ∷ []) ≡ last_payload before)
 carried_nothing before piece none =
     let same : payload_packets (before ++ piece ∷ []) ≡ payload_packets before =
-      payload_packets-append before (piece ∷ []) ∙ ap (λ (more : List PlacedPacket). payload_packets before ++ more) none ∙ append-nil (payload_packets before) in
+    payload_packets-append before (piece ∷ []) ∙ ap (λ (more : List PlacedPacket). payload_packets before ++ more) none ∙ append-nil (payload_packets before) in
     (ap (λ (packets : List PlacedPacket). map carried_by (without_repeats packets)) same, ap (last_or None) same)
 
 pub carried_more : (before : List Piece) (piece : Piece) (x : PlacedPacket) → payload_packets (piece ∷ []) ≡ x ∷ [] → (carried (before ++ piece ∷ []) ≡ carried before ++ map carried_by (cond (option_map_or (λ (last : PlacedPacket). is_repeat x.packet last.packet) (last_payload before) false) [] (x ∷ []))) × (last_payload (before ++ piece ∷ []) ≡ Some x)
 unfolding repeats
 carried_more before piece x one =
     let more : payload_packets (before ++ piece ∷ []) ≡ payload_packets before ++ x ∷ [] =
-      payload_packets-append before (piece ∷ []) ∙ ap (λ (packets : List PlacedPacket). payload_packets before ++ packets) one in
-    (ap (λ (packets : List PlacedPacket). map carried_by (without_repeats packets)) more
-      ∙ ap (map carried_by) (without-append (payload_packets before) x)
-      ∙ map-append carried_by (without_repeats (payload_packets before)) (cond (repeats (last_or None (payload_packets before)) x) [] (x ∷ [])),
-    ap (last_or None) more ∙ last-append None (payload_packets before) x)
+    payload_packets-append before (piece ∷ []) ∙ ap (λ (packets : List PlacedPacket). payload_packets before ++ packets) one in (
+      ap (λ (packets : List PlacedPacket). map carried_by (without_repeats packets)) more
+          ∙ ap (map carried_by) (without-append (payload_packets before) x)
+          ∙ map-append carried_by (without_repeats (payload_packets before)) (cond (repeats (last_or None (payload_packets before)) x) [] (x ∷ [])),
+      ap (last_or None) more ∙ last-append None (payload_packets before) x,
+    )
 
 -- ---- a piece by its packet
 
@@ -124,21 +125,24 @@ carried_taken before piece packet last taken is last_is taken_is =
   where
     again_is : option_map_or (is_repeat packet) last false ≡ option_map_or (λ (p : PlacedPacket). is_repeat packet p.packet) (last_payload before) false
     again_is = ap (λ (last : Option PacketRecord). option_map_or (is_repeat packet) last false) last_is ∙ repeat_of packet (last_payload before)
+
     taken_of : (some again : Bool) → nat_lt 0 (length packet.payload) ≡ some → option_map_or (λ (p : PlacedPacket). is_repeat packet p.packet) (last_payload before) false ≡ again → carried_at piece.at taken ≡ carried_of piece.at (cond (some && not again) (Some packet) None)
     taken_of some again some_is again' =
-      carried_at-is piece.at taken ∙ ap (carried_of piece.at) (taken_is ∙ ap (λ (b : Bool). cond (nat_lt 0 (length packet.payload) && not b) (Some packet) None) (again_is ∙ again') ∙ ap (λ (b : Bool). cond (b && not again) (Some packet) None) some_is)
+        carried_at-is piece.at taken ∙ ap (carried_of piece.at) (taken_is ∙ ap (λ (b : Bool). cond (nat_lt 0 (length packet.payload) && not b) (Some packet) None) (again_is ∙ again') ∙ ap (λ (b : Bool). cond (b && not again) (Some packet) None) some_is)
+
     by_again : (again : Bool) → carried before ++ map carried_by (cond again [] (placed_at piece.at packet ∷ [])) ≡ carried before ++ carried_of piece.at (cond (true && not again) (Some packet) None)
     by_again true = refl
     by_again false = refl
+
     by_payload : (some : Bool) → nat_lt 0 (length packet.payload) ≡ some → (again : Bool) → option_map_or (λ (p : PlacedPacket). is_repeat packet p.packet) (last_payload before) false ≡ again → carried (before ++ piece ∷ []) ≡ carried before ++ carried_at piece.at taken
     by_payload false some_is again again_is =
-      (carried_nothing before piece (packets_one piece packet is ∙ ap (λ (b : Bool). cond b (placed_at piece.at packet ∷ []) []) some_is)).0
-      ∙ sym (ap (λ (more : List CarriedPayload). carried before ++ more) (taken_of false again some_is again_is) ∙ append-nil (carried before))
+        (carried_nothing before piece (packets_one piece packet is ∙ ap (λ (b : Bool). cond b (placed_at piece.at packet ∷ []) []) some_is)).0
+        ∙ sym (ap (λ (more : List CarriedPayload). carried before ++ more) (taken_of false again some_is again_is) ∙ append-nil (carried before))
     by_payload true some_is again again_is =
-      (carried_more before piece (placed_at piece.at packet) (packets_one piece packet is ∙ ap (λ (b : Bool). cond b (placed_at piece.at packet ∷ []) []) some_is)).0
-      ∙ ap (λ (b : Bool). carried before ++ map carried_by (cond b [] (placed_at piece.at packet ∷ []))) again_is
-      ∙ by_again again
-      ∙ sym (ap (λ (more : List CarriedPayload). carried before ++ more) (taken_of true again some_is again_is))
+        (carried_more before piece (placed_at piece.at packet) (packets_one piece packet is ∙ ap (λ (b : Bool). cond b (placed_at piece.at packet ∷ []) []) some_is)).0
+        ∙ ap (λ (b : Bool). carried before ++ map carried_by (cond b [] (placed_at piece.at packet ∷ []))) again_is
+        ∙ by_again again
+        ∙ sym (ap (λ (more : List CarriedPayload). carried before ++ more) (taken_of true again some_is again_is))
 
 -- payload stands, or none, by its length
 pub some_payload : (n : ℕ) → (n == 0) ≡ false → nat_lt 0 n ≡ true
@@ -178,13 +182,13 @@ again_in (z ∷ xs) x y ys same = ap (λ (zs : List PlacedPacket). z ∷ zs) (ag
 pub sent_twice : (before after : List Piece) (first second : Piece) (packet : PacketRecord) → packet_of first.bytes ≡ Some packet → packet_of second.bytes ≡ Some packet → carried (before ++ first ∷ second ∷ after) ≡ carried (before ++ first ∷ after)
 sent_twice before after first second packet first_is second_is =
     ap (λ (packets : List PlacedPacket). map carried_by (without_repeats packets))
-      (payload_packets-append before (first ∷ second ∷ after)
-      ∙ ap (λ (more : List PlacedPacket). payload_packets before ++ more) (payload_packets-append (first ∷ []) (second ∷ after) ∙ ap (λ (more : List PlacedPacket). payload_packets (first ∷ []) ++ more) (payload_packets-append (second ∷ []) after)))
+    (payload_packets-append before (first ∷ second ∷ after)
+    ∙ ap (λ (more : List PlacedPacket). payload_packets before ++ more) (payload_packets-append (first ∷ []) (second ∷ after) ∙ ap (λ (more : List PlacedPacket). payload_packets (first ∷ []) ++ more) (payload_packets-append (second ∷ []) after)))
     ∙ by_payload (nat_lt 0 (length packet.payload)) (packets_one first packet first_is) (packets_one second packet second_is)
     ∙ ap (λ (packets : List PlacedPacket). map carried_by (without_repeats packets))
-      (sym (payload_packets-append before (first ∷ after) ∙ ap (λ (more : List PlacedPacket). payload_packets before ++ more) (payload_packets-append (first ∷ []) after)))
+    (sym (payload_packets-append before (first ∷ after) ∙ ap (λ (more : List PlacedPacket). payload_packets before ++ more) (payload_packets-append (first ∷ []) after)))
   where
     by_payload : (some : Bool) → payload_packets (first ∷ []) ≡ cond some (placed_at first.at packet ∷ []) [] → payload_packets (second ∷ []) ≡ cond some (placed_at second.at packet ∷ []) [] →
-      map carried_by (without_repeats (payload_packets before ++ (payload_packets (first ∷ []) ++ (payload_packets (second ∷ []) ++ payload_packets after)))) ≡ map carried_by (without_repeats (payload_packets before ++ (payload_packets (first ∷ []) ++ payload_packets after)))
+        map carried_by (without_repeats (payload_packets before ++ (payload_packets (first ∷ []) ++ (payload_packets (second ∷ []) ++ payload_packets after)))) ≡ map carried_by (without_repeats (payload_packets before ++ (payload_packets (first ∷ []) ++ payload_packets after)))
     by_payload true one two = rw (one, two) (ap (map carried_by) (again_in (payload_packets before) (placed_at first.at packet) (placed_at second.at packet) (payload_packets after) refl))
     by_payload false one two = rw (one, two) refl

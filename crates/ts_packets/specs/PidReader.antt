@@ -4,7 +4,7 @@ use Rattle.std.specs.Option.{option_map}
 use Rattle.payload_lists.specs.Payload.{CarriedPayload}
 use Rattle.ts_packets.specs.declared.packet.Packet.{Packet}
 use Rattle.ts_packets.specs.declared.pid_reader.PidReader.{PidReader}
-use Rattle.ts_packets.specs.Packet.{PacketRecord, record_of}
+use Rattle.ts_packets.specs.Packet.{record_of}
 use Rattle.ts_packets.specs.TransportStream.{Piece}
 use Rattle.ts_packets.specs.Carried.{last_payload, carried_by}
 

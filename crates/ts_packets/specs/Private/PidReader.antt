@@ -1,5 +1,5 @@
 -- What a reader of the packets of a PID does with the next one.
-use Rattle.std.specs.Prelude.{nat_lt, Bool, false, not, ◌&&◌, length, Option, Some, None, if◌then◌else◌}
+use Rattle.std.specs.Prelude.{nat_lt, false, not, ◌&&◌, length, Option, Some, None, if◌then◌else◌}
 use Rattle.std.specs.Option.{option_map_or}
 use Rattle.ts_packets.specs.declared.pid_fault.PidFault.{PidFault}
 use Rattle.ts_packets.specs.declared.pid_fault.PidFault.TheVariants.{Gap}
