@@ -1,0 +1,6 @@
+pub mod Field
+pub mod Refusal
+pub mod Job
+pub mod JobText
+pub mod SharedFile
+pub mod Report
