@@ -194,8 +194,8 @@ unfolding is_utf8 chars encode_utf8
 not_utf8 = record {
   short = lit≤ tt;
   none = λ document spelled.
-    let fails : is_utf8 (115 ∷ 0xFF ∷ []) ≡ false = refl in
-    false≢true (sym fails ∙ is_utf8-from_IsUtf8 (115 ∷ 0xFF ∷ []) spelled.utf8)
+      let fails : is_utf8 (115 ∷ 0xFF ∷ []) ≡ false = refl in
+      false≢true (sym fails ∙ is_utf8-from_IsUtf8 (115 ∷ 0xFF ∷ []) spelled.utf8);
 }
 
 -- one byte too many, whatever the text is
@@ -221,8 +221,12 @@ stated_program = record { file = codes "a.ts"; program = 1; number = 7; weight =
 -- and the job that it states
 stated_job : IsJobOf document (record { slot = 4000; start = 13500000; stream_id = 1; nodes = 1000; evaluations = 1000; programs = stated_program ∷ [] })
 stated_job = record {
-  slot = refl; start = refl; stream_id = refl; nodes = refl; evaluations = refl;
-  programs = (record { file = refl; program = refl; number = refl; weight = refl; coarser = refl; drop = refl }, tt)
+  slot = refl;
+  start = refl;
+  stream_id = refl;
+  nodes = refl;
+  evaluations = refl;
+  programs = (record { file = refl; program = refl; number = refl; weight = refl; coarser = refl; drop = refl }, tt);
 }
 
 -- the file of the second program is the third one that the command names

@@ -5,13 +5,17 @@
 //! writes its one line of JSON. Stands on `version_table` for the limits of tables, on `toml` and on `serde_json`.
 #![tactic(auto)]
 
+mod arrays;
 mod fault;
 mod job;
 pub mod limits;
+mod line;
+mod objects;
 mod report;
 
 pub use fault::JobFault;
 pub use job::{Job, ProgramJob};
+pub use line::report_text;
 pub use list_types::{ListOf, OutOfMemory, Text};
 pub use report::{ProgramReport, Report};
 pub use version_table::Choice;

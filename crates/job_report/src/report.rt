@@ -50,21 +50,34 @@ pub enum Report {
         units: u32,
     },
     /// A certificate holds, with this bound.
-    Check { bound: u64 },
+    Check {
+        bound: u64,
+    },
     /// A program was made.
-    Gen { bytes: u64, pictures: u32 },
+    Gen {
+        bytes: u64,
+        pictures: u32,
+    },
     /// The words are no command.
     Usage,
     /// The first line, from 1, that no table text has there.
-    TableSyntax { line: u64 },
+    TableSyntax {
+        line: u64,
+    },
     /// The first limit that a table text breaks.
-    TableLimit { name: ArrayString<NAME_MOST> },
+    TableLimit {
+        name: ArrayString<NAME_MOST>,
+    },
     /// The job text is no document.
     JobSyntax,
     /// The first field that a job text gets wrong.
-    JobField { name: ArrayString<NAME_MOST> },
+    JobField {
+        name: ArrayString<NAME_MOST>,
+    },
     /// The first limit that a job text breaks.
-    JobLimit { name: ArrayString<NAME_MOST> },
+    JobLimit {
+        name: ArrayString<NAME_MOST>,
+    },
     /// A program is refused: the program in the job from 0, what is wrong, and at which byte.
     Source {
         at: u64,
@@ -79,16 +92,24 @@ pub enum Report {
         unit: u32,
     },
     /// A file could not be read.
-    ReadFault { name: Text },
+    ReadFault {
+        name: Text,
+    },
     /// A file could not be written.
-    WriteFault { name: Text },
+    WriteFault {
+        name: Text,
+    },
     /// The first byte that no certificate has there.
-    CertSyntax { byte: u64 },
+    CertSyntax {
+        byte: u64,
+    },
     /// A certificate is wrong at this node.
     CertFault {
         node: u32,
         why: ArrayString<NAME_MOST>,
     },
     /// A file that the command reads is not there.
-    Missing { name: Text },
+    Missing {
+        name: Text,
+    },
 }
