@@ -1,3 +1,4 @@
 pub mod Examples
 pub mod Floats
 pub mod ReportExamples
+pub mod Stated

@@ -1,7 +1,7 @@
 -- The fields of a job text: which there are, in order, and what each may hold. Values are those of TOML.
-use Rattle.std.specs.Prelude.{ℕ, pos, ◌==◌, Bool, true, false, not, ◌&&◌, nat_lt, nat_le, List, [], ◌∷◌, length, map, codes, unwrap_or}
+use Rattle.std.specs.Prelude.{ℕ, pos, ◌==◌, Bool, true, false, not, ◌&&◌, nat_lt, nat_le, List, [], ◌∷◌, length, map, codes, unwrap_or, is_some}
 use Rattle.std.specs.List.{list_any, list_all}
-use Rattle.toml.specs.Data.{Data, string, integer, array, table, Items, no_items, item, Members, get_member}
+use Rattle.toml.specs.Data.{Data, string, integer, array, Items, no_items, item, Members, get_member, as_integer, as_str, as_table}
 use Rattle.version_table.specs.declared.limits.TheConstants.{SLOT_LEAST, SLOT_MOST, NODES_MOST, EVALUATIONS_MOST, PROGRAMS_MOST}
 use Rattle.job_report.specs.declared.limits.TheConstants.{START_MOST, STREAM_ID_MOST, NUMBER_MOST, WEIGHT_MOST, COARSER_MOST, COARSENESS_LEAST, COARSENESS_MOST, DROP_MOST, PID_MOST}
 
@@ -18,16 +18,13 @@ values_in value = []
 
 -- a whole number; TOML's are signed
 abbrev pub is_integer : Data → Bool
-is_integer (integer _) = true
-is_integer value = false
+is_integer value = is_some (as_integer value)
 
 abbrev pub is_text : Data → Bool
-is_text (string _) = true
-is_text value = false
+is_text value = is_some (as_str value)
 
 abbrev pub is_table : Data → Bool
-is_table (table _) = true
-is_table value = false
+is_table value = is_some (as_table value)
 
 -- an array whose values all have this type
 abbrev pub is_array_of : (Data → Bool) → Data → Bool
@@ -88,28 +85,26 @@ job_fields =
 abbrev pub number_of_program : Members → ℕ
 number_of_program program = natural_of (unwrap_or (get_member (codes "number") program) (integer (pos 0)))
 
--- a number that none of the programs before has
-abbrev pub is_new_number : List Members → Data → Bool
-is_new_number before value =
-    is_between 1 NUMBER_MOST value && not (list_any (λ program. number_of_program program == natural_of value) before)
+-- a number of a program that is none of these
+abbrev pub is_new_number : (taken : List ℕ) → Data → Bool
+is_new_number taken value = is_between 1 NUMBER_MOST value && not (list_any (λ n. n == natural_of value) taken)
 
--- how coarse versions are: each coarser than the one before
+-- so many numbers at most, each between two
+abbrev pub are_numbers : (count least most : ℕ) → Data → Bool
+are_numbers count least most value = nat_le (length (values_in value)) count && list_all (is_between least most) (values_in value)
+
+-- how coarse versions are, each coarser than the one before
 abbrev pub are_coarser : Data → Bool
 are_coarser value =
-    has_between 0 COARSER_MOST value
-    && list_all (is_between COARSENESS_LEAST COARSENESS_MOST) (values_in value)
-    && rises (map natural_of (values_in value))
+    are_numbers COARSER_MOST COARSENESS_LEAST COARSENESS_MOST value && rises (map natural_of (values_in value))
 
-abbrev pub are_pids : Data → Bool
-are_pids value = has_between 0 DROP_MOST value && list_all (is_between 0 PID_MOST) (values_in value)
-
--- the fields of a program behind others, in order
-abbrev pub program_fields : List Members → List Field
-program_fields before =
+-- the fields of a program behind others that have these numbers, in order
+abbrev pub program_fields : (taken : List ℕ) → List Field
+program_fields taken =
     required (codes "file") is_text is_some_text
     ∷ required (codes "program") is_integer (is_between 1 NUMBER_MOST)
-    ∷ required (codes "number") is_integer (is_new_number before)
+    ∷ required (codes "number") is_integer (is_new_number taken)
     ∷ optional (codes "weight") is_integer (is_between 1 WEIGHT_MOST)
     ∷ optional (codes "coarser") (is_array_of is_integer) are_coarser
-    ∷ optional (codes "drop") (is_array_of is_integer) are_pids
+    ∷ optional (codes "drop") (is_array_of is_integer) (are_numbers DROP_MOST 0 PID_MOST)
     ∷ []

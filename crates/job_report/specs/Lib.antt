@@ -1,3 +1,4 @@
+pub mod Private
 pub mod Field
 pub mod Refusal
 pub mod Job

@@ -3,7 +3,7 @@ use Rattle.std.specs.Prelude.{ℕ, Bool, if◌then◌else◌, List, [], ◌∷�
 use Rattle.std.specs.List.{flat_map, list_any, list_all}
 use Rattle.std.specs.Str.{bytes_eq}
 use Rattle.toml.specs.Data.{Data, table, Members, no_members, member, get_member}
-use Rattle.job_report.specs.Field.{Field, job_fields, program_fields, values_in}
+use Rattle.job_report.specs.Field.{Field, job_fields, program_fields, number_of_program, values_in}
 
 -- a refusal with its name: for a field that is missing, of another type or none that there is; for a value out of range
 pub data Refusal : Type 0 where
@@ -46,12 +46,12 @@ refusals_of_table place members fields = flat_map (refusals_of_field place membe
 unfoldable pub place_of_program : ℕ → List ℕ
 place_of_program n = codes "program[" ++ decimal n ++ codes "]."
 
--- what is wrong with programs, each behind those before it
-abbrev pub refusals_of_programs : (before programs : List Members) → List Refusal
-refusals_of_programs before [] = []
-refusals_of_programs before (program ∷ programs) =
-    refusals_of_table (place_of_program (length before)) program (program_fields before)
-    ++ refusals_of_programs (before ++ program ∷ []) programs
+-- what is wrong with programs behind others that have these numbers, one after the other
+abbrev pub refusals_of_programs : (taken : List ℕ) → List Members → List Refusal
+refusals_of_programs taken [] = []
+refusals_of_programs taken (program ∷ programs) =
+    refusals_of_table (place_of_program (length taken)) program (program_fields taken)
+    ++ refusals_of_programs (taken ++ number_of_program program ∷ []) programs
 
 -- the tables among values
 abbrev pub tables_among : List Data → List Members

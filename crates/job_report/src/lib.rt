@@ -12,6 +12,7 @@ pub mod limits;
 mod line;
 mod objects;
 mod report;
+mod values;
 
 pub use fault::JobFault;
 pub use job::{Job, ProgramJob};
