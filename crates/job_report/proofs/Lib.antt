@@ -1,4 +1,5 @@
 pub mod Examples
+pub mod FieldLaws
 pub mod Floats
 pub mod ReportExamples
 pub mod Stated

@@ -1,2 +1,3 @@
-pub mod Value
 pub mod Fault
+pub mod Place
+pub mod Value

@@ -7,10 +7,12 @@
 
 mod arrays;
 mod fault;
+mod fields;
 mod job;
 pub mod limits;
 mod line;
 mod objects;
+mod place;
 mod report;
 mod values;
 

@@ -44,3 +44,5 @@ pub const PID_MOST: u16 = 8_191;
 
 /// Bytes of a name in a refusal or a report, at most.
 pub const NAME_MOST: usize = 32;
+/// Bytes of a field's name in its table, at most.
+pub(crate) const FIELD_NAME_MOST: usize = 16;

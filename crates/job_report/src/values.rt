@@ -23,7 +23,8 @@ pub(crate) enum Wrong {
 /// The number of a value, from `least` to `most`.
 pub(crate) fn number_in(value: &Value, least: u64, most: u64) -> Result<u64, Wrong>
     ensures number { IfOk result (λ n. view value.now ≡ integer_of n) }
-    ensures right { IfOk result (λ n. (least ≤ n) × (n ≤ most)) }
+    ensures within { IfOk result (λ n. (least ≤ n) × (n ≤ most)) }
+    ensures right { IfOk result (λ n. IsRight is_integer (is_between least most) (view value.now)) }
     ensures wrong { IfErr result (IsWrong is_integer (is_between least most) (view value.now)) }
 {
     let Some(stated) = value.as_integer() else {
@@ -42,7 +43,7 @@ pub(crate) fn number_in(value: &Value, least: u64, most: u64) -> Result<u64, Wro
 /// The text of a value, which is not empty.
 pub(crate) fn text_in(value: &Value) -> Result<&str, Wrong>
     ensures text { IfOk result (λ text. view value.now ≡ string text.now) }
-    ensures right { IfOk result (λ text. is_some_text (string text.now) ≡ true) }
+    ensures right { IfOk result (λ text. IsRight is_text is_some_text (view value.now)) }
     ensures wrong { IfErr result (IsWrong is_text is_some_text (view value.now)) }
 {
     let Some(text) = value.as_str() else {
@@ -74,7 +75,7 @@ pub(crate) fn numbers_in<const COUNT: usize>(
     most: u16,
 ) -> Result<ArrayVec<u16, COUNT>, Wrong>
     ensures numbers { IfOk result (λ numbers. view value.now ≡ array_of numbers.items) }
-    ensures right { IfOk result (λ numbers. are_numbers COUNT least most (array_of numbers.items) ≡ true) }
+    ensures right { IfOk result (λ numbers. IsRight (is_array_of is_integer) (are_numbers COUNT least most) (view value.now)) }
     ensures wrong { IfErr result (IsWrong (is_array_of is_integer) (are_numbers COUNT least most) (view value.now)) }
 {
     let Some(values) = values_of(value) else {

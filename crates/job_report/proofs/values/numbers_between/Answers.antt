@@ -12,7 +12,7 @@ and_false false = refl
 pub returns-in-None-clause-none : goal.returns-in-None-clause-none
 returns-in-None-clause-none g c =
     let fails : list_all (is_between c.args.least c.args.most) (map view c.args.values.now) ≡ false =
-      rw (list_all-map (is_between c.args.least c.args.most) view c.args.values.now) (
-      list_all_at (λ value. is_between c.args.least c.args.most (view value)) c.args.values.now c.loop-value.value-index c.value-item.result
-        c.loop-value-test.true (rw (← c.value-item.is) c.in-None.ensures.none)) in
+    rw (list_all-map (is_between c.args.least c.args.most) view c.args.values.now) (
+    list_all_at (λ value. is_between c.args.least c.args.most (view value)) c.args.values.now c.loop-value.value-index c.value-item.result
+    c.loop-value-test.true (rw (← c.value-item.is) c.in-None.ensures.none)) in
     rw fails (and_false _)

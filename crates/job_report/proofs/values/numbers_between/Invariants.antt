@@ -10,5 +10,5 @@ invariant-loop-value g l = record {
   numbers : map view (take l.value-index l.values) ≡ map integer_of l.numbers.items;
   within : list_all (is_between l.least l.most) (map view (take l.value-index l.values)) ≡ true;
   count : length l.numbers.items ≡ l.value-index;
-  few : l.value-index ≤ g.row.COUNT
+  few : l.value-index ≤ g.row.COUNT;
 }
