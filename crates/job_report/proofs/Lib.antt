@@ -1,5 +1,6 @@
 pub mod Examples
 pub mod FieldLaws
 pub mod Floats
+pub mod NameLaws
 pub mod ReportExamples
 pub mod Stated

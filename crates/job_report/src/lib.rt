@@ -11,6 +11,7 @@ mod fields;
 mod job;
 pub mod limits;
 mod line;
+mod names;
 mod objects;
 mod place;
 mod report;
