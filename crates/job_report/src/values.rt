@@ -1,13 +1,15 @@
 //! The values that stand in fields: which type they have, and whether they are in range.
 
-ghost use Rattle.std.specs.Prelude.{◌≡◌, ◌≤◌, ◌&&◌, Bool, nat_le, true, false, map, length, IfOk, IfErr, IfSome, IfNone};
-ghost use Rattle.std.specs.List.{list_all};
+ghost use Rattle.std.specs.Prelude.{◌≡◌, ◌≤◌, ◌==◌, ◌&&◌, Bool, nat_le, true, false, map, length, IfOk, IfErr, IfSome, IfNone};
+ghost use Rattle.std.specs.List.{list_all, list_any};
 ghost use Rattle.toml.specs.Data.{Data, string, array};
 ghost use Rattle.toml.specs.View.{view, items_view};
-ghost use Rattle.job_report.specs.Field.{is_integer, is_between, is_text, is_some_text, is_table, is_array_of, are_numbers, has_between, values_in};
+ghost use Rattle.job_report.specs.Field.{is_integer, is_between, is_text, is_some_text, is_table, is_array_of, are_numbers, are_coarser, has_between, is_new_number, rises, values_in};
 ghost use Rattle.job_report.specs.Job.{integer_of, array_of};
 ghost use Rattle.job_report.specs.Private.Value.{IsRight, IsWrong};
 
+use crate::job::ProgramJob;
+use crate::limits::{COARSENESS_LEAST, COARSENESS_MOST, COARSER_MOST, NUMBER_MOST};
 use arrayvec::ArrayVec;
 use toml::Value;
 
@@ -157,4 +159,62 @@ fn are_tables(values: &[Value]) -> bool
     ensures { result ≡ list_all (λ value. is_table (view value)) values.now }
 {
     values.iter().all(|value| value.is_table())
+}
+
+/// How coarse versions are: numbers that rise.
+pub(crate) fn coarser_in(value: &Value) -> Result<ArrayVec<u16, COARSER_MOST>, Wrong>
+    ensures numbers { IfOk result (λ numbers. view value.now ≡ array_of numbers.items) }
+    ensures right { IfOk result (λ numbers. IsRight (is_array_of is_integer) are_coarser (view value.now)) }
+    ensures wrong { IfErr result (IsWrong (is_array_of is_integer) are_coarser (view value.now)) }
+{
+    match numbers_in(value, COARSENESS_LEAST, COARSENESS_MOST) {
+        Ok(numbers) => {
+            if rise(numbers.as_slice()) {
+                Ok(numbers)
+            } else {
+                Err(Wrong::OutOfRange)
+            }
+        }
+        Err(wrong) => Err(wrong),
+    }
+}
+
+/// Whether each number is greater than the one before.
+fn rise(numbers: &[u16]) -> bool
+    ensures { result ≡ rises numbers.now }
+{
+    let mut rest = numbers;
+    while let [first, second, ..] = rest {
+        if first >= second {
+            return false;
+        }
+        rest = &rest[1..];
+    }
+    true
+}
+
+/// The number of a program, which none of the programs before has.
+pub(crate) fn new_number_in(value: &Value, before: &[ProgramJob]) -> Result<u16, Wrong>
+    ensures number { IfOk result (λ n. view value.now ≡ integer_of n) }
+    ensures right { IfOk result (λ n. IsRight is_integer (is_new_number (map (λ program. program.number) before.now)) (view value.now)) }
+    ensures wrong { IfErr result (IsWrong is_integer (is_new_number (map (λ program. program.number) before.now)) (view value.now)) }
+{
+    match number_in(value, 1, NUMBER_MOST as u64) {
+        Ok(stated) => {
+            let number = stated as u16;
+            if is_taken(number, before) {
+                Err(Wrong::OutOfRange)
+            } else {
+                Ok(number)
+            }
+        }
+        Err(wrong) => Err(wrong),
+    }
+}
+
+/// Whether a program has this number.
+fn is_taken(number: u16, programs: &[ProgramJob]) -> bool
+    ensures { result ≡ list_any (λ program. program.number == number) programs.now }
+{
+    programs.iter().any(|program| program.number == number)
 }
