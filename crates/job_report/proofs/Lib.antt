@@ -1,7 +1,9 @@
 pub mod Examples
 pub mod FieldLaws
+pub mod Firsts
 pub mod Floats
 pub mod NameLaws
 pub mod Numbers
+pub mod ProgramLaws
 pub mod ReportExamples
 pub mod Stated

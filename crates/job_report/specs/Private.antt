@@ -1,3 +1,4 @@
 pub mod Fault
 pub mod Place
+pub mod Programs
 pub mod Value

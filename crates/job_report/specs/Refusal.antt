@@ -1,8 +1,8 @@
 -- What refuses a job: all that is wrong with a document, in order. The first of these is what a user is told.
 use Rattle.std.specs.Prelude.{ℕ, Bool, if◌then◌else◌, List, [], ◌∷◌, ◌++◌, length, codes, decimal, Option, Some, None}
-use Rattle.std.specs.List.{flat_map, list_any, list_all}
+use Rattle.std.specs.List.{flat_map, filter_map, list_any, list_all}
 use Rattle.std.specs.Str.{bytes_eq}
-use Rattle.toml.specs.Data.{Data, table, Members, no_members, member, get_member}
+use Rattle.toml.specs.Data.{Data, Members, no_members, member, get_member, as_table}
 use Rattle.job_report.specs.Field.{Field, job_fields, program_fields, number_of_program, values_in}
 
 -- a refusal with its name: for a field that is missing, of another type or none that there is; for a value out of range
@@ -55,9 +55,7 @@ refusals_of_programs taken (program ∷ programs) =
 
 -- the tables among values
 abbrev pub tables_among : List Data → List Members
-tables_among [] = []
-tables_among (table program ∷ values) = program ∷ tables_among values
-tables_among (value ∷ values) = tables_among values
+tables_among values = filter_map as_table values
 
 -- the programs of a document
 abbrev pub stated_tables : Option Data → List Members

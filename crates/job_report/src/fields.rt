@@ -1,18 +1,19 @@
 //! The fields of a table: each with what is wrong with it, or its value.
 
-ghost use Rattle.std.specs.Prelude.{◌≡◌, ◌≤◌, Some, IfOk, IfErr, [], length, map, option_map};
+ghost use Rattle.std.specs.Prelude.{◌≡◌, ◌≤◌, Some, IfOk, IfErr, [], length, map, codes, option_map};
 ghost use Rattle.toml.specs.Data.{string, get_member};
 ghost use Rattle.toml.specs.View.{view, table_view};
-ghost use Rattle.job_report.specs.Field.{required, optional, is_integer, is_between, is_text, is_some_text, is_table, is_array_of, are_numbers, has_between};
+ghost use Rattle.job_report.specs.Field.{required, optional, is_integer, is_between, is_text, is_some_text, is_table, is_array_of, are_numbers, are_coarser, has_between, is_new_number};
 ghost use Rattle.job_report.specs.Refusal.{refusals_of_field, stated_tables, tables_among};
 ghost use Rattle.job_report.specs.Job.{integer_of, array_of, stated_or};
 ghost use Rattle.job_report.specs.Private.Fault.{TellsFirst};
 ghost use Rattle.job_report.specs.Private.Place.{place_text};
 
 use crate::fault::JobFault;
-use crate::limits::FIELD_NAME_MOST;
+use crate::job::ProgramJob;
+use crate::limits::{COARSER_DEFAULT, COARSER_MOST, FIELD_NAME_MOST};
 use crate::place::{Place, field_fault, wrong_fault};
-use crate::values::{number_in, numbers_in, tables_in, text_in};
+use crate::values::{coarser_in, new_number_in, number_in, numbers_in, tables_in, text_in};
 use arrayvec::ArrayVec;
 use toml::{Table, Value};
 
@@ -135,6 +136,43 @@ pub(crate) fn optional_numbers<const COUNT: usize>(
         Some(value) => match numbers_in(value, least, most) {
             Ok(numbers) => Ok(numbers),
             Err(wrong) => Err(wrong_fault(place, name, wrong)),
+        },
+    }
+}
+
+/// How coarse a program's versions are, which may be left out.
+pub(crate) fn optional_coarser(
+    table: &Table,
+    place: Place,
+) -> Result<ArrayVec<u16, COARSER_MOST>, JobFault>
+    ensures right { IfOk result (λ numbers. refusals_of_field (place_text place) (table_view table.now) (optional (codes "coarser") (is_array_of is_integer) are_coarser) ≡ []) }
+    ensures numbers { IfOk result (λ numbers. stated_or (array_of COARSER_DEFAULT) (codes "coarser") (table_view table.now) ≡ array_of numbers.items) }
+    ensures wrong { IfErr result (TellsFirst (refusals_of_field (place_text place) (table_view table.now) (optional (codes "coarser") (is_array_of is_integer) are_coarser))) }
+{
+    match stated(table, "coarser") {
+        None => Ok(copied(&COARSER_DEFAULT)),
+        Some(value) => match coarser_in(value) {
+            Ok(numbers) => Ok(numbers),
+            Err(wrong) => Err(wrong_fault(place, "coarser", wrong)),
+        },
+    }
+}
+
+/// The number of a program in the output, which none of the programs before has.
+pub(crate) fn required_new_number(
+    table: &Table,
+    place: Place,
+    before: &[ProgramJob],
+) -> Result<u16, JobFault>
+    ensures right { IfOk result (λ n. refusals_of_field (place_text place) (table_view table.now) (required (codes "number") is_integer (is_new_number (map (λ program. program.number) before.now))) ≡ []) }
+    ensures number { IfOk result (λ n. get_member (codes "number") (table_view table.now) ≡ Some (integer_of n)) }
+    ensures wrong { IfErr result (TellsFirst (refusals_of_field (place_text place) (table_view table.now) (required (codes "number") is_integer (is_new_number (map (λ program. program.number) before.now))))) }
+{
+    match stated(table, "number") {
+        None => Err(field_fault(place, "number")),
+        Some(value) => match new_number_in(value, before) {
+            Ok(number) => Ok(number),
+            Err(wrong) => Err(wrong_fault(place, "number", wrong)),
         },
     }
 }

@@ -14,6 +14,7 @@ mod line;
 mod names;
 mod objects;
 mod place;
+mod programs;
 mod report;
 mod values;
 
