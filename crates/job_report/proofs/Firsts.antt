@@ -37,3 +37,23 @@ pub tells_name : (a b c d e f n : List Refusal) (fault : JobFault) → a ≡ [] 
 tells_name a b c d e f n fault na nb nc nd ne nf h =
     let none : a ++ (b ++ (c ++ (d ++ (e ++ (f ++ []))))) ≡ [] = rw (na, nb, nc, nd, ne, nf) refl in
     tells_past _ n fault none h
+
+-- the fourth of fields is wrong
+pub tells_fourth : (a b c d rest n : List Refusal) (fault : JobFault) → a ≡ [] → b ≡ [] → c ≡ [] → TellsFirst d fault
+    → TellsFirst ((a ++ (b ++ (c ++ (d ++ rest)))) ++ n) fault
+tells_fourth a b c d rest n fault na nb nc h =
+    tells_here (a ++ (b ++ (c ++ (d ++ rest)))) n fault (tells_past a _ fault na (tells_past b _ fault nb (tells_past c _ fault nc (tells_here d rest fault h))))
+
+-- the fifth of fields is wrong
+pub tells_fifth : (a b c d e rest n : List Refusal) (fault : JobFault) → a ≡ [] → b ≡ [] → c ≡ [] → d ≡ [] → TellsFirst e fault
+    → TellsFirst ((a ++ (b ++ (c ++ (d ++ (e ++ rest))))) ++ n) fault
+tells_fifth a b c d e rest n fault na nb nc nd h =
+    tells_here (a ++ (b ++ (c ++ (d ++ (e ++ rest))))) n fault (
+    tells_past a _ fault na (tells_past b _ fault nb (tells_past c _ fault nc (tells_past d _ fault nd (tells_here e rest fault h)))))
+
+-- nothing is wrong with six fields and the names, and something behind
+pub tells_behind : (a b c d e f n p : List Refusal) (fault : JobFault) → a ≡ [] → b ≡ [] → c ≡ [] → d ≡ [] → e ≡ [] → f ≡ [] → n ≡ [] → TellsFirst p fault
+    → TellsFirst (((a ++ (b ++ (c ++ (d ++ (e ++ (f ++ [])))))) ++ n) ++ p) fault
+tells_behind a b c d e f n p fault na nb nc nd ne nf nn h =
+    let none : (a ++ (b ++ (c ++ (d ++ (e ++ (f ++ [])))))) ++ n ≡ [] = rw (na, nb, nc, nd, ne, nf, nn) refl in
+    tells_past _ p fault none h

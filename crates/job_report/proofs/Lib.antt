@@ -4,6 +4,7 @@ pub mod Firsts
 pub mod Floats
 pub mod NameLaws
 pub mod Numbers
+pub mod OneAnswer
 pub mod ProgramLaws
 pub mod ReportExamples
 pub mod Stated

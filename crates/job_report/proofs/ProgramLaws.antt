@@ -42,15 +42,15 @@ pub so_far-other : (values : List Data) (i : ℕ) (value : Data) (programs : Lis
 so_far-other values i value programs h within at none = record {
   few = omega (arith, h.few);
   stated = rw (tables-take values i value within at, none, append-nil (tables_among (take i values))) h.stated;
-  rest = h.rest ∙ ap (refusals_of_programs (numbers_of_programs programs)) (tables-drop values i value within at ∙ rw none refl)
+  rest = h.rest ∙ ap (refusals_of_programs (numbers_of_programs programs)) (tables-drop values i value within at ∙ rw none refl);
 }
 
 -- what is wrong with the rest at a table
 rest-table : (values : List Data) (i : ℕ) (value : Data) (stated : Members) (programs : List ProgramJob) → AreReadSoFar values i programs → i < length values
     → get_or values i value ≡ value → as_table value ≡ Some stated
     → refusals_of_programs [] (tables_among values)
-      ≡ refusals_of_table (place_of_program (length programs)) stated (program_fields (numbers_of_programs programs))
-        ++ refusals_of_programs (numbers_of_programs programs ++ number_of_program stated ∷ []) (tables_among (drop (i + 1) values))
+    ≡ refusals_of_table (place_of_program (length programs)) stated (program_fields (numbers_of_programs programs))
+    ++ refusals_of_programs (numbers_of_programs programs ++ number_of_program stated ∷ []) (tables_among (drop (i + 1) values))
 rest-table values i value stated programs h within at some =
     let from : tables_among (drop i values) ≡ stated ∷ tables_among (drop (i + 1) values) = tables-drop values i value within at ∙ rw some refl in
     h.rest ∙ ap (refusals_of_programs (numbers_of_programs programs)) from ∙ rw (length-map programs (λ program. program.number)) refl
@@ -63,7 +63,7 @@ pub so_far-table : (values : List Data) (i : ℕ) (value : Data) (stated : Membe
 so_far-table values i value stated programs program h within at some right is = record {
   few = omega (arith, h.few, length-append programs (program ∷ []));
   stated = rw (tables-take values i value within at, some) (are_programs-push (tables_among (take i values)) programs stated program h.stated is);
-  rest = rest-table values i value stated programs h within at some ∙ rw (right, map-push programs program, number is) refl
+  rest = rest-table values i value stated programs h within at some ∙ rw (right, map-push programs program, number is) refl;
 }
   where
     map-push : (programs : List ProgramJob) (program : ProgramJob) → numbers_of_programs (programs ++ program ∷ []) ≡ numbers_of_programs programs ++ program.number ∷ []

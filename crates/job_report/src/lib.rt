@@ -15,6 +15,7 @@ mod names;
 mod objects;
 mod place;
 mod programs;
+mod read;
 mod report;
 mod values;
 
@@ -22,5 +23,6 @@ pub use fault::JobFault;
 pub use job::{Job, ProgramJob};
 pub use line::report_text;
 pub use list_types::{ListOf, OutOfMemory, Text};
+pub use read::read_job;
 pub use report::{ProgramReport, Report};
 pub use version_table::Choice;
