@@ -86,8 +86,8 @@ exact-picture_header =
     (exact-then _ _ (exact-optional _ _ exact-old_f_code)
     (exact-then _ _ (exact-many _ exact-extra_information) (exact-done _))))))
 
-exact-picture_coding_extension : (kind vbv_delay : ℕ) → IsExact (picture_coding_extension kind vbv_delay)
-exact-picture_coding_extension kind vbv_delay =
+exact-picture_coding_extension : (progressive : Bool) (kind vbv_delay : ℕ) → IsExact (picture_coding_extension progressive kind vbv_delay)
+exact-picture_coding_extension progressive kind vbv_delay =
     exact-bind _ _ (exact-uimsbf 4 _)
     (λ forward_horizontal. exact-bind _ _ (exact-uimsbf 4 _)
     (λ forward_vertical. exact-bind _ _ (exact-uimsbf 4 _)
@@ -95,7 +95,7 @@ exact-picture_coding_extension kind vbv_delay =
     (λ backward_vertical. exact-bind _ _ (exact-uimsbf 2 [])
     (λ dc_precision. exact-bind _ _ (exact-uimsbf 2 _)
     (λ structure. exact-bind _ _ (exact-flag_where [])
-    (λ top_field_first. exact-bind _ _ (exact-flag_where [])
+    (λ top_field_first. exact-bind _ _ (exact-flag_where _)
     (λ frame_pred_frame_dct. exact-bind _ _ (exact-flag_where _)
     (λ concealment. exact-bind _ _ (exact-flag_where [])
     (λ q_scale_type. exact-bind _ _ (exact-flag_where [])
@@ -161,7 +161,7 @@ exact-picture_part seq =
     (λ header. exact-then _ _ (exact-zero_bits _)
     (exact-then _ _ (exact-start_code _ _)
     (exact-then _ _ (exact-uimsbf 4 _)
-    (exact-bind _ _ (exact-picture_coding_extension _ _)
+    (exact-bind _ _ (exact-picture_coding_extension _ _ _)
     (λ coding. exact-then _ _ (exact-zero_bits _)
     (exact-bind _ _ (exact-many _ (exact-extension_or_user_data _ _))
     (λ loaded. exact-done _))))))))

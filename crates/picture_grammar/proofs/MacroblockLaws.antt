@@ -1,7 +1,7 @@
 -- Macroblocks and slices decide by their bits.
 use Rattle.std.proofs.Common.{◌==◌, ℕ, not, List, [], ◌∷◌, Bool, false}
 use Rattle.std.specs.List.{range_with_len}
-use Rattle.syntax_types.specs.declared.macroblock.TheConstants.{BLOCKS, FRAME_BASED}
+use Rattle.syntax_types.specs.declared.macroblock.TheConstants.{BLOCKS}
 use Rattle.syntax_types.specs.declared.macroblock.Kind.{Kind}
 use Rattle.syntax_types.specs.declared.macroblock.Macroblock.{Macroblock}
 use Rattle.syntax_types.specs.declared.picture.PicCoding.{PicCoding}
@@ -11,8 +11,8 @@ use Rattle.picture_grammar.specs.Refusal.Refusal.{BadType}
 use Rattle.picture_grammar.specs.Grammar.{when}
 use Rattle.picture_grammar.specs.Element.{uimsbf, one_flag, marker_bit, rule}
 use Rattle.picture_grammar.specs.Block.{block}
-use Rattle.picture_grammar.specs.Motion.{MotionFormat, frame_motion, dmvector, vector_part, motion_vector, motion_vectors}
-use Rattle.picture_grammar.specs.Macroblock.{address_code, address_increment, motion_type, dct_type, quantiser_scale_code, has_motion_type, has_dct_type, has_forward, has_concealment, f_codes, is_coded, block_way, no_block, blocks, macroblock}
+use Rattle.picture_grammar.specs.Motion.{MotionFormat, dmvector, vector_part, motion_vector, motion_vectors}
+use Rattle.picture_grammar.specs.Macroblock.{address_code, address_increment, motion_type, dct_type, quantiser_scale_code, has_motion_type, usual_motion_type, motion_format, has_dct_type, has_forward, has_concealment, f_codes, is_coded, block_way, no_block, blocks, macroblock}
 use Rattle.picture_grammar.specs.Slice.{extra_information, slice_extension, slice_info, next_macroblock, slice}
 use Rattle.picture_grammar.proofs.GrammarLaws.{exact-done, exact-bind, exact-then, exact-optional, exact-when, exact-if_next, exact-repeated, exact-each, exact-one_more, exact-many}
 use Rattle.picture_grammar.proofs.ElementLaws.{exact-element}
@@ -53,13 +53,14 @@ exact-quantiser_scale_code : IsExact quantiser_scale_code
 exact-quantiser_scale_code = exact-uimsbf 5 _
 
 exact-motion_type : (coding : PicCoding) (kind : Kind) → IsExact (motion_type coding kind)
-exact-motion_type coding kind = exact-when (has_motion_type coding kind) (uimsbf 2 (rule BadType (λ number. not (number == 0)) ∷ [])) FRAME_BASED (exact-uimsbf 2 _)
+exact-motion_type coding kind =
+    exact-when (has_motion_type coding kind) (uimsbf 2 (rule BadType (λ number. not (number == 0)) ∷ [])) (usual_motion_type coding) (exact-uimsbf 2 _)
 
 exact-dct_type : (coding : PicCoding) (kind : Kind) → IsExact (dct_type coding kind)
 exact-dct_type coding kind = exact-when (has_dct_type coding kind) one_flag false (exact-flag_where [])
 
-exact-vectors : (stand : Bool) (f_codes : List ℕ) (motion_type : ℕ) → IsExact (when stand (motion_vectors f_codes (frame_motion motion_type)) [])
-exact-vectors stand f_codes motion_type = exact-when stand (motion_vectors f_codes (frame_motion motion_type)) [] (exact-motion_vectors f_codes (frame_motion motion_type))
+exact-vectors : (stand : Bool) (f_codes : List ℕ) (format : MotionFormat) → IsExact (when stand (motion_vectors f_codes format) [])
+exact-vectors stand f_codes format = exact-when stand (motion_vectors f_codes format) [] (exact-motion_vectors f_codes format)
 
 exact-blocks : (coding : PicCoding) (kind : Kind) (pattern : ℕ) → IsExact (blocks coding kind pattern)
 exact-blocks coding kind pattern =
@@ -74,8 +75,8 @@ exact-macroblock coding first columns_left =
     (λ kind. exact-bind _ _ (exact-motion_type coding kind)
     (λ motion_type. exact-bind _ _ (exact-dct_type coding kind)
     (λ field_dct. exact-bind _ _ (exact-optional kind.quant _ exact-quantiser_scale_code)
-    (λ code. exact-bind _ _ (exact-vectors (has_forward coding kind) (f_codes coding 0) motion_type)
-    (λ forward. exact-bind _ _ (exact-vectors kind.backward (f_codes coding 1) motion_type)
+    (λ code. exact-bind _ _ (exact-vectors (has_forward coding kind) (f_codes coding 0) (motion_format coding motion_type))
+    (λ forward. exact-bind _ _ (exact-vectors kind.backward (f_codes coding 1) (motion_format coding motion_type))
     (λ backward. exact-then _ _ (exact-optional (has_concealment coding kind) (marker_bit BadType) (exact-uimsbf 1 _))
     (exact-bind _ _ (exact-when kind.pattern _ _ (exact-vlclbf _ _ []))
     (λ pattern. exact-bind _ _ (exact-blocks coding kind pattern)

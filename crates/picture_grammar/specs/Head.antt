@@ -87,7 +87,7 @@ picture_part seq = do
   zero_bits BadHeader
   start_code NotMpeg2 (λ byte. byte == EXTENSION)
   uimsbf 4 (rule NotMpeg2 (λ identifier. identifier == PICTURE_CODING) ∷ [])
-  coding ← picture_coding_extension header.0 header.1
+  coding ← picture_coding_extension seq.progressive header.0 header.1
   zero_bits BadHeader
   loaded ← extensions_and_user_data (λ identifier. identifier == QUANT_MATRIX || identifier == COPYRIGHT || identifier == PICTURE_DISPLAY)
   done (fold with_loaded seq loaded.0, coding)

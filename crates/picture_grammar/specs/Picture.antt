@@ -15,6 +15,7 @@ use Rattle.picture_grammar.specs.Refusal.Refusal.{BadHeader, Uncovered}
 use Rattle.picture_grammar.specs.Grammar.{Grammar, done, ◌>>=◌, ◌>>◌, optional, if_next, many, Next, with_bytes}
 use Rattle.picture_grammar.specs.Grammar.Next.{more, last}
 use Rattle.picture_grammar.specs.StartCode.{start_code, zero_bits, only_zero_bytes, is_slice}
+use Rattle.picture_grammar.specs.Macroblock.{is_frame}
 use Rattle.picture_grammar.specs.Slice.{slice, columns}
 use Rattle.picture_grammar.specs.Head.{head}
 
@@ -60,10 +61,15 @@ picture_unit before = do
 
 -- ---- the macroblocks of a picture (6.1.2)
 
--- mb_height (6.3.3)
-abbrev pub rows : SeqState → ℕ
-rows seq = if seq.progressive then (seq.height + (MACROBLOCK_SIZE - 1)) / MACROBLOCK_SIZE
-    else 2 * ((seq.height + (2 * MACROBLOCK_SIZE - 1)) / (2 * MACROBLOCK_SIZE))
+-- macroblock rows of a field of an interlaced sequence (6.3.3)
+abbrev pub field_rows : SeqState → ℕ
+field_rows seq = (seq.height + (2 * MACROBLOCK_SIZE - 1)) / (2 * MACROBLOCK_SIZE)
+
+-- macroblock rows of a picture, mb_height (6.3.3): a frame of an interlaced sequence has those of its two fields
+abbrev pub rows : SeqState → PicCoding → ℕ
+rows seq coding = if is_frame coding
+    then (if seq.progressive then (seq.height + (MACROBLOCK_SIZE - 1)) / MACROBLOCK_SIZE else 2 * field_rows seq)
+    else field_rows seq
 
 abbrev pub first_column : List Macroblock → ℕ
 first_column [] = 0
@@ -77,7 +83,7 @@ addresses seq slice =
 
 -- the slices hold all macroblocks of the picture in order, each once (6.1.2.2)
 abbrev pub IsCovered : Picture → Type 0
-IsCovered picture = flat_map (addresses picture.seq) picture.slices ≡ range_with_len 0 (rows picture.seq * columns picture.seq)
+IsCovered picture = flat_map (addresses picture.seq) picture.slices ≡ range_with_len 0 (rows picture.seq picture.coding * columns picture.seq)
 
 -- ---- what bytes spell
 
