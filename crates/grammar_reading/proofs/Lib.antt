@@ -1,2 +1,4 @@
-pub mod Reading
+pub mod BitsRead
+pub mod Cuts
+pub mod Fronts
 pub mod Several

@@ -4,9 +4,9 @@ use Rattle.picture_grammar.specs.Refusal.{Refusal}
 use Rattle.picture_grammar.specs.Grammar.{Grammar, many, SpellsList, RefusesAfter, Next}
 use Rattle.picture_grammar.specs.Grammar.Next.{more, last}
 use Rattle.picture_grammar.specs.Exact.{IsExact, IsLocal}
-use Rattle.grammar_reading.specs.Reading.{PlacedRefusal, ReadsFrom, ExplainsFrom}
+use Rattle.grammar_reading.specs.BitsRead.{PlacedRefusal, ReadsFrom, ExplainsFrom}
 use Rattle.grammar_reading.specs.Several.{SpellsFront, several}
-use Rattle.grammar_reading.proofs.Reading.{reads-both, explains-both, StandsBefore}
+use Rattle.grammar_reading.proofs.BitsRead.{reads-both, explains-both, StandsBefore}
 
 -- ---- a list from its front
 

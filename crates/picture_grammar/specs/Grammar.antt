@@ -49,9 +49,9 @@ when false grammar absent = done absent
 
 -- nextbits() (5.2.2): one grammar where the bits are such, and another one where they aren't
 abbrev pub if_next : {A : Type 0} → (List ℕ → Type 0) → Grammar A → Grammar A → Grammar A
-if_next Comes then else = record {
-  Spells = λ v bits rest. (Comes bits × then.Spells v bits rest) ⊎ ((¬ Comes bits) × else.Spells v bits rest);
-  Refuses = λ bits refusal left. (Comes bits × then.Refuses bits refusal left) ⊎ ((¬ Comes bits) × else.Refuses bits refusal left);
+if_next IsSuch then else = record {
+  Spells = λ v bits rest. (IsSuch bits × then.Spells v bits rest) ⊎ ((¬ IsSuch bits) × else.Spells v bits rest);
+  Refuses = λ bits refusal left. (IsSuch bits × then.Refuses bits refusal left) ⊎ ((¬ IsSuch bits) × else.Refuses bits refusal left);
 }
 
 -- a grammar that depends on the bits that are left, as on how far the next whole byte is (5.2.1)

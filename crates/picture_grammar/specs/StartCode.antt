@@ -34,7 +34,7 @@ start_code refusal may_come = do
   element (λ byte code. (byte < 2 ^ 8) × (code ≡ start_code_bits byte)) refusal (rule refusal may_come ∷ [])
 
 -- behind zero bytes one of these start codes comes
-pub record Comes (may_come : ℕ → Bool) (bits : List ℕ) : Type 0 where
+pub record StartCodeComes (may_come : ℕ → Bool) (bits : List ℕ) : Type 0 where
   pub zeros : ℕ
   pub byte : ℕ
   pub rest : List ℕ

@@ -55,15 +55,15 @@ Advances old new = AdvancesFrom (bits_left old) (bits_left new) (place old) (pla
 abbrev pub Reads : {A : Type 0} {S : Type 0} {g : Ghosts S} → Grammar A → A → BitReader S g → BitReader S g → Type 0
 Reads grammar value old new = ReadsFrom grammar value (bits_left old) (bits_left new) (place old) (place new)
 
--- the next bits, which are told, begin with a spelling of this value
-abbrev pub Comes : {A : Type 0} {S : Type 0} {g : Ghosts S} → Grammar A → A → BitReader S g → List ℕ → Type 0
-Comes grammar value reader rest = IsSomeAnd (bits_left reader) (λ bits. grammar.Spells value bits rest)
+-- the next bits, which are told, begin with a spelling of this value, and the rest follows it
+abbrev pub BeginsWith : {A : Type 0} {S : Type 0} {g : Ghosts S} → Grammar A → A → BitReader S g → List ℕ → Type 0
+BeginsWith grammar value reader rest = IsSomeAnd (bits_left reader) (λ bits. grammar.Spells value bits rest)
 
 -- the fault says how and where the next bits are refused, where they are told and it tells a refusal
 abbrev pub Explains : {A : Type 0} {S : Type 0} {g : Ghosts S} → Grammar A → BitReader S g → Option PlacedRefusal → Type 0
 Explains grammar reader told = IfSome (bits_left reader) (λ bits. ExplainsFrom grammar told bits (place reader))
 
--- where a value comes the answer is that value, with the rest left, or a fault that tells no refusal
-abbrev pub Answers : {A E : Type 0} {S : Type 0} {g : Ghosts S} → Grammar A → (E → Option PlacedRefusal) → Result A E → BitReader S g → BitReader S g → Type 0
-Answers {A} grammar told result old new = (value : A) (rest : List ℕ) → Comes grammar value old rest →
+-- where the next bits begin with a value the answer is that value, with the rest left, or a fault that tells no refusal
+abbrev pub AnswersSpelling : {A E : Type 0} {S : Type 0} {g : Ghosts S} → Grammar A → (E → Option PlacedRefusal) → Result A E → BitReader S g → BitReader S g → Type 0
+AnswersSpelling {A} grammar told result old new = (value : A) (rest : List ℕ) → BeginsWith grammar value old rest →
     MatchResult result (λ found. (found ≡ value) × (bits_left new ≡ Some rest)) (λ fault. IsNone (told fault))

@@ -5,7 +5,7 @@ use Rattle.std.proofs.lemmas.List.{length-append, append_cancel_right}
 use Rattle.picture_grammar.specs.Refusal.{Refusal}
 use Rattle.picture_grammar.specs.Grammar.{Grammar, done, ◌>>=◌, optional}
 use Rattle.picture_grammar.specs.Exact.{IsExact, IsLocal}
-use Rattle.grammar_reading.specs.Reading.{PlacedRefusal, AdvancesFrom, IsSpelled, ReadsFrom, RefusedAt, ExplainsFrom}
+use Rattle.grammar_reading.specs.BitsRead.{PlacedRefusal, AdvancesFrom, IsSpelled, ReadsFrom, RefusedAt, ExplainsFrom}
 
 -- ---- fronts and places
 
