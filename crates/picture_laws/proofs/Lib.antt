@@ -1,0 +1,6 @@
+pub mod Answers
+pub mod Candidates
+pub mod Decided
+pub mod DecidedCoefficients
+pub mod DecidedElements
+pub mod Numbers
