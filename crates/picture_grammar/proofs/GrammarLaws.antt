@@ -20,11 +20,11 @@ exact-done value = record {
 }
 
 -- what ends with something that ends with these ends with these
-EndsWith-through : (bits middle rest : List ℕ) → EndsWith bits middle → EndsWith middle rest → EndsWith bits rest
+pub EndsWith-through : (bits middle rest : List ℕ) → EndsWith bits middle → EndsWith middle rest → EndsWith bits rest
 EndsWith-through bits middle rest (f, p) (g, q) = (f ++ g, p ∙ ap (λ m. f ++ m) q ∙ sym (append_assoc f g rest))
 
 -- a fact about a value and the bits behind it, at equal ones
-moved : {A : Type 0} (P : A → List ℕ → Type 0) (a b : A) (middle other : List ℕ) → (a ≡ b) × (middle ≡ other) → P a middle → P b other
+pub moved : {A : Type 0} (P : A → List ℕ → Type 0) (a b : A) (middle other : List ℕ) → (a ≡ b) × (middle ≡ other) → P a middle → P b other
 moved P a b middle other same p = subst (λ bits. P b bits) same.1 (subst (λ x. P x middle) same.0 p)
 
 module _ {A B : Type 0} (first : Grammar A) (next : A → Grammar B) (exact : IsExact first) (each_next : (a : A) → IsExact (next a)) where

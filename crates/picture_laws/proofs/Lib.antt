@@ -1,6 +1,11 @@
 pub mod Answers
 pub mod Candidates
+pub mod Computing
 pub mod Decided
 pub mod DecidedCoefficients
 pub mod DecidedElements
+pub mod DecidedPictures
+pub mod Examples
 pub mod Numbers
+pub mod Takes
+pub mod Tested

@@ -40,7 +40,7 @@ bits_of-number_of (bit ∷ bits) are =
     ∙ bits_of-put 1 (length bits) bit (number_of bits) (number_of-below bits are.1)
     ∙ ap₂ (λ a b. a ++ b) (bits_of-one bit are.0) (bits_of-number_of bits are.1)
 
-AreBits-take : (n : ℕ) (bits : List ℕ) → AreBits bits → AreBits (take n bits)
+pub AreBits-take : (n : ℕ) (bits : List ℕ) → AreBits bits → AreBits (take n bits)
 AreBits-take zero bits are = tt
 AreBits-take (suc n) [] are = tt
 AreBits-take (suc n) (bit ∷ bits) are = (are.0, AreBits-take n bits are.1)
@@ -182,7 +182,7 @@ IsPrefix-before : (front c d : List ℕ) → IsPrefix c d → IsPrefix (front ++
 IsPrefix-before [] c d p = p
 IsPrefix-before (x ∷ front) c d p = let rest : IsPrefix (front ++ c) (front ++ d) = IsPrefix-before front c d p in cc
 
-AreBits-drop : (n : ℕ) (bits : List ℕ) → AreBits bits → AreBits (drop n bits)
+pub AreBits-drop : (n : ℕ) (bits : List ℕ) → AreBits bits → AreBits (drop n bits)
 AreBits-drop zero bits are = are
 AreBits-drop (suc n) [] are = tt
 AreBits-drop (suc n) (bit ∷ bits) are = AreBits-drop n bits are.1
