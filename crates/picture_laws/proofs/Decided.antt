@@ -15,7 +15,7 @@ abbrev pub next_answer : {A B : Type 0} → Answer A → (A → List ℕ → Ans
 next_answer (found a rest) next = next a rest
 next_answer (refused r left) next = refused r left
 
-module _ {A B : Type 0} (first : Grammar A) (next : A → Grammar B) (decided : IsDecided first) (each_next : (a : A) → IsDecided (next a)) where
+module _ {A B : Type 0} (first : Grammar A) (next : A → Grammar B) (each_next : (a : A) → IsDecided (next a)) where
   right-behind : (bits : List ℕ) (a : A) (middle : List ℕ) → first.Spells a bits middle → (answer : Answer B) → IsRight (next a) middle answer → IsRight (first >>= next) bits answer
   right-behind bits a middle s (found v rest) (t, are) = ((a, middle, s, t), are)
   right-behind bits a middle s (refused r left) t = inr (a, middle, s, t)
@@ -24,11 +24,11 @@ module _ {A B : Type 0} (first : Grammar A) (next : A → Grammar B) (decided : 
   right-bind bits (found a middle) (s, are) = right-behind bits a middle s ((each_next a).answer middle) ((each_next a).right middle are)
   right-bind bits (refused r left) s = inl s
 
-  abbrev pub decided-bind : IsDecided (first >>= next)
-  decided-bind = record {
-    answer = λ bits. next_answer (decided.answer bits) (λ a. (each_next a).answer);
-    right = λ bits are. right-bind bits (decided.answer bits) (decided.right bits are);
-  }
+abbrev pub decided-bind : {A B : Type 0} (first : Grammar A) (next : A → Grammar B) → IsDecided first → ((a : A) → IsDecided (next a)) → IsDecided (first >>= next)
+decided-bind first next decided each_next = record {
+  answer = λ bits. next_answer (decided.answer bits) (λ a. (each_next a).answer);
+  right = λ bits are. right-bind first next each_next bits (decided.answer bits) (decided.right bits are);
+}
 
 abbrev pub decided-then : {A B : Type 0} (first : Grammar A) (next : Grammar B) → IsDecided first → IsDecided next → IsDecided (first >> next)
 decided-then first next decided then = decided-bind first (λ _. next) decided (λ _. then)

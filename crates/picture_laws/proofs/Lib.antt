@@ -4,8 +4,12 @@ pub mod Computing
 pub mod Decided
 pub mod DecidedCoefficients
 pub mod DecidedElements
+pub mod DecidedHeads
 pub mod DecidedPictures
+pub mod DecidedUnits
 pub mod Examples
 pub mod Numbers
 pub mod Takes
+pub mod TakesHeads
 pub mod Tested
+pub mod WholeBytes
