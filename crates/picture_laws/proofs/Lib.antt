@@ -12,4 +12,5 @@ pub mod Numbers
 pub mod Takes
 pub mod TakesHeads
 pub mod Tested
+pub mod Totality
 pub mod WholeBytes
