@@ -1,7 +1,8 @@
 -- What a grammar says of printed bits, by computation.
 use Rattle.std.proofs.Common.{◌≡◌, ◌&&◌, nat_lt, List, [], ◌∷◌, Bool, true, ℕ}
 use Rattle.std.proofs.lemmas.Bool.{and_parts, ltb-true}
-use Rattle.bit_lists.specs.Bits.{number_of}
+use Rattle.bit_lists.specs.Bits.{bits_of, number_of}
+use Rattle.picture_grammar.specs.Written.{written_block}
 use Rattle.prefix_codes.proofs.Computing.{tables}
 use Rattle.picture_grammar.specs.Grammar.{Grammar}
 use Rattle.picture_laws.proofs.Answers.{AreBits, IsRight, IsDecided}
@@ -21,5 +22,5 @@ said decided bits e = decided.right bits (are_bits bits e)
 
 -- `unfolding answers` opens what computes the answers
 unfoldable pub answers : Unit {0}
-unfolding tables number_of decided-block decided-macroblock decided-slice
+unfolding tables bits_of number_of written_block decided-block decided-macroblock decided-slice
 answers = tt

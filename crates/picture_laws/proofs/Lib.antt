@@ -7,7 +7,10 @@ pub mod DecidedElements
 pub mod DecidedHeads
 pub mod DecidedPictures
 pub mod DecidedUnits
-pub mod Examples
+pub mod ExampleHeaders
+pub mod ExampleMacroblocks
+pub mod ExampleSlices
+pub mod ExampleValues
 pub mod Numbers
 pub mod Takes
 pub mod TakesHeads
