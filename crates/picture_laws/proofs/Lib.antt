@@ -10,6 +10,7 @@ pub mod DecidedUnits
 pub mod ExampleHeaders
 pub mod ExampleMacroblocks
 pub mod ExampleSlices
+pub mod ExampleUnits
 pub mod ExampleValues
 pub mod Numbers
 pub mod Takes

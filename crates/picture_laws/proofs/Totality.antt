@@ -24,7 +24,7 @@ use Rattle.picture_laws.proofs.DecidedUnits.{unit_answer, right-unit}
 
 -- ---- bits of bytes
 
-AreBits-bytes : (bytes : List ℕ) → AreBits (bit_list bytes)
+pub AreBits-bytes : (bytes : List ℕ) → AreBits (bit_list bytes)
 AreBits-bytes [] = tt
 AreBits-bytes (byte ∷ bytes) =
     let low : (n : ℕ) → n % 2 < 2 = λ n. omega arith in
