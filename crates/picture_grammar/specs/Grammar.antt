@@ -90,6 +90,7 @@ abbrev pub more_of : {A : Type 0} → Option A → Next A (Unit {0})
 more_of (Some value) = more value
 more_of None = last tt
 
+-- a value that is one more of a list
 abbrev pub one_more : {A B : Type 0} → Grammar A → Grammar (Next A B)
 one_more grammar = grammar >>= λ value. done (more value)
 

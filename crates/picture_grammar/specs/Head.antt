@@ -23,6 +23,7 @@ unread = do
 abbrev pub is_scalable : ℕ → Bool
 is_scalable identifier = identifier == SEQUENCE_SCALABLE || identifier == SPATIAL_SCALABLE || identifier == TEMPORAL_SCALABLE
 
+-- no matrix is loaded
 abbrev pub no_matrix : Loaded
 no_matrix = record { intra = None; non_intra = None }
 
@@ -43,6 +44,7 @@ extension_or_user_data start_codes identifiers before = if_next (StartCodeComes 
   optional (byte == USER_DATA) unread
   done (more loaded)) (done (last tt))
 
+-- any number of extensions with such identifiers and of user data, in any order
 abbrev pub extensions_and_user_data : (ℕ → Bool) → Grammar (List Loaded × Unit {0})
 extensions_and_user_data identifiers = many (extension_or_user_data (λ byte. byte == EXTENSION || byte == USER_DATA) identifiers)
 

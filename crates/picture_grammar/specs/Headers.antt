@@ -8,7 +8,8 @@ use Rattle.syntax_types.specs.declared.block.TheConstants.{BLOCK_PLACES}
 use Rattle.syntax_types.specs.declared.picture.TheConstants.{I_PICTURE, P_PICTURE, B_PICTURE, FRAME_PICTURE}
 use Rattle.syntax_types.specs.declared.picture.PicCoding.{PicCoding}
 use Rattle.syntax_types.specs.declared.picture.SeqState.{SeqState}
-use Rattle.picture_grammar.specs.declared.limits.TheConstants.{WIDTH_LEAST, WIDTH_MOST, HEIGHT_LEAST, HEIGHT_MOST, RATE_CODE_MOST, VBV_MOST, MAIN_AT_MAIN, CHROMA_420, F_CODE_MOST}
+use Rattle.stream_constants.specs.declared.main_level.TheConstants.{VBV_MOST}
+use Rattle.picture_grammar.specs.declared.limits.TheConstants.{WIDTH_LEAST, WIDTH_MOST, HEIGHT_LEAST, HEIGHT_MOST, RATE_CODE_MOST, MAIN_AT_MAIN, CHROMA_420, F_CODE_MOST}
 use Rattle.picture_grammar.specs.Refusal.Refusal.{BadHeader, Size, Profile, LowDelay}
 use Rattle.picture_grammar.specs.Grammar.{Grammar, done, ◌>>=◌, ◌>>◌, optional, repeated, many}
 use Rattle.picture_grammar.specs.Element.{uimsbf, one_flag, flag_where, marker_bit, rule}
@@ -25,6 +26,7 @@ abbrev pub repeats : Option SeqState → (SeqState → ℕ) → ℕ → Bool
 repeats None field number = true
 repeats (Some before) field number = number == field before
 
+-- the number is no 0
 abbrev pub is_not_zero : ℕ → Bool
 is_not_zero number = not (number == 0)
 
@@ -89,6 +91,7 @@ sequence_extension before = do
 
 -- ---- group_of_pictures_header() (6.2.2.6)
 
+-- group_of_pictures_header() behind its start code
 abbrev pub group_header : Grammar Bool
 group_header = do
   uimsbf 25 []  -- time_code
@@ -114,6 +117,7 @@ picture_header = do
   many extra_information
   done (kind, vbv_delay)
 
+-- an f_code that counts is from 1 to 9 (Table 7-8)
 abbrev pub is_f_code : ℕ → Bool
 is_f_code number = is_from_to 1 F_CODE_MOST number
 
@@ -175,5 +179,6 @@ quant_matrix_extension = do
   flag_where (rule BadHeader not ∷ [])  -- load_chroma_non_intra_quantiser_matrix
   done (record { intra = intra; non_intra = non_intra })
 
+-- the state with the matrices that were loaded (6.3.11)
 abbrev pub with_loaded : SeqState → Loaded → SeqState
 with_loaded seq loaded = record seq { intra = matrix_or loaded.intra seq.intra; non_intra = matrix_or loaded.non_intra seq.non_intra }

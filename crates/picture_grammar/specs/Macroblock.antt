@@ -50,9 +50,11 @@ most_increment coding first columns_left = if coding.kind == I_PICTURE && not fi
 abbrev pub type_table : PicCoding → TableName
 type_table coding = if coding.kind == I_PICTURE then TypeI else (if coding.kind == P_PICTURE then TypeP else TypeB)
 
+-- the symbol of macroblock_type: the sum of the flags that are set
 abbrev pub type_symbol : Kind → ℕ
 type_symbol kind = QUANT * flag kind.quant + FORWARD * flag kind.forward + BACKWARD * flag kind.backward + PATTERN * flag kind.pattern + INTRA * flag kind.intra
 
+-- macroblock_type by the table of the picture type
 abbrev pub macroblock_type : PicCoding → Grammar Kind
 macroblock_type coding = element (λ kind code. code_in (type_table coding) (type_symbol kind) ≡ Some code) BadType []
 
@@ -81,6 +83,7 @@ motion_format coding motion_type = if is_frame coding then frame_motion motion_t
 abbrev pub has_dct_type : PicCoding → Kind → Bool
 has_dct_type coding kind = is_frame coding && not coding.frame_pred_frame_dct && (kind.intra || kind.pattern)
 
+-- dct_type, which counts as 0 where it does not stand
 abbrev pub dct_type : PicCoding → Kind → Grammar Bool
 dct_type coding kind = when (has_dct_type coding kind) one_flag false
 
@@ -102,6 +105,7 @@ has_forward coding kind = kind.forward || has_concealment coding kind
 abbrev pub f_codes : PicCoding → ℕ → List ℕ
 f_codes coding direction = slice_index_or coding.f_code direction []
 
+-- how block i of a macroblock is coded: the first four are those of luminance (6.1.3.1)
 abbrev pub block_way : PicCoding → Kind → ℕ → BlockWay
 block_way coding kind i = record { intra = kind.intra; luma = nat_lt i 4; vlc_one = coding.intra_vlc_format }
 
@@ -109,9 +113,11 @@ block_way coding kind i = record { intra = kind.intra; luma = nat_lt i 4; vlc_on
 abbrev pub is_coded : Kind → ℕ → ℕ → Bool
 is_coded kind pattern i = kind.intra || (bit_at pattern (BLOCKS - 1 - i) == 1)
 
+-- a block that is not coded
 abbrev pub no_block : Block
 no_block = record { dc = None; pairs = record { items = [] } }
 
+-- the six blocks in order, each where it is coded
 abbrev pub blocks : PicCoding → Kind → ℕ → Grammar (List Block)
 blocks coding kind pattern =
     each (range_with_len 0 BLOCKS) (λ i. when (is_coded kind pattern i) (block (block_way coding kind i)) no_block)

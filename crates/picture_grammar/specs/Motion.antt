@@ -36,6 +36,7 @@ dmvector_code (pos zero) = 0 ∷ []
 dmvector_code (pos (suc n)) = 1 ∷ 0 ∷ []
 dmvector_code (negsuc n) = 1 ∷ 1 ∷ []
 
+-- dmvector, -1, 0 or 1
 abbrev pub dmvector : Grammar ℤ
 dmvector = element (λ value code. (unsigned_abs value ≤ 1) × (code ≡ dmvector_code value)) End []
 

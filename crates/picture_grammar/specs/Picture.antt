@@ -8,7 +8,8 @@ use Rattle.syntax_types.specs.declared.picture.PicCoding.{PicCoding}
 use Rattle.syntax_types.specs.declared.picture.Picture.{Picture}
 use Rattle.syntax_types.specs.declared.picture.SeqState.{SeqState}
 use Rattle.syntax_types.specs.declared.slice.Slice.{Slice}
-use Rattle.picture_grammar.specs.declared.limits.TheConstants.{WIDTH_LEAST, WIDTH_MOST, HEIGHT_LEAST, HEIGHT_MOST, RATE_CODE_MOST, VBV_MOST, MACROBLOCK_SIZE}
+use Rattle.stream_constants.specs.declared.main_level.TheConstants.{VBV_MOST}
+use Rattle.picture_grammar.specs.declared.limits.TheConstants.{WIDTH_LEAST, WIDTH_MOST, HEIGHT_LEAST, HEIGHT_MOST, RATE_CODE_MOST, MACROBLOCK_SIZE}
 use Rattle.picture_grammar.specs.declared.start_codes.TheConstants.{FIRST_SLICE, SEQUENCE_END}
 use Rattle.picture_grammar.specs.Refusal.{Refusal}
 use Rattle.picture_grammar.specs.Refusal.Refusal.{BadHeader, Uncovered}
@@ -71,6 +72,7 @@ rows seq coding = if is_frame coding
     then (if seq.progressive then (seq.height + (MACROBLOCK_SIZE - 1)) / MACROBLOCK_SIZE else 2 * field_rows seq)
     else field_rows seq
 
+-- the column of the first macroblock of a slice
 abbrev pub first_column : List Macroblock → ℕ
 first_column [] = 0
 first_column (m ∷ ms) = m.skipped_before
@@ -87,6 +89,7 @@ IsCovered picture = flat_map (addresses picture.seq) picture.slices ≡ range_wi
 
 -- ---- what bytes spell
 
+-- 64 weights of a byte each, none of them 0
 abbrev pub AreWeights : List ℕ → Type 0
 AreWeights weights = (length weights ≡ BLOCK_PLACES) × AllByRecursion (λ weight. (0 < weight) × (weight < 2 ^ 8)) weights
 
