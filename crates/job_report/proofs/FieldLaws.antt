@@ -1,10 +1,10 @@
 -- What is wrong with a field, by what stands there.
-use Rattle.std.proofs.Common.{◌≡◌, ℕ, ◌≤◌, ◌&&◌, Bool, true, false, nat_le, List, [], ◌∷◌, ◌++◌, Option, Some, None, refl, sym, arith}
+use Rattle.std.proofs.Common.{◌≡◌, ℕ, Bool, List, [], ◌∷◌, ◌++◌, Some, None, refl, sym}
 use Rattle.toml.specs.Data.{Data, Members, get_member}
 use Rattle.job_report.specs.declared.values.Wrong.{Wrong}
 use Rattle.job_report.specs.declared.values.Wrong.TheVariants.{OtherType, OutOfRange}
-use Rattle.job_report.specs.Field.{Field, required, optional, is_integer, is_between}
-use Rattle.job_report.specs.Refusal.{Refusal, OfField, OfLimit, refusals_of_field}
+use Rattle.job_report.specs.Field.{Field, required, optional}
+use Rattle.job_report.specs.Refusal.{OfField, refusals_of_field}
 use Rattle.job_report.specs.Job.{stated_or}
 use Rattle.job_report.specs.Private.Value.{IsWrong, IsRight}
 use Rattle.job_report.specs.declared.fault.JobFault.{JobFault}

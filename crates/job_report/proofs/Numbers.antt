@@ -1,5 +1,5 @@
 -- Numbers of programs, and lists of numbers that rise.
-use Rattle.std.proofs.Common.{◌≡◌, ℕ, ◌<◌, ◌==◌, Bool, true, false, not, ◌&&◌, ◌||◌, List, [], ◌∷◌, length, map, refl, ap, subst, arith}
+use Rattle.std.proofs.Common.{◌≡◌, ℕ, ◌<◌, ◌==◌, Bool, true, false, ◌||◌, List, [], ◌∷◌, length, map, refl, ap, subst, arith}
 use Rattle.std.specs.List.{list_any}
 use Rattle.toml.specs.Data.{Data}
 use Rattle.job_report.specs.declared.job.ProgramJob.{ProgramJob}

@@ -1,15 +1,13 @@
 -- No text has two answers.
-use Rattle.std.proofs.Common.{◌≡◌, ℕ, ◌<◌, ◌≤◌, pos, List, [], ◌∷◌, ◌++◌, length, map, Result, Ok, Err, Option, Some, None, unwrap_or, inl, inr, refl, sym, ap, subst, ◌∙◌, arith}
+use Rattle.std.proofs.Common.{◌≡◌, ℕ, List, [], ◌∷◌, map, Result, Ok, Err, Option, Some, inl, inr, refl, sym, ap, subst, ◌∙◌, arith}
 use Rattle.std.proofs.lemmas.Option.{same_Some, none-some}
-use Rattle.std.specs.Prelude.{codes, IfOk, IfErr}
-use Rattle.toml.specs.Data.{Data, string, integer, Members, array, Items, no_items, item, get_member}
-use Rattle.toml.specs.Parse.{parse_document}
-use Rattle.job_report.specs.declared.limits.TheConstants.{JOB_TEXT_MOST}
+use Rattle.std.specs.Prelude.{IfOk, IfErr}
+use Rattle.toml.specs.Data.{Data, string, Members}
 use Rattle.job_report.specs.declared.job.Job.{Job as JobValue}
 use Rattle.job_report.specs.declared.job.ProgramJob.{ProgramJob}
-use Rattle.job_report.specs.Job.{integer_of, items_of_numbers, array_of, stated_or, IsProgramOf, AreProgramsOf, IsJobOf}
+use Rattle.job_report.specs.Job.{integer_of, array_of, IsProgramOf, AreProgramsOf, IsJobOf}
 use Rattle.job_report.specs.Field.{natural_of, values_in}
-use Rattle.job_report.specs.JobText.{IsDocument, SpellsJob, IsNoDocument, IsRefusedDocument, JobAnswer, Spelled, NoDocument, Refused, HasAnswer, IsJobFaultOf, Gives}
+use Rattle.job_report.specs.JobText.{IsDocument, SpellsJob, IsRefusedDocument, JobAnswer, Spelled, NoDocument, Refused, HasAnswer, IsJobFaultOf, Gives}
 use Rattle.job_report.specs.declared.fault.JobFault.{JobFault}
 use Rattle.job_report.specs.declared.fault.JobFault.TheVariants.{JobSyntax, JobField, JobLimit, OutOfMemory}
 use Rattle.job_report.specs.Refusal.{Refusal, OfField, OfLimit, refusals_of, first_refusal, programs_in}
@@ -42,7 +40,12 @@ one_text s t e = ap text_of e
 same_program : (p q : ProgramJob) → p.file ≡ q.file → p.program ≡ q.program → p.number ≡ q.number → p.weight ≡ q.weight
     → p.coarser.items ≡ q.coarser.items → p.drop.items ≡ q.drop.items → p ≡ q
 same_program p q file program number weight coarser drop = λ i. record {
-  file = file i; program = program i; number = number i; weight = weight i; coarser = record { items = coarser i }; drop = record { items = drop i }
+  file = file i;
+  program = program i;
+  number = number i;
+  weight = weight i;
+  coarser = record { items = coarser i };
+  drop = record { items = drop i };
 }
 
 one_program : (stated : Members) (p q : ProgramJob) → IsProgramOf stated p → IsProgramOf stated q → p ≡ q
@@ -68,7 +71,12 @@ one_programs (t ∷ tables) (p ∷ ps) [] a b = absurd b
 same_job : (j k : JobValue) → j.slot ≡ k.slot → j.start ≡ k.start → j.stream_id ≡ k.stream_id → j.nodes ≡ k.nodes → j.evaluations ≡ k.evaluations
     → j.programs ≡ k.programs → j ≡ k
 same_job j k slot start stream_id nodes evaluations programs = λ i. record {
-  slot = slot i; start = start i; stream_id = stream_id i; nodes = nodes i; evaluations = evaluations i; programs = programs i
+  slot = slot i;
+  start = start i;
+  stream_id = stream_id i;
+  nodes = nodes i;
+  evaluations = evaluations i;
+  programs = programs i;
 }
 
 pub one_job : (document : Members) (j k : JobValue) → IsJobOf document j → IsJobOf document k → j ≡ k

@@ -12,6 +12,7 @@ abbrev pub list_of_items : Items → List Data
 list_of_items no_items = []
 list_of_items (item value items) = value ∷ list_of_items items
 
+-- the values in a value that is an array
 abbrev pub values_in : Data → List Data
 values_in (array items) = list_of_items items
 values_in value = []
@@ -20,9 +21,11 @@ values_in value = []
 abbrev pub is_integer : Data → Bool
 is_integer value = is_some (as_integer value)
 
+-- a text
 abbrev pub is_text : Data → Bool
 is_text value = is_some (as_str value)
 
+-- a table
 abbrev pub is_table : Data → Bool
 is_table value = is_some (as_table value)
 
@@ -36,6 +39,7 @@ abbrev pub natural_of : Data → ℕ
 natural_of (integer (pos n)) = n
 natural_of value = 0
 
+-- a number from the least to the most
 abbrev pub is_between : ℕ → ℕ → Data → Bool
 is_between least most (integer (pos n)) = nat_le least n && nat_le n most
 is_between least most value = false
@@ -64,9 +68,11 @@ pub record Field : Type 0 where
   pub has_type : Data → Bool
   pub in_range : Data → Bool
 
+-- a field that must be there
 abbrev pub required : List ℕ → (Data → Bool) → (Data → Bool) → Field
 required name has_type in_range = record { name = name; required = true; has_type = has_type; in_range = in_range }
 
+-- a field that may be left out
 abbrev pub optional : List ℕ → (Data → Bool) → (Data → Bool) → Field
 optional name has_type in_range = record { name = name; required = false; has_type = has_type; in_range = in_range }
 

@@ -6,14 +6,16 @@ use Rattle.job_report.specs.declared.job.ProgramJob.{ProgramJob}
 use Rattle.job_report.specs.declared.job.Job.{Job}
 use Rattle.job_report.specs.Refusal.{programs_in}
 
--- a number as TOML has it, and an array of numbers
+-- a number as TOML has it
 abbrev pub integer_of : ℕ → Data
 integer_of n = integer (pos n)
 
+-- numbers as TOML's items
 abbrev pub items_of_numbers : List ℕ → Items
 items_of_numbers [] = no_items
 items_of_numbers (n ∷ ns) = item (integer_of n) (items_of_numbers ns)
 
+-- an array of numbers
 abbrev pub array_of : List ℕ → Data
 array_of ns = array (items_of_numbers ns)
 

@@ -57,11 +57,12 @@ refusals_of_programs taken (program ∷ programs) =
 abbrev pub tables_among : List Data → List Members
 tables_among values = filter_map as_table values
 
--- the programs of a document
+-- the tables in the array that is stated
 abbrev pub stated_tables : Option Data → List Members
 stated_tables None = []
 stated_tables (Some value) = tables_among (values_in value)
 
+-- the programs of a document
 abbrev pub programs_in : Members → List Members
 programs_in document = stated_tables (get_member (codes "program") document)
 

@@ -1,4 +1,4 @@
-//! The list and text types of the public surface: what contracts see as a plain list.
+//! Lists and texts that contracts see as plain lists.
 //!
 //! A struct that holds a `ListOf<T>` is seen by contracts with a `List T` in that field, and one that holds a
 //! `Text` with the list of its bytes, so definitions compare lists and never buffers, capacities or allocators.

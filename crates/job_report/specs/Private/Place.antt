@@ -1,5 +1,5 @@
 -- Where a table stands in a document, and refusals there.
-use Rattle.std.specs.Prelude.{List, ℕ, [], ◌++◌}
+use Rattle.std.specs.Prelude.{List, ℕ, []}
 use Rattle.job_report.specs.declared.place.Place.{Place}
 use Rattle.job_report.specs.declared.place.Place.TheVariants.{Job, Program}
 use Rattle.job_report.specs.declared.values.Wrong.{Wrong}

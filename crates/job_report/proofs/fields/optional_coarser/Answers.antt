@@ -1,6 +1,6 @@
-use Rattle.std.proofs.Common.{◌≡◌, codes, map}
-use Rattle.job_report.specs.Field.{required, optional, is_integer, is_array_of, are_coarser, is_new_number}
-use Rattle.job_report.proofs.FieldLaws.{missing_tells, wrong_tells, right_tells, left_out_right}
+use Rattle.std.proofs.Common.{codes}
+use Rattle.job_report.specs.Field.{optional, is_integer, is_array_of, are_coarser}
+use Rattle.job_report.proofs.FieldLaws.{wrong_tells, right_tells, left_out_right}
 use Rattle.job_report.proofs.fields.optional_coarser.Goals as goal
 
 pub returns-in-None-clause-right : goal.returns-in-None-clause-right

@@ -1,6 +1,6 @@
-use Rattle.std.proofs.Common.{◌≡◌, codes, map}
-use Rattle.job_report.specs.Field.{required, optional, is_integer, is_array_of, are_coarser, is_new_number}
-use Rattle.job_report.proofs.FieldLaws.{missing_tells, wrong_tells, right_tells, left_out_right}
+use Rattle.std.proofs.Common.{codes, map}
+use Rattle.job_report.specs.Field.{required, is_integer, is_new_number}
+use Rattle.job_report.proofs.FieldLaws.{missing_tells, wrong_tells, right_tells}
 use Rattle.job_report.proofs.fields.required_new_number.Goals as goal
 
 pub returns-in-None-clause-wrong : goal.returns-in-None-clause-wrong

@@ -1,6 +1,5 @@
-use Rattle.std.proofs.Common.{◌≡◌, ◌∙◌, sym}
-use Rattle.job_report.specs.Field.{required, optional, is_integer, is_between, is_text, is_some_text, is_table, is_array_of, are_numbers, has_between}
-use Rattle.job_report.proofs.FieldLaws.{missing_tells, wrong_tells, right_tells, left_out_right, stated_or-none, stated_or-some}
+use Rattle.job_report.specs.Field.{required, is_table, is_array_of, has_between}
+use Rattle.job_report.proofs.FieldLaws.{missing_tells, wrong_tells, right_tells}
 use Rattle.job_report.proofs.fields.required_tables.Goals as goal
 
 pub returns-in-None-clause-wrong : goal.returns-in-None-clause-wrong

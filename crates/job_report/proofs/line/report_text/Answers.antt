@@ -1,6 +1,3 @@
-use Rattle.std.proofs.Common.{◌≡◌, false}
-use Rattle.serde_json.specs.View.{view}
-use Rattle.serde_json.specs.Written.{has_float}
 use Rattle.job_report.proofs.Floats.{report_without_float}
 use Rattle.job_report.proofs.line.report_text.Goals as goal
 

@@ -1,12 +1,11 @@
 use Rattle.std.proofs.Common.{◌≡◌, [], map, length, sym}
-use Rattle.toml.specs.Data.{as_table}
 use Rattle.toml.specs.View.{view, table_view}
 use Rattle.std.proofs.lemmas.Result.{err_from_is_err_and}
 use Rattle.job_report.specs.Field.{program_fields}
 use Rattle.job_report.specs.Refusal.{refusals_of_table, place_of_program}
 use Rattle.job_report.specs.Private.Fault.{TellsFirst}
 use Rattle.job_report.specs.Private.Programs.{numbers_of_programs}
-use Rattle.job_report.proofs.ProgramLaws.{so_far-none, so_far-table, so_far-other, so_far-wrong, within-view, at-view}
+use Rattle.job_report.proofs.ProgramLaws.{so_far-table, so_far-other, so_far-wrong, within-view, at-view}
 use Rattle.job_report.proofs.programs.read_programs.Goals as goal
 use Rattle.job_report.proofs.programs.read_programs.Goals.{in-Some+in_ok-program+in_ok-push, in_default}
 

@@ -1,6 +1,6 @@
-use Rattle.std.proofs.Common.{◌≡◌, [], map}
+use Rattle.std.proofs.Common.{[]}
 use Rattle.std.proofs.lemmas.Result.{err_from_is_err_and}
-use Rattle.toml.specs.View.{view, table_view}
+use Rattle.toml.specs.View.{table_view}
 use Rattle.job_report.specs.Refusal.{programs_in, refusals_of_programs}
 use Rattle.job_report.specs.Private.Fault.{TellsFirst}
 use Rattle.job_report.proofs.Firsts.{tells_here, tells_fourth, tells_fifth, tells_sixth, tells_name, tells_behind}
@@ -30,5 +30,5 @@ pub returns-in_err-programs-clause-wrong : goal.returns-in_err-programs-clause-w
 returns-in_err-programs-clause-wrong c =
     let p = err_from_is_err_and c.from_residual-in_err-programs.result c.from_residual-in_err-programs.ensures.1 in
     let wrong : TellsFirst (refusals_of_programs [] (programs_in (table_view c.args.document.now))) c.in_err-programs.field-0.0 =
-      rw c.in_ok-tables.ensures.tables c.in_err-programs.ensures.wrong in
+    rw c.in_ok-tables.ensures.tables c.in_err-programs.ensures.wrong in
     rw (p.1, p.2) (tells_behind _ _ _ _ _ _ _ _ _ c.in_ok-slot.ensures.right c.in_ok-start.ensures.right c.in_ok-stream_id.ensures.right c.in_ok-nodes.ensures.right c.in_ok-evaluations.ensures.right c.in_ok-tables.ensures.right c.in_ok-check_job_names.ensures.right wrong)

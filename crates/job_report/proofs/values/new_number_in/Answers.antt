@@ -1,5 +1,4 @@
-use Rattle.std.proofs.Common.{◌≡◌, ◌==◌, ◌∙◌, sym, true, false}
-use Rattle.std.specs.List.{list_any}
+use Rattle.std.proofs.Common.{◌∙◌, sym}
 use Rattle.job_report.proofs.Numbers.{number-new, number-taken}
 use Rattle.job_report.proofs.values.new_number_in.Goals as goal
 

@@ -1,4 +1,4 @@
-use Rattle.std.proofs.Common.{◌≡◌, ◌<◌, ◌&&◌, false, Bool, true, nat_le, map, length, refl, arith}
+use Rattle.std.proofs.Common.{◌≡◌, ◌&&◌, false, Bool, true, map, refl}
 use Rattle.std.specs.List.{list_all}
 use Rattle.std.proofs.lemmas.List.Folds.{list_all-map, list_all_at}
 use Rattle.toml.specs.View.{view}

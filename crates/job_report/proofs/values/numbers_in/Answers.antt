@@ -1,10 +1,9 @@
-use Rattle.std.proofs.Common.{◌≡◌, ◌≤◌, ◌&&◌, nat_le, true, map, length, ap, refl, arith, rules}
-use Rattle.std.specs.List.{list_all}
+use Rattle.std.proofs.Common.{◌≡◌, nat_le, true, map, length, ap, arith, rules}
 use Rattle.std.proofs.lemmas.Bool.Decides.{nat_tests}
 use Rattle.std.proofs.lemmas.List.{length-map}
 use Rattle.toml.specs.Data.{array}
 use Rattle.toml.specs.View.{view}
-use Rattle.job_report.specs.Field.{is_between, is_integer}
+use Rattle.job_report.specs.Field.{is_integer}
 use Rattle.job_report.proofs.Stated.{items_of_numbers-map}
 use Rattle.job_report.proofs.values.numbers_in.Goals as goal
 

@@ -1,6 +1,5 @@
-use Rattle.std.proofs.Common.{◌≡◌, sym, ◌∙◌, subst, Bool, rules}
-use Rattle.std.specs.List.{list_all}
-use Rattle.toml.specs.Data.{Data, array}
+use Rattle.std.proofs.Common.{◌≡◌, rules}
+use Rattle.toml.specs.Data.{array}
 use Rattle.toml.specs.View.{view, items_view}
 use Rattle.job_report.proofs.Stated.{array-some, values_in-items_view, is_array_of-items_view}
 use Rattle.job_report.proofs.values.values_of.Goals as goal
