@@ -1,0 +1,5 @@
+pub mod Blocks
+pub mod Codes
+pub mod Macroblocks
+pub mod Places
+pub mod Ranges
