@@ -3,3 +3,4 @@ pub mod Codes
 pub mod Macroblocks
 pub mod Places
 pub mod Ranges
+pub mod Slices

@@ -99,12 +99,16 @@ coarsened_macroblock seq coding m inner code before skipped from =
       ]
     ]
 
+abbrev pub is_none : List Macroblock → Bool
+is_none [] = true
+is_none (m ∷ ms) = false
+
 -- the macroblocks of a slice from one on: whether it is the first, the codes in force before it in the source and in
 -- the coarser picture, and how many skipped ones wait before it there
 abbrev pub coarsened_macroblocks : SeqState → PicCoding → ℕ → Bool → ℕ → ℕ → ℕ → List Macroblock → List Macroblock
 coarsened_macroblocks seq coding m first code before skipped [] = []
 coarsened_macroblocks seq coding m first code before skipped (from ∷ later) =
-    elim (coarsened_macroblock seq coding m (not first && not (elim later [ [] ↦ true | _ ∷ _ ↦ false ])) (unwrap_or from.code code) before (skipped + from.skipped_before) from) [
+    elim (coarsened_macroblock seq coding m (not first && not (is_none later)) (unwrap_or from.code code) before (skipped + from.skipped_before) from) [
       None ↦ coarsened_macroblocks seq coding m false (unwrap_or from.code code) before (skipped + (from.skipped_before + 1)) later
     | Some to ↦ to ∷ coarsened_macroblocks seq coding m false (unwrap_or from.code code) (unwrap_or to.code before) 0 later
     ]
