@@ -1,6 +1,6 @@
 -- What the walk over a block makes is the coarser block, and the only one.
-use Rattle.std.proofs.Common.{◌≡◌, ◌≢◌, ℕ, ◌*◌, ◌*ℤ◌, ◌+◌, ◌<◌, ◌≤◌, ℤ, pos, unsigned_abs, ◌⊎◌, Option, Some, None, List, [], ◌∷◌, true, false, refl, sym, ◌∙◌, ap, ap₂, inl, inr, arith}
-use Rattle.std.specs.Prelude.{◌==◌, if◌then◌else◌}
+use Rattle.std.proofs.Common.{◌≡◌, ◌≢◌, ℕ, ◌*ℤ◌, ◌+◌, ◌<◌, ℤ, pos, unsigned_abs, ◌⊎◌, Option, Some, None, List, [], ◌∷◌, true, false, refl, sym, ◌∙◌, ap, ap₂, inl, inr, arith}
+use Rattle.std.specs.Prelude.{◌==◌}
 use Rattle.std.specs.List.{AllByRecursion}
 use Rattle.std.specs.Option.{option_map_or}
 use Rattle.std.proofs.lemmas.Bool.{cases_eq, cases_Bool, eqb-true, eqb-false}
@@ -52,7 +52,7 @@ module _ (new : ℕ → ℤ → ℤ) (zero_stays : (place : ℕ) → new place (
   pub levels-coarsened : (start waiting place c : ℕ) (pairs : List RunLevel) → start + waiting ≡ place
       → level_from start (coarsened_pairs new place waiting pairs) c ≡ new c (level_from place pairs c)
   levels-coarsened start waiting place c [] e = sym (zero_stays c)
-  levels-coarsened start waiting place c (pair ∷ pairs) e = 
+  levels-coarsened start waiting place c (pair ∷ pairs) e =
       by_level (λ w e. levels-coarsened start w (place + pair.run + 1) c pairs e) (levels-coarsened (place + pair.run + 1) 0 (place + pair.run + 1) c pairs (omega arith))
       (cases_Bool (unsigned_abs (new (place + pair.run) pair.level) == 0))
     where
@@ -75,8 +75,8 @@ module _ (new : ℕ → ℤ → ℤ) (zero_stays : (place : ℕ) → new place (
           → (unsigned_abs (new (place + pair.run) pair.level) == 0 ≡ true) ⊎ (unsigned_abs (new (place + pair.run) pair.level) == 0 ≡ false)
           → level_from start (coarsened_pairs new place waiting (pair ∷ pairs)) c ≡ new c (level_from place (pair ∷ pairs) c)
       by_level waits behind (inl gone) = rw (gone, coarsened_pairs) (
-            waits (waiting + (pair.run + 1)) (omega arith)
-            ∙ dropped place c pair pairs (no_size _ (eqb-true _ _ gone)) (cases_eq c (place + pair.run)))
+          waits (waiting + (pair.run + 1)) (omega arith)
+          ∙ dropped place c pair pairs (no_size _ (eqb-true _ _ gone)) (cases_eq c (place + pair.run)))
       by_level waits behind (inr stays) = rw (stays, coarsened_pairs) (by_place behind (cases_eq c (place + pair.run)))
 
 -- ---- only one block

@@ -1,10 +1,9 @@
 -- What the walk makes of a macroblock is what the version has there, and nothing else is.
-use Rattle.std.proofs.Common.{◌≡◌, ◌≢◌, ℕ, zero, suc, ◌+◌, ◌<◌, ◌≤◌, ℤ, pos, negsuc, unsigned_abs, Option, Some, None, List, [], ◌∷◌, Bool, true, false, refl, sym, ◌∙◌, ap, ap₂, subst, ◌⊎◌, inl, inr, arith, length, map, unwrap_or, get_or}
-use Rattle.std.specs.Prelude.{◌==◌, ◌&&◌, ◌||◌, not, is_some, replicate, slice_index_or, slice_set, find, if◌then◌else◌}
+use Rattle.std.proofs.Common.{◌≡◌, ◌≢◌, ℕ, ◌+◌, ◌<◌, pos, Option, Some, None, List, [], ◌∷◌, Bool, true, false, refl, sym, ◌∙◌, ap, ap₂, subst, ◌⊎◌, inl, inr, arith, length, unwrap_or, get_or}
+use Rattle.std.specs.Prelude.{◌==◌, ◌&&◌, ◌||◌, not, is_some, slice_index_or, slice_set, find, if◌then◌else◌}
 use Rattle.std.specs.Int.{int_signum}
-use Rattle.std.specs.List.{range_with_len, list_all}
-use Rattle.std.proofs.lemmas.Bool.{cases_Bool, cases_order, and_parts, and_from, not-true, cases_eq}
-use Rattle.std.proofs.lemmas.Int.{ints}
+use Rattle.std.specs.List.{range_with_len}
+use Rattle.std.proofs.lemmas.Bool.{cases_order, and_parts, and_from, not-true}
 use Rattle.std.proofs.lemmas.List.{same_lists, get_or_default, get_or-replicate}
 use Rattle.std.proofs.lemmas.List.Sums.{AllPass-from_list_all}
 use Rattle.std.proofs.lemmas.List.Elements.{All-get_or}
@@ -22,8 +21,8 @@ use Rattle.requantiser.specs.Blocks.{IsCoarserBlock, AreCoarserBlocks, KeepsFirs
 use Rattle.requantiser.specs.Levels.{level_at}
 use Rattle.requantiser.specs.Macroblocks.{has_coefficients, is_empty_block, pattern_of, IsEmptiedWithoutMotion, HasBlocks, IsCoarserMacroblock, IsCoarserAt}
 use Rattle.requantiser.specs.Private.Shapes.{BeginsWithLevel, HasShape}
-use Rattle.requantiser.specs.Private.Walk.{mapped_code, coarsened_block, coarsened_blocks, first_of, first_coded, kept_blocks, is_coded_without_motion, are_empty, with_blocks, coarsened_macroblock}
-use Rattle.requantiser.proofs.Blocks.{level_from, run_of, level_here, level_there, level_before, coarsened_block-is, one_coarser_block}
+use Rattle.requantiser.specs.Private.Walk.{mapped_code, coarsened_block, coarsened_blocks, first_of, kept_blocks, is_coded_without_motion, are_empty, with_blocks, coarsened_macroblock}
+use Rattle.requantiser.proofs.Blocks.{level_from, level_here, level_there, level_before, coarsened_block-is, one_coarser_block}
 use Rattle.requantiser.proofs.Codes.{mapped_code-is, one_mapped}
 use Rattle.requantiser.proofs.Places.{BothOrNone}
 use Rattle.requantiser.proofs.Ranges.{IsFirst, find-some, find-none}
@@ -47,11 +46,11 @@ module _ (seq : SeqState) (coding : PicCoding) (kind : Kind) (code mapped : ℕ)
   pub coarsened_blocks-are : (blocks : List Block) → length blocks ≡ BLOCKS
       → AreCoarserBlocks seq coding kind code mapped blocks (coarsened_blocks seq coding kind code mapped blocks)
   coarsened_blocks-are blocks six = (
-      length-map-range_with_len (one_block blocks) 0 BLOCKS ∙ sym six,
-      λ i below. subst (IsCoarserBlock seq coding (block_way coding kind i) code mapped (slice_index_or blocks i no_block))
-      (sym (get_or-coarsened blocks i (omega arith)))
-      (coarsened_block-is seq coding (block_way coding kind i) code mapped (slice_index_or blocks i no_block)),
-    )
+    length-map-range_with_len (one_block blocks) 0 BLOCKS ∙ sym six,
+    λ i below. subst (IsCoarserBlock seq coding (block_way coding kind i) code mapped (slice_index_or blocks i no_block))
+        (sym (get_or-coarsened blocks i (omega arith)))
+        (coarsened_block-is seq coding (block_way coding kind i) code mapped (slice_index_or blocks i no_block)),
+  )
 
   -- no other blocks are
   pub same_blocks : (from a b : List Block) → AreCoarserBlocks seq coding kind code mapped from a → AreCoarserBlocks seq coding kind code mapped from b → a ≡ b
@@ -66,11 +65,11 @@ module _ (seq : SeqState) (coding : PicCoding) (kind : Kind) (code mapped : ℕ)
       → are_empty (coarsened_blocks seq coding kind code mapped blocks) ≡ true → coarsened_blocks seq coding kind code mapped blocks ≡ no_blocks
   empty_blocks blocks no_dc empty = same_lists (coarsened_blocks seq coding kind code mapped blocks) no_blocks (length-map-range_with_len (one_block blocks) 0 BLOCKS)
       (λ k d below. let within : k < BLOCKS = omega (arith, length-map-range_with_len (one_block blocks) 0 BLOCKS) in
-        get_or_default (coarsened_blocks seq coding kind code mapped blocks) k d no_block below
-        ∙ empty_block (get_or (coarsened_blocks seq coding kind code mapped blocks) k no_block)
-        (ap (λ b. let block : Block = b in block.dc) (get_or-coarsened blocks k within) ∙ no_dc k within)
-        (All-get_or (λ b. is_empty_block b ≡ true) (coarsened_blocks seq coding kind code mapped blocks) k no_block below (AllPass-from_list_all is_empty_block (coarsened_blocks seq coding kind code mapped blocks) empty))
-        ∙ sym (get_or-replicate BLOCKS k no_block d within))
+      get_or_default (coarsened_blocks seq coding kind code mapped blocks) k d no_block below
+      ∙ empty_block (get_or (coarsened_blocks seq coding kind code mapped blocks) k no_block)
+      (ap (λ b. let block : Block = b in block.dc) (get_or-coarsened blocks k within) ∙ no_dc k within)
+      (All-get_or (λ b. is_empty_block b ≡ true) (coarsened_blocks seq coding kind code mapped blocks) k no_block below (AllPass-from_list_all is_empty_block (coarsened_blocks seq coding kind code mapped blocks) empty))
+      ∙ sym (get_or-replicate BLOCKS k no_block d within))
 
 -- ---- the coefficient that is kept
 
@@ -84,13 +83,13 @@ first_level : (items : List RunLevel) → BeginsWithLevel items
     → (place : ℕ) × IsFirstLevel 0 items place × (first_of (record { dc = None; pairs = record { items = items } }) ≡ block_of_one place (int_signum (level_from 0 items place)))
 first_level [] none = absurd none
 first_level (pair ∷ pairs) level = (
-    pair.run,
-    record {
-      level = λ zero. level (sym here ∙ zero);
-      zeros_before = λ p below. level_there 0 p pair pairs (λ e. absurd (omega arith)) ∙ level_before (0 + pair.run + 1) p pairs (omega arith);
-    },
-    ap (λ level. block_of_one pair.run (int_signum level)) (sym here),
-  )
+  pair.run,
+  record {
+    level = λ zero. level (sym here ∙ zero);
+    zeros_before = λ p below. level_there 0 p pair pairs (λ e. absurd (omega arith)) ∙ level_before (0 + pair.run + 1) p pairs (omega arith);
+  },
+  ap (λ level. block_of_one pair.run (int_signum level)) (sym here),
+)
   where
     here : level_from 0 (pair ∷ pairs) pair.run ≡ pair.level
     here = level_here 0 pair.run pair pairs (omega arith)
@@ -158,9 +157,9 @@ module _ (coding : PicCoding) (from : Macroblock) (non_intra : from.kind.intra �
       at_one index here there =
           let block : Block = slice_index_or from.blocks index no_block in
           let first_p : IsFirstLevel 0 block.pairs.items p.place =
-            subst (λ i. let block : Block = slice_index_or from.blocks i no_block in IsFirstLevel 0 block.pairs.items p.place) here (first_level_of p.index p.place p.level p.zeros_before) in
+          subst (λ i. let block : Block = slice_index_or from.blocks i no_block in IsFirstLevel 0 block.pairs.items p.place) here (first_level_of p.index p.place p.level p.zeros_before) in
           let first_q : IsFirstLevel 0 block.pairs.items q.place =
-            subst (λ i. let block : Block = slice_index_or from.blocks i no_block in IsFirstLevel 0 block.pairs.items q.place) there (first_level_of q.index q.place q.level q.zeros_before) in
+          subst (λ i. let block : Block = slice_index_or from.blocks i no_block in IsFirstLevel 0 block.pairs.items q.place) there (first_level_of q.index q.place q.level q.zeros_before) in
           let place : p.place ≡ q.place = one_first_level 0 block.pairs.items p.place q.place first_p first_q in
           p.kept
           ∙ ap₂ (λ i place. slice_set no_blocks i (block_of_one place (int_signum (level_at (block_way coding from.kind i) (slice_index_or from.blocks i no_block) place)))) (here ∙ sym there) place
@@ -257,8 +256,8 @@ module _ (seq : SeqState) (coding : PicCoding) (m : ℕ) (inner : Bool) (code be
       → (is_coded_without_motion from.kind && are_empty (coarsened_blocks seq coding from.kind (unwrap_or from.code code) mapped from.blocks)) ≡ true
   passes_if_emptied mapped from six emptied =
       let same : coarsened_blocks seq coding from.kind (unwrap_or from.code code) mapped from.blocks ≡ no_blocks =
-        same_blocks seq coding from.kind (unwrap_or from.code code) mapped from.blocks _ _
-        (coarsened_blocks-are seq coding from.kind (unwrap_or from.code code) mapped from.blocks six) emptied.emptied in
+      same_blocks seq coding from.kind (unwrap_or from.code code) mapped from.blocks _ _
+      (coarsened_blocks-are seq coding from.kind (unwrap_or from.code code) mapped from.blocks six) emptied.emptied in
       and_from (is_coded_without_motion from.kind) (are_empty (coarsened_blocks seq coding from.kind (unwrap_or from.code code) mapped from.blocks))
       (without_motion from.kind.pattern from.kind.intra from.kind.forward from.kind.backward emptied.coded emptied.non_intra emptied.no_forward emptied.no_backward)
       (ap are_empty same)
@@ -279,20 +278,27 @@ module _ (seq : SeqState) (coding : PicCoding) (m : ℕ) (inner : Bool) (code be
 
       by_test : (t i : Bool) → t ≡ (is_coded_without_motion from.kind && are_empty blocks) → i ≡ inner
           → IsCoarserAt seq coding m inner code before (Some from) (elim t [
-              false ↦ Some (with_blocks coding mapped before skipped from blocks)
+            | false ↦ Some (with_blocks coding mapped before skipped from blocks)
             | true ↦ elim i [ true ↦ None | false ↦ Some (with_blocks coding mapped before skipped from (kept_blocks from)) ]
-            ])
+          ])
       by_test false i test is =
           let stays : ¬ IsEmptiedWithoutMotion seq coding (unwrap_or from.code code) mapped from =
-            λ emptied. let e : true ≡ false = sym (passes_if_emptied mapped from shape.six emptied) ∙ sym test in absurd (cc) in
-          (mapped, is_mapped, with_blocks-is seq coding (unwrap_or from.code code) mapped before skipped from blocks
-            (inl (coarsened_blocks-are seq coding from.kind (unwrap_or from.code code) mapped from.blocks shape.six, stays)),
-            λ emptied. absurd (stays emptied))
+          λ emptied. let e : true ≡ false = sym (passes_if_emptied mapped from shape.six emptied) ∙ sym test in absurd (cc) in (
+            mapped,
+            is_mapped,
+            with_blocks-is seq coding (unwrap_or from.code code) mapped before skipped from blocks
+                (inl (coarsened_blocks-are seq coding from.kind (unwrap_or from.code code) mapped from.blocks shape.six, stays)),
+            λ emptied. absurd (stays emptied),
+          )
       by_test true true test is = (mapped, is_mapped, emptied_by_test mapped from shape (sym test), sym is)
       by_test true false test is =
-          let emptied : IsEmptiedWithoutMotion seq coding (unwrap_or from.code code) mapped from = emptied_by_test mapped from shape (sym test) in
-          (mapped, is_mapped, with_blocks-is seq coding (unwrap_or from.code code) mapped before skipped from (kept_blocks from)
-            (inr (emptied, kept_blocks-are coding from emptied.non_intra shape emptied.coded)), λ e. sym is)
+          let emptied : IsEmptiedWithoutMotion seq coding (unwrap_or from.code code) mapped from = emptied_by_test mapped from shape (sym test) in (
+            mapped,
+            is_mapped,
+            with_blocks-is seq coding (unwrap_or from.code code) mapped before skipped from (kept_blocks from)
+                (inr (emptied, kept_blocks-are coding from emptied.non_intra shape emptied.coded)),
+            λ e. sym is,
+          )
 
   -- and nothing else stands there
   pub one_coarser_at : (from to other : Option Macroblock) → IsCoarserAt seq coding m inner code before from to → IsCoarserAt seq coding m inner code before from other
@@ -310,10 +316,10 @@ module _ (seq : SeqState) (coding : PicCoding) (m : ℕ) (inner : Bool) (code be
   one_coarser_at (Some from) (Some a) (Some b) (mapped, is_mapped, coarser, not_inner) (other, is_other, coarser', not_inner') =
       let same : other ≡ mapped = one_mapped coding.q_scale_type m (unwrap_or from.code code) other mapped is_other is_mapped in
       let again : IsCoarserMacroblock seq coding (unwrap_or from.code code) mapped before from b =
-        subst (λ c. IsCoarserMacroblock seq coding (unwrap_or from.code code) c before from b) same coarser' in
+      subst (λ c. IsCoarserMacroblock seq coding (unwrap_or from.code code) c before from b) same coarser' in
       let first : IsCoarserMacroblock seq coding (unwrap_or from.code code) mapped before from a = coarser in
       let blocks : a.blocks ≡ b.blocks = same_coded_blocks seq coding (unwrap_or from.code code) mapped from a.blocks b.blocks first.blocks again.blocks in
       λ skipped.
-        ap (behind_skipped skipped) (coarser-is seq coding (unwrap_or from.code code) mapped before from a first)
-        ∙ ap (λ blocks. with_blocks coding mapped before skipped from blocks) blocks
-        ∙ sym (ap (behind_skipped skipped) (coarser-is seq coding (unwrap_or from.code code) mapped before from b again))
+      ap (behind_skipped skipped) (coarser-is seq coding (unwrap_or from.code code) mapped before from a first)
+      ∙ ap (λ blocks. with_blocks coding mapped before skipped from blocks) blocks
+      ∙ sym (ap (behind_skipped skipped) (coarser-is seq coding (unwrap_or from.code code) mapped before from b again))

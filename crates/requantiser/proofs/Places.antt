@@ -1,7 +1,6 @@
 -- Items and their places.
-use Rattle.std.proofs.Common.{◌≡◌, ℕ, ◌+◌, ◌<◌, ◌≤◌, ◌⊎◌, Option, Some, None, List, [], ◌∷◌, true, false, refl, sym, ◌∙◌, ap, ap₂, subst, inl, inr, arith}
+use Rattle.std.proofs.Common.{◌≡◌, ℕ, ◌+◌, ◌<◌, ◌⊎◌, Option, Some, None, List, [], ◌∷◌, refl, sym, ◌∙◌, ap, ap₂, subst, inl, inr, arith}
 use Rattle.std.specs.List.{AllByRecursion}
-use Rattle.std.specs.Prelude.{◌==◌, if◌then◌else◌}
 use Rattle.std.proofs.lemmas.Bool.{cases_order, cases_eq, eq-eqb, ne_eqb}
 use Rattle.requantiser.specs.Places.{item_at}
 
@@ -49,7 +48,7 @@ module _ {A : Type 0} (gap : A → ℕ) where
         where
           first : gap x ≡ gap y → x ≡ y
           first equal = same x y equal (one_item _ _ x y (item_at-here start (start + gap x) x xs refl)
-                (item_at-here start (start + gap x) y ys (ap (λ n. start + n) equal)) (both (start + gap x)))
+              (item_at-here start (start + gap x) y ys (ap (λ n. start + n) equal)) (both (start + gap x)))
 
           behind : gap x ≡ gap y → (place : ℕ) → (place ≡ start + gap x) ⊎ (place ≡ start + gap x → ⊥)
               → BothOrNone (item_at gap (start + gap x + 1) xs place) (item_at gap (start + gap x + 1) ys place)
@@ -59,16 +58,16 @@ module _ {A : Type 0} (gap : A → ℕ) where
           behind equal place (inr there) =
               subst (λ o. BothOrNone o (item_at gap (start + gap x + 1) ys place)) (item_at-there start place x xs there)
               (subst (λ o. BothOrNone (item_at gap start (x ∷ xs) place) o)
-                (item_at-there start place y ys (λ e. there (omega arith)) ∙ ap (λ n. item_at gap (start + n + 1) ys place) (sym equal)) (both place))
+              (item_at-there start place y ys (λ e. there (omega arith)) ∙ ap (λ n. item_at gap (start + n + 1) ys place) (sym equal)) (both place))
 
           by_order : (((place : ℕ) → BothOrNone (item_at gap (start + gap x + 1) xs place) (item_at gap (start + gap x + 1) ys place)) → xs ≡ ys)
               → (gap x ≡ gap y) ⊎ ((gap x < gap y) ⊎ (gap y < gap x)) → x ∷ xs ≡ y ∷ ys
           by_order rest (inl equal) = ap₂ (λ a b. a ∷ b) (first equal) (rest (λ place. behind equal place (cases_eq place (start + gap x))))
           by_order rest (inr (inl below)) = absurd (not_right _ _ x (item_at-here start (start + gap x) x xs refl)
-                (item_at-there start (start + gap x) y ys (λ e. absurd (omega arith)) ∙ item_at-before (start + gap y + 1) (start + gap x) ys (omega arith)) (both (start + gap x)))
+              (item_at-there start (start + gap x) y ys (λ e. absurd (omega arith)) ∙ item_at-before (start + gap y + 1) (start + gap x) ys (omega arith)) (both (start + gap x)))
           by_order rest (inr (inr above)) = absurd (not_left _ _ y
-                (item_at-there start (start + gap y) x xs (λ e. absurd (omega arith)) ∙ item_at-before (start + gap x + 1) (start + gap y) xs (omega arith))
-                (item_at-here start (start + gap y) y ys refl) (both (start + gap y)))
+              (item_at-there start (start + gap y) x xs (λ e. absurd (omega arith)) ∙ item_at-before (start + gap x + 1) (start + gap y) xs (omega arith))
+              (item_at-here start (start + gap y) y ys refl) (both (start + gap y)))
 
   -- what holds of all items holds of the one at a place
   pub item_at-all : (P : A → Type 0) (start place : ℕ) (x : A) (xs : List A) → AllByRecursion P xs → item_at gap start xs place ≡ Some x → P x

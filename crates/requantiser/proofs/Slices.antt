@@ -3,9 +3,8 @@ use Rattle.std.proofs.Common.{◌≡◌, ℕ, zero, suc, ◌+◌, ◌<◌, ◌�
 use Rattle.std.specs.Prelude.{◌&&◌, not, nat_lt, nat_le, option_and_then, if◌then◌else◌}
 use Rattle.std.specs.Option.{option_map_or}
 use Rattle.std.specs.List.{AllByRecursion, sum_by}
-use Rattle.std.proofs.lemmas.Bool.{cases_Bool, cases_order, cases_eq, cases_lt, le-leb, lt-leb, lt-ltb, le-ltb}
+use Rattle.std.proofs.lemmas.Bool.{cases_order, le-leb, lt-leb, lt-ltb, le-ltb}
 use Rattle.std.proofs.lemmas.List.Sums.{sum_by-cons}
-use Rattle.quant_math.specs.Scales.{IsMappedCode}
 use Rattle.syntax_types.specs.declared.macroblock.Macroblock.{Macroblock}
 use Rattle.syntax_types.specs.declared.picture.PicCoding.{PicCoding}
 use Rattle.syntax_types.specs.declared.picture.SeqState.{SeqState}
@@ -13,7 +12,7 @@ use Rattle.syntax_types.specs.declared.slice.Slice.{Slice}
 use Rattle.picture_grammar.specs.Picture.{first_column}
 use Rattle.requantiser.specs.Macroblocks.{IsCoarserAt}
 use Rattle.requantiser.specs.Places.{item_at}
-use Rattle.requantiser.specs.Slices.{macroblock_at, end_column, is_inner, written_code, code_before, IsCoarserSlice}
+use Rattle.requantiser.specs.Slices.{macroblock_at, end_column, is_inner, code_before, IsCoarserSlice}
 use Rattle.requantiser.specs.Private.Shapes.{HasShape}
 use Rattle.requantiser.specs.Private.Walk.{mapped_code, is_none, is_coded_without_motion, are_empty, with_blocks, kept_blocks, coarsened_blocks, coarsened_macroblock, coarsened_macroblocks, coarsened_slice}
 use Rattle.requantiser.proofs.Codes.{mapped_code-is, one_mapped}
@@ -62,7 +61,7 @@ code_from-next code start (m ∷ ms) column = by_order (code_from-next (unwrap_o
     by_order rest (inr (inl before)) =
         code_from-up_to code start m ms (suc column) (omega arith)
         ∙ sym (ap₂ code_of (item_at-there gap_of start column m ms (λ e. absurd (omega arith)) ∙ item_at-before gap_of (start + gap_of m + 1) column ms (omega arith))
-            (code_from-up_to code start m ms column (omega arith)))
+        (code_from-up_to code start m ms column (omega arith)))
     by_order rest (inr (inr behind)) =
         code_from-behind code start m ms (suc column) (omega arith) ∙ rest
         ∙ sym (ap₂ code_of (item_at-there gap_of start column m ms (λ e. absurd (omega arith))) (code_from-behind code start m ms column behind))
@@ -82,9 +81,9 @@ fits_behind : (inner : ℕ → Bool) (end first_at start : ℕ) (ms : List Macro
     → first_at < start → end ≡ start + sum_by (λ m. m.skipped_before + 1) ms → FitsInner inner false start ms
 fits_behind inner end first_at start [] is behind ends = tt
 fits_behind inner end first_at start (m ∷ ms) is behind ends = (
-    is (start + gap_of m) ∙ ap₂ (λ a b. a && b) (lt-ltb first_at (start + gap_of m) (omega arith)) (last ms (omega (arith, sum_by-cons (λ m. m.skipped_before + 1) m ms))),
-    fits_behind inner end first_at (start + gap_of m + 1) ms is (omega arith) (omega (arith, sum_by-cons (λ m. m.skipped_before + 1) m ms)),
-  )
+  is (start + gap_of m) ∙ ap₂ (λ a b. a && b) (lt-ltb first_at (start + gap_of m) (omega arith)) (last ms (omega (arith, sum_by-cons (λ m. m.skipped_before + 1) m ms))),
+  fits_behind inner end first_at (start + gap_of m + 1) ms is (omega arith) (omega (arith, sum_by-cons (λ m. m.skipped_before + 1) m ms)),
+)
   where
     last : (ms : List Macroblock) → end ≡ start + gap_of m + 1 + sum_by (λ m. m.skipped_before + 1) ms → nat_lt (start + gap_of m + 1) end ≡ not (is_none ms)
     last [] ends = le-ltb (start + gap_of m + 1) end (omega arith)
@@ -97,10 +96,10 @@ fits_slice slice = by_macroblocks slice.macroblocks refl
     by_macroblocks : (ms : List Macroblock) → ms ≡ slice.macroblocks → FitsInner (is_inner slice) true 0 ms
     by_macroblocks [] is = tt
     by_macroblocks (m ∷ ms) is = (
-        ap (λ b. b && nat_lt (0 + gap_of m + 1) (end_column slice)) (le-ltb (first_column slice.macroblocks) (0 + gap_of m) (omega (arith, ap first_column (sym is)))),
-        fits_behind (is_inner slice) (end_column slice) (first_column slice.macroblocks) (0 + gap_of m + 1) ms (λ column. refl) (omega (arith, ap first_column (sym is)))
-        (ap (sum_by (λ m. m.skipped_before + 1)) (sym is) ∙ sum_by-cons (λ m. m.skipped_before + 1) m ms ∙ ap (λ n. n + sum_by (λ m. m.skipped_before + 1) ms) (omega arith)),
-      )
+      ap (λ b. b && nat_lt (0 + gap_of m + 1) (end_column slice)) (le-ltb (first_column slice.macroblocks) (0 + gap_of m) (omega (arith, ap first_column (sym is)))),
+      fits_behind (is_inner slice) (end_column slice) (first_column slice.macroblocks) (0 + gap_of m + 1) ms (λ column. refl) (omega (arith, ap first_column (sym is)))
+          (ap (sum_by (λ m. m.skipped_before + 1)) (sym is) ∙ sum_by-cons (λ m. m.skipped_before + 1) m ms ∙ ap (λ n. n + sum_by (λ m. m.skipped_before + 1) ms) (omega arith)),
+    )
 
 -- ---- the walk over a slice's macroblocks
 
@@ -112,9 +111,9 @@ module _ (seq : SeqState) (coding : PicCoding) (m : ℕ) where
   at_same inner inner' code code' before before' from from' to to' i c b f t at =
       subst (λ x. IsCoarserAt seq coding m x code' before' from' to') i
       (subst (λ x. IsCoarserAt seq coding m inner x before' from' to') c
-        (subst (λ x. IsCoarserAt seq coding m inner code x from' to') b
-          (subst (λ x. IsCoarserAt seq coding m inner code before x to') f
-            (subst (λ x. IsCoarserAt seq coding m inner code before from x) t at))))
+      (subst (λ x. IsCoarserAt seq coding m inner code x from' to') b
+      (subst (λ x. IsCoarserAt seq coding m inner code before x to') f
+      (subst (λ x. IsCoarserAt seq coding m inner code before from x) t at))))
 
   -- nothing stands where nothing stood
   nothing : (inner : Bool) (code before : ℕ) (from to : Option Macroblock) → from ≡ None → to ≡ None → IsCoarserAt seq coding m inner code before from to
@@ -125,9 +124,9 @@ module _ (seq : SeqState) (coding : PicCoding) (m : ℕ) where
   gap-walk inner code before skipped from to made = by_test (is_coded_without_motion from.kind && are_empty (coarsened_blocks seq coding from.kind code (mapped_code coding.q_scale_type m code) from.blocks)) inner made
     where
       by_test : (t i : Bool) → elim t [
-          false ↦ Some (with_blocks coding (mapped_code coding.q_scale_type m code) before skipped from (coarsened_blocks seq coding from.kind code (mapped_code coding.q_scale_type m code) from.blocks))
+        | false ↦ Some (with_blocks coding (mapped_code coding.q_scale_type m code) before skipped from (coarsened_blocks seq coding from.kind code (mapped_code coding.q_scale_type m code) from.blocks))
         | true ↦ elim i [ true ↦ None | false ↦ Some (with_blocks coding (mapped_code coding.q_scale_type m code) before skipped from (kept_blocks from)) ]
-        ] ≡ Some to → to.skipped_before ≡ skipped
+      ] ≡ Some to → to.skipped_before ≡ skipped
       by_test false i made = ap skipped_of (sym made)
       by_test true true made = let e : None ≡ Some to = made in absurd (cc)
       by_test true false made = ap skipped_of (sym made)
@@ -170,7 +169,8 @@ module _ (seq : SeqState) (coding : PicCoding) (m : ℕ) where
           let gap : gap_of to ≡ skipped + from.skipped_before = gap-walk (not first && not (is_none later)) (unwrap_or from.code code) before (skipped + from.skipped_before) from to (sym is) in
           subst (StartsAt before start (start + skipped)) (sym (walk-makes first code before skipped from to later (sym is))) (
             λ c below. item_at-there gap_of start c to _ (λ e. absurd (omega arith)) ∙ item_at-before gap_of (start + gap_of to + 1) c _ (omega arith),
-            λ c within. code_from-up_to before start to _ c (omega arith))
+            λ c within. code_from-up_to before start to _ c (omega arith),
+          )
 
   -- what must stand at a column, where these macroblocks follow in the source from a place on, and those in the coarser
   -- picture from a start on
@@ -190,7 +190,7 @@ module _ (seq : SeqState) (coding : PicCoding) (m : ℕ) where
       (sym (ap inner here ∙ is_inner)) (sym (code_from-up_to code place from later column (omega arith))) (sym (starts.1 column (omega arith)))
       (sym (item_at-here gap_of place column from later here)) (sym (starts.0 column (omega arith)))
       (subst (λ o. IsCoarserAt seq coding m (not first && not (is_none later)) code before (Some from) o) (sym made)
-        (coarsened_macroblock-is seq coding m (not first && not (is_none later)) code before (skipped + gap_of from) from shape))
+      (coarsened_macroblock-is seq coding m (not first && not (is_none later)) code before (skipped + gap_of from) from shape))
   follows-skipped inner first code before skipped start place column from later e shape is_inner made rest (inr (inl below)) =
       let starts = walk-starts false (unwrap_or from.code code) before (skipped + (gap_of from + 1)) start later in
       nothing _ _ _ _ _ (item_at-there gap_of place column from later (λ h. absurd (omega arith)) ∙ item_at-before gap_of (place + gap_of from + 1) column later (omega arith))
@@ -219,7 +219,7 @@ module _ (seq : SeqState) (coding : PicCoding) (m : ℕ) where
           (sym (ap inner here ∙ is_inner)) (sym (code_from-up_to code place from later column (omega arith))) (sym (code_from-up_to before start to _ column (omega arith)))
           (sym (item_at-here gap_of place column from later here)) (sym (item_at-here gap_of start column to _ (omega arith)))
           (subst (λ o. IsCoarserAt seq coding m (not first && not (is_none later)) code before (Some from) o) (sym made)
-            (coarsened_macroblock-is seq coding m (not first && not (is_none later)) code before (skipped + gap_of from) from shape))
+          (coarsened_macroblock-is seq coding m (not first && not (is_none later)) code before (skipped + gap_of from) from shape))
       by_place same (inr (inl below)) =
           nothing _ _ _ _ _ (item_at-there gap_of place column from later (λ h. absurd (omega arith)) ∙ item_at-before gap_of (place + gap_of from + 1) column later (omega arith))
           (item_at-there gap_of start column to _ (λ h. absurd (omega arith)) ∙ item_at-before gap_of (start + gap_of to + 1) column _ (omega arith))

@@ -1,5 +1,5 @@
 -- A block at a coarser code.
-use Rattle.std.specs.Prelude.{◌≡◌, ◌≢◌, ◌<◌, ℕ, ℤ, pos, Option, Some, None, List, [], ◌∷◌, length, replicate, Bool, true, false, EachIndex, slice_index_or, slice_set}
+use Rattle.std.specs.Prelude.{◌≡◌, ◌≢◌, ◌<◌, ℕ, ℤ, pos, None, List, [], ◌∷◌, length, replicate, true, false, EachIndex, slice_index_or, slice_set}
 use Rattle.std.specs.Int.{int_signum}
 use Rattle.std.specs.List.{AllByRecursion}
 use Rattle.quant_math.specs.Levels.{coarser_level}

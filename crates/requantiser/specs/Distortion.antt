@@ -1,5 +1,5 @@
 -- How far the coefficients of a picture are from those of another one.
-use Rattle.std.specs.Prelude.{◌+◌, ◌*◌, ◌-◌, ◌-ℤ◌, ◌&&◌, ℕ, ℤ, pos, unsigned_abs, nat_le, is_some, find, slice_index_or, Bool}
+use Rattle.std.specs.Prelude.{◌*◌, ◌-◌, ◌-ℤ◌, ◌&&◌, ℕ, ℤ, pos, unsigned_abs, nat_le, is_some, find, slice_index_or, Bool}
 use Rattle.std.specs.Option.{option_map_or}
 use Rattle.std.specs.List.{sum_by, range_with_len}
 use Rattle.syntax_types.specs.declared.block.TheConstants.{BLOCK_PLACES}

@@ -1,11 +1,11 @@
 -- The head of a coarser picture: the source's, with another vbv_delay.
-use Rattle.std.specs.Prelude.{◌≡◌, ◌+◌, ◌^◌, ◌-◌, ◌==◌, ℕ, Option, List, [], ◌∷◌, ◌++◌, length}
+use Rattle.std.specs.Prelude.{◌≡◌, ◌==◌, ℕ, Option, List, [], ◌++◌, length}
 use Rattle.bit_lists.specs.Bits.{bits_of}
 use Rattle.bit_lists.specs.Fields.{AreBytes, bit_list}
 use Rattle.syntax_types.specs.declared.picture.SeqState.{SeqState}
 use Rattle.picture_grammar.specs.declared.start_codes.TheConstants.{PICTURE}
 use Rattle.picture_grammar.specs.Refusal.Refusal.{BadHeader}
-use Rattle.picture_grammar.specs.Grammar.{Grammar, ◌>>=◌, ◌>>◌}
+use Rattle.picture_grammar.specs.Grammar.{Grammar, ◌>>◌}
 use Rattle.picture_grammar.specs.Element.{uimsbf}
 use Rattle.picture_grammar.specs.StartCode.{start_code}
 use Rattle.picture_grammar.specs.Head.{sequence_part, group_part}

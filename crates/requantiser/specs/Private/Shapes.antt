@@ -1,5 +1,5 @@
 -- What the walk needs of a macroblock; the grammar has it of each macroblock that bits spell.
-use Rattle.std.specs.Prelude.{◌≡◌, ◌≢◌, ◌<◌, ℕ, pos, None, List, [], ◌∷◌, length, Bool, true, false, slice_index_or}
+use Rattle.std.specs.Prelude.{◌≡◌, ◌≢◌, ◌<◌, ℕ, pos, None, List, [], ◌∷◌, length, true, false, slice_index_or}
 use Rattle.syntax_types.specs.declared.block.Block.{Block}
 use Rattle.syntax_types.specs.declared.block.RunLevel.{RunLevel}
 use Rattle.syntax_types.specs.declared.macroblock.TheConstants.{BLOCKS}

@@ -1,7 +1,8 @@
 -- How the version is made: one macroblock after another, in the order of the stream.
-use Rattle.std.specs.Prelude.{◌+◌, ◌*◌, ◌==◌, ◌&&◌, ◌||◌, ℕ, not, nat_le, nat_lt, ℤ, pos, unsigned_abs, find, Option, Some, None, List, [], ◌∷◌, map, unwrap_or, is_some, replicate, Bool, true, false, slice_index_or, slice_set, if◌then◌else◌}
+use Rattle.std.specs.Prelude.{◌+◌, ◌-◌, ◌*◌, ◌==◌, ◌&&◌, ◌||◌, ℕ, not, nat_le, ℤ, unsigned_abs, find, Option, Some, None, List, [], ◌∷◌, map, unwrap_or, is_some, Bool, true, false, slice_index_or, slice_set, if◌then◌else◌}
 use Rattle.std.specs.Int.{int_signum}
 use Rattle.std.specs.List.{range_with_len, list_all}
+use Rattle.quant_math.specs.declared.scales.TheConstants.{LAST_CODE, WHOLE_RATIO}
 use Rattle.quant_math.specs.Levels.{coarser_level}
 use Rattle.quant_math.specs.Scales.{quantiser_scale}
 use Rattle.syntax_types.specs.declared.block.Block.{Block}
@@ -17,12 +18,12 @@ use Rattle.picture_grammar.specs.Block.{first_place}
 use Rattle.picture_grammar.specs.Macroblock.{block_way, has_dct_type, is_coded, no_block}
 use Rattle.requantiser.specs.Blocks.{no_blocks, block_of_one}
 use Rattle.requantiser.specs.Levels.{weight_at, scale_of}
-use Rattle.requantiser.specs.Macroblocks.{has_coefficients, is_empty_block, pattern_of}
+use Rattle.requantiser.specs.Macroblocks.{is_empty_block, pattern_of}
 
 -- the mapped code
 abbrev pub mapped_code : Bool → ℕ → ℕ → ℕ
 mapped_code q_scale_type m code =
-    unwrap_or (find (λ candidate. nat_le (quantiser_scale q_scale_type code * m) (quantiser_scale q_scale_type candidate * 16)) (range_with_len 1 30)) 31
+    unwrap_or (find (λ candidate. nat_le (quantiser_scale q_scale_type code * m) (quantiser_scale q_scale_type candidate * WHOLE_RATIO)) (range_with_len 1 (LAST_CODE - 1))) LAST_CODE
 
 -- the level that a level at a place of the scan becomes
 abbrev pub new_level : SeqState → PicCoding → BlockWay → ℕ → ℕ → ℕ → ℤ → ℤ
@@ -34,8 +35,8 @@ abbrev pub coarsened_pairs : (ℕ → ℤ → ℤ) → ℕ → ℕ → List RunL
 coarsened_pairs new place waiting [] = []
 coarsened_pairs new place waiting (pair ∷ pairs) =
     elim (unsigned_abs (new (place + pair.run) pair.level) == 0) [
-      true ↦ coarsened_pairs new (place + pair.run + 1) (waiting + (pair.run + 1)) pairs
-    | false ↦ record { run = waiting + pair.run; level = new (place + pair.run) pair.level } ∷ coarsened_pairs new (place + pair.run + 1) 0 pairs
+      | true ↦ coarsened_pairs new (place + pair.run + 1) (waiting + (pair.run + 1)) pairs
+      | false ↦ record { run = waiting + pair.run; level = new (place + pair.run) pair.level } ∷ coarsened_pairs new (place + pair.run + 1) 0 pairs
     ]
 
 abbrev pub coarsened_block : SeqState → PicCoding → BlockWay → ℕ → ℕ → Block → Block
@@ -92,10 +93,10 @@ coarsened_macroblock seq coding m inner code before skipped from =
     let mapped = mapped_code coding.q_scale_type m code in
     let blocks = coarsened_blocks seq coding from.kind code mapped from.blocks in
     elim (is_coded_without_motion from.kind && are_empty blocks) [
-      false ↦ Some (with_blocks coding mapped before skipped from blocks)
-    | true ↦ elim inner [
-        true ↦ None
-      | false ↦ Some (with_blocks coding mapped before skipped from (kept_blocks from))
+      | false ↦ Some (with_blocks coding mapped before skipped from blocks)
+      | true ↦ elim inner [
+        | true ↦ None
+        | false ↦ Some (with_blocks coding mapped before skipped from (kept_blocks from))
       ]
     ]
 
@@ -109,8 +110,8 @@ abbrev pub coarsened_macroblocks : SeqState → PicCoding → ℕ → Bool → �
 coarsened_macroblocks seq coding m first code before skipped [] = []
 coarsened_macroblocks seq coding m first code before skipped (from ∷ later) =
     elim (coarsened_macroblock seq coding m (not first && not (is_none later)) (unwrap_or from.code code) before (skipped + from.skipped_before) from) [
-      None ↦ coarsened_macroblocks seq coding m false (unwrap_or from.code code) before (skipped + (from.skipped_before + 1)) later
-    | Some to ↦ to ∷ coarsened_macroblocks seq coding m false (unwrap_or from.code code) (unwrap_or to.code before) 0 later
+      | None ↦ coarsened_macroblocks seq coding m false (unwrap_or from.code code) before (skipped + (from.skipped_before + 1)) later
+      | Some to ↦ to ∷ coarsened_macroblocks seq coding m false (unwrap_or from.code code) (unwrap_or to.code before) 0 later
     ]
 
 unfoldable pub coarsened_slice : SeqState → PicCoding → ℕ → Slice → Slice
