@@ -56,3 +56,5 @@ with_headers-none [] = refl
 with_headers-none (Overhead ∷ parts) = with_headers-none parts
 with_headers-none (PesHeader ∷ parts) = refl
 with_headers-none (Data ∷ parts) = refl
+
+pub ruleset headers_end = (with_headers-none)

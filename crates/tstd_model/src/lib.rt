@@ -8,11 +8,13 @@
 mod decoder_input;
 mod fault;
 mod instants;
+mod leaves;
 mod moves;
 mod packet_bytes;
 mod passing;
 mod removed_bytes;
 mod tb_bytes;
+mod walks;
 
 pub use decoder_input::{Arrival, BufferKind, PacketPart, Removal};
 pub use fault::TstdFault;

@@ -13,6 +13,11 @@ abbrev pub Gives : {X : Type 0} → Option X → (before after : List X) → Typ
 Gives None before after = (before ≡ []) × (after ≡ [])
 Gives (Some x) before after = before ≡ x ∷ after
 
+-- the first item of a list, or none where there is no item
+abbrev pub IsFirstOf : {X : Type 0} → Option X → List X → Type 0
+IsFirstOf None items = items ≡ []
+IsFirstOf {X} (Some x) items = (later : List X) × (items ≡ x ∷ later)
+
 -- the parts of a packet's bytes that are still to come
 abbrev pub parts_left : PartsLeft → List PacketPart
 parts_left parts = replicate parts.overhead Overhead ++ replicate parts.header PesHeader ++ replicate parts.data Data
