@@ -1,4 +1,5 @@
 pub mod Counts
+pub mod CursorLaws
 pub mod CursorSteps
 pub mod Examples
 pub mod FaultLaws
