@@ -94,12 +94,6 @@ pub held_among-end : (limit : ℕ) (wanted : Wanted) (bytes : List PacketByte) (
 unfolding first_old
 held_among-end limit wanted bytes removed end = ap (λ (l : List PacketByte). held_among limit wanted l removed) end
 
-pub held_among-other : (limit : ℕ) (wanted : Wanted) (byte : PacketByte) (bytes : List PacketByte) (removed : List RemovedByte) → is_wanted wanted byte.part ≡ false
-    → held_among limit wanted (byte ∷ bytes) removed ≡ held_among limit wanted bytes removed
-held_among-other limit wanted byte bytes removed other =
-    ap (λ (l : List PacketByte). first_old limit (map (λ b. b.part) l) (instants_of l) (map (λ b. b.at) removed))
-    (cond-false (is_wanted wanted byte.part) (byte ∷ bytes_with (is_wanted wanted) bytes) (bytes_with (is_wanted wanted) bytes) other)
-
 held_among-wanted : (limit : ℕ) (wanted : Wanted) (byte : PacketByte) (bytes : List PacketByte) (removed : List RemovedByte) → is_wanted wanted byte.part ≡ true
     → held_among limit wanted (byte ∷ bytes) removed
         ≡ cond (is_held limit byte.part byte.at (map (λ b. b.at) removed)) (Some (byte.at + limit + 1))

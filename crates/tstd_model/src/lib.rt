@@ -6,6 +6,7 @@
 #![tactic(auto)]
 
 mod decoder_input;
+mod earliest;
 mod fault;
 mod instants;
 mod leaves;
