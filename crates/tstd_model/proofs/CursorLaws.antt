@@ -7,13 +7,10 @@ use Rattle.stream_constants.specs.declared.clock.TheConstants.{SUBTICKS_PER_TICK
 use Rattle.stream_constants.specs.declared.packets.TheConstants.{PACKET_BYTES}
 use Rattle.tstd_model.specs.declared.packet_bytes.PacketByte.{PacketByte}
 use Rattle.tstd_model.specs.Instants.{spaced, departures}
-use Rattle.tstd_model.specs.PacketBytes.{Arrival, PacketPart, Overhead, PesHeader, Data, parts_of, parts, byte_subticks, arrives_in, arrives, kept}
+use Rattle.tstd_model.specs.PacketBytes.{Arrival, HasHeaderWithin, PacketPart, Overhead, PesHeader, Data, parts_of, parts, byte_subticks, arrives_in, arrives, kept}
 use Rattle.tstd_model.specs.Decoder.{Removal, removed}
-use Rattle.tstd_model.specs.Private.Cursors.{bytes_at, bytes_of, bytes_of_all, passed, instants_of, bytes_with}
+use Rattle.tstd_model.specs.Private.Cursors.{bytes_at, bytes_of, bytes_of_all, passed, instants_of, parts_in, bytes_with}
 use Rattle.tstd_model.specs.Private.Scans.{RemovedByte, taken_from}
-
-abbrev pub parts_in : List PacketByte → List PacketPart
-parts_in bytes = map (λ byte. byte.part) bytes
 
 -- ---- packets
 bytes_at-parts : (step at : ℕ) (ps : List PacketPart) → parts_in (bytes_at step at ps) ≡ ps
@@ -29,11 +26,7 @@ bytes_at-instants step at (part ∷ ps) = ap (λ (l : List ℕ). at ∷ l) (byte
 append-both : {A : Type 0} (xs xs' ys ys' : List A) → xs ≡ xs' → ys ≡ ys' → xs ++ ys ≡ xs' ++ ys'
 append-both {A} xs xs' ys ys' first second = ap (λ (l : List A). l ++ ys) first ∙ ap (λ (l : List A). xs' ++ l) second
 
--- a packet whose header is within its payload, and whose payload is within the packet
-abbrev pub Fits : Arrival → Type 0
-Fits arrival = (arrival.header ≤ arrival.payload) × (arrival.payload ≤ PACKET_BYTES)
-
-length-parts_of : (arrival : Arrival) → Fits arrival → length (parts_of arrival) ≡ PACKET_BYTES
+length-parts_of : (arrival : Arrival) → HasHeaderWithin arrival → length (parts_of arrival) ≡ PACKET_BYTES
 unfolding parts_of
 length-parts_of arrival fits =
     let overhead = replicate (PACKET_BYTES - arrival.payload) Overhead in
@@ -55,7 +48,7 @@ bytes_of_all-parts step (arrival ∷ arrivals) =
     map-append (λ (byte : PacketByte). byte.part) (bytes_of step arrival) (bytes_of_all step arrivals)
     ∙ append-both _ _ _ _ (bytes_at-parts step (PACKET_BYTES * arrival.slot_no * step) (parts_of arrival)) (bytes_of_all-parts step arrivals)
 
-pub bytes_of_all-instants : (slot : ℕ) (arrivals : List Arrival) → All Fits arrivals → instants_of (bytes_of_all (byte_subticks slot) arrivals) ≡ arrives slot arrivals
+pub bytes_of_all-instants : (slot : ℕ) (arrivals : List Arrival) → All HasHeaderWithin arrivals → instants_of (bytes_of_all (byte_subticks slot) arrivals) ≡ arrives slot arrivals
 unfolding bytes_of_all bytes_of arrives arrives_in
 bytes_of_all-instants slot [] fit = refl
 bytes_of_all-instants slot (arrival ∷ arrivals) fit =
@@ -63,8 +56,8 @@ bytes_of_all-instants slot (arrival ∷ arrivals) fit =
     let first = PACKET_BYTES * arrival.slot_no * step in
     map-append (λ (byte : PacketByte). byte.at) (bytes_of step arrival) (bytes_of_all step arrivals)
     ∙ append-both _ _ _ _
-    (bytes_at-instants step first (parts_of arrival) ∙ ap (λ n. spaced first step n) (length-parts_of arrival (All-head Fits arrival arrivals fit)))
-    (bytes_of_all-instants slot arrivals (All-tail Fits arrival arrivals fit))
+    (bytes_at-instants step first (parts_of arrival) ∙ ap (λ n. spaced first step n) (length-parts_of arrival (All-head HasHeaderWithin arrival arrivals fit)))
+    (bytes_of_all-instants slot arrivals (All-tail HasHeaderWithin arrival arrivals fit))
 
 -- ---- one server
 pub passed-parts : (s l : ℕ) (bytes : List PacketByte) → parts_in (passed s l bytes) ≡ parts_in bytes

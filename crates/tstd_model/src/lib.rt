@@ -14,8 +14,10 @@ mod moves;
 mod packet_bytes;
 mod passing;
 mod removed_bytes;
+mod system_decoder;
 mod tb_bytes;
 mod walks;
 
 pub use decoder_input::{Arrival, BufferKind, PacketPart, Removal};
 pub use fault::TstdFault;
+pub use system_decoder::first_fault;

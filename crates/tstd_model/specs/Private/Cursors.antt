@@ -49,6 +49,10 @@ passed subticks before (byte ∷ bytes) =
 abbrev pub instants_of : List PacketByte → List ℕ
 instants_of bytes = map (λ byte. byte.at) bytes
 
+-- what bytes belong to
+abbrev pub parts_in : List PacketByte → List PacketPart
+parts_in bytes = map (λ byte. byte.part) bytes
+
 -- the bytes whose part passes a test
 abbrev pub bytes_with : (PacketPart → Bool) → List PacketByte → List PacketByte
 bytes_with test bytes = filter (λ byte. test byte.part) bytes
