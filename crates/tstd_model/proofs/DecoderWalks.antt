@@ -10,10 +10,10 @@ use Rattle.tstd_model.specs.declared.passing.Wanted.TheVariants.{Payload, DataAl
 use Rattle.tstd_model.specs.Instants.{departures, departures_into}
 use Rattle.tstd_model.specs.PacketBytes.{Arrival, PacketPart, HasHeaderWithin, parts, byte_subticks, arrives, kept, with_headers}
 use Rattle.tstd_model.specs.Decoder.{BufferKind, Video, Audio, System, Removal, tb_subticks, leave_tb, payload_passes, data_passes, removed, eb_bytes, eb_rooms, moves, transport_buffer, is_removed, completes}
-use Rattle.tstd_model.specs.Faults.{hold_subticks}
+use Rattle.tstd_model.specs.Faults.{TstdFault, hold_subticks}
 use Rattle.tstd_model.specs.Private.Cursors.{Gives, bytes_of_all, passed, instants_of, parts_in, bytes_with, is_wanted}
 use Rattle.tstd_model.specs.Private.Scans.{RemovedByte, taken_from, first_over, first_late, first_old}
-use Rattle.tstd_model.specs.Private.Walks.{main_buffer, first_excess, late_found, old_found}
+use Rattle.tstd_model.specs.Private.Walks.{main_buffer, first_excess, earlier, excess_found, late_found, old_found, IsEarliest}
 use Rattle.tstd_model.proofs.RisingLaws.{Rising, Rising-from}
 use Rattle.tstd_model.proofs.CursorLaws.{bytes_of_all-parts, bytes_of_all-instants, passed-parts, passed-instants, bytes_with-parts, bytes_with-instants, taken-instants}
 
@@ -191,3 +191,14 @@ pub slots-below_last : (arrivals : List Arrival) (last : Arrival) → IsStrictly
     → All (λ a. a.slot_no < last.slot_no + 1) arrivals
 slots-below_last arrivals last rise some there =
     (below-last 0 (length arrivals - 1) arrivals last (Rising-from (map (λ a. a.slot_no) arrivals) rise) (omega arith) there).1
+
+-- ---- all together
+pub earliest-of : (slot : ℕ) (kind : BufferKind) (arrivals : List Arrival) (removals : List Removal) (fault : Option TstdFault) (late : Option RemovedByte) (tb main over old : Option ℕ)
+    → late ≡ late_found slot kind arrivals removals → tb ≡ first_excess (transport_buffer slot kind arrivals) → main ≡ first_excess (main_buffer slot kind arrivals removals)
+    → over ≡ earlier tb main → old ≡ old_found slot kind arrivals removals → IsEarliest late over old fault
+    → IsEarliest (late_found slot kind arrivals removals) (excess_found slot kind arrivals removals) (old_found slot kind arrivals removals) fault
+earliest-of slot kind arrivals removals fault late tb main over old late_is tb_is main_is over_is old_is first =
+    subst (λ o. IsEarliest (late_found slot kind arrivals removals) (excess_found slot kind arrivals removals) o fault) old_is
+    (subst (λ x. IsEarliest (late_found slot kind arrivals removals) x old fault)
+      (over_is ∙ ap (λ t. earlier t main) tb_is ∙ ap (λ m. earlier (first_excess (transport_buffer slot kind arrivals)) m) main_is)
+      (subst (λ l. IsEarliest l over old fault) late_is first))

@@ -1,4 +1,4 @@
-ghost use Rattle.std.specs.Prelude.{◌≡◌, ◌<◌, ◌≤◌, ◌^◌, map, length};
+ghost use Rattle.std.specs.Prelude.{◌≡◌, ◌+◌, ◌<◌, ◌≤◌, ◌^◌, map, length};
 ghost use Rattle.std.specs.List.{All};
 ghost use Rattle.std.specs.List.Sorted.{IsStrictlyIncreasing, IsNonDecreasing};
 ghost use Rattle.stream_constants.specs.declared.decoder.TheConstants.{TB_BYTES, VIDEO_BYTES, AUDIO_BYTES, SYSTEM_BYTES};
@@ -65,9 +65,17 @@ fn slots_until_last(arrivals: &[Arrival]) -> u64
     ensures below { All (λ arrival. arrival.slot_no < result) arrivals.now }
 {
     match arrivals.last() {
-        Some(last) => u64::from(last.slot_no) + 1,
+        Some(last) => behind(last.slot_no),
         None => 0,
     }
+}
+
+/// The number behind that of a slot.
+fn behind(slot_no: u32) -> u64
+    ensures value { result ≡ slot_no + 1 }
+    ensures few { result ≤ 2 ^ 32 }
+{
+    u64::from(slot_no) + 1
 }
 
 /// Subticks that a byte takes to leave TB.
