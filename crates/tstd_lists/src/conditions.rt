@@ -14,7 +14,9 @@ const DUE_MOST: u64 = 1 << 53;
 pub fn are_packets(arrivals: &[Arrival]) -> bool
     ensures { IsTrue result → ArePackets arrivals.now }
 {
-    slots_rise(arrivals) && arrivals.iter().all(|arrival| arrival.header <= arrival.payload && arrival.payload as usize <= PACKET_BYTES)
+    slots_rise(arrivals)
+        && arrivals.iter().all(|arrival| arrival.header <= arrival.payload
+            && arrival.payload as usize <= PACKET_BYTES)
 }
 
 fn slots_rise(arrivals: &[Arrival]) -> bool
@@ -32,7 +34,9 @@ fn slots_rise(arrivals: &[Arrival]) -> bool
 pub fn are_removals(removals: &[Removal]) -> bool
     ensures { IsTrue result → AreRemovals removals.now }
 {
-    removals.len() < 1 << 32 && dues_rise(removals) && removals.iter().all(|removal| removal.due <= DUE_MOST)
+    removals.len() < 1 << 32
+        && dues_rise(removals)
+        && removals.iter().all(|removal| removal.due <= DUE_MOST)
 }
 
 fn dues_rise(removals: &[Removal]) -> bool

@@ -103,9 +103,9 @@ departures_into-most s l most top (room ∷ rooms) (x ∷ xs) under free each le
     let first : max (max x l + s) room ≤ most + s = omega (arith, each.0, free.0) in (
       omega (arith, first),
       departures_into-most s (max (max x l + s) room) (most + s) top rooms xs first
-      (EachAtMost-more most (most + s) rooms (omega arith) free.1)
-      (EachAtMost-more most (most + s) xs (omega arith) each.1)
-      (omega arith),
+          (EachAtMost-more most (most + s) rooms (omega arith) free.1)
+          (EachAtMost-more most (most + s) xs (omega arith) each.1)
+          (omega arith),
     )
 
 -- ---- removals

@@ -96,8 +96,8 @@ held_among-end limit wanted bytes removed end = ap (λ (l : List PacketByte). he
 
 held_among-wanted : (limit : ℕ) (wanted : Wanted) (byte : PacketByte) (bytes : List PacketByte) (removed : List RemovedByte) → is_wanted wanted byte.part ≡ true
     → held_among limit wanted (byte ∷ bytes) removed
-        ≡ cond (is_held limit byte.part byte.at (map (λ b. b.at) removed)) (Some (byte.at + limit + 1))
-        (first_old limit (map (λ b. b.part) (bytes_with (is_wanted wanted) bytes)) (instants_of (bytes_with (is_wanted wanted) bytes)) (drop 1 (map (λ b. b.at) removed)))
+    ≡ cond (is_held limit byte.part byte.at (map (λ b. b.at) removed)) (Some (byte.at + limit + 1))
+    (first_old limit (map (λ b. b.part) (bytes_with (is_wanted wanted) bytes)) (instants_of (bytes_with (is_wanted wanted) bytes)) (drop 1 (map (λ b. b.at) removed)))
 unfolding first_old
 held_among-wanted limit wanted byte bytes removed is =
     ap (λ (l : List PacketByte). first_old limit (map (λ b. b.part) l) (instants_of l) (map (λ b. b.at) removed))

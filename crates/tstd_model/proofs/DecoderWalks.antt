@@ -50,10 +50,10 @@ unfolding moves data_passes eb_rooms
 moves-are slot vbv free kind arrivals removals rooms comes taken kind_is free_is taken_is rooms_are comes_are =
     ap (λ (l : List ℕ). departures_into l MB_SUBTICKS 0 comes)
     (
-      rooms_are
-      ∙ ap (λ n. replicate n 0 ++ map (λ (b : RemovedByte). b.at) taken) free_is
-      ∙ ap (λ (l : List RemovedByte). replicate (eb_bytes vbv) 0 ++ map (λ (b : RemovedByte). b.at) l) taken_is
-      ∙ ap (λ (l : List ℕ). replicate (eb_bytes vbv) 0 ++ l) (taken-instants 0 removals)
+    rooms_are
+    ∙ ap (λ n. replicate n 0 ++ map (λ (b : RemovedByte). b.at) taken) free_is
+    ∙ ap (λ (l : List RemovedByte). replicate (eb_bytes vbv) 0 ++ map (λ (b : RemovedByte). b.at) l) taken_is
+    ∙ ap (λ (l : List ℕ). replicate (eb_bytes vbv) 0 ++ l) (taken-instants 0 removals)
     )
     ∙ ap (λ (l : List ℕ). departures_into (eb_rooms vbv removals) MB_SUBTICKS 0 l) (comes_are ∙ ap (λ k. kept (is_wanted DataAlone) (parts arrivals) (leave_tb slot k arrivals)) kind_is)
 
@@ -200,5 +200,5 @@ pub earliest-of : (slot : ℕ) (kind : BufferKind) (arrivals : List Arrival) (re
 earliest-of slot kind arrivals removals fault late tb main over old late_is tb_is main_is over_is old_is first =
     subst (λ o. IsEarliest (late_found slot kind arrivals removals) (excess_found slot kind arrivals removals) o fault) old_is
     (subst (λ x. IsEarliest (late_found slot kind arrivals removals) x old fault)
-      (over_is ∙ ap (λ t. earlier t main) tb_is ∙ ap (λ m. earlier (first_excess (transport_buffer slot kind arrivals)) m) main_is)
-      (subst (λ l. IsEarliest l over old fault) late_is first))
+    (over_is ∙ ap (λ t. earlier t main) tb_is ∙ ap (λ m. earlier (first_excess (transport_buffer slot kind arrivals)) m) main_is)
+    (subst (λ l. IsEarliest l over old fault) late_is first))

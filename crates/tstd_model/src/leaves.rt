@@ -11,8 +11,8 @@ use crate::instants::Instants;
 use crate::moves::Moves;
 use crate::packet_bytes::PacketBytes;
 use crate::passing::Passing;
-use stream_constants::decoder::SYSTEM_SUBTICKS;
 use std::marker::Model;
+use stream_constants::decoder::SYSTEM_SUBTICKS;
 
 /// Moves of which the first can be looked at before it is taken.
 #[derive(Drop)]

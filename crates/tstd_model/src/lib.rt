@@ -2,7 +2,7 @@
 //!
 //! Times are in subticks (1/940 of a tick of 1/27,000,000 s), and every instant is a whole number of them. A byte is in
 //! a buffer from the instant at which it comes until, not including, the instant at which it leaves.
-//! Stands on `stream_constants` and `list_types`.
+//! `first_fault` is exactly that fault. Stands on `stream_constants`.
 #![tactic(auto)]
 
 mod decoder_input;

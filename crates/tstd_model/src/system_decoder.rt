@@ -112,10 +112,7 @@ impl<'a> SystemDecoder<'a> {
         ensures instants { instants_of result ≡ arrives self.now.slot self.now.arrivals.now }
         ensures belong { parts_in result ≡ parts self.now.arrivals.now }
     {
-        PacketBytes::new(
-            self.arrivals,
-            BYTE_SUBTICKS_PER_TICK * u64::from(self.slot),
-        )
+        PacketBytes::new(self.arrivals, BYTE_SUBTICKS_PER_TICK * u64::from(self.slot))
     }
 
     /// The bytes that leave TB.

@@ -19,10 +19,10 @@ returns-then-is_held c =
     let wanted : is_wanted c.args.wanted byte.part ≡ true = sym c.takes.ensures ∙ c.if-takes.true in
     sym
     (
-      sym c.bytes.invariant.same
-      ∙ ap (λ (l : List PacketByte). held_among hold_subticks c.args.wanted l c.bytes.removed) split
-      ∙ held_among-held hold_subticks c.args.wanted byte c.next_byte.new.self c.next_byte-taken.result c.bytes.removed c.next_byte-taken.new.self wanted c.next_byte-taken.ensures
-      (sym c.is_held.ensures ∙ c.if-is_held.true)
+    sym c.bytes.invariant.same
+    ∙ ap (λ (l : List PacketByte). held_among hold_subticks c.args.wanted l c.bytes.removed) split
+    ∙ held_among-held hold_subticks c.args.wanted byte c.next_byte.new.self c.next_byte-taken.result c.bytes.removed c.next_byte-taken.new.self wanted c.next_byte-taken.ensures
+    (sym c.is_held.ensures ∙ c.if-is_held.true)
     )
 
 pub bytes-preserved-else-is_held : goal.bytes-preserved-else-is_held
@@ -34,9 +34,9 @@ bytes-preserved-else-is_held c =
       same =
           sym
           (
-            ap (λ (l : List PacketByte). held_among hold_subticks c.args.wanted l c.bytes.removed) split
-            ∙ held_among-gone hold_subticks c.args.wanted byte c.next_byte.new.self c.next_byte-taken.result c.bytes.removed c.next_byte-taken.new.self wanted c.next_byte-taken.ensures
-            (sym c.is_held.ensures ∙ c.if-is_held.false)
+          ap (λ (l : List PacketByte). held_among hold_subticks c.args.wanted l c.bytes.removed) split
+          ∙ held_among-gone hold_subticks c.args.wanted byte c.next_byte.new.self c.next_byte-taken.result c.bytes.removed c.next_byte-taken.new.self wanted c.next_byte-taken.ensures
+          (sym c.is_held.ensures ∙ c.if-is_held.false)
           )
           ∙ c.bytes.invariant.same;
       small = (subst (λ (l : List PacketByte). EachAtMost (2 ^ 62) (instants_of l)) split c.bytes.invariant.small).1;

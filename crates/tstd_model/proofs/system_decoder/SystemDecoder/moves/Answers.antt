@@ -10,8 +10,8 @@ new-requires-2 c =
     let limits = c.requires.limits in
     subst (EachAtMost (2 ^ 63))
     (sym
-      (moves-are decoder.slot c.args.vbv c.eb_bytes.result decoder.kind decoder.arrivals.now decoder.removals.now c.new.result c.passing.result c.removed.result
-        c.requires.video c.eb_bytes.ensures c.removed.ensures c.new.ensures c.passing.ensures))
+    (moves-are decoder.slot c.args.vbv c.eb_bytes.result decoder.kind decoder.arrivals.now decoder.removals.now c.new.result c.passing.result c.removed.result
+    c.requires.video c.eb_bytes.ensures c.removed.ensures c.new.ensures c.passing.ensures))
     (moves_in_time decoder.slot decoder.arrivals.now limits.slot_fits limits.slots_rise limits.slots_fit c.args.vbv decoder.removals.now limits.dues_fit)
 
 pub returns : goal.returns
