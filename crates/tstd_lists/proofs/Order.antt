@@ -3,7 +3,7 @@ use Rattle.std.proofs.Common.{◌≡◌, ℕ, ◌+◌, ◌<◌, ◌≤◌, List,
 use Rattle.std.proofs.lemmas.List.{get_or-map, length-map}
 use Rattle.std.proofs.lemmas.List.Sorted.{IsNonDecreasingBy-from_all_adjacent}
 use Rattle.std.specs.List.{AllAdjacentBelow}
-use Rattle.std.specs.List.Sorted.{IsStrictlyIncreasing, IsNonDecreasing, IsNonDecreasingBy}
+use Rattle.std.specs.List.Sorted.{IsStrictlyIncreasing, IsNonDecreasing}
 
 pub rises : {X : Type 0} (n : X → ℕ) (xs : List X) (d : X) (high : ℕ) → AllAdjacentBelow (λ x y. n x < n y) xs high → length xs ≤ high → IsStrictlyIncreasing (map n xs)
 rises n xs d high adjacent all = λ k within.

@@ -1,5 +1,5 @@
 -- What the cursors give, in the words of the decoder's definitions.
-use Rattle.std.proofs.Common.{◌≡◌, ℕ, zero, suc, ◌+◌, ◌-◌, ◌*◌, ◌<◌, ◌≤◌, List, [], ◌∷◌, ◌++◌, length, replicate, map, filter, max, refl, sym, ◌∙◌, ap, arith, inl, inr, Bool, true, false, cond, All, length-append}
+use Rattle.std.proofs.Common.{◌≡◌, ℕ, zero, suc, ◌+◌, ◌-◌, ◌*◌, List, [], ◌∷◌, ◌++◌, length, replicate, map, filter, max, refl, sym, ◌∙◌, ap, arith, inl, inr, Bool, All, length-append}
 use Rattle.std.proofs.lemmas.List.{map-append, length-replicate}
 use Rattle.std.proofs.lemmas.List.Elements.{All-head, All-tail}
 use Rattle.std.proofs.lemmas.Bool.{cases_Bool, cond-true, cond-false}

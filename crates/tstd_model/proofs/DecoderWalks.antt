@@ -15,7 +15,7 @@ use Rattle.tstd_model.specs.Private.Cursors.{Gives, bytes_of_all, passed, instan
 use Rattle.tstd_model.specs.Private.Scans.{RemovedByte, taken_from, first_over, first_late, first_old}
 use Rattle.tstd_model.specs.Private.Walks.{main_buffer, first_excess, earlier, excess_found, late_found, old_found, IsEarliest}
 use Rattle.tstd_model.proofs.RisingLaws.{Rising, Rising-from}
-use Rattle.tstd_model.proofs.CursorLaws.{bytes_of_all-parts, bytes_of_all-instants, passed-parts, passed-instants, bytes_with-parts, bytes_with-instants, taken-instants}
+use Rattle.tstd_model.proofs.CursorLaws.{bytes_of_all-parts, bytes_of_all-instants, passed-instants, bytes_with-parts, bytes_with-instants, taken-instants}
 
 -- ---- the cursors
 pub bytes-arrive : (slot step : ℕ) (arrivals : List Arrival) (bytes : List PacketByte) → step ≡ byte_subticks slot → All HasHeaderWithin arrivals → bytes ≡ bytes_of_all step arrivals

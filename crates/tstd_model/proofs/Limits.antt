@@ -1,12 +1,12 @@
 -- A decoder's instants fit 64 bits.
-use Rattle.std.proofs.Common.{◌≡◌, ℕ, ◌+◌, ◌*◌, ◌^◌, ◌<◌, ◌≤◌, List, ◌++◌, length, map, replicate, arith, All}
+use Rattle.std.proofs.Common.{ℕ, ◌*◌, ◌^◌, ◌<◌, ◌≤◌, List, length, map, arith, All}
 use Rattle.std.proofs.lemmas.Nat.{mul-le}
 use Rattle.std.specs.List.Sorted.{IsStrictlyIncreasing}
 use Rattle.stream_constants.specs.declared.clock.TheConstants.{SUBTICKS_PER_TICK}
 use Rattle.stream_constants.specs.declared.decoder.TheConstants.{MB_SUBTICKS, SYSTEM_SUBTICKS}
 use Rattle.stream_constants.specs.declared.packets.TheConstants.{PACKET_BYTES}
-use Rattle.tstd_model.specs.Instants.{departures, departures_into}
-use Rattle.tstd_model.specs.PacketBytes.{Arrival, is_payload, is_data, parts, byte_subticks, arrives, kept}
+use Rattle.tstd_model.specs.Instants.{departures}
+use Rattle.tstd_model.specs.PacketBytes.{Arrival, is_payload, is_data, parts, byte_subticks, arrives}
 use Rattle.tstd_model.specs.Decoder.{BufferKind, Video, Audio, System, Removal, tb_subticks, leave_tb, payload_passes, data_passes, removed, eb_bytes, eb_rooms, moves}
 use Rattle.tstd_model.specs.Private.Server.{EachAtMost}
 use Rattle.tstd_model.proofs.RisingLaws.{Rising-from}

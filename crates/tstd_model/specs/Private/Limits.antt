@@ -1,5 +1,5 @@
 -- What is known of a decoder that is walked over; no public clause cites this.
-use Rattle.std.specs.Prelude.{ℕ, ◌<◌, ◌≤◌, ◌^◌, length, map}
+use Rattle.std.specs.Prelude.{◌<◌, ◌≤◌, ◌^◌, length, map}
 use Rattle.std.specs.List.{All}
 use Rattle.std.specs.List.Sorted.{IsStrictlyIncreasing}
 use Rattle.tstd_model.specs.declared.system_decoder.SystemDecoder.{SystemDecoder}

@@ -1,4 +1,4 @@
-use Rattle.std.proofs.Common.{◌≤◌, length, arith}
+use Rattle.std.proofs.Common.{arith}
 use Rattle.tstd_model.specs.declared.decoder_input.Removal.{Removal}
 use Rattle.tstd_lists.proofs.Order.{keeps_order}
 use Rattle.tstd_lists.proofs.conditions.dues_rise.Goals as goal

@@ -1,4 +1,4 @@
-use Rattle.std.proofs.Common.{◌≤◌, length, arith}
+use Rattle.std.proofs.Common.{arith}
 use Rattle.tstd_model.specs.declared.decoder_input.Arrival.{Arrival}
 use Rattle.tstd_lists.proofs.Order.{rises}
 use Rattle.tstd_lists.proofs.conditions.slots_rise.Goals as goal

@@ -1,6 +1,3 @@
-use Rattle.std.proofs.Common.{◌≡◌, Option, sym, ◌∙◌, ap, subst}
-use Rattle.tstd_model.specs.Private.Scans.{RemovedByte}
-use Rattle.tstd_model.specs.Private.Walks.{excess_found, late_found, old_found, IsEarliest}
 use Rattle.tstd_model.proofs.FaultLaws.{first_fault-is}
 use Rattle.tstd_model.proofs.DecoderWalks.{earliest-of}
 use Rattle.tstd_model.proofs.system_decoder.first_fault.Goals as goal

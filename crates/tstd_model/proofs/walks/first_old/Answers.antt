@@ -1,8 +1,7 @@
-use Rattle.std.proofs.Common.{◌≡◌, ◌^◌, List, [], ◌∷◌, true, false, map, sym, ◌∙◌, arith, ap, subst}
+use Rattle.std.proofs.Common.{◌≡◌, ◌^◌, List, [], ◌∷◌, true, sym, ◌∙◌, ap, subst}
 use Rattle.tstd_model.specs.declared.packet_bytes.PacketByte.{PacketByte}
 use Rattle.tstd_model.specs.Faults.{hold_subticks}
-use Rattle.tstd_model.specs.Private.Cursors.{is_wanted, bytes_with, instants_of}
-use Rattle.tstd_model.specs.Private.Scans.{first_old}
+use Rattle.tstd_model.specs.Private.Cursors.{is_wanted, instants_of}
 use Rattle.tstd_model.specs.Private.Server.{EachAtMost}
 use Rattle.tstd_model.proofs.CursorSteps.{held_among, held_among-held, held_among-gone, held_among-end}
 use Rattle.tstd_model.proofs.walks.first_old.Goals as goal

@@ -1,4 +1,4 @@
-use Rattle.std.proofs.Common.{◌≡◌, List, [], drop, sym, ◌∙◌, arith, ap}
+use Rattle.std.proofs.Common.{sym, ◌∙◌, arith}
 use Rattle.tstd_model.proofs.CursorSteps.{drop-one_more, drop-past}
 use Rattle.tstd_model.proofs.walks.without_first.Goals as goal
 

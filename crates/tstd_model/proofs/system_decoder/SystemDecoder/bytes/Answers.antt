@@ -1,4 +1,4 @@
-use Rattle.std.proofs.Common.{◌≡◌, ◌*◌, ap}
+use Rattle.std.proofs.Common.{◌*◌, ap}
 use Rattle.stream_constants.specs.declared.clock.TheConstants.{BYTE_SUBTICKS_PER_TICK}
 use Rattle.tstd_model.proofs.DecoderWalks.{bytes-arrive, bytes-belong}
 use Rattle.tstd_model.proofs.system_decoder.SystemDecoder.bytes.Goals as goal

@@ -1,4 +1,3 @@
-use Rattle.std.proofs.Common.{◌≡◌}
 use Rattle.tstd_model.proofs.DecoderWalks.{audio_late-is, system_late-is}
 use Rattle.tstd_model.proofs.system_decoder.SystemDecoder.late.Goals as goal
 

@@ -1,4 +1,4 @@
-use Rattle.std.proofs.Common.{◌≡◌, ◌^◌, sym, subst}
+use Rattle.std.proofs.Common.{◌^◌, sym, subst}
 use Rattle.tstd_model.specs.Private.Server.{EachAtMost}
 use Rattle.tstd_model.proofs.DecoderWalks.{video_excess-is, audio_excess-is, system_leak-is, system_excess-is}
 use Rattle.tstd_model.proofs.Limits.{system_in_time}

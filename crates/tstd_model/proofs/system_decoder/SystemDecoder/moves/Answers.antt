@@ -1,4 +1,4 @@
-use Rattle.std.proofs.Common.{◌≡◌, ◌^◌, sym, ◌∙◌, subst}
+use Rattle.std.proofs.Common.{◌^◌, sym, ◌∙◌, subst}
 use Rattle.tstd_model.specs.Private.Server.{EachAtMost}
 use Rattle.tstd_model.proofs.DecoderWalks.{moves-are}
 use Rattle.tstd_model.proofs.Limits.{moves_in_time}

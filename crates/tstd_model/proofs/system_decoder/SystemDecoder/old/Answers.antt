@@ -1,4 +1,4 @@
-use Rattle.std.proofs.Common.{◌≡◌, ◌^◌, sym, subst}
+use Rattle.std.proofs.Common.{◌^◌, sym, subst}
 use Rattle.tstd_model.specs.Private.Server.{EachAtMost}
 use Rattle.tstd_model.proofs.DecoderWalks.{video_old-is, audio_old-is, system_old-is}
 use Rattle.tstd_model.proofs.Limits.{arrive_in_time}

@@ -1,4 +1,4 @@
-use Rattle.std.proofs.Common.{◌≡◌, ◌∙◌}
+use Rattle.std.proofs.Common.{◌∙◌}
 use Rattle.tstd_model.specs.PacketBytes.{parts}
 use Rattle.tstd_model.specs.Decoder.{leave_tb}
 use Rattle.tstd_model.proofs.DecoderWalks.{bytes-pass}

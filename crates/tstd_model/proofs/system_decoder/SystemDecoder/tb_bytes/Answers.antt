@@ -1,4 +1,4 @@
-use Rattle.std.proofs.Common.{◌≡◌, ◌^◌, sym, ◌∙◌, ap, subst}
+use Rattle.std.proofs.Common.{◌^◌, sym, ◌∙◌, ap, subst}
 use Rattle.tstd_model.specs.Private.Cursors.{instants_of, parts_in}
 use Rattle.tstd_model.specs.Private.Server.{EachAtMost}
 use Rattle.tstd_model.proofs.CursorLaws.{passed-parts}
