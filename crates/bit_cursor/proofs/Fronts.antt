@@ -24,16 +24,13 @@ front_is n m w rest = record {
   front = held_front n m w rest;
 }
 
-front_shows : (n m w : ℕ) (rest : List ℕ) → Shows n (bits_of (n + m) w ++ rest) (w / 2 ^ m % 2 ^ n) n
-front_shows n m w rest =
-    let bits = bits_of (n + m) w ++ rest in
-    let part = w / 2 ^ m % 2 ^ n in
-    let long : n ≤ length bits = omega (arith, length-append (bits_of (n + m) w) rest, length-bits_of (n + m) w) in
-    record {
-      known = omega arith;
-      window = sym (ap number_of (take-append-le n bits (replicate n 0) long) ∙ number_of-front n m w rest);
-      front = take_all n (bits_of n part) (omega (arith, length-bits_of n part)) ∙ sym (held_front n m w rest);
-    }
+-- a number in the first bits shows them
+front_shows : (n number : ℕ) (bits : List ℕ) → IsFront n bits number → Shows n bits number n
+front_shows n number bits is = record {
+  known = omega (arith, is.enough);
+  window = is.value ∙ ap number_of (sym (take-append-le n bits (replicate n 0) is.enough));
+  front = take_all n (bits_of n number) (omega (arith, length-bits_of n number)) ∙ sym is.front;
+}
 
 -- fewer bits are left than are shown
 few_show : (h m w : ℕ) → Shows (h + m) (bits_of h w) ((w % 2 ^ h) * 2 ^ m) h
@@ -61,12 +58,9 @@ told_front (Some bytes) bits h n w le is =
     subst (λ o. IfSome o (λ bs. IsFront n bs (w / 2 ^ (h - n) % 2 ^ n))) is
     (subst (λ k. IsFront n (bits_of k w ++ bit_list bytes) (w / 2 ^ (h - n) % 2 ^ n)) whole (front_is n (h - n) w (bit_list bytes)))
 
-pub told_shown : (told bits : Option (List ℕ)) (h n w : ℕ) → n ≤ h → told_bits told h w ≡ bits → IfSome bits (λ bs. Shows n bs (w / 2 ^ (h - n) % 2 ^ n) n)
-told_shown None bits h n w le is = subst (λ o. IfSome o (λ bs. Shows n bs (w / 2 ^ (h - n) % 2 ^ n) n)) is tt
-told_shown (Some bytes) bits h n w le is =
-    let whole : n + (h - n) ≡ h = omega arith in
-    subst (λ o. IfSome o (λ bs. Shows n bs (w / 2 ^ (h - n) % 2 ^ n) n)) is
-    (subst (λ k. Shows n (bits_of k w ++ bit_list bytes) (w / 2 ^ (h - n) % 2 ^ n) n) whole (front_shows n (h - n) w (bit_list bytes)))
+pub told_whole : (told : Option (List ℕ)) (n number : ℕ) → IfSome told (λ bits. IsFront n bits number) → IfSome told (λ bits. Shows n bits number n)
+told_whole None n number is = tt
+told_whole (Some bits) n number is = front_shows n number bits is
 
 -- the held bits are all that are left
 pub told_few : (told bits : Option (List ℕ)) (h n w : ℕ) → h ≤ n → told_bits told h w ≡ bits → IfSome bits (λ bs. length bs ≡ h) → IfSome bits (λ bs. Shows n bs ((w % 2 ^ h) * 2 ^ (n - h)) h)
