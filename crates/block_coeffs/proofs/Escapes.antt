@@ -24,8 +24,8 @@ use Rattle.picture_grammar.proofs.ElementLaws.{breaks}
 use Rattle.block_coeffs.specs.declared.window.Window.{Window}
 use Rattle.block_coeffs.specs.declared.standing.Standing.TheVariants.{Pair, Refused}
 use Rattle.block_coeffs.specs.declared.why.Why.TheVariants as why
-use Rattle.block_coeffs.specs.Why.{rules_at}
-use Rattle.block_coeffs.specs.Standing.{seen, Shows, coefficient_at, IsFound}
+use Rattle.block_coeffs.specs.Private.Why.{rules_at}
+use Rattle.block_coeffs.specs.Private.Standing.{seen, Shows, coefficient_at, IsFound}
 use Rattle.block_coeffs.proofs.Fronts.{front_of-bits, length-front_of}
 use Rattle.block_coeffs.proofs.Symbols.{escape_code}
 use Rattle.block_coeffs.proofs.Cuts.{shows-all, begins-seen, begun-length}

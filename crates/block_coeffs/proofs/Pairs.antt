@@ -18,7 +18,7 @@ use Rattle.picture_grammar.proofs.ElementLaws.{breaks}
 use Rattle.block_coeffs.specs.declared.window.Window.{Window}
 use Rattle.block_coeffs.specs.declared.standing.Standing.TheVariants.{EndOfBlock, Pair, Refused}
 use Rattle.block_coeffs.specs.declared.why.Why.TheVariants as why
-use Rattle.block_coeffs.specs.Standing.{seen, coefficient_at, IsFound}
+use Rattle.block_coeffs.specs.Private.Standing.{seen, coefficient_at, IsFound}
 use Rattle.block_coeffs.proofs.Fronts.{front_of-more, length-front_of, take-front_of}
 use Rattle.block_coeffs.proofs.Symbols.{shorter-code, length-code}
 use Rattle.block_coeffs.proofs.Cuts.{shows-all, begins-seen}

@@ -1,15 +1,18 @@
 -- From what a window shows to what a reader took.
 use Rattle.std.proofs.Common.{◌≡◌, ℕ, ◌+◌, ◌≤◌, List, [], ◌++◌, length, take, drop, Option, Some, None, IfSome, refl, sym, ap, ◌∙◌, arith}
 use Rattle.std.specs.Option.{option_map}
-use Rattle.std.proofs.lemmas.List.{length-take, take-take, take-append-drop}
+use Rattle.std.proofs.lemmas.List.{length-take, take-take, take_all, take-append-drop}
+use Rattle.bit_lists.specs.Bits.{bits_of, front_of}
+use Rattle.bit_lists.proofs.BitLemmas.{length-bits_of}
+use Rattle.bit_cursor.specs.Reading.{IsFront}
 use Rattle.picture_grammar.specs.Refusal.{Refusal}
 use Rattle.picture_grammar.specs.Grammar.{Grammar}
 use Rattle.bit_cursor.specs.BitReader.{without_bits}
 use Rattle.block_coeffs.specs.declared.why.Why.{Why}
 use Rattle.block_coeffs.specs.declared.why.Why.TheVariants as why
 use Rattle.block_coeffs.specs.declared.window.Window.{Window}
-use Rattle.block_coeffs.specs.Why.{refusal_of, fault_at}
-use Rattle.block_coeffs.specs.Standing.{seen, Shows}
+use Rattle.block_coeffs.specs.Private.Why.{refusal_of, fault_at}
+use Rattle.block_coeffs.specs.Private.Standing.{seen, Shows}
 use Rattle.block_coeffs.specs.Reading.{ReadsFrom, RefusedAt, ExplainsFrom}
 use Rattle.block_coeffs.proofs.Fronts.{length-front_of, take-front_of}
 
@@ -24,13 +27,14 @@ shown window bits len shows le =
     let within = window.within in
     omega (arith, ap length (taken window bits len shows le), length-take len bits, length-front_of 24 window.bits len (omega arith))
 
-pub shown-told : (told : Option (List ℕ)) (window : Window) (len : ℕ) → IfSome told (Shows window) → len ≤ window.known → IfSome told (λ bits. len ≤ length bits)
-shown-told None window len shows le = tt
-shown-told (Some bits) window len shows le = shown window bits len shows le
-
 front-left : (told : Option (List ℕ)) (window : Window) (len : ℕ) → IfSome told (Shows window) → len ≤ window.known → told ≡ option_map (λ rest. seen window len ++ rest) (without_bits told len)
 front-left None window len shows le = refl
 front-left (Some bits) window len shows le = ap Some (sym (take-append-drop len bits) ∙ ap (λ f. f ++ drop len bits) (taken window bits len shows le))
+
+-- a window of held bits shows what is left
+pub whole-shown : (told : Option (List ℕ)) (number : ℕ) → IfSome told (λ bits. IsFront 24 bits number) → IfSome told (λ bits. take 24 bits ≡ front_of 24 number 24)
+whole-shown None number is = tt
+whole-shown (Some bits) number is = is.front ∙ sym (take_all 24 (bits_of 24 number) (omega (arith, length-bits_of 24 number)))
 
 -- what the window shows of a value was read once it is taken
 pub reads-found : {A : Type 0} (grammar : Grammar A) (value : A) (told after : Option (List ℕ)) (window : Window) (len place place_after : ℕ)

@@ -17,8 +17,8 @@ use Rattle.picture_grammar.specs.Element.{Rule, passes, MayStand}
 use Rattle.picture_grammar.specs.Block.{Coefficient, CoefficientCode, is_within}
 use Rattle.picture_grammar.specs.Block.Coefficient.{end_of_block, run_size, escape}
 use Rattle.picture_grammar.proofs.Codes.{symbol_of, fronts, coefficient_code-listed}
-use Rattle.block_coeffs.specs.Why.{rules_at}
-use Rattle.block_coeffs.specs.Cut.{least_run, symbol_fits, BeginCode}
+use Rattle.block_coeffs.specs.Private.Why.{rules_at}
+use Rattle.block_coeffs.specs.Private.Cut.{least_run, symbol_fits, BeginCode}
 
 pub coefficients-is : (table : TableName) → is_coefficients table ≡ true → IsCoefficients table
 coefficients-is Address e = cc

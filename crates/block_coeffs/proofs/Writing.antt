@@ -16,7 +16,7 @@ use Rattle.syntax_types.specs.declared.block.BlockWay.{BlockWay}
 use Rattle.syntax_types.specs.declared.block.RunLevel.{RunLevel}
 use Rattle.picture_grammar.specs.Block.{coefficient_table}
 use Rattle.picture_grammar.specs.Written.{code_for, written_coefficient, written_coefficients}
-use Rattle.block_coeffs.specs.Writing.{CanFollow}
+use Rattle.block_coeffs.specs.Private.Writing.{CanFollow}
 
 -- ---- codes of coefficients
 

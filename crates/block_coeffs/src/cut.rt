@@ -1,8 +1,8 @@
 ghost use Rattle.std.specs.Prelude.{◌≡◌, ◌≤◌, ℕ, ◌↔◌, List, IsTrue};
 ghost use Rattle.prefix_codes.specs.TableName.{Begins, is_coefficients};
-ghost use Rattle.block_coeffs.specs.Why.{IsWhy};
-ghost use Rattle.block_coeffs.specs.Cut.{symbol_fits, BeginCode, BeginAllowed};
-ghost use Rattle.block_coeffs.specs.Standing.{seen, Shows};
+ghost use Rattle.block_coeffs.specs.Private.Why.{IsWhy};
+ghost use Rattle.block_coeffs.specs.Private.Cut.{symbol_fits, BeginCode, BeginAllowed};
+ghost use Rattle.block_coeffs.specs.Private.Standing.{seen, Shows};
 
 use crate::why::Why;
 use crate::window::Window;

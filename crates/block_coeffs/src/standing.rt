@@ -2,7 +2,7 @@ ghost use Rattle.std.specs.Prelude.{◌≡◌, ◌≢◌, ◌≤◌, ◌<◌, �
 ghost use Rattle.bit_lists.specs.Fields.{flag};
 ghost use Rattle.prefix_codes.specs.TableName.{Begins, is_coefficients};
 ghost use Rattle.picture_grammar.specs.Block.{signed, escape_level};
-ghost use Rattle.block_coeffs.specs.Standing.{IsFound, seen};
+ghost use Rattle.block_coeffs.specs.Private.Standing.{IsFound, seen};
 
 use crate::cut::why_none;
 use crate::why::Why;
@@ -27,6 +27,7 @@ pub enum Standing {
 }
 
 /// What stands at the front of a window, by a table of coefficients, at a place of the block: one look-up.
+#[inline]
 pub fn what_stands(table: TableName, place: u32, window: Window) -> Standing
     requires table { IsTrue (is_coefficients table) }
     requires place { place ≤ BLOCK_PLACES }
@@ -46,6 +47,7 @@ pub fn what_stands(table: TableName, place: u32, window: Window) -> Standing
 }
 
 /// The coefficient whose code stands there: its run and the size of its level are the symbol's, and its sign follows.
+#[inline]
 fn by_table(place: u32, window: Window, symbol: u16, len: u32) -> Standing
     requires place { place ≤ BLOCK_PLACES }
     requires within { len ≤ window.known }
@@ -103,6 +105,7 @@ fn escaped(place: u32, window: Window) -> Standing
 }
 
 /// The bit behind so many bits of a window.
+#[inline]
 fn bit_at(window: Window, index: u32) -> bool
     requires { index < WINDOW_BITS }
     ensures { seen window (index + 1) ≡ seen window index ++ flag result ∷ [] }
@@ -111,6 +114,7 @@ fn bit_at(window: Window, index: u32) -> bool
 }
 
 /// A level by its size and its sign.
+#[inline]
 fn with_sign(size: u16, negative: bool) -> i16
     requires { size < LEVELS_PER_RUN }
     ensures { result ≡ signed size negative }
@@ -120,6 +124,7 @@ fn with_sign(size: u16, negative: bool) -> i16
 }
 
 /// The level of an escape (Table B-16).
+#[inline]
 fn in_twos_complement(level: u32) -> i16
     requires { level < 2 ^ LEVEL_BITS }
     ensures { result ≡ escape_level level }

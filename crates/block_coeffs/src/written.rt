@@ -2,7 +2,7 @@ ghost use Rattle.std.specs.Prelude.{◌≡◌, ◌<◌, ◌≤◌, ◌^◌, List
 ghost use Rattle.bit_cursor.specs.BitWriter.{is_stopped, Writes};
 ghost use Rattle.picture_grammar.specs.Block.{block as block_grammar, first_place};
 ghost use Rattle.picture_grammar.specs.Written.{code_for as bits_for, written_dc, written_escape, written_coefficient, written_coefficients, written_block};
-ghost use Rattle.block_coeffs.specs.Writing.{CanStand, CanFollow};
+ghost use Rattle.block_coeffs.specs.Private.Writing.{CanStand, CanFollow};
 
 use crate::coefficient_table::{size_table, table_at};
 use crate::written_codes::{code_for, coefficient_code, level_field};

@@ -5,7 +5,7 @@ use Rattle.syntax_types.specs.declared.block.RunLevel.{RunLevel}
 use Rattle.bit_cursor.proofs.Composed.{writes_none, writes_then, writes_exit}
 use Rattle.picture_grammar.specs.Written.{code_for, written_coefficient, written_coefficients}
 use Rattle.picture_grammar.specs.Block.{first_place}
-use Rattle.block_coeffs.specs.Writing.{CanFollow}
+use Rattle.block_coeffs.specs.Private.Writing.{CanFollow}
 use Rattle.block_coeffs.proofs.Writing.{writes_as, one_more, others_follow, only_the_end, as_flag}
 use Rattle.block_coeffs.proofs.written.write_coefficients.Goals as goal
 

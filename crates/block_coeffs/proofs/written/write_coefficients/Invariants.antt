@@ -2,7 +2,7 @@ use Rattle.std.proofs.Common.{◌≡◌, List, ℕ, Ok, ◌++◌, drop}
 use Rattle.bit_cursor.specs.BitWriter.{Writes}
 use Rattle.picture_grammar.specs.Written.{written_coefficients}
 use Rattle.picture_grammar.specs.Block.{first_place}
-use Rattle.block_coeffs.specs.Writing.{CanFollow}
+use Rattle.block_coeffs.specs.Private.Writing.{CanFollow}
 use Rattle.block_coeffs.proofs.written.write_coefficients.Given as goal
 
 abbrev pub invariant-loop-pair : goal.invariant-loop-pair

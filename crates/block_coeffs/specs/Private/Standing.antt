@@ -13,7 +13,7 @@ use Rattle.picture_grammar.specs.Block.{CoefficientCode, after_code}
 use Rattle.block_coeffs.specs.declared.window.Window.{Window}
 use Rattle.block_coeffs.specs.declared.standing.Standing.{Standing}
 use Rattle.block_coeffs.specs.declared.standing.Standing.TheVariants.{EndOfBlock, Pair, Refused}
-use Rattle.block_coeffs.specs.Why.{rules_at, refusal_of}
+use Rattle.block_coeffs.specs.Private.Why.{rules_at, refusal_of}
 
 -- the first bits of a window
 abbrev pub seen : Window → ℕ → List ℕ
