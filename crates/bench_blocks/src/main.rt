@@ -73,6 +73,10 @@ fn count(bytes: &[u8], way: BlockWay) -> Counts
 
 /// Reads the next block, and says whether there was one. It isn't inlined, so that the block is filled as for any caller.
 #[inline(never)]
-fn reads_next(reader: &mut BitReader<'_, SliceSource<'_>>, way: BlockWay, into: &mut Block) -> bool {
+fn reads_next(
+    reader: &mut BitReader<'_, SliceSource<'_>>,
+    way: BlockWay,
+    into: &mut Block,
+) -> bool {
     read_block_into(reader, way, into).is_ok()
 }

@@ -1,4 +1,4 @@
-ghost use Rattle.std.specs.Prelude.{◌≡◌, ◌+◌, ◌-◌, ◌*◌, ◌%◌, ◌^◌, ◌<◌, ◌≤◌, ◌↔◌, length, IfOk, OnErr, IfSome, IsErrOf, IsTrue};
+ghost use Rattle.std.specs.Prelude.{◌≡◌, ◌+◌, ◌-◌, ◌*◌, ◌%◌, ◌^◌, ◌<◌, ◌≤◌, ◌↔◌, length, min, IfOk, OnErr, IfSome, IsErrOf, IsTrue};
 ghost use Rattle.shelf_io.specs.Counts.{Rose};
 ghost use Rattle.bit_cursor.specs.Reading.{IsFront, Shows, bytes_beyond, byte_aligned};
 
@@ -89,11 +89,8 @@ impl<'a, S: Source> BitReader<'a, S> {
         ensures missing { IsErrOf result Fault.Missing → Rose (absences_of self.old) (absences_of self.new) }
         ensures keeps { KeepsSource self.old self.new }
     {
-        if self.hold(n)? {
-            return Ok((self.held_front(n), n));
-        }
-        let window = lowest(self.word, self.held) << (n - self.held);
-        Ok((window, self.held))
+        self.hold(n)?;
+        Ok(self.held_window(n))
     }
 
     /// Whether n bits are held, n at most 32, behind whole bytes that this call takes of the source where they aren't: no
@@ -127,6 +124,23 @@ impl<'a, S: Source> BitReader<'a, S> {
         ensures below { result < 2 ^ n }
     {
         lowest(self.word >> (self.held - n), n)
+    }
+
+    /// The next n bits as a window, n at most 24, and how many of them are known: those that are held. Where fewer are the
+    /// window's bits behind them are 0. The reader stays where it is.
+    #[inline]
+    pub fn held_window(&self, n: u32) -> (u32, u32)
+        requires { n ≤ 24 }
+        ensures window { IfSome (bits_left self.now) (λ bits. (bits_held self.now < n → length bits ≡ bits_held self.now) → Shows n bits result.0 result.1) }
+        ensures known { result.1 ≡ min n (bits_held self.now) }
+        ensures below { result.0 < 2 ^ n }
+        ensures unknown { result.0 % 2 ^ (n - result.1) ≡ 0 }
+    {
+        if self.held >= n {
+            return (self.held_front(n), n);
+        }
+        let window = lowest(self.word, self.held) << (n - self.held);
+        (window, self.held)
     }
 
     /// Moves past the next n bits, which are held. It takes no byte of the source.

@@ -115,7 +115,7 @@ module _ {table : TableName} (is : IsCoefficients table) (place : ℕ) (window :
   )
 
   pub pair-found : (negative : Bool) (level : ℤ) → place + run < 64 → (len ≡ window.known → ⊥) → level ≡ signed (symbol % LEVELS_PER_RUN) negative
-      → seen window (len + 1) ≡ seen window len ++ flag negative ∷ [] → IsFound table place window (Pair (record { run = run; level = level }) (len + 1))
+      → seen window (len + 1) ≡ seen window len ++ flag negative ∷ [] → IsFound table place window (Pair run level (len + 1))
   pair-found negative level fits more_known level_is longer =
       let le : len ≤ window.known = at.0 in
       let split : seen window (len + 1) ≡ b.code ++ flag negative ∷ [] = longer ∙ ap (λ c. c ++ flag negative ∷ []) at.1 in (

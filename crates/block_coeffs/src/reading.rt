@@ -2,16 +2,15 @@ ghost use Rattle.std.specs.Prelude.{◌≡◌, ◌≤◌, ◌<◌, ◌+◌, IfOk
 ghost use Rattle.shelf_io.specs.Counts.{Rose};
 ghost use Rattle.bit_cursor.specs.BitReader.{bits_left, bits_held, place, faults_of, absences_of, KeepsSource};
 ghost use Rattle.syntax_types.specs.declared.block.Block.{Block};
-ghost use Rattle.picture_grammar.specs.Grammar.{many, optional, more_of};
+ghost use Rattle.picture_grammar.specs.Grammar.{many, optional};
 ghost use Rattle.picture_grammar.specs.Block.{block, coefficient, dc_coefficient};
 ghost use Rattle.block_coeffs.specs.Private.DcStanding.{is_sizes, dc_by};
-ghost use Rattle.prefix_codes.specs.TableName.{is_coefficients};
-ghost use Rattle.block_coeffs.specs.Private.Standing.{coefficient_at, Shows};
+ghost use Rattle.block_coeffs.specs.Private.Standing.{Shows};
 ghost use Rattle.block_coeffs.specs.Reading.{Advances, Reads, Comes, Explains, IsOutside};
 
-use crate::fault::BlockFault;
 use crate::coefficient_table::{size_table, table_at};
 use crate::dc_standing::{DcStanding, what_dc};
+use crate::fault::BlockFault;
 use crate::standing::{Standing, what_stands};
 use crate::window::Window;
 use arrayvec::ArrayVec;
@@ -125,100 +124,28 @@ fn read_pairs<S: Source>(
     let mut index = u32::from(way.intra);
     let mut table = table_at(way, index);
     let later = table_at(way, 1);
-    'coefficients: while let Some(pair) = next_coefficient(from, table, index)? {
-        into.push(pair);
-        index += u32::from(pair.run) + 1;
-        table = later;
-    }
-    Ok(())
-}
-
-/// The coefficient that stands next, at this index of the block's places, or None for the end of block. It takes no bit
-/// where none of them stands there.
-#[inline]
-fn next_coefficient<S: Source>(
-    from: &mut BitReader<'_, S>,
-    table: TableName,
-    index: u32,
-) -> Result<Option<RunLevel>, BlockFault>
-    requires table { IsTrue (is_coefficients table) }
-    requires index { index ≤ BLOCK_PLACES }
-    ensures ok { IfOk result (λ pair. Reads (coefficient_at table index) (more_of pair) from.old from.new) }
-    ensures within { IfOk result (λ pair. IfSome pair (λ pair. index + pair.run < BLOCK_PLACES)) }
-    ensures refused { IfErr result (Explains (coefficient_at table index) from.old) }
-    ensures kept { OnErr result (bits_left from.new ≡ bits_left from.old) }
-    ensures kept_place { OnErr result (place from.new ≡ place from.old) }
-
-    ensures failed { IsErrOf result (BlockFault.Outside Fault.Failed) → Rose (faults_of from.old) (faults_of from.new) }
-    ensures missing { IsErrOf result (BlockFault.Outside Fault.Missing) → Rose (absences_of from.old) (absences_of from.new) }
-    ensures keeps { KeepsSource from.old from.new }
-{
-    if from.hold(WINDOW_BITS)? {
-        take_coefficient(from, table, index, whole_window(from))
-    } else {
-        last_coefficient(from, table, index)
-    }
-}
-
-/// The same where fewer bits are left than a window has.
-#[cold]
-#[inline(never)]
-fn last_coefficient<S: Source>(
-    from: &mut BitReader<'_, S>,
-    table: TableName,
-    index: u32,
-) -> Result<Option<RunLevel>, BlockFault>
-    requires table { IsTrue (is_coefficients table) }
-    requires index { index ≤ BLOCK_PLACES }
-    ensures ok { IfOk result (λ pair. Reads (coefficient_at table index) (more_of pair) from.old from.new) }
-    ensures within { IfOk result (λ pair. IfSome pair (λ pair. index + pair.run < BLOCK_PLACES)) }
-    ensures refused { IfErr result (Explains (coefficient_at table index) from.old) }
-    ensures kept { OnErr result (bits_left from.new ≡ bits_left from.old) }
-    ensures kept_place { OnErr result (place from.new ≡ place from.old) }
-
-    ensures failed { IsErrOf result (BlockFault.Outside Fault.Failed) → Rose (faults_of from.old) (faults_of from.new) }
-    ensures missing { IsErrOf result (BlockFault.Outside Fault.Missing) → Rose (absences_of from.old) (absences_of from.new) }
-    ensures keeps { KeepsSource from.old from.new }
-{
-    let window = look(from)?;
-    take_coefficient(from, table, index, window)
-}
-
-/// The same by a window, which shows the bits that are left.
-#[inline]
-fn take_coefficient<S: Source>(
-    from: &mut BitReader<'_, S>,
-    table: TableName,
-    index: u32,
-    window: Window,
-) -> Result<Option<RunLevel>, BlockFault>
-    requires table { IsTrue (is_coefficients table) }
-    requires index { index ≤ BLOCK_PLACES }
-    requires shown { IfSome (bits_left from.old) (Shows window) }
-    requires held { window.known ≤ bits_held from.old }
-    ensures ok { IfOk result (λ pair. Reads (coefficient_at table index) (more_of pair) from.old from.new) }
-    ensures within { IfOk result (λ pair. IfSome pair (λ pair. index + pair.run < BLOCK_PLACES)) }
-    ensures refused { IfErr result (Explains (coefficient_at table index) from.old) }
-    ensures kept { OnErr result (bits_left from.new ≡ bits_left from.old) }
-    ensures kept_place { OnErr result (place from.new ≡ place from.old) }
-
-    ensures inside { IfErr result (λ fault. IsOutside fault → ⊥) }
-    ensures keeps { KeepsSource from.old from.new }
-{
-    match what_stands(table, index, window) {
-        Standing::EndOfBlock { len } => {
-            from.skip(len);
-            Ok(None)
+    'coefficients: loop {
+        let window = look(from)?;
+        match what_stands(table, index, window) {
+            Standing::EndOfBlock { len } => {
+                from.skip(len);
+                return Ok(());
+            }
+            Standing::Pair { run, level, len } => {
+                from.skip(len);
+                into.push(RunLevel { run, level });
+                index += u32::from(run) + 1;
+                table = later;
+            }
+            Standing::Refused { why, behind } => {
+                return Err(why.at(from.place() + u64::from(behind)));
+            }
         }
-        Standing::Pair { pair, len } => {
-            from.skip(len);
-            Ok(Some(pair))
-        }
-        Standing::Refused { why, behind } => Err(why.at(from.place() + u64::from(behind))),
     }
 }
 
 /// What is seen of the bits that are left.
+#[inline(always)]
 fn look<S: Source>(from: &mut BitReader<'_, S>) -> Result<Window, BlockFault>
     ensures shows { IfOk result (λ window. IfSome (bits_left from.old) (Shows window)) }
     ensures held { IfOk result (λ window. window.known ≤ bits_held from.new) }
@@ -230,19 +157,7 @@ fn look<S: Source>(from: &mut BitReader<'_, S>) -> Result<Window, BlockFault>
     ensures missing { IsErrOf result (BlockFault.Outside Fault.Missing) → Rose (absences_of from.old) (absences_of from.new) }
     ensures keeps { KeepsSource from.old from.new }
 {
-    let (bits, known) = from.peek(WINDOW_BITS)?;
+    from.hold(WINDOW_BITS)?;
+    let (bits, known) = from.held_window(WINDOW_BITS);
     Ok(Window { bits, known })
-}
-
-/// What is seen of them where a whole window is held.
-#[inline]
-fn whole_window<S: Source>(from: &BitReader<'_, S>) -> Window
-    requires { WINDOW_BITS ≤ bits_held from.now }
-    ensures shows { IfSome (bits_left from.now) (Shows result) }
-    ensures whole { result.known ≡ WINDOW_BITS }
-{
-    Window {
-        bits: from.held_front(WINDOW_BITS),
-        known: WINDOW_BITS,
-    }
 }

@@ -10,7 +10,7 @@ use crate::window::Window;
 use picture_grammar::escape::{LEVEL_BITS, RUN_BITS};
 use prefix_codes::symbol::{END_OF_BLOCK, ESCAPE, LEVELS_PER_RUN};
 use prefix_codes::{TableName, WINDOW_BITS, find};
-use syntax_types::{BLOCK_PLACES, RunLevel};
+use syntax_types::BLOCK_PLACES;
 
 /// The level of an escape that is forbidden beside 0: -2048 in two's complement (Table B-16).
 const FORBIDDEN_LEVEL: u32 = 1 << (LEVEL_BITS - 1);
@@ -20,14 +20,14 @@ const FORBIDDEN_LEVEL: u32 = 1 << (LEVEL_BITS - 1);
 pub enum Standing {
     /// The end of block, in so many bits.
     EndOfBlock { len: u32 },
-    /// A coefficient, in so many bits with its sign.
-    Pair { pair: RunLevel, len: u32 },
+    /// A coefficient of this run and level, in so many bits with its sign.
+    Pair { run: u8, level: i16, len: u32 },
     /// Neither, for this reason, behind so many bits.
     Refused { why: Why, behind: u32 },
 }
 
 /// What stands at the front of a window, by a table of coefficients, at a place of the block: one look-up.
-#[inline]
+#[inline(always)]
 pub fn what_stands(table: TableName, place: u32, window: Window) -> Standing
     requires table { IsTrue (is_coefficients table) }
     requires place { place ≤ BLOCK_PLACES }
@@ -47,7 +47,7 @@ pub fn what_stands(table: TableName, place: u32, window: Window) -> Standing
 }
 
 /// The coefficient whose code stands there: its run and the size of its level are the symbol's, and its sign follows.
-#[inline]
+#[inline(always)]
 fn by_table(place: u32, window: Window, symbol: u16, len: u32) -> Standing
     requires place { place ≤ BLOCK_PLACES }
     requires within { len ≤ window.known }
@@ -69,10 +69,8 @@ fn by_table(place: u32, window: Window, symbol: u16, len: u32) -> Standing
     }
     let level = with_sign(symbol % LEVELS_PER_RUN, bit_at(window, len));
     Standing::Pair {
-        pair: RunLevel {
-            run: run as u8,
-            level,
-        },
+        run: run as u8,
+        level,
         len: len + 1,
     }
 }
@@ -94,10 +92,8 @@ fn escaped(place: u32, window: Window) -> Standing
         Why::BadEscape
     } else {
         return Standing::Pair {
-            pair: RunLevel {
-                run: run as u8,
-                level: in_twos_complement(level),
-            },
+            run: run as u8,
+            level: in_twos_complement(level),
             len: WINDOW_BITS,
         };
     };
