@@ -63,15 +63,19 @@ told_whole None P n number is = tt
 told_whole (Some bits) P n number is = λ any. front_shows n number bits is
 
 -- the held bits are all that are left
-pub told_few : (told : Option (List ℕ)) (h n w : ℕ) → h < n → IfSome (told_bits told h w) (λ bits. (h < n → length bits ≡ h) → Shows n bits ((w % 2 ^ h) * 2 ^ (n - h)) h)
+pub told_few : (told : Option (List ℕ)) (h n w : ℕ) → h < n → IfSome (told_bits told h w) (λ bits. length bits ≡ h → Shows n bits ((w % 2 ^ h) * 2 ^ (n - h)) h)
 told_few None h n w lt = tt
-told_few (Some bytes) h n w lt = λ all.
+told_few (Some bytes) h n w lt = λ size.
     let whole : h + (n - h) ≡ n = omega arith in
-    let size : length (bits_of h w ++ bit_list bytes) ≡ h = all lt in
     let none : length (bit_list bytes) ≡ 0 = omega (arith, length-append (bits_of h w) (bit_list bytes), length-bits_of h w) in
     let held : bits_of h w ++ bit_list bytes ≡ bits_of h w = ap (λ r. bits_of h w ++ r) (nil_from_length (bit_list bytes) none) ∙ append-nil (bits_of h w) in
     subst (λ bs. Shows n bs ((w % 2 ^ h) * 2 ^ (n - h)) h) (sym held)
     (subst (λ k. Shows k (bits_of h w) ((w % 2 ^ h) * 2 ^ (n - h)) h) whole (few_show h (n - h) w))
+
+-- what follows from a fact follows where that fact does
+pub told_where : (told : Option (List ℕ)) (F : Type 0) (A B : List ℕ → Type 0) → F → IfSome told (λ bits. A bits → B bits) → IfSome told (λ bits. (F → A bits) → B bits)
+told_where None F A B holds follows = tt
+told_where (Some bits) F A B holds follows = λ a. follows (a holds)
 
 -- what holds of the bits that are told where something else does
 pub told_both : (told : Option (List ℕ)) (F : Type 0) (A B : List ℕ → Type 0) → IfSome told (λ bits. (F → A bits) → B bits) → (F → IfSome told A) → IfSome told B

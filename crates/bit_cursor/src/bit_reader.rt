@@ -136,11 +136,10 @@ impl<'a, S: Source> BitReader<'a, S> {
         ensures below { result.0 < 2 ^ n }
         ensures unknown { result.0 % 2 ^ (n - result.1) ≡ 0 }
     {
-        if self.held >= n {
-            return (self.held_front(n), n);
+        if self.held < n {
+            return self.short_window(n);
         }
-        let window = lowest(self.word, self.held) << (n - self.held);
-        (window, self.held)
+        (self.held_front(n), n)
     }
 
     /// Moves past the next n bits, which are held. It takes no byte of the source.
@@ -174,6 +173,21 @@ impl<'a, S: Source> BitReader<'a, S> {
         ensures { result ≡ place self.now }
     {
         8 * self.taken - u64::from(self.held)
+    }
+
+    // The held bits as a window that they don't fill.
+    #[cold]
+    #[inline(never)]
+    fn short_window(&self, n: u32) -> (u32, u32)
+        requires short { bits_held self.now < n }
+        requires width { n ≤ 24 }
+        ensures window { IfSome (bits_left self.now) (λ bits. length bits ≡ bits_held self.now → Shows n bits result.0 result.1) }
+        ensures known { result.1 ≡ bits_held self.now }
+        ensures below { result.0 < 2 ^ n }
+        ensures unknown { result.0 % 2 ^ (n - result.1) ≡ 0 }
+    {
+        let window = lowest(self.word, self.held) << (n - self.held);
+        (window, self.held)
     }
 
     // Takes bytes until n bits are held or the source ends.

@@ -1,10 +1,10 @@
 -- From what a window shows to what a reader took.
-use Rattle.std.proofs.Common.{◌≡◌, ℕ, ◌+◌, ◌≤◌, List, [], ◌++◌, length, take, drop, Option, Some, None, IfSome, refl, sym, ap, ◌∙◌, arith}
+use Rattle.std.proofs.Common.{◌≡◌, ℕ, ◌+◌, ◌<◌, ◌≤◌, List, [], ◌++◌, length, take, drop, Option, Some, None, IfSome, refl, sym, ap, subst, ◌∙◌, arith}
 use Rattle.std.specs.Option.{option_map}
 use Rattle.std.proofs.lemmas.List.{length-take, take-take, take_all, take-append-drop}
 use Rattle.bit_lists.specs.Bits.{bits_of, front_of}
 use Rattle.bit_lists.proofs.BitLemmas.{length-bits_of}
-use Rattle.bit_cursor.specs.Reading.{IsFront}
+use Rattle.bit_cursor.proofs.Fronts.{told_both}
 use Rattle.picture_grammar.specs.Refusal.{Refusal}
 use Rattle.picture_grammar.specs.Grammar.{Grammar}
 use Rattle.bit_cursor.specs.BitReader.{without_bits}
@@ -31,10 +31,11 @@ front-left : (told : Option (List ℕ)) (window : Window) (len : ℕ) → IfSome
 front-left None window len shows le = refl
 front-left (Some bits) window len shows le = ap Some (sym (take-append-drop len bits) ∙ ap (λ f. f ++ drop len bits) (taken window bits len shows le))
 
--- a window of held bits shows what is left
-pub whole-shown : (told : Option (List ℕ)) (number : ℕ) → IfSome told (λ bits. IsFront 24 bits number) → IfSome told (λ bits. take 24 bits ≡ front_of 24 number 24)
-whole-shown None number is = tt
-whole-shown (Some bits) number is = is.front ∙ sym (take_all 24 (bits_of 24 number) (omega (arith, length-bits_of 24 number)))
+-- a window of held bits shows what is left, where all bits are held that are asked for or left
+pub held-shown : (told now : Option (List ℕ)) (held : ℕ) (window : Window) → now ≡ told → (held < 24 → IfSome told (λ bits. length bits ≡ held))
+    → IfSome now (λ bits. (held < 24 → length bits ≡ held) → Shows window bits) → IfSome told (Shows window)
+held-shown told now held window same few shows =
+    told_both told (held < 24) (λ bits. length bits ≡ held) (Shows window) (subst (λ t. IfSome t (λ bits. (held < 24 → length bits ≡ held) → Shows window bits)) same shows) few
 
 -- what the window shows of a value was read once it is taken
 pub reads-found : {A : Type 0} (grammar : Grammar A) (value : A) (told after : Option (List ℕ)) (window : Window) (len place place_after : ℕ)

@@ -70,6 +70,10 @@ are_met one_is = refl
 pub symbol-most : {table : TableName} (s : ℕ) (code : List ℕ) → IsCoefficients table → code_in table s ≡ Some code → s < 4002
 symbol-most {table} s code is listed = ltb-true s 4002 (code_in-passes is_met table s code (are_met is) listed)
 
+-- behind the end of block stands the escape alone
+pub past-end : {table : TableName} (s : ℕ) (code : List ℕ) → IsCoefficients table → code_in table s ≡ Some code → END_OF_BLOCK < s → s ≡ ESCAPE
+past-end s code is listed past = let most = symbol-most s code is listed in omega arith
+
 -- ---- where a symbol may stand
 
 cond-either : (b x : Bool) → x ≡ true → cond b true x ≡ true

@@ -12,6 +12,8 @@ use syntax_types::BLOCK_PLACES;
 
 /// Why nothing stands at bits that no code of the table begins: they end within a code that may stand at the place, or
 /// within one that leads past the block's last place alone, or no code stands there.
+#[cold]
+#[inline(never)]
 pub fn why_none(table: TableName, place: u32, window: Window) -> Why
     requires table { IsTrue (is_coefficients table) }
     requires place { place ≤ BLOCK_PLACES }

@@ -1,4 +1,4 @@
-ghost use Rattle.std.specs.Prelude.{◌≡◌, ◌≤◌, ◌<◌, ◌+◌, IfOk, IfErr, OnOk, OnErr, IfSome, IsErrOf, IsTrue, MatchResult, List, [], ℕ};
+ghost use Rattle.std.specs.Prelude.{◌≡◌, ◌≤◌, ◌<◌, ◌+◌, IfOk, IfErr, OnOk, OnErr, IfSome, IsErrOf, IsTrue, MatchResult, List, [], ℕ, length};
 ghost use Rattle.shelf_io.specs.Counts.{Rose};
 ghost use Rattle.bit_cursor.specs.BitReader.{bits_left, bits_held, place, faults_of, absences_of, KeepsSource};
 ghost use Rattle.syntax_types.specs.declared.block.Block.{Block};
@@ -96,8 +96,8 @@ fn read_dc<S: Source>(from: &mut BitReader<'_, S>, table: TableName) -> Result<D
     ensures missing { IsErrOf result (BlockFault.Outside Fault.Missing) → Rose (absences_of from.old) (absences_of from.new) }
     ensures keeps { KeepsSource from.old from.new }
 {
-    let window = look(from)?;
-    match what_dc(table, window) {
+    from.hold(WINDOW_BITS)?;
+    match what_dc(table, held_window(from)) {
         DcStanding::Coefficient { dc, len } => {
             from.skip(len);
             Ok(dc)
@@ -125,7 +125,8 @@ fn read_pairs<S: Source>(
     let mut table = table_at(way, index);
     let later = table_at(way, 1);
     'coefficients: loop {
-        let window = look(from)?;
+        from.hold(WINDOW_BITS)?;
+        let window = held_window(from);
         match what_stands(table, index, window) {
             Standing::EndOfBlock { len } => {
                 from.skip(len);
@@ -144,20 +145,12 @@ fn read_pairs<S: Source>(
     }
 }
 
-/// What is seen of the bits that are left.
-#[inline(always)]
-fn look<S: Source>(from: &mut BitReader<'_, S>) -> Result<Window, BlockFault>
-    ensures shows { IfOk result (λ window. IfSome (bits_left from.old) (Shows window)) }
-    ensures held { IfOk result (λ window. window.known ≤ bits_held from.new) }
-    ensures outside { IfErr result IsOutside }
-    ensures left { bits_left from.new ≡ bits_left from.old }
-    ensures place { place from.new ≡ place from.old }
-
-    ensures failed { IsErrOf result (BlockFault.Outside Fault.Failed) → Rose (faults_of from.old) (faults_of from.new) }
-    ensures missing { IsErrOf result (BlockFault.Outside Fault.Missing) → Rose (absences_of from.old) (absences_of from.new) }
-    ensures keeps { KeepsSource from.old from.new }
+/// What is seen of the bits that are left by those that are held: all of them, or a whole window.
+#[inline]
+fn held_window<S: Source>(from: &BitReader<'_, S>) -> Window
+    ensures shows { IfSome (bits_left from.now) (λ bits. (bits_held from.now < WINDOW_BITS → length bits ≡ bits_held from.now) → Shows result bits) }
+    ensures held { result.known ≤ bits_held from.now }
 {
-    from.hold(WINDOW_BITS)?;
     let (bits, known) = from.held_window(WINDOW_BITS);
-    Ok(Window { bits, known })
+    Window { bits, known }
 }

@@ -33,16 +33,19 @@ pub fn what_stands(table: TableName, place: u32, window: Window) -> Standing
     requires place { place ≤ BLOCK_PLACES }
     ensures { IsFound table place window result }
 {
-    match find(table, window.bits, window.known) {
-        None => Standing::Refused {
+    let Some((symbol, len)) = find(table, window.bits, window.known) else {
+        return Standing::Refused {
             why: why_none(table, place, window),
             behind: 0,
-        },
-        Some((END_OF_BLOCK, len)) => Standing::EndOfBlock {
-            len: u32::from(len),
-        },
-        Some((ESCAPE, _)) => escaped(place, window),
-        Some((symbol, len)) => by_table(place, window, symbol, u32::from(len)),
+        };
+    };
+    let len = u32::from(len);
+    if symbol < END_OF_BLOCK {
+        by_table(place, window, symbol, len)
+    } else if symbol == END_OF_BLOCK {
+        Standing::EndOfBlock { len }
+    } else {
+        escaped(place, window)
     }
 }
 
@@ -77,6 +80,7 @@ fn by_table(place: u32, window: Window, symbol: u16, len: u32) -> Standing
 
 /// The escape whose code stands there, with its run and its level (7.2.2.3). Where the bits end within it, the zeros
 /// past them make its run the least that it may have.
+#[cold]
 fn escaped(place: u32, window: Window) -> Standing
     requires { place ≤ BLOCK_PLACES }
     ensures { (table : TableName) (len : ℕ) → IsTrue (is_coefficients table) →

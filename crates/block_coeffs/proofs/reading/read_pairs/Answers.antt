@@ -8,11 +8,11 @@ use Rattle.picture_grammar.specs.Grammar.Next.{more}
 use Rattle.picture_grammar.specs.Block.{coefficient, next_place}
 use Rattle.picture_grammar.proofs.LocalLaws.{local-coefficient}
 use Rattle.picture_grammar.proofs.WrittenBlock.{next_place-push}
-use Rattle.block_coeffs.specs.Private.Standing.{coefficient_at, seen}
+use Rattle.block_coeffs.specs.Private.Standing.{coefficient_at, seen, Shows}
 use Rattle.block_coeffs.specs.Reading.{ExplainsFrom}
 use Rattle.block_coeffs.proofs.Grammars.{ReadSoFar, one_more-read, all-read, explains-so_far}
 use Rattle.block_coeffs.proofs.Blocks.{later-table, reads-coefficient, explains-coefficient}
-use Rattle.block_coeffs.proofs.Steps.{reads-found, explains-found}
+use Rattle.block_coeffs.proofs.Steps.{held-shown, reads-found, explains-found}
 use Rattle.block_coeffs.proofs.reading.read_pairs.Goals as goal
 
 pub coefficients-preserved : goal.coefficients-preserved
@@ -20,14 +20,16 @@ coefficients-preserved g c =
     let way = c.args.way in
     let before = c.coefficients.into.items in
     let at = c.coefficients.from in
+    let window = c.held_window-window.result in
+    let shows : IfSome (bits_left at) (Shows window) = held-shown (bits_left at) (bits_left c.hold.new.self) c.hold.new.self.held window c.in_ok-hold.ensures.left c.in_ok-hold.ensures.few c.held_window-window.ensures.shows in
     let after = c.skip-in-Pair.new.self in
     let fits : SFits w16 c.in-Pair.level = search rules in
     let level : to_z w16 (of_z w16 c.in-Pair.level) ≡ c.in-Pair.level = to_z-of_z w16 c.in-Pair.level fits in
     let pair : RunLevel = record { run = c.in-Pair.run'; level = to_z w16 (of_z w16 c.in-Pair.level) } in
-    let spelled = subst (λ (n : ℤ). (coefficient_at c.coefficients.table c.coefficients.index).Spells (more (record { run = c.in-Pair.run'; level = n })) (seen c.in_ok-window.window c.in-Pair.len) []) (sym level) c.in-Pair.ensures.2 in
-    let found = reads-found (coefficient_at c.coefficients.table c.coefficients.index) (more pair) (bits_left at) (bits_left after) c.in_ok-window.window c.in-Pair.len (place at) (place after)
-    c.in_ok-window.ensures.shows c.in-Pair.ensures.0 spelled (c.skip-in-Pair.ensures.left ∙ ap (λ told. option_map (drop c.in-Pair.len) told) c.in_ok-window.ensures.left)
-    (c.skip-in-Pair.ensures.place ∙ ap (λ n. n + c.in-Pair.len) c.in_ok-window.ensures.place) in
+    let spelled = subst (λ (n : ℤ). (coefficient_at c.coefficients.table c.coefficients.index).Spells (more (record { run = c.in-Pair.run'; level = n })) (seen window c.in-Pair.len) []) (sym level) c.in-Pair.ensures.2 in
+    let found = reads-found (coefficient_at c.coefficients.table c.coefficients.index) (more pair) (bits_left at) (bits_left after) window c.in-Pair.len (place at) (place after)
+    shows c.in-Pair.ensures.0 spelled (c.skip-in-Pair.ensures.left ∙ ap (λ told. option_map (drop c.in-Pair.len) told) c.in_ok-hold.ensures.left)
+    (c.skip-in-Pair.ensures.place ∙ ap (λ n. n + c.in-Pair.len) c.in_ok-hold.ensures.place) in
     let read = reads-coefficient way before c.coefficients.table c.coefficients.index c.coefficients.invariant.table c.coefficients.invariant.index (Some pair) (Some pair) refl
     (bits_left at) (bits_left after) (place at) (place after) found in
     let within : c.coefficients.index + c.in-Pair.run' < 64 = c.in-Pair.ensures.1 in
@@ -41,7 +43,7 @@ coefficients-preserved g c =
       index = ap (λ n. n + (c.from.result + 1)) c.coefficients.invariant.index ∙ ap (λ r. next_place way before + (r + 1)) c.from.ensures ∙ sym (next_place-push way before pair) ∙ ap (next_place way) (sym c.push.ensures.items);
       few = let few = c.coefficients.invariant.few in omega arith;
       within = let run = c.from.ensures in omega arith;
-      keeps = let kept = keeps_then g.met.S.Source.keeps_on c.coefficients.invariant.keeps c.in_ok-window.ensures.keeps in search rules;
+      keeps = let kept = keeps_then g.met.S.Source.keeps_on c.coefficients.invariant.keeps c.in_ok-hold.ensures.keeps in search rules;
     }
 
 pub returns-in-EndOfBlock-clause-ok : goal.returns-in-EndOfBlock-clause-ok
@@ -49,10 +51,12 @@ returns-in-EndOfBlock-clause-ok g c =
     let way = c.args.way in
     let before = c.coefficients.into.items in
     let at = c.coefficients.from in
+    let window = c.held_window-window.result in
+    let shows : IfSome (bits_left at) (Shows window) = held-shown (bits_left at) (bits_left c.hold.new.self) c.hold.new.self.held window c.in_ok-hold.ensures.left c.in_ok-hold.ensures.few c.held_window-window.ensures.shows in
     let after = c.skip.new.self in
-    let found = reads-found (coefficient_at c.coefficients.table c.coefficients.index) _ (bits_left at) (bits_left after) c.in_ok-window.window c.in-EndOfBlock.len (place at) (place after)
-    c.in_ok-window.ensures.shows c.in-EndOfBlock.ensures.0 c.in-EndOfBlock.ensures.1 (c.skip.ensures.left ∙ ap (λ told. option_map (drop c.in-EndOfBlock.len) told) c.in_ok-window.ensures.left)
-    (c.skip.ensures.place ∙ ap (λ n. n + c.in-EndOfBlock.len) c.in_ok-window.ensures.place) in
+    let found = reads-found (coefficient_at c.coefficients.table c.coefficients.index) _ (bits_left at) (bits_left after) window c.in-EndOfBlock.len (place at) (place after)
+    shows c.in-EndOfBlock.ensures.0 c.in-EndOfBlock.ensures.1 (c.skip.ensures.left ∙ ap (λ told. option_map (drop c.in-EndOfBlock.len) told) c.in_ok-hold.ensures.left)
+    (c.skip.ensures.place ∙ ap (λ n. n + c.in-EndOfBlock.len) c.in_ok-hold.ensures.place) in
     let read = reads-coefficient way before c.coefficients.table c.coefficients.index c.coefficients.invariant.table c.coefficients.invariant.index None None refl
     (bits_left at) (bits_left after) (place at) (place after) found in
     all-read (coefficient way) before tt (bits_left c.args.from.now) (bits_left at) (bits_left after) (place c.args.from.now) (place at) (place after) c.coefficients.invariant.so_far read
@@ -62,9 +66,11 @@ returns-in-Refused-clause-refused g c =
     let way = c.args.way in
     let before = c.coefficients.into.items in
     let at = c.coefficients.from in
+    let window = c.held_window-window.result in
+    let shows : IfSome (bits_left at) (Shows window) = held-shown (bits_left at) (bits_left c.hold.new.self) c.hold.new.self.held window c.in_ok-hold.ensures.left c.in_ok-hold.ensures.few c.held_window-window.ensures.shows in
     let here : IfSome (bits_left at) (λ bits. ExplainsFrom (coefficient_at c.coefficients.table c.coefficients.index) c.at.result bits (place at)) =
     subst (λ fault. IfSome (bits_left at) (λ bits. ExplainsFrom (coefficient_at c.coefficients.table c.coefficients.index) fault bits (place at))) (sym c.at.ensures)
-    (explains-found (coefficient_at c.coefficients.table c.coefficients.index) c.in-Refused.why (bits_left at) c.in_ok-window.window c.in-Refused.behind (place at) _
-    c.in_ok-window.ensures.shows c.in-Refused.ensures.0 c.in-Refused.ensures.1 (omega arith)) in
+    (explains-found (coefficient_at c.coefficients.table c.coefficients.index) c.in-Refused.why (bits_left at) window c.in-Refused.behind (place at) _
+    shows c.in-Refused.ensures.0 c.in-Refused.ensures.1 (omega arith)) in
     explains-so_far (coefficient way) before (bits_left c.args.from.now) (bits_left at) (place c.args.from.now) (place at) c.coefficients.invariant.so_far c.at.result
     (explains-coefficient way before c.coefficients.table c.coefficients.index c.coefficients.invariant.table c.coefficients.invariant.index c.at.result (bits_left at) (place at) here)
