@@ -1,28 +1,26 @@
 -- What a sink got in one call.
-use Rattle.std.proofs.Common.{◌≡◌, ℕ, ◌*◌, ◌≤◌, List, [], ◌++◌, Option, None, Some, Result, Ok, Err, OnOk, OnErr, length, take, drop, refl, sym, ap, subst, ◌∙◌, append_assoc, append-nil}
+use Rattle.std.proofs.Common.{◌≡◌, ℕ, ◌*◌, ◌≤◌, List, [], ◌++◌, Result, Ok, Err, OnOk, OnErr, length, take, drop, refl, sym, ap, subst, ◌∙◌, append_assoc}
 use Rattle.std.proofs.lemmas.List.{take_at, length-take-le}
-use Rattle.shelf_io.specs.Sink.{with_bytes, AddsPrefix}
+use Rattle.shelf_io.specs.Sink.{Told, with_bytes, AddsPrefix}
+use Rattle.shelf_io.proofs.Written.{with_bytes-none}
 use Rattle.bit_lists.specs.Bits.{IsPrefix}
 use Rattle.bit_lists.specs.Fields.{AreBytes, bit_list}
 use Rattle.bit_lists.proofs.PrefixLemmas.{IsPrefix-append}
 use Rattle.bit_lists.proofs.ByteLemmas.{length-bit_list, bit_list-take, AreBytes-take}
 use Rattle.bit_cursor.specs.BitWriter.{Gets, GetsFront}
 
-with_bytes-none : (told : Option (List ℕ)) → told ≡ with_bytes told []
-with_bytes-none None = refl
-with_bytes-none (Some bytes) = ap Some (sym (append-nil bytes))
 
 -- nothing went out
-pub gets_none : (told : Option (List ℕ)) (waited put waits : List ℕ) → waits ≡ waited ++ put → Gets told told waited put waits
+pub gets_none : (told : Told) (waited put waits : List ℕ) → waits ≡ waited ++ put → Gets told told waited put waits
 gets_none told waited put waits is = record { bytes = []; are_bytes = tt; at_the_end = with_bytes-none told; in_order = is }
 
 -- these bytes went out
-pub gets_bytes : {X Y : Type 0} (r : Result X Y) (told after : Option (List ℕ)) (bytes waited put waits : List ℕ) → AreBytes bytes → bit_list bytes ++ waits ≡ waited ++ put → OnOk r (after ≡ with_bytes told bytes) → OnOk r (Gets told after waited put waits)
+pub gets_bytes : {X Y : Type 0} (r : Result X Y) (told after : Told) (bytes waited put waits : List ℕ) → AreBytes bytes → bit_list bytes ++ waits ≡ waited ++ put → OnOk r (after ≡ with_bytes told bytes) → OnOk r (Gets told after waited put waits)
 gets_bytes (Ok x) told after bytes waited put waits are order adds = record { bytes = bytes; are_bytes = are; at_the_end = adds; in_order = order }
 gets_bytes (Err e) told after bytes waited put waits are order adds = tt
 
 -- or a front of them
-pub gets_front : {X Y : Type 0} (r : Result X Y) (told after : Option (List ℕ)) (bytes waited put waits : List ℕ) → AreBytes bytes → bit_list bytes ++ waits ≡ waited ++ put → OnErr r (AddsPrefix told after bytes) → OnErr r (GetsFront told after waited put)
+pub gets_front : {X Y : Type 0} (r : Result X Y) (told after : Told) (bytes waited put waits : List ℕ) → AreBytes bytes → bit_list bytes ++ waits ≡ waited ++ put → OnErr r (AddsPrefix told after bytes) → OnErr r (GetsFront told after waited put)
 gets_front (Ok x) told after bytes waited put waits are order adds = tt
 gets_front (Err e) told after bytes waited put waits are order adds =
     let k = adds.0 in
