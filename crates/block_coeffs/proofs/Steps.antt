@@ -1,9 +1,7 @@
 -- From what a window shows to what a reader took.
 use Rattle.std.proofs.Common.{◌≡◌, ℕ, ◌+◌, ◌<◌, ◌≤◌, List, [], ◌++◌, length, take, drop, Option, Some, None, IfSome, refl, sym, ap, subst, ◌∙◌, arith}
 use Rattle.std.specs.Option.{option_map}
-use Rattle.std.proofs.lemmas.List.{length-take, take-take, take_all, take-append-drop}
-use Rattle.bit_lists.specs.Bits.{bits_of, front_of}
-use Rattle.bit_lists.proofs.BitLemmas.{length-bits_of}
+use Rattle.std.proofs.lemmas.List.{length-take, take-take, take-append-drop}
 use Rattle.bit_cursor.proofs.Fronts.{told_both}
 use Rattle.picture_grammar.specs.Refusal.{Refusal}
 use Rattle.picture_grammar.specs.Grammar.{Grammar}

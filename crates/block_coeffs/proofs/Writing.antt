@@ -1,5 +1,5 @@
 -- Blocks that some bits spell can be written.
-use Rattle.std.proofs.Common.{◌≡◌, ℕ, ℤ, unsigned_abs, ◌+◌, ◌^◌, ◌<◌, ◌≤◌, List, [], ◌∷◌, ◌++◌, Option, Result, Bool, true, false, refl, w16, to_z, of_z, sym, ap, subst, ◌∙◌, add-one, length, get_or, drop, drop-cons, append_assoc, arith}
+use Rattle.std.proofs.Common.{◌≡◌, ℕ, ℤ, unsigned_abs, ◌+◌, ◌^◌, ◌<◌, ◌≤◌, List, [], ◌∷◌, ◌++◌, Result, Bool, true, false, refl, w16, to_z, of_z, sym, ap, subst, ◌∙◌, add-one, length, get_or, drop, drop-cons, append_assoc, arith}
 use mir.Val.{bool_byte}
 use Rattle.std.proofs.lemmas.Int.{to_z-of_z, fits_signed_from_abs}
 use Rattle.std.proofs.lemmas.List.{drop_all}

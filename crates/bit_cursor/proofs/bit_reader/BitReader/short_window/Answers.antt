@@ -1,4 +1,4 @@
-use Rattle.std.proofs.Common.{◌≡◌, ◌<◌, ◌≤◌, ◌-◌, ◌*◌, ◌%◌, ◌^◌, ◌∙◌, length, IfSome, sym, ap, subst, arith}
+use Rattle.std.proofs.Common.{◌≡◌, ◌≤◌, ◌-◌, ◌*◌, ◌%◌, ◌^◌, ◌∙◌, length, IfSome, sym, ap, subst, arith}
 use Rattle.bit_cursor.specs.Reading.{Shows}
 use Rattle.bit_cursor.specs.BitReader.{bits_left}
 use Rattle.bit_cursor.proofs.Words.{window_of, window_below, window_zeros}
