@@ -1,6 +1,8 @@
 -- A block read as a DC coefficient and a list of coefficients.
-use Rattle.std.proofs.Common.{◌≡◌, ℕ, Bool, true, false, List, [], ◌++◌, Option, Some, None, IfSome, IsSomeAnd, refl, sym, ap, subst, arith}
+use Rattle.std.proofs.Common.{◌≡◌, ℕ, Bool, true, false, ◌<◌, ◌==◌, if◌then◌else◌, List, [], ◌++◌, Option, Some, None, IfSome, IsSomeAnd, Result, Ok, Err, OnOk, OnErr, IfErr, MatchResult, refl, sym, ap, subst, arith}
+use Rattle.std.proofs.lemmas.Bool.{ne_eqb}
 use Rattle.prefix_codes.specs.declared.table_name.TableName.{TableName}
+use Rattle.prefix_codes.specs.declared.table_name.TableName.TheVariants.{CoeffZero, CoeffFirst, CoeffOne}
 use Rattle.syntax_types.specs.declared.block.Block.{Block}
 use Rattle.syntax_types.specs.declared.block.BlockWay.{BlockWay}
 use Rattle.syntax_types.specs.declared.block.Dc.{Dc}
@@ -10,12 +12,12 @@ use Rattle.picture_grammar.specs.Grammar.{Grammar, done, ◌>>=◌, optional, ma
 use Rattle.picture_grammar.specs.Block.{dc_table, dc_coefficient, coefficient, coefficient_table, next_place, block}
 use Rattle.picture_grammar.proofs.LocalLaws.{local-block, local-dc}
 use Rattle.picture_grammar.proofs.PictureLaws.{exact-block}
-use Rattle.block_coeffs.specs.declared.block_fault.BlockFault.{BlockFault}
-use Rattle.block_coeffs.specs.declared.block_fault.BlockFault.TheVariants as fault
-use Rattle.block_coeffs.specs.Reading.{ReadsFrom, RefusedAt, ExplainsFrom, IsOutside}
-use Rattle.block_coeffs.specs.DcStanding.{dc_by}
-use Rattle.block_coeffs.specs.Standing.{coefficient_at}
-use Rattle.block_coeffs.proofs.Grammars.{anywhere, reads-then, reads-some, explains-first, explains-then}
+use Rattle.block_coeffs.specs.declared.fault.BlockFault.{BlockFault}
+use Rattle.block_coeffs.specs.declared.fault.BlockFault.TheVariants as fault
+use Rattle.block_coeffs.specs.Reading.{AdvancesFrom, ReadsFrom, RefusedAt, ExplainsFrom, IsOutside}
+use Rattle.block_coeffs.specs.Private.DcStanding.{dc_by}
+use Rattle.block_coeffs.specs.Private.Standing.{coefficient_at}
+use Rattle.block_coeffs.proofs.Grammars.{anywhere, advances-on, reads-advances, reads-then, reads-some, explains-first, explains-then}
 
 -- what holds where bits are told, and follows there, holds where they are told
 if_some : (told : Option (List ℕ)) (P Q : List ℕ → Type 0) → ((bits : List ℕ) → P bits → Q bits) → IfSome told P → IfSome told Q
@@ -52,6 +54,12 @@ pub reads-no_dc : (way : BlockWay) → way.intra ≡ false → (bits : Option (L
 reads-no_dc way e bits place = reads-absent way way.intra e bits place
 
 -- ---- a coefficient
+
+-- behind the first place the table is always the same
+pub later-table : (way : BlockWay) (index : ℕ) → 0 < index → coefficient_table way index ≡ coefficient_table way 1
+later-table way index behind =
+    let ne : (index == 0) ≡ false = ne_eqb index 0 (omega arith) in
+    ap (λ first. if way.intra then (if way.vlc_one then CoeffOne else CoeffZero) else (if first then CoeffFirst else CoeffZero)) ne
 
 -- the grammar of a coefficient behind others, by its table and its place
 pub reads-coefficient : (way : BlockWay) (before : List RunLevel) (table : TableName) (index : ℕ) → table ≡ coefficient_table way index → index ≡ next_place way before → (found value : Option RunLevel) → found ≡ value
@@ -128,3 +136,31 @@ pub exact-refused : (way : BlockWay) (b : Block) (f : BlockFault) (told : Option
     → IsSomeAnd told (λ bits. (block way).Spells b bits rest) → IsOutside f
 exact-refused way b f None rest from e comes = absurd comes
 exact-refused way b f (Some bits) rest from e comes = exact-fault way b f bits rest from e comes
+
+-- ---- how a call ends that reads the coefficients behind the DC coefficient
+
+module _ {T : Type 0} (way : BlockWay) (dc : Option Dc) (pairs : List RunLevel) (bits middle after : Option (List ℕ)) (place place_middle place_after : ℕ)
+    (first : ReadsFrom (optional way.intra (dc_coefficient way)) dc bits middle place place_middle) where
+  pub block-ok : (r : Result T BlockFault) → OnOk r (ReadsFrom (many (coefficient way)) (pairs, tt) middle after place_middle place_after)
+      → OnOk r (ReadsFrom (block way) (record { dc = dc; pairs = record { items = pairs } }) bits after place place_after)
+  block-ok (Ok x) others = reads-block way dc pairs bits middle after place place_middle place_after first others
+  block-ok (Err f) others = tt
+
+  pub block-refused : (r : Result T BlockFault) → IfErr r (λ f. IfSome middle (λ rest. ExplainsFrom (many (coefficient way)) f rest place_middle))
+      → IfErr r (λ f. IfSome bits (λ rest. ExplainsFrom (block way) f rest place))
+  block-refused (Ok x) refused = tt
+  block-refused (Err f) refused = explains-pairs way dc bits middle place place_middle first f refused
+
+  pub block-advances : (r : Result T BlockFault) → OnOk r (ReadsFrom (many (coefficient way)) (pairs, tt) middle after place_middle place_after)
+      → OnErr r (AdvancesFrom middle after place_middle place_after) → AdvancesFrom bits after place place_after
+  block-advances (Ok x) others advances =
+      advances-on bits middle after place place_middle place_after (reads-advances (optional way.intra (dc_coefficient way)) dc bits middle place place_middle first)
+      (reads-advances (many (coefficient way)) (pairs, tt) middle after place_middle place_after others)
+  block-advances (Err f) others advances =
+      advances-on bits middle after place place_middle place_after (reads-advances (optional way.intra (dc_coefficient way)) dc bits middle place place_middle first) advances
+
+pub block-exact : {T : Type 0} (way : BlockWay) (v b : Block) (bits after : Option (List ℕ)) (place place_after : ℕ) (rest : List ℕ) (r : Result T BlockFault)
+    → OnOk r (ReadsFrom (block way) v bits after place place_after) → IfErr r (λ f. IfSome bits (λ told. ExplainsFrom (block way) f told place))
+    → IsSomeAnd bits (λ told. (block way).Spells b told rest) → MatchResult r (λ _. (v ≡ b) × (after ≡ Some rest)) IsOutside
+block-exact way v b bits after place place_after rest (Ok x) reads refused comes = exact-read way v b bits after place place_after rest reads comes
+block-exact way v b bits after place place_after rest (Err f) reads refused comes = exact-refused way b f bits rest place refused comes

@@ -16,9 +16,9 @@ use Rattle.picture_grammar.specs.Block.{Coefficient, CoefficientCode, is_within,
 use Rattle.picture_grammar.proofs.Codes.{symbol_of, fronts}
 use Rattle.block_coeffs.specs.declared.why.Why.TheVariants as why
 use Rattle.block_coeffs.specs.declared.window.Window.{Window}
-use Rattle.block_coeffs.specs.Why.{rules_at, IsWhy}
-use Rattle.block_coeffs.specs.Cut.{BeginCode, BeginAllowed}
-use Rattle.block_coeffs.specs.Standing.{seen, Shows}
+use Rattle.block_coeffs.specs.Private.Why.{rules_at, IsWhy}
+use Rattle.block_coeffs.specs.Private.Cut.{BeginCode, BeginAllowed}
+use Rattle.block_coeffs.specs.Private.Standing.{seen, Shows}
 use Rattle.block_coeffs.proofs.Fronts.{front_of-bits, length-front_of}
 use Rattle.block_coeffs.proofs.Symbols.{length-code, symbol_fits-of, is_within-first, begun, NoCodeStands, may-begin}
 

@@ -1,5 +1,5 @@
 -- A DC coefficient: the code of its size, and its bits.
-use Rattle.std.proofs.Common.{◌≡◌, ℕ, ◌+◌, ◌-◌, ◌*◌, ◌/◌, ◌%◌, ◌^◌, ◌<◌, ◌≤◌, ◌&&◌, ◌⊎◌, Bool, true, nat_lt, List, [], ◌∷◌, ◌++◌, length, take, drop, Some, refl, sym, ap, ap₂, subst, ◌∙◌, inl, inr, arith, append-nil}
+use Rattle.std.proofs.Common.{◌≡◌, ℕ, ◌+◌, ◌-◌, ◌*◌, ◌/◌, ◌%◌, ◌^◌, ◌<◌, ◌≤◌, ◌&&◌, ◌⊎◌, Bool, true, nat_lt, List, [], ◌++◌, length, take, drop, Some, refl, sym, ap, ap₂, subst, ◌∙◌, inl, inr, arith, append-nil}
 use Rattle.std.specs.List.{list_all}
 use Rattle.std.proofs.Math.Nat.{mod-lt}
 use Rattle.std.proofs.lemmas.Bool.{and_parts, ltb-true}
@@ -20,9 +20,9 @@ use Rattle.picture_grammar.specs.Element.{MayStand}
 use Rattle.block_coeffs.specs.declared.window.Window.{Window}
 use Rattle.block_coeffs.specs.declared.why.Why.TheVariants as why
 use Rattle.block_coeffs.specs.declared.dc_standing.DcStanding.TheVariants.{Coefficient, Refused}
-use Rattle.block_coeffs.specs.Cut.{BeginCode}
-use Rattle.block_coeffs.specs.Standing.{seen, Shows}
-use Rattle.block_coeffs.specs.DcStanding.{is_sizes, dc_by, IsWhyNoSize, IsDcFound}
+use Rattle.block_coeffs.specs.Private.Cut.{BeginCode}
+use Rattle.block_coeffs.specs.Private.Standing.{seen, Shows}
+use Rattle.block_coeffs.specs.Private.DcStanding.{is_sizes, dc_by, IsWhyNoSize, IsDcFound}
 use Rattle.block_coeffs.proofs.Fronts.{front_of-more, length-front_of, take-front_of}
 use Rattle.block_coeffs.proofs.Cuts.{begun-length, shows-all, shows-filled, seen-begins}
 use Rattle.block_coeffs.proofs.Pairs.{seen-code}

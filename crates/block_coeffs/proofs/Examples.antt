@@ -7,10 +7,10 @@ use Rattle.prefix_codes.specs.Entry.{printed_bits}
 use Rattle.prefix_codes.proofs.Computing.{tables}
 use Rattle.picture_grammar.specs.Block.{block}
 use Rattle.picture_grammar.proofs.Examples.{non_intra, one_escape, bad_escape}
-use Rattle.block_coeffs.specs.declared.block_fault.BlockFault.TheVariants as fault
+use Rattle.block_coeffs.specs.declared.fault.BlockFault.TheVariants as fault
 use Rattle.block_coeffs.specs.declared.window.Window.{Window}
-use Rattle.block_coeffs.specs.Cut.{symbol_fits, BeginAllowed}
-use Rattle.block_coeffs.specs.Standing.{seen, Shows}
+use Rattle.block_coeffs.specs.Private.Cut.{symbol_fits, BeginAllowed}
+use Rattle.block_coeffs.specs.Private.Standing.{seen, Shows}
 use Rattle.block_coeffs.specs.Reading.{ReadsFrom, ExplainsFrom}
 
 -- from place 100 on an escape with run 0 and level 2047 and the end of block are read up to place 126

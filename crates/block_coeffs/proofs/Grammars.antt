@@ -6,8 +6,8 @@ use Rattle.picture_grammar.specs.Refusal.{Refusal}
 use Rattle.picture_grammar.specs.Grammar.{Grammar, ◌>>=◌, optional, many, SpellsList, RefusesAfter, Next}
 use Rattle.picture_grammar.specs.Grammar.Next.{more, last}
 use Rattle.picture_grammar.specs.Exact.{IsLocal}
-use Rattle.block_coeffs.specs.declared.block_fault.BlockFault.{BlockFault}
-use Rattle.block_coeffs.specs.declared.block_fault.BlockFault.TheVariants as fault
+use Rattle.block_coeffs.specs.declared.fault.BlockFault.{BlockFault}
+use Rattle.block_coeffs.specs.declared.fault.BlockFault.TheVariants as fault
 use Rattle.block_coeffs.specs.Reading.{AdvancesFrom, ReadsFrom, RefusedAt, ExplainsFrom}
 
 -- the front that spells a value does so whatever follows

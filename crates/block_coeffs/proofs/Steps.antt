@@ -1,15 +1,16 @@
 -- From what a window shows to what a reader took.
-use Rattle.std.proofs.Common.{◌≡◌, ℕ, ◌+◌, ◌≤◌, List, [], ◌++◌, length, take, drop, Option, Some, None, IfSome, refl, sym, ap, ◌∙◌, arith}
+use Rattle.std.proofs.Common.{◌≡◌, ℕ, ◌+◌, ◌<◌, ◌≤◌, List, [], ◌++◌, length, take, drop, Option, Some, None, IfSome, refl, sym, ap, subst, ◌∙◌, arith}
 use Rattle.std.specs.Option.{option_map}
 use Rattle.std.proofs.lemmas.List.{length-take, take-take, take-append-drop}
+use Rattle.bit_cursor.proofs.Fronts.{told_both}
 use Rattle.picture_grammar.specs.Refusal.{Refusal}
 use Rattle.picture_grammar.specs.Grammar.{Grammar}
 use Rattle.bit_cursor.specs.BitReader.{without_bits}
 use Rattle.block_coeffs.specs.declared.why.Why.{Why}
 use Rattle.block_coeffs.specs.declared.why.Why.TheVariants as why
 use Rattle.block_coeffs.specs.declared.window.Window.{Window}
-use Rattle.block_coeffs.specs.Why.{refusal_of, fault_at}
-use Rattle.block_coeffs.specs.Standing.{seen, Shows}
+use Rattle.block_coeffs.specs.Private.Why.{refusal_of, fault_at}
+use Rattle.block_coeffs.specs.Private.Standing.{seen, Shows}
 use Rattle.block_coeffs.specs.Reading.{ReadsFrom, RefusedAt, ExplainsFrom}
 use Rattle.block_coeffs.proofs.Fronts.{length-front_of, take-front_of}
 
@@ -24,13 +25,15 @@ shown window bits len shows le =
     let within = window.within in
     omega (arith, ap length (taken window bits len shows le), length-take len bits, length-front_of 24 window.bits len (omega arith))
 
-pub shown-told : (told : Option (List ℕ)) (window : Window) (len : ℕ) → IfSome told (Shows window) → len ≤ window.known → IfSome told (λ bits. len ≤ length bits)
-shown-told None window len shows le = tt
-shown-told (Some bits) window len shows le = shown window bits len shows le
-
 front-left : (told : Option (List ℕ)) (window : Window) (len : ℕ) → IfSome told (Shows window) → len ≤ window.known → told ≡ option_map (λ rest. seen window len ++ rest) (without_bits told len)
 front-left None window len shows le = refl
 front-left (Some bits) window len shows le = ap Some (sym (take-append-drop len bits) ∙ ap (λ f. f ++ drop len bits) (taken window bits len shows le))
+
+-- a window of held bits shows what is left, where all bits are held that are asked for or left
+pub held-shown : (told now : Option (List ℕ)) (held : ℕ) (window : Window) → now ≡ told → (held < 24 → IfSome told (λ bits. length bits ≡ held))
+    → IfSome now (λ bits. (held < 24 → length bits ≡ held) → Shows window bits) → IfSome told (Shows window)
+held-shown told now held window same few shows =
+    told_both told (held < 24) (λ bits. length bits ≡ held) (Shows window) (subst (λ t. IfSome t (λ bits. (held < 24 → length bits ≡ held) → Shows window bits)) same shows) few
 
 -- what the window shows of a value was read once it is taken
 pub reads-found : {A : Type 0} (grammar : Grammar A) (value : A) (told after : Option (List ℕ)) (window : Window) (len place place_after : ℕ)

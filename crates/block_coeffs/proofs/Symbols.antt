@@ -17,8 +17,8 @@ use Rattle.picture_grammar.specs.Element.{Rule, passes, MayStand}
 use Rattle.picture_grammar.specs.Block.{Coefficient, CoefficientCode, is_within}
 use Rattle.picture_grammar.specs.Block.Coefficient.{end_of_block, run_size, escape}
 use Rattle.picture_grammar.proofs.Codes.{symbol_of, fronts, coefficient_code-listed}
-use Rattle.block_coeffs.specs.Why.{rules_at}
-use Rattle.block_coeffs.specs.Cut.{least_run, symbol_fits, BeginCode}
+use Rattle.block_coeffs.specs.Private.Why.{rules_at}
+use Rattle.block_coeffs.specs.Private.Cut.{least_run, symbol_fits, BeginCode}
 
 pub coefficients-is : (table : TableName) → is_coefficients table ≡ true → IsCoefficients table
 coefficients-is Address e = cc
@@ -69,6 +69,10 @@ are_met one_is = refl
 
 pub symbol-most : {table : TableName} (s : ℕ) (code : List ℕ) → IsCoefficients table → code_in table s ≡ Some code → s < 4002
 symbol-most {table} s code is listed = ltb-true s 4002 (code_in-passes is_met table s code (are_met is) listed)
+
+-- behind the end of block stands the escape alone
+pub past-end : {table : TableName} (s : ℕ) (code : List ℕ) → IsCoefficients table → code_in table s ≡ Some code → END_OF_BLOCK < s → s ≡ ESCAPE
+past-end s code is listed past = let most = symbol-most s code is listed in omega arith
 
 -- ---- where a symbol may stand
 

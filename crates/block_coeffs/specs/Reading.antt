@@ -6,8 +6,8 @@ use Rattle.bit_cursor.specs.declared.bit_reader.BitReader.{BitReader}
 use Rattle.bit_cursor.specs.BitReader.{bits_left, place}
 use Rattle.picture_grammar.specs.Refusal.{Refusal}
 use Rattle.picture_grammar.specs.Grammar.{Grammar}
-use Rattle.block_coeffs.specs.declared.block_fault.BlockFault.{BlockFault}
-use Rattle.block_coeffs.specs.declared.block_fault.BlockFault.TheVariants.{NoCode, TooMany, BadEscape, End, Outside}
+use Rattle.block_coeffs.specs.declared.fault.BlockFault.{BlockFault}
+use Rattle.block_coeffs.specs.declared.fault.BlockFault.TheVariants.{NoCode, TooMany, BadEscape, End, Outside}
 
 -- ---- bits, where they are told, and places
 

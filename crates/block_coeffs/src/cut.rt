@@ -1,8 +1,8 @@
 ghost use Rattle.std.specs.Prelude.{◌≡◌, ◌≤◌, ℕ, ◌↔◌, List, IsTrue};
 ghost use Rattle.prefix_codes.specs.TableName.{Begins, is_coefficients};
-ghost use Rattle.block_coeffs.specs.Why.{IsWhy};
-ghost use Rattle.block_coeffs.specs.Cut.{symbol_fits, BeginCode, BeginAllowed};
-ghost use Rattle.block_coeffs.specs.Standing.{seen, Shows};
+ghost use Rattle.block_coeffs.specs.Private.Why.{IsWhy};
+ghost use Rattle.block_coeffs.specs.Private.Cut.{symbol_fits, BeginCode, BeginAllowed};
+ghost use Rattle.block_coeffs.specs.Private.Standing.{seen, Shows};
 
 use crate::why::Why;
 use crate::window::Window;
@@ -12,6 +12,8 @@ use syntax_types::BLOCK_PLACES;
 
 /// Why nothing stands at bits that no code of the table begins: they end within a code that may stand at the place, or
 /// within one that leads past the block's last place alone, or no code stands there.
+#[cold]
+#[inline(never)]
 pub fn why_none(table: TableName, place: u32, window: Window) -> Why
     requires table { IsTrue (is_coefficients table) }
     requires place { place ≤ BLOCK_PLACES }

@@ -1,7 +1,7 @@
 ghost use Rattle.std.specs.Prelude.{ℕ, List, IsTrue};
 ghost use Rattle.prefix_codes.specs.TableName.{Begins};
-ghost use Rattle.block_coeffs.specs.Standing.{seen, Shows};
-ghost use Rattle.block_coeffs.specs.DcStanding.{is_sizes, IsWhyNoSize, IsDcFound};
+ghost use Rattle.block_coeffs.specs.Private.Standing.{seen, Shows};
+ghost use Rattle.block_coeffs.specs.Private.DcStanding.{is_sizes, IsWhyNoSize, IsDcFound};
 
 use crate::cut::begin_code;
 use crate::why::Why;

@@ -4,7 +4,7 @@ use Rattle.bit_lists.specs.Bits.{bits_of}
 use Rattle.bit_lists.proofs.BitLemmas.{length-bits_of}
 use Rattle.block_coeffs.proofs.Fronts.{length-front_of}
 use Rattle.block_coeffs.proofs.Cuts.{begins-code, begun-length, BeginCode-code}
-use Rattle.block_coeffs.specs.Standing.{seen}
+use Rattle.block_coeffs.specs.Private.Standing.{seen}
 use Rattle.block_coeffs.proofs.cut.begin_code.Goals as goal
 
 pub returns-then-window-len : goal.returns-then-window-len

@@ -1,6 +1,6 @@
 use Rattle.std.proofs.Common.{◌≡◌, ℕ, ◌<◌, true}
-use Rattle.block_coeffs.specs.Cut.{symbol_fits, BeginCode}
-use Rattle.block_coeffs.specs.Standing.{seen}
+use Rattle.block_coeffs.specs.Private.Cut.{symbol_fits, BeginCode}
+use Rattle.block_coeffs.specs.Private.Standing.{seen}
 use Rattle.block_coeffs.proofs.cut.may_begin.Given as goal
 
 abbrev pub invariant-loop-symbol : goal.invariant-loop-symbol

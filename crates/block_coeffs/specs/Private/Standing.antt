@@ -13,7 +13,7 @@ use Rattle.picture_grammar.specs.Block.{CoefficientCode, after_code}
 use Rattle.block_coeffs.specs.declared.window.Window.{Window}
 use Rattle.block_coeffs.specs.declared.standing.Standing.{Standing}
 use Rattle.block_coeffs.specs.declared.standing.Standing.TheVariants.{EndOfBlock, Pair, Refused}
-use Rattle.block_coeffs.specs.Why.{rules_at, refusal_of}
+use Rattle.block_coeffs.specs.Private.Why.{rules_at, refusal_of}
 
 -- the first bits of a window
 abbrev pub seen : Window → ℕ → List ℕ
@@ -31,7 +31,7 @@ coefficient_at table place = element (CoefficientCode table) NoCode (rules_at pl
 abbrev pub IsFound : TableName → ℕ → Window → Standing → Type 0
 IsFound table place window (EndOfBlock len) =
     (len ≤ window.known) × (coefficient_at table place).Spells (last tt) (seen window len) []
-IsFound table place window (Pair pair len) =
-    (len ≤ window.known) × (place + pair.run < BLOCK_PLACES) × (coefficient_at table place).Spells (more pair) (seen window len) []
+IsFound table place window (Pair run level len) =
+    (len ≤ window.known) × (place + run < BLOCK_PLACES) × (coefficient_at table place).Spells (more (record { run = run; level = level })) (seen window len) []
 IsFound table place window (Refused why behind) =
     (behind ≤ window.known) × ((bits : List ℕ) → Shows window bits → (coefficient_at table place).Refuses bits (refusal_of why) (drop behind bits))

@@ -4,8 +4,8 @@ use Rattle.prefix_codes.specs.declared.table_name.TableName.{TableName}
 use Rattle.picture_grammar.specs.Refusal.{Refusal}
 use Rattle.picture_grammar.specs.Element.{Rule, rule, IsRefused}
 use Rattle.picture_grammar.specs.Block.{Coefficient, CoefficientCode, is_within, is_level}
-use Rattle.block_coeffs.specs.declared.block_fault.BlockFault.{BlockFault}
-use Rattle.block_coeffs.specs.declared.block_fault.BlockFault.TheVariants as fault
+use Rattle.block_coeffs.specs.declared.fault.BlockFault.{BlockFault}
+use Rattle.block_coeffs.specs.declared.fault.BlockFault.TheVariants as fault
 use Rattle.block_coeffs.specs.declared.why.Why.{Why}
 use Rattle.block_coeffs.specs.declared.why.Why.TheVariants as why
 

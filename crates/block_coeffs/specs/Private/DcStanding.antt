@@ -11,8 +11,8 @@ use Rattle.block_coeffs.specs.declared.window.Window.{Window}
 use Rattle.block_coeffs.specs.declared.why.Why.{Why}
 use Rattle.block_coeffs.specs.declared.dc_standing.DcStanding.{DcStanding}
 use Rattle.block_coeffs.specs.declared.dc_standing.DcStanding.TheVariants.{Coefficient, Refused}
-use Rattle.block_coeffs.specs.Why.{refusal_of}
-use Rattle.block_coeffs.specs.Standing.{seen, Shows}
+use Rattle.block_coeffs.specs.Private.Why.{refusal_of}
+use Rattle.block_coeffs.specs.Private.Standing.{seen, Shows}
 
 -- the tables of sizes of DC coefficients, B-12 and B-13
 abbrev pub is_sizes : TableName → Bool

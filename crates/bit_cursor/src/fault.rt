@@ -14,7 +14,7 @@ pub enum BitFault {
 
 impl From<Fault> for BitFault {
     ghost use Rattle.std.specs.Prelude.{◌≡◌};
-    ghost use Rattle.bit_cursor.specs.declared.bit_fault.BitFault.TheVariants.{Outside};
+    ghost use Rattle.bit_cursor.specs.declared.fault.BitFault.TheVariants.{Outside};
 
     ghost from_gives = { λ fault bit_fault. bit_fault ≡ Outside fault };
 

@@ -23,7 +23,7 @@ pub enum BlockFault {
 
 impl From<Fault> for BlockFault {
     ghost use Rattle.std.specs.Prelude.{◌≡◌};
-    ghost use Rattle.block_coeffs.specs.declared.block_fault.BlockFault.TheVariants.{Outside};
+    ghost use Rattle.block_coeffs.specs.declared.fault.BlockFault.TheVariants.{Outside};
 
     ghost from_gives = { λ fault block_fault. block_fault ≡ Outside fault };
 
