@@ -13,8 +13,11 @@ pub mod ExampleSlices
 pub mod ExampleUnits
 pub mod ExampleValues
 pub mod Numbers
+pub mod ReadBack
 pub mod Takes
 pub mod TakesHeads
 pub mod Tested
 pub mod Totality
 pub mod WholeBytes
+pub mod WrittenMacroblock
+pub mod WrittenParts

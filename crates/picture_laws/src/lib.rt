@@ -6,3 +6,4 @@
 #![tactic(auto)]
 
 pub mod units;
+pub mod written;
