@@ -143,7 +143,7 @@ dc_written way dc bits middle other (size, m, (code, listed, p, split), (number,
     ∙ append_assoc code (bits_of size number) other in
     (size, bits_of size number ++ other, (code, listed, refl, written), (number, other, (bits_of size number, (fits, refl), refl, refl), (e, refl)))
 
-optional_written : (present : Bool) (way : BlockWay) (dc : Option Dc) (bits middle other : List ℕ) → (optional present (dc_coefficient way)).Spells dc bits middle
+pub optional_written : (present : Bool) (way : BlockWay) (dc : Option Dc) (bits middle other : List ℕ) → (optional present (dc_coefficient way)).Spells dc bits middle
     → (optional present (dc_coefficient way)).Spells dc (if_any (written_dc way) dc ++ other) other
 optional_written true way dc bits middle other (v, m, s, (e, f)) =
     (v, other, subst (λ d. (dc_coefficient way).Spells v (if_any (written_dc way) d ++ other) other) (sym e) (dc_written way v bits m other s), (e, refl))

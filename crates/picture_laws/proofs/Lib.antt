@@ -19,5 +19,8 @@ pub mod TakesHeads
 pub mod Tested
 pub mod Totality
 pub mod WholeBytes
+pub mod WrittenBlocks
+pub mod WrittenCoefficients
 pub mod WrittenMacroblock
 pub mod WrittenParts
+pub mod WrittenSlice

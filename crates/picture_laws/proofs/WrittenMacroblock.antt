@@ -51,9 +51,14 @@ back-block way = record { again = λ b s. record { before = λ following. block_
 abbrev pub written_or_none : PicCoding → Kind → ℕ → ℕ → Block → List ℕ
 written_or_none coding kind pattern i block = if is_coded kind pattern i then written_block (block_way coding kind i) block else []
 
-length-each : {I A : Type 0} (is : List I) (grammar : I → Grammar A) (values : List A) (bits rest : List ℕ) → (each is grammar).Spells values bits rest → length values ≡ length is
+pub length-each : {I A : Type 0} (is : List I) (grammar : I → Grammar A) (values : List A) (bits rest : List ℕ) → (each is grammar).Spells values bits rest → length values ≡ length is
 length-each [] grammar values bits rest (e, f) = ap length e
 length-each (i ∷ is) grammar values bits rest (v, m, t, (vs, m', t', (e, f))) = ap length e ∙ ap suc (length-each is grammar vs m m' t')
+
+pub back-block_where : (coding : PicCoding) (kind : Kind) (pattern i : ℕ)
+    → IsReadBack (when (is_coded kind pattern i) (block (block_way coding kind i)) no_block) (written_or_none coding kind pattern i)
+back-block_where coding kind pattern i =
+    back-when (is_coded kind pattern i) (block (block_way coding kind i)) no_block (written_block (block_way coding kind i)) (back-block (block_way coding kind i))
 
 -- six blocks by their numbers
 by_number : (written : ℕ → Block → List ℕ) (blocks : List Block) → length blocks ≡ 6
@@ -74,7 +79,7 @@ anywhere-blocks coding m s =
     anywhere-code (blocks coding m.kind m.pattern) m.blocks (written_each (written_or_none coding m.kind m.pattern) (range_with_len 0 6) m.blocks) (flat_map (written_coded_block coding m) (range_with_len 0 BLOCKS))
     (by_number (written_or_none coding m.kind m.pattern) m.blocks (length-each (range_with_len 0 6) grammar m.blocks s.bits s.rest s.spelled))
     ((back-each (range_with_len 0 6) grammar (written_or_none coding m.kind m.pattern)
-    (λ i. back-when (is_coded m.kind m.pattern i) (block (block_way coding m.kind i)) no_block (written_block (block_way coding m.kind i)) (back-block (block_way coding m.kind i)))).again m.blocks s)
+    (back-block_where coding m.kind m.pattern)).again m.blocks s)
 
 -- ---- the whole macroblock
 

@@ -1,10 +1,14 @@
 //! What is written of a part is read as that part.
 ghost use Rattle.std.specs.Prelude.{◌≡◌, ℕ, List, ◌++◌, Bool};
+ghost use Rattle.syntax_types.specs.declared.block.Block.{Block};
+ghost use Rattle.syntax_types.specs.declared.block.BlockWay.{BlockWay};
+ghost use Rattle.syntax_types.specs.declared.macroblock.Kind.{Kind};
 ghost use Rattle.syntax_types.specs.declared.macroblock.Macroblock.{Macroblock};
 ghost use Rattle.syntax_types.specs.declared.picture.PicCoding.{PicCoding};
-ghost use Rattle.picture_grammar.specs.Macroblock.{macroblock};
+ghost use Rattle.picture_grammar.specs.Block.{block};
+ghost use Rattle.picture_grammar.specs.Macroblock.{blocks, macroblock};
 ghost use Rattle.picture_grammar.specs.Written.{written_macroblock};
-ghost use Rattle.picture_laws.specs.Spellable.{HasSpellableParts};
+ghost use Rattle.picture_laws.specs.Spellable.{IsSpellable, HasSpellableCoefficients, AreSpellableBlocks, HasSpellableParts};
 
 /// Each part of a macroblock that some bits spell is one that some bits spell in its place.
 pub fn spelled_macroblock_has_spellable_parts()
@@ -17,4 +21,25 @@ pub fn macroblock_of_spellable_parts_is_read()
     ensures { (coding : PicCoding) (first : Bool) (columns_left : ℕ) (m : Macroblock) (following : List ℕ) →
         HasSpellableParts coding first columns_left m →
         (macroblock coding first columns_left).Spells m (written_macroblock coding m ++ following) following }
+{}
+
+/// What is written of a macroblock that some bits spell is read as that macroblock, whatever follows.
+pub fn written_macroblock_is_read()
+    ensures { (coding : PicCoding) (first : Bool) (columns_left : ℕ) (m : Macroblock) (bits rest following : List ℕ) →
+        (macroblock coding first columns_left).Spells m bits rest →
+        (macroblock coding first columns_left).Spells m (written_macroblock coding m ++ following) following }
+{}
+
+/// Some bits spell a block of such coefficients, and no other one.
+pub fn block_is_spellable_by_its_coefficients()
+    ensures spelled { (way : BlockWay) (b : Block) → HasSpellableCoefficients way b → IsSpellable (block way) b }
+    ensures no_other { (way : BlockWay) (b : Block) → IsSpellable (block way) b → HasSpellableCoefficients way b }
+{}
+
+/// Some bits spell six blocks that are such.
+pub fn blocks_are_spellable_by_number()
+    ensures spelled { (coding : PicCoding) (kind : Kind) (pattern : ℕ) (bs : List Block) →
+        AreSpellableBlocks coding kind pattern bs → IsSpellable (blocks coding kind pattern) bs }
+    ensures no_other { (coding : PicCoding) (kind : Kind) (pattern : ℕ) (bs : List Block) →
+        IsSpellable (blocks coding kind pattern) bs → AreSpellableBlocks coding kind pattern bs }
 {}
