@@ -121,7 +121,7 @@ module _ (way : BlockWay) where
         later,
         subst (λ (b : List ℕ). (coefficient way before).Spells (more pair) b later) (sym split) (one_written before pair later lt levels.0),
         list_written (before ++ pair ∷ []) pairs following (subst (λ (b : List RunLevel). next_place way b ≤ 64) same places) levels.1
-        (elim some [ | inl intra ↦ inl intra | inr n ↦ inr (subst (λ (b : List RunLevel). 0 < length b) same n) ]),
+            (elim some [ inl intra ↦ inl intra | inr n ↦ inr (subst (λ (b : List RunLevel). 0 < length b) same n) ]),
       )
 
 pub of_coefficients : (way : BlockWay) (b : Block) → HasSpellableCoefficients way b → IsSpellable (block way) b
@@ -172,9 +172,10 @@ module _ (way : BlockWay) where
   one_spelled before pair bits middle (run_size run size, m, (code, coded, passing, split), (negative, m', s, (e, f))) =
       let same : pair ≡ record { run = run; level = signed size negative } = cc in
       let bounds = coefficient_code-listed (coefficient_table way (next_place way before)) run size code coded in
-      subst (λ (p : RunLevel). (next_place way before + p.run < 64) × IsLevel p.level) (sym same)
-      (ltb-true (next_place way before + run) 64 (and_parts (nat_lt (next_place way before + run) 64) true passing).0,
-      subst (λ (n : ℕ). (0 < n) × (n < 2048)) (sym (unsigned_abs-signed size negative)) (bounds.1, omega (arith, bounds.2)))
+      subst (λ (p : RunLevel). (next_place way before + p.run < 64) × IsLevel p.level) (sym same) (
+        ltb-true (next_place way before + run) 64 (and_parts (nat_lt (next_place way before + run) 64) true passing).0,
+        subst (λ (n : ℕ). (0 < n) × (n < 2048)) (sym (unsigned_abs-signed size negative)) (bounds.1, omega (arith, bounds.2)),
+      )
   one_spelled before pair bits middle (escape run level, m, (code, (front, listed, run_fits, level_fits, is), passing, split), (e, f)) =
       let same : pair ≡ record { run = run; level = escape_level level } = cc in
       let rules = and_parts (nat_lt (next_place way before + run) 64) ((not (nat_eq level 0) && not (nat_eq level 2048)) && true) passing in

@@ -118,3 +118,100 @@ pub macroblock-closes : (coding : PicCoding) (first : Bool) (columns_left : ℕ)
 unfolding macroblock
 macroblock-closes coding first columns_left m bits rest (increment, m1, (codes, m2, s, u), t) closes =
     addresses-close (most_increment coding first columns_left) codes.0 codes.1 bits m2 s closes
+
+-- ---- the macroblocks of a slice
+
+none_left : (seq : SeqState) → columns seq ≡ columns_left seq []
+none_left seq = omega arith
+
+-- there is one before: the place is no first one
+behind : (m : Macroblock) (ms : List Macroblock) → (length (m ∷ ms) == 0) ≡ false
+behind m ms = elim (cases_Bool (length (m ∷ ms) == 0)) [
+  | inl none ↦ absurd (let e = eqb-true (length (m ∷ ms)) 0 none in omega arith)
+  | inr other ↦ other
+]
+
+module _ (seq : SeqState) (coding : PicCoding) where
+  -- a macroblock behind these, with such parts
+  abbrev Fits : List Macroblock → Macroblock → Type 0
+  Fits before m = HasSpellableParts coding (length before == 0) (columns_left seq before) m
+
+  fitting : (before : List Macroblock) (m : Macroblock) (bits rest : List ℕ) → (next_macroblock seq coding before).Spells (more m) bits rest → Fits before m
+  fitting [] m bits rest (m', mid, s, (e, f)) =
+      let same : m ≡ m' = cc in
+      subst (λ (n : ℕ). HasSpellableParts coding true n m) (none_left seq)
+      (parts-of_macroblock coding true (columns seq) m bits mid (subst (λ (x : Macroblock). (macroblock coding true (columns seq)).Spells x bits mid) (sym same) s))
+  fitting (b ∷ bs) m bits rest (inl (c, (e, f))) = absurd (let e' : more m ≡ last tt = e in cc)
+  fitting (b ∷ bs) m bits rest (inr (c, (m', mid, s, (e, f)))) =
+      let same : m ≡ m' = cc in
+      subst (λ (first : Bool). HasSpellableParts coding first (columns_left seq (b ∷ bs)) m) (sym (behind b bs))
+      (parts-of_macroblock coding false (columns_left seq (b ∷ bs)) m bits mid (subst (λ (x : Macroblock). (macroblock coding false (columns_left seq (b ∷ bs))).Spells x bits mid) (sym same) s))
+
+  one_written : (before : List Macroblock) (m : Macroblock) (following : List ℕ) → Fits before m
+      → (next_macroblock seq coding before).Spells (more m) (written_macroblock coding m ++ following) following
+  one_written [] m following fits =
+      (m, following, (anywhere-macroblock coding true (columns seq) m (subst (λ (n : ℕ). HasSpellableParts coding true n m) (sym (none_left seq)) fits)).before following, (refl, refl))
+  one_written (b ∷ bs) m following fits =
+      let s = (anywhere-macroblock coding false (columns_left seq (b ∷ bs)) m (subst (λ (first : Bool). HasSpellableParts coding first (columns_left seq (b ∷ bs)) m) (behind b bs) fits)).before following in
+      inr (macroblock-closes coding false (columns_left seq (b ∷ bs)) m (written_macroblock coding m ++ following) following s, (m, following, s, (refl, refl)))
+
+  list_fits : (before values : List Macroblock) (bits rest : List ℕ) → SpellsList (next_macroblock seq coding) before values tt bits rest
+      → (front back : List Macroblock) (m : Macroblock) → values ≡ front ++ m ∷ back → Fits (before ++ front) m
+  list_fits before [] bits rest s [] back m e = absurd (let e' : [] ≡ m ∷ back = e in cc)
+  list_fits before [] bits rest s (x ∷ front) back m e = absurd (let e' : [] ≡ x ∷ (front ++ m ∷ back) = e in cc)
+  list_fits before (v ∷ vs) bits rest (mid, s, t) [] back m e =
+      let same : v ≡ m = (let e' : v ∷ vs ≡ m ∷ back = e in cc) in
+      subst (λ (b : List Macroblock). Fits b m) (sym (append-nil before)) (subst (Fits before) same (fitting before v bits mid s))
+  list_fits before (v ∷ vs) bits rest (mid, s, t) (x ∷ front) back m e =
+      let same : v ≡ x = (let e' : v ∷ vs ≡ x ∷ (front ++ m ∷ back) = e in cc) in
+      let later : vs ≡ front ++ m ∷ back = (let e' : v ∷ vs ≡ x ∷ (front ++ m ∷ back) = e in cc) in
+      subst (λ (b : List Macroblock). Fits b m) (append_assoc before (v ∷ []) front ∙ ap (λ (y : Macroblock). before ++ y ∷ front) same)
+      (list_fits (before ++ v ∷ []) vs mid rest t front back m later)
+
+  list_written : (before values : List Macroblock) (following : List ℕ) → ((front back : List Macroblock) (m : Macroblock) → values ≡ front ++ m ∷ back → Fits (before ++ front) m)
+      → 0 < length (before ++ values) → ClosesSlice following → SpellsList (next_macroblock seq coding) before values tt (flat_map (written_macroblock coding) values ++ following) following
+  list_written [] [] following each some closes = absurd (omega arith)
+  list_written (b ∷ bs) [] following each some closes = inl (closes, (refl, refl))
+  list_written before (v ∷ vs) following each some closes =
+      let later = flat_map (written_macroblock coding) vs ++ following in
+      let same : before ++ v ∷ vs ≡ (before ++ v ∷ []) ++ vs = sym (append_assoc before (v ∷ []) vs) in
+      let split : flat_map (written_macroblock coding) (v ∷ vs) ++ following ≡ written_macroblock coding v ++ later = append_assoc (written_macroblock coding v) (flat_map (written_macroblock coding) vs) following in (
+        later,
+        subst (λ (b : List ℕ). (next_macroblock seq coding before).Spells (more v) b later) (sym split)
+            (one_written before v later (subst (λ (b : List Macroblock). Fits b v) (append-nil before) (each [] vs v refl))),
+        list_written (before ++ v ∷ []) vs following
+            (λ front back m e. subst (λ (b : List Macroblock). Fits b m) (sym (append_assoc before (v ∷ []) front)) (each (v ∷ front) back m (ap (λ (ms : List Macroblock). v ∷ ms) e)))
+            (subst (λ (b : List Macroblock). 0 < length b) same some) closes,
+      )
+
+  list_some : (values : List Macroblock) (bits rest : List ℕ) → SpellsList (next_macroblock seq coding) [] values tt bits rest → 0 < length values
+  list_some [] bits rest (m, mid, s, (e, f)) = absurd (let e' : last tt ≡ more m = e in cc)
+  list_some (v ∷ vs) bits rest s = omega arith
+
+  pub slice-written : (s : Slice) (following : List ℕ) → HasSpellableMacroblocks seq coding s → ClosesSlice following
+      → (slice seq coding s.row).Spells s (written_slice coding s ++ following) following
+  unfolding slice written_slice
+  slice-written s following has closes =
+      let list = list_written [] s.macroblocks following has.each has.some closes in
+      let later = flat_map (written_macroblock coding) s.macroblocks ++ following in
+      let info = (back-info.again s.info has.info).before later in
+      let code = ((back-uimsbf 5 _).again s.code has.code).before (written_slice_info s.info ++ later) in
+      let split : bits_of 5 s.code ++ written_slice_info s.info ++ flat_map (written_macroblock coding) s.macroblocks ++ following ≡ bits_of 5 s.code ++ (written_slice_info s.info ++ later) =
+      append_assoc (bits_of 5 s.code ++ written_slice_info s.info) (flat_map (written_macroblock coding) s.macroblocks) following ∙ append_assoc (bits_of 5 s.code) (written_slice_info s.info) later in (
+        s.code,
+        written_slice_info s.info ++ later,
+        subst (λ (b : List ℕ). quantiser_scale_code.Spells s.code b (written_slice_info s.info ++ later)) (sym split) code,
+        (s.info, later, info, ((s.macroblocks, tt), following, list, (refl, refl))),
+      )
+
+  pub macroblocks-of_slice : (row : ℕ) (s : Slice) (bits rest : List ℕ) → (slice seq coding row).Spells s bits rest → (s.row ≡ row) × HasSpellableMacroblocks seq coding s
+  unfolding slice
+  macroblocks-of_slice row s bits rest (code, m, s1, (info, m', s2, (found, m'', s3, (e, f)))) = (
+    ap (λ (x : Slice). x.row) e,
+    subst (HasSpellableMacroblocks seq coding) (sym e) (record {
+      code = spellable quantiser_scale_code code bits m s1;
+      info = spellable slice_info info m m' s2;
+      some = list_some found.0 m' m'' s3;
+      each = list_fits [] found.0 m' m'' s3;
+    }),
+  )

@@ -5,10 +5,13 @@ ghost use Rattle.syntax_types.specs.declared.block.BlockWay.{BlockWay};
 ghost use Rattle.syntax_types.specs.declared.macroblock.Kind.{Kind};
 ghost use Rattle.syntax_types.specs.declared.macroblock.Macroblock.{Macroblock};
 ghost use Rattle.syntax_types.specs.declared.picture.PicCoding.{PicCoding};
+ghost use Rattle.syntax_types.specs.declared.picture.SeqState.{SeqState};
+ghost use Rattle.syntax_types.specs.declared.slice.Slice.{Slice};
 ghost use Rattle.picture_grammar.specs.Block.{block};
 ghost use Rattle.picture_grammar.specs.Macroblock.{blocks, macroblock};
-ghost use Rattle.picture_grammar.specs.Written.{written_macroblock};
-ghost use Rattle.picture_laws.specs.Spellable.{IsSpellable, HasSpellableCoefficients, AreSpellableBlocks, HasSpellableParts};
+ghost use Rattle.picture_grammar.specs.Slice.{ClosesSlice, slice};
+ghost use Rattle.picture_grammar.specs.Written.{written_macroblock, written_slice};
+ghost use Rattle.picture_laws.specs.Spellable.{IsSpellable, HasSpellableCoefficients, AreSpellableBlocks, HasSpellableParts, HasSpellableMacroblocks};
 
 /// Each part of a macroblock that some bits spell is one that some bits spell in its place.
 pub fn spelled_macroblock_has_spellable_parts()
@@ -42,4 +45,30 @@ pub fn blocks_are_spellable_by_number()
         AreSpellableBlocks coding kind pattern bs → IsSpellable (blocks coding kind pattern) bs }
     ensures no_other { (coding : PicCoding) (kind : Kind) (pattern : ℕ) (bs : List Block) →
         IsSpellable (blocks coding kind pattern) bs → AreSpellableBlocks coding kind pattern bs }
+{}
+
+/// Header and macroblocks of a slice that some bits spell are of parts that some bits spell in their place.
+pub fn spelled_slice_has_spellable_macroblocks()
+    ensures { (seq : SeqState) (coding : PicCoding) (row : ℕ) (s : Slice) (bits rest : List ℕ) →
+        (slice seq coding row).Spells s bits rest → (s.row ≡ row) × HasSpellableMacroblocks seq coding s }
+{}
+
+/// What is written of a slice of such macroblocks is read as that slice, where what follows closes it.
+pub fn slice_of_spellable_macroblocks_is_read()
+    ensures { (seq : SeqState) (coding : PicCoding) (s : Slice) (following : List ℕ) →
+        HasSpellableMacroblocks seq coding s → ClosesSlice following →
+        (slice seq coding s.row).Spells s (written_slice coding s ++ following) following }
+{}
+
+/// What is written of a slice that some bits spell is read as that slice, where what follows closes it.
+pub fn written_slice_is_read()
+    ensures { (seq : SeqState) (coding : PicCoding) (row : ℕ) (s : Slice) (bits rest following : List ℕ) →
+        (slice seq coding row).Spells s bits rest → ClosesSlice following →
+        (slice seq coding row).Spells s (written_slice coding s ++ following) following }
+{}
+
+/// Bits that begin with a macroblock close no slice.
+pub fn macroblock_never_closes_its_slice()
+    ensures { (coding : PicCoding) (first : Bool) (columns_left : ℕ) (m : Macroblock) (bits rest : List ℕ) →
+        (macroblock coding first columns_left).Spells m bits rest → ClosesSlice bits → ⊥ }
 {}
