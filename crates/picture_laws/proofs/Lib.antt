@@ -14,6 +14,8 @@ pub mod ExampleUnits
 pub mod ExampleValues
 pub mod Numbers
 pub mod ReadBack
+pub mod StartCodes
+pub mod Tails
 pub mod Takes
 pub mod TakesHeads
 pub mod Tested

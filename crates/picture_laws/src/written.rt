@@ -1,16 +1,19 @@
 //! What is written of a part is read as that part.
-ghost use Rattle.std.specs.Prelude.{◌≡◌, ℕ, List, ◌++◌, Bool};
+ghost use Rattle.std.specs.Prelude.{◌≡◌, ℕ, List, ◌++◌, Bool, Option};
+ghost use Rattle.bit_lists.specs.Fields.{AreBytes};
 ghost use Rattle.syntax_types.specs.declared.block.Block.{Block};
 ghost use Rattle.syntax_types.specs.declared.block.BlockWay.{BlockWay};
 ghost use Rattle.syntax_types.specs.declared.macroblock.Kind.{Kind};
 ghost use Rattle.syntax_types.specs.declared.macroblock.Macroblock.{Macroblock};
 ghost use Rattle.syntax_types.specs.declared.picture.PicCoding.{PicCoding};
+ghost use Rattle.syntax_types.specs.declared.picture.Picture.{Picture};
 ghost use Rattle.syntax_types.specs.declared.picture.SeqState.{SeqState};
 ghost use Rattle.syntax_types.specs.declared.slice.Slice.{Slice};
 ghost use Rattle.picture_grammar.specs.Block.{block};
 ghost use Rattle.picture_grammar.specs.Macroblock.{blocks, macroblock};
+ghost use Rattle.picture_grammar.specs.Picture.{SpellsPicture};
 ghost use Rattle.picture_grammar.specs.Slice.{ClosesSlice, slice};
-ghost use Rattle.picture_grammar.specs.Written.{written_macroblock, written_slice};
+ghost use Rattle.picture_grammar.specs.Written.{written_macroblock, written_slice, IsWritten};
 ghost use Rattle.picture_laws.specs.Spellable.{IsSpellable, HasSpellableCoefficients, AreSpellableBlocks, HasSpellableParts, HasSpellableMacroblocks};
 
 /// Each part of a macroblock that some bits spell is one that some bits spell in its place.
@@ -71,4 +74,11 @@ pub fn written_slice_is_read()
 pub fn macroblock_never_closes_its_slice()
     ensures { (coding : PicCoding) (first : Bool) (columns_left : ℕ) (m : Macroblock) (bits rest : List ℕ) →
         (macroblock coding first columns_left).Spells m bits rest → ClosesSlice bits → ⊥ }
+{}
+
+/// What is written of a picture whose unit spells it spells it too, behind the same state.
+pub fn written_picture_is_read()
+    ensures { (before : Option SeqState) (picture : Picture) (bytes written : List ℕ) →
+        AreBytes bytes → SpellsPicture before picture bytes → IsWritten picture written →
+        SpellsPicture before picture written }
 {}
