@@ -15,6 +15,8 @@ pub mod ExampleValues
 pub mod Numbers
 pub mod ReadBack
 pub mod StartCodes
+pub mod Steady
+pub mod SteadyHead
 pub mod Tails
 pub mod Takes
 pub mod TakesHeads
@@ -25,4 +27,5 @@ pub mod WrittenBlocks
 pub mod WrittenCoefficients
 pub mod WrittenMacroblock
 pub mod WrittenParts
+pub mod WrittenPicture
 pub mod WrittenSlice

@@ -1,6 +1,7 @@
 -- Values that some bits spell, and macroblocks and slices by their parts.
-use Rattle.std.specs.Prelude.{◌≡◌, ◌⊎◌, ◌<◌, ◌≤◌, ◌+◌, ◌-◌, ◌^◌, ◌==◌, ℕ, unsigned_abs, List, [], ◌∷◌, ◌++◌, length, Bool, true, false, slice_index_or}
+use Rattle.std.specs.Prelude.{◌≡◌, ◌⊎◌, ◌<◌, ◌≤◌, ◌+◌, ◌-◌, ◌%◌, ◌^◌, ◌==◌, ℕ, unsigned_abs, Option, List, [], ◌∷◌, ◌++◌, length, Bool, true, false, slice_index_or}
 use Rattle.std.specs.List.{AllByRecursion}
+use Rattle.bit_lists.specs.Fields.{bit_list}
 use Rattle.syntax_types.specs.declared.block.TheConstants.{BLOCK_PLACES}
 use Rattle.syntax_types.specs.declared.block.Block.{Block}
 use Rattle.syntax_types.specs.declared.block.BlockWay.{BlockWay}
@@ -8,17 +9,21 @@ use Rattle.syntax_types.specs.declared.macroblock.TheConstants.{BLOCKS}
 use Rattle.syntax_types.specs.declared.macroblock.Kind.{Kind}
 use Rattle.syntax_types.specs.declared.macroblock.Macroblock.{Macroblock}
 use Rattle.syntax_types.specs.declared.picture.PicCoding.{PicCoding}
+use Rattle.syntax_types.specs.declared.picture.Picture.{Picture}
 use Rattle.syntax_types.specs.declared.picture.SeqState.{SeqState}
 use Rattle.syntax_types.specs.declared.slice.Slice.{Slice}
 use Rattle.prefix_codes.specs.declared.table_name.TableName.TheVariants.{Pattern}
 use Rattle.picture_grammar.specs.Refusal.Refusal.{BadPattern}
-use Rattle.picture_grammar.specs.Grammar.{Grammar, optional, when}
+use Rattle.picture_grammar.specs.Grammar.{Grammar, optional, when, with_bytes}
 use Rattle.picture_grammar.specs.Element.{vlclbf}
+use Rattle.picture_grammar.specs.declared.start_codes.TheConstants.{FIRST_SLICE}
 use Rattle.picture_grammar.specs.declared.escape.TheConstants.{LEVEL_BITS}
 use Rattle.picture_grammar.specs.Block.{dc_coefficient, next_place}
 use Rattle.picture_grammar.specs.Motion.{motion_vectors}
 use Rattle.picture_grammar.specs.Macroblock.{address_increment, most_increment, macroblock_type, motion_type, dct_type, quantiser_scale_code, has_forward, f_codes, motion_format, block_way, is_coded, no_block, blocks}
 use Rattle.picture_grammar.specs.Slice.{slice_info, columns_left}
+use Rattle.picture_grammar.specs.StartCode.{is_slice}
+use Rattle.picture_grammar.specs.Head.{head}
 
 -- some bits spell the value
 pub record IsSpellable {A : Type 0} (grammar : Grammar A) (value : A) : Type 0 where
@@ -63,3 +68,12 @@ pub record HasSpellableMacroblocks (seq : SeqState) (coding : PicCoding) (s : Sl
   pub some : 0 < length s.macroblocks
   pub each : (front back : List Macroblock) (m : Macroblock) → s.macroblocks ≡ front ++ m ∷ back
       → HasSpellableParts coding (length front == 0) (columns_left seq front) m
+
+-- A unit may begin with the picture's head, behind this state, and each of its slices, at least one, has a start code and
+-- such macroblocks (6.2.2, 6.2.3.6).
+pub record HasSpellableSlices (before : Option SeqState) (picture : Picture) : Type 0 where
+  pub rest : List ℕ
+  pub whole : length rest % 8 ≡ 0
+  pub head : (with_bytes (head before)).Spells ((picture.seq, picture.coding), picture.head) (bit_list picture.head ++ rest) rest
+  pub some : 0 < length picture.slices
+  pub each : AllByRecursion (λ s. HasSpellableMacroblocks picture.seq picture.coding s × (is_slice (s.row + FIRST_SLICE) ≡ true)) picture.slices
