@@ -23,6 +23,7 @@ pub mod TakesHeads
 pub mod Tested
 pub mod Totality
 pub mod WholeBytes
+pub mod WrittenBits
 pub mod WrittenBlocks
 pub mod WrittenCoefficients
 pub mod WrittenMacroblock

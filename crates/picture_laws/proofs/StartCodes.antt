@@ -88,7 +88,7 @@ zeros-made refusal before (suc n) rest =
     ap (λ (b : List ℕ). b ++ (start_code_prefix ++ rest)) (more_zeros n) ∙ append_assoc (replicate 8 0) (replicate (8 * n) 0) (start_code_prefix ++ rest) in (
       later,
       subst (λ (b : List ℕ). (zero_item refusal before).Spells (more 0) b later) (sym split)
-      (inr (no-prefix (8 * n) rest, (0, later, (replicate 8 0, (omega arith, sym (bits_of-zero 8)), refl, refl), (refl, refl)))),
+          (inr (no-prefix (8 * n) rest, (0, later, (replicate 8 0, (omega arith, sym (bits_of-zero 8)), refl, refl), (refl, refl)))),
       zeros-made refusal (before ++ 0 ∷ []) n rest,
     )
 

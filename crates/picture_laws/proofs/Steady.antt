@@ -100,7 +100,7 @@ local-start_code refusal may_come = record {
         replicate (8 * n) 0 ++ start_code_bits byte,
         split ∙ sym (append_assoc (replicate (8 * n) 0) (start_code_bits byte) rest),
         λ following. subst (λ b. (start_code refusal may_come).Spells byte b following) (sym (append_assoc (replicate (8 * n) 0) (start_code_bits byte) following))
-        (code-made refusal may_come byte n following fits comes),
+            (code-made refusal may_come byte n following fits comes),
       );
 }
 
@@ -116,8 +116,15 @@ steady-comes {A} refusal codes next absent none each = record { moved = moved } 
   moved v bits rest (inl (c, s)) =
       let (f, p, q) = (steady-bind (start_code refusal codes) next (steady-start_code refusal codes) each).moved v bits rest s in
       (f, p, λ other alike. let t = q other alike in inl (comes-spelled refusal codes t.0 (f ++ other) t.1 t.2, t))
-  moved v bits rest (inr (n, (e, f))) = ([], f, λ other alike. inr (λ c.
-      n (subst (StartCodeComes codes) (sym (f ∙ alike.first)) (comes-moved alike.old alike.new alike.old_tail alike.new_tail codes none alike.front (subst (StartCodeComes codes) alike.second c))), (e, refl)))
+  moved v bits rest (inr (n, (e, f))) = (
+    [],
+    f,
+    λ other alike. inr (
+      λ c.
+          n (subst (StartCodeComes codes) (sym (f ∙ alike.first)) (comes-moved alike.old alike.new alike.old_tail alike.new_tail codes none alike.front (subst (StartCodeComes codes) alike.second c))),
+      (e, refl),
+    ),
+  )
 
 -- ---- bits that nobody reads
 
@@ -126,9 +133,12 @@ unread_item before = if_next (IsPrefix start_code_prefix) (done (last tt)) (one_
 
 unread_steady : (before values bits rest : List ℕ) → SpellsList unread_item before values tt bits rest
     → (front : List ℕ) × (bits ≡ front ++ rest) × ((other : List ℕ) → AreAlike rest other → SpellsList unread_item before values tt (front ++ other) other)
-
-unread_steady before [] bits rest (inl (p, (e, f))) = ([], f, λ other alike.
-    inl (subst (IsPrefix start_code_prefix) (sym alike.second) (prefix-end alike.old alike.new alike.old_tail alike.new_tail alike.front (subst (IsPrefix start_code_prefix) (f ∙ alike.first) p)), (refl, refl)))
+unread_steady before [] bits rest (inl (p, (e, f))) = (
+  [],
+  f,
+  λ other alike.
+      inl (subst (IsPrefix start_code_prefix) (sym alike.second) (prefix-end alike.old alike.new alike.old_tail alike.new_tail alike.front (subst (IsPrefix start_code_prefix) (f ∙ alike.first) p)), (refl, refl)),
+)
 unread_steady before [] bits rest (inr (n, (v, m, s, (e, f)))) = absurd (let e' : last tt ≡ more v = e in cc)
 unread_steady before (v ∷ vs) bits rest (middle, inl (p, (e, f)), t) = absurd (let e' : more v ≡ last tt = e in cc)
 unread_steady before (v ∷ vs) bits rest (middle, inr (n, (v', m, (code, (fits, is), passing, split), (e, f))), t) =
@@ -147,5 +157,4 @@ unread_steady before (v ∷ vs) bits rest (middle, inr (n, (v', m, (code, (fits,
     )
 
 pub steady-unread : IsSteady unread
-
 steady-unread = steady-then _ _ (steady-past_bytes []) (record { moved = λ found bits rest s. unread_steady [] found.0 bits rest s })

@@ -20,8 +20,8 @@ use Rattle.picture_grammar.specs.Grammar.Next.{more, last}
 use Rattle.picture_grammar.specs.StartCode.{start_code_prefix, start_code_bits, start_code, zero_bits, only_zero_bytes, is_slice}
 use Rattle.picture_grammar.specs.Slice.{ClosesSlice, slice}
 use Rattle.picture_grammar.specs.Head.{head}
-use Rattle.picture_grammar.specs.Picture.{whole_slice, slice_or_end, later_slice, next_slice, picture_unit}
-use Rattle.picture_grammar.specs.Written.{written_slice, to_whole_bytes, written_picture}
+use Rattle.picture_grammar.specs.Picture.{whole_slice, slice_or_end, later_slice, next_slice, picture_unit, SpellsPicture}
+use Rattle.picture_grammar.specs.Written.{written_slice, to_whole_bytes, written_picture, IsWritten}
 use Rattle.picture_laws.specs.Spellable.{HasSpellableMacroblocks, HasSpellableSlices}
 use Rattle.picture_laws.proofs.Tested.{zeros-begin}
 use Rattle.picture_laws.proofs.StartCodes.{zeros_before, opened, opened-zeros, code-taken, code-made}
@@ -113,7 +113,7 @@ module _ (seq : SeqState) (coding : PicCoding) where
         s,
         replicate (fill s) 0 ++ rest,
         subst (λ (r : ℕ). (slice seq coding r).Spells s (written_slice coding s ++ (replicate (fill s) 0 ++ rest)) (replicate (fill s) 0 ++ rest)) row
-        (slice-written seq coding s (replicate (fill s) 0 ++ rest) has (closes (fill s) rest follows)),
+            (slice-written seq coding s (replicate (fill s) 0 ++ rest) has (closes (fill s) rest follows)),
         (0, rest, bits_to_byte (fill s) rest (omega arith) follows, (refl, refl)),
       )
 
@@ -219,3 +219,6 @@ slices-of_picture before picture bits rest whole (headers, m, (s, are, split), (
       some = list_some headers.0.0 headers.0.1 slices.0 slices.1 m m' t;
       each = list_taken headers.0.0 headers.0.1 [] slices.0 slices.1 m m' t;
     })
+
+pub picture-read : (before : Option SeqState) (picture : Picture) (written : List ℕ) → HasSpellableSlices before picture → IsWritten picture written → SpellsPicture before picture written
+picture-read before picture written has is = subst (λ (b : List ℕ). (picture_unit before).Spells picture b []) (sym is.1) (picture-written before picture has)

@@ -1,6 +1,5 @@
 //! What is written of a part is read as that part.
 ghost use Rattle.std.specs.Prelude.{◌≡◌, ℕ, List, ◌++◌, Bool, Option};
-ghost use Rattle.bit_lists.specs.Fields.{AreBytes};
 ghost use Rattle.syntax_types.specs.declared.block.Block.{Block};
 ghost use Rattle.syntax_types.specs.declared.block.BlockWay.{BlockWay};
 ghost use Rattle.syntax_types.specs.declared.macroblock.Kind.{Kind};
@@ -11,10 +10,10 @@ ghost use Rattle.syntax_types.specs.declared.picture.SeqState.{SeqState};
 ghost use Rattle.syntax_types.specs.declared.slice.Slice.{Slice};
 ghost use Rattle.picture_grammar.specs.Block.{block};
 ghost use Rattle.picture_grammar.specs.Macroblock.{blocks, macroblock};
-ghost use Rattle.picture_grammar.specs.Picture.{SpellsPicture};
+ghost use Rattle.picture_grammar.specs.Picture.{MayPrecede, IsCovered, SpellsPicture, IsLawful};
 ghost use Rattle.picture_grammar.specs.Slice.{ClosesSlice, slice};
 ghost use Rattle.picture_grammar.specs.Written.{written_macroblock, written_slice, IsWritten};
-ghost use Rattle.picture_laws.specs.Spellable.{IsSpellable, HasSpellableCoefficients, AreSpellableBlocks, HasSpellableParts, HasSpellableMacroblocks};
+ghost use Rattle.picture_laws.specs.Spellable.{IsSpellable, HasSpellableCoefficients, AreSpellableBlocks, HasSpellableParts, HasSpellableMacroblocks, HasSpellableSlices};
 
 /// Each part of a macroblock that some bits spell is one that some bits spell in its place.
 pub fn spelled_macroblock_has_spellable_parts()
@@ -76,9 +75,31 @@ pub fn macroblock_never_closes_its_slice()
         (macroblock coding first columns_left).Spells m bits rest → ClosesSlice bits → ⊥ }
 {}
 
-/// What is written of a picture whose unit spells it spells it too, behind the same state.
+/// The head and the slices of a picture that a unit spells are such that some bits spell them in their place.
+pub fn spelled_picture_has_spellable_slices()
+    ensures { (before : Option SeqState) (picture : Picture) (bytes : List ℕ) →
+        SpellsPicture before picture bytes → HasSpellableSlices before picture }
+{}
+
+/// What is written of a picture of such a head and such slices is read as that picture.
+pub fn picture_of_spellable_slices_is_read()
+    ensures { (before : Option SeqState) (picture : Picture) (written : List ℕ) →
+        HasSpellableSlices before picture → IsWritten picture written → SpellsPicture before picture written }
+{}
+
+/// What is written of a picture that a unit spells is read as that picture, behind the same state.
 pub fn written_picture_is_read()
     ensures { (before : Option SeqState) (picture : Picture) (bytes written : List ℕ) →
-        AreBytes bytes → SpellsPicture before picture bytes → IsWritten picture written →
-        SpellsPicture before picture written }
+        SpellsPicture before picture bytes → IsWritten picture written → SpellsPicture before picture written }
+{}
+
+/// Every picture is written in whole bytes.
+pub fn picture_has_written_bytes()
+    ensures { (picture : Picture) → (written : List ℕ) × IsWritten picture written }
+{}
+
+/// A picture of such a head and such slices, which hold all its macroblocks, is lawful.
+pub fn picture_of_spellable_slices_is_lawful()
+    ensures { (before : Option SeqState) (picture : Picture) →
+        MayPrecede before → HasSpellableSlices before picture → IsCovered picture → IsLawful picture }
 {}
