@@ -1,5 +1,6 @@
 pub mod Answers
 pub mod Candidates
+pub mod Codings
 pub mod Computing
 pub mod Decided
 pub mod DecidedCoefficients

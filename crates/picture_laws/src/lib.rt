@@ -5,5 +5,6 @@
 //! `picture_grammar`.
 #![tactic(auto)]
 
+pub mod pictures;
 pub mod units;
 pub mod written;
