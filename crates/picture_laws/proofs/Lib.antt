@@ -13,8 +13,11 @@ pub mod ExampleMacroblocks
 pub mod ExampleSlices
 pub mod ExampleUnits
 pub mod ExampleValues
+pub mod MacroblockKinds
 pub mod Numbers
 pub mod ReadBack
+pub mod ShortBlocks
+pub mod ShortMacroblocks
 pub mod StartCodes
 pub mod Steady
 pub mod SteadyHead
@@ -31,3 +34,4 @@ pub mod WrittenMacroblock
 pub mod WrittenParts
 pub mod WrittenPicture
 pub mod WrittenSlice
+pub mod ZeroRuns

@@ -8,3 +8,4 @@
 pub mod pictures;
 pub mod units;
 pub mod written;
+pub mod zero_bits;
