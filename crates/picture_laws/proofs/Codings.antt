@@ -34,10 +34,67 @@ is_p_or_b kind least most other = elim (cases_Bool (nat_eq kind 2)) [
 
 coding-of_extension : (progressive : Bool) (kind vbv_delay : ℕ) (coding : PicCoding) (bits rest : List ℕ) → 1 ≤ kind → kind ≤ 3 → vbv_delay < 2 ^ 16
     → (picture_coding_extension progressive kind vbv_delay).Spells coding bits rest → IsCoding coding
-coding-of_extension progressive kind vbv_delay coding bits rest least most fits
-    (fh, m1, (c1, (fit1, i1), p1, e1), (fv, m2, (c2, (fit2, i2), p2, e2), (bh, m3, (c3, (fit3, i3), p3, e3), (bv, m4, (c4, (fit4, i4), p4, e4), (dc, m5, (c5, (fit5, i5), p5, e5),
-    (structure, m6, (c6, (fit6, i6), p6, e6), (top, m7, s7, (frame, m8, (c8, i8, p8, e8), (concealment, m9, (c9, i9, p9, e9), (q, m10, s10, (vlc, m11, s11, (scan, m12, s12,
-    (repeat, m13, s13, (chroma, m14, s14, (progressive_frame, m15, s15, (composite, m16, s16, (extra, m17, s17, (e, f)))))))))))))))))) =
+coding-of_extension progressive kind vbv_delay coding bits rest least most fits (
+  fh,
+  m1,
+  (c1, (fit1, i1), p1, e1),
+  (
+    fv,
+    m2,
+    (c2, (fit2, i2), p2, e2),
+    (
+      bh,
+      m3,
+      (c3, (fit3, i3), p3, e3),
+      (
+        bv,
+        m4,
+        (c4, (fit4, i4), p4, e4),
+        (
+          dc,
+          m5,
+          (c5, (fit5, i5), p5, e5),
+          (
+            structure,
+            m6,
+            (c6, (fit6, i6), p6, e6),
+            (
+              top,
+              m7,
+              s7,
+              (
+                frame,
+                m8,
+                (c8, i8, p8, e8),
+                (
+                  concealment,
+                  m9,
+                  (c9, i9, p9, e9),
+                  (
+                    q,
+                    m10,
+                    s10,
+                    (
+                      vlc,
+                      m11,
+                      s11,
+                      (
+                        scan,
+                        m12,
+                        s12,
+                        (repeat, m13, s13, (chroma, m14, s14, (progressive_frame, m15, s15, (composite, m16, s16, (extra, m17, s17, (e, f)))))),
+                      ),
+                    ),
+                  ),
+                ),
+              ),
+            ),
+          ),
+        ),
+      ),
+    ),
+  ),
+) =
     let p_or_b = kind == P_PICTURE || kind == B_PICTURE in
     let some = (and_parts (not (nat_eq structure 0)) ((not progressive || nat_eq structure 3) && true) p6).0 in
     let structure_some : (structure ≡ 0) → ⊥ = λ z. both_ways (not (nat_eq structure 0)) (ap not (eq-eqb structure 0 z)) some in
@@ -64,8 +121,17 @@ coding-of_extension progressive kind vbv_delay coding bits rest least most fits
     })
 
 coding-of_part : (seq : SeqState) (found : SeqState × PicCoding) (bits rest : List ℕ) → (picture_part seq).Spells found bits rest → IsCoding found.1
-coding-of_part seq found bits rest (byte, m1, s1, (header, m2, (reference, m3, s3, (kind, m4, (c4, (fit4, i4), p4, e4), (delay, m5, (c5, (fit5, i5), p5, e5), (old, m6, s6, (older, m7, s7, (extra, m8, s8, (h, h'))))))),
-    (closing, m9, s9, (byte', m10, s10, (identifier, m11, s11, (coding, m12, s12, (filling, m13, s13, (loaded, m14, s14, (e, f)))))))) ) =
+coding-of_part seq found bits rest (
+  byte,
+  m1,
+  s1,
+  (
+    header,
+    m2,
+    (reference, m3, s3, (kind, m4, (c4, (fit4, i4), p4, e4), (delay, m5, (c5, (fit5, i5), p5, e5), (old, m6, s6, (older, m7, s7, (extra, m8, s8, (h, h'))))))),
+    (closing, m9, s9, (byte', m10, s10, (identifier, m11, s11, (coding, m12, s12, (filling, m13, s13, (loaded, m14, s14, (e, f))))))),
+  ),
+) =
     let range = and_parts (nat_le 1 kind) (nat_le kind 3) (and_parts (nat_le 1 kind && nat_le kind 3) true p4).0 in
     let s : (picture_coding_extension seq.progressive kind delay).Spells coding m11 m12 = subst (λ (x : ℕ × ℕ). (picture_coding_extension seq.progressive x.0 x.1).Spells coding m11 m12) h s12 in
     let is = coding-of_extension seq.progressive kind delay coding m11 m12 (leb-true 1 kind range.0) (leb-true kind 3 range.1) fit5 s in

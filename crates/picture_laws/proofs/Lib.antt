@@ -18,6 +18,8 @@ pub mod Numbers
 pub mod ReadBack
 pub mod ShortBlocks
 pub mod ShortMacroblocks
+pub mod ShortSlices
+pub mod StandingSlices
 pub mod StartCodes
 pub mod Steady
 pub mod SteadyHead

@@ -48,11 +48,11 @@ short-dc way =
     short-bind 8 (λ size. 11 - size) (λ _. 11) (vlclbf (dc_table way.luma) NoCode []) (λ size. uimsbf size [] >>= λ bits. done (record { size = size; bits = bits }))
     (short-vlclbf 8 (λ size. 11 - size) (dc_table way.luma) NoCode [] (dc_entries way.luma).0)
     (λ size s.
-        let (code, listed, passing, split) = s.spelled in
-        let few : size ≤ 11 = leb-true size 11 (code_in-passes (λ e. nat_le e.0 11) (dc_table way.luma) size code (dc_entries way.luma).1 listed) in
-        short-bind (11 - size) (λ _. 11) (λ _. 11) (uimsbf size []) (λ bits. done (record { size = size; bits = bits }))
-        (short-weak (11 - size) (11 - size) (λ _. 11 - size + size) (λ _. 11) (uimsbf size []) (omega arith) (λ v. omega arith) (short-uimsbf (11 - size) size [] (omega arith)))
-        (λ bits t. short-done 11 (λ _. 11) (record { size = size; bits = bits }) (omega arith)))
+    let (code, listed, passing, split) = s.spelled in
+    let few : size ≤ 11 = leb-true size 11 (code_in-passes (λ e. nat_le e.0 11) (dc_table way.luma) size code (dc_entries way.luma).1 listed) in
+    short-bind (11 - size) (λ _. 11) (λ _. 11) (uimsbf size []) (λ bits. done (record { size = size; bits = bits }))
+    (short-weak (11 - size) (11 - size) (λ _. 11 - size + size) (λ _. 11) (uimsbf size []) (omega arith) (λ v. omega arith) (short-uimsbf (11 - size) size [] (omega arith)))
+    (λ bits t. short-done 11 (λ _. 11) (record { size = size; bits = bits }) (omega arith)))
 
 -- ---- coefficients
 

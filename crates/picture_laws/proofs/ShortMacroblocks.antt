@@ -196,20 +196,20 @@ short-macroblock coding first columns_left is =
     short-bind 14 (λ _. 5) (λ _. 14) _ _ (short-weak 15 14 (λ _. 5) (λ _. 5) _ (omega arith) (λ v. omega arith) (short-address (most_increment coding first columns_left)))
     (λ increment s1. short-bind 5 (λ _. 1) (λ _. 14) _ _ (short-type coding)
     (λ kind s2.
-        let has = kind-of kind coding s2.spelled.0 s2.spelled.1 in
-        let forward_most = cond-most (has_forward coding kind) 14 4 14 (omega arith) (omega arith) in
-        let backward_most = cond-most kind.backward 14 (behind_forward coding kind) 14 (omega arith) forward_most in
-        let marker_most = cond-most (has_concealment coding kind) 0 (behind_backward coding kind) 14 (omega arith) backward_most in
-        let pattern_most = cond-most kind.pattern 4 (behind_marker coding kind) 14 (omega arith) marker_most in
-        short-bind 1 (λ _. 1) (λ _. 14) _ _ (short-when 1 (λ _. 1) (has_motion_type coding kind) (uimsbf 2 (rule BadType (λ number. not (number == 0)) ∷ [])) (usual_motion_type coding) (λ _. short-number 1 2 (omega arith)) (λ _. omega arith))
-        (λ motion s3. short-bind 1 (λ _. 2) (λ _. 14) _ _ (short-when 1 (λ _. 2) (has_dct_type coding kind) one_flag false (λ _. short-one_flag 1 2 (omega arith) (omega arith)) (λ _. omega arith))
-        (λ field_dct s4. short-bind 2 (λ _. 4) (λ _. 14) _ _ (short-optional 2 (λ _. 4) kind.quant quantiser_scale_code (λ _. short-number 2 5 (omega arith)) (λ _. omega arith))
-        (λ code s5. short-bind 4 (λ _. behind_forward coding kind) (λ _. 14) _ _ (short-stands 4 14 (has_forward coding kind) (motion_vectors (f_codes coding 0) (motion_format coding motion)) []
-        (λ stands. short-weak 14 4 (λ _. 14) (λ _. 14) _ (omega arith) (λ v. omega arith) (short-vectors (f_codes coding 0) (motion_format coding motion) (forward_codes coding kind is has stands))))
-        (λ forward s6. short-bind (behind_forward coding kind) (λ _. behind_backward coding kind) (λ _. 14) _ _ (short-stands (behind_forward coding kind) 14 kind.backward (motion_vectors (f_codes coding 1) (motion_format coding motion)) []
-        (λ stands. short-weak 14 (behind_forward coding kind) (λ _. 14) (λ _. 14) _ forward_most (λ v. omega arith) (short-vectors (f_codes coding 1) (motion_format coding motion) (backward_codes coding kind is has stands))))
-        (λ backward s7. short-bind (behind_backward coding kind) (λ _. behind_marker coding kind) (λ _. 14) _ _ (short-may_stand (behind_backward coding kind) 0 (has_concealment coding kind) (marker_bit BadType) (short-marker (behind_backward coding kind) (omega (arith, backward_most))))
-        (λ marker s8. short-bind (behind_marker coding kind) (λ _. behind_pattern coding kind) (λ _. 14) _ _ (short-stands (behind_marker coding kind) 4 kind.pattern (vlclbf Pattern BadPattern []) 0
-        (λ stands. short-weak 14 (behind_marker coding kind) (λ _. 4) (λ _. 4) _ marker_most (λ v. omega arith) (short-vlclbf 14 (λ _. 4) Pattern BadPattern [] patterns_short)))
-        (λ pattern s9. short-bind (behind_pattern coding kind) (λ _. 14) (λ _. 14) _ _ (short-blocks coding kind pattern (behind_pattern coding kind) pattern_most (few-before_blocks coding kind has) (none-absent kind.pattern pattern s9))
-        (λ blocks s10. short-done 14 (λ _. 14) _ (omega arith))))))))))) 
+    let has = kind-of kind coding s2.spelled.0 s2.spelled.1 in
+    let forward_most = cond-most (has_forward coding kind) 14 4 14 (omega arith) (omega arith) in
+    let backward_most = cond-most kind.backward 14 (behind_forward coding kind) 14 (omega arith) forward_most in
+    let marker_most = cond-most (has_concealment coding kind) 0 (behind_backward coding kind) 14 (omega arith) backward_most in
+    let pattern_most = cond-most kind.pattern 4 (behind_marker coding kind) 14 (omega arith) marker_most in
+    short-bind 1 (λ _. 1) (λ _. 14) _ _ (short-when 1 (λ _. 1) (has_motion_type coding kind) (uimsbf 2 (rule BadType (λ number. not (number == 0)) ∷ [])) (usual_motion_type coding) (λ _. short-number 1 2 (omega arith)) (λ _. omega arith))
+    (λ motion s3. short-bind 1 (λ _. 2) (λ _. 14) _ _ (short-when 1 (λ _. 2) (has_dct_type coding kind) one_flag false (λ _. short-one_flag 1 2 (omega arith) (omega arith)) (λ _. omega arith))
+    (λ field_dct s4. short-bind 2 (λ _. 4) (λ _. 14) _ _ (short-optional 2 (λ _. 4) kind.quant quantiser_scale_code (λ _. short-number 2 5 (omega arith)) (λ _. omega arith))
+    (λ code s5. short-bind 4 (λ _. behind_forward coding kind) (λ _. 14) _ _ (short-stands 4 14 (has_forward coding kind) (motion_vectors (f_codes coding 0) (motion_format coding motion)) []
+    (λ stands. short-weak 14 4 (λ _. 14) (λ _. 14) _ (omega arith) (λ v. omega arith) (short-vectors (f_codes coding 0) (motion_format coding motion) (forward_codes coding kind is has stands))))
+    (λ forward s6. short-bind (behind_forward coding kind) (λ _. behind_backward coding kind) (λ _. 14) _ _ (short-stands (behind_forward coding kind) 14 kind.backward (motion_vectors (f_codes coding 1) (motion_format coding motion)) []
+    (λ stands. short-weak 14 (behind_forward coding kind) (λ _. 14) (λ _. 14) _ forward_most (λ v. omega arith) (short-vectors (f_codes coding 1) (motion_format coding motion) (backward_codes coding kind is has stands))))
+    (λ backward s7. short-bind (behind_backward coding kind) (λ _. behind_marker coding kind) (λ _. 14) _ _ (short-may_stand (behind_backward coding kind) 0 (has_concealment coding kind) (marker_bit BadType) (short-marker (behind_backward coding kind) (omega (arith, backward_most))))
+    (λ marker s8. short-bind (behind_marker coding kind) (λ _. behind_pattern coding kind) (λ _. 14) _ _ (short-stands (behind_marker coding kind) 4 kind.pattern (vlclbf Pattern BadPattern []) 0
+    (λ stands. short-weak 14 (behind_marker coding kind) (λ _. 4) (λ _. 4) _ marker_most (λ v. omega arith) (short-vlclbf 14 (λ _. 4) Pattern BadPattern [] patterns_short)))
+    (λ pattern s9. short-bind (behind_pattern coding kind) (λ _. 14) (λ _. 14) _ _ (short-blocks coding kind pattern (behind_pattern coding kind) pattern_most (few-before_blocks coding kind has) (none-absent kind.pattern pattern s9))
+    (λ blocks s10. short-done 14 (λ _. 14) _ (omega arith)))))))))))

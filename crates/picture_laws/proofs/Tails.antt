@@ -81,15 +81,15 @@ one_byte b c x y lt lt' e =
     let fields = append_cancel_left start_code_prefix (bits_of 8 b ++ x) (bits_of 8 c ++ y) (sym (append_assoc start_code_prefix (bits_of 8 b) x) ∙ e ∙ append_assoc start_code_prefix (bits_of 8 c) y) in
     bits_of-one 8 b c lt lt' (first_fields (bits_of 8 b) (bits_of 8 c) x y (length-bits_of 8 b ∙ sym (length-bits_of 8 c)) fields)
 
-suffix-one : (front end : List ℕ) → start_code_prefix ≡ front ++ end → (end ≡ []) ⊎ ((k : ℕ) × (end ≡ replicate k 0 ++ 1 ∷ []) × (k + length front ≡ 23))
+pub suffix-one : (front end : List ℕ) → start_code_prefix ≡ front ++ end → (end ≡ []) ⊎ ((k : ℕ) × (end ≡ replicate k 0 ++ 1 ∷ []) × (k + length front ≡ 23))
 suffix-one front end e = end-one 23 front end (sym e ∙ prefix-zeros)
 
-none_before : (front : List ℕ) → length front ≡ 0 → front ≡ []
+pub none_before : (front : List ℕ) → length front ≡ 0 → front ≡ []
 none_before [] e = refl
 none_before (x ∷ xs) e = absurd (omega arith)
 
 -- bits that begin with zeros and a one
-led : (k : ℕ) (end rest bits : List ℕ) → end ≡ replicate k 0 ++ 1 ∷ [] → bits ≡ end ++ rest → zeros_before bits ≡ k
+pub led : (k : ℕ) (end rest bits : List ℕ) → end ≡ replicate k 0 ++ 1 ∷ [] → bits ≡ end ++ rest → zeros_before bits ≡ k
 led k end rest bits is split = ap zeros_before (split ∙ ap (λ (x : List ℕ). x ++ rest) is ∙ append_assoc (replicate k 0) (1 ∷ []) rest) ∙ zeros_before-one k rest
 
 -- ---- a prefix

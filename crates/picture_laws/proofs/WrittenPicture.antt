@@ -63,12 +63,12 @@ no_zeros : (byte : ℕ) (rest : List ℕ) → start_code_bits byte ++ rest ≡ r
 no_zeros byte rest e = omega (arith, opened-zeros 0 byte rest, ap zeros_before e ∙ zeros_before-all (length (start_code_bits byte ++ rest)), length-append (start_code_bits byte) rest, length-start_code byte)
 
 -- the start code of a slice
-code_bounds : (byte : ℕ) → is_slice byte ≡ true → (1 ≤ byte) × (byte ≤ 175)
+pub code_bounds : (byte : ℕ) → is_slice byte ≡ true → (1 ≤ byte) × (byte ≤ 175)
 code_bounds byte is =
     let parts = and_parts (nat_le 1 byte) (nat_le byte 175) is in
     (leb-true 1 byte parts.0, leb-true byte 175 parts.1)
 
-code_other : (byte : ℕ) → is_slice byte ≡ true → (byte == SEQUENCE_END) ≡ false
+pub code_other : (byte : ℕ) → is_slice byte ≡ true → (byte == SEQUENCE_END) ≡ false
 code_other byte is = elim (cases_Bool (nat_eq byte SEQUENCE_END)) [
   | inl same ↦ absurd (let bounds = code_bounds byte is in let e = eqb-true byte SEQUENCE_END same in omega arith)
   | inr other ↦ other

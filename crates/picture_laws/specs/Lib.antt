@@ -1,1 +1,2 @@
+pub mod SliceStands
 pub mod Spellable
