@@ -27,6 +27,7 @@ pub mod RuleWork
 pub mod SendLaws
 pub mod SentLaws
 pub mod SlotLaws
+pub mod SlotPackets
 pub mod SlotListLaws
 pub mod SmallLaws
 pub mod StateLaws

@@ -8,7 +8,7 @@ use Rattle.version_table.specs.Table.{IsValidTable}
 use Rattle.version_table.specs.Choice.{Fits}
 use Rattle.slot_rule.specs.declared.after.After.{After}
 use Rattle.slot_rule.specs.declared.after.After.TheVariants.{Missed, Waiting}
-use Rattle.slot_rule.specs.declared.constants.TheConstants.{MARGIN_SUBTICKS}
+use Rattle.slot_rule.specs.Constants.{margin_subticks}
 use Rattle.stream_constants.specs.declared.clock.TheConstants.{SUBTICKS_PER_TICK}
 use Rattle.slot_rule.specs.declared.sent.Miss.{Miss}
 use Rattle.slot_rule.specs.declared.queue_state.QueueState.{QueueState}
@@ -150,14 +150,14 @@ pub Reached-first : (table : Table) (choice : List ℕ) (states : List QueueStat
 Reached-first table choice states queues first =
     record { rows = []; slots_are = refl; run = HasRun-first table choice states queues first; in_time = NoMiss-nil table.slot (queues_of table choice) }
 
-end_with_margin-is : (table : Table) (rows : List Row) (row : Row) (n : ℕ) → length rows ≡ n → end_with_margin table.slot (rows ++ row ∷ []) ≡ SUBTICKS_PER_TICK * ((n + 1) * table.slot) + MARGIN_SUBTICKS
-end_with_margin-is table rows row n slots_are = ap (λ (k : ℕ). SUBTICKS_PER_TICK * (k * table.slot) + MARGIN_SUBTICKS) (length_push rows row ∙ ap (λ k. k + 1) slots_are)
+end_with_margin-is : (table : Table) (rows : List Row) (row : Row) (n : ℕ) → length rows ≡ n → end_with_margin table.slot (rows ++ row ∷ []) ≡ SUBTICKS_PER_TICK * ((n + 1) * table.slot) + margin_subticks
+end_with_margin-is table rows row n slots_are = ap (λ (k : ℕ). SUBTICKS_PER_TICK * (k * table.slot) + margin_subticks) (length_push rows row ∙ ap (λ k. k + 1) slots_are)
 
 -- what is found after one more slot
 module _ (table : Table) (choice : List ℕ) (valid : IsValidTable table) (fits : Fits table choice) (n : ℕ) (olds news : List QueueState) (row : Row) (reached : Reached table choice n olds) (next : IsNext table choice reached.rows row) (run : HasRun table choice (reached.rows ++ row ∷ []) news) where
-  pub miss_found : (miss : Miss) → TellsAfter news (SUBTICKS_PER_TICK * ((n + 1) * table.slot) + MARGIN_SUBTICKS) row n (Missed miss) → IsFirstMiss table choice miss
+  pub miss_found : (miss : Miss) → TellsAfter news (SUBTICKS_PER_TICK * ((n + 1) * table.slot) + margin_subticks) row n (Missed miss) → IsFirstMiss table choice miss
   miss_found miss tells =
-      let time : ℕ = SUBTICKS_PER_TICK * ((n + 1) * table.slot) + MARGIN_SUBTICKS in
+      let time : ℕ = SUBTICKS_PER_TICK * ((n + 1) * table.slot) + margin_subticks in
       let at : time ≡ end_with_margin table.slot (reached.rows ++ row ∷ []) = sym (end_with_margin-is table reached.rows row n reached.slots_are) in
       let packet = tells.0 in
       record {
@@ -173,21 +173,21 @@ module _ (table : Table) (choice : List ℕ) (valid : IsValidTable table) (fits 
         due_is = ap (λ (m : Miss). m.due) tells.1;
       }
 
-  pub no_miss_found : NoneLate news (SUBTICKS_PER_TICK * ((n + 1) * table.slot) + MARGIN_SUBTICKS) row → NoneOverdue news (SUBTICKS_PER_TICK * ((n + 1) * table.slot) + MARGIN_SUBTICKS)
+  pub no_miss_found : NoneLate news (SUBTICKS_PER_TICK * ((n + 1) * table.slot) + margin_subticks) row → NoneOverdue news (SUBTICKS_PER_TICK * ((n + 1) * table.slot) + margin_subticks)
       → NoMiss table.slot (queues_of table choice) (reached.rows ++ row ∷ [])
   no_miss_found none_late none_overdue =
-      let at : SUBTICKS_PER_TICK * ((n + 1) * table.slot) + MARGIN_SUBTICKS ≡ end_with_margin table.slot (reached.rows ++ row ∷ []) = sym (end_with_margin-is table reached.rows row n reached.slots_are) in
+      let at : SUBTICKS_PER_TICK * ((n + 1) * table.slot) + margin_subticks ≡ end_with_margin table.slot (reached.rows ++ row ∷ []) = sym (end_with_margin-is table reached.rows row n reached.slots_are) in
       NoMiss-push table.slot (queues_of table choice) reached.rows row reached.in_time
       (NoneMisses-from_states table choice reached.rows row news run next (subst (λ (t : ℕ). NoneLate news t row) at none_late) (subst (λ (t : ℕ). NoneOverdue news t) at none_overdue))
 
-  pub schedule_found : TellsAfter news (SUBTICKS_PER_TICK * ((n + 1) * table.slot) + MARGIN_SUBTICKS) row n After.AllSent → IsSchedule table choice (reached.rows ++ row ∷ [])
+  pub schedule_found : TellsAfter news (SUBTICKS_PER_TICK * ((n + 1) * table.slot) + margin_subticks) row n After.AllSent → IsSchedule table choice (reached.rows ++ row ∷ [])
   schedule_found tells = record {
     follows = run.follows;
-    in_time = no_miss_found tells.0 (NoneOverdue-from_none news (SUBTICKS_PER_TICK * ((n + 1) * table.slot) + MARGIN_SUBTICKS) tells.1);
+    in_time = no_miss_found tells.0 (NoneOverdue-from_none news (SUBTICKS_PER_TICK * ((n + 1) * table.slot) + margin_subticks) tells.1);
     sent = AllSent-from_states table choice reached.rows row news run next tells.1;
   }
 
-  pub Reached-next : TellsAfter news (SUBTICKS_PER_TICK * ((n + 1) * table.slot) + MARGIN_SUBTICKS) row n Waiting → Reached table choice (n + 1) news
+  pub Reached-next : TellsAfter news (SUBTICKS_PER_TICK * ((n + 1) * table.slot) + margin_subticks) row n Waiting → Reached table choice (n + 1) news
   Reached-next tells =
       record { rows = reached.rows ++ row ∷ []; slots_are = length_push reached.rows row ∙ ap (λ k. k + 1) reached.slots_are; run = run; in_time = no_miss_found tells.0 tells.1 }
 

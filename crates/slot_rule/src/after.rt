@@ -1,6 +1,6 @@
 ghost use Rattle.std.specs.Prelude.{◌≡◌, ◌+◌, ◌*◌, ◌^◌, ◌<◌, ◌≤◌, All, length};
 ghost use Rattle.version_table.specs.declared.limits.TheConstants.{SLOT_MOST, TIME_SLOTS_MOST};
-ghost use Rattle.slot_rule.specs.declared.constants.TheConstants.{MARGIN_SUBTICKS};
+ghost use Rattle.slot_rule.specs.Constants.{margin_subticks};
 ghost use Rattle.stream_constants.specs.declared.clock.TheConstants.{SUBTICKS_PER_TICK};
 ghost use Rattle.slot_rule.specs.Private.Slots.{IsDueSoon, RowStands};
 
@@ -33,7 +33,7 @@ impl After {
         requires row { RowStands states.now row }
         requires n { n < TIME_SLOTS_MOST }
         requires slot { slot ≤ SLOT_MOST }
-        ensures { TellsAfter states.now (SUBTICKS_PER_TICK * ((n + 1) * slot) + MARGIN_SUBTICKS) row n result }
+        ensures { TellsAfter states.now (SUBTICKS_PER_TICK * ((n + 1) * slot) + margin_subticks) row n result }
     {
         let end_with_margin = SUBTICKS_PER_TICK * (u64::from(n + 1) * u64::from(slot))
             + MARGIN_SUBTICKS;

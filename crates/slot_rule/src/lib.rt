@@ -9,7 +9,7 @@
 mod after;
 pub mod constants;
 mod heads;
-mod laws;
+pub mod laws;
 mod misses;
 mod queue_items;
 mod queue_kind;
@@ -23,10 +23,7 @@ mod slot_list;
 mod states;
 mod timetable;
 
-pub use laws::{
-    first_miss_is_one, no_miss_where_scheduled, packets_keep_slots, schedules_agree,
-    slot_list_is_one, slots_name_the_table,
-};
+pub use laws::{first_miss_is_one, no_miss_where_scheduled};
 pub use misses::first_miss;
 pub use schedules::{ScheduleFault, schedule};
 pub use sent::{Miss, Sent};

@@ -1,6 +1,7 @@
 ghost use Rattle.std.specs.Prelude.{◌≡◌, ◌≤◌, length};
 ghost use Rattle.version_table.specs.declared.limits.TheConstants.{SLOT_LEAST, SLOT_MOST, PROGRAMS_MOST};
 ghost use Rattle.version_table.specs.Table.{IsValidTable};
+ghost use Rattle.slot_rule.specs.Constants.{period_ticks};
 ghost use Rattle.slot_rule.specs.Timetable.{period, reserved};
 
 use crate::constants::PERIOD_TICKS;
@@ -55,7 +56,7 @@ impl Timetable {
         requires most { self.now.slot ≤ SLOT_MOST }
         ensures value { result ≡ period self.now.slot }
         ensures some { 1 ≤ result }
-        ensures few { result ≤ PERIOD_TICKS }
+        ensures few { result ≤ period_ticks }
     {
         PERIOD_TICKS / self.slot
     }
