@@ -6,7 +6,6 @@ use Rattle.version_table.specs.declared.table.Table.{Table}
 use Rattle.version_table.specs.Table.{IsValidTable}
 use Rattle.version_table.specs.Choice.{Fits}
 use Rattle.slot_rule.specs.declared.after.After.TheVariants.{AllSent as AllAreSent, Waiting}
-use Rattle.slot_rule.specs.Constants.{margin_subticks}
 use Rattle.stream_constants.specs.declared.clock.TheConstants.{SUBTICKS_PER_TICK}
 use Rattle.slot_rule.specs.declared.schedules.ScheduleFault.{ScheduleFault}
 use Rattle.slot_rule.specs.declared.schedules.ScheduleFault.TheVariants.{Missed, OutOfMemory}
@@ -50,7 +49,7 @@ module _ (table : Table) (choice : List ℕ) (valid : IsValidTable table) (fits 
       ap₂ (λ (front : List Sent) (x : Sent). front ++ x ∷ []) listed.sent_is (sent_of-shown table choice listed.reached.rows row news last run next shows)
       ∙ sym (map-append (sent_of (queues_of table choice)) listed.reached.rows (row ∷ []))
 
-  pub Listed-next : TellsAfter news (SUBTICKS_PER_TICK * ((n + 1) * table.slot) + margin_subticks) row n Waiting → Listed table choice (n + 1) news (sent ++ last ∷ [])
+  pub Listed-next : TellsAfter news (SUBTICKS_PER_TICK * ((n + 1) * table.slot)) row n Waiting → Listed table choice (n + 1) news (sent ++ last ∷ [])
   Listed-next tells =
       let head = tells.2 in
       let first = head.2 in
@@ -70,7 +69,7 @@ module _ (table : Table) (choice : List ℕ) (valid : IsValidTable table) (fits 
   carries_or_none all_sent (inr left) = inr (carries_last (queues_of table choice) listed.reached.rows row left all_sent)
 
   -- the list of a schedule, once its last period is filled
-  pub IsSlotList-found : TellsAfter news (SUBTICKS_PER_TICK * ((n + 1) * table.slot) + margin_subticks) row n AllAreSent → (list : SlotList) → 1 ≤ period table.slot
+  pub IsSlotList-found : TellsAfter news (SUBTICKS_PER_TICK * ((n + 1) * table.slot)) row n AllAreSent → (list : SlotList) → 1 ≤ period table.slot
       → FillsPeriod table.slot (length table.programs) n (sent ++ last ∷ []) list → IsSlotList table choice list
   IsSlotList-found tells list some fills =
       let schedule = schedule_found table choice valid fits n olds news row listed.reached next run tells in

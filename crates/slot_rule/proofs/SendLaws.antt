@@ -24,8 +24,8 @@ released_placed table choice start old new released placed =
 pub released_ready : (table : Table) (choice : List ℕ) (start : ℕ) (old new : QueueState) → ReleasesAll table choice start old new → IsReady old → IsReady new
 released_ready table choice start old new released ready =
     let changed = released.releases.changed in
-    let tb : new.tb ≡ old.tb = ap (λ (s : QueueState). s.tb) changed in
-    let mb : new.mb ≡ old.mb = ap (λ (s : QueueState). s.mb) changed in
+    let tb : new.tb_empty ≡ old.tb_empty = ap (λ (s : QueueState). s.tb_empty) changed in
+    let mb : new.mb_empty ≡ old.mb_empty = ap (λ (s : QueueState). s.mb_empty) changed in
     let sent : new.sent ≡ old.sent = ap (λ (s : QueueState). s.sent) changed in
     let fewer : new.held ≤ old.held = released.releases.fewer in
     let kind : old.kind ≡ new.kind = sym (ap (λ (s : QueueState). s.kind) changed) in
@@ -44,14 +44,14 @@ All-over R P Q olds news changes over each k d within =
     let within' : k < length olds = omega (arith, changes.as_many) in
     over (get_or olds k d) (get_or news k d) (changes.each k (get_or olds k d) (get_or news k d) (slice_get-get_or olds k d within') (slice_get-get_or news k d within)) (each k d within')
 
-pub SendsOne-set : (table : Table) (choice : List ℕ) (stream : ℕ) (packet : QueuedPacket) (olds : List QueueState) (d new : QueueState) → stream < length olds
-    → Sends (queue_of table choice (get_or olds stream d)).packets packet (get_or olds stream d) new → SendsOne table choice stream packet olds (set olds stream new)
-SendsOne-set table choice stream packet olds d new within sends = record {
+pub SendsOne-set : (table : Table) (choice : List ℕ) (stream : ℕ) (packet : QueuedPacket) (now : ℕ) (olds : List QueueState) (d new : QueueState) → stream < length olds
+    → Sends (queue_of table choice (get_or olds stream d)).packets packet now (get_or olds stream d) new → SendsOne table choice stream packet now olds (set olds stream new)
+SendsOne-set table choice stream packet now olds d new within sends = record {
   as_many = length-set olds stream new;
   own = λ old new' there there'.
       let old_is : get_or olds stream d ≡ old = get_or_from_slice_get olds stream old d there in
       let new_is : new ≡ new' = same_Some new new' (sym (slice_get-set_same olds stream new within) ∙ there') in
-      subst (λ (n : QueueState). Sends (queue_of table choice old).packets packet old n) new_is (subst (λ (o : QueueState). Sends (queue_of table choice o).packets packet o new) old_is sends);
+      subst (λ (n : QueueState). Sends (queue_of table choice old).packets packet now old n) new_is (subst (λ (o : QueueState). Sends (queue_of table choice o).packets packet now o new) old_is sends);
   others = λ other apart. slice_get-set_other olds stream other new apart;
 }
 

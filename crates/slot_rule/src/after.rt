@@ -1,6 +1,5 @@
 ghost use Rattle.std.specs.Prelude.{◌≡◌, ◌+◌, ◌*◌, ◌^◌, ◌<◌, ◌≤◌, All, length};
 ghost use Rattle.version_table.specs.declared.limits.TheConstants.{SLOT_MOST, TIME_SLOTS_MOST};
-ghost use Rattle.slot_rule.specs.Constants.{margin_subticks};
 ghost use Rattle.stream_constants.specs.declared.clock.TheConstants.{SUBTICKS_PER_TICK};
 ghost use Rattle.slot_rule.specs.Private.Slots.{IsDueSoon, RowStands};
 
@@ -33,12 +32,12 @@ impl After {
         requires row { RowStands states.now row }
         requires n { n < TIME_SLOTS_MOST }
         requires slot { slot ≤ SLOT_MOST }
-        ensures { TellsAfter states.now (SUBTICKS_PER_TICK * ((n + 1) * slot) + margin_subticks) row n result }
+        ensures { TellsAfter states.now (SUBTICKS_PER_TICK * ((n + 1) * slot)) row n result }
     {
-        let end_with_margin = SUBTICKS_PER_TICK * (u64::from(n + 1) * u64::from(slot))
-            + MARGIN_SUBTICKS;
+        let end = SUBTICKS_PER_TICK * (u64::from(n + 1) * u64::from(slot));
+        let end_with_margin = end + MARGIN_SUBTICKS;
         if let Row::Carries { stream, packet } = row {
-            if SUBTICKS_PER_TICK * packet.due < end_with_margin + states[stream].mb_or_tb_work() {
+            if SUBTICKS_PER_TICK * packet.due < end_with_margin + states[stream].mb_or_tb_work(end) {
                 return After::Missed(miss_of(stream, packet, n));
             }
         }

@@ -18,7 +18,7 @@ pub struct Head {
 /// lowest stream; none where none may go.
 pub fn permitted_head(states: &[QueueState], start: u64) -> Option<Head>
     requires ready { All IsReady states.now }
-    requires start { start < 2 ^ 60 }
+    requires start { start < 2 ^ 50 }
     ensures { IsFirstHead (PassesAt start) states.now result }
 {
     let mut first = None;
@@ -42,7 +42,7 @@ pub fn due_head(states: &[QueueState]) -> Option<Head>
 /// The stream's head packet where it may go in a slot that begins at `start` ticks.
 fn permitted(stream: usize, state: &QueueState, start: u64) -> Option<Head>
     requires ready { IsReady state.now }
-    requires start { start < 2 ^ 60 }
+    requires start { start < 2 ^ 50 }
     ensures { IsOffer (PassesAt start) stream state.now result }
 {
     match state.head {

@@ -1,4 +1,4 @@
-ghost use Rattle.std.specs.Prelude.{◌≡◌, ◌^◌, ◌<◌, [], ◌∷◌, ◌++◌, All, List, length};
+ghost use Rattle.std.specs.Prelude.{◌≡◌, ◌*◌, ◌^◌, ◌<◌, [], ◌∷◌, ◌++◌, All, List, length};
 ghost use Rattle.version_table.specs.declared.limits.TheConstants.{TIME_SLOTS_MOST};
 ghost use Rattle.version_table.specs.Table.{IsValidTable};
 ghost use Rattle.version_table.specs.Choice.{Fits};
@@ -14,7 +14,7 @@ use crate::heads::permitted_head;
 use crate::queue_state::QueueState;
 use crate::row::Row;
 use crate::sent::Sent;
-use crate::states::{drain_all, release_all, take_pcr};
+use crate::states::{release_all, take_pcr};
 use crate::timetable::Timetable;
 use stream_constants::clock::SUBTICKS_PER_TICK;
 use version_table::{Choice, Table};
@@ -29,22 +29,22 @@ pub fn run_slot(table: &Table, choice: &Choice, states: &mut [QueueState], n: u3
         → IsRow table.now.slot (length table.now.programs) (queues_of table.now choice.now) rows result
         × HasRun table.now choice.now (rows ++ result ∷ []) states.new }
 {
-    let row = match Timetable::of(table).at(n) {
-        Some(reserved) => reserve(states, reserved),
-        None => send_first(table, choice, states, u64::from(n) * u64::from(table.slot)),
-    };
-    drain_all(states, SUBTICKS_PER_TICK * u64::from(table.slot));
-    row
+    let start = u64::from(n) * u64::from(table.slot);
+    match Timetable::of(table).at(n) {
+        Some(reserved) => reserve(states, reserved, start),
+        None => send_first(table, choice, states, start),
+    }
 }
 
-/// What the timetable has in the slot goes.
-fn reserve(states: &mut [QueueState], reserved: Sent) -> Row
-    requires { All IsSmall states.old }
+/// What the timetable has in the slot goes, in a slot that begins at `start` ticks.
+fn reserve(states: &mut [QueueState], reserved: Sent, start: u64) -> Row
+    requires small { All IsSmall states.old }
+    requires start { start < 2 ^ 50 }
     ensures row { result ≡ Reserved reserved }
-    ensures changes { Reserves reserved states.old states.new }
+    ensures changes { Reserves reserved (SUBTICKS_PER_TICK * start) states.old states.new }
 {
     if let Sent::Pcr(program) = reserved {
-        take_pcr(states, program);
+        take_pcr(states, program, SUBTICKS_PER_TICK * start);
     }
     Row::Reserved(reserved)
 }
@@ -54,14 +54,14 @@ fn send_first(table: &Table, choice: &Choice, states: &mut [QueueState], start: 
     requires few { length states.old < 2 ^ 32 }
     requires placed { All (IsPlaced table.now choice.now) states.old }
     requires ready { All IsReady states.old }
-    requires start { start < 2 ^ 60 }
+    requires start { start < 2 ^ 50 }
     ensures { (released : List QueueState) × ChangesEach (ReleasesAll table.now choice.now start) states.old released
         × FillsSlot table.now choice.now start result released states.new }
 {
     release_all(table, choice, states, start);
     match permitted_head(states, start) {
         Some(head) => {
-            states[head.stream].send(table, choice, head.packet);
+            states[head.stream].send(table, choice, head.packet, SUBTICKS_PER_TICK * start);
             Row::Carries {
                 stream: head.stream,
                 packet: head.packet,

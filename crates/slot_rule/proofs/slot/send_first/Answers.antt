@@ -1,4 +1,4 @@
-use Rattle.std.proofs.Common.{arith}
+use Rattle.std.proofs.Common.{◌*◌, arith}
 use Rattle.std.proofs.lemmas.Option.{slice_get_within}
 use Rattle.slot_rule.specs.Private.States.{ReleasesAll}
 use Rattle.slot_rule.specs.Private.QueueState.{IsReady}
@@ -43,7 +43,7 @@ returns-in-Some c = (
   c.release_all.ensures,
   (
     c.in-Some.ensures,
-    SendsOne-set c.args.table.now c.args.choice.now c.in-Some.head.stream c.in-Some.head.packet c.release_all.new.states _ c.send.new.self
+    SendsOne-set c.args.table.now c.args.choice.now c.in-Some.head.stream c.in-Some.head.packet (940 * c.args.start) c.release_all.new.states _ c.send.new.self
         (slice_get_within c.release_all.new.states c.in-Some.head.stream c.in-Some.ensures.state c.in-Some.ensures.there) (record { keeps = c.send.ensures.keeps; changed = c.send.ensures.changed }),
   ),
 )
