@@ -111,7 +111,7 @@ Brings-nothing table choice rows row stream state tracks other packets payload =
     }
 
 -- the PCR of a program is that of the stream's program, or is not
-pcr_cases : (kind : QueueKind) (program stream : ℕ)
+pub pcr_cases : (kind : QueueKind) (program stream : ℕ)
     → (HasPcr kind program × (packets_in stream kind (Reserved (Pcr program)) ≡ 1)) ⊎ ((HasPcr kind program → ⊥) × (packets_in stream kind (Reserved (Pcr program)) ≡ 0))
 pcr_cases Audio program stream = inr ((λ has. has), refl)
 pcr_cases (Video number vbv) program stream =

@@ -35,6 +35,7 @@ released_ready table choice start old new released ready =
       small = record { tb = omega (arith, small.tb); mb = omega (arith, small.mb); sent = omega (arith, small.sent); held = omega (arith, small.held) };
       kind = subst (λ (k : QueueKind). IsKind k) kind ready.kind;
       payload = λ packet is. ready.payload packet (head ∙ is);
+      gone = λ packet is. ready.gone packet (head ∙ is);
     }
 
 -- what holds of each state goes over a change of each

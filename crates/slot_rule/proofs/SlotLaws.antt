@@ -8,7 +8,7 @@ use Rattle.version_table.specs.Choice.{Fits}
 use Rattle.slot_rule.specs.declared.sent.Sent.{Sent}
 use Rattle.slot_rule.specs.declared.sent.Sent.TheVariants.{Null, Pat, Pmt, Pcr, Video as VideoPiece, Audio as AudioPiece}
 use Rattle.slot_rule.specs.declared.queue_state.QueueState.{QueueState}
-use Rattle.slot_rule.specs.Buffers.{Row, Reserved, Carries, Empty, slot_subticks}
+use Rattle.slot_rule.specs.Buffers.{Row, Reserved, Carries, Empty}
 use Rattle.slot_rule.specs.Private.Slots.{FillsSlot, HasRun, Reserves, SendsOne, subtick_after}
 use Rattle.slot_rule.specs.Private.States.{ChangesEach, ReleasesAll, TakesPcr, queue_of}
 use Rattle.slot_rule.specs.Queues.{QueuedPacket, queues_of}

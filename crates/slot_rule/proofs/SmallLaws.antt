@@ -58,6 +58,7 @@ module _ (table : Table) (choice : List ℕ) (valid : IsValidTable table) (fits 
     small = state_small stream state there;
     kind = (run.tracks stream state there).sized;
     payload = λ packet head. (head_limited stream state packet there head).payload;
+    gone = λ packet head. let limits = head_limited stream state packet there head in omega (arith, limits.gone, mul-le-mul_left TIME_SLOTS_MOST valid.slot_most);
   }
 
   state_placed : (stream : ℕ) (state : QueueState) → slice_get states stream ≡ Some state → IsPlaced table choice state

@@ -9,6 +9,7 @@
 mod after;
 pub mod constants;
 mod heads;
+mod idle;
 pub mod laws;
 mod misses;
 mod queue_items;
@@ -16,12 +17,15 @@ mod queue_kind;
 mod queue_state;
 mod queued_packet;
 mod row;
+mod run_state;
 mod schedules;
 mod sent;
 mod slot;
 mod slot_list;
+mod slots;
 mod states;
 mod timetable;
+mod turns;
 
 pub use laws::{first_miss_is_one, no_miss_where_scheduled};
 pub use misses::first_miss;

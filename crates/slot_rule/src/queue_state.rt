@@ -2,9 +2,10 @@ ghost use Rattle.std.specs.Prelude.{◌≡◌, ℕ, ◌+◌, ◌-◌, ◌*◌, �
 ghost use Rattle.stream_constants.specs.declared.packets.TheConstants.{PAYLOAD_BYTES};
 ghost use Rattle.slot_rule.specs.declared.queued_packet.QueuedPacket.{QueuedPacket};
 ghost use Rattle.slot_rule.specs.Buffers.{tb_subticks};
+ghost use Rattle.slot_rule.specs.Private.Heads.{IsOffer, PassesAt};
 ghost use Rattle.slot_rule.specs.Private.QueueItems.{IsPlace};
 ghost use Rattle.slot_rule.specs.Private.States.{TakesPcr};
-ghost use Rattle.slot_rule.specs.Private.QueueState.{HoldsNoneGone, IsKind, IsNumbered, IsSmall, KeepsPlace, Permits, Releases, first_state, packets_at, mb_or_tb_of_state};
+ghost use Rattle.slot_rule.specs.Private.QueueState.{HoldsNoneGone, HoldsUntil, IsKind, IsNumbered, IsReady, IsSmall, MayGoFrom, KeepsPlace, Permits, Releases, first_state, packets_at, mb_or_tb_of_state};
 
 use crate::queue_items::QueueItems;
 use crate::queue_kind::QueueKind;
@@ -70,8 +71,20 @@ impl QueueState {
         }
     }
 
+    /// The head packet, where it may go in a slot that begins at `start` ticks.
+    pub fn permitted(&self, start: u64) -> Option<QueuedPacket>
+        requires ready { IsReady self.now }
+        requires start { start < 2 ^ 50 }
+        ensures { IsOffer (PassesAt start) self.now result }
+    {
+        match self.head {
+            Some(packet) if self.permits(packet, start) => Some(packet),
+            _ => None,
+        }
+    }
+
     /// Whether a packet may go in a slot that begins at `start` ticks.
-    pub fn permits(&self, packet: QueuedPacket, start: u64) -> bool
+    fn permits(&self, packet: QueuedPacket, start: u64) -> bool
         requires small { IsSmall self.now }
         requires kind { IsKind self.now.kind }
         requires payload { packet.payload ≤ PAYLOAD_BYTES }
@@ -83,6 +96,23 @@ impl QueueState {
             && self.kind.permits_mb(self.mb_empty.saturating_sub(now))
             && self.held + packet.payload <= self.kind.eb_or_b_bytes()
             && packet.gone <= start + HOLD_TICKS
+    }
+
+    /// The subtick before which the head packet may not go, while no payload is released.
+    pub fn may_go_from(&self) -> u64
+        requires { IsReady self.now }
+        ensures { MayGoFrom result self.now }
+    {
+        let Some(packet) = self.head else {
+            return u64::MAX;
+        };
+        if self.held + packet.payload > self.kind.eb_or_b_bytes() {
+            return u64::MAX;
+        }
+        let tb = self.tb_empty.saturating_sub(self.kind.tb_gate());
+        let mb = self.kind.mb_gate_from(self.mb_empty);
+        let hold = SUBTICKS_PER_TICK * packet.gone.saturating_sub(HOLD_TICKS);
+        tb.max(mb).max(hold)
     }
 
     /// The head packet goes, in a slot that begins at `now` subticks.
@@ -140,6 +170,16 @@ impl QueueState {
             self.held -= packet.payload;
             self.gone += 1;
             self.oldest = self.items.packet_after(table, choice, packet);
+        }
+    }
+
+    /// The tick before which no payload that is held is gone.
+    pub fn first_gone(&self) -> u64
+        ensures { HoldsUntil result self.now }
+    {
+        match self.oldest {
+            Some(packet) if self.gone < self.sent => packet.gone,
+            _ => u64::MAX,
         }
     }
 

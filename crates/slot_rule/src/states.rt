@@ -4,6 +4,7 @@ ghost use Rattle.stream_constants.specs.declared.main_level.TheConstants.{VBV_MO
 ghost use Rattle.version_table.specs.Table.{IsValidTable};
 ghost use Rattle.version_table.specs.Choice.{Fits};
 ghost use Rattle.slot_rule.specs.declared.queue_items.QueueItems.TheVariants.{Units};
+ghost use Rattle.slot_rule.specs.Private.Heads.{NoneGoneBefore};
 ghost use Rattle.slot_rule.specs.Private.QueueItems.{IsPlace, program_at, queue_at};
 ghost use Rattle.slot_rule.specs.Private.States.{ChangesEach, IsFirstState, IsPlaced, ReleasesAll, TakesPcr, queue_of};
 ghost use Rattle.slot_rule.specs.Queues.{audio_of, queues_of, video_of};
@@ -101,6 +102,17 @@ pub fn release_all(table: &Table, choice: &Choice, states: &mut [QueueState], st
     for state in states.iter_mut() {
         state.release(table, choice, start);
     }
+}
+
+/// The tick before which no payload that is held is gone.
+pub fn first_gone(states: &[QueueState]) -> u64
+    ensures { NoneGoneBefore states.now result }
+{
+    let mut first = u64::MAX;
+    for state in states {
+        first = first.min(state.first_gone());
+    }
+    first
 }
 
 /// The PCR of a program goes, in a slot that begins at `now` subticks, on the PID of its video.

@@ -55,6 +55,7 @@ pub record IsReady (state : QueueState) : Type 0 where
   pub small : IsSmall state
   pub kind : IsKind state.kind
   pub payload : (packet : QueuedPacket) → state.head ≡ Some packet → packet.payload ≤ PAYLOAD_BYTES
+  pub gone : (packet : QueuedPacket) → state.head ≡ Some packet → packet.gone < 2 ^ 50
 
 -- packets that are gone at a time were left out of the bytes held, and nothing else changed
 pub record Releases (packets : List QueuedPacket) (start : ℕ) (old new : QueueState) : Type 0 where
@@ -68,12 +69,21 @@ abbrev pub HoldsNoneGone : (packets : List QueuedPacket) (start : ℕ) → Queue
 HoldsNoneGone packets start state =
     (packet : QueuedPacket) → state.gone < state.sent → slice_get packets state.gone ≡ Some packet → start < packet.gone
 
+-- no packet that is held is gone before a time
+abbrev pub HoldsUntil : (time : ℕ) → QueueState → Type 0
+HoldsUntil time state = (packet : QueuedPacket) → state.gone < state.sent → state.oldest ≡ Some packet → time ≤ packet.gone
+
 -- the packet may go in a slot that begins at a time, by the state's numbers
 pub record Permits (state : QueueState) (packet : QueuedPacket) (start : ℕ) : Type 0 where
   pub tb : state.tb_empty - SUBTICKS_PER_TICK * start ≤ tb_gate state.kind
   pub mb : MbPermits state.kind (state.mb_empty - SUBTICKS_PER_TICK * start)
   pub eb_or_b : state.held + packet.payload ≤ eb_or_b_bytes state.kind
   pub hold : packet.gone ≤ start + HOLD_TICKS
+
+-- the state's head packet may not go before a subtick
+abbrev pub MayGoFrom : (from : ℕ) → QueueState → Type 0
+MayGoFrom from state =
+    (start : ℕ) (packet : QueuedPacket) → SUBTICKS_PER_TICK * start < from → state.head ≡ Some packet → Permits state packet start → ⊥
 
 -- of the work in its two buffers, that which waits for a packet that has come
 abbrev pub mb_or_tb_of_kind : QueueKind → (tb mb : ℕ) → ℕ

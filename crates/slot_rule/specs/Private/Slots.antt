@@ -15,7 +15,7 @@ use Rattle.slot_rule.specs.Private.Heads.{IsFirst, IsFirstHead, Passes, PassesAt
 use Rattle.slot_rule.specs.Schedule.{FollowRule}
 use Rattle.slot_rule.specs.SlotList.{piece_sent}
 use Rattle.slot_rule.specs.Private.QueueItems.{IsPlace}
-use Rattle.slot_rule.specs.Private.States.{ChangesEach, TakesPcr, queue_of}
+use Rattle.slot_rule.specs.Private.States.{ChangesEach, IsPlaced, TakesPcr, queue_of}
 use Rattle.slot_rule.specs.Private.QueueState.{IsKind, IsSmall, KeepsPlace, mb_or_tb_of_state}
 use Rattle.slot_rule.specs.Queues.{QueuedPacket, queues_of}
 
@@ -41,10 +41,6 @@ pub record HasRun (table : Table) (choice : List ℕ) (rows : List Row) (states 
   pub queues : map (queue_of table choice) states ≡ queues_of table choice
   pub tracks : (stream : ℕ) (state : QueueState) → slice_get states stream ≡ Some state → Tracks table choice rows stream state
 
--- so many slots have been run
-abbrev pub IsAfterSlots : Table → List ℕ → (slots : ℕ) → List QueueState → Type 0
-IsAfterSlots table choice slots states = (rows : List Row) × (length rows ≡ slots) × HasRun table choice rows states
-
 -- what a reserved slot that begins at this subtick changes: the PCR of a program goes on the PID of its video
 abbrev pub Reserves : Sent → (now : ℕ) → List QueueState → List QueueState → Type 0
 Reserves (Pcr program) now olds news = ChangesEach (TakesPcr program now) olds news
@@ -64,6 +60,15 @@ pub record Sends (packets : List QueuedPacket) (packet : QueuedPacket) (now : �
     head = new.head;
     held = old.held + packet.payload;
   }
+
+-- the packet is the head of the queue of this number, whose state is far from the limits of its numbers
+pub record IsSender (table : Table) (choice : List ℕ) (states : List QueueState) (stream : ℕ) (packet : QueuedPacket) : Type 0 where
+  pub few : length states < 2 ^ 32
+  pub state : QueueState
+  pub there : slice_get states stream ≡ Some state
+  pub placed : IsPlaced table choice state
+  pub small : IsSmall state
+  pub head : state.head ≡ Some packet
 
 -- the head packet of one stream goes
 pub record SendsOne (table : Table) (choice : List ℕ) (stream : ℕ) (packet : QueuedPacket) (now : ℕ) (olds news : List QueueState) : Type 0 where

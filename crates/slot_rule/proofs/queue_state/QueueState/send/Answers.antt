@@ -1,4 +1,4 @@
-use Rattle.std.proofs.Common.{◌+◌, ◌*◌, sym, ◌∙◌}
+use Rattle.std.proofs.Common.{sym, ◌∙◌}
 use Rattle.slot_rule.specs.Private.QueueState.{packets_at}
 use Rattle.slot_rule.proofs.StateLaws.{KeepsPlace-send}
 use Rattle.slot_rule.proofs.queue_state.QueueState.send.Goals as goal
