@@ -28,7 +28,8 @@ pub NoneLate-other : (states : List QueueState) (end : ℕ) (row : Row) → ((st
 NoneLate-other states end row apart stream packet late = apart stream packet late.went
 
 -- where the first isn't overdue, none is
-pub NoneOverdue-from_first : (states : List QueueState) (end stream : ℕ) (packet : QueuedPacket) → IsFirst Passes states stream packet → end + margin_subticks ≤ SUBTICKS_PER_TICK * packet.due
+pub NoneOverdue-from_first : (states : List QueueState) (end stream : ℕ) (packet : QueuedPacket) → IsFirst Passes states stream packet
+    → end + margin_subticks ≤ SUBTICKS_PER_TICK * packet.due
     → NoneOverdue states end
 NoneOverdue-from_first states end stream packet is in_time other state' packet' there head =
     elim (is.first other state' packet' there head tt) as (λ _. end + margin_subticks ≤ SUBTICKS_PER_TICK * packet'.due) [

@@ -136,7 +136,8 @@ raised : (empty now work waits : ℕ) → empty - now ≡ waits → (max empty n
 raised empty now work waits e = omega arith
 
 -- a PCR on the stream's PID
-Brings-own_pcr : (table : Table) (choice : List ℕ) (rows : List Row) (program stream : ℕ) (old : QueueState) → packets_in stream old.kind (Reserved (Pcr program)) ≡ 1 → Tracks table choice rows stream old
+Brings-own_pcr : (table : Table) (choice : List ℕ) (rows : List Row) (program stream : ℕ) (old : QueueState)
+    → packets_in stream old.kind (Reserved (Pcr program)) ≡ 1 → Tracks table choice rows stream old
     → Brings table choice rows (Reserved (Pcr program)) stream (record old { tb_empty = max old.tb_empty (subtick_after table.slot rows) + PACKET_BYTES * tb_subticks old.kind })
 Brings-own_pcr table choice rows program stream old one tracks =
     let brought : PACKET_BYTES * tb_subticks old.kind ≡ PACKET_BYTES * tb_subticks old.kind * packets_in stream old.kind (Reserved (Pcr program)) = rw one (sym (mul-one _)) in
@@ -152,7 +153,8 @@ Brings-own_pcr table choice rows program stream old one tracks =
     }
 
 -- the PCR of a program
-pub Brings-pcr : (table : Table) (choice : List ℕ) (rows : List Row) (program stream : ℕ) (old new : QueueState) → TakesPcr program (subtick_after table.slot rows) old new → Tracks table choice rows stream old
+pub Brings-pcr : (table : Table) (choice : List ℕ) (rows : List Row) (program stream : ℕ) (old new : QueueState)
+    → TakesPcr program (subtick_after table.slot rows) old new → Tracks table choice rows stream old
     → Brings table choice rows (Reserved (Pcr program)) stream new
 Brings-pcr table choice rows program stream old new takes tracks =
     elim (pcr_cases old.kind program stream) as (λ _. Brings table choice rows (Reserved (Pcr program)) stream new) [
@@ -161,7 +163,8 @@ Brings-pcr table choice rows program stream old new takes tracks =
     ]
 
 -- a packet of the stream
-pub Brings-packet : (table : Table) (choice : List ℕ) (rows : List Row) (stream : ℕ) (packet : QueuedPacket) (old new : QueueState) → Sends (queue_of table choice old).packets packet (subtick_after table.slot rows) old new
+pub Brings-packet : (table : Table) (choice : List ℕ) (rows : List Row) (stream : ℕ) (packet : QueuedPacket) (old new : QueueState)
+    → Sends (queue_of table choice old).packets packet (subtick_after table.slot rows) old new
     → Tracks table choice rows stream old → Brings table choice rows (Carries stream packet) stream new
 Brings-packet table choice rows stream packet old new sends tracks =
     let row : Row = Carries stream packet in

@@ -28,7 +28,8 @@ IsFirstHead-none_more P states n d within none fails stream state packet there h
       | inr here ↦ fails packet (ap (λ (s : QueueState). s.head) (sym here.1) ∙ head) (subst (λ (s : QueueState). P s packet) here.1 passes)
     ]
 
-pub IsFirstHead-none_all : (P : QueueState → QueuedPacket → Type 0) (states : List QueueState) (n : ℕ) → length states ≤ n → IsFirstHead P (take n states) None → IsFirstHead P states None
+pub IsFirstHead-none_all : (P : QueueState → QueuedPacket → Type 0) (states : List QueueState) (n : ℕ) → length states ≤ n
+    → IsFirstHead P (take n states) None → IsFirstHead P states None
 IsFirstHead-none_all P states n all none = subst (λ (list : List QueueState). IsFirstHead P list None) (take_all n states all) none
 
 -- ---- what is held

@@ -27,7 +27,8 @@ below_div m a b below =
     omega arith
 
 -- a slot that ends before anything can happen
-pub IsIdle-from : (run : RunState) (slot m overdue going stream : ℕ) (packet : QueuedPacket) → 1 ≤ slot → IsFirst Passes run.states.items stream packet → overdue ≡ SUBTICKS_PER_TICK * packet.due - margin_subticks
+pub IsIdle-from : (run : RunState) (slot m overdue going stream : ℕ) (packet : QueuedPacket) → 1 ≤ slot
+    → IsFirst Passes run.states.items stream packet → overdue ≡ SUBTICKS_PER_TICK * packet.due - margin_subticks
     → ((start : ℕ) → SUBTICKS_PER_TICK * start < going → IsFirstHead (PassesAt start) run.states.items None)
     → m < overdue / (SUBTICKS_PER_TICK * slot) → m < going / (SUBTICKS_PER_TICK * slot) → m < run.first_gone / slot → IsIdle slot run m
 IsIdle-from run slot m overdue going stream packet some first overdue_is none before_overdue before_going before_gone =
@@ -42,7 +43,8 @@ IsIdle-from run slot m overdue going stream packet some first overdue_is none be
 
 module _ (table : Table) (choice : List ℕ) (valid : IsValidTable table) (fits : Fits table choice) (run : RunState) where
   -- one slot passes in which nothing happens
-  idle_one : (n : ℕ) → n < TIME_SLOTS_MOST → Reached table choice n run → IsIdle table.slot run n → reserved table.slot (length table.programs) n ≡ None → Reached table choice (n + 1) run
+  idle_one : (n : ℕ) → n < TIME_SLOTS_MOST → Reached table choice n run → IsIdle table.slot run n
+      → reserved table.slot (length table.programs) n ≡ None → Reached table choice (n + 1) run
   idle_one n within reached idle free =
       let rows = reached.rows in
       let states = run.states.items in

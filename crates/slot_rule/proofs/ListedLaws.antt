@@ -68,7 +68,8 @@ module _ (table : Table) (choice : List ℕ) (valid : IsValidTable table) (fits 
         left = inr (λ all_sent. all_sent head.0 first.state.kind head.1 (head_from_state table choice (listed.reached.rows ++ row ∷ []) news.states.items run.states head.0 first.state head.1 first.there first.head));
       }
 
-  carries_or_none : AllSent (queues_of table choice) (listed.reached.rows ++ row ∷ []) → (n ≡ 0) ⊎ (AllSent (queues_of table choice) listed.reached.rows → ⊥) → (n ≡ 0) ⊎ CarriesPacket row
+  carries_or_none : AllSent (queues_of table choice) (listed.reached.rows ++ row ∷ [])
+      → (n ≡ 0) ⊎ (AllSent (queues_of table choice) listed.reached.rows → ⊥) → (n ≡ 0) ⊎ CarriesPacket row
   carries_or_none all_sent (inl none) = inl none
   carries_or_none all_sent (inr left) = inr (carries_last (queues_of table choice) listed.reached.rows row left all_sent)
 

@@ -46,7 +46,8 @@ Tracks-first table choice stream state first =
       mb = ap (λ (s : QueueState). s.mb_empty - subtick_after table.slot none) is ∙ zero-sub _;
     }
 
-pub HasRun-first : (table : Table) (choice : List ℕ) (states : List QueueState) → map (queue_of table choice) states ≡ queues_of table choice → All (IsFirstState table choice) states
+pub HasRun-first : (table : Table) (choice : List ℕ) (states : List QueueState) → map (queue_of table choice) states ≡ queues_of table choice
+    → All (IsFirstState table choice) states
     → HasRun table choice [] states
 HasRun-first table choice states queues first = record {
   follows = FollowRule-nil table choice;
@@ -150,7 +151,8 @@ Reached-first table choice run first = record {
   in_time = NoMiss-nil table.slot (queues_of table choice);
 }
 
-subtick_after-push : (table : Table) (rows : List Row) (row : Row) (n : ℕ) → length rows ≡ n → subtick_after table.slot (rows ++ row ∷ []) ≡ SUBTICKS_PER_TICK * ((n + 1) * table.slot)
+subtick_after-push : (table : Table) (rows : List Row) (row : Row) (n : ℕ) → length rows ≡ n
+    → subtick_after table.slot (rows ++ row ∷ []) ≡ SUBTICKS_PER_TICK * ((n + 1) * table.slot)
 subtick_after-push table rows row n slots_are = ap (λ (k : ℕ). SUBTICKS_PER_TICK * (k * table.slot)) (length_push rows row ∙ ap (λ k. k + 1) slots_are)
 
 -- what is found after one more slot

@@ -22,7 +22,8 @@ use Rattle.slot_rule.proofs.TurnLaws.{AreTurns-kept, AreTurns-passed, NoneGoneBe
 
 -- ---- what is gone is left out
 -- nothing is left out of a state that holds nothing that is gone
-pub releases_none : (table : Table) (choice : List ℕ) (start first : ℕ) (states : List QueueState) → All (IsPlaced table choice) states → NoneGoneBefore states first → start < first
+pub releases_none : (table : Table) (choice : List ℕ) (start first : ℕ) (states : List QueueState) → All (IsPlaced table choice) states
+    → NoneGoneBefore states first → start < first
     → ChangesEach (ReleasesAll table choice start) states states
 releases_none table choice start first states placed none before = record {
   as_many = refl;
@@ -37,7 +38,8 @@ releases_none table choice start first states placed none before = record {
       });
 }
 
-pub released_turns : (table : Table) (choice : List ℕ) (start : ℕ) (olds news : List QueueState) (turns : List Turn) → ChangesEach (ReleasesAll table choice start) olds news → AreTurns olds turns
+pub released_turns : (table : Table) (choice : List ℕ) (start : ℕ) (olds news : List QueueState) (turns : List Turn)
+    → ChangesEach (ReleasesAll table choice start) olds news → AreTurns olds turns
     → AreTurns news turns
 released_turns table choice start olds news turns changes are =
     AreTurns-kept (ReleasesAll table choice start) olds news turns changes (λ old new released. ap (λ (s : QueueState). s.head) released.releases.changed) are
@@ -81,7 +83,8 @@ sent_turns table choice stream place now packet next olds news turns turns' send
     (subst (λ (n : Option QueuedPacket). PassesTurn place n turns turns') (next_is new there) passes)
 
 -- a queue whose packet goes holds none that is gone before it held, nor before the packet is
-own_gone : (packets : List QueuedPacket) (old new : QueueState) (packet : QueuedPacket) (time both : ℕ) → KeepsPlace packets old → old.head ≡ Some packet → new.gone ≡ old.gone → new.sent ≡ old.sent + 1
+own_gone : (packets : List QueuedPacket) (old new : QueueState) (packet : QueuedPacket) (time both : ℕ) → KeepsPlace packets old
+    → old.head ≡ Some packet → new.gone ≡ old.gone → new.sent ≡ old.sent + 1
     → new.oldest ≡ old.oldest → both ≤ time → both ≤ packet.gone → HoldsUntil time old → HoldsUntil both new
 own_gone packets old new packet time both keeps head gone sent oldest low low' holds packet' some is =
     let order = keeps.order in
@@ -112,7 +115,8 @@ pub written : (olds read : List QueueState) (stream : ℕ) (new : QueueState) �
 written olds read stream new same =
     refill_all (length olds) olds (set read stream new) (length-set read stream new ∙ ap (λ (list : List QueueState). length list) same) ∙ ap (λ (list : List QueueState). set list stream new) same
 
-pub sends_written : (table : Table) (choice : List ℕ) (stream : ℕ) (packet : QueuedPacket) (now : ℕ) (olds read : List QueueState) (d new : QueueState) → read ≡ olds → stream < length olds
+pub sends_written : (table : Table) (choice : List ℕ) (stream : ℕ) (packet : QueuedPacket) (now : ℕ) (olds read : List QueueState) (d new : QueueState)
+    → read ≡ olds → stream < length olds
     → Sends (queue_of table choice (get_or read stream d)).packets packet now (get_or read stream d) new
     → SendsOne table choice stream packet now olds (refill (length olds) olds (set read stream new))
 sends_written table choice stream packet now olds read d new same within sends =
@@ -120,7 +124,8 @@ sends_written table choice stream packet now olds read d new same within sends =
     (SendsOne-set table choice stream packet now olds d new within
     (subst (λ (list : List QueueState). Sends (queue_of table choice (get_or list stream d)).packets packet now (get_or list stream d) new) same sends))
 
-pub written_there : (olds read : List QueueState) (stream : ℕ) (new new' : QueueState) → read ≡ olds → stream < length olds → slice_get (refill (length olds) olds (set read stream new)) stream ≡ Some new'
+pub written_there : (olds read : List QueueState) (stream : ℕ) (new new' : QueueState) → read ≡ olds → stream < length olds
+    → slice_get (refill (length olds) olds (set read stream new)) stream ≡ Some new'
     → new ≡ new'
 written_there olds read stream new new' same within there =
     same_Some new new' (sym (slice_get-set_same olds stream new within) ∙ ap (λ (list : List QueueState). slice_get list stream) (sym (written olds read stream new same)) ∙ there)

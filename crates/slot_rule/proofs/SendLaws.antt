@@ -12,7 +12,8 @@ use Rattle.slot_rule.specs.Private.QueueState.{IsKind, IsNumbered, IsReady, Keep
 use Rattle.slot_rule.specs.Queues.{QueueKind, QueuedPacket}
 use Rattle.slot_rule.proofs.ListSteps.{slice_get-set_same, slice_get-set_other}
 
-pub released_placed : (table : Table) (choice : List ℕ) (start : ℕ) (old new : QueueState) → ReleasesAll table choice start old new → IsPlaced table choice old → IsPlaced table choice new
+pub released_placed : (table : Table) (choice : List ℕ) (start : ℕ) (old new : QueueState) → ReleasesAll table choice start old new
+    → IsPlaced table choice old → IsPlaced table choice new
 released_placed table choice start old new released placed =
     let same : old.items ≡ new.items = sym (ap (λ (s : QueueState). s.items) released.releases.changed) in
     record {
@@ -39,7 +40,8 @@ released_ready table choice start old new released ready =
     }
 
 -- what holds of each state goes over a change of each
-pub All-over : (R : QueueState → QueueState → Type 0) (P Q : QueueState → Type 0) (olds news : List QueueState) → ChangesEach R olds news → ((old new : QueueState) → R old new → P old → Q new)
+pub All-over : (R : QueueState → QueueState → Type 0) (P Q : QueueState → Type 0) (olds news : List QueueState) → ChangesEach R olds news
+    → ((old new : QueueState) → R old new → P old → Q new)
     → All P olds → All Q news
 All-over R P Q olds news changes over each k d within =
     let within' : k < length olds = omega (arith, changes.as_many) in
@@ -55,23 +57,3 @@ SendsOne-set table choice stream packet now olds d new within sends = record {
       subst (λ (n : QueueState). Sends (queue_of table choice old).packets packet now old n) new_is (subst (λ (o : QueueState). Sends (queue_of table choice o).packets packet now o new) old_is sends);
   others = λ other apart. slice_get-set_other olds stream other new apart;
 }
-
--- the state of the packet that goes first, once packets that are gone are left out
-pub record IsSender (table : Table) (choice : List ℕ) (states : List QueueState) (stream : ℕ) (packet : QueuedPacket) (state : QueueState) : Type 0 where
-  pub within : stream < length states
-  pub placed : IsPlaced table choice state
-  pub ready : IsReady state
-  pub head : state.head ≡ Some packet
-
-pub IsSender-first : (table : Table) (choice : List ℕ) (start : ℕ) (olds news : List QueueState) (stream : ℕ) (packet : QueuedPacket) (d : QueueState)
-    → ChangesEach (ReleasesAll table choice start) olds news → All (IsPlaced table choice) olds → All IsReady olds → IsFirst (PassesAt start) news stream packet
-    → IsSender table choice news stream packet (get_or news stream d)
-IsSender-first table choice start olds news stream packet d changes placed ready is =
-    let R : QueueState → QueueState → Type 0 = ReleasesAll table choice start in
-    let within : stream < length news = slice_get_within news stream is.state is.there in
-    record {
-      within = within;
-      placed = All-over R (IsPlaced table choice) (IsPlaced table choice) olds news changes (released_placed table choice start) placed stream d within;
-      ready = All-over R IsReady IsReady olds news changes (released_ready table choice start) ready stream d within;
-      head = ap (λ (s : QueueState). s.head) (get_or_from_slice_get news stream is.state d is.there) ∙ is.head;
-    }

@@ -31,13 +31,15 @@ HasBrought-nothing table choice rows sent states run apart = record {
   brings = λ stream state there. Brings-nothing table choice rows (Reserved sent) stream state (run.tracks stream state there) refl (packets_in-no_pcr stream state.kind sent apart) refl;
 }
 
-HasBrought-same : (table : Table) (choice : List ℕ) (rows : List Row) (sent : Sent) (olds news : List QueueState) → HasRun table choice rows olds → ((p : ℕ) → sent ≡ Pcr p → ⊥) → news ≡ olds
+HasBrought-same : (table : Table) (choice : List ℕ) (rows : List Row) (sent : Sent) (olds news : List QueueState) → HasRun table choice rows olds
+    → ((p : ℕ) → sent ≡ Pcr p → ⊥) → news ≡ olds
     → HasBrought table choice rows (Reserved sent) news
 HasBrought-same table choice rows sent olds news run apart same =
     subst (λ (states : List QueueState). HasBrought table choice rows (Reserved sent) states) (sym same) (HasBrought-nothing table choice rows sent olds run apart)
 
 -- a reserved slot
-HasBrought-reserved : (table : Table) (choice : List ℕ) (rows : List Row) (sent : Sent) (olds news : List QueueState) → HasRun table choice rows olds → Reserves sent (subtick_after table.slot rows) olds news
+HasBrought-reserved : (table : Table) (choice : List ℕ) (rows : List Row) (sent : Sent) (olds news : List QueueState) → HasRun table choice rows olds
+    → Reserves sent (subtick_after table.slot rows) olds news
     → HasBrought table choice rows (Reserved sent) news
 HasBrought-reserved table choice rows (Pcr program) olds news run reserves = record {
   queues = same_queues table choice olds news reserves.as_many (λ stream old new there there'. TakesPcr-items program (subtick_after table.slot rows) stream old new (reserves.each stream old new there there')) ∙ run.queues;
@@ -110,7 +112,8 @@ reserved_slot-run table choice rows sent row olds news run is row_is reserves =
 
 -- a slot that is free
 pub free_slot-run : (table : Table) (choice : List ℕ) → IsValidTable table → Fits table choice → (rows : List Row) (row : Row) (olds released news : List QueueState)
-    → HasRun table choice rows olds → reserved table.slot (length table.programs) (length rows) ≡ None → ChangesEach (ReleasesAll table choice (length rows * table.slot)) olds released
+    → HasRun table choice rows olds → reserved table.slot (length table.programs) (length rows) ≡ None
+    → ChangesEach (ReleasesAll table choice (length rows * table.slot)) olds released
     → FillsSlot table choice (length rows * table.slot) row released news
     → IsNext table choice rows row × HasRun table choice (rows ++ row ∷ []) news
 free_slot-run table choice valid fits rows row olds released news run free releases fills =

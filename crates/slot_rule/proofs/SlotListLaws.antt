@@ -25,7 +25,8 @@ use Rattle.slot_rule.proofs.RuleUnique.{FollowRule-longer, FollowRule-unique}
 use Rattle.slot_rule.proofs.TrackLaws.{state_there}
 
 -- ---- what a row shows
-pub kind_at-head : (queues : List Queue) (rows : List Row) (stream : ℕ) (kind : QueueKind) (packet : QueuedPacket) → IsHead queues rows stream kind packet → kind_at queues stream ≡ kind
+pub kind_at-head : (queues : List Queue) (rows : List Row) (stream : ℕ) (kind : QueueKind) (packet : QueuedPacket)
+    → IsHead queues rows stream kind packet → kind_at queues stream ≡ kind
 kind_at-head queues rows stream kind packet head =
     let none : Queue = record { kind = Audio; packets = [] } in
     let within : stream < length queues = slice_get_within queues stream _ head.1 in
@@ -86,7 +87,8 @@ IsSlotCount-at period slots before row more some whole ends last = record {
     sent_before other passes (inr carries) = passes.greater (length before) row there carries
 
 -- the list that the code fills to the end of the period
-pub IsSlotList-filled : (table : Table) (choice : List ℕ) (before : List Row) (row : Row) (last : ℕ) (rows : List Sent) (list : SlotList) → 1 ≤ period table.slot → length before ≡ last
+pub IsSlotList-filled : (table : Table) (choice : List ℕ) (before : List Row) (row : Row) (last : ℕ) (rows : List Sent) (list : SlotList)
+    → 1 ≤ period table.slot → length before ≡ last
     → IsSchedule table choice (before ++ row ∷ []) → (length before ≡ 0) ⊎ CarriesPacket row → rows ≡ map (sent_of (queues_of table choice)) (before ++ row ∷ [])
     → FillsPeriod table.slot (length table.programs) last rows list → IsSlotList table choice list
 IsSlotList-filled table choice before row last rows list some last_is schedule carries rows_are fills =

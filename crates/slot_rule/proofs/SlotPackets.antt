@@ -78,7 +78,8 @@ slots_show table choice stream kind packets got =
 
 -- where all is sent, the packets in the rows are all of the queue
 all_sent : (table : Table) (choice : List ℕ) (stream : ℕ) (kind : QueueKind) (packets : List QueuedPacket)
-    → slice_get (queues_of table choice) stream ≡ Some (record { kind = kind; packets = packets }) → (rows : List Row) → FollowRule table choice rows → AllSent (queues_of table choice) rows
+    → slice_get (queues_of table choice) stream ≡ Some (record { kind = kind; packets = packets }) → (rows : List Row) → FollowRule table choice rows
+    → AllSent (queues_of table choice) rows
     → packets_sent stream rows ≡ packets
 all_sent table choice stream kind packets got rows follows sent =
     let first = FollowRule-sent table choice stream kind packets got rows follows in
@@ -88,7 +89,8 @@ all_sent table choice stream kind packets got rows follows sent =
     ] in
     first.1 ∙ take_all (count_by (is_of stream) rows) packets long
 
-pub packets_in_slots : (table : Table) (choice : List ℕ) (stream : ℕ) (queue : Queue) (list : SlotList) → slice_get (queues_of table choice) stream ≡ Some queue → IsSlotList table choice list
+pub packets_in_slots : (table : Table) (choice : List ℕ) (stream : ℕ) (queue : Queue) (list : SlotList)
+    → slice_get (queues_of table choice) stream ≡ Some queue → IsSlotList table choice list
     → filter (is_sent_of stream) list.rows ≡ map (piece_sent queue.kind stream) queue.packets
 packets_in_slots table choice stream queue list got is =
     ap (filter (is_sent_of stream)) is.rows_are ∙ slots_show table choice stream queue.kind queue.packets got is.rows is.schedule.follows

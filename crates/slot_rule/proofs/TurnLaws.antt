@@ -95,7 +95,8 @@ GoesBefore-other a b not apart =
 -- ---- a turn is added
 -- at its place the order stays
 pub IsTurnOrder-insert : (turns : List Turn) (place : ℕ) (turn : Turn) → IsTurnOrder turns → All (λ other. other.stream ≡ turn.stream → ⊥) turns → place ≤ length turns
-    → ((k : ℕ) (d : Turn) → k < place → GoesBefore turn (get_or turns k d) → ⊥) → ((d : Turn) → place < length turns → GoesBefore turn (get_or turns place d)) → IsTurnOrder (insert turns place turn)
+    → ((k : ℕ) (d : Turn) → k < place → GoesBefore turn (get_or turns k d) → ⊥)
+    → ((d : Turn) → place < length turns → GoesBefore turn (get_or turns place d)) → IsTurnOrder (insert turns place turn)
 IsTurnOrder-insert turns place turn order apart fits before after = record {
   sorted = all_pairs_insert GoesBefore turns place turn fits order.sorted
       (λ k d below. GoesBefore-other turn (get_or turns k d) (before k d below) (apart k d (omega arith)))
@@ -217,7 +218,8 @@ PassesTurn-same turns place turn packet order got due =
       ];
     }
   where
-    apart_at : (turns : List Turn) (place k : ℕ) (turn other : Turn) → IsTurnOrder turns → slice_get turns place ≡ Some turn → k < length turns → get_or turns k other ≡ other → (k ≡ place → ⊥)
+    apart_at : (turns : List Turn) (place k : ℕ) (turn other : Turn) → IsTurnOrder turns → slice_get turns place ≡ Some turn → k < length turns
+        → get_or turns k other ≡ other → (k ≡ place → ⊥)
         → other.stream ≡ turn.stream → ⊥
     apart_at turns place k turn other order got within at apart =
         let there : place < length turns = slice_get_within turns place turn got in
@@ -233,16 +235,6 @@ turn_at read turns place d same within =
     slice_get-get_or turns place d within ∙ ap (λ (list : List Turn). Some (get_or list place d)) (sym same)
 
 -- ---- the turns of more queues
-pub AreTurns-none : AreTurns [] []
-AreTurns-none = record {
-  order = record { sorted = λ i j d less within. absurd (omega arith); apart = λ i j d less within. absurd (omega arith) };
-  each = λ k d within. absurd (omega arith);
-  all = λ stream state packet there head. absurd (none_there stream state there);
-}
-  where
-    none_there : (stream : ℕ) (state : QueueState) → slice_get [] stream ≡ Some state → ⊥
-    none_there stream state there = (let none : List QueueState = [] in let within : stream < length none = slice_get_within none stream state there in omega arith)
-
 -- a turn of the first queues is one of a longer front
 IsTurn-longer : (states : List QueueState) (n : ℕ) (turn : Turn) → IsTurn (take n states) turn → IsTurn (take (n + 1) states) turn
 IsTurn-longer states n turn is = record {
@@ -252,14 +244,6 @@ IsTurn-longer states n turn is = record {
   head = is.head;
   due = is.due;
 }
-
--- the turns of the first queues are of queues below their number
-pub turns_below : (states : List QueueState) (n : ℕ) (turns : List Turn) → AreTurns (take n states) turns → All (λ other. other.stream ≡ n → ⊥) turns
-turns_below states n turns are k d within e =
-    let is = are.each k d within in
-    let at = slice_get_of_front n states (get_or turns k d).stream is.state is.there in
-    let below = at.0 in
-    omega arith
 
 -- one more queue, which has a head packet
 pub AreTurns-more : (states : List QueueState) (n : ℕ) (d : QueueState) (packet : QueuedPacket) (olds news : List Turn) → n < length states → (get_or states n d).head ≡ Some packet
@@ -282,7 +266,8 @@ AreTurns-more states n d packet olds news within head are order adds =
     }
 
 -- one more queue, which has none
-pub AreTurns-without : (states : List QueueState) (n : ℕ) (d : QueueState) (turns : List Turn) → n < length states → ((packet : QueuedPacket) → (get_or states n d).head ≡ Some packet → ⊥)
+pub AreTurns-without : (states : List QueueState) (n : ℕ) (d : QueueState) (turns : List Turn) → n < length states
+    → ((packet : QueuedPacket) → (get_or states n d).head ≡ Some packet → ⊥)
     → AreTurns (take n states) turns → AreTurns (take (n + 1) states) turns
 AreTurns-without states n d turns within none are =
     let here : slice_get states n ≡ Some (get_or states n d) = slice_get-get_or states n d within in
@@ -294,9 +279,6 @@ AreTurns-without states n d turns within none are =
         | inr last ↦ absurd (none packet' (ap (λ (s : QueueState). s.head) (sym last.1) ∙ head'))
       ];
     }
-
-pub AreTurns-all : (states : List QueueState) (n : ℕ) (turns : List Turn) → length states ≤ n → AreTurns (take n states) turns → AreTurns states turns
-AreTurns-all states n turns all are = subst (λ (list : List QueueState). AreTurns list turns) (take_all n states all) are
 
 -- ---- a packet has gone
 -- the turns after the packet of one queue has gone, and nothing else has changed
@@ -339,7 +321,8 @@ NonePass P states turns place =
     → P state packet → ⊥
 
 pub IsFirst-at : (P : QueueState → QueuedPacket → Type 0) (states : List QueueState) (turns : List Turn) (place : ℕ) (turn : Turn) (state : QueueState) (packet : QueuedPacket)
-    → AreTurns states turns → slice_get turns place ≡ Some turn → slice_get states turn.stream ≡ Some state → state.head ≡ Some packet → P state packet → NonePass P states turns place
+    → AreTurns states turns → slice_get turns place ≡ Some turn → slice_get states turn.stream ≡ Some state → state.head ≡ Some packet
+    → P state packet → NonePass P states turns place
     → IsFirst P states turn.stream packet
 IsFirst-at P states turns place turn state packet are at there head passes none = record {
   state = state;
@@ -367,7 +350,8 @@ IsFirst-at P states turns place turn state packet are at there head passes none 
       ];
 }
   where
-    before_is : (turn : Turn) (packet : QueuedPacket) (other : ℕ) (packet' : QueuedPacket) → turn.due ≡ packet.due → GoesBefore turn (turn_of other packet') → IsBefore turn.stream packet other packet'
+    before_is : (turn : Turn) (packet : QueuedPacket) (other : ℕ) (packet' : QueuedPacket) → turn.due ≡ packet.due
+        → GoesBefore turn (turn_of other packet') → IsBefore turn.stream packet other packet'
     before_is turn packet other packet' due (inl less) = inl (omega arith)
     before_is turn packet other packet' due (inr same) = inr (sym due ∙ same.0, same.1)
 
@@ -380,8 +364,10 @@ IsFirstHead-none P states turns place are none all stream state packet there hea
     none found.0 (turn_of stream packet) state packet (omega (arith, found.1)) got there head passes
 
 -- one more turn whose packet doesn't pass
-pub NonePass-more : (P : QueueState → QueuedPacket → Type 0) (states : List QueueState) (turns : List Turn) (place : ℕ) (turn : Turn) → NonePass P states turns place → slice_get turns place ≡ Some turn
-    → ((state : QueueState) (packet : QueuedPacket) → slice_get states turn.stream ≡ Some state → state.head ≡ Some packet → P state packet → ⊥) → NonePass P states turns (place + 1)
+pub NonePass-more : (P : QueueState → QueuedPacket → Type 0) (states : List QueueState) (turns : List Turn) (place : ℕ) (turn : Turn)
+    → NonePass P states turns place → slice_get turns place ≡ Some turn
+    → ((state : QueueState) (packet : QueuedPacket) → slice_get states turn.stream ≡ Some state → state.head ≡ Some packet → P state packet → ⊥)
+    → NonePass P states turns (place + 1)
 NonePass-more P states turns place turn none at fails k turn' state packet below got there head passes =
     elim (cases_eq k place) as (λ _. ⊥) [
       | inl same ↦
@@ -400,7 +386,8 @@ state_of_turn states turns place d e are within =
     (inside, slice_get-get_or states (get_or turns place d).stream e inside)
 
 -- the packet of a turn passes
-pub IsFirst-read : (P : QueueState → QueuedPacket → Type 0) (states : List QueueState) (turns : List Turn) (place : ℕ) (d : Turn) (e : QueueState) (packet : QueuedPacket) → AreTurns states turns
+pub IsFirst-read : (P : QueueState → QueuedPacket → Type 0) (states : List QueueState) (turns : List Turn) (place : ℕ) (d : Turn) (e : QueueState) (packet : QueuedPacket)
+    → AreTurns states turns
     → place < length turns → NonePass P states turns place → IsOffer P (get_or states (get_or turns place d).stream e) (Some packet)
     → IsFirst P states (get_or turns place d).stream packet × (slice_get turns place ≡ Some (turn_of (get_or turns place d).stream packet))
 IsFirst-read P states turns place d e packet are within none offer =
@@ -416,7 +403,8 @@ IsFirst-read P states turns place d e packet are within none offer =
     )
 
 -- the packet of a turn doesn't pass
-pub NonePass-read : (P : QueueState → QueuedPacket → Type 0) (states : List QueueState) (turns : List Turn) (place : ℕ) (d : Turn) (e : QueueState) → AreTurns states turns → place < length turns
+pub NonePass-read : (P : QueueState → QueuedPacket → Type 0) (states : List QueueState) (turns : List Turn) (place : ℕ) (d : Turn) (e : QueueState)
+    → AreTurns states turns → place < length turns
     → NonePass P states turns place → IsOffer P (get_or states (get_or turns place d).stream e) None → NonePass P states turns (place + 1)
 NonePass-read P states turns place d e are within none offer =
     NonePass-more P states turns place (get_or turns place d) none (slice_get-get_or turns place d within)
