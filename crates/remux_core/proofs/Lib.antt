@@ -1,5 +1,7 @@
-mod Causes
-mod Ended
+mod Answered
+mod Counted
+mod Ending
 mod Floats
 mod Held
+mod One
 mod Told

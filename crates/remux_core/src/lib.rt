@@ -7,13 +7,15 @@
 
 mod certificate;
 mod command;
-mod outcome;
+mod ended;
+mod plan_command;
 mod planner;
 mod report;
 mod status;
+mod top_call;
 
-pub use outcome::run;
 pub use status::{JobRefusal, Status};
+pub use top_call::run;
 
 #[cfg(test)]
 mod tests;

@@ -1,0 +1,4 @@
+-- What private functions and types of the crate stand on.
+pub mod Ended
+pub mod Parsed
+pub mod Planned
