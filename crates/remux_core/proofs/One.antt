@@ -13,6 +13,7 @@ use Rattle.remux_core.specs.declared.status.JobRefusal.{JobRefusal}
 use Rattle.remux_core.specs.declared.status.JobRefusal.TheVariants.{TableSyntax, TableLimit}
 use Rattle.remux_core.specs.Answer.{CallsFor}
 use Rattle.remux_core.specs.Command.{Command, Plan, IsSaid}
+use Rattle.remux_core.specs.Outcome.{WordsCallFor}
 use Rattle.remux_core.specs.PlanCommand.{HoldsTable, IsRefused, PlanCallsFor}
 use Rattle.remux_core.specs.Status.{IsSameRefusal, IsSameStatus}
 
@@ -138,3 +139,20 @@ calls_for_one laws None files s t a b =
     let first : statuses.Usage ≡ s = none_calls_for_one files s a in
     let second : statuses.Usage ≡ t = none_calls_for_one files t b in
     subst (λ (x : Status). IsSameStatus x t) first (subst (λ (x : Status). IsSameStatus statuses.Usage x) second refl)
+
+-- words and files call for one status
+pub words_call_for_one : Laws → (words : List (List ℕ)) (files : Files) (s t : Status) → WordsCallFor words files s → WordsCallFor words files t → IsSameStatus s t
+words_call_for_one laws words files s t a b =
+    let same : b.command ≡ a.command = one_command words b.command a.command b.said a.said in
+    calls_for_one laws a.command files s t a.called (subst (λ (c : Option Command). CallsFor c files t) same b.called)
+
+-- a status that is the same as Ok is Ok
+pub is_ok : (s : Status) → IsSameStatus s statuses.Ok → s ≡ statuses.Ok
+is_ok statuses.Ok same = same
+is_ok statuses.Usage same = same
+is_ok (statuses.JobRefused refusal) same = same
+is_ok (statuses.Unschedulable miss) same = same
+is_ok statuses.ReadFault same = same
+is_ok statuses.WriteFault same = same
+is_ok statuses.Missing same = same
+is_ok statuses.OutOfMemory same = same
