@@ -9,7 +9,9 @@ mod exit;
 mod help;
 mod sentence;
 
-ghost use Rattle.std.specs.Prelude.{◌≡◌, ◌⊎◌};
+ghost use Rattle.std.specs.Prelude.{◌≡◌, ◌⊎◌, map};
+ghost use Rattle.std.specs.String.{string_bytes};
+ghost use Rattle.remux_core.specs.Command.{IsCommand};
 
 use crate::exit::exit_status;
 use crate::help::{HELP, VERSION};
@@ -69,6 +71,9 @@ fn told(rt: &impl Print, text: &str) -> u8
 }
 
 /// Runs a command over the working folder and standard output.
-fn command<R: Files + Print + Eprint + AllocGlobal>(rt: &R, words: &[String]) -> u8 {
+fn command<R: Files + Print + Eprint + AllocGlobal>(rt: &R, words: &[String]) -> u8
+    ensures usage { result ≡ 2 → IsCommand (map string_bytes words.now) → ⊥ }
+    ensures no_command { (IsCommand (map string_bytes words.now) → ⊥) → (result ≡ 2) ⊎ ((result ≡ 7) ⊎ (result ≡ 10)) }
+{
     exit_status(rt, words, &mut FileShelf::new(rt), &mut OutSink::new(rt))
 }

@@ -16,13 +16,17 @@ pub fn print_sentence<R: Eprint>(rt: &R, words: &[String], status: &Status) -> i
              slot {}; a shorter slot, smaller versions or later times may help",
             miss.unit, miss.stream, miss.due, miss.slot
         ),
-        Status::ReadFault => eprintln!(rt; "remux: {table} can't be read; is it a file that you may read?"),
+        Status::ReadFault => eprintln!(rt;
+            "remux: {table} can't be read; is it a file that you may read?"
+        ),
         Status::WriteFault => eprintln!(rt;
             "remux: {certificate} or standard output can't be written, and may hold a front of its text alone; is there \
              room, and may you write there?"
         ),
         Status::Missing => eprintln!(rt; "remux: {table}: there is no such file"),
-        Status::OutOfMemory => eprintln!(rt; "remux: memory is wanting; nothing is claimed of {certificate}"),
+        Status::OutOfMemory => eprintln!(rt;
+            "remux: memory is wanting; nothing is claimed of {certificate}"
+        ),
     }
 }
 
@@ -49,9 +53,12 @@ fn allowed(limit: &str) -> &'static str {
         "evaluations" => "0 to 1048576",
         "programs" => "8 programs at most",
         "vbv" => "1 to 112 units of 2048 bytes",
-        "due" => "at most 4194304 slots, above the unit's before it, and not below the audio packet's before it",
-        "gone" => "at most 4194304 slots, not below its due time, and not below the packet's before it",
-        "bytes" => "1 to 4194304 in a version, 1 to 184 in a packet, and 67108864 in a table's text",
+        "due" =>
+            "at most 4194304 slots, above the unit's before it, and not below the audio packet's before it",
+        "gone" =>
+            "at most 4194304 slots, not below its due time, and not below the packet's before it",
+        "bytes" =>
+            "1 to 4194304 in a version, 1 to 184 in a packet, and 67108864 in a table's text",
         "distortion" => "below 281474976710656",
         "audios" => "8 audio streams a program at most",
         "units" => "32768 units at most",

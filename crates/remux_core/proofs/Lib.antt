@@ -3,5 +3,6 @@ mod Counted
 mod Ending
 mod Floats
 mod Held
+mod LevelChoices
 mod One
 mod Told

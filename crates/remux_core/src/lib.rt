@@ -9,6 +9,7 @@ mod certificate;
 mod command;
 mod ended;
 pub mod laws;
+mod levels;
 mod plan_command;
 mod planner;
 mod report;

@@ -7,14 +7,13 @@ ghost use Rattle.remux_core.specs.Plan.{IsPlan};
 ghost use Rattle.remux_core.specs.Private.Planned.{contents_of, IsMissOfSmallest, IsKnown, IsNoWorse, IsNoWorseThanLevel};
 
 use crate::certificate::Certificate;
+use crate::levels::level_count;
 use list_types::OutOfMemory;
 use slot_rule::{Miss, first_miss};
 use std::alloc::Global;
 use thiserror::Error;
-use version_table::limits::VERSIONS_MOST;
 use version_table::{
-    Choice, Table, distortion_of, least_total, level, level_choices_end, smallest,
-    smallest_choice_is_one,
+    Choice, Table, distortion_of, least_total, level, smallest, smallest_choice_is_one,
 };
 
 /// Why there is no plan.
@@ -75,9 +74,8 @@ fn try_levels(alloc: Global, table: &Table, known: Known) -> Result<Known, OutOf
     ensures known { IfOk result (IsKnown table.now) }
     ensures no_worse { IfOk result (IsNoWorse table.now known.distortion) }
 {
-    level_choices_end();
     let mut best = known;
-    for k in 0..VERSIONS_MOST as u8 {
+    for k in 0..level_count(table) {
         best = try_level(alloc, table, best, k)?;
     }
     Ok(best)
