@@ -15,13 +15,14 @@ use Rattle.picture_grammar.specs.Block.{CoefficientCode, is_within, is_level, si
 use Rattle.picture_grammar.specs.Block.Coefficient.{end_of_block, run_size}
 use Rattle.picture_grammar.proofs.Codes.{free-coefficient}
 use Rattle.picture_grammar.proofs.ElementLaws.{breaks}
-use Rattle.block_coeffs.specs.declared.window.Window.{Window}
+use Rattle.grammar_reading.specs.declared.window.Window.{Window}
 use Rattle.block_coeffs.specs.declared.standing.Standing.TheVariants.{EndOfBlock, Pair, Refused}
 use Rattle.block_coeffs.specs.declared.why.Why.TheVariants as why
-use Rattle.block_coeffs.specs.Private.Standing.{seen, coefficient_at, IsFound}
-use Rattle.block_coeffs.proofs.Fronts.{front_of-more, length-front_of, take-front_of}
+use Rattle.block_coeffs.specs.Private.Standing.{coefficient_at, IsFound}
+use Rattle.grammar_reading.specs.Window.{seen}
+use Rattle.grammar_reading.proofs.Fronts.{front_of-more, length-front_of, take-front_of}
 use Rattle.block_coeffs.proofs.Symbols.{shorter-code, length-code}
-use Rattle.block_coeffs.proofs.Cuts.{shows-all, begins-seen}
+use Rattle.grammar_reading.proofs.Cuts.{shows-all, begins-seen}
 
 -- ---- what is seen of a window
 

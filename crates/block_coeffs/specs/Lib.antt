@@ -1,2 +1,2 @@
+pub mod BlockFault
 pub mod Private
-pub mod Reading

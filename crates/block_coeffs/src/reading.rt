@@ -1,20 +1,21 @@
-ghost use Rattle.std.specs.Prelude.{◌≡◌, ◌≤◌, ◌<◌, ◌+◌, IfOk, IfErr, OnOk, OnErr, IfSome, IsErrOf, IsTrue, MatchResult, List, [], ℕ, length};
+ghost use Rattle.std.specs.Prelude.{◌≡◌, ◌≤◌, ◌<◌, ◌+◌, IfOk, IfErr, OnOk, OnErr, IfSome, IsErrOf, IsNone, IsTrue, MatchResult, List, [], ℕ, length};
 ghost use Rattle.shelf_io.specs.Counts.{Rose};
 ghost use Rattle.bit_cursor.specs.BitReader.{bits_left, bits_held, place, faults_of, absences_of, KeepsSource};
 ghost use Rattle.syntax_types.specs.declared.block.Block.{Block};
 ghost use Rattle.picture_grammar.specs.Grammar.{many, optional};
 ghost use Rattle.picture_grammar.specs.Block.{block, coefficient, dc_coefficient};
 ghost use Rattle.block_coeffs.specs.Private.DcStanding.{is_sizes, dc_by};
-ghost use Rattle.block_coeffs.specs.Private.Standing.{Shows};
-ghost use Rattle.block_coeffs.specs.Reading.{Advances, Reads, Comes, Explains, IsOutside};
+ghost use Rattle.grammar_reading.specs.Window.{ShowsFront};
+ghost use Rattle.grammar_reading.specs.BitsRead.{Advances, AnswersSpelling, BeginsWith, Explains, Reads};
+ghost use Rattle.block_coeffs.specs.BlockFault.{refusal_told};
 
 use crate::coefficient_table::{size_table, table_at};
 use crate::dc_standing::{DcStanding, what_dc};
 use crate::fault::BlockFault;
 use crate::standing::{Standing, what_stands};
-use crate::window::Window;
 use arrayvec::ArrayVec;
 use bit_cursor::BitReader;
+use grammar_reading::Window;
 use prefix_codes::{TableName, WINDOW_BITS};
 use shelf_io::{Fault, Source};
 use syntax_types::{BLOCK_PLACES, Block, BlockWay, Dc, RunLevel};
@@ -27,9 +28,8 @@ pub fn read_block<S: Source>(
     way: BlockWay,
 ) -> Result<Block, BlockFault>
     ensures ok { IfOk result (λ b. Reads (block way) b from.old from.new) }
-    ensures exact { (b : Block) (rest : List ℕ) → Comes (block way) b from.old rest →
-        MatchResult result (λ found. (found ≡ b) × (bits_left from.new ≡ Some rest)) IsOutside }
-    ensures refused { IfErr result (Explains (block way) from.old) }
+    ensures exact { AnswersSpelling (block way) refusal_told result from.old from.new }
+    ensures refused { IfErr result (λ fault. Explains (block way) from.old (refusal_told fault)) }
     ensures advances { Advances from.old from.new }
 
     ensures failed { IsErrOf result (BlockFault.Outside Fault.Failed) → Rose (faults_of from.old) (faults_of from.new) }
@@ -48,9 +48,9 @@ pub fn read_block_into<S: Source>(
     into: &mut Block,
 ) -> Result<(), BlockFault>
     ensures ok { OnOk result (Reads (block way) into.new from.old from.new) }
-    ensures exact { (b : Block) (rest : List ℕ) → Comes (block way) b from.old rest →
-        MatchResult result (λ _. (into.new ≡ b) × (bits_left from.new ≡ Some rest)) IsOutside }
-    ensures refused { IfErr result (Explains (block way) from.old) }
+    ensures exact { (b : Block) (rest : List ℕ) → BeginsWith (block way) b from.old rest →
+        MatchResult result (λ _. (into.new ≡ b) × (bits_left from.new ≡ Some rest)) (λ fault. IsNone (refusal_told fault)) }
+    ensures refused { IfErr result (λ fault. Explains (block way) from.old (refusal_told fault)) }
     ensures advances { Advances from.old from.new }
 
     ensures failed { IsErrOf result (BlockFault.Outside Fault.Failed) → Rose (faults_of from.old) (faults_of from.new) }
@@ -68,7 +68,7 @@ fn read_first<S: Source>(
     way: BlockWay,
 ) -> Result<Option<Dc>, BlockFault>
     ensures ok { IfOk result (λ dc. Reads (optional way.intra (dc_coefficient way)) dc from.old from.new) }
-    ensures refused { IfErr result (Explains (optional way.intra (dc_coefficient way)) from.old) }
+    ensures refused { IfErr result (λ fault. Explains (optional way.intra (dc_coefficient way)) from.old (refusal_told fault)) }
     ensures kept { OnErr result (bits_left from.new ≡ bits_left from.old) }
     ensures kept_place { OnErr result (place from.new ≡ place from.old) }
 
@@ -88,7 +88,7 @@ fn read_first<S: Source>(
 fn read_dc<S: Source>(from: &mut BitReader<'_, S>, table: TableName) -> Result<Dc, BlockFault>
     requires { IsTrue (is_sizes table) }
     ensures ok { IfOk result (λ dc. Reads (dc_by table) dc from.old from.new) }
-    ensures refused { IfErr result (Explains (dc_by table) from.old) }
+    ensures refused { IfErr result (λ fault. Explains (dc_by table) from.old (refusal_told fault)) }
     ensures kept { OnErr result (bits_left from.new ≡ bits_left from.old) }
     ensures kept_place { OnErr result (place from.new ≡ place from.old) }
 
@@ -114,7 +114,7 @@ fn read_pairs<S: Source>(
 ) -> Result<(), BlockFault>
     requires { into.old.items ≡ [] }
     ensures ok { OnOk result (Reads (many (coefficient way)) (into.new.items, tt) from.old from.new) }
-    ensures refused { IfErr result (Explains (many (coefficient way)) from.old) }
+    ensures refused { IfErr result (λ fault. Explains (many (coefficient way)) from.old (refusal_told fault)) }
     ensures advances { OnErr result (Advances from.old from.new) }
 
     ensures failed { IsErrOf result (BlockFault.Outside Fault.Failed) → Rose (faults_of from.old) (faults_of from.new) }
@@ -148,7 +148,7 @@ fn read_pairs<S: Source>(
 /// What is seen of the bits that are left by those that are held: all of them, or a whole window.
 #[inline]
 fn held_window<S: Source>(from: &BitReader<'_, S>) -> Window
-    ensures shows { IfSome (bits_left from.now) (λ bits. (bits_held from.now < WINDOW_BITS → length bits ≡ bits_held from.now) → Shows result bits) }
+    ensures shows { IfSome (bits_left from.now) (λ bits. (bits_held from.now < WINDOW_BITS → length bits ≡ bits_held from.now) → ShowsFront result bits) }
     ensures held { result.known ≤ bits_held from.now }
 {
     let (bits, known) = from.held_window(WINDOW_BITS);

@@ -2,11 +2,12 @@ ghost use Rattle.std.specs.Prelude.{◌≡◌, ◌≢◌, ◌≤◌, ◌<◌, �
 ghost use Rattle.bit_lists.specs.Fields.{flag};
 ghost use Rattle.prefix_codes.specs.TableName.{Begins, is_coefficients};
 ghost use Rattle.picture_grammar.specs.Block.{signed, escape_level};
-ghost use Rattle.block_coeffs.specs.Private.Standing.{IsFound, seen};
+ghost use Rattle.block_coeffs.specs.Private.Standing.{IsFound};
+ghost use Rattle.grammar_reading.specs.Window.{seen};
 
 use crate::cut::why_none;
 use crate::why::Why;
-use crate::window::Window;
+use grammar_reading::Window;
 use picture_grammar::escape::{LEVEL_BITS, RUN_BITS};
 use prefix_codes::symbol::{END_OF_BLOCK, ESCAPE, LEVELS_PER_RUN};
 use prefix_codes::{TableName, WINDOW_BITS, find};

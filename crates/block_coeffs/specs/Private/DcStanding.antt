@@ -7,12 +7,12 @@ use Rattle.syntax_types.specs.declared.block.Dc.{Dc}
 use Rattle.picture_grammar.specs.Refusal.Refusal.{NoCode}
 use Rattle.picture_grammar.specs.Grammar.{Grammar, done, ◌>>=◌}
 use Rattle.picture_grammar.specs.Element.{IsRefused, vlclbf, uimsbf}
-use Rattle.block_coeffs.specs.declared.window.Window.{Window}
+use Rattle.grammar_reading.specs.declared.window.Window.{Window}
 use Rattle.block_coeffs.specs.declared.why.Why.{Why}
 use Rattle.block_coeffs.specs.declared.dc_standing.DcStanding.{DcStanding}
 use Rattle.block_coeffs.specs.declared.dc_standing.DcStanding.TheVariants.{Coefficient, Refused}
 use Rattle.block_coeffs.specs.Private.Why.{refusal_of}
-use Rattle.block_coeffs.specs.Private.Standing.{seen, Shows}
+use Rattle.grammar_reading.specs.Window.{seen, ShowsFront}
 
 -- the tables of sizes of DC coefficients, B-12 and B-13
 abbrev pub is_sizes : TableName → Bool
@@ -43,4 +43,4 @@ IsWhyNoSize table reason bits = IsRefused (λ symbol code. code_in table symbol 
 abbrev pub IsDcFound : TableName → Window → DcStanding → Type 0
 IsDcFound table window (Coefficient dc len) = (len ≤ window.known) × (dc_by table).Spells dc (seen window len) []
 IsDcFound table window (Refused why behind) =
-    (behind ≤ window.known) × ((bits : List ℕ) → Shows window bits → (dc_by table).Refuses bits (refusal_of why) (drop behind bits))
+    (behind ≤ window.known) × ((bits : List ℕ) → ShowsFront window bits → (dc_by table).Refuses bits (refusal_of why) (drop behind bits))

@@ -1,7 +1,5 @@
 -- What is found at the front of a window, where a coefficient or the end of block must stand (ISO/IEC 13818-2, 6.2.6).
-use Rattle.std.specs.Prelude.{◌≡◌, ◌≤◌, ◌+◌, ◌<◌, ℕ, List, [], take, drop}
-use Rattle.bit_lists.specs.Bits.{front_of}
-use Rattle.prefix_codes.specs.declared.lookup.TheConstants.{WINDOW_BITS}
+use Rattle.std.specs.Prelude.{◌≤◌, ◌+◌, ◌<◌, ℕ, List, [], drop}
 use Rattle.prefix_codes.specs.declared.table_name.TableName.{TableName}
 use Rattle.syntax_types.specs.declared.block.TheConstants.{BLOCK_PLACES}
 use Rattle.syntax_types.specs.declared.block.RunLevel.{RunLevel}
@@ -10,18 +8,11 @@ use Rattle.picture_grammar.specs.Grammar.{Grammar, ◌>>=◌, Next}
 use Rattle.picture_grammar.specs.Grammar.Next.{more, last}
 use Rattle.picture_grammar.specs.Element.{element}
 use Rattle.picture_grammar.specs.Block.{CoefficientCode, after_code}
-use Rattle.block_coeffs.specs.declared.window.Window.{Window}
+use Rattle.grammar_reading.specs.declared.window.Window.{Window}
+use Rattle.grammar_reading.specs.Window.{seen, ShowsFront}
 use Rattle.block_coeffs.specs.declared.standing.Standing.{Standing}
 use Rattle.block_coeffs.specs.declared.standing.Standing.TheVariants.{EndOfBlock, Pair, Refused}
 use Rattle.block_coeffs.specs.Private.Why.{rules_at, refusal_of}
-
--- the first bits of a window
-abbrev pub seen : Window → ℕ → List ℕ
-seen window count = front_of WINDOW_BITS window.bits count
-
--- the window shows the front of these bits, or all of them
-abbrev pub Shows : Window → List ℕ → Type 0
-Shows window bits = take WINDOW_BITS bits ≡ seen window window.known
 
 -- a coefficient or the end of block at a place, by a table
 abbrev pub coefficient_at : TableName → ℕ → Grammar (Next RunLevel (Unit {0}))
@@ -34,4 +25,4 @@ IsFound table place window (EndOfBlock len) =
 IsFound table place window (Pair run level len) =
     (len ≤ window.known) × (place + run < BLOCK_PLACES) × (coefficient_at table place).Spells (more (record { run = run; level = level })) (seen window len) []
 IsFound table place window (Refused why behind) =
-    (behind ≤ window.known) × ((bits : List ℕ) → Shows window bits → (coefficient_at table place).Refuses bits (refusal_of why) (drop behind bits))
+    (behind ≤ window.known) × ((bits : List ℕ) → ShowsFront window bits → (coefficient_at table place).Refuses bits (refusal_of why) (drop behind bits))

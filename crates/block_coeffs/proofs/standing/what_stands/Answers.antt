@@ -2,7 +2,7 @@ use Rattle.std.proofs.Common.{◌≡◌, ◌<◌, Some, refl, sym, ap, ap₂, su
 use Rattle.std.proofs.lemmas.Option.{none-some}
 use Rattle.prefix_codes.specs.declared.symbol.TheConstants.{END_OF_BLOCK, ESCAPE}
 use Rattle.prefix_codes.specs.TableName.{Begins}
-use Rattle.block_coeffs.specs.Private.Standing.{seen}
+use Rattle.grammar_reading.specs.Window.{seen}
 use Rattle.block_coeffs.proofs.Pairs.{end-found}
 use Rattle.block_coeffs.proofs.Symbols.{coefficients-is, past-end}
 use Rattle.block_coeffs.proofs.standing.what_stands.Goals as goal
