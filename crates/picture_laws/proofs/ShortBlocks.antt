@@ -35,9 +35,6 @@ some-number from n v lt some le =
 
 -- ---- the DC coefficient
 
-abbrev dc_entry : Entry → Bool
-dc_entry e = is_short_entry 8 (λ size. 11 - size) e && nat_le e.0 11
-
 dc_entries : (luma : Bool) → (list_all (is_short_entry 8 (λ size. 11 - size)) (entries (dc_table luma)) ≡ true) × (list_all (λ e. nat_le e.0 11) (entries (dc_table luma)) ≡ true)
 unfolding tables
 dc_entries true = (refl, refl)
