@@ -1,5 +1,5 @@
 -- Numbers and flags of a grammar by the bits that a reader gives: read, refused by a rule, or cut by the end.
-use Rattle.std.proofs.Common.{◌≡◌, ◌⊎◌, ◌==◌, ◌&&◌, ◌+◌, ◌-◌, ◌*◌, ◌^◌, ◌<◌, ◌≤◌, ℕ, zero, suc, List, [], ◌∷◌, ◌++◌, length, replicate, take, drop, Option, Some, None, IfSome, IfOk, Result, Ok, Err, Bool, true, false, refl, sym, ap, ap₂, subst, ◌∙◌, inl, inr, arith, append_assoc, append-nil}
+use Rattle.std.proofs.Common.{◌≡◌, ◌==◌, ◌+◌, ◌-◌, ◌*◌, ◌^◌, ◌<◌, ◌≤◌, ℕ, zero, suc, List, [], ◌∷◌, ◌++◌, length, replicate, take, drop, Option, Some, None, IfSome, IfOk, Result, Ok, Err, Bool, true, false, refl, sym, ap, ap₂, subst, ◌∙◌, inl, inr, arith}
 use Rattle.std.specs.Option.{option_map}
 use Rattle.std.proofs.lemmas.List.{length-append, length-replicate, take-append-drop}
 use Rattle.shelf_io.specs.declared.source.Source.{Ghosts}
@@ -8,17 +8,16 @@ use Rattle.bit_lists.specs.Fields.{bit_list, flag}
 use Rattle.bit_lists.proofs.BitLemmas.{length-bits_of}
 use Rattle.bit_lists.proofs.JoinedLemmas.{bits_of-put}
 use Rattle.bit_lists.proofs.NumberLemmas.{AreBits, AreBits-append, AreBits-zeros, AreBits-bit_list, number_of-below}
-use Rattle.bit_lists.proofs.PrefixLemmas.{IsPrefix-append, IsPrefix-self}
+use Rattle.bit_lists.proofs.PrefixLemmas.{IsPrefix-append}
 use Rattle.bit_cursor.specs.Reading.{IsFront}
 use Rattle.bit_cursor.specs.BitReader.{source_of, bits_held, held_bits, bits_left, without_bits}
 use Rattle.bit_cursor.specs.declared.bit_reader.BitReader.{BitReader}
 use Rattle.picture_grammar.specs.Refusal.{Refusal}
 use Rattle.picture_grammar.specs.Refusal.Refusal.{End}
-use Rattle.picture_grammar.specs.Grammar.{Grammar}
-use Rattle.picture_grammar.specs.Element.{Rule, passes, Stands, MayStand, Breaks, element, uimsbf, flag_where, one_flag, marker_bit, rule}
+use Rattle.picture_grammar.specs.Element.{Rule, passes, element, uimsbf, flag_where, one_flag, marker_bit, rule}
 use Rattle.picture_grammar.proofs.ElementLaws.{IsPrefixFree, breaks}
 use Rattle.picture_grammar.proofs.Codes.{free-number, free-flag}
-use Rattle.grammar_reading.specs.BitsRead.{PlacedRefusal, IsSpelled, ReadsFrom, RefusedAt, ExplainsFrom}
+use Rattle.grammar_reading.specs.BitsRead.{IsSpelled, ReadsFrom, RefusedAt, ExplainsFrom}
 
 -- ---- an element by its code
 

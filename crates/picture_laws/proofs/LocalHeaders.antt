@@ -1,5 +1,5 @@
 -- Headers, blocks and macroblocks don't look ahead.
-use Rattle.std.proofs.Common.{◌≡◌, ◌==◌, ℕ, zero, suc, ℤ, pos, not, ◌-◌, List, [], ◌∷◌, Option, Some, None, Bool, true, false}
+use Rattle.std.proofs.Common.{◌==◌, ℕ, zero, suc, pos, not, ◌-◌, List, [], ◌∷◌, Option, Bool, true, false}
 use Rattle.std.specs.List.{range_with_len}
 use Rattle.syntax_types.specs.declared.block.TheConstants.{BLOCK_PLACES}
 use Rattle.syntax_types.specs.declared.macroblock.TheConstants.{BLOCKS}
@@ -8,12 +8,12 @@ use Rattle.syntax_types.specs.declared.picture.PicCoding.{PicCoding}
 use Rattle.syntax_types.specs.declared.picture.SeqState.{SeqState}
 use Rattle.prefix_codes.specs.declared.table_name.TableName.TheVariants.{Pattern}
 use Rattle.picture_grammar.specs.Refusal.Refusal.{BadHeader, BadType, BadPattern}
-use Rattle.picture_grammar.specs.Grammar.{Grammar, done, ◌>>=◌, ◌>>◌, optional, when, repeated, each, many}
+use Rattle.picture_grammar.specs.Grammar.{Grammar, done, ◌>>=◌, ◌>>◌, optional, when, repeated, each}
 use Rattle.picture_grammar.specs.Element.{Rule, uimsbf, vlclbf, one_flag, marker_bit, rule}
 use Rattle.picture_grammar.specs.Exact.{IsLocal}
 use Rattle.picture_grammar.specs.Block.{block}
 use Rattle.picture_grammar.specs.Motion.{MotionFormat, dmvector, has_residual, vector_part, motion_vector, motion_vectors}
-use Rattle.picture_grammar.specs.Macroblock.{address_code, address_increment, most_increment, macroblock_type, motion_type, has_motion_type, usual_motion_type, dct_type, has_dct_type, quantiser_scale_code, has_forward, has_concealment, f_codes, motion_format, block_way, is_coded, no_block, blocks, macroblock}
+use Rattle.picture_grammar.specs.Macroblock.{address_code, address_increment, most_increment, has_motion_type, usual_motion_type, has_dct_type, quantiser_scale_code, has_forward, has_concealment, f_codes, motion_format, block_way, is_coded, no_block, blocks, macroblock}
 use Rattle.picture_grammar.specs.Slice.{extra_information}
 use Rattle.picture_grammar.specs.Headers.{is_not_zero, matrix_if_loaded, sequence_header, sequence_extension, group_header, old_f_code, picture_header, picture_coding_extension, quant_matrix_extension}
 use Rattle.picture_grammar.proofs.LocalLaws.{local-done, local-element, local-bind, local-optional, local-many, local-block}

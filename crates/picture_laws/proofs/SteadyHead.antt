@@ -1,22 +1,18 @@
 -- A head is read the same before another first slice.
-use Rattle.std.proofs.Common.{◌≡◌, ◌==◌, ◌||◌, ◌%◌, ℕ, zero, suc, not, nat_eq, List, [], ◌∷◌, ◌++◌, length, Option, Some, None, Bool, true, false, refl, sym, ap, subst, ◌∙◌, inl, inr, arith, append_assoc}
+use Rattle.std.proofs.Common.{◌≡◌, ◌==◌, ◌||◌, ◌%◌, ℕ, List, [], ◌++◌, length, Option, Some, None, Bool, true, false, refl, sym, ap, subst, ◌∙◌, inl, inr}
 use Rattle.std.proofs.lemmas.Bool.{cases_Bool, eqb-true, both_ways}
-use Rattle.syntax_types.specs.declared.block.TheConstants.{BLOCK_PLACES}
 use Rattle.syntax_types.specs.declared.picture.PicCoding.{PicCoding}
 use Rattle.syntax_types.specs.declared.picture.SeqState.{SeqState}
-use Rattle.picture_grammar.specs.declared.start_codes.TheConstants.{PICTURE, USER_DATA, SEQUENCE_HEADER, EXTENSION, GROUP}
+use Rattle.picture_grammar.specs.declared.start_codes.TheConstants.{USER_DATA, SEQUENCE_HEADER, EXTENSION, GROUP}
 use Rattle.picture_grammar.specs.Refusal.Refusal.{BadHeader}
-use Rattle.picture_grammar.specs.Grammar.{Grammar, done, ◌>>=◌, ◌>>◌, optional, when, repeated, many}
-use Rattle.picture_grammar.specs.Element.{Rule, uimsbf, one_flag, rule}
-use Rattle.picture_grammar.specs.Exact.{IsLocal}
-use Rattle.picture_grammar.specs.StartCode.{start_code, StartCodeComes, is_slice}
-use Rattle.picture_grammar.specs.Slice.{extra_information}
-use Rattle.picture_grammar.specs.Headers.{Loaded, is_not_zero, matrix_if_loaded, sequence_header, sequence_extension, group_header, old_f_code, picture_header, picture_coding_extension, quant_matrix_extension}
-use Rattle.picture_grammar.specs.Head.{unread, extension, extension_or_user_data, user_data_only, sequence_headers, sequence_part, group_part, picture_part, head}
+use Rattle.picture_grammar.specs.Grammar.{◌>>◌, many}
+use Rattle.picture_grammar.specs.StartCode.{start_code, is_slice}
+use Rattle.picture_grammar.specs.Headers.{Loaded}
+use Rattle.picture_grammar.specs.Head.{extension, extension_or_user_data, user_data_only, sequence_headers, sequence_part, group_part, picture_part, head}
 use Rattle.picture_grammar.proofs.LocalLaws.{local-element}
 use Rattle.picture_laws.proofs.LocalHeaders.{local-sequence_header, local-sequence_extension, local-group_header, local-picture_header, local-picture_coding_extension, local-quant_matrix_extension}
 use Rattle.picture_laws.proofs.StartCodes.{code-taken, code-made}
-use Rattle.picture_laws.proofs.Tails.{AreAlike, IsTail, IsNewTail, alike-behind}
+use Rattle.picture_laws.proofs.Tails.{AreAlike, IsTail, IsNewTail}
 use Rattle.picture_laws.proofs.Steady.{IsSteady, steady-local, steady-done, steady-bind, steady-then, steady-optional, steady-when, steady-many, steady-zero_bits, steady-start_code, steady-comes, steady-unread}
 
 -- ---- start codes that aren't those of slices
