@@ -7,8 +7,10 @@
 //! the reason where none does. Stands on `bit_cursor`, `prefix_codes` and `picture_grammar`.
 #![tactic(auto)]
 
+mod elements;
 mod symbol;
 mod window;
 
+pub use elements::{read_flag, read_number};
 pub use symbol::{SYMBOL_MOST, SymbolFound, begins_code, what_symbol};
 pub use window::Window;

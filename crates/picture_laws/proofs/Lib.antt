@@ -13,6 +13,7 @@ pub mod ExampleMacroblocks
 pub mod ExampleSlices
 pub mod ExampleUnits
 pub mod ExampleValues
+pub mod LocalHeaders
 pub mod MacroblockKinds
 pub mod Numbers
 pub mod ReadBack

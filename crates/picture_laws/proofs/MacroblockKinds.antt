@@ -1,5 +1,5 @@
 -- What the tables of macroblock types say of flags.
-use Rattle.std.proofs.Common.{◌≡◌, ◌≢◌, ◌⊎◌, ◌==◌, ◌||◌, ◌+◌, ◌*◌, ◌/◌, ◌%◌, ◌<◌, ◌≤◌, ℕ, nat_eq, List, Some, Bool, true, false, cond, if◌then◌else◌, refl, sym, ap, ◌∙◌, subst, inl, inr, arith, eq-eqb}
+use Rattle.std.proofs.Common.{◌≡◌, ◌≢◌, ◌⊎◌, ◌||◌, ◌/◌, ◌%◌, ◌<◌, ℕ, nat_eq, List, Some, Bool, true, false, cond, refl, sym, ap, ◌∙◌, subst, inl, inr, arith, eq-eqb}
 use Rattle.std.specs.List.{list_all}
 use Rattle.std.proofs.lemmas.Bool.{cases_Bool, eqb-true, both_ways}
 use Rattle.bit_lists.specs.Fields.{flag}
@@ -11,7 +11,7 @@ use Rattle.prefix_codes.specs.TableName.{entries, code_in}
 use Rattle.prefix_codes.proofs.Computing.{tables}
 use Rattle.prefix_codes.proofs.TableLemmas.{code_in-passes}
 use Rattle.syntax_types.specs.declared.macroblock.Kind.{Kind}
-use Rattle.syntax_types.specs.declared.picture.TheConstants.{I_PICTURE, P_PICTURE, B_PICTURE}
+use Rattle.syntax_types.specs.declared.picture.TheConstants.{I_PICTURE, P_PICTURE}
 use Rattle.syntax_types.specs.declared.picture.PicCoding.{PicCoding}
 use Rattle.picture_grammar.specs.Macroblock.{type_table, type_symbol}
 use Rattle.picture_laws.proofs.ZeroRuns.{is_short_entry}

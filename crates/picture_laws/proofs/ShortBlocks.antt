@@ -1,29 +1,24 @@
 -- Zero bits on end in blocks: at most 22, from 8 before a block to 1 behind it.
-use Rattle.std.proofs.Common.{◌≡◌, ◌≢◌, ◌==◌, ◌&&◌, ◌+◌, ◌-◌, ◌*◌, ◌^◌, ◌<◌, ◌≤◌, ℕ, not, nat_eq, nat_le, nat_lt, List, [], ◌∷◌, ◌++◌, length, Some, Bool, true, false, cond, if◌then◌else◌, refl, sym, ap, subst, ◌∙◌, arith, append_assoc, eq-eqb}
+use Rattle.std.proofs.Common.{◌≡◌, ◌≢◌, ◌==◌, ◌&&◌, ◌+◌, ◌-◌, ◌*◌, ◌^◌, ◌<◌, ◌≤◌, ℕ, not, nat_eq, nat_le, nat_lt, List, [], ◌∷◌, ◌++◌, Bool, true, false, if◌then◌else◌, refl, sym, subst, ◌∙◌, arith, eq-eqb}
 use Rattle.std.specs.List.{list_all}
 use Rattle.std.proofs.Math.Nat.{mod-eq_of_lt}
 use Rattle.std.proofs.lemmas.Bool.{and_parts, both_ways, not-true, leb-true}
 use Rattle.bit_lists.specs.Bits.{bits_of, number_of}
 use Rattle.bit_lists.proofs.BitLemmas.{length-bits_of, number_of-bits_of}
 use Rattle.prefix_codes.specs.declared.symbol.TheConstants.{END_OF_BLOCK, ESCAPE}
-use Rattle.prefix_codes.specs.declared.table_name.TableName.{TableName}
-use Rattle.prefix_codes.specs.declared.table_name.TableName.TheVariants.{DcLuma, DcChroma, CoeffZero, CoeffFirst, CoeffOne}
-use Rattle.prefix_codes.specs.Entry.{Entry}
-use Rattle.prefix_codes.specs.TableName.{entries, code_in}
+use Rattle.prefix_codes.specs.declared.table_name.TableName.TheVariants.{CoeffZero, CoeffFirst, CoeffOne}
+use Rattle.prefix_codes.specs.TableName.{entries}
 use Rattle.prefix_codes.proofs.Computing.{tables}
 use Rattle.prefix_codes.proofs.TableLemmas.{code_in-passes}
-use Rattle.syntax_types.specs.declared.block.Block.{Block}
 use Rattle.syntax_types.specs.declared.block.BlockWay.{BlockWay}
-use Rattle.syntax_types.specs.declared.block.Dc.{Dc}
 use Rattle.syntax_types.specs.declared.block.RunLevel.{RunLevel}
-use Rattle.picture_grammar.specs.Refusal.Refusal.{NoCode, TooMany, BadEscape, BadType}
-use Rattle.picture_grammar.specs.Grammar.{Grammar, done, ◌>>=◌, optional, many, Next}
+use Rattle.picture_grammar.specs.Refusal.Refusal.{NoCode, TooMany, BadEscape}
+use Rattle.picture_grammar.specs.Grammar.{done, ◌>>=◌, optional, many, Next}
 use Rattle.picture_grammar.specs.Grammar.Next.{more, last}
-use Rattle.picture_grammar.specs.Element.{Rule, passes, element, vlclbf, uimsbf, one_flag, rule}
+use Rattle.picture_grammar.specs.Element.{passes, element, vlclbf, uimsbf, one_flag, rule}
 use Rattle.picture_grammar.specs.Block.{dc_table, dc_coefficient, Coefficient, CoefficientCode, after_code, is_level, is_within, signed, escape_level, next_place, coefficient_table, coefficient, block}
 use Rattle.picture_grammar.specs.Block.Coefficient.{end_of_block, run_size, escape}
 use Rattle.picture_grammar.proofs.Codes.{coefficient_code-listed}
-use Rattle.picture_laws.specs.Spellable.{IsSpellable}
 use Rattle.picture_laws.proofs.ZeroRuns.{AreShort, zeros_behind, IsShort, is_short_entry, short-append, behind-append, short-fewer, behind-fewer, any-short, any-behind, some-short, short-done, short-element, short-bind, short-weak, short-optional, short-many, short-uimsbf, behind_flag, short-flag, short-code, short-vlclbf}
 
 -- a number that isn't 0
@@ -34,9 +29,6 @@ some-number from n v lt some le =
     (short, omega (arith, behind, length-bits_of n v))
 
 -- ---- the DC coefficient
-
-abbrev dc_entry : Entry → Bool
-dc_entry e = is_short_entry 8 (λ size. 11 - size) e && nat_le e.0 11
 
 dc_entries : (luma : Bool) → (list_all (is_short_entry 8 (λ size. 11 - size)) (entries (dc_table luma)) ≡ true) × (list_all (λ e. nat_le e.0 11) (entries (dc_table luma)) ≡ true)
 unfolding tables

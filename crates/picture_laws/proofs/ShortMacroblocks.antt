@@ -1,27 +1,21 @@
 -- Zero bits on end in macroblocks: at most 22, from 14 before one to 14 behind it.
-use Rattle.std.proofs.Common.{◌≡◌, ◌≢◌, ◌⊎◌, ◌==◌, ◌&&◌, ◌||◌, ◌+◌, ◌-◌, ◌*◌, ◌^◌, ◌<◌, ◌≤◌, ℕ, zero, suc, ℤ, pos, negsuc, not, nat_eq, List, [], ◌∷◌, ◌++◌, length, slice_index, Option, Some, None, Bool, true, false, cond, if◌then◌else◌, refl, sym, ap, subst, ◌∙◌, inl, inr, arith, eq-eqb}
+use Rattle.std.proofs.Common.{◌≡◌, ◌≢◌, ◌⊎◌, ◌==◌, ◌||◌, ◌+◌, ◌-◌, ◌<◌, ◌≤◌, ℕ, zero, suc, ℤ, pos, negsuc, not, nat_eq, List, [], ◌∷◌, slice_index, None, Bool, true, false, cond, refl, sym, ap, subst, ◌∙◌, inl, inr, arith, eq-eqb}
 use Rattle.std.specs.List.{list_all, range_with_len, AllByRecursion}
 use Rattle.std.specs.Int.{bit_at}
-use Rattle.std.proofs.lemmas.Bool.{and_parts, cases_Bool, both_ways, not-true, eqb-true}
+use Rattle.std.proofs.lemmas.Bool.{and_parts, both_ways, not-true, eqb-true}
 use Rattle.std.proofs.lemmas.Nat.Bits.{bit_at-zero}
-use Rattle.bit_lists.specs.Bits.{bits_of}
 use Rattle.prefix_codes.specs.declared.table_name.TableName.TheVariants.{Address, Motion, Pattern}
-use Rattle.prefix_codes.specs.TableName.{entries, code_in}
+use Rattle.prefix_codes.specs.TableName.{entries}
 use Rattle.prefix_codes.proofs.Computing.{tables}
-use Rattle.syntax_types.specs.declared.block.Block.{Block}
 use Rattle.syntax_types.specs.declared.macroblock.TheConstants.{BLOCKS}
 use Rattle.syntax_types.specs.declared.macroblock.Kind.{Kind}
-use Rattle.syntax_types.specs.declared.macroblock.Macroblock.{Macroblock}
-use Rattle.syntax_types.specs.declared.macroblock.Vector.{Vector}
 use Rattle.syntax_types.specs.declared.picture.PicCoding.{PicCoding}
-use Rattle.picture_grammar.specs.Refusal.{Refusal}
 use Rattle.picture_grammar.specs.Refusal.Refusal.{NoCode, BadAddress, BadType, BadPattern}
-use Rattle.picture_grammar.specs.Grammar.{Grammar, done, ◌>>=◌, ◌>>◌, optional, when, each, many, Next}
-use Rattle.picture_grammar.specs.Grammar.Next.{more, last}
-use Rattle.picture_grammar.specs.Element.{Rule, vlclbf, uimsbf, one_flag, marker_bit, rule}
+use Rattle.picture_grammar.specs.Grammar.{Grammar, optional, when, many}
+use Rattle.picture_grammar.specs.Element.{vlclbf, uimsbf, one_flag, marker_bit, rule}
 use Rattle.picture_grammar.specs.Block.{block}
 use Rattle.picture_grammar.specs.Motion.{MotionFormat, dmvector, dmvector_code, has_residual, vector_part, motion_vector, motion_vectors}
-use Rattle.picture_grammar.specs.Macroblock.{address_code, address_increment, most_increment, type_table, type_symbol, macroblock_type, motion_type, has_motion_type, usual_motion_type, dct_type, has_dct_type, quantiser_scale_code, has_forward, has_concealment, f_codes, motion_format, block_way, is_coded, no_block, blocks, macroblock}
+use Rattle.picture_grammar.specs.Macroblock.{address_code, address_increment, most_increment, type_table, type_symbol, macroblock_type, has_motion_type, usual_motion_type, has_dct_type, quantiser_scale_code, has_forward, has_concealment, f_codes, motion_format, block_way, is_coded, no_block, blocks, macroblock}
 use Rattle.picture_grammar.specs.Picture.{IsFCode, IsCoding}
 use Rattle.picture_laws.specs.Spellable.{IsSpellable}
 use Rattle.picture_laws.proofs.ZeroRuns.{AreShort, zeros_behind, IsShort, is_short_entry, short-done, short-element, short-bind, short-weak, short-when, short-optional, short-repeated, short-each, short-many, short-uimsbf, behind_flag, short-flag, short-code, short-vlclbf}

@@ -1,26 +1,24 @@
 -- No start code prefix begins inside a slice.
-use Rattle.std.proofs.Common.{◌≡◌, ◌⊎◌, ◌==◌, ◌+◌, ◌-◌, ◌*◌, ◌%◌, ◌<◌, ◌≤◌, ℕ, zero, suc, List, [], ◌∷◌, ◌++◌, length, replicate, drop, Option, Some, None, Bool, true, false, cond, refl, sym, ap, ap₂, subst, ◌∙◌, inl, inr, arith, append_assoc, append-nil}
-use Rattle.std.proofs.lemmas.Bool.{cases_lt, cases_Bool}
+use Rattle.std.proofs.Common.{◌≡◌, ◌⊎◌, ◌<◌, ◌≤◌, ℕ, zero, suc, List, [], ◌∷◌, ◌++◌, length, replicate, drop, Option, Some, None, Bool, true, false, refl, sym, ap, subst, ◌∙◌, inl, inr, arith, append_assoc, append-nil}
+use Rattle.std.proofs.lemmas.Bool.{cases_lt}
 use Rattle.std.proofs.lemmas.List.{length-append, length-replicate, append_cancel_right}
-use Rattle.bit_lists.specs.Bits.{IsPrefix}
 use Rattle.bit_lists.proofs.PrefixLemmas.{IsPrefix-split}
 use Rattle.syntax_types.specs.declared.macroblock.Macroblock.{Macroblock}
 use Rattle.syntax_types.specs.declared.picture.PicCoding.{PicCoding}
 use Rattle.syntax_types.specs.declared.picture.SeqState.{SeqState}
 use Rattle.syntax_types.specs.declared.slice.Slice.{Slice}
-use Rattle.syntax_types.specs.declared.slice.SliceInfo.{SliceInfo}
-use Rattle.picture_grammar.specs.Grammar.{Grammar, done, ◌>>=◌, optional, if_next, many, SpellsList, Next, more_of, one_more}
+use Rattle.picture_grammar.specs.Grammar.{done, ◌>>=◌, optional, SpellsList, Next, more_of, one_more}
 use Rattle.picture_grammar.specs.Grammar.Next.{more, last}
 use Rattle.picture_grammar.specs.Element.{uimsbf, one_flag}
-use Rattle.picture_grammar.specs.Macroblock.{quantiser_scale_code, macroblock}
+use Rattle.picture_grammar.specs.Macroblock.{macroblock}
 use Rattle.picture_grammar.specs.Slice.{extra_information, slice_extension, slice_info, columns, columns_left, ClosesSlice, next_macroblock, slice}
 use Rattle.picture_grammar.specs.StartCode.{start_code_prefix}
 use Rattle.picture_grammar.specs.Picture.{IsCoding}
 use Rattle.picture_laws.proofs.Tested.{prefix-zeros}
-use Rattle.picture_laws.proofs.StartCodes.{zeros_before, zeros_before-one, parted}
+use Rattle.picture_laws.proofs.StartCodes.{zeros_before, parted}
 use Rattle.picture_laws.proofs.Tails.{suffix-one, led}
 use Rattle.picture_laws.proofs.ZeroRuns.{AreShort, zeros_behind, IsShort, short-done, short-bind, short-weak, short-optional, short-if_next, short-one_more, short-many, short-uimsbf, behind_flag, short-flag, short-behind, short-zeros}
-use Rattle.picture_laws.proofs.ShortMacroblocks.{short-number, flag-most, short-one_flag, short-macroblock}
+use Rattle.picture_laws.proofs.ShortMacroblocks.{short-number, short-one_flag, short-macroblock}
 
 -- ---- the header of a slice
 

@@ -1,15 +1,14 @@
 -- Where start codes stand, by the zeros before their first one.
-use Rattle.std.proofs.Common.{◌≡◌, ◌⊎◌, ◌==◌, ℕ, zero, suc, ◌+◌, ◌*◌, ◌^◌, ◌<◌, ◌≤◌, ◌&&◌, nat_eq, List, [], ◌∷◌, ◌++◌, length, replicate, take, Some, Bool, true, false, refl, sym, ap, ap₂, subst, ◌∙◌, inl, inr, arith, append_assoc, append-nil, eq-eqb}
-use Rattle.std.proofs.lemmas.Bool.{and_parts, eqb-true, both_ways}
-use Rattle.std.proofs.lemmas.List.{length-append, length-replicate, replicate-append-replicate, append_cancel_left}
+use Rattle.std.proofs.Common.{◌≡◌, ◌⊎◌, ℕ, zero, suc, ◌+◌, ◌*◌, ◌^◌, ◌<◌, ◌&&◌, nat_eq, List, [], ◌∷◌, ◌++◌, length, replicate, Bool, true, refl, sym, ap, ap₂, subst, ◌∙◌, inl, inr, arith, append_assoc}
+use Rattle.std.proofs.lemmas.Bool.{and_parts, eqb-true}
+use Rattle.std.proofs.lemmas.List.{length-replicate, replicate-append-replicate}
 use Rattle.bit_lists.specs.Bits.{IsPrefix, bits_of}
-use Rattle.bit_lists.proofs.BitLemmas.{length-bits_of, bits_of-one}
 use Rattle.bit_lists.proofs.JoinedLemmas.{bits_of-zero}
-use Rattle.bit_lists.proofs.PrefixLemmas.{IsPrefix-append, IsPrefix-split}
+use Rattle.bit_lists.proofs.PrefixLemmas.{IsPrefix-append}
 use Rattle.picture_grammar.specs.Refusal.{Refusal}
 use Rattle.picture_grammar.specs.Grammar.{Grammar, done, ◌>>=◌, if_next, SpellsList, Next}
 use Rattle.picture_grammar.specs.Grammar.Next.{more, last}
-use Rattle.picture_grammar.specs.StartCode.{start_code_prefix, start_code_bits, zero_byte, start_code, StartCodeComes, is_slice}
+use Rattle.picture_grammar.specs.StartCode.{start_code_prefix, start_code_bits, zero_byte, start_code, StartCodeComes}
 use Rattle.picture_laws.proofs.Tested.{prefix-zeros, no-prefix}
 
 -- ---- zeros in front

@@ -1,17 +1,16 @@
 -- What a head holds is read the same before another first slice.
-use Rattle.std.proofs.Common.{◌≡◌, ◌⊎◌, ◌==◌, ◌+◌, ◌%◌, ◌^◌, ◌<◌, ◌*◌, ℕ, zero, suc, not, List, [], ◌∷◌, ◌++◌, length, replicate, Option, Some, None, Bool, true, false, refl, sym, ap, subst, ◌∙◌, inl, inr, arith, append_assoc}
+use Rattle.std.proofs.Common.{◌≡◌, ◌+◌, ◌%◌, ◌^◌, ◌<◌, ◌*◌, ℕ, List, [], ◌∷◌, ◌++◌, length, replicate, Some, None, Bool, true, false, refl, sym, ap, subst, ◌∙◌, inl, inr, arith, append_assoc}
 use Rattle.std.proofs.lemmas.List.{length-append}
 use Rattle.bit_lists.specs.Bits.{IsPrefix, bits_of}
 use Rattle.bit_lists.proofs.BitLemmas.{length-bits_of}
 use Rattle.picture_grammar.specs.Refusal.{Refusal}
-use Rattle.picture_grammar.specs.Refusal.Refusal.{BadHeader}
-use Rattle.picture_grammar.specs.Grammar.{Grammar, done, ◌>>=◌, ◌>>◌, optional, when, if_next, at_bits, repeated, many, SpellsList, Next, one_more}
+use Rattle.picture_grammar.specs.Grammar.{Grammar, done, ◌>>=◌, ◌>>◌, optional, when, if_next, at_bits, many, SpellsList, Next, one_more}
 use Rattle.picture_grammar.specs.Grammar.Next.{more, last}
-use Rattle.picture_grammar.specs.Element.{Rule, uimsbf, rule}
+use Rattle.picture_grammar.specs.Element.{Rule, uimsbf}
 use Rattle.picture_grammar.specs.Exact.{IsLocal}
 use Rattle.picture_grammar.specs.StartCode.{start_code_prefix, start_code_bits, start_code, zero_bits, StartCodeComes, is_slice}
 use Rattle.picture_grammar.specs.Head.{unread}
-use Rattle.picture_grammar.proofs.LocalLaws.{local-done, local-bind}
+use Rattle.picture_grammar.proofs.LocalLaws.{local-done}
 use Rattle.picture_laws.proofs.StartCodes.{code-taken, code-made, comes-spelled}
 use Rattle.picture_laws.proofs.Tails.{AreAlike, alike-behind, alike-length, prefix-behind, prefix-end, comes-moved}
 

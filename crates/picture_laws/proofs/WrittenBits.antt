@@ -1,15 +1,15 @@
 -- Every picture is written in bits, in whole bytes.
-use Rattle.std.proofs.Common.{◌≡◌, ◌==◌, ◌&&◌, ◌+◌, ◌-◌, ◌*◌, ◌/◌, ◌%◌, ◌^◌, ◌<◌, ℕ, zero, suc, ℤ, pos, negsuc, unsigned_abs, int_lt, nat_lt, List, [], ◌∷◌, ◌++◌, length, replicate, slice_index, slice_index_or, Option, Some, None, unwrap_or, Bool, true, false, cond, if◌then◌else◌, refl, sym, ap, subst, ◌∙◌, arith}
-use Rattle.std.specs.List.{flat_map, list_all, range_with_len, AllByRecursion}
+use Rattle.std.proofs.Common.{◌≡◌, ◌==◌, ◌+◌, ◌-◌, ◌*◌, ◌/◌, ◌%◌, ℕ, zero, suc, ℤ, pos, negsuc, unsigned_abs, int_lt, nat_lt, List, [], ◌∷◌, ◌++◌, length, replicate, slice_index, slice_index_or, Option, Some, None, unwrap_or, Bool, true, false, if◌then◌else◌, refl, arith}
+use Rattle.std.specs.List.{flat_map, list_all, range_with_len}
 use Rattle.std.specs.Option.{option_map_or}
 use Rattle.std.proofs.lemmas.Bool.{and_parts, ltb-true}
 use Rattle.std.proofs.lemmas.List.{length-append, length-replicate}
 use Rattle.bit_lists.specs.Bits.{bits_of}
-use Rattle.bit_lists.specs.Fields.{AreBytes, bit_list, flag}
+use Rattle.bit_lists.specs.Fields.{bit_list, flag}
 use Rattle.bit_lists.proofs.FieldLemmas.{flag_below}
 use Rattle.bit_lists.proofs.ByteLemmas.{length-bit_list}
 use Rattle.bit_lists.proofs.NumberLemmas.{AreBits, AreBits-append, AreBits-zeros, AreBits-bit_list}
-use Rattle.prefix_codes.specs.declared.symbol.TheConstants.{ADDRESS_ESCAPE, END_OF_BLOCK, ESCAPE}
+use Rattle.prefix_codes.specs.declared.symbol.TheConstants.{ADDRESS_ESCAPE, ESCAPE}
 use Rattle.prefix_codes.specs.declared.table_name.TableName.{TableName}
 use Rattle.prefix_codes.specs.declared.table_name.TableName.TheVariants.{Address, TypeI, TypeP, TypeB, Pattern, Motion, DcLuma, DcChroma, CoeffZero, CoeffFirst, CoeffOne}
 use Rattle.prefix_codes.specs.Entry.{Entry}
@@ -31,7 +31,7 @@ use Rattle.picture_grammar.specs.declared.start_codes.TheConstants.{FIRST_SLICE,
 use Rattle.picture_grammar.specs.StartCode.{start_code_prefix, start_code_bits}
 use Rattle.picture_grammar.specs.Block.{dc_table, coefficient_table, first_place}
 use Rattle.picture_grammar.specs.Motion.{has_residual, dmvector_code}
-use Rattle.picture_grammar.specs.Macroblock.{escape_increment, type_table, type_symbol, has_motion_type, has_dct_type, has_concealment, f_codes, is_coded, block_way, no_block}
+use Rattle.picture_grammar.specs.Macroblock.{type_table, type_symbol, has_motion_type, has_dct_type, has_concealment, f_codes, is_coded, block_way, no_block}
 use Rattle.picture_grammar.specs.Written.{code_for, if_any, written_dc, level_bits, written_escape, written_coefficient, written_coefficients, written_block, written_increment, written_part, written_vector_part, written_vector, written_coded_block, written_macroblock, written_slice_info, written_slice, to_whole_bytes, written_picture, IsWritten}
 use Rattle.picture_grammar.proofs.Codes.{coefficient_code-listed}
 use Rattle.picture_laws.proofs.WholeBytes.{bytes_of, bytes_of-right}

@@ -1,5 +1,5 @@
 -- The blocks of a macroblock are spelled by some bits where each is, by its number.
-use Rattle.std.proofs.Common.{◌≡◌, ℕ, zero, suc, ◌<◌, List, [], ◌∷◌, ◌++◌, length, slice_index_or, Bool, true, false, refl, sym, ap, subst, ◌∙◌, arith}
+use Rattle.std.proofs.Common.{◌≡◌, ℕ, zero, suc, ◌<◌, List, [], ◌∷◌, ◌++◌, length, slice_index_or, Bool, true, false, refl, sym, subst, arith}
 use Rattle.std.specs.List.{range_with_len}
 use Rattle.syntax_types.specs.declared.block.Block.{Block}
 use Rattle.syntax_types.specs.declared.block.BlockWay.{BlockWay}
@@ -9,7 +9,7 @@ use Rattle.picture_grammar.specs.Grammar.{Grammar, when, each}
 use Rattle.picture_grammar.specs.Block.{block}
 use Rattle.picture_grammar.specs.Macroblock.{block_way, is_coded, no_block, blocks}
 use Rattle.picture_laws.specs.Spellable.{IsSpellable, IsSpellableBlock, AreSpellableBlocks}
-use Rattle.picture_laws.proofs.ReadBack.{IsReadBack, SpellsAnywhere, spellable}
+use Rattle.picture_laws.proofs.ReadBack.{IsReadBack, spellable}
 use Rattle.picture_laws.proofs.WrittenCoefficients.{of_coefficients, coefficients-of}
 use Rattle.picture_laws.proofs.WrittenMacroblock.{back-block_where, length-each}
 

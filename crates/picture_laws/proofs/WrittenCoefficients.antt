@@ -1,6 +1,6 @@
 -- A block is spelled by some bits where its coefficients are within its places and have levels that bits may say.
-use Rattle.std.proofs.Common.{◌≡◌, ◌⊎◌, ℕ, zero, suc, ℤ, pos, negsuc, neg_ℤ, unsigned_abs, ◌+◌, ◌-◌, ◌*◌, ◌^◌, ◌<◌, ◌≤◌, ◌==◌, ◌&&◌, nat_eq, nat_lt, not, int_lt, List, [], ◌∷◌, ◌++◌, length, Option, Some, None, Bool, true, false, cond, if◌then◌else◌, refl, sym, ap, ap₂, subst, ◌∙◌, inl, inr, arith, append_assoc, append-nil, add-zero, ◌≢◌}
-use Rattle.std.specs.List.{AllByRecursion, sum_by}
+use Rattle.std.proofs.Common.{◌≡◌, ◌⊎◌, ℕ, suc, ℤ, pos, negsuc, neg_ℤ, unsigned_abs, ◌+◌, ◌-◌, ◌<◌, ◌≤◌, ◌==◌, ◌&&◌, nat_eq, nat_lt, not, List, [], ◌∷◌, ◌++◌, length, Option, Some, None, Bool, true, false, cond, if◌then◌else◌, refl, sym, ap, subst, ◌∙◌, inl, inr, arith, append_assoc, append-nil, ◌≢◌}
+use Rattle.std.specs.List.{AllByRecursion}
 use Rattle.std.proofs.lemmas.Bool.{and_parts, and_from, cases_Bool, cases_lt, lt-ltb, le-ltb, ltb-true, both_ways, eq-eqb, eqb-true, not-true}
 use Rattle.std.proofs.lemmas.List.Sums.{sum_by-append, sum_by-cons}
 use Rattle.prefix_codes.specs.declared.symbol.TheConstants.{END_OF_BLOCK, ESCAPE}
@@ -10,11 +10,10 @@ use Rattle.prefix_codes.specs.TableName.{code_in, coefficient_code}
 use Rattle.prefix_codes.proofs.Computing.{tables}
 use Rattle.syntax_types.specs.declared.block.Block.{Block}
 use Rattle.syntax_types.specs.declared.block.BlockWay.{BlockWay}
-use Rattle.syntax_types.specs.declared.block.Dc.{Dc}
 use Rattle.syntax_types.specs.declared.block.RunLevel.{RunLevel}
 use Rattle.picture_grammar.specs.Grammar.{SpellsList, optional}
 use Rattle.picture_grammar.specs.Grammar.Next.{more, last}
-use Rattle.picture_grammar.specs.Block.{Coefficient, CoefficientCode, dc_coefficient, after_code, is_level, signed, escape_level, is_within, first_place, next_place, coefficient_table, coefficient, block}
+use Rattle.picture_grammar.specs.Block.{dc_coefficient, signed, escape_level, next_place, coefficient_table, coefficient, block}
 use Rattle.picture_grammar.specs.Block.Coefficient.{end_of_block, run_size, escape}
 use Rattle.picture_grammar.specs.Written.{level_bits, if_any, written_dc, written_coefficient, written_coefficients}
 use Rattle.picture_grammar.proofs.Codes.{coefficient_code-listed}

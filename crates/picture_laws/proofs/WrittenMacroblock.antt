@@ -1,5 +1,5 @@
 -- What is written of a macroblock whose parts some bits spell is read as that macroblock, whatever follows.
-use Rattle.std.proofs.Common.{◌≡◌, ℕ, zero, suc, ◌+◌, ◌-◌, ◌==◌, not, List, [], ◌∷◌, ◌++◌, length, slice_index_or, Option, Some, None, Bool, true, false, cond, if◌then◌else◌, refl, sym, ap, subst, ◌∙◌, arith, append_assoc, append-nil}
+use Rattle.std.proofs.Common.{◌≡◌, ℕ, suc, ◌+◌, ◌-◌, ◌==◌, not, List, [], ◌∷◌, ◌++◌, length, slice_index_or, Option, Some, None, Bool, true, false, if◌then◌else◌, refl, sym, ap, subst, ◌∙◌, arith, append_assoc}
 use Rattle.std.specs.List.{flat_map, range_with_len}
 use Rattle.bit_lists.specs.Bits.{bits_of}
 use Rattle.bit_lists.specs.Fields.{flag}
@@ -11,14 +11,14 @@ use Rattle.syntax_types.specs.declared.macroblock.Kind.{Kind}
 use Rattle.syntax_types.specs.declared.macroblock.Macroblock.{Macroblock}
 use Rattle.syntax_types.specs.declared.picture.PicCoding.{PicCoding}
 use Rattle.picture_grammar.specs.Refusal.Refusal.{BadType, BadPattern}
-use Rattle.picture_grammar.specs.Grammar.{Grammar, done, ◌>>=◌, ◌>>◌, optional, when, each}
-use Rattle.picture_grammar.specs.Element.{vlclbf, uimsbf, one_flag, marker_bit, rule}
+use Rattle.picture_grammar.specs.Grammar.{Grammar, optional, when, each}
+use Rattle.picture_grammar.specs.Element.{vlclbf, one_flag, marker_bit, rule}
 use Rattle.picture_grammar.specs.Block.{block}
 use Rattle.picture_grammar.specs.Macroblock.{address_increment, most_increment, type_table, type_symbol, macroblock_type, motion_type, has_motion_type, usual_motion_type, dct_type, has_dct_type, quantiser_scale_code, has_forward, has_concealment, f_codes, motion_format, block_way, is_coded, no_block, blocks, macroblock}
 use Rattle.picture_grammar.specs.Written.{code_for, if_any, written_increment, written_vector, written_coded_block, written_block, written_macroblock}
 use Rattle.picture_grammar.proofs.WrittenBlock.{block_written, code_for-listed}
 use Rattle.picture_laws.specs.Spellable.{IsSpellable, HasSpellableParts}
-use Rattle.picture_laws.proofs.ReadBack.{SpellsAnywhere, IsReadBack, spellable, anywhere-code, anywhere-value, anywhere-bind, anywhere-made, anywhere-done, anywhere-element, back-element, back-vlclbf, back-uimsbf, back-flag, back-when, back-optional, back-each, written_each}
+use Rattle.picture_laws.proofs.ReadBack.{SpellsAnywhere, IsReadBack, spellable, anywhere-code, anywhere-bind, anywhere-made, anywhere-done, anywhere-element, back-element, back-vlclbf, back-uimsbf, back-flag, back-when, back-optional, back-each, written_each}
 use Rattle.picture_laws.proofs.WrittenParts.{back-increment, some-increment, back-vectors}
 
 -- ---- macroblock_modes() and the marker

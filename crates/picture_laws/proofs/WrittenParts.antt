@@ -1,32 +1,27 @@
 -- What is written of a macroblock's address and vectors is read as these parts, whatever follows.
-use Rattle.std.proofs.Common.{◌≡◌, ℕ, zero, suc, ℤ, pos, negsuc, unsigned_abs, ◌+◌, ◌-◌, ◌*◌, ◌/◌, ◌≤◌, ◌==◌, ◌&&◌, eq-eqb, nat_le, nat_eq, not, int_lt, List, [], ◌∷◌, ◌++◌, length, slice_index, slice_index_or, Option, Some, None, Bool, true, false, cond, if◌then◌else◌, refl, sym, ap, ap₂, subst, ◌∙◌, inl, inr, arith, append_assoc, append-nil}
+use Rattle.std.proofs.Common.{◌≡◌, ℕ, zero, suc, ℤ, pos, ◌+◌, ◌-◌, ◌*◌, ◌/◌, ◌≤◌, ◌==◌, ◌&&◌, eq-eqb, nat_le, nat_eq, not, int_lt, List, [], ◌∷◌, ◌++◌, length, slice_index, slice_index_or, Option, Some, None, Bool, true, false, cond, if◌then◌else◌, refl, sym, ap, ap₂, ◌∙◌, inl, inr, arith, append_assoc}
 use Rattle.std.specs.List.{flat_map, range_with_len, list_all}
 use Rattle.std.proofs.lemmas.Bool.{and_parts, eqb-true, cases_Bool, leb-true, le-ltb, both_ways}
 use Rattle.bit_lists.specs.Bits.{bits_of}
 use Rattle.bit_lists.specs.Fields.{flag}
 use Rattle.prefix_codes.specs.declared.symbol.TheConstants.{ADDRESS_ESCAPE}
-use Rattle.prefix_codes.specs.declared.table_name.TableName.TheVariants.{Address, Motion, Pattern}
+use Rattle.prefix_codes.specs.declared.table_name.TableName.TheVariants.{Address, Motion}
 use Rattle.prefix_codes.specs.Entry.{Entry}
 use Rattle.prefix_codes.specs.TableName.{entries, code_in}
 use Rattle.prefix_codes.proofs.Computing.{tables}
 use Rattle.prefix_codes.proofs.TableLemmas.{code_in-passes}
-use Rattle.syntax_types.specs.declared.block.Block.{Block}
-use Rattle.syntax_types.specs.declared.macroblock.TheConstants.{BLOCKS}
-use Rattle.syntax_types.specs.declared.macroblock.Kind.{Kind}
-use Rattle.syntax_types.specs.declared.macroblock.Macroblock.{Macroblock}
 use Rattle.syntax_types.specs.declared.macroblock.Vector.{Vector}
-use Rattle.syntax_types.specs.declared.picture.PicCoding.{PicCoding}
-use Rattle.picture_grammar.specs.Refusal.Refusal.{NoCode, BadAddress, BadType, BadPattern}
-use Rattle.picture_grammar.specs.Grammar.{Grammar, done, ◌>>=◌, ◌>>◌, optional, when, each, many, SpellsList, Next}
+use Rattle.picture_grammar.specs.Refusal.Refusal.{NoCode, BadAddress}
+use Rattle.picture_grammar.specs.Grammar.{when, many, SpellsList, Next}
 use Rattle.picture_grammar.specs.Grammar.Next.{more, last}
-use Rattle.picture_grammar.specs.Element.{vlclbf, uimsbf, one_flag, marker_bit, rule}
-use Rattle.picture_grammar.specs.Block.{block, signed}
+use Rattle.picture_grammar.specs.Element.{vlclbf, uimsbf, one_flag, rule}
+use Rattle.picture_grammar.specs.Block.{signed}
 use Rattle.picture_grammar.specs.Motion.{MotionFormat, Part, dmvector, dmvector_code, has_residual, vector_part, motion_vector, motion_vectors}
-use Rattle.picture_grammar.specs.Macroblock.{escape_increment, address_code, address_increment, most_increment, type_table, type_symbol, macroblock_type, motion_type, has_motion_type, usual_motion_type, dct_type, has_dct_type, quantiser_scale_code, has_forward, has_concealment, f_codes, motion_format, block_way, is_coded, no_block, blocks, macroblock}
-use Rattle.picture_grammar.specs.Written.{code_for, if_any, written_increment, written_part, written_vector_part, written_vector, written_coded_block, written_block, written_macroblock}
-use Rattle.picture_grammar.proofs.WrittenBlock.{block_written, unsigned_abs-signed, code_for-listed}
-use Rattle.picture_laws.specs.Spellable.{IsSpellable, HasSpellableParts}
-use Rattle.picture_laws.proofs.ReadBack.{SpellsAnywhere, IsReadBack, spellable, anywhere-code, anywhere-value, anywhere-bind, anywhere-made, anywhere-done, anywhere-element, back-done, back-element, back-vlclbf, back-uimsbf, back-flag, back-when, back-optional, back-repeated, back-each, back-many, written_each}
+use Rattle.picture_grammar.specs.Macroblock.{escape_increment, address_code, address_increment}
+use Rattle.picture_grammar.specs.Written.{code_for, if_any, written_increment, written_part, written_vector}
+use Rattle.picture_grammar.proofs.WrittenBlock.{unsigned_abs-signed}
+use Rattle.picture_laws.specs.Spellable.{IsSpellable}
+use Rattle.picture_laws.proofs.ReadBack.{SpellsAnywhere, IsReadBack, spellable, anywhere-code, anywhere-value, anywhere-bind, anywhere-made, back-element, back-vlclbf, back-uimsbf, back-flag, back-when, back-optional, back-repeated, back-many}
 
 -- ---- the address
 

@@ -1,11 +1,11 @@
 -- What is written of a picture is read as that picture.
-use Rattle.std.proofs.Common.{◌≡◌, ◌⊎◌, ◌==◌, ◌&&◌, ◌||◌, ◌+◌, ◌-◌, ◌*◌, ◌%◌, ◌^◌, ◌<◌, ◌≤◌, ℕ, zero, suc, nat_le, nat_eq, List, [], ◌∷◌, ◌++◌, length, replicate, Option, Some, None, Bool, true, false, cond, if◌then◌else◌, refl, sym, ap, ap₂, subst, ◌∙◌, inl, inr, arith, append_assoc, append-nil}
+use Rattle.std.proofs.Common.{◌≡◌, ◌⊎◌, ◌==◌, ◌||◌, ◌+◌, ◌-◌, ◌%◌, ◌<◌, ◌≤◌, ℕ, zero, suc, nat_le, nat_eq, List, [], ◌∷◌, ◌++◌, length, replicate, Option, Some, None, Bool, true, false, if◌then◌else◌, refl, sym, ap, ap₂, subst, ◌∙◌, inl, inr, arith, append_assoc, append-nil}
 use Rattle.std.specs.List.{flat_map, AllByRecursion}
 use Rattle.std.proofs.Math.Pow.{pow_pos}
-use Rattle.std.proofs.lemmas.Bool.{and_parts, cases_Bool, leb-true, eqb-true, both_ways}
+use Rattle.std.proofs.lemmas.Bool.{and_parts, cases_Bool, leb-true, eqb-true}
 use Rattle.std.proofs.lemmas.List.{length-append, length-replicate, append_cancel_right}
 use Rattle.bit_lists.specs.Bits.{IsPrefix, bits_of}
-use Rattle.bit_lists.specs.Fields.{AreBytes, bit_list}
+use Rattle.bit_lists.specs.Fields.{bit_list}
 use Rattle.bit_lists.proofs.BitLemmas.{length-bits_of}
 use Rattle.bit_lists.proofs.JoinedLemmas.{bits_of-zero}
 use Rattle.bit_lists.proofs.ByteLemmas.{length-bit_list}
@@ -13,19 +13,19 @@ use Rattle.syntax_types.specs.declared.picture.PicCoding.{PicCoding}
 use Rattle.syntax_types.specs.declared.picture.Picture.{Picture}
 use Rattle.syntax_types.specs.declared.picture.SeqState.{SeqState}
 use Rattle.syntax_types.specs.declared.slice.Slice.{Slice}
-use Rattle.picture_grammar.specs.declared.start_codes.TheConstants.{FIRST_SLICE, LAST_SLICE, SEQUENCE_END}
+use Rattle.picture_grammar.specs.declared.start_codes.TheConstants.{SEQUENCE_END}
 use Rattle.picture_grammar.specs.Refusal.Refusal.{BadHeader}
-use Rattle.picture_grammar.specs.Grammar.{Grammar, done, ◌>>=◌, ◌>>◌, optional, if_next, many, SpellsList, Next, with_bytes}
+use Rattle.picture_grammar.specs.Grammar.{optional, SpellsList}
 use Rattle.picture_grammar.specs.Grammar.Next.{more, last}
-use Rattle.picture_grammar.specs.StartCode.{start_code_prefix, start_code_bits, start_code, zero_bits, only_zero_bytes, is_slice}
+use Rattle.picture_grammar.specs.StartCode.{start_code_prefix, start_code_bits, zero_bits, only_zero_bytes, is_slice}
 use Rattle.picture_grammar.specs.Slice.{ClosesSlice, slice}
 use Rattle.picture_grammar.specs.Head.{head}
-use Rattle.picture_grammar.specs.Picture.{whole_slice, slice_or_end, later_slice, next_slice, picture_unit, SpellsPicture}
+use Rattle.picture_grammar.specs.Picture.{whole_slice, slice_or_end, next_slice, picture_unit, SpellsPicture}
 use Rattle.picture_grammar.specs.Written.{written_slice, to_whole_bytes, written_picture, IsWritten}
 use Rattle.picture_laws.specs.Spellable.{HasSpellableMacroblocks, HasSpellableSlices}
 use Rattle.picture_laws.proofs.Tested.{zeros-begin}
 use Rattle.picture_laws.proofs.StartCodes.{zeros_before, opened, opened-zeros, code-taken, code-made}
-use Rattle.picture_laws.proofs.Tails.{IsTail, IsNewTail}
+use Rattle.picture_laws.proofs.Tails.{IsNewTail}
 use Rattle.picture_laws.proofs.SteadyHead.{head-moved}
 use Rattle.picture_laws.proofs.WrittenSlice.{slice-written, macroblocks-of_slice}
 

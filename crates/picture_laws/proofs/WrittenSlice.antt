@@ -1,6 +1,6 @@
 -- What is written of a slice is read as that slice, where what follows closes it.
-use Rattle.std.proofs.Common.{◌≡◌, ◌⊎◌, ℕ, zero, suc, ◌+◌, ◌-◌, ◌*◌, ◌^◌, ◌<◌, ◌≤◌, ◌==◌, ◌&&◌, nat_eq, nat_le, not, List, [], ◌∷◌, ◌++◌, length, replicate, take, Option, Some, None, Bool, true, false, refl, sym, ap, ap₂, subst, ◌∙◌, inl, inr, arith, append_assoc, append-nil}
-use Rattle.std.specs.List.{flat_map, list_all, sum_by}
+use Rattle.std.proofs.Common.{◌≡◌, ℕ, zero, suc, ◌+◌, ◌*◌, ◌^◌, ◌<◌, ◌==◌, ◌&&◌, nat_eq, nat_le, not, List, [], ◌∷◌, ◌++◌, length, replicate, take, Option, Some, None, Bool, true, false, refl, sym, ap, subst, ◌∙◌, inl, inr, arith, append_assoc, append-nil}
+use Rattle.std.specs.List.{flat_map, list_all}
 use Rattle.std.proofs.lemmas.Bool.{and_parts, cases_Bool, leb-true, both_ways, eq-eqb, eqb-true, not-true}
 use Rattle.bit_lists.specs.Bits.{IsPrefix, bits_of, number_of}
 use Rattle.bit_lists.specs.Fields.{flag}
@@ -16,14 +16,14 @@ use Rattle.syntax_types.specs.declared.picture.SeqState.{SeqState}
 use Rattle.syntax_types.specs.declared.slice.Slice.{Slice}
 use Rattle.syntax_types.specs.declared.slice.SliceInfo.{SliceInfo}
 use Rattle.picture_grammar.specs.declared.limits.TheConstants.{SLICE_CLOSING_BITS}
-use Rattle.picture_grammar.specs.Grammar.{Grammar, done, ◌>>=◌, optional, if_next, many, SpellsList, Next, more_of, one_more}
+use Rattle.picture_grammar.specs.Grammar.{Grammar, done, ◌>>=◌, optional, many, SpellsList, Next, more_of}
 use Rattle.picture_grammar.specs.Grammar.Next.{more, last}
 use Rattle.picture_grammar.specs.Element.{uimsbf, one_flag}
 use Rattle.picture_grammar.specs.Macroblock.{address_code, most_increment, quantiser_scale_code, macroblock}
 use Rattle.picture_grammar.specs.Slice.{extra_information, slice_extension, slice_info, columns, columns_left, ClosesSlice, next_macroblock, slice}
 use Rattle.picture_grammar.specs.Written.{written_macroblock, written_slice_info, written_slice}
 use Rattle.picture_laws.specs.Spellable.{IsSpellable, HasSpellableParts, HasSpellableMacroblocks}
-use Rattle.picture_laws.proofs.ReadBack.{SpellsAnywhere, IsReadBack, spellable, anywhere-code, anywhere-value, anywhere-bind, anywhere-made, anywhere-done, anywhere-element, back-uimsbf, back-flag, back-many}
+use Rattle.picture_laws.proofs.ReadBack.{SpellsAnywhere, IsReadBack, spellable, anywhere-code, anywhere-bind, anywhere-made, anywhere-done, anywhere-element, back-uimsbf, back-many}
 use Rattle.picture_laws.proofs.WrittenMacroblock.{anywhere-macroblock, parts-of_macroblock}
 
 -- ---- the header
