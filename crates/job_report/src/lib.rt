@@ -17,6 +17,7 @@ mod place;
 mod programs;
 mod read;
 mod report;
+mod shared;
 mod values;
 
 pub use fault::JobFault;
@@ -25,4 +26,5 @@ pub use line::report_text;
 pub use list_types::{ListOf, OutOfMemory, Text};
 pub use read::read_job;
 pub use report::{ProgramReport, Report};
+pub use shared::shared_file;
 pub use version_table::Choice;
