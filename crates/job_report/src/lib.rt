@@ -19,6 +19,7 @@ mod read;
 mod report;
 mod shared;
 mod values;
+mod wording;
 
 pub use fault::JobFault;
 pub use job::{Job, ProgramJob};
