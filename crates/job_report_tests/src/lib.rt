@@ -6,4 +6,6 @@
 #[cfg(test)]
 mod job_texts;
 #[cfg(test)]
+mod refusals_in_words;
+#[cfg(test)]
 mod report_lines;
