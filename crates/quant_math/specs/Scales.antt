@@ -1,8 +1,9 @@
 use Rattle.std.specs.Prelude.{◌≡◌, ℕ, ◌*◌, ◌-◌, ◌≤◌, ◌⊎◌, Bool, true, false, List, [], ◌∷◌, slice_index}
+use Rattle.quant_math.specs.declared.scales.TheConstants.{LAST_CODE, WHOLE_RATIO}
 
 -- a quantiser_scale_code (ISO/IEC 13818-2, 6.3.16; 0 is forbidden)
 abbrev pub IsCode : ℕ → Type 0
-IsCode code = (1 ≤ code) × (code ≤ 31)
+IsCode code = (1 ≤ code) × (code ≤ LAST_CODE)
 
 -- quantiser_scale of the codes 1 to 31 where q_scale_type is 1 (ISO/IEC 13818-2, Table 7-6)
 abbrev pub nonlinear_scales : List ℕ
@@ -19,10 +20,10 @@ quantiser_scale true code = slice_index nonlinear_scales (code - 1)
 
 -- the scale of a candidate is at least m sixteenths of the scale of the code
 abbrev pub Reaches : Bool → ℕ → ℕ → ℕ → Type 0
-Reaches kind code m candidate = quantiser_scale kind code * m ≤ quantiser_scale kind candidate * 16
+Reaches q_scale_type code m candidate = quantiser_scale q_scale_type code * m ≤ quantiser_scale q_scale_type candidate * WHOLE_RATIO
 
--- the least code whose scale is at least m sixteenths of the scale of the code, or 31 where there is none
-pub record IsMappedCode (kind : Bool) (code m mapped : ℕ) : Type 0 where
+-- the least code whose scale is at least m sixteenths of the scale of the code, or the last code where there is none
+pub record IsMappedCode (q_scale_type : Bool) (code m mapped : ℕ) : Type 0 where
   pub is_code : IsCode mapped
-  pub reaches : Reaches kind code m mapped ⊎ (mapped ≡ 31)
-  pub least : (other : ℕ) → IsCode other → Reaches kind code m other → mapped ≤ other
+  pub reaches : Reaches q_scale_type code m mapped ⊎ (mapped ≡ LAST_CODE)
+  pub least : (other : ℕ) → IsCode other → Reaches q_scale_type code m other → mapped ≤ other

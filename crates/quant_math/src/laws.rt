@@ -11,5 +11,5 @@ pub fn scans_are_permutations()
 
 /// A code is mapped to one code.
 pub fn one_mapped_code()
-    ensures { (kind : Bool) (code m a b : ℕ) → IsMappedCode kind code m a → IsMappedCode kind code m b → a ≡ b }
+    ensures { (q_scale_type : Bool) (code m a b : ℕ) → IsMappedCode q_scale_type code m a → IsMappedCode q_scale_type code m b → a ≡ b }
 {}

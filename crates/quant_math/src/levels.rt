@@ -1,24 +1,24 @@
 ghost use Rattle.std.specs.Prelude.{◌≡◌, ◌<◌, ◌≤◌, ◌≤ℤ◌, pos, neg_ℤ, unsigned_abs};
 ghost use Rattle.quant_math.specs.Levels.{coarser_level, coarser_size, coefficient_of, sign_term};
 
-/// The least coefficient after saturation.
-const LEAST_COEFFICIENT: i64 = -2048;
+/// The least coefficient after saturation (ISO/IEC 13818-2, 7.4.3).
+pub const LEAST_COEFFICIENT: i64 = -2048;
 
-/// The greatest coefficient after saturation.
-const GREATEST_COEFFICIENT: i64 = 2047;
+/// The greatest coefficient after saturation (ISO/IEC 13818-2, 7.4.3).
+pub const GREATEST_COEFFICIENT: i64 = 2047;
 
-/// The products of inverse quantisation count thirty-seconds of a coefficient.
-const COEFFICIENT_PARTS: i64 = 32;
+/// The products of inverse quantisation count thirty-seconds of a coefficient (ISO/IEC 13818-2, 7.4.2.3).
+pub const COEFFICIENT_PARTS: i64 = 32;
 
 /// A level's coefficient counts sixteenths of its weight times its scale.
-const LEVEL_PARTS: u32 = 16;
+pub const LEVEL_PARTS: u32 = 16;
 
 /// The coefficient of a level, but of the DC of an intra block: inverse quantisation by a matrix entry and a
 /// quantiser_scale, truncated towards zero and held within -2048 to 2047 (ISO/IEC 13818-2, 7.4.2.3 and 7.4.3).
 pub fn inverse(level: i16, weight: u8, scale: u16, intra: bool) -> i16
     ensures value { result ≡ coefficient_of level weight scale intra }
-    ensures lower_bound { neg_ℤ (pos 2048) ≤ℤ result }
-    ensures upper_bound { result ≤ℤ pos 2047 }
+    ensures lower_bound { LEAST_COEFFICIENT ≤ℤ result }
+    ensures upper_bound { result ≤ℤ GREATEST_COEFFICIENT }
 {
     let level = i64::from(level);
     let product = (2 * level + sign_term(level, intra)) * i64::from(weight) * i64::from(scale);

@@ -11,9 +11,11 @@ mod matrices;
 mod scales;
 mod scans;
 
-pub use levels::{coarser_level, inverse};
+pub use levels::{
+    COEFFICIENT_PARTS, GREATEST_COEFFICIENT, LEAST_COEFFICIENT, LEVEL_PARTS, coarser_level, inverse,
+};
 pub use matrices::default_matrix;
-pub use scales::{map_code, scale};
+pub use scales::{LAST_CODE, WHOLE_RATIO, map_code, scale};
 pub use scans::scan;
 
 #[cfg(test)]

@@ -7,8 +7,8 @@ use Rattle.quant_math.proofs.scales.scale.Goals as goal
 abbrev in_range : ℕ → Bool
 in_range x = ltb 0 x && ltb x 113
 
-pub returns-then-kind-clause-range : goal.returns-then-kind-clause-range
-returns-then-kind-clause-range c =
+pub returns-then-q_scale_type-clause-range : goal.returns-then-q_scale_type-clause-range
+returns-then-q_scale_type-clause-range c =
     let within : c.args.code - 1 < length nonlinear_scales = omega arith in
     let entry : ℕ = get_or nonlinear_scales (c.args.code - 1) 0 in
     let range : (0 < entry) × (entry < 113) =

@@ -1,0 +1,41 @@
+-- The first number of a range that passes a test.
+use Rattle.std.proofs.Common.{◌≡◌, ℕ, zero, suc, ◌+◌, ◌<◌, ◌≤◌, Some, None, Bool, true, false, sym, ◌∙◌, ap, subst, ◌⊎◌, inl, inr, arith, cond}
+use Rattle.std.specs.Prelude.{find}
+use Rattle.std.specs.List.{range_with_len}
+use Rattle.std.proofs.lemmas.Bool.{cases_eq, cases_Bool}
+
+-- the first number from a on, below a bound, that passes
+pub record IsFirst (p : ℕ → Bool) (a end k : ℕ) : Type 0 where
+  pub from : a ≤ k
+  pub below : k < end
+  pub passes : p k ≡ true
+  pub none_before : (i : ℕ) → a ≤ i → i < k → p i ≡ false
+
+pub find-some : (p : ℕ → Bool) (a n k : ℕ) → find p (range_with_len a n) ≡ Some k → IsFirst p a (a + n) k
+find-some p a zero k found = let e : None ≡ Some k = found in absurd (cc)
+find-some p a (suc n) k found = by_test (find-some p (a + 1) n k) (cases_Bool (p a))
+  where
+    by_test : (find p (range_with_len (a + 1) n) ≡ Some k → IsFirst p (a + 1) (a + 1 + n) k) → (p a ≡ true) ⊎ (p a ≡ false) → IsFirst p a (a + suc n) k
+    by_test rest (inl passing) =
+        let e : Some a ≡ Some k = sym (ap (λ b. cond b (Some a) (find p (range_with_len (a + 1) n))) passing) ∙ found in
+        let same : a ≡ k = cc in
+        record { from = omega arith; below = omega arith; passes = subst (λ x. p x ≡ true) same passing; none_before = λ i low high. absurd (omega arith) }
+    by_test rest (inr failing) =
+        let later : IsFirst p (a + 1) (a + 1 + n) k = rest (sym (ap (λ b. cond b (Some a) (find p (range_with_len (a + 1) n))) failing) ∙ found) in
+        record { from = omega (arith, later.from); below = omega (arith, later.below); passes = later.passes; none_before = λ i low high. before later i high (cases_eq i a) low }
+      where
+        before : IsFirst p (a + 1) (a + 1 + n) k → (i : ℕ) → i < k → (i ≡ a) ⊎ (i ≡ a → ⊥) → a ≤ i → p i ≡ false
+        before later i high (inl here) low = subst (λ x. p x ≡ false) (sym here) failing
+        before later i high (inr there) low = later.none_before i (omega arith) high
+
+pub find-none : (p : ℕ → Bool) (a n : ℕ) → find p (range_with_len a n) ≡ None → (i : ℕ) → a ≤ i → i < a + n → p i ≡ false
+find-none p a zero found i low high = absurd (omega arith)
+find-none p a (suc n) found i low high = by_test (find-none p (a + 1) n) (cases_Bool (p a)) (cases_eq i a)
+  where
+    by_test : (find p (range_with_len (a + 1) n) ≡ None → (i : ℕ) → a + 1 ≤ i → i < a + 1 + n → p i ≡ false)
+        → (p a ≡ true) ⊎ (p a ≡ false) → (i ≡ a) ⊎ (i ≡ a → ⊥) → p i ≡ false
+    by_test rest (inl passing) place =
+        let e : Some a ≡ None = sym (ap (λ b. cond b (Some a) (find p (range_with_len (a + 1) n))) passing) ∙ found in absurd (cc)
+    by_test rest (inr failing) (inl here) = subst (λ x. p x ≡ false) (sym here) failing
+    by_test rest (inr failing) (inr there) =
+        rest (sym (ap (λ b. cond b (Some a) (find p (range_with_len (a + 1) n))) failing) ∙ found) i (omega arith) (omega arith)

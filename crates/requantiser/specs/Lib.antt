@@ -1,0 +1,9 @@
+pub mod Blocks
+pub mod Distortion
+pub mod Heads
+pub mod Levels
+pub mod Macroblocks
+pub mod Places
+pub mod Private
+pub mod Slices
+pub mod Version

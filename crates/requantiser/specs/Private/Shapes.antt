@@ -1,0 +1,21 @@
+-- What the walk needs of a macroblock; the grammar has it of each macroblock that bits spell.
+use Rattle.std.specs.Prelude.{◌≡◌, ◌≢◌, ◌<◌, ℕ, pos, None, List, [], ◌∷◌, length, true, false, slice_index_or}
+use Rattle.syntax_types.specs.declared.block.Block.{Block}
+use Rattle.syntax_types.specs.declared.block.RunLevel.{RunLevel}
+use Rattle.syntax_types.specs.declared.macroblock.TheConstants.{BLOCKS}
+use Rattle.syntax_types.specs.declared.macroblock.Macroblock.{Macroblock}
+use Rattle.picture_grammar.specs.Macroblock.{is_coded, no_block}
+
+-- the first coefficient isn't 0
+abbrev pub BeginsWithLevel : List RunLevel → Type 0
+BeginsWithLevel [] = ⊥
+BeginsWithLevel (pair ∷ pairs) = pair.level ≢ pos 0
+
+-- six blocks; those of a macroblock that isn't intra have no DC coefficient, and begin with a level where they are coded;
+-- a pattern has a block
+pub record HasShape (m : Macroblock) : Type 0 where
+  pub six : length m.blocks ≡ BLOCKS
+  pub no_dc : m.kind.intra ≡ false → (i : ℕ) → i < BLOCKS → let block : Block = slice_index_or m.blocks i no_block in block.dc ≡ None
+  pub begins : m.kind.intra ≡ false → (i : ℕ) → i < BLOCKS → is_coded m.kind m.pattern i ≡ true
+      → let block : Block = slice_index_or m.blocks i no_block in BeginsWithLevel block.pairs.items
+  pub some_coded : m.kind.intra ≡ false → m.kind.pattern ≡ true → (i : ℕ) × (i < BLOCKS) × (is_coded m.kind m.pattern i ≡ true)
