@@ -7,4 +7,7 @@ pub mod Numbers
 pub mod OneAnswer
 pub mod ProgramLaws
 pub mod ReportExamples
+pub mod RightFields
 pub mod Stated
+pub mod ValidLaws
+pub mod SharedFiles

@@ -2,6 +2,7 @@ pub mod Private
 pub mod Field
 pub mod Refusal
 pub mod Job
+pub mod ValidJob
 pub mod JobText
 pub mod SharedFile
 pub mod Report

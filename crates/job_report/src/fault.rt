@@ -1,4 +1,5 @@
 use crate::limits::NAME_MOST;
+use crate::wording::{Allowed, field_trouble};
 use arrayvec::ArrayString;
 use list_types::OutOfMemory;
 use thiserror::Error;
@@ -7,13 +8,13 @@ use thiserror::Error;
 #[derive(Clone, Copy, Debug, PartialEq, Eq, Error)]
 pub enum JobFault {
     /// The text is no TOML document.
-    #[error("no TOML document")]
+    #[error("job: the text is no TOML document")]
     JobSyntax,
     /// The field of this name is missing or of another type, or there is no such field.
-    #[error("job field: {0}")]
+    #[error("job: {name} {trouble}; allowed: {allowed}", name = .0, trouble = field_trouble(.0), allowed = Allowed::of(.0))]
     JobField(ArrayString<NAME_MOST>),
     /// The value of the field of this name is out of range.
-    #[error("job limit: {0}")]
+    #[error("job: {name} is out of range; allowed: {allowed}", name = .0, allowed = Allowed::of(.0))]
     JobLimit(ArrayString<NAME_MOST>),
     /// Memory was wanted and not there.
     #[error("out of memory")]

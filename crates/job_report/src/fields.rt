@@ -178,7 +178,7 @@ pub(crate) fn required_new_number(
 }
 
 /// Numbers in a list of their own.
-fn copied<const COUNT: usize>(numbers: &[u16]) -> ArrayVec<u16, COUNT>
+pub(crate) fn copied<const COUNT: usize>(numbers: &[u16]) -> ArrayVec<u16, COUNT>
     requires { length numbers.now ≤ COUNT }
     ensures { result.items ≡ numbers.now }
 {

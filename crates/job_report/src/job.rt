@@ -1,4 +1,11 @@
-use crate::limits::{COARSER_MOST, DROP_MOST};
+ghost use Rattle.std.specs.Prelude.{◌≡◌, ◌≤◌, [], length};
+ghost use Rattle.job_report.specs.ValidJob.{IsValidProgramJob};
+
+use crate::fields::copied;
+use crate::limits::{
+    COARSER_DEFAULT, COARSER_MOST, DROP_MOST, EVALUATIONS_DEFAULT, NODES_DEFAULT, START_DEFAULT,
+    STREAM_ID_DEFAULT, WEIGHT_DEFAULT,
+};
 use arrayvec::ArrayVec;
 use list_types::{ListOf, Text};
 
@@ -19,6 +26,30 @@ pub struct ProgramJob {
     pub drop: ArrayVec<u16, DROP_MOST>,
 }
 
+impl ProgramJob {
+    /// A program with the default in each field that a text may leave out.
+    pub fn new(file: Text, program: u16, number: u16) -> ProgramJob
+        ensures file { result.file ≡ file }
+        ensures program { result.program ≡ program }
+        ensures number { result.number ≡ number }
+        ensures weight { result.weight ≡ WEIGHT_DEFAULT }
+        ensures coarser { result.coarser.items ≡ COARSER_DEFAULT }
+        ensures drop { result.drop.items ≡ [] }
+
+        // The defaults are within the limits.
+        ensures valid { 1 ≤ length file → 1 ≤ program → 1 ≤ number → IsValidProgramJob result }
+    {
+        ProgramJob {
+            file,
+            program,
+            number,
+            weight: WEIGHT_DEFAULT,
+            coarser: copied(&COARSER_DEFAULT),
+            drop: ArrayVec::new(),
+        }
+    }
+}
+
 /// What a run is to do.
 #[derive(Drop)]
 pub struct Job {
@@ -34,4 +65,25 @@ pub struct Job {
     pub evaluations: u32,
     /// The programs in order.
     pub programs: ListOf<ProgramJob>,
+}
+
+impl Job {
+    /// A job with the default in each field that a text may leave out.
+    pub fn new(slot: u32, programs: ListOf<ProgramJob>) -> Job
+        ensures slot { result.slot ≡ slot }
+        ensures start { result.start ≡ START_DEFAULT }
+        ensures stream_id { result.stream_id ≡ STREAM_ID_DEFAULT }
+        ensures nodes { result.nodes ≡ NODES_DEFAULT }
+        ensures evaluations { result.evaluations ≡ EVALUATIONS_DEFAULT }
+        ensures programs { result.programs ≡ programs }
+    {
+        Job {
+            slot,
+            start: START_DEFAULT,
+            stream_id: STREAM_ID_DEFAULT,
+            nodes: NODES_DEFAULT,
+            evaluations: EVALUATIONS_DEFAULT,
+            programs,
+        }
+    }
 }

@@ -17,7 +17,9 @@ mod place;
 mod programs;
 mod read;
 mod report;
+mod shared;
 mod values;
+mod wording;
 
 pub use fault::JobFault;
 pub use job::{Job, ProgramJob};
@@ -25,4 +27,5 @@ pub use line::report_text;
 pub use list_types::{ListOf, OutOfMemory, Text};
 pub use read::read_job;
 pub use report::{ProgramReport, Report};
+pub use shared::shared_file;
 pub use version_table::Choice;

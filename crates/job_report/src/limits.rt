@@ -5,6 +5,9 @@ use version_table::limits::VERSIONS_MOST;
 /// Bytes of a job text, at most.
 pub const JOB_TEXT_MOST: usize = 1_048_576;
 
+/// Ticks of a packet slot where a single program is probed, which has no job text.
+pub const PROBE_SLOT: u32 = 4_000;
+
 /// When the earliest time of each program is due, in ticks: at most this.
 pub const START_MOST: u64 = 54_000_000;
 /// The same where the text doesn't say: half a second.

@@ -30,7 +30,7 @@ const PROGRAM_NAMES: [&str; 6] = ["file", "program", "number", "weight", "coarse
 const UNKNOWN: &str = "unknown";
 
 /// Whether a name is one of these.
-fn is_among(name: &str, names: &[&str]) -> bool
+pub(crate) fn is_among(name: &str, names: &[&str]) -> bool
     ensures { result ≡ list_any (λ other. bytes_eq name.now other.now) names.now }
 {
     names.iter().any(|other| name == *other)

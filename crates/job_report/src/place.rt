@@ -20,7 +20,7 @@ pub(crate) enum Place {
 }
 
 /// The name of a field as refusals print it.
-fn full_name(place: Place, name: &str) -> ArrayString<NAME_MOST>
+pub(crate) fn full_name(place: Place, name: &str) -> ArrayString<NAME_MOST>
     requires { length name.now ≤ FIELD_NAME_MOST }
     ensures { result.bytes ≡ place_text place ++ name.now }
 {

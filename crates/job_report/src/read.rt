@@ -4,6 +4,7 @@ ghost use Rattle.std.specs.Prelude.{◌≡◌, [], IfOk, IfErr};
 ghost use Rattle.toml.specs.View.{table_view};
 ghost use Rattle.job_report.specs.Refusal.{refusals_of};
 ghost use Rattle.job_report.specs.Job.{IsJobOf};
+ghost use Rattle.job_report.specs.ValidJob.{IsValidJob};
 ghost use Rattle.job_report.specs.JobText.{SpellsJob, IsJobFaultOf, JobAnswer, HasAnswer, Gives};
 ghost use Rattle.job_report.specs.Private.Fault.{TellsFirst};
 
@@ -30,6 +31,9 @@ pub fn read_job(alloc: Global, text: &[u8]) -> Result<Job, JobFault>
     // What is answered is so.
     ensures job { IfOk result (λ job. SpellsJob text.now job) }
     ensures refusal { IfErr result (IsJobFaultOf text.now) }
+
+    // A job that is answered is within all limits.
+    ensures valid { IfOk result IsValidJob }
 
     // What is so is answered, unless memory is wanted.
     ensures only { (answer : JobAnswer) → HasAnswer text.now answer → Gives result answer }

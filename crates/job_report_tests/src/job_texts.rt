@@ -1,0 +1,261 @@
+use job_report::limits::{JOB_TEXT_MOST, PROBE_SLOT};
+use job_report::*;
+use std::alloc::{AllocError, Global};
+use std::test::Fail;
+
+/// A job with what must be there.
+const LEAST: &str = "slot = 4000\n[[program]]\nfile = \"a.ts\"\nprogram = 1\nnumber = 1\n";
+
+/// What reading a text answers, in words.
+fn answer_of(alloc: Global, text: &[u8]) -> Result<String, AllocError> {
+    match read_job(alloc, text) {
+        Ok(_job) => String::from_str(alloc, "job"),
+        Err(fault) => match fault {
+            JobFault::JobSyntax => String::from_str(alloc, "syntax"),
+            JobFault::JobField(name) => format!(in alloc; "field {name}"),
+            JobFault::JobLimit(name) => format!(in alloc; "limit {name}"),
+            JobFault::OutOfMemory => String::from_str(alloc, "memory"),
+        },
+    }
+}
+
+/// What reading a text answers that goes on behind a job with what must be there.
+fn answer_behind(alloc: Global, rest: &str) -> Result<String, AllocError> {
+    let mut text = String::from_str(alloc, LEAST)?;
+    text.push_str(rest)?;
+    answer_of(alloc, text.as_bytes())
+}
+
+#[test]
+fn fields_of_a_job_are_tested_in_order(rt: HostRuntime) -> Result<(), Fail> {
+    for (text, want) in [
+        ("", "field slot"),
+        ("# a remark alone\n", "field slot"),
+        ("start = -1\n", "field slot"),
+        ("slot = \"4000\"\n", "field slot"),
+        ("slot = 4000.0\n", "field slot"),
+        ("slot = 2026-11-27\n", "field slot"),
+        ("slot = [4000]\n", "field slot"),
+        ("slot = -4000\n", "limit slot"),
+        ("slot = 1015\n", "limit slot"),
+        ("slot = 1016\n", "field program"),
+        ("slot = 40_000\n", "field program"),
+        ("slot = 40001\n", "limit slot"),
+        ("slot = 4000\n", "field program"),
+        ("slot = 4000\nstart = 0\n", "field program"),
+        ("slot = 4000\nstart = 54000000\n", "field program"),
+        ("slot = 4000\nstart = 54000001\n", "limit start"),
+        ("slot = 4000\nstart = true\n", "field start"),
+        ("slot = 4000\nstream_id = 65535\n", "field program"),
+        ("slot = 4000\nstream_id = 65536\n", "limit stream_id"),
+        ("slot = 4000\nnodes = 0\n", "limit nodes"),
+        ("slot = 4000\nnodes = 1048576\n", "field program"),
+        ("slot = 4000\nnodes = 1048577\n", "limit nodes"),
+        ("evaluations = 1.5\nnodes = 0\nslot = 4000\n", "limit nodes"),
+        ("slot = 4000\nevaluations = 0\n", "field program"),
+        ("slot = 4000\nevaluations = 1048577\n", "limit evaluations"),
+        ("slot = 4000\nprogram = 1\n", "field program"),
+        ("slot = 4000\n[program]\nfile = \"a.ts\"\n", "field program"),
+        ("slot = 4000\nprogram = []\n", "limit program"),
+        ("slot = 4000\nprogram = [{}, 1]\n", "field program"),
+        (
+            "slot = 4000\nprogram = [{},{},{},{},{},{},{},{},{}]\nx = 1\n",
+            "limit program",
+        ),
+        ("slot = 4000\nslots = 1\n[[program]]\n", "field unknown"),
+    ] {
+        assert_eq!(rt;
+            answer_of(rt.alloc(), text.as_bytes())?.as_str(),
+            want,
+            "at {text}"
+        );
+    }
+    Ok(())
+}
+
+#[test]
+fn fields_of_programs_are_tested_in_order(rt: HostRuntime) -> Result<(), Fail> {
+    for (text, want) in [
+        ("", "job"),
+        ("weight = 1\n", "job"),
+        ("weight = 0\n", "limit program[0].weight"),
+        ("weight = 100\n", "job"),
+        ("weight = 101\n", "limit program[0].weight"),
+        ("weight = \"1\"\nweigth = 2\n", "field program[0].weight"),
+        ("weigth = 2\n", "field program[0].unknown"),
+        ("coarser = []\n", "job"),
+        ("coarser = [17, 1792]\n", "job"),
+        ("coarser = [16, 17]\n", "limit program[0].coarser"),
+        ("coarser = [1793]\n", "limit program[0].coarser"),
+        ("coarser = [32, 24]\n", "limit program[0].coarser"),
+        ("coarser = [24, 24]\n", "limit program[0].coarser"),
+        ("coarser = [17, 18, 19, 20, 21, 22, 23]\n", "job"),
+        (
+            "coarser = [17, 18, 19, 20, 21, 22, 23, 24]\n",
+            "limit program[0].coarser",
+        ),
+        ("coarser = [1, \"32\"]\n", "field program[0].coarser"),
+        ("coarser = 24\n", "field program[0].coarser"),
+        ("drop = [8191, 0, 0]\n", "job"),
+        ("drop = [8192]\n", "limit program[0].drop"),
+        ("drop = [-1]\n", "limit program[0].drop"),
+        ("drop = [33, 34.0]\n", "field program[0].drop"),
+        ("[[program]]\n", "field program[1].file"),
+        ("[[program]]\nfile = \"\"\n", "limit program[1].file"),
+        ("[[program]]\nfile = \"b\"\n", "field program[1].program"),
+        (
+            "[[program]]\nfile = \"b\"\nprogram = 0\n",
+            "limit program[1].program",
+        ),
+        (
+            "[[program]]\nfile = \"b\"\nprogram = 1\n",
+            "field program[1].number",
+        ),
+        (
+            "[[program]]\nfile = \"b\"\nprogram = 65535\nnumber = 65535\n",
+            "job",
+        ),
+        (
+            "[[program]]\nfile = \"b\"\nprogram = 65536\n",
+            "limit program[1].program",
+        ),
+        (
+            "[[program]]\nfile = \"b\"\nprogram = 1\nnumber = 1\n",
+            "limit program[1].number",
+        ),
+        (
+            "[[program]]\nfile = \"a.ts\"\nprogram = 1\nnumber = 2\n",
+            "job",
+        ),
+    ] {
+        assert_eq!(rt;
+            answer_behind(rt.alloc(), text)?.as_str(),
+            want,
+            "at {text}"
+        );
+    }
+    Ok(())
+}
+
+#[test]
+fn texts_are_documents_or_refused(rt: HostRuntime) -> Result<(), Fail> {
+    for (text, want) in [
+        ("slot =\n", "syntax"),
+        ("slot = 4000\nslot = 4000\n", "syntax"),
+        ("slot = 04000\n", "syntax"),
+        ("slot = 4000\r\n", "field program"),
+        ("slot = 4000\r", "syntax"),
+        ("\u{feff}slot = 4000\n", "field program"),
+        ("slot = 4000", "field program"),
+        ("slot = 9223372036854775808\n", "syntax"),
+        ("\"slot\" = 4000\n", "field program"),
+    ] {
+        assert_eq!(rt;
+            answer_of(rt.alloc(), text.as_bytes())?.as_str(),
+            want,
+            "at {text}"
+        );
+    }
+    assert_eq!(rt; answer_of(rt.alloc(), b"# \xff\n")?.as_str(), "syntax");
+    Ok(())
+}
+
+#[test]
+fn the_bytes_of_a_text_are_counted_first(rt: HostRuntime) -> Result<(), Fail> {
+    let mut text = vec![in rt.alloc(); b'\n'; JOB_TEXT_MOST]?;
+    assert_eq!(rt; text.len(), 1_048_576);
+    assert_eq!(rt;
+        answer_of(rt.alloc(), text.as_slice())?.as_str(),
+        "field slot"
+    );
+    text.push(b'=')?;
+    assert_eq!(rt;
+        answer_of(rt.alloc(), text.as_slice())?.as_str(),
+        "limit bytes"
+    );
+    Ok(())
+}
+
+#[test]
+fn what_is_not_stated_has_its_default(rt: HostRuntime) -> Result<(), Fail> {
+    let job = read_job(rt.alloc(), LEAST.as_bytes())?;
+    assert_eq!(rt; job.slot, 4_000);
+    assert_eq!(rt; job.start, 13_500_000);
+    assert_eq!(rt; job.stream_id, 1);
+    assert_eq!(rt; job.nodes, 1_000);
+    assert_eq!(rt; job.evaluations, 1_000);
+    assert_eq!(rt; job.programs.len(), 1);
+    for program in job.programs.as_slice() {
+        assert_eq!(rt; program.weight, 1);
+        assert_eq!(rt;
+            program.coarser.as_slice(),
+            [24, 32, 48, 80, 128].as_slice()
+        );
+        assert_eq!(rt; program.drop.len(), 0);
+    }
+    Ok(())
+}
+
+#[test]
+fn what_is_stated_is_read(rt: HostRuntime) -> Result<(), Fail> {
+    let text = "evaluations = 0\nnodes = 7\nslot = 1016\nstart = 27_000_000\nstream_id = 0x1F\n\
+        program = [{file = 'b c', program = 2, number = 3, weight = 100, coarser = [17], drop = [33, 34]}]\n";
+    let job = read_job(rt.alloc(), text.as_bytes())?;
+    assert_eq!(rt; job.slot, 1_016);
+    assert_eq!(rt; job.start, 27_000_000);
+    assert_eq!(rt; job.stream_id, 31);
+    assert_eq!(rt; job.nodes, 7);
+    assert_eq!(rt; job.evaluations, 0);
+    assert_eq!(rt; job.programs.len(), 1);
+    for program in job.programs.as_slice() {
+        assert_eq!(rt; program.file.as_str(), "b c");
+        assert_eq!(rt; program.program, 2);
+        assert_eq!(rt; program.number, 3);
+        assert_eq!(rt; program.weight, 100);
+        assert_eq!(rt; program.coarser.as_slice(), [17].as_slice());
+        assert_eq!(rt; program.drop.as_slice(), [33, 34].as_slice());
+    }
+    Ok(())
+}
+
+#[test]
+fn the_first_program_of_a_named_file_is_told(rt: HostRuntime) -> Result<(), Fail> {
+    let mut text = String::from_str(rt.alloc(), LEAST)?;
+    text.push_str("[[program]]\nfile = \"out.ts\"\nprogram = 1\nnumber = 2\n")?;
+    text.push_str("[[program]]\nfile = \"job\"\nprogram = 1\nnumber = 3\n")?;
+    let job = read_job(rt.alloc(), text.as_bytes())?;
+    for (names, want) in [
+        (["job", "out.ts", "cert"], "program[1].file"),
+        (["job", "out", "cert"], "program[2].file"),
+        (["a.ts", "job", "out.ts"], "program[0].file"),
+        (["a", "A.ts", "out.ts2"], ""),
+    ] {
+        let told = match shared_file(&job, names.as_slice()) {
+            Some(name) => String::from_str(rt.alloc(), name.as_str())?,
+            None => String::new(rt.alloc()),
+        };
+        assert_eq!(rt; told.as_str(), want);
+    }
+    Ok(())
+}
+
+#[test]
+fn a_probed_program_has_the_defaults(rt: HostRuntime) -> Result<(), Fail> {
+    let mut file = Text::new(rt.alloc());
+    file.push_str("a.ts")?;
+    let mut programs = ListOf::new(rt.alloc());
+    programs.push(ProgramJob::new(file, 7, 9))?;
+    let job = Job::new(PROBE_SLOT, programs);
+    assert_eq!(rt; job.slot, 4_000);
+    assert_eq!(rt; job.start, 13_500_000);
+    for program in job.programs.as_slice() {
+        assert_eq!(rt; program.file.as_str(), "a.ts");
+        assert_eq!(rt; program.program, 7);
+        assert_eq!(rt; program.number, 9);
+        assert_eq!(rt;
+            program.coarser.as_slice(),
+            [24, 32, 48, 80, 128].as_slice()
+        );
+    }
+    Ok(())
+}
