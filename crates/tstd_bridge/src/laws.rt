@@ -1,0 +1,21 @@
+//! Laws of a schedule's packets in the decoder, as functions that do nothing.
+
+ghost use Rattle.std.specs.Prelude.{ℕ, ◌≡◌, ◌≤◌, List, length, slice_get, Some};
+ghost use Rattle.version_table.specs.declared.table.Table.{Table};
+ghost use Rattle.version_table.specs.Table.{IsValidTable};
+ghost use Rattle.slot_rule.specs.Queues.{queues_of};
+ghost use Rattle.slot_rule.specs.declared.queue_kind.QueueKind.{QueueKind};
+ghost use Rattle.slot_rule.specs.declared.queued_packet.QueuedPacket.{QueuedPacket};
+ghost use Rattle.slot_rule.specs.declared.row.Row.{Row};
+ghost use Rattle.slot_rule.specs.Schedule.{FollowRule};
+ghost use Rattle.tstd_model.specs.Decoder.{IsOverfull, transport_buffer};
+ghost use Rattle.tstd_bridge.specs.Arrivals.{Headers, buffers_of, arrivals_from};
+
+/// The transport buffer of an elementary stream is never over its size, where the rows follow the slot rule: its
+/// packets, and the PCR packets on the PID of a video stream, find little enough there.
+pub fn transport_buffers_hold()
+    ensures { (table : Table) (choice : List ℕ) (rows : List Row) (stream : ℕ) (kind : QueueKind) (packets : List QueuedPacket) (headers : Headers) (at : ℕ)
+        → IsValidTable table → FollowRule table choice rows
+        → slice_get (queues_of table choice) stream ≡ Some (record { kind = kind; packets = packets })
+        → IsOverfull (transport_buffer table.slot (buffers_of kind) (arrivals_from 0 stream kind headers rows)) at → ⊥ }
+{}
