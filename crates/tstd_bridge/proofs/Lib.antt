@@ -1,4 +1,7 @@
 pub mod ArrivalRows
+pub mod AudioB
+pub mod Gone
+pub mod KeptBytes
 pub mod TbService
 pub mod TbWork
 pub mod TbHolds

@@ -2,14 +2,19 @@
 
 ghost use Rattle.std.specs.Prelude.{ℕ, ◌≡◌, ◌≤◌, List, length, slice_get, Some};
 ghost use Rattle.version_table.specs.declared.table.Table.{Table};
+ghost use Rattle.version_table.specs.Choice.{Fits};
 ghost use Rattle.version_table.specs.Table.{IsValidTable};
 ghost use Rattle.slot_rule.specs.Queues.{queues_of};
 ghost use Rattle.slot_rule.specs.declared.queue_kind.QueueKind.{QueueKind};
 ghost use Rattle.slot_rule.specs.declared.queued_packet.QueuedPacket.{QueuedPacket};
 ghost use Rattle.slot_rule.specs.declared.row.Row.{Row};
 ghost use Rattle.slot_rule.specs.Schedule.{FollowRule};
-ghost use Rattle.tstd_model.specs.Decoder.{IsOverfull, transport_buffer};
+ghost use Rattle.tstd_model.specs.Decoder.{IsOverfull, audio_buffer, elementary_buffer, transport_buffer};
+ghost use Rattle.tstd_model.specs.declared.decoder_input.Arrival.{Arrival};
+ghost use Rattle.tstd_model.specs.declared.decoder_input.Removal.{Removal};
+ghost use Rattle.slot_rule.specs.declared.queue_kind.QueueKind.TheVariants.{Audio};
 ghost use Rattle.tstd_bridge.specs.Arrivals.{Headers, buffers_of, arrivals_from};
+ghost use Rattle.tstd_bridge.specs.Removals.{AreWithin, IsAllowed};
 
 /// The transport buffer of an elementary stream is never over its size, where the rows follow the slot rule: its
 /// packets, and the PCR packets on the PID of a video stream, find little enough there.
@@ -18,4 +23,20 @@ pub fn transport_buffers_hold()
         → IsValidTable table → FollowRule table choice rows
         → slice_get (queues_of table choice) stream ≡ Some (record { kind = kind; packets = packets })
         → IsOverfull (transport_buffer table.slot (buffers_of kind) (arrivals_from 0 stream kind headers rows)) at → ⊥ }
+{}
+
+/// The main buffer of an audio stream is never over its size, where the rows follow the slot rule and each byte is removed
+/// by the time at which its packet is gone.
+pub fn audio_buffers_hold()
+    ensures { (table : Table) (choice : List ℕ) (rows : List Row) (stream : ℕ) (packets : List QueuedPacket) (headers : Headers) (removals : List Removal) (at : ℕ)
+        → IsValidTable table → Fits table choice → FollowRule table choice rows
+        → slice_get (queues_of table choice) stream ≡ Some (record { kind = Audio; packets = packets })
+        → AreWithin headers packets → IsAllowed Audio headers packets removals
+        → IsOverfull (audio_buffer table.slot (arrivals_from 0 stream Audio headers rows) removals) at → ⊥ }
+{}
+
+/// The elementary buffer of a video stream is never over its size, whatever comes and is removed: a byte moves into it only
+/// where there is room.
+pub fn elementary_buffers_hold()
+    ensures { (slot vbv : ℕ) (arrivals : List Arrival) (removals : List Removal) (at : ℕ) → IsOverfull (elementary_buffer slot vbv arrivals removals) at → ⊥ }
 {}
