@@ -85,3 +85,35 @@ length-packet_parts arrival fits =
 pub parts-push : (arrivals : List Arrival) (arrival : Arrival) → parts (arrivals ++ arrival ∷ []) ≡ parts arrivals ++ parts_of arrival
 unfolding parts
 parts-push arrivals arrival = flat_map-append parts_of arrivals (arrival ∷ []) ∙ ap (λ more. parts arrivals ++ more) (append-nil (parts_of arrival))
+
+-- ---- all payload bytes of a packet are kept
+kept_body : (body : ℕ) (xs : List ℕ) → body ≤ length xs → length (kept is_payload (replicate body Data) xs) ≡ body
+unfolding kept
+kept_body zero xs within = refl
+kept_body (suc body) [] within = absurd (omega arith)
+kept_body (suc body) (x ∷ xs) within = ap suc (kept_body body xs (omega (arith, within)))
+
+kept_payload : (header body : ℕ) (xs : List ℕ) → header + body ≤ length xs → length (kept is_payload (replicate header PesHeader ++ replicate body Data) xs) ≡ header + body
+unfolding kept
+kept_payload zero body xs within = kept_body body xs (omega (arith, within)) ∙ (let e : body ≡ 0 + body = omega arith in e)
+kept_payload (suc header) body [] within = absurd (omega arith)
+kept_payload (suc header) body (x ∷ xs) within =
+    let e : suc (header + body) ≡ suc header + body = omega arith in
+    ap suc (kept_payload header body xs (omega (arith, within))) ∙ e
+
+kept_all : (front header body : ℕ) (xs : List ℕ) → front + (header + body) ≤ length xs
+    → length (kept is_payload (replicate front Overhead ++ (replicate header PesHeader ++ replicate body Data)) xs) ≡ header + body
+unfolding kept
+kept_all zero header body xs within = kept_payload header body xs (omega (arith, within))
+kept_all (suc front) header body [] within = absurd (omega arith)
+kept_all (suc front) header body (x ∷ xs) within = kept_all front header body xs (omega (arith, within))
+
+pub length-kept_whole : (arrival : Arrival) (xs : List ℕ) → HasHeaderWithin arrival → length xs ≡ PACKET_BYTES → length (kept is_payload (parts_of arrival) xs) ≡ arrival.payload
+length-kept_whole arrival xs fits whole =
+    rw (parts_of-is arrival)
+    (omega (arith, kept_all (PACKET_BYTES - arrival.payload) arrival.header (arrival.payload - arrival.header) xs (omega (arith, fits.0, fits.1, whole)), fits.0))
+
+pub spaced-from : (before first step count : ℕ) → before ≤ first → Spaced 0 before (spaced first step count)
+unfolding spaced
+spaced-from before first step zero le = tt
+spaced-from before first step (suc count) le = (omega arith, spaced-from first (first + step) step count (omega arith))

@@ -1,9 +1,12 @@
 pub mod ArrivalRows
 pub mod AudioB
+pub mod AudioClean
+pub mod AudioTimes
 pub mod Gone
 pub mod KeptBytes
 pub mod TbService
 pub mod TbWork
+pub mod ZipLaws
 pub mod TbHolds
 pub mod PcrPlaces
 pub mod TbFollows

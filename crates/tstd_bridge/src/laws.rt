@@ -8,10 +8,13 @@ ghost use Rattle.slot_rule.specs.Queues.{queues_of};
 ghost use Rattle.slot_rule.specs.declared.queue_kind.QueueKind.{QueueKind};
 ghost use Rattle.slot_rule.specs.declared.queued_packet.QueuedPacket.{QueuedPacket};
 ghost use Rattle.slot_rule.specs.declared.row.Row.{Row};
-ghost use Rattle.slot_rule.specs.Schedule.{FollowRule};
+ghost use Rattle.slot_rule.specs.Schedule.{FollowRule, IsSchedule};
 ghost use Rattle.tstd_model.specs.Decoder.{IsOverfull, audio_buffer, elementary_buffer, transport_buffer};
+ghost use Rattle.tstd_model.specs.Faults.{IsFault};
 ghost use Rattle.tstd_model.specs.declared.decoder_input.Arrival.{Arrival};
+ghost use Rattle.tstd_model.specs.declared.decoder_input.BufferKind.TheVariants.{Audio as AudioBuffers};
 ghost use Rattle.tstd_model.specs.declared.decoder_input.Removal.{Removal};
+ghost use Rattle.tstd_model.specs.declared.fault.TstdFault.{TstdFault};
 ghost use Rattle.slot_rule.specs.declared.queue_kind.QueueKind.TheVariants.{Audio};
 ghost use Rattle.tstd_bridge.specs.Arrivals.{Headers, buffers_of, arrivals_from};
 ghost use Rattle.tstd_bridge.specs.Removals.{AreWithin, IsAllowed};
@@ -39,4 +42,14 @@ pub fn audio_buffers_hold()
 /// where there is room.
 pub fn elementary_buffers_hold()
     ensures { (slot vbv : ℕ) (arrivals : List Arrival) (removals : List Removal) (at : ℕ) → IsOverfull (elementary_buffer slot vbv arrivals removals) at → ⊥ }
+{}
+
+/// The decoder of an audio stream has no fault under a schedule: no buffer overflows, each byte is in the main buffer before
+/// it is removed, and none is held longer than a second.
+pub fn audio_streams_are_clean()
+    ensures { (table : Table) (choice : List ℕ) (rows : List Row) (stream : ℕ) (packets : List QueuedPacket) (headers : Headers) (removals : List Removal) (fault : TstdFault)
+        → IsValidTable table → Fits table choice → IsSchedule table choice rows
+        → slice_get (queues_of table choice) stream ≡ Some (record { kind = Audio; packets = packets })
+        → AreWithin headers packets → IsAllowed Audio headers packets removals
+        → IsFault table.slot AudioBuffers (arrivals_from 0 stream Audio headers rows) removals fault → ⊥ }
 {}
