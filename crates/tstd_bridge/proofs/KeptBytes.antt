@@ -9,7 +9,7 @@ use Rattle.tstd_model.specs.declared.decoder_input.Arrival.{Arrival}
 use Rattle.tstd_model.specs.declared.decoder_input.PacketPart.{PacketPart}
 use Rattle.tstd_model.specs.declared.decoder_input.PacketPart.TheVariants.{Overhead, PesHeader, Data}
 use Rattle.tstd_model.specs.Instants.{spaced, departures, came}
-use Rattle.tstd_model.specs.PacketBytes.{HasHeaderWithin, parts_of, parts, is_payload, kept}
+use Rattle.tstd_model.specs.PacketBytes.{HasHeaderWithin, parts_of, parts, is_payload, is_data, kept}
 use Rattle.tstd_model.specs.Private.Server.{Spaced}
 use Rattle.tstd_model.proofs.Counts.{came-yes, Spaced-rises}
 use Rattle.tstd_model.proofs.Server.{departures-spaced}
@@ -117,3 +117,28 @@ pub spaced-from : (before first step count : ℕ) → before ≤ first → Space
 unfolding spaced
 spaced-from before first step zero le = tt
 spaced-from before first step (suc count) le = (omega arith, spaced-from first (first + step) step count (omega arith))
+
+-- ---- all data bytes of a packet are kept
+data_body : (body : ℕ) (xs : List ℕ) → body ≤ length xs → length (kept is_data (replicate body Data) xs) ≡ body
+unfolding kept
+data_body zero xs within = refl
+data_body (suc body) [] within = absurd (omega arith)
+data_body (suc body) (x ∷ xs) within = ap suc (data_body body xs (omega (arith, within)))
+
+data_payload : (header body : ℕ) (xs : List ℕ) → header + body ≤ length xs → length (kept is_data (replicate header PesHeader ++ replicate body Data) xs) ≡ body
+unfolding kept
+data_payload zero body xs within = data_body body xs (omega (arith, within))
+data_payload (suc header) body [] within = absurd (omega arith)
+data_payload (suc header) body (x ∷ xs) within = data_payload header body xs (omega (arith, within))
+
+data_all : (front header body : ℕ) (xs : List ℕ) → front + (header + body) ≤ length xs
+    → length (kept is_data (replicate front Overhead ++ (replicate header PesHeader ++ replicate body Data)) xs) ≡ body
+unfolding kept
+data_all zero header body xs within = data_payload header body xs (omega (arith, within))
+data_all (suc front) header body [] within = absurd (omega arith)
+data_all (suc front) header body (x ∷ xs) within = data_all front header body xs (omega (arith, within))
+
+pub length-kept_data : (arrival : Arrival) (xs : List ℕ) → HasHeaderWithin arrival → length xs ≡ PACKET_BYTES → length (kept is_data (parts_of arrival) xs) ≡ arrival.payload - arrival.header
+length-kept_data arrival xs fits whole =
+    rw (parts_of-is arrival)
+    (data_all (PACKET_BYTES - arrival.payload) arrival.header (arrival.payload - arrival.header) xs (omega (arith, fits.0, fits.1, whole)))

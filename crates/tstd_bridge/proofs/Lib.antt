@@ -6,6 +6,7 @@ pub mod Gone
 pub mod KeptBytes
 pub mod TbService
 pub mod TbWork
+pub mod VideoHeld
 pub mod ZipLaws
 pub mod TbHolds
 pub mod PcrPlaces

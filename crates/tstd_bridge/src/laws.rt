@@ -10,12 +10,12 @@ ghost use Rattle.slot_rule.specs.declared.queued_packet.QueuedPacket.{QueuedPack
 ghost use Rattle.slot_rule.specs.declared.row.Row.{Row};
 ghost use Rattle.slot_rule.specs.Schedule.{FollowRule, IsSchedule};
 ghost use Rattle.tstd_model.specs.Decoder.{IsOverfull, audio_buffer, elementary_buffer, transport_buffer};
-ghost use Rattle.tstd_model.specs.Faults.{IsFault};
+ghost use Rattle.tstd_model.specs.Faults.{HeldPastLimit, IsFault};
 ghost use Rattle.tstd_model.specs.declared.decoder_input.Arrival.{Arrival};
-ghost use Rattle.tstd_model.specs.declared.decoder_input.BufferKind.TheVariants.{Audio as AudioBuffers};
+ghost use Rattle.tstd_model.specs.declared.decoder_input.BufferKind.TheVariants.{Audio as AudioBuffers, Video as VideoBuffers};
 ghost use Rattle.tstd_model.specs.declared.decoder_input.Removal.{Removal};
 ghost use Rattle.tstd_model.specs.declared.fault.TstdFault.{TstdFault};
-ghost use Rattle.slot_rule.specs.declared.queue_kind.QueueKind.TheVariants.{Audio};
+ghost use Rattle.slot_rule.specs.declared.queue_kind.QueueKind.TheVariants.{Audio, Video};
 ghost use Rattle.tstd_bridge.specs.Arrivals.{Headers, buffers_of, arrivals_from};
 ghost use Rattle.tstd_bridge.specs.Removals.{AreWithin, IsAllowed};
 
@@ -52,4 +52,13 @@ pub fn audio_streams_are_clean()
         → slice_get (queues_of table choice) stream ≡ Some (record { kind = Audio; packets = packets })
         → AreWithin headers packets → IsAllowed Audio headers packets removals
         → IsFault table.slot AudioBuffers (arrivals_from 0 stream Audio headers rows) removals fault → ⊥ }
+{}
+
+/// No byte of a video stream is held longer than a second under a schedule.
+pub fn video_is_not_held_long()
+    ensures { (table : Table) (choice : List ℕ) (rows : List Row) (stream program vbv : ℕ) (packets : List QueuedPacket) (headers : Headers) (removals : List Removal) (at : ℕ)
+        → IsValidTable table → Fits table choice → IsSchedule table choice rows
+        → slice_get (queues_of table choice) stream ≡ Some (record { kind = Video program vbv; packets = packets })
+        → AreWithin headers packets → IsAllowed (Video program vbv) headers packets removals
+        → HeldPastLimit table.slot (VideoBuffers vbv) (arrivals_from 0 stream (Video program vbv) headers rows) removals at → ⊥ }
 {}
