@@ -4,6 +4,8 @@ pub mod AudioClean
 pub mod AudioTimes
 pub mod Gone
 pub mod KeptBytes
+pub mod MbFree
+pub mod MbService
 pub mod TbService
 pub mod TbWork
 pub mod VideoHeld
