@@ -1,5 +1,5 @@
 -- MB of video, served as if EB always had room, is free soon after the work that the slot rule counts there.
-use Rattle.std.proofs.Common.{◌≡◌, ℕ, ◌+◌, ◌-◌, ◌*◌, ◌<◌, ◌≤◌, ◌⊎◌, eqb, eq-eqb, List, [], ◌∷◌, ◌++◌, length, count_by, slice_get, Some, refl, sym, ap, subst, ◌∙◌, inl, inr, arith}
+use Rattle.std.proofs.Common.{◌≡◌, ℕ, ◌+◌, ◌-◌, ◌*◌, ◌%◌, ◌<◌, ◌≤◌, ◌⊎◌, eqb, eq-eqb, List, [], ◌∷◌, ◌++◌, length, count_by, slice_get, Some, refl, sym, ap, subst, ◌∙◌, inl, inr, arith}
 use Rattle.std.proofs.lemmas.Bool.{cases_Bool, cases_lt, eqb-true, eqb-false, cond-true}
 use Rattle.std.proofs.lemmas.List.{length_push}
 use Rattle.std.proofs.lemmas.Option.{same_Some}
@@ -35,15 +35,17 @@ use Rattle.tstd_bridge.proofs.ArrivalRows.{arrival_of}
 use Rattle.tstd_bridge.proofs.AudioB.{passes, packet_passes, HasParts, passes-none, passes-one, has_parts-none, has_parts-one}
 use Rattle.tstd_bridge.proofs.KeptBytes.{length-kept_whole}
 use Rattle.tstd_bridge.proofs.MbService.{IsServed, last_departure-kept, came-all}
-use Rattle.tstd_bridge.proofs.TbFollows.{carried_gate}
+use Rattle.slot_rule.specs.Timetable.{period}
+use Rattle.tstd_bridge.proofs.PcrPlaces.{IsPcrPlace, pcr_place}
+use Rattle.tstd_bridge.proofs.TbFollows.{carried_gate, video_room, video_room_after}
 use Rattle.tstd_bridge.proofs.TbWork.{tb_free, tb_free-most}
 use Rattle.tstd_bridge.proofs.ZipLaws.{departures-by}
 
 -- when MB is free after the rows, where headers take as long as data
-abbrev mb_free : (slot stream program vbv : ℕ) → Headers → List Row → ℕ
+abbrev pub mb_free : (slot stream program vbv : ℕ) → Headers → List Row → ℕ
 mb_free slot stream program vbv headers rows = last_departure MB_SUBTICKS 0 (passes slot stream (Video program vbv) headers rows)
 
-record IsFreeSoon (slot stream program vbv : ℕ) (headers : Headers) (rows : List Row) : Type 0 where
+pub record IsFreeSoon (slot stream program vbv : ℕ) (headers : Headers) (rows : List Row) : Type 0 where
   pub has : HasParts slot stream (Video program vbv) headers rows
   pub free : mb_free slot stream program vbv headers rows ≤ length rows * slot_subticks slot + mb_work slot stream rows + mb_delay
 
@@ -88,3 +90,73 @@ free-one slot stream program vbv headers rows row one small fits quick before =
       has = has_parts-one slot stream (Video program vbv) headers rows row one fits before.has;
       free = rw (passes-one slot stream (Video program vbv) headers rows row one before.has, last_departure-append MB_SUBTICKS 0 (passes slot stream (Video program vbv) headers rows) own, length_push rows row) after;
     }
+
+free-carried : (table : Table) (choice : List ℕ) (stream s program vbv : ℕ) (packets : List QueuedPacket) (headers : Headers) (rows : List Row) (packet : QueuedPacket) → IsValidTable table → Fits table choice
+    → slice_get (queues_of table choice) stream ≡ Some (record { kind = Video program vbv; packets = packets }) → AreWithin headers packets
+    → s ≡ stream → Goes table.slot (queues_of table choice) rows s packet
+    → IsFreeSoon table.slot stream program vbv headers rows → IsFreeSoon table.slot stream program vbv headers (rows ++ Carries s packet ∷ [])
+free-carried table choice stream s program vbv packets headers rows packet valid fits there within same goes before =
+    let slot = table.slot in
+    let queue : Queue = record { kind = Video program vbv; packets = packets } in
+    let head : Queue = record { kind = goes.kind; packets = goes.head.0 } in
+    let is : head ≡ queue = same_Some head queue (sym goes.head.1 ∙ ap (λ k. slice_get (queues_of table choice) k) same ∙ there) in
+    let at : slice_get packets (count_by (is_of s) rows) ≡ Some packet = ap (λ (q : Queue). slice_get q.packets (count_by (is_of s) rows)) (sym is) ∙ goes.head.2 in
+    let header : headers packet ≤ packet.payload = All-at_place (λ (p : QueuedPacket). headers p ≤ p.payload) packets within (count_by (is_of s) rows) packet at in
+    let limited : IsLimited slot packet = IsHead-limited table choice rows s goes.kind packet valid fits goes.head in
+    let payload_is : payload_in stream (Carries s packet) ≡ packet.payload = payload_in-carried stream s packet same in
+    let header_is : header_in stream headers (Carries s packet) ≡ headers packet = cond-true (eqb s stream) (headers packet) 0 (eq-eqb s stream same) in
+    free-one slot stream program vbv headers rows (Carries s packet) (packets_in-carried stream s (Video program vbv) packet same)
+    (omega (arith, payload_is, limited.payload))
+    (omega (arith, header, header_is, payload_is), omega (arith, payload_is, limited.payload))
+    (omega (arith, tb_free-most slot stream (Video program vbv) headers rows, carried_gate slot stream s (queues_of table choice) (Video program vbv) packets rows packet there same goes))
+    before
+
+free-row : (table : Table) (choice : List ℕ) (stream program vbv : ℕ) (packets : List QueuedPacket) (headers : Headers) (rows : List Row) (row : Row) → IsValidTable table → Fits table choice
+    → slice_get (queues_of table choice) stream ≡ Some (record { kind = Video program vbv; packets = packets }) → AreWithin headers packets
+    → FollowRule table choice rows → IsNext table choice rows row → IsFreeSoon table.slot stream program vbv headers rows → IsFreeSoon table.slot stream program vbv headers (rows ++ row ∷ [])
+free-row table choice stream program vbv packets headers rows Empty valid fits there within follows next before = free-none table.slot stream program vbv headers rows Empty refl refl before
+free-row table choice stream program vbv packets headers rows (Reserved Null) valid fits there within follows next before = free-none table.slot stream program vbv headers rows (Reserved Null) refl refl before
+free-row table choice stream program vbv packets headers rows (Reserved Pat) valid fits there within follows next before = free-none table.slot stream program vbv headers rows (Reserved Pat) refl refl before
+free-row table choice stream program vbv packets headers rows (Reserved (Pmt p)) valid fits there within follows next before = free-none table.slot stream program vbv headers rows (Reserved (Pmt p)) refl refl before
+free-row table choice stream program vbv packets headers rows (Reserved (VideoPiece a b c)) valid fits there within follows next before = free-none table.slot stream program vbv headers rows (Reserved (VideoPiece a b c)) refl refl before
+free-row table choice stream program vbv packets headers rows (Reserved (AudioPiece a b)) valid fits there within follows next before = free-none table.slot stream program vbv headers rows (Reserved (AudioPiece a b)) refl refl before
+free-row table choice stream program vbv packets headers rows (Reserved (Pcr p)) valid fits there within follows next before =
+    elim (cases_Bool (eqb p program)) as (λ _. IsFreeSoon table.slot stream program vbv headers (rows ++ Reserved (Pcr p) ∷ [])) [
+      | inl same ↦
+          (let place : IsPcrPlace (length table.programs) program (length rows % period table.slot) =
+          subst (λ q. IsPcrPlace (length table.programs) q (length rows % period table.slot)) (eqb-true p program same) (pcr_place (length table.programs) (length rows % period table.slot) p next) in
+          let room = video_room_after table choice stream program vbv packets rows valid there follows in
+          let little : tb_work table.slot stream (Video program vbv) rows ≤ video_room - 3 * slot_subticks table.slot = room.after_two (omega (arith, place.after, place.within)) (omega (arith, place.place)) place.within in
+          free-one table.slot stream program vbv headers rows (Reserved (Pcr p)) (packets_in-pcr stream program vbv p (eqb-true p program same)) (omega arith) (omega arith, omega arith)
+          (omega (arith, tb_free-most table.slot stream (Video program vbv) headers rows, little, valid.slot_least)) before)
+      | inr other ↦ free-none table.slot stream program vbv headers rows (Reserved (Pcr p)) (packets_in-other_pcr stream program vbv p (eqb-false p program other)) refl before
+    ]
+free-row table choice stream program vbv packets headers rows (Carries s packet) valid fits there within follows next before =
+    elim (cases_Bool (eqb s stream)) as (λ _. IsFreeSoon table.slot stream program vbv headers (rows ++ Carries s packet ∷ [])) [
+      | inl same ↦ free-carried table choice stream s program vbv packets headers rows packet valid fits there within (eqb-true s stream same) next.1 before
+      | inr other ↦
+          (let apart : s ≡ stream → ⊥ = eqb-false s stream other in
+          free-none table.slot stream program vbv headers rows (Carries s packet) (packets_in-other stream s (Video program vbv) packet apart) (payload_in-other stream s packet apart) before)
+    ]
+
+pub free_soon : (table : Table) (choice : List ℕ) (stream program vbv : ℕ) (packets : List QueuedPacket) (headers : Headers) (rows : List Row) → IsValidTable table → Fits table choice
+    → slice_get (queues_of table choice) stream ≡ Some (record { kind = Video program vbv; packets = packets }) → AreWithin headers packets
+    → FollowRule table choice rows → IsFreeSoon table.slot stream program vbv headers rows
+free_soon table choice stream program vbv packets headers rows valid fits there within =
+    by_push (λ rows. FollowRule table choice rows → IsFreeSoon table.slot stream program vbv headers rows) (λ follows. free-nil table.slot stream program vbv headers)
+    (λ rows row before follows.
+    let front : FollowRule table choice rows = FollowRule-front table choice rows (row ∷ []) follows in
+    free-row table choice stream program vbv packets headers rows row valid fits there within front (FollowRule-last table choice rows row follows) (before front))
+    rows
+
+pub mb_empty : (table : Table) (choice : List ℕ) (stream program vbv : ℕ) (packets : List QueuedPacket) (headers : Headers) (rows : List Row) (at : ℕ) → IsValidTable table → Fits table choice
+    → FollowRule table choice rows → slice_get (queues_of table choice) stream ≡ Some (record { kind = Video program vbv; packets = packets }) → AreWithin headers packets
+    → length rows * slot_subticks table.slot + mb_work table.slot stream rows + mb_delay ≤ at
+    → came at (departures MB_SUBTICKS 0 (payload_passes table.slot (VideoBuffers vbv) (arrivals_from 0 stream (Video program vbv) headers rows)))
+    ≡ length (payload_passes table.slot (VideoBuffers vbv) (arrivals_from 0 stream (Video program vbv) headers rows))
+unfolding payload_passes leave_tb
+mb_empty table choice stream program vbv packets headers rows at valid fits follows there within late =
+    let pass = passes table.slot stream (Video program vbv) headers rows in
+    let soon : IsFreeSoon table.slot stream program vbv headers rows = free_soon table choice stream program vbv packets headers rows valid fits there within follows in
+    came-all at (last_departure MB_SUBTICKS 0 pass) (departures MB_SUBTICKS 0 pass) (departures-by MB_SUBTICKS 0 pass) (omega (arith, soon.free, late))
+    ∙ length-departures MB_SUBTICKS 0 pass
