@@ -1,5 +1,5 @@
 -- The main buffer B of an audio stream holds no more than its size.
-use Rattle.std.proofs.Common.{◌≡◌, ℕ, ◌+◌, ◌-◌, ◌*◌, ◌<◌, ◌≤◌, eqb, eq-eqb, List, [], ◌∷◌, ◌++◌, length, replicate, take, drop, count_by, slice_get, Some, All, refl, sym, ap, subst, subst₂, ◌∙◌, inl, inr, append-nil, length-append, arith}
+use Rattle.std.proofs.Common.{◌≡◌, ℕ, ◌+◌, ◌-◌, ◌*◌, ◌<◌, ◌≤◌, eqb, eq-eqb, List, [], ◌∷◌, ◌++◌, length, replicate, take, drop, count_by, slice_get, Some, refl, sym, ap, subst, subst₂, ◌∙◌, inl, inr, append-nil, length-append, arith}
 use Rattle.std.proofs.lemmas.List.{length-replicate}
 use Rattle.std.specs.List.{AllZip}
 use Rattle.std.proofs.lemmas.Bool.{cases_Bool, eqb-true, eqb-false, cond-true}
@@ -18,7 +18,7 @@ use Rattle.slot_rule.specs.declared.row.Row.{Row}
 use Rattle.slot_rule.specs.declared.row.Row.TheVariants.{Reserved, Carries, Empty}
 use Rattle.slot_rule.specs.Queues.{Queue, queues_of}
 use Rattle.slot_rule.specs.Buffers.{packets_in, payload_in, tb_subticks, outstanding, eb_or_b_bytes, is_of}
-use Rattle.slot_rule.specs.Schedule.{IsRow, Goes, FollowRule}
+use Rattle.slot_rule.specs.Schedule.{Goes, FollowRule}
 use Rattle.slot_rule.proofs.Places.{All-at_place}
 use Rattle.slot_rule.proofs.RuleFronts.{by_push}
 use Rattle.slot_rule.proofs.RuleQueues.{IsLimited, IsHead-limited}
@@ -26,7 +26,6 @@ use Rattle.slot_rule.proofs.RuleRows.{IsNext, FollowRule-front, FollowRule-last}
 use Rattle.slot_rule.proofs.RuleSent.{packet_of, packets_sent, packet_of-carried, packet_of-other, FollowRule-sent}
 use Rattle.slot_rule.proofs.RuleWork.{packets_in-carried, packets_in-other, payload_in-carried}
 use Rattle.tstd_model.specs.declared.decoder_input.Arrival.{Arrival}
-use Rattle.tstd_model.specs.declared.decoder_input.BufferKind.TheVariants.{Audio as AudioBuffers}
 use Rattle.tstd_model.specs.declared.decoder_input.Removal.{Removal}
 use Rattle.tstd_model.specs.Instants.{spaced, departures, came}
 use Rattle.tstd_model.specs.PacketBytes.{HasHeaderWithin, byte_subticks, parts_of, parts, is_payload, kept, arrives}
@@ -37,7 +36,7 @@ use Rattle.tstd_model.proofs.RisingLaws.{kept-rises, length-spaced}
 use Rattle.tstd_model.proofs.Server.{departures-append, length-departures}
 use Rattle.tstd_bridge.specs.Arrivals.{Headers, header_in, arrivals_from}
 use Rattle.tstd_bridge.specs.Removals.{AreWithin, gone_of_each, IsAllowed}
-use Rattle.tstd_bridge.proofs.ArrivalRows.{arrival_of, arrivals_from-none, arrivals_from-one, arrives-push, bytes_come, bytes_come-none, bytes_come-one}
+use Rattle.tstd_bridge.proofs.ArrivalRows.{arrival_of, arrivals_from-none, arrivals_from-one, arrives-push, bytes_come}
 use Rattle.tstd_bridge.proofs.Gone.{gones, gones-push, gone_of_each-append, gones-late, gate-step}
 use Rattle.tstd_bridge.proofs.KeptBytes.{came-append, departures-from, kept-append, length-kept_packet, length-packet_parts, parts-push}
 use Rattle.tstd_bridge.proofs.TbWork.{tb_free}
@@ -140,8 +139,8 @@ little-one slot stream headers rows row packet one own_packet payload_is fits ga
       has = has_parts-one slot stream Audio headers rows row one fits little.has;
       few = rw (more, same) (omega (arith, little.few, length-append before own, length-append gone_before (replicate packet.payload gone), length-replicate packet.payload gone, small));
       held = λ x. rw (more, same)
-      (gate-step AUDIO_BYTES x start (outstanding stream (length rows * slot) rows) packet.payload gone before own gone_before (little.held x) little.few low small
-      (λ from. gones-late stream (length rows * slot) x headers rows (omega (arith, from))) gate);
+          (gate-step AUDIO_BYTES x start (outstanding stream (length rows * slot) rows) packet.payload gone before own gone_before (little.held x) little.few low small
+          (λ from. gones-late stream (length rows * slot) x headers rows (omega (arith, from))) gate);
     }
 
 little-nil : (slot stream : ℕ) (headers : Headers) → HoldsLittle slot stream headers []

@@ -1,5 +1,5 @@
 -- The decoder of an audio stream has no fault.
-use Rattle.std.proofs.Common.{◌≡◌, ℕ, zero, suc, List, [], ◌∷◌, slice_get, Some, None, sym, subst, refl}
+use Rattle.std.proofs.Common.{◌≡◌, ℕ, zero, suc, List, [], ◌∷◌, slice_get, Some, sym, subst}
 use Rattle.std.proofs.lemmas.Option.{same_Some, none-some}
 use Rattle.version_table.specs.declared.table.Table.{Table}
 use Rattle.version_table.specs.Choice.{Fits}
@@ -10,11 +10,10 @@ use Rattle.slot_rule.specs.declared.row.Row.{Row}
 use Rattle.slot_rule.specs.Queues.{queues_of}
 use Rattle.slot_rule.specs.Schedule.{IsSchedule}
 use Rattle.tstd_model.specs.declared.decoder_input.BufferKind.TheVariants.{Audio as AudioBuffers}
-use Rattle.tstd_model.specs.declared.decoder_input.Arrival.{Arrival}
 use Rattle.tstd_model.specs.declared.decoder_input.Removal.{Removal}
 use Rattle.tstd_model.specs.declared.fault.TstdFault.{TstdFault}
 use Rattle.tstd_model.specs.declared.fault.TstdFault.TheVariants.{Overflow, Late, Old}
-use Rattle.tstd_model.specs.Decoder.{DecoderBuffer, IsOverfull, buffers, transport_buffer, audio_buffer}
+use Rattle.tstd_model.specs.Decoder.{DecoderBuffer, IsOverfull, transport_buffer, audio_buffer}
 use Rattle.tstd_model.specs.Faults.{IsFault}
 use Rattle.tstd_bridge.specs.Arrivals.{Headers, arrivals_from}
 use Rattle.tstd_bridge.specs.Removals.{AreWithin, IsAllowed}

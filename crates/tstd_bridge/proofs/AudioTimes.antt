@@ -1,5 +1,5 @@
 -- An audio stream's bytes are in B before they are removed, and none is held too long.
-use Rattle.std.proofs.Common.{◌≡◌, ℕ, suc, ◌+◌, ◌-◌, ◌*◌, ◌<◌, ◌≤◌, eqb, eq-eqb, List, [], ◌∷◌, ◌++◌, length, replicate, take, count_by, sum_by, map, slice_get, Some, refl, sym, ap, subst, subst₂, ◌∙◌, inl, inr, append-nil, append_assoc, take_all, add-one, arith}
+use Rattle.std.proofs.Common.{◌≡◌, ℕ, suc, ◌+◌, ◌*◌, ◌<◌, ◌≤◌, eqb, eq-eqb, List, [], ◌∷◌, ◌++◌, length, replicate, take, count_by, sum_by, map, slice_get, Some, refl, sym, ap, subst, subst₂, ◌∙◌, inl, inr, append-nil, append_assoc, take_all, arith}
 use Rattle.std.specs.List.{AllZip}
 use Rattle.std.proofs.lemmas.Bool.{cases_Bool, cases_lt, eqb-true, eqb-false, cond-true}
 use Rattle.std.proofs.lemmas.Grind.{flat_map-append}
@@ -15,15 +15,14 @@ use Rattle.slot_rule.specs.declared.queued_packet.QueuedPacket.{QueuedPacket}
 use Rattle.slot_rule.specs.declared.row.Row.{Row}
 use Rattle.slot_rule.specs.declared.row.Row.TheVariants.{Reserved, Carries, Empty}
 use Rattle.slot_rule.specs.Queues.{Queue, queues_of}
-use Rattle.slot_rule.specs.Buffers.{packets_in, payload_in, tb_subticks, slot_subticks, tb_work, is_of}
-use Rattle.slot_rule.specs.Schedule.{IsHead, Goes, FollowRule, NoMiss, AllSent, IsSchedule, SentLate, end_with_margin, mb_or_tb_work}
+use Rattle.slot_rule.specs.Buffers.{packets_in, payload_in, tb_subticks, tb_work, is_of}
+use Rattle.slot_rule.specs.Schedule.{Goes, FollowRule, NoMiss, AllSent, IsSchedule, SentLate, end_with_margin, mb_or_tb_work}
 use Rattle.slot_rule.proofs.Places.{All-at_place}
 use Rattle.slot_rule.proofs.RuleFronts.{by_push}
 use Rattle.slot_rule.proofs.RuleQueues.{IsLimited, IsHead-limited}
 use Rattle.slot_rule.proofs.RuleRows.{IsNext, FollowRule-front, FollowRule-last, NoMiss-last}
 use Rattle.slot_rule.proofs.RuleSent.{packet_of, packets_sent, packets_sent-push, packet_of-carried, packet_of-other, FollowRule-sent}
 use Rattle.slot_rule.proofs.RuleWork.{packets_in-carried, packets_in-other, payload_in-carried}
-use Rattle.std.proofs.lemmas.List.{length_push}
 use Rattle.tstd_model.specs.declared.decoder_input.Arrival.{Arrival}
 use Rattle.tstd_model.specs.declared.decoder_input.BufferKind.TheVariants.{Audio as AudioBuffers}
 use Rattle.tstd_model.specs.declared.decoder_input.Removal.{Removal}
@@ -31,7 +30,7 @@ use Rattle.tstd_model.specs.Instants.{spaced, departures, came, came_before}
 use Rattle.tstd_model.specs.PacketBytes.{HasHeaderWithin, byte_subticks, parts_of, parts, is_payload, kept, arrives}
 use Rattle.tstd_model.specs.Decoder.{payload_passes, leave_tb, removed}
 use Rattle.tstd_model.specs.Faults.{FindsLess, HeldPastLimit, hold_subticks}
-use Rattle.tstd_model.specs.Private.Server.{last_departure, Spaced, EachAtMost}
+use Rattle.tstd_model.specs.Private.Server.{last_departure}
 use Rattle.tstd_model.proofs.Bounds.{kept-most}
 use Rattle.tstd_model.proofs.RisingLaws.{kept-rises, length-spaced, Spaced-from_order}
 use Rattle.tstd_model.proofs.Server.{last_departure-append, length-departures}
@@ -138,9 +137,9 @@ timely-one slot stream headers rows row packet one own_packet payload_is fits fr
     record {
       has = has_parts-one slot stream Audio headers rows row one fits timely.has;
       early = rw (passes-one slot stream Audio headers rows row one timely.has, same_wanted)
-      (AllZip-append (λ pass wanted. pass < wanted) (passes slot stream Audio headers rows) (wanteds stream headers rows) own_passes (replicate packet.payload due) timely.early early);
+          (AllZip-append (λ pass wanted. pass < wanted) (passes slot stream Audio headers rows) (wanteds stream headers rows) own_passes (replicate packet.payload due) timely.early early);
       short = rw (payload_comes-one slot stream headers rows row one timely.has, same_gone)
-      (AllZip-append (λ come gone. gone ≤ come + hold_subticks) (payload_comes slot stream headers rows) (gones stream headers rows) own_comes (replicate packet.payload gone) timely.short short);
+          (AllZip-append (λ come gone. gone ≤ come + hold_subticks) (payload_comes slot stream headers rows) (gones stream headers rows) own_comes (replicate packet.payload gone) timely.short short);
     }
 
 NoMiss-front : (slot : ℕ) (queues : List Queue) (rows more : List Row) → NoMiss slot queues (rows ++ more) → NoMiss slot queues rows

@@ -1,5 +1,5 @@
 -- The bytes that were sent and are not gone: those that the gate of outstanding bytes counts.
-use Rattle.std.proofs.Common.{◌≡◌, ℕ, ◌+◌, ◌*◌, ◌<◌, ◌≤◌, ltb, eqb, cond, List, [], ◌∷◌, ◌++◌, length, replicate, refl, sym, ap, ◌∙◌, inl, inr, append-nil, length-append, lt-ltb, arith}
+use Rattle.std.proofs.Common.{◌≡◌, ℕ, ◌+◌, ◌*◌, ◌<◌, ◌≤◌, ltb, eqb, cond, List, [], ◌∷◌, ◌++◌, length, replicate, ap, ◌∙◌, inl, inr, append-nil, length-append, lt-ltb, arith}
 use Rattle.std.proofs.lemmas.List.{length-replicate}
 use Rattle.std.proofs.lemmas.Bool.{cases_Bool, cases_lt, cond-true}
 use Rattle.std.proofs.lemmas.Grind.{flat_map-append}
@@ -52,7 +52,7 @@ row_late stream time x headers (Reserved sent) from = omega arith
 row_late stream time x headers Empty from = omega arith
 row_late stream time x headers (Carries s packet) from =
     elim (cases_Bool (eqb s stream))
-        as (λ _. length (gone_of_each Audio headers (packet_of stream (Carries s packet))) ≤ came x (gone_of_each Audio headers (packet_of stream (Carries s packet))) + outstanding_in stream time (Carries s packet)) [
+    as (λ _. length (gone_of_each Audio headers (packet_of stream (Carries s packet))) ≤ came x (gone_of_each Audio headers (packet_of stream (Carries s packet))) + outstanding_in stream time (Carries s packet)) [
       | inl same ↦ rw same (packet_late time x headers packet from)
       | inr other ↦ rw other (omega arith)
     ]

@@ -2,6 +2,7 @@ pub mod ArrivalRows
 pub mod AudioB
 pub mod AudioClean
 pub mod AudioTimes
+pub mod Examples
 pub mod Gone
 pub mod KeptBytes
 pub mod MbFree

@@ -1,9 +1,9 @@
 -- MB of video, served as if EB always had room, is free soon after the work that the slot rule counts there.
-use Rattle.std.proofs.Common.{◌≡◌, ℕ, ◌+◌, ◌-◌, ◌*◌, ◌%◌, ◌<◌, ◌≤◌, ◌⊎◌, eqb, eq-eqb, List, [], ◌∷◌, ◌++◌, length, count_by, slice_get, Some, refl, sym, ap, subst, ◌∙◌, inl, inr, arith}
-use Rattle.std.proofs.lemmas.Bool.{cases_Bool, cases_lt, eqb-true, eqb-false, cond-true}
+use Rattle.std.proofs.Common.{◌≡◌, ℕ, ◌+◌, ◌-◌, ◌*◌, ◌%◌, ◌≤◌, eqb, eq-eqb, List, [], ◌∷◌, ◌++◌, length, count_by, slice_get, Some, refl, sym, ap, subst, ◌∙◌, inl, inr, arith}
+use Rattle.std.proofs.lemmas.Bool.{cases_Bool, eqb-true, eqb-false, cond-true}
 use Rattle.std.proofs.lemmas.List.{length_push}
 use Rattle.std.proofs.lemmas.Option.{same_Some}
-use Rattle.stream_constants.specs.declared.packets.TheConstants.{PACKET_BYTES}
+use Rattle.stream_constants.specs.declared.packets.TheConstants.{PACKET_BYTES, PAYLOAD_BYTES}
 use Rattle.stream_constants.specs.declared.decoder.TheConstants.{VIDEO_TB_SUBTICKS, MB_SUBTICKS}
 use Rattle.version_table.specs.declared.table.Table.{Table}
 use Rattle.version_table.specs.Choice.{Fits}
@@ -25,7 +25,7 @@ use Rattle.tstd_model.specs.declared.decoder_input.BufferKind.TheVariants.{Video
 use Rattle.tstd_model.specs.Instants.{spaced, departures, came}
 use Rattle.tstd_model.specs.PacketBytes.{HasHeaderWithin, byte_subticks, parts_of, parts, is_payload, kept, arrives}
 use Rattle.tstd_model.specs.Decoder.{payload_passes, leave_tb}
-use Rattle.tstd_model.specs.Private.Server.{last_departure, EachAtMost}
+use Rattle.tstd_model.specs.Private.Server.{last_departure}
 use Rattle.tstd_model.proofs.RisingLaws.{length-spaced}
 use Rattle.tstd_model.proofs.Server.{last_departure-append, length-departures}
 use Rattle.tstd_bridge.specs.Arrivals.{Headers, header_in, arrivals_from}
@@ -63,7 +63,7 @@ free-none slot stream program vbv headers rows row none no_payload before =
     }
 
 free-one : (slot stream program vbv : ℕ) (headers : Headers) (rows : List Row) (row : Row) → packets_in stream (Video program vbv) row ≡ 1
-    → payload_in stream row ≤ 184 → HasHeaderWithin (arrival_of stream (length rows) headers row)
+    → payload_in stream row ≤ PAYLOAD_BYTES → HasHeaderWithin (arrival_of stream (length rows) headers row)
     → tb_free slot stream (Video program vbv) headers rows + PACKET_BYTES * VIDEO_TB_SUBTICKS ≤ length rows * slot_subticks slot + mb_delay
     → IsFreeSoon slot stream program vbv headers rows → IsFreeSoon slot stream program vbv headers (rows ++ row ∷ [])
 free-one slot stream program vbv headers rows row one small fits quick before =

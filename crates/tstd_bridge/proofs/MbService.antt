@@ -1,5 +1,5 @@
 -- A packet's payload that passes a fast server on to a slower one: when the slower one is free again.
-use Rattle.std.proofs.Common.{◌≡◌, ℕ, zero, suc, ◌+◌, ◌-◌, ◌*◌, ◌<◌, ◌≤◌, ◌⊎◌, Bool, true, false, List, [], ◌∷◌, ◌++◌, length, max, le_refl, refl, inl, inr, arith}
+use Rattle.std.proofs.Common.{◌≡◌, ℕ, zero, suc, ◌+◌, ◌*◌, ◌<◌, ◌≤◌, ◌⊎◌, Bool, true, false, List, [], ◌∷◌, length, max, le_refl, refl, inl, inr, arith}
 use Rattle.std.proofs.lemmas.Bool.{cases_Bool, cases_lt}
 use Rattle.std.proofs.lemmas.Nat.{mul-le}
 use Rattle.tstd_model.specs.declared.decoder_input.PacketPart.{PacketPart}
@@ -59,7 +59,7 @@ latest_work-kept test (part ∷ parts) q t l come step (suc count) busy end payl
     let later = kept test parts (departures t x (spaced (come + step) step count)) in
     let next : IsServed t (max come l + t) (come + step) step count busy end = served-next t l come step count busy end served in
     elim (cases_Bool (test part))
-        as (λ _. latest_work q (kept test (part ∷ parts) (departures t l (spaced come step (suc count)))) ≤ most) [
+    as (λ _. latest_work q (kept test (part ∷ parts) (departures t l (spaced come step (suc count)))) ≤ most) [
       | inl passes ↦
           (let few' : suc (length (kept test parts (departures t (max come l + t) (spaced (come + step) step count)))) ≤ payload = few_kept passes few in
           rw passes
@@ -74,6 +74,7 @@ latest_work-kept test (part ∷ parts) q t l come step (suc count) busy end payl
     few_kept : test part ≡ true → length (kept test (part ∷ parts) (departures t l (spaced come step (suc count)))) ≤ payload
         → suc (length (kept test parts (departures t (max come l + t) (spaced (come + step) step count)))) ≤ payload
     few_kept passes few = rw passes at few
+
     few_dropped : test part ≡ false → length (kept test (part ∷ parts) (departures t l (spaced come step (suc count)))) ≤ payload
         → length (kept test parts (departures t (max come l + t) (spaced (come + step) step count))) ≤ payload
     few_dropped fails few = rw fails at few

@@ -63,6 +63,7 @@ pcr_place programs offset p e =
   where
     pat_apart : Pat ≡ Pcr p → ⊥
     pat_apart same = cc
+
     pmt_apart : (k : ℕ) → Pmt k ≡ Pcr p → ⊥
     pmt_apart k same = cc
 

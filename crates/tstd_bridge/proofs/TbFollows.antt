@@ -1,20 +1,21 @@
 -- Rows that follow the slot rule: each packet finds little work in TB.
-use Rattle.std.proofs.Common.{◌≡◌, ℕ, ◌+◌, ◌-◌, ◌*◌, ◌%◌, ◌<◌, ◌≤◌, ◌⊎◌, true, false, eqb, List, [], ◌∷◌, ◌++◌, length, slice_get, Some, refl, sym, ap, subst, subst₂, ◌∙◌, inl, inr, arith}
+use Rattle.std.proofs.Common.{◌≡◌, ℕ, ◌+◌, ◌-◌, ◌*◌, ◌%◌, ◌<◌, ◌≤◌, ◌⊎◌, eqb, List, [], ◌∷◌, ◌++◌, length, slice_get, Some, sym, ap, subst, subst₂, ◌∙◌, inl, inr, arith}
 use Rattle.std.proofs.lemmas.Bool.{cases_Bool, cases_lt, eqb-true, eqb-false}
 use Rattle.std.proofs.lemmas.List.{length_push}
 use Rattle.std.proofs.lemmas.Option.{same_Some}
 use Rattle.stream_constants.specs.declared.packets.TheConstants.{PACKET_BYTES}
 use Rattle.stream_constants.specs.declared.decoder.TheConstants.{VIDEO_TB_SUBTICKS, AUDIO_TB_SUBTICKS}
+use Rattle.version_table.specs.declared.limits.TheConstants.{SLOT_LEAST}
 use Rattle.version_table.specs.declared.table.Table.{Table}
 use Rattle.version_table.specs.Table.{IsValidTable}
 use Rattle.slot_rule.specs.declared.constants.TheConstants.{VIDEO_TB_GATE, AUDIO_TB_GATE}
 use Rattle.slot_rule.specs.declared.sent.Sent.TheVariants.{Null, Pat, Pmt, Pcr, Video as VideoPiece, Audio as AudioPiece}
-use Rattle.slot_rule.specs.Timetable.{period, reserved, reserved_at}
+use Rattle.slot_rule.specs.Timetable.{period}
 use Rattle.slot_rule.specs.Queues.{Queue, queues_of}
 use Rattle.slot_rule.specs.declared.queue_kind.QueueKind.{QueueKind}
 use Rattle.slot_rule.specs.declared.queued_packet.QueuedPacket.{QueuedPacket}
 use Rattle.slot_rule.specs.declared.queue_kind.QueueKind.TheVariants.{Video, Audio}
-use Rattle.slot_rule.specs.Buffers.{packets_in, tb_subticks, slot_subticks, tb_work, tb_gate}
+use Rattle.slot_rule.specs.Buffers.{packets_in, slot_subticks, tb_work, tb_gate}
 use Rattle.slot_rule.specs.declared.row.Row.{Row}
 use Rattle.slot_rule.specs.declared.row.Row.TheVariants.{Reserved, Carries, Empty}
 use Rattle.slot_rule.specs.Schedule.{IsRow, Goes, FollowRule}
@@ -100,7 +101,7 @@ room_none drain programs program offset offset' work work' (inl next) is room = 
   after_two = λ two below within. (let before : work ≤ video_room - 2 * drain = room.after_one (omega arith) (omega arith) (omega arith) in omega arith);
 }
 
-room_one : (slot programs program offset offset' work work' : ℕ) → 1016 ≤ slot → (offset' ≡ offset + 1) ⊎ (offset' ≡ 0) → work' ≡ (work + PACKET_BYTES * VIDEO_TB_SUBTICKS) - slot_subticks slot
+room_one : (slot programs program offset offset' work work' : ℕ) → SLOT_LEAST ≤ slot → (offset' ≡ offset + 1) ⊎ (offset' ≡ 0) → work' ≡ (work + PACKET_BYTES * VIDEO_TB_SUBTICKS) - slot_subticks slot
     → (work ≤ VIDEO_TB_GATE * VIDEO_TB_SUBTICKS) ⊎ IsPcrPlace programs program offset
     → (offset < programs + 1 + program → offset < 2 * programs → ⊥)
     → HasRoom (slot_subticks slot) programs program offset work → HasRoom (slot_subticks slot) programs program offset' work'

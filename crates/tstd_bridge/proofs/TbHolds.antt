@@ -1,17 +1,17 @@
 -- TB holds no more than its size where each packet finds little work there.
-use Rattle.std.proofs.Common.{◌≡◌, ℕ, ◌+◌, ◌-◌, ◌*◌, ◌<◌, ◌≤◌, List, [], ◌∷◌, ◌++◌, length, refl, arith, inl, inr, subst₂}
+use Rattle.std.proofs.Common.{◌≡◌, ℕ, ◌+◌, ◌-◌, ◌*◌, ◌<◌, ◌≤◌, List, [], ◌∷◌, ◌++◌, length, refl, arith, inl, inr}
 use Rattle.std.proofs.lemmas.Bool.{cases_lt}
 use Rattle.stream_constants.specs.declared.packets.TheConstants.{PACKET_BYTES}
 use Rattle.stream_constants.specs.declared.decoder.TheConstants.{TB_BYTES}
 use Rattle.slot_rule.specs.declared.constants.TheConstants.{AUDIO_TB_GATE}
 use Rattle.slot_rule.specs.declared.queue_kind.QueueKind.{QueueKind}
 use Rattle.slot_rule.specs.declared.queue_kind.QueueKind.TheVariants.{Video, Audio}
-use Rattle.slot_rule.specs.Buffers.{packets_in, tb_subticks, slot_subticks, tb_work}
+use Rattle.slot_rule.specs.Buffers.{packets_in, tb_subticks, tb_work}
 use Rattle.slot_rule.specs.declared.row.Row.{Row}
 use Rattle.slot_rule.proofs.RuleFronts.{AtEach, AtEach-front, by_push}
 use Rattle.slot_rule.proofs.RuleWork.{packets_in-le}
 use Rattle.tstd_model.specs.Instants.{spaced, departures, came}
-use Rattle.tstd_model.specs.PacketBytes.{byte_subticks, arrives}
+use Rattle.tstd_model.specs.PacketBytes.{byte_subticks}
 use Rattle.tstd_model.specs.Decoder.{IsOverfull, transport_buffer, leave_tb, tb_subticks as decoder_tb_subticks}
 use Rattle.tstd_model.specs.Private.Server.{EachWithin}
 use Rattle.tstd_model.proofs.Server.{departures-append, departures-spaced, came-occupied}

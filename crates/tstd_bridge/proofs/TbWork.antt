@@ -1,5 +1,5 @@
 -- The work that the slot rule counts in TB is at least what is left there at the ends of slots.
-use Rattle.std.proofs.Common.{◌≡◌, ℕ, ◌+◌, ◌-◌, ◌*◌, ◌<◌, ◌≤◌, List, [], ◌∷◌, ◌++◌, length, refl, arith, inl, inr}
+use Rattle.std.proofs.Common.{◌≡◌, ℕ, ◌+◌, ◌-◌, ◌*◌, ◌≤◌, List, [], ◌∷◌, ◌++◌, length, refl, arith, inl, inr}
 use Rattle.std.proofs.lemmas.Bool.{cases_lt}
 use Rattle.std.proofs.lemmas.List.{length_push}
 use Rattle.stream_constants.specs.declared.packets.TheConstants.{PACKET_BYTES}
@@ -42,7 +42,7 @@ tb_free-most slot stream kind headers =
         → tb_free slot stream kind headers (rows ++ row ∷ []) ≤ length (rows ++ row ∷ []) * slot_subticks slot + tb_work slot stream kind (rows ++ row ∷ [])
     more rows row before =
         elim (cases_lt 0 (packets_in stream kind row))
-            as (λ _. tb_free slot stream kind headers (rows ++ row ∷ []) ≤ length (rows ++ row ∷ []) * slot_subticks slot + tb_work slot stream kind (rows ++ row ∷ [])) [
+        as (λ _. tb_free slot stream kind headers (rows ++ row ∷ []) ≤ length (rows ++ row ∷ []) * slot_subticks slot + tb_work slot stream kind (rows ++ row ∷ [])) [
           | inr nothing ↦
               (let none : packets_in stream kind row ≡ 0 = omega arith in
               rw (bytes_come-none slot stream kind headers rows row none, tb_work-none slot stream kind rows row none, length_push rows row) (omega (arith, before)))

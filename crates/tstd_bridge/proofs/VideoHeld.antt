@@ -101,7 +101,7 @@ short-one slot stream program vbv headers rows row count gone one own_gone count
     record {
       has = has_parts-one slot stream (Video program vbv) headers rows row one fits before.has;
       short = rw (same, same_gone)
-      (AllZip-append (λ come gone. gone ≤ come + hold_subticks) (data_comes slot stream program vbv headers rows) (data_gones stream program vbv headers rows) own (replicate count gone) before.short short);
+          (AllZip-append (λ come gone. gone ≤ come + hold_subticks) (data_comes slot stream program vbv headers rows) (data_gones stream program vbv headers rows) own (replicate count gone) before.short short);
     }
 
 short-carried : (table : Table) (choice : List ℕ) (stream s program vbv : ℕ) (packets : List QueuedPacket) (headers : Headers) (rows : List Row) (packet : QueuedPacket) → IsValidTable table → Fits table choice
