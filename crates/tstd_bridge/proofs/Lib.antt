@@ -5,7 +5,9 @@ pub mod AudioTimes
 pub mod Examples
 pub mod Gone
 pub mod KeptBytes
+pub mod Levels
 pub mod MbFree
+pub mod MbHolds
 pub mod MbService
 pub mod TbService
 pub mod TbWork
