@@ -24,12 +24,13 @@ use Rattle.slot_rule.proofs.RuleWork.{mb_work-push, packets_in-carried, packets_
 use Rattle.tstd_model.specs.declared.decoder_input.BufferKind.TheVariants.{Video as VideoBuffers}
 use Rattle.tstd_model.specs.Instants.{spaced, departures, came}
 use Rattle.tstd_model.specs.PacketBytes.{HasHeaderWithin, byte_subticks, parts_of, parts, is_payload, kept, arrives}
-use Rattle.tstd_model.specs.Decoder.{payload_passes, leave_tb}
+use Rattle.tstd_model.specs.Decoder.{bytes_in, payload_passes, leave_tb}
 use Rattle.tstd_model.specs.Private.Server.{last_departure}
+use Rattle.tstd_model.proofs.Counts.{came-length}
 use Rattle.tstd_model.proofs.RisingLaws.{length-spaced}
 use Rattle.tstd_model.proofs.Server.{last_departure-append, length-departures}
 use Rattle.tstd_bridge.specs.Arrivals.{Headers, header_in, arrivals_from}
-use Rattle.tstd_bridge.specs.Mb.{mb_delay}
+use Rattle.tstd_bridge.specs.Mb.{mb_delay, free_running_mb}
 use Rattle.tstd_bridge.specs.Removals.{AreWithin}
 use Rattle.tstd_bridge.proofs.ArrivalRows.{arrival_of}
 use Rattle.tstd_bridge.proofs.AudioB.{passes, packet_passes, HasParts, passes-none, passes-one, has_parts-none, has_parts-one}
@@ -152,11 +153,13 @@ free_soon table choice stream program vbv packets headers rows valid fits there 
 pub mb_empty : (table : Table) (choice : List ℕ) (stream program vbv : ℕ) (packets : List QueuedPacket) (headers : Headers) (rows : List Row) (at : ℕ) → IsValidTable table → Fits table choice
     → FollowRule table choice rows → slice_get (queues_of table choice) stream ≡ Some (record { kind = Video program vbv; packets = packets }) → AreWithin headers packets
     → length rows * slot_subticks table.slot + mb_work table.slot stream rows + mb_delay ≤ at
-    → came at (departures MB_SUBTICKS 0 (payload_passes table.slot (VideoBuffers vbv) (arrivals_from 0 stream (Video program vbv) headers rows)))
-    ≡ length (payload_passes table.slot (VideoBuffers vbv) (arrivals_from 0 stream (Video program vbv) headers rows))
+    → bytes_in (free_running_mb table.slot vbv (arrivals_from 0 stream (Video program vbv) headers rows)) at ≡ 0
 unfolding payload_passes leave_tb
 mb_empty table choice stream program vbv packets headers rows at valid fits follows there within late =
     let pass = passes table.slot stream (Video program vbv) headers rows in
     let soon : IsFreeSoon table.slot stream program vbv headers rows = free_soon table choice stream program vbv packets headers rows valid fits there within follows in
-    came-all at (last_departure MB_SUBTICKS 0 pass) (departures MB_SUBTICKS 0 pass) (departures-by MB_SUBTICKS 0 pass) (omega (arith, soon.free, late))
-    ∙ length-departures MB_SUBTICKS 0 pass
+    let all : came at (departures MB_SUBTICKS 0 pass) ≡ length (departures MB_SUBTICKS 0 pass) =
+    came-all at (last_departure MB_SUBTICKS 0 pass) (departures MB_SUBTICKS 0 pass) (departures-by MB_SUBTICKS 0 pass) (omega (arith, soon.free, late)) in
+    let none : came at (passes table.slot stream (Video program vbv) headers rows) - came at (departures MB_SUBTICKS 0 (passes table.slot stream (Video program vbv) headers rows)) ≡ 0 =
+    omega (arith, all, length-departures MB_SUBTICKS 0 pass, came-length at pass) in
+    none

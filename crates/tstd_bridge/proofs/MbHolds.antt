@@ -30,7 +30,7 @@ use Rattle.tstd_model.specs.Private.Server.{Spaced, EachWithin}
 use Rattle.tstd_model.proofs.RisingLaws.{kept-rises, length-spaced}
 use Rattle.tstd_model.proofs.Server.{departures-append, departures-spaced, length-departures, came-occupied}
 use Rattle.tstd_bridge.specs.Arrivals.{Headers, header_in, arrivals_from}
-use Rattle.tstd_bridge.specs.Mb.{mb_delay}
+use Rattle.tstd_bridge.specs.Mb.{mb_delay, free_running_mb}
 use Rattle.tstd_bridge.specs.Removals.{AreWithin}
 use Rattle.tstd_bridge.proofs.ArrivalRows.{arrival_of}
 use Rattle.tstd_bridge.proofs.AudioB.{passes, packet_passes, HasParts, passes-none, passes-one}
@@ -109,3 +109,76 @@ soon-one slot stream program vbv headers rows row level one small fits free gate
     departures-late MB_SUBTICKS mb start work delay own low (omega (arith, free.free, gate)) (omega (arith, size, small, level)) in
     rw (passes-one slot stream (Video program vbv) headers rows row one free.has, departures-append MB_SUBTICKS 0 pass own)
     (EachWithin-append delay (departures MB_SUBTICKS 0 pass) pass (departures MB_SUBTICKS mb own) own before soon)
+
+soon-carried : (table : Table) (choice : List ℕ) (stream s program vbv : ℕ) (packets : List QueuedPacket) (headers : Headers) (rows : List Row) (packet : QueuedPacket) → IsValidTable table → Fits table choice
+    → slice_get (queues_of table choice) stream ≡ Some (record { kind = Video program vbv; packets = packets }) → AreWithin headers packets
+    → s ≡ stream → Goes table.slot (queues_of table choice) rows s packet → IsFreeSoon table.slot stream program vbv headers rows
+    → PassesSoon table.slot stream program vbv headers rows → PassesSoon table.slot stream program vbv headers (rows ++ Carries s packet ∷ [])
+soon-carried table choice stream s program vbv packets headers rows packet valid fits there within same goes free before =
+    let slot = table.slot in
+    let queue : Queue = record { kind = Video program vbv; packets = packets } in
+    let head : Queue = record { kind = goes.kind; packets = goes.head.0 } in
+    let is : head ≡ queue = same_Some head queue (sym goes.head.1 ∙ ap (λ k. slice_get (queues_of table choice) k) same ∙ there) in
+    let kind_is : goes.kind ≡ Video program vbv = ap (λ (q : Queue). q.kind) is in
+    let at : slice_get packets (count_by (is_of s) rows) ≡ Some packet = ap (λ (q : Queue). slice_get q.packets (count_by (is_of s) rows)) (sym is) ∙ goes.head.2 in
+    let header : headers packet ≤ packet.payload = All-at_place (λ (p : QueuedPacket). headers p ≤ p.payload) packets within (count_by (is_of s) rows) packet at in
+    let limited : IsLimited slot packet = IsHead-limited table choice rows s goes.kind packet valid fits goes.head in
+    let payload_is : payload_in stream (Carries s packet) ≡ packet.payload = payload_in-carried stream s packet same in
+    let header_is : header_in stream headers (Carries s packet) ≡ headers packet = cond-true (eqb s stream) (headers packet) 0 (eq-eqb s stream same) in
+    let gate : mb_work slot stream rows ≤ mb_gate vbv =
+    subst₂ (λ (k : QueueKind) (st : ℕ). MbPermits k (mb_work slot st rows)) kind_is same goes.permitted.mb in
+    soon-one slot stream program vbv headers rows (Carries s packet) (video_level table choice stream program vbv packets valid there) (packets_in-carried stream s (Video program vbv) packet same)
+    (omega (arith, payload_is, limited.payload))
+    (omega (arith, header, header_is, payload_is), omega (arith, payload_is, limited.payload))
+    free gate before
+
+soon-row : (table : Table) (choice : List ℕ) (stream program vbv : ℕ) (packets : List QueuedPacket) (headers : Headers) (rows : List Row) (row : Row) → IsValidTable table → Fits table choice
+    → slice_get (queues_of table choice) stream ≡ Some (record { kind = Video program vbv; packets = packets }) → AreWithin headers packets
+    → IsNext table choice rows row → IsFreeSoon table.slot stream program vbv headers rows
+    → PassesSoon table.slot stream program vbv headers rows → PassesSoon table.slot stream program vbv headers (rows ++ row ∷ [])
+soon-row table choice stream program vbv packets headers rows Empty valid fits there within next free before = soon-none table.slot stream program vbv headers rows Empty refl before
+soon-row table choice stream program vbv packets headers rows (Reserved Null) valid fits there within next free before = soon-none table.slot stream program vbv headers rows (Reserved Null) refl before
+soon-row table choice stream program vbv packets headers rows (Reserved Pat) valid fits there within next free before = soon-none table.slot stream program vbv headers rows (Reserved Pat) refl before
+soon-row table choice stream program vbv packets headers rows (Reserved (Pmt p)) valid fits there within next free before = soon-none table.slot stream program vbv headers rows (Reserved (Pmt p)) refl before
+soon-row table choice stream program vbv packets headers rows (Reserved (VideoPiece a b c)) valid fits there within next free before = soon-none table.slot stream program vbv headers rows (Reserved (VideoPiece a b c)) refl before
+soon-row table choice stream program vbv packets headers rows (Reserved (AudioPiece a b)) valid fits there within next free before = soon-none table.slot stream program vbv headers rows (Reserved (AudioPiece a b)) refl before
+soon-row table choice stream program vbv packets headers rows (Reserved (Pcr p)) valid fits there within next free before =
+    elim (cases_Bool (eqb p program)) as (λ _. PassesSoon table.slot stream program vbv headers (rows ++ Reserved (Pcr p) ∷ [])) [
+      | inl same ↦
+          soon-pcr table.slot stream program vbv headers rows (Reserved (Pcr p)) (packets_in-pcr stream program vbv p (eqb-true p program same)) refl (omega arith, omega arith) free.has before
+      | inr other ↦ soon-none table.slot stream program vbv headers rows (Reserved (Pcr p)) (packets_in-other_pcr stream program vbv p (eqb-false p program other)) before
+    ]
+soon-row table choice stream program vbv packets headers rows (Carries s packet) valid fits there within next free before =
+    elim (cases_Bool (eqb s stream)) as (λ _. PassesSoon table.slot stream program vbv headers (rows ++ Carries s packet ∷ [])) [
+      | inl same ↦ soon-carried table choice stream s program vbv packets headers rows packet valid fits there within (eqb-true s stream same) next.1 free before
+      | inr other ↦ soon-none table.slot stream program vbv headers rows (Carries s packet) (packets_in-other stream s (Video program vbv) packet (eqb-false s stream other)) before
+    ]
+
+pub passes_soon : (table : Table) (choice : List ℕ) (stream program vbv : ℕ) (packets : List QueuedPacket) (headers : Headers) (rows : List Row) → IsValidTable table → Fits table choice
+    → slice_get (queues_of table choice) stream ≡ Some (record { kind = Video program vbv; packets = packets }) → AreWithin headers packets
+    → FollowRule table choice rows → PassesSoon table.slot stream program vbv headers rows
+passes_soon table choice stream program vbv packets headers rows valid fits there within =
+    by_push (λ rows. FollowRule table choice rows → PassesSoon table.slot stream program vbv headers rows) (λ follows. soon-nil table.slot stream program vbv headers)
+    (λ rows row before follows.
+    let front : FollowRule table choice rows = FollowRule-front table choice rows (row ∷ []) follows in
+    soon-row table choice stream program vbv packets headers rows row valid fits there within (FollowRule-last table choice rows row follows)
+    (free_soon table choice stream program vbv packets headers rows valid fits there within front) (before front))
+    rows
+
+-- at most so many bytes have come into MB that have not left it
+pub mb_held : (table : Table) (choice : List ℕ) (stream program vbv : ℕ) (packets : List QueuedPacket) (headers : Headers) (rows : List Row) (at : ℕ) → IsValidTable table → Fits table choice
+    → FollowRule table choice rows → slice_get (queues_of table choice) stream ≡ Some (record { kind = Video program vbv; packets = packets }) → AreWithin headers packets
+    → came at (passes table.slot stream (Video program vbv) headers rows) ≤ mb_taken vbv + came at (departures MB_SUBTICKS 0 (passes table.slot stream (Video program vbv) headers rows))
+mb_held table choice stream program vbv packets headers rows at valid fits follows there within =
+    let pass = passes table.slot stream (Video program vbv) headers rows in
+    came-occupied MB_SUBTICKS 0 (mb_taken vbv) (mb_taken vbv * MB_SUBTICKS) at pass (departures MB_SUBTICKS 0 pass) refl
+    (passes_soon table choice stream program vbv packets headers rows valid fits there within follows) (departures-spaced MB_SUBTICKS 0 pass)
+
+pub mb_not_over : (table : Table) (choice : List ℕ) (stream program vbv : ℕ) (packets : List QueuedPacket) (headers : Headers) (rows : List Row) (at : ℕ) → IsValidTable table → Fits table choice
+    → FollowRule table choice rows → slice_get (queues_of table choice) stream ≡ Some (record { kind = Video program vbv; packets = packets }) → AreWithin headers packets
+    → IsOverfull (free_running_mb table.slot vbv (arrivals_from 0 stream (Video program vbv) headers rows)) at → ⊥
+unfolding payload_passes leave_tb
+mb_not_over table choice stream program vbv packets headers rows at valid fits follows there within over =
+    let over' : VIDEO_BYTES - eb_bytes vbv
+    < came at (passes table.slot stream (Video program vbv) headers rows) - came at (departures MB_SUBTICKS 0 (passes table.slot stream (Video program vbv) headers rows)) = over in
+    omega (arith, over', mb_held table choice stream program vbv packets headers rows at valid fits follows there within)

@@ -1,9 +1,7 @@
 //! Laws of a schedule's packets in the decoder, as functions that do nothing.
 
 ghost use Rattle.std.specs.Prelude.{ℕ, ◌≡◌, ◌+◌, ◌*◌, ◌≤◌, List, length, slice_get, Some};
-ghost use Rattle.stream_constants.specs.declared.decoder.TheConstants.{MB_SUBTICKS};
 ghost use Rattle.slot_rule.specs.Buffers.{mb_work, slot_subticks};
-ghost use Rattle.tstd_model.specs.Instants.{came, departures};
 ghost use Rattle.version_table.specs.declared.table.Table.{Table};
 ghost use Rattle.version_table.specs.Choice.{Fits};
 ghost use Rattle.version_table.specs.Table.{IsValidTable};
@@ -12,7 +10,7 @@ ghost use Rattle.slot_rule.specs.declared.queue_kind.QueueKind.{QueueKind};
 ghost use Rattle.slot_rule.specs.declared.queued_packet.QueuedPacket.{QueuedPacket};
 ghost use Rattle.slot_rule.specs.declared.row.Row.{Row};
 ghost use Rattle.slot_rule.specs.Schedule.{FollowRule, IsSchedule};
-ghost use Rattle.tstd_model.specs.Decoder.{IsOverfull, audio_buffer, elementary_buffer, payload_passes, transport_buffer};
+ghost use Rattle.tstd_model.specs.Decoder.{IsOverfull, audio_buffer, bytes_in, elementary_buffer, transport_buffer};
 ghost use Rattle.tstd_model.specs.Faults.{HeldPastLimit, IsFault};
 ghost use Rattle.tstd_model.specs.declared.decoder_input.Arrival.{Arrival};
 ghost use Rattle.tstd_model.specs.declared.decoder_input.BufferKind.TheVariants.{Audio as AudioBuffers, Video as VideoBuffers};
@@ -20,7 +18,7 @@ ghost use Rattle.tstd_model.specs.declared.decoder_input.Removal.{Removal};
 ghost use Rattle.tstd_model.specs.declared.fault.TstdFault.{TstdFault};
 ghost use Rattle.slot_rule.specs.declared.queue_kind.QueueKind.TheVariants.{Audio, Video};
 ghost use Rattle.tstd_bridge.specs.Arrivals.{Headers, buffers_of, arrivals_from};
-ghost use Rattle.tstd_bridge.specs.Mb.{mb_delay};
+ghost use Rattle.tstd_bridge.specs.Mb.{free_running_mb, mb_delay};
 ghost use Rattle.tstd_bridge.specs.Removals.{AreWithin, IsAllowed};
 
 /// The transport buffer of an elementary stream is never over its size, where the rows follow the slot rule: its
@@ -67,14 +65,22 @@ pub fn video_is_not_held_long()
         → HeldPastLimit table.slot (VideoBuffers vbv) (arrivals_from 0 stream (Video program vbv) headers rows) removals at → ⊥ }
 {}
 
-/// Where EB always has room and PES headers take as long as data, all payload of the rows has left MB of a video stream
-/// 3,564,480 subticks after the end of the last row and the work that the slot rule counts there, at the latest.
-pub fn mb_is_empty_soon()
+/// If EB always had room and PES headers took as long as data, MB of a video stream would be empty 3,564,480 subticks after
+/// the end of the last row and the work that the slot rule counts there, at the latest.
+pub fn free_running_mb_is_empty_soon()
     ensures { (table : Table) (choice : List ℕ) (rows : List Row) (stream program vbv : ℕ) (packets : List QueuedPacket) (headers : Headers) (at : ℕ)
         → IsValidTable table → Fits table choice → FollowRule table choice rows
         → slice_get (queues_of table choice) stream ≡ Some (record { kind = Video program vbv; packets = packets })
         → AreWithin headers packets
         → length rows * slot_subticks table.slot + mb_work table.slot stream rows + mb_delay ≤ at
-        → came at (departures MB_SUBTICKS 0 (payload_passes table.slot (VideoBuffers vbv) (arrivals_from 0 stream (Video program vbv) headers rows)))
-        ≡ length (payload_passes table.slot (VideoBuffers vbv) (arrivals_from 0 stream (Video program vbv) headers rows)) }
+        → bytes_in (free_running_mb table.slot vbv (arrivals_from 0 stream (Video program vbv) headers rows)) at ≡ 0 }
+{}
+
+/// If EB always had room and PES headers took as long as data, MB of a video stream would never be over its size.
+pub fn free_running_mb_holds()
+    ensures { (table : Table) (choice : List ℕ) (rows : List Row) (stream program vbv : ℕ) (packets : List QueuedPacket) (headers : Headers) (at : ℕ)
+        → IsValidTable table → Fits table choice → FollowRule table choice rows
+        → slice_get (queues_of table choice) stream ≡ Some (record { kind = Video program vbv; packets = packets })
+        → AreWithin headers packets
+        → IsOverfull (free_running_mb table.slot vbv (arrivals_from 0 stream (Video program vbv) headers rows)) at → ⊥ }
 {}
