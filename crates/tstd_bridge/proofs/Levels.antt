@@ -1,5 +1,5 @@
 -- The queues of a valid table: each video has a vbv buffer of Main level.
-use Rattle.std.proofs.Common.{◌≡◌, ℕ, ◌+◌, ◌≤◌, List, [], ◌∷◌, ◌++◌, length, map, drop, slice_get, Some, All}
+use Rattle.std.proofs.Common.{◌≡◌, ℕ, ◌+◌, ◌≤◌, List, [], ◌∷◌, length, map, drop, slice_get, Some, All}
 use Rattle.std.proofs.lemmas.List.Elements.{All-nil, All-cons, All-append, All-head, All-tail}
 use Rattle.stream_constants.specs.declared.main_level.TheConstants.{VBV_MOST}
 use Rattle.version_table.specs.declared.table.AudioPacket.{AudioPacket}

@@ -21,7 +21,6 @@ use Rattle.slot_rule.proofs.RuleFronts.{by_push}
 use Rattle.slot_rule.proofs.RuleQueues.{IsLimited, IsHead-limited}
 use Rattle.slot_rule.proofs.RuleRows.{IsNext, FollowRule-front, FollowRule-last}
 use Rattle.slot_rule.proofs.RuleWork.{mb_work-push, packets_in-carried, packets_in-other, packets_in-pcr, packets_in-other_pcr, payload_in-carried, payload_in-other}
-use Rattle.tstd_model.specs.declared.decoder_input.BufferKind.TheVariants.{Video as VideoBuffers}
 use Rattle.tstd_model.specs.Instants.{spaced, departures, came}
 use Rattle.tstd_model.specs.PacketBytes.{HasHeaderWithin, byte_subticks, parts_of, parts, is_payload, kept, arrives}
 use Rattle.tstd_model.specs.Decoder.{bytes_in, payload_passes, leave_tb}

@@ -1,5 +1,5 @@
 -- MB of video, served as if EB always had room, holds less than its size.
-use Rattle.std.proofs.Common.{◌≡◌, ℕ, ◌+◌, ◌-◌, ◌*◌, ◌<◌, ◌≤◌, eqb, eq-eqb, List, [], ◌∷◌, ◌++◌, length, max, count_by, slice_get, Some, refl, sym, ap, subst, subst₂, ◌∙◌, inl, inr, append-nil, arith}
+use Rattle.std.proofs.Common.{◌≡◌, ℕ, ◌+◌, ◌-◌, ◌*◌, ◌/◌, ◌<◌, ◌≤◌, eqb, eq-eqb, List, [], ◌∷◌, ◌++◌, length, max, count_by, slice_get, Some, refl, sym, ap, subst₂, ◌∙◌, inl, inr, append-nil, arith}
 use Rattle.std.proofs.lemmas.Bool.{cases_Bool, eqb-true, eqb-false, cond-true}
 use Rattle.std.proofs.lemmas.Option.{same_Some}
 use Rattle.stream_constants.specs.declared.main_level.TheConstants.{VBV_MOST}
@@ -8,6 +8,7 @@ use Rattle.stream_constants.specs.declared.decoder.TheConstants.{VIDEO_TB_SUBTIC
 use Rattle.version_table.specs.declared.table.Table.{Table}
 use Rattle.version_table.specs.Choice.{Fits}
 use Rattle.version_table.specs.Table.{IsValidTable}
+use Rattle.slot_rule.specs.declared.constants.TheConstants.{MB_SPARE_BYTES}
 use Rattle.slot_rule.specs.declared.queue_kind.QueueKind.{QueueKind}
 use Rattle.slot_rule.specs.declared.queue_kind.QueueKind.TheVariants.{Video}
 use Rattle.slot_rule.specs.declared.queued_packet.QueuedPacket.{QueuedPacket}
@@ -15,17 +16,16 @@ use Rattle.slot_rule.specs.declared.row.Row.{Row}
 use Rattle.slot_rule.specs.declared.row.Row.TheVariants.{Reserved, Carries, Empty}
 use Rattle.slot_rule.specs.declared.sent.Sent.TheVariants.{Null, Pat, Pmt, Pcr, Video as VideoPiece, Audio as AudioPiece}
 use Rattle.slot_rule.specs.Queues.{Queue, queues_of}
-use Rattle.slot_rule.specs.Buffers.{packets_in, payload_in, slot_subticks, mb_work, mb_gate, MbPermits, is_of}
+use Rattle.slot_rule.specs.Buffers.{packets_in, payload_in, mb_work, mb_gate, MbPermits, is_of}
 use Rattle.slot_rule.specs.Schedule.{Goes, FollowRule}
 use Rattle.slot_rule.proofs.Places.{All-at_place}
 use Rattle.slot_rule.proofs.RuleFronts.{by_push}
 use Rattle.slot_rule.proofs.RuleQueues.{IsLimited, IsHead-limited}
 use Rattle.slot_rule.proofs.RuleRows.{IsNext, FollowRule-front, FollowRule-last}
 use Rattle.slot_rule.proofs.RuleWork.{packets_in-carried, packets_in-other, packets_in-pcr, packets_in-other_pcr, payload_in-carried}
-use Rattle.tstd_model.specs.declared.decoder_input.BufferKind.TheVariants.{Video as VideoBuffers}
 use Rattle.tstd_model.specs.Instants.{spaced, departures, came}
 use Rattle.tstd_model.specs.PacketBytes.{HasHeaderWithin, byte_subticks, parts_of, parts, is_payload, kept, arrives}
-use Rattle.tstd_model.specs.Decoder.{IsOverfull, DecoderBuffer, payload_passes, leave_tb, eb_bytes}
+use Rattle.tstd_model.specs.Decoder.{IsOverfull, payload_passes, leave_tb, eb_bytes}
 use Rattle.tstd_model.specs.Private.Server.{Spaced, EachWithin}
 use Rattle.tstd_model.proofs.RisingLaws.{kept-rises, length-spaced}
 use Rattle.tstd_model.proofs.Server.{departures-append, departures-spaced, length-departures, came-occupied}
@@ -42,7 +42,7 @@ use Rattle.tstd_bridge.proofs.TbWork.{tb_free}
 
 -- bytes of MB that stay free: those that the gate leaves, less a payload and what MB is behind
 abbrev pub mb_spare : ℕ
-mb_spare = 576
+mb_spare = MB_SPARE_BYTES - PAYLOAD_BYTES - (mb_delay / MB_SUBTICKS + 1)
 
 -- bytes of MB that are taken at most
 abbrev pub mb_taken : (vbv : ℕ) → ℕ
