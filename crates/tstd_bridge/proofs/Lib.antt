@@ -16,3 +16,5 @@ pub mod ZipLaws
 pub mod TbHolds
 pub mod PcrPlaces
 pub mod TbFollows
+pub mod MbHeaders
+pub mod EbRooms
