@@ -142,12 +142,12 @@ timely-one slot stream headers rows row packet one own_packet payload_is fits fr
           (AllZip-append (λ come gone. gone ≤ come + hold_subticks) (payload_comes slot stream headers rows) (gones stream headers rows) own_comes (replicate packet.payload gone) timely.short short);
     }
 
-NoMiss-front : (slot : ℕ) (queues : List Queue) (rows more : List Row) → NoMiss slot queues (rows ++ more) → NoMiss slot queues rows
+pub NoMiss-front : (slot : ℕ) (queues : List Queue) (rows more : List Row) → NoMiss slot queues (rows ++ more) → NoMiss slot queues rows
 NoMiss-front slot queues rows more none before row after stream packet e =
     none before row (after ++ more) stream packet (ap (λ all. all ++ more) e ∙ append_assoc before (row ∷ after) more)
 
 -- a packet that doesn't miss has come, with what waits before it, some time before it is wanted
-sent_early : (slot : ℕ) (queues : List Queue) (rows : List Row) (s : ℕ) (packet : QueuedPacket) (goes : Goes slot queues rows s packet) → NoMiss slot queues (rows ++ Carries s packet ∷ [])
+pub sent_early : (slot : ℕ) (queues : List Queue) (rows : List Row) (s : ℕ) (packet : QueuedPacket) (goes : Goes slot queues rows s packet) → NoMiss slot queues (rows ++ Carries s packet ∷ [])
     → end_with_margin slot (rows ++ Carries s packet ∷ []) + mb_or_tb_work slot s goes.kind (rows ++ Carries s packet ∷ []) ≤ SUBTICKS_PER_TICK * packet.due
 sent_early slot queues rows s packet goes none =
     let end = end_with_margin slot (rows ++ Carries s packet ∷ []) + mb_or_tb_work slot s goes.kind (rows ++ Carries s packet ∷ []) in

@@ -31,7 +31,7 @@ pub gones-push : (stream : ℕ) (headers : Headers) (rows : List Row) (row : Row
 gones-push stream headers rows row =
     ap (λ packets. gone_of_each Audio headers packets) (packets_sent-push stream rows row) ∙ gone_of_each-append headers (packets_sent stream rows) (packet_of stream row)
 
-copies_late : (x count at out : ℕ) → (at ≤ x → 0 ≤ out) → (x < at → count ≤ out) → length (replicate count at) ≤ came x (replicate count at) + out
+pub copies_late : (x count at out : ℕ) → (at ≤ x → 0 ≤ out) → (x < at → count ≤ out) → length (replicate count at) ≤ came x (replicate count at) + out
 copies_late x count at out gone late = elim (cases_lt x at) [
   | inl after ↦ omega (arith, length-replicate count at, late after)
   | inr has ↦ omega (arith, length-replicate count at, came-replicate x at count has)

@@ -18,3 +18,5 @@ pub mod PcrPlaces
 pub mod TbFollows
 pub mod MbHeaders
 pub mod EbRooms
+pub mod VideoGone
+pub mod VideoData
