@@ -20,3 +20,4 @@ pub mod MbHeaders
 pub mod EbRooms
 pub mod VideoGone
 pub mod VideoData
+pub mod VideoMoves

@@ -1,5 +1,5 @@
 -- When a queue's bytes may be removed from the decoder: between the times at which their packets are wanted and gone.
-use Rattle.std.specs.Prelude.{ℕ, ◌-◌, ◌*◌, ◌≤◌, List, map, replicate, All}
+use Rattle.std.specs.Prelude.{ℕ, ◌-◌, ◌*◌, ◌<◌, ◌≤◌, List, map, replicate, All}
 use Rattle.std.specs.List.{flat_map, AllZip}
 use Rattle.std.specs.List.Sorted.{IsNonDecreasing}
 use Rattle.stream_constants.specs.declared.clock.TheConstants.{SUBTICKS_PER_TICK}
@@ -13,6 +13,10 @@ use Rattle.tstd_bridge.specs.Arrivals.{Headers}
 -- each packet's PES header is within its payload
 abbrev pub AreWithin : Headers → List QueuedPacket → Type 0
 AreWithin headers packets = All (λ packet. headers packet ≤ packet.payload) packets
+
+-- each packet has data behind its PES header
+abbrev pub LeaveData : Headers → List QueuedPacket → Type 0
+LeaveData headers packets = All (λ packet. headers packet < packet.payload) packets
 
 -- the bytes of a packet that are removed from EB or B: all payload of audio, and of video that without PES header
 abbrev pub removable : QueueKind → Headers → QueuedPacket → ℕ
