@@ -188,7 +188,7 @@ holds_little table choice stream packets headers rows valid fits there within =
     little-row table choice stream packets headers rows row valid fits there within (FollowRule-last table choice rows row follows) (before (FollowRule-front table choice rows (row ∷ []) follows)))
     rows
 
-EachWithin-from_all : (xs ys : List ℕ) → AllZip (λ x y. x ≤ y) xs ys → EachWithin 0 xs ys
+pub EachWithin-from_all : (xs ys : List ℕ) → AllZip (λ x y. x ≤ y) xs ys → EachWithin 0 xs ys
 EachWithin-from_all [] [] each = tt
 EachWithin-from_all [] (y ∷ ys) each = each
 EachWithin-from_all (x ∷ xs) [] each = each

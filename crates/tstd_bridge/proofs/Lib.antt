@@ -21,3 +21,4 @@ pub mod EbRooms
 pub mod VideoGone
 pub mod VideoData
 pub mod VideoMoves
+pub mod VideoClean

@@ -6,7 +6,7 @@ use Rattle.tstd_model.specs.declared.decoder_input.Arrival.{Arrival}
 use Rattle.tstd_model.specs.declared.decoder_input.PacketPart.{PacketPart}
 use Rattle.tstd_model.specs.declared.decoder_input.PacketPart.TheVariants.{Overhead, PesHeader, Data}
 use Rattle.tstd_model.specs.Instants.{departures, came}
-use Rattle.tstd_model.specs.PacketBytes.{HasHeaderWithin, parts_of, is_payload, is_data, kept, with_headers}
+use Rattle.tstd_model.specs.PacketBytes.{parts_of, is_payload, is_data, kept, with_headers}
 use Rattle.tstd_model.specs.Private.Server.{last_departure}
 use Rattle.tstd_model.proofs.Counts.{came-yes, came-no, came_none-spaced}
 use Rattle.tstd_model.proofs.Server.{departures-spaced}

@@ -19,7 +19,7 @@ ghost use Rattle.tstd_model.specs.declared.fault.TstdFault.{TstdFault};
 ghost use Rattle.slot_rule.specs.declared.queue_kind.QueueKind.TheVariants.{Audio, Video};
 ghost use Rattle.tstd_bridge.specs.Arrivals.{Headers, buffers_of, arrivals_from};
 ghost use Rattle.tstd_bridge.specs.Mb.{free_running_mb, mb_delay};
-ghost use Rattle.tstd_bridge.specs.Removals.{AreWithin, IsAllowed};
+ghost use Rattle.tstd_bridge.specs.Removals.{AreWithin, IsAllowed, LeaveData};
 
 /// The transport buffer of an elementary stream is never over its size, where the rows follow the slot rule: its
 /// packets, and the PCR packets on the PID of a video stream, find little enough there.
@@ -63,6 +63,16 @@ pub fn video_is_not_held_long()
         → slice_get (queues_of table choice) stream ≡ Some (record { kind = Video program vbv; packets = packets })
         → AreWithin headers packets → IsAllowed (Video program vbv) headers packets removals
         → HeldPastLimit table.slot (VideoBuffers vbv) (arrivals_from 0 stream (Video program vbv) headers rows) removals at → ⊥ }
+{}
+
+/// The decoder of a video stream has no fault under a schedule: no buffer overflows, each byte is in EB before it is removed,
+/// and none is held longer than a second.
+pub fn video_streams_are_clean()
+    ensures { (table : Table) (choice : List ℕ) (rows : List Row) (stream program vbv : ℕ) (packets : List QueuedPacket) (headers : Headers) (removals : List Removal) (fault : TstdFault)
+        → IsValidTable table → Fits table choice → IsSchedule table choice rows
+        → slice_get (queues_of table choice) stream ≡ Some (record { kind = Video program vbv; packets = packets })
+        → LeaveData headers packets → IsAllowed (Video program vbv) headers packets removals
+        → IsFault table.slot (VideoBuffers vbv) (arrivals_from 0 stream (Video program vbv) headers rows) removals fault → ⊥ }
 {}
 
 /// If EB always had room and PES headers took as long as data, MB of a video stream would be empty 3,564,480 subticks after
