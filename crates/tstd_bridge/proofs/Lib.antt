@@ -22,3 +22,4 @@ pub mod VideoGone
 pub mod VideoData
 pub mod VideoMoves
 pub mod VideoClean
+pub mod SectionRows

@@ -48,7 +48,7 @@ mb_spare = MB_SPARE_BYTES - PAYLOAD_BYTES - (mb_delay / MB_SUBTICKS + 1)
 abbrev pub mb_taken : (vbv : ℕ) → ℕ
 mb_taken vbv = VIDEO_BYTES - eb_bytes vbv - mb_spare
 
-departures-late : (s l start work delay : ℕ) (comes : List ℕ) → Spaced 0 start comes → l ≤ start + work → work + s * length comes ≤ delay → EachWithin delay (departures s l comes) comes
+pub departures-late : (s l start work delay : ℕ) (comes : List ℕ) → Spaced 0 start comes → l ≤ start + work → work + s * length comes ≤ delay → EachWithin delay (departures s l comes) comes
 unfolding departures
 departures-late s l start work delay [] rise busy small = tt
 departures-late s l start work delay (come ∷ comes) rise busy small =

@@ -1,3 +1,4 @@
 pub mod Arrivals
 pub mod Mb
 pub mod Removals
+pub mod Sections
