@@ -23,3 +23,6 @@ pub mod VideoData
 pub mod VideoMoves
 pub mod VideoClean
 pub mod SectionRows
+pub mod SystemSteps
+pub mod SystemLevels
+pub mod SectionPlaces

@@ -25,7 +25,7 @@ next_offset n period some =
           inr (ap (λ m. m % period) e ∙ mod-mul-add (n / period + 1) period 0 some))
     ]
 
-by_if : {Q : Type 0} (b : Bool) (own sent : Sent) (rest : Option Sent) → (b ≡ true → own ≡ sent → Q) → (b ≡ false → rest ≡ Some sent → Q) → (if b then Some own else rest) ≡ Some sent → Q
+pub by_if : {Q : Type 0} (b : Bool) (own sent : Sent) (rest : Option Sent) → (b ≡ true → own ≡ sent → Q) → (b ≡ false → rest ≡ Some sent → Q) → (if b then Some own else rest) ≡ Some sent → Q
 by_if true own sent rest here later e = here refl (same_Some own sent e)
 by_if false own sent rest here later e = later refl e
 
