@@ -26,3 +26,4 @@ pub mod SectionRows
 pub mod SystemSteps
 pub mod SystemLevels
 pub mod SectionPlaces
+pub mod SystemHolds
