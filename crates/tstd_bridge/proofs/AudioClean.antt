@@ -23,7 +23,7 @@ use Rattle.tstd_bridge.proofs.TbFollows.{finds_little}
 use Rattle.tstd_bridge.proofs.TbHolds.{tb_holds}
 
 -- a buffer of an audio decoder is TB or B
-one_of_two : (tb b : DecoderBuffer) (at place : ℕ) (buffer : DecoderBuffer) → (IsOverfull tb at → ⊥) → (IsOverfull b at → ⊥)
+pub one_of_two : (tb b : DecoderBuffer) (at place : ℕ) (buffer : DecoderBuffer) → (IsOverfull tb at → ⊥) → (IsOverfull b at → ⊥)
     → slice_get (tb ∷ b ∷ []) place ≡ Some buffer → IsOverfull buffer at → ⊥
 one_of_two tb b at zero buffer first second there over = first (subst (λ x. IsOverfull x at) (sym (same_Some tb buffer there)) over)
 one_of_two tb b at (suc zero) buffer first second there over = second (subst (λ x. IsOverfull x at) (sym (same_Some b buffer there)) over)

@@ -27,3 +27,4 @@ pub mod SystemSteps
 pub mod SystemLevels
 pub mod SectionPlaces
 pub mod SystemHolds
+pub mod SystemClean

@@ -1,9 +1,8 @@
 -- Where in the timetable the PAT and the PMTs stand, and when a period begins again.
-use Rattle.std.proofs.Common.{◌≡◌, ℕ, ◌+◌, ◌-◌, ◌*◌, ◌/◌, ◌%◌, ◌<◌, ◌≤◌, ◌⊎◌, eqb, leb, nat_le, if◌then◌else◌, Option, Some, None, sym, ap, ◌∙◌, inl, inr, arith}
+use Rattle.std.proofs.Common.{◌≡◌, ℕ, ◌+◌, ◌-◌, ◌*◌, ◌/◌, ◌%◌, ◌<◌, ◌≤◌, ◌⊎◌, eqb, leb, nat_le, if◌then◌else◌, Option, Some, None, ap, ◌∙◌, inl, inr, arith}
 use Rattle.std.proofs.lemmas.Bool.{cases_lt, eqb-true, eqb-false, leb-true}
 use Rattle.std.proofs.lemmas.Nat.{div-add-mod', mod-mul-add, mod_below}
 use Rattle.std.proofs.lemmas.Option.{none-some}
-use Rattle.version_table.specs.declared.limits.TheConstants.{SLOT_MOST}
 use Rattle.slot_rule.specs.Constants.{period_ticks}
 use Rattle.slot_rule.specs.Timetable.{period, reserved_at}
 use Rattle.slot_rule.specs.declared.sent.Sent.{Sent}

@@ -1,5 +1,5 @@
 -- How long TB and the main buffer of sections are busy, by where the next slot stands in the period.
-use Rattle.std.proofs.Common.{◌≡◌, ℕ, ◌+◌, ◌-◌, ◌*◌, ◌<◌, ◌≤◌, List, [], ◌∷◌, ◌++◌, max, arith}
+use Rattle.std.proofs.Common.{◌≡◌, ℕ, ◌+◌, ◌-◌, ◌*◌, ◌≤◌, List, [], ◌∷◌, ◌++◌, arith}
 use Rattle.stream_constants.specs.declared.decoder.TheConstants.{SYSTEM_TB_SUBTICKS}
 use Rattle.version_table.specs.declared.limits.TheConstants.{PROGRAMS_MOST, SLOT_MOST}
 use Rattle.slot_rule.specs.Buffers.{slot_subticks}

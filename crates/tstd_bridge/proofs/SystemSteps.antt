@@ -1,11 +1,11 @@
 -- TB and the main buffer of sections after one more packet of sections.
-use Rattle.std.proofs.Common.{◌≡◌, ℕ, ◌+◌, ◌-◌, ◌*◌, ◌<◌, ◌≤◌, List, [], ◌∷◌, ◌++◌, length, max, refl, inl, ◌∙◌, arith}
+use Rattle.std.proofs.Common.{◌≡◌, ℕ, ◌+◌, ◌*◌, ◌≤◌, List, [], ◌∷◌, ◌++◌, length, max, refl, inl, ◌∙◌, arith}
 use Rattle.stream_constants.specs.declared.packets.TheConstants.{PACKET_BYTES, PAYLOAD_BYTES}
 use Rattle.stream_constants.specs.declared.decoder.TheConstants.{TB_BYTES, SYSTEM_TB_SUBTICKS, SYSTEM_SUBTICKS, SYSTEM_BYTES}
 use Rattle.slot_rule.specs.Buffers.{slot_subticks}
 use Rattle.tstd_model.specs.declared.decoder_input.Arrival.{Arrival}
 use Rattle.tstd_model.specs.Instants.{spaced, departures}
-use Rattle.tstd_model.specs.PacketBytes.{HasHeaderWithin, byte_subticks, parts_of, is_payload, kept, arrives}
+use Rattle.tstd_model.specs.PacketBytes.{HasHeaderWithin, byte_subticks, parts_of, is_payload, arrives}
 use Rattle.tstd_model.specs.Private.Server.{last_departure, latest_work, Spaced, EachWithin}
 use Rattle.tstd_model.proofs.RisingLaws.{kept-rises, length-spaced}
 use Rattle.tstd_model.proofs.Server.{departures-append, last_departure-append, last_departure-is, length-departures}

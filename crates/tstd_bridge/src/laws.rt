@@ -1,6 +1,6 @@
 //! Laws of a schedule's packets in the decoder, as functions that do nothing.
 
-ghost use Rattle.std.specs.Prelude.{ℕ, ◌≡◌, ◌+◌, ◌*◌, ◌≤◌, List, length, slice_get, Some};
+ghost use Rattle.std.specs.Prelude.{ℕ, ◌≡◌, ◌+◌, ◌*◌, ◌≤◌, List, [], length, slice_get, Some};
 ghost use Rattle.slot_rule.specs.Buffers.{mb_work, slot_subticks};
 ghost use Rattle.version_table.specs.declared.table.Table.{Table};
 ghost use Rattle.version_table.specs.Choice.{Fits};
@@ -13,13 +13,15 @@ ghost use Rattle.slot_rule.specs.Schedule.{FollowRule, IsSchedule};
 ghost use Rattle.tstd_model.specs.Decoder.{IsOverfull, audio_buffer, bytes_in, elementary_buffer, transport_buffer};
 ghost use Rattle.tstd_model.specs.Faults.{HeldPastLimit, IsFault};
 ghost use Rattle.tstd_model.specs.declared.decoder_input.Arrival.{Arrival};
-ghost use Rattle.tstd_model.specs.declared.decoder_input.BufferKind.TheVariants.{Audio as AudioBuffers, Video as VideoBuffers};
+ghost use Rattle.tstd_model.specs.declared.decoder_input.BufferKind.TheVariants.{Audio as AudioBuffers, System as SystemBuffers, Video as VideoBuffers};
 ghost use Rattle.tstd_model.specs.declared.decoder_input.Removal.{Removal};
 ghost use Rattle.tstd_model.specs.declared.fault.TstdFault.{TstdFault};
 ghost use Rattle.slot_rule.specs.declared.queue_kind.QueueKind.TheVariants.{Audio, Video};
 ghost use Rattle.tstd_bridge.specs.Arrivals.{Headers, buffers_of, arrivals_from};
+ghost use Rattle.tstd_bridge.specs.Clean.{AreClean};
 ghost use Rattle.tstd_bridge.specs.Mb.{free_running_mb, mb_delay};
 ghost use Rattle.tstd_bridge.specs.Removals.{AreWithin, IsAllowed, LeaveData};
+ghost use Rattle.tstd_bridge.specs.Sections.{sections_from};
 
 /// The transport buffer of an elementary stream is never over its size, where the rows follow the slot rule: its
 /// packets, and the PCR packets on the PID of a video stream, find little enough there.
@@ -93,4 +95,17 @@ pub fn free_running_mb_holds()
         → slice_get (queues_of table choice) stream ≡ Some (record { kind = Video program vbv; packets = packets })
         → AreWithin headers packets
         → IsOverfull (free_running_mb table.slot vbv (arrivals_from 0 stream (Video program vbv) headers rows)) at → ⊥ }
+{}
+
+/// The decoder of a program's sections, the PAT and the program's PMT, has no fault where the rows follow the slot rule: neither
+/// its transport buffer nor its main buffer overflows.
+pub fn sections_are_clean()
+    ensures { (table : Table) (choice : List ℕ) (rows : List Row) (program : ℕ) (fault : TstdFault)
+        → IsValidTable table → FollowRule table choice rows
+        → IsFault table.slot SystemBuffers (sections_from 0 program rows) [] fault → ⊥ }
+{}
+
+/// No decoder has a fault under a schedule: a scheduled choice is clean.
+pub fn prove_clean()
+    ensures { (table : Table) (choice : List ℕ) (rows : List Row) → IsValidTable table → Fits table choice → IsSchedule table choice rows → AreClean table choice rows }
 {}
