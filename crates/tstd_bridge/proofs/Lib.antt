@@ -28,3 +28,4 @@ pub mod SystemLevels
 pub mod SectionPlaces
 pub mod SystemHolds
 pub mod SystemClean
+pub mod WhenWanted

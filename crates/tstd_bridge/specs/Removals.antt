@@ -37,3 +37,7 @@ pub record IsAllowed (kind : QueueKind) (headers : Headers) (packets : List Queu
   pub in_order : IsNonDecreasing (map (λ removal. removal.due) removals)
   pub wanted : AllZip (λ wanted at. wanted ≤ at) (wanted_of_each kind headers packets) (removed removals)
   pub gone : AllZip (λ at gone. at ≤ gone) (removed removals) (gone_of_each kind headers packets)
+
+-- the removals that take each packet's bytes when they are wanted
+abbrev pub removals_when_wanted : QueueKind → Headers → List QueuedPacket → List Removal
+removals_when_wanted kind headers packets = map (λ packet. record { due = packet.due; bytes = removable kind headers packet }) packets

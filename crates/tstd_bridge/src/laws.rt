@@ -20,7 +20,7 @@ ghost use Rattle.slot_rule.specs.declared.queue_kind.QueueKind.TheVariants.{Audi
 ghost use Rattle.tstd_bridge.specs.Arrivals.{Headers, buffers_of, arrivals_from};
 ghost use Rattle.tstd_bridge.specs.Clean.{AreClean};
 ghost use Rattle.tstd_bridge.specs.Mb.{free_running_mb, mb_delay};
-ghost use Rattle.tstd_bridge.specs.Removals.{AreWithin, IsAllowed, LeaveData};
+ghost use Rattle.tstd_bridge.specs.Removals.{AreWithin, IsAllowed, LeaveData, removals_when_wanted};
 ghost use Rattle.tstd_bridge.specs.Sections.{sections_from};
 
 /// The transport buffer of an elementary stream is never over its size, where the rows follow the slot rule: its
@@ -75,6 +75,14 @@ pub fn video_streams_are_clean()
         → slice_get (queues_of table choice) stream ≡ Some (record { kind = Video program vbv; packets = packets })
         → LeaveData headers packets → IsAllowed (Video program vbv) headers packets removals
         → IsFault table.slot (VideoBuffers vbv) (arrivals_from 0 stream (Video program vbv) headers rows) removals fault → ⊥ }
+{}
+
+/// There are allowed removals of each stream: those that take each packet's bytes when they are wanted.
+pub fn removals_when_wanted_are_allowed()
+    ensures { (table : Table) (choice : List ℕ) (stream : ℕ) (kind : QueueKind) (packets : List QueuedPacket) (headers : Headers)
+        → IsValidTable table → Fits table choice
+        → slice_get (queues_of table choice) stream ≡ Some (record { kind = kind; packets = packets })
+        → IsAllowed kind headers packets (removals_when_wanted kind headers packets) }
 {}
 
 /// If EB always had room and PES headers took as long as data, MB of a video stream would be empty 3,564,480 subticks after
