@@ -4,7 +4,7 @@ use Rattle.std.specs.FinMap.{get}
 use Rattle.shelf_io.specs.Files.{Files}
 use Rattle.version_table.specs.declared.table.Table.{Table}
 use Rattle.version_table.specs.Choice.{IsSmallestChoice}
-use Rattle.version_table.specs.Text.{IsRead, Reading, Holds, RefusedAt, RefusedFor}
+use Rattle.version_table.specs.Text.{IsRead, TextReading, Holds, RefusedAt, RefusedFor}
 use Rattle.slot_rule.specs.declared.sent.Miss.{Miss}
 use Rattle.slot_rule.specs.Schedule.{IsScheduled, IsFirstMiss}
 use Rattle.remux_core.specs.declared.status.Status.{Status}
@@ -15,7 +15,7 @@ use Rattle.remux_core.specs.Outcome.{PlansText, PlansTable, IsRefused, IsRefusin
 
 -- the laws that each text is read in one way, each table has one smallest choice, and a choice is scheduled or has one first miss
 pub record Laws : Type 0 where
-  pub reading : (text : List ℕ) (a b : Reading) → IsRead text a → IsRead text b → a ≡ b
+  pub reading : (text : List ℕ) (a b : TextReading) → IsRead text a → IsRead text b → a ≡ b
   pub smallest : (table : Table) (a b : List ℕ) → IsSmallestChoice table a → IsSmallestChoice table b → a ≡ b
   pub scheduled : (table : Table) (choice : List ℕ) (miss : Miss) → IsScheduled table choice → IsFirstMiss table choice miss → ⊥
   pub miss : (table : Table) (choice : List ℕ) (a b : Miss) → IsFirstMiss table choice a → IsFirstMiss table choice b → a ≡ b

@@ -8,7 +8,7 @@ use Rattle.shelf_io.specs.Files.{Files}
 use Rattle.version_table.specs.declared.limits.TheConstants.{TABLE_TEXT_MOST}
 use Rattle.version_table.specs.declared.fault.TableFault.{TableFault}
 use Rattle.version_table.specs.declared.fault.TableFault.TheVariants as faults
-use Rattle.version_table.specs.Text.{IsRead, IsFaultOf, Reading, Holds, RefusedAt, RefusedFor}
+use Rattle.version_table.specs.Text.{IsRead, IsFaultOf, TextReading, Holds, RefusedAt, RefusedFor}
 use Rattle.remux_core.specs.declared.outcome.Ended.{Ended}
 use Rattle.remux_core.specs.declared.status.Status.{Status}
 use Rattle.remux_core.specs.Outcome.{Decides, Ends, HoldsText, IsRefusedFor}
@@ -20,7 +20,7 @@ take_all_of n text front is short =
     is ∙ take_all (n + 1) text (omega arith)
 
 -- a text is read as its front of one byte past the limit
-pub read_whole : (text front : List ℕ) (reading : Reading) → front ≡ take (TABLE_TEXT_MOST + 1) text → IsRead front reading → IsRead text reading
+pub read_whole : (text front : List ℕ) (reading : TextReading) → front ≡ take (TABLE_TEXT_MOST + 1) text → IsRead front reading → IsRead text reading
 read_whole text front (Holds table) is (short, valid, spelled) =
     let whole : front ≡ text = take_all_of TABLE_TEXT_MOST text front is short in
     subst (λ (t : List ℕ). IsRead t (Holds table)) whole (short, valid, spelled)

@@ -10,59 +10,59 @@ use Rattle.version_table.specs.declared.table.Table.{Table}
 use Rattle.version_table.specs.declared.table.Unit.{Unit as CodedUnit}
 use Rattle.version_table.specs.Table.{IsValidTable, units_of}
 use Rattle.version_table.specs.Choice.{Fits, HasVersion}
-use Rattle.slot_rule.specs.declared.source.Source.TheVariants.{Units}
+use Rattle.slot_rule.specs.declared.queue_items.QueueItems.TheVariants.{Units}
 use Rattle.slot_rule.specs.declared.states.TheConstants.{STREAMS_MOST}
-use Rattle.slot_rule.specs.declared.stream_state.StreamState.{StreamState}
-use Rattle.slot_rule.specs.Source.{HasSizes, IsPlace, program_at}
-use Rattle.slot_rule.specs.States.{stream_of}
-use Rattle.slot_rule.specs.Streams.{Stream, streams_from, streams_of}
-use Rattle.slot_rule.proofs.RuleStreams.{all_units, streams_in, streams_from-push, length-streams_from, streams_of-few, HasSizes-at_program}
+use Rattle.slot_rule.specs.declared.queue_state.QueueState.{QueueState}
+use Rattle.slot_rule.specs.Private.QueueItems.{HasSizes, IsPlace, program_at}
+use Rattle.slot_rule.specs.Private.States.{queue_of}
+use Rattle.slot_rule.specs.Queues.{Queue, queues_from, queues_of}
+use Rattle.slot_rule.proofs.RuleQueues.{units_in, queues_in, queues_from-push, length-queues_from, queues_of-few, HasSizes-at_program}
 
 -- the units of the first programs are no more than all
-all_units_of_front : (rows : List ProgramRow) (p : ℕ) → length (all_units (take p rows)) ≤ length (all_units rows)
+all_units_of_front : (rows : List ProgramRow) (p : ℕ) → length (units_in (take p rows)) ≤ length (units_in rows)
 all_units_of_front rows p =
-    let split : all_units rows ≡ all_units (take p rows) ++ all_units (drop p rows) = ap all_units (sym (take-append-drop p rows)) ∙ flat_map-append (λ (row : ProgramRow). row.units) (take p rows) (drop p rows) in
-    omega (arith, ap (λ (units : List CodedUnit). length units) split, length-append (all_units (take p rows)) (all_units (drop p rows)))
+    let split : units_in rows ≡ units_in (take p rows) ++ units_in (drop p rows) = ap units_in (sym (take-append-drop p rows)) ∙ flat_map-append (λ (row : ProgramRow). row.units) (take p rows) (drop p rows) in
+    omega (arith, ap (λ (units : List CodedUnit). length units) split, length-append (units_in (take p rows)) (units_in (drop p rows)))
 
-pub all_units_more : (rows : List ProgramRow) (p : ℕ) (d : ProgramRow) → p < length rows → length (all_units (take (p + 1) rows)) ≡ length (all_units (take p rows)) + length (get_or rows p d).units
+pub all_units_more : (rows : List ProgramRow) (p : ℕ) (d : ProgramRow) → p < length rows → length (units_in (take (p + 1) rows)) ≡ length (units_in (take p rows)) + length (get_or rows p d).units
 all_units_more rows p d within =
     let row = get_or rows p d in
-    let more : all_units (take (p + 1) rows) ≡ all_units (take p rows) ++ (row.units ++ []) =
-    ap all_units (take_more rows p d within) ∙ flat_map-append (λ (r : ProgramRow). r.units) (take p rows) (row ∷ []) in
-    omega (arith, ap (λ (units : List CodedUnit). length units) more, length-append (all_units (take p rows)) (row.units ++ []), length-append row.units [])
+    let more : units_in (take (p + 1) rows) ≡ units_in (take p rows) ++ (row.units ++ []) =
+    ap units_in (take_more rows p d within) ∙ flat_map-append (λ (r : ProgramRow). r.units) (take p rows) (row ∷ []) in
+    omega (arith, ap (λ (units : List CodedUnit). length units) more, length-append (units_in (take p rows)) (row.units ++ []), length-append row.units [])
 
 -- the place of the next program's first unit is small
 pub units_small : (table : Table) (p : ℕ) (d : ProgramRow) → IsValidTable table → p < length table.programs
-    → length (all_units (take p table.programs)) + length (get_or table.programs p d).units ≤ UNITS_MOST
+    → length (units_in (take p table.programs)) + length (get_or table.programs p d).units ≤ UNITS_MOST
 units_small table p d valid within = omega (arith, all_units_more table.programs p d within, all_units_of_front table.programs (p + 1), valid.units)
 
 -- the units of a program stand where those of the programs before it end
 pub place_of_program : (table : Table) (choice : List ℕ) (p first : ℕ) → IsValidTable table → Fits table choice → p < length table.programs
-    → first ≡ length (all_units (take p table.programs)) → IsPlace table choice (Units p first)
+    → first ≡ length (units_in (take p table.programs)) → IsPlace table choice (Units p first)
 place_of_program table choice p first valid fits within first_is =
     let long : length choice ≡ length (units_of table) = AllZip-long HasVersion (units_of table) choice fits in
-    let sizes : HasSizes (program_at table p).units (drop (length (all_units (take p table.programs))) choice) = HasSizes-at_program table choice p (record { vbv = 0; units = []; audios = [] }) valid fits within in
+    let sizes : HasSizes (program_at table p).units (drop (length (units_in (take p table.programs))) choice) = HasSizes-at_program table choice p (record { vbv = 0; units = []; audios = [] }) valid fits within in
     (within, omega (arith, all_units_of_front table.programs p), subst (λ n. HasSizes (program_at table p).units (drop n choice)) (sym first_is) sizes)
 
 -- there is room for the streams of the next program
-pub room_for_program : (table : Table) (choice : List ℕ) (p : ℕ) (states : List StreamState) → IsValidTable table → p < length table.programs
-    → map (stream_of table choice) states ≡ streams_from 0 (take p table.programs) choice → length states + (1 + length (program_at table p).audios) ≤ STREAMS_MOST
-room_for_program table choice p states valid within streams =
+pub room_for_program : (table : Table) (choice : List ℕ) (p : ℕ) (states : List QueueState) → IsValidTable table → p < length table.programs
+    → map (queue_of table choice) states ≡ queues_from 0 (take p table.programs) choice → length states + (1 + length (program_at table p).audios) ≤ STREAMS_MOST
+room_for_program table choice p states valid within queues =
     let many : length states ≡ sum_by (λ row. suc (length row.audios)) (take p table.programs) =
-    sym (length-map states (stream_of table choice)) ∙ ap (λ (s : List Stream). length s) streams ∙ length-streams_from 0 (take p table.programs) choice in
-    let all : length (streams_of table choice) ≡ sum_by (λ row. suc (length row.audios)) table.programs = length-streams_from 0 table.programs choice in
+    sym (length-map states (queue_of table choice)) ∙ ap (λ (s : List Queue). length s) queues ∙ length-queues_from 0 (take p table.programs) choice in
+    let all : length (queues_of table choice) ≡ sum_by (λ row. suc (length row.audios)) table.programs = length-queues_from 0 table.programs choice in
     let more = sum_by_more_le (λ row. suc (length row.audios)) table.programs p (record { vbv = 0; units = []; audios = [] }) within in
-    omega (arith, streams_of-few table choice valid)
+    omega (arith, queues_of-few table choice valid)
 
 -- the streams of one more program
-pub streams_more : (table : Table) (choice : List ℕ) (p first : ℕ) (olds news : List StreamState) → p < length table.programs → first ≡ length (all_units (take p table.programs))
-    → map (stream_of table choice) olds ≡ streams_from 0 (take p table.programs) choice
-    → map (stream_of table choice) news ≡ map (stream_of table choice) olds ++ streams_in p (program_at table p) (drop first choice)
-    → map (stream_of table choice) news ≡ streams_from 0 (take (p + 1) table.programs) choice
-streams_more table choice p first olds news within first_is streams added =
+pub queues_more : (table : Table) (choice : List ℕ) (p first : ℕ) (olds news : List QueueState) → p < length table.programs → first ≡ length (units_in (take p table.programs))
+    → map (queue_of table choice) olds ≡ queues_from 0 (take p table.programs) choice
+    → map (queue_of table choice) news ≡ map (queue_of table choice) olds ++ queues_in p (program_at table p) (drop first choice)
+    → map (queue_of table choice) news ≡ queues_from 0 (take (p + 1) table.programs) choice
+queues_more table choice p first olds news within first_is queues added =
     let row = program_at table p in
     let number : 0 + length (take p table.programs) ≡ p = zero-add _ ∙ length-take-le p table.programs (omega arith) in
-    added ∙ ap (λ (s : List Stream). s ++ streams_in p row (drop first choice)) streams
-    ∙ ap (λ n. streams_from 0 (take p table.programs) choice ++ streams_in p row (drop n choice)) first_is
-    ∙ ap (λ n. streams_from 0 (take p table.programs) choice ++ streams_in n row (drop (length (all_units (take p table.programs))) choice)) (sym number)
-    ∙ sym (ap (λ (rows : List ProgramRow). streams_from 0 rows choice) (take_more table.programs p (record { vbv = 0; units = []; audios = [] }) within) ∙ streams_from-push 0 (take p table.programs) row choice)
+    added ∙ ap (λ (s : List Queue). s ++ queues_in p row (drop first choice)) queues
+    ∙ ap (λ n. queues_from 0 (take p table.programs) choice ++ queues_in p row (drop n choice)) first_is
+    ∙ ap (λ n. queues_from 0 (take p table.programs) choice ++ queues_in n row (drop (length (units_in (take p table.programs))) choice)) (sym number)
+    ∙ sym (ap (λ (rows : List ProgramRow). queues_from 0 rows choice) (take_more table.programs p (record { vbv = 0; units = []; audios = [] }) within) ∙ queues_from-push 0 (take p table.programs) row choice)

@@ -4,10 +4,10 @@ use Rattle.std.proofs.lemmas.Bool.{cases_lt, cond-true, cond-false}
 use Rattle.std.proofs.lemmas.Option.{same_Some, slice_get-get_or}
 use Rattle.std.proofs.lemmas.List.{take_all}
 use Rattle.slot_rule.specs.declared.heads.Head.{Head}
-use Rattle.slot_rule.specs.declared.stream_state.StreamState.{StreamState}
-use Rattle.slot_rule.specs.Streams.{Packet}
+use Rattle.slot_rule.specs.declared.queue_state.QueueState.{QueueState}
+use Rattle.slot_rule.specs.Queues.{QueuedPacket}
 use Rattle.slot_rule.specs.Schedule.{IsBefore}
-use Rattle.slot_rule.specs.Heads.{IsOffer, IsFirst, IsFirstHead, earlier_head}
+use Rattle.slot_rule.specs.Private.Heads.{IsOffer, IsFirst, IsFirstHead, earlier_head}
 use Rattle.slot_rule.proofs.Places.{slice_get-take, slice_get_of_front}
 
 -- a stream of a longer front is the last one, or one of the shorter front
@@ -24,18 +24,18 @@ longer_front : {X : Type 0} (n : ℕ) (xs : List X) (k : ℕ) (y : X) → slice_
 longer_front n xs k y got = let there = slice_get_of_front n xs k y got in slice_get-take (n + 1) xs k (omega (arith, there.0)) ∙ there.1
 
 -- none of the front passes, and the stream after it has nothing to offer
-none_more : (P : StreamState → Packet → Type 0) (states : List StreamState) (n : ℕ) (state : StreamState) → slice_get states n ≡ Some state
+none_more : (P : QueueState → QueuedPacket → Type 0) (states : List QueueState) (n : ℕ) (state : QueueState) → slice_get states n ≡ Some state
     → IsFirstHead P (take n states) None → IsOffer P n state None → IsFirstHead P (take (n + 1) states) None
 none_more P states n state last none nothing stream state' packet there head passes =
     elim (front_cases n states state stream state' last there) as (λ _. ⊥) [
       | inl before ↦ none stream state' packet before head passes
-      | inr here ↦ nothing packet (ap (λ (s : StreamState). s.head) (sym here.1) ∙ head) (subst (λ (s : StreamState). P s packet) here.1 passes)
+      | inr here ↦ nothing packet (ap (λ (s : QueueState). s.head) (sym here.1) ∙ head) (subst (λ (s : QueueState). P s packet) here.1 passes)
     ]
 
 -- one of the front goes first, and the stream after it has nothing to offer, or a packet that isn't due before
-stays_first : (P : StreamState → Packet → Type 0) (states : List StreamState) (n : ℕ) (state : StreamState) (first : Head) → slice_get states n ≡ Some state
+stays_first : (P : QueueState → QueuedPacket → Type 0) (states : List QueueState) (n : ℕ) (state : QueueState) (first : Head) → slice_get states n ≡ Some state
     → IsFirst P (take n states) first.stream first.packet
-    → ((packet : Packet) → state.head ≡ Some packet → P state packet → first.packet.due ≤ packet.due) → IsFirst P (take (n + 1) states) first.stream first.packet
+    → ((packet : QueuedPacket) → state.head ≡ Some packet → P state packet → first.packet.due ≤ packet.due) → IsFirst P (take (n + 1) states) first.stream first.packet
 stays_first P states n state first last is later = record {
   state = is.state;
   there = longer_front n states first.stream is.state is.there;
@@ -45,16 +45,16 @@ stays_first P states n state first last is later = record {
     | inl before ↦ is.first other state' packet' before head passes
     | inr here ↦
         (let below : first.stream < n = (slice_get_of_front n states first.stream is.state is.there).0 in
-        let due : first.packet.due ≤ packet'.due = later packet' (ap (λ (s : StreamState). s.head) (sym here.1) ∙ head) (subst (λ (s : StreamState). P s packet') here.1 passes) in
+        let due : first.packet.due ≤ packet'.due = later packet' (ap (λ (s : QueueState). s.head) (sym here.1) ∙ head) (subst (λ (s : QueueState). P s packet') here.1 passes) in
         let number = here.0 in
         grind arith)
   ];
 }
 
 -- the stream after the front offers a packet that goes before those of the front
-takes_first : (P : StreamState → Packet → Type 0) (states : List StreamState) (n : ℕ) (state : StreamState) (head : Head) → slice_get states n ≡ Some state
+takes_first : (P : QueueState → QueuedPacket → Type 0) (states : List QueueState) (n : ℕ) (state : QueueState) (head : Head) → slice_get states n ≡ Some state
     → IsOffer P n state (Some head)
-    → ((other : ℕ) (state' : StreamState) (packet' : Packet) → slice_get (take n states) other ≡ Some state' → state'.head ≡ Some packet' → P state' packet' → head.packet.due < packet'.due)
+    → ((other : ℕ) (state' : QueueState) (packet' : QueuedPacket) → slice_get (take n states) other ≡ Some state' → state'.head ≡ Some packet' → P state' packet' → head.packet.due < packet'.due)
     → IsFirst P (take (n + 1) states) head.stream head.packet
 takes_first P states n state head last offer later = record {
   state = state;
@@ -68,7 +68,7 @@ takes_first P states n state head last offer later = record {
 }
 
 -- one more stream
-pub IsFirstHead-more : (P : StreamState → Packet → Type 0) (states : List StreamState) (n : ℕ) (state : StreamState) (first offer : Option Head) → slice_get states n ≡ Some state
+pub IsFirstHead-more : (P : QueueState → QueuedPacket → Type 0) (states : List QueueState) (n : ℕ) (state : QueueState) (first offer : Option Head) → slice_get states n ≡ Some state
     → IsFirstHead P (take n states) first → IsOffer P n state offer → IsFirstHead P (take (n + 1) states) (earlier_head first offer)
 IsFirstHead-more P states n state None None last is offers = none_more P states n state last is offers
 IsFirstHead-more P states n state (Some first) None last is offers = stays_first P states n state first last is (λ packet head passes. absurd (offers packet head passes))
@@ -84,7 +84,7 @@ IsFirstHead-more P states n state (Some first) (Some head) last is offers =
             | inl same ↦
                 (let there' : slice_get (take n states) first.stream ≡ Some state' = subst (λ k. slice_get (take n states) k ≡ Some state') same there in
                 let states_are : is.state ≡ state' = same_Some is.state state' (sym is.there ∙ there') in
-                let packets_are : first.packet ≡ packet' = same_Some first.packet packet' (sym is.head ∙ ap (λ (s : StreamState). s.head) states_are ∙ h) in
+                let packets_are : first.packet ≡ packet' = same_Some first.packet packet' (sym is.head ∙ ap (λ (s : QueueState). s.head) states_are ∙ h) in
                 rw (← packets_are) before)
             | inr later ↦ grind arith
           ]))
@@ -94,11 +94,11 @@ IsFirstHead-more P states n state (Some first) (Some head) last is offers =
     ]
 
 -- one more stream, as a loop reads it
-pub IsFirstHead-read : (P : StreamState → Packet → Type 0) (states : List StreamState) (n : ℕ) (d : StreamState) (first offer result : Option Head) → n < length states
+pub IsFirstHead-read : (P : QueueState → QueuedPacket → Type 0) (states : List QueueState) (n : ℕ) (d : QueueState) (first offer result : Option Head) → n < length states
     → IsFirstHead P (take n states) first → IsOffer P n (get_or states n d) offer → result ≡ earlier_head first offer → IsFirstHead P (take (n + 1) states) result
 IsFirstHead-read P states n d first offer result within is offers e =
     subst (λ (o : Option Head). IsFirstHead P (take (n + 1) states) o) (sym e) (IsFirstHead-more P states n (get_or states n d) first offer (slice_get-get_or states n d within) is offers)
 
-pub IsFirstHead-all : (P : StreamState → Packet → Type 0) (states : List StreamState) (n : ℕ) (first : Option Head) → length states ≤ n
+pub IsFirstHead-all : (P : QueueState → QueuedPacket → Type 0) (states : List QueueState) (n : ℕ) (first : Option Head) → length states ≤ n
     → IsFirstHead P (take n states) first → IsFirstHead P states first
-IsFirstHead-all P states n first all is = subst (λ (list : List StreamState). IsFirstHead P list first) (take_all n states all) is
+IsFirstHead-all P states n first all is = subst (λ (list : List QueueState). IsFirstHead P list first) (take_all n states all) is

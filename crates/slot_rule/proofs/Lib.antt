@@ -19,12 +19,13 @@ pub mod RuleRows
 pub mod RuleRun
 pub mod RuleSchedules
 pub mod RuleSent
-pub mod RuleStreams
+pub mod RuleQueues
 pub mod RuleUnique
 pub mod RuleUnits
 pub mod RuleVideo
 pub mod RuleWork
 pub mod SendLaws
+pub mod SentLaws
 pub mod SlotLaws
 pub mod SlotListLaws
 pub mod SmallLaws

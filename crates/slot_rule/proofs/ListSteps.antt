@@ -2,8 +2,8 @@
 use Rattle.std.proofs.Common.{◌≡◌, ℕ, zero, suc, ◌+◌, ◌<◌, ◌≤◌, List, [], ◌∷◌, length, get_or, set, slice_get, Some, refl, sym, ap, subst₂, ◌∙◌, inl, inr, length-set, arith}
 use Rattle.std.proofs.lemmas.Bool.{cases_lt}
 use Rattle.std.proofs.lemmas.Option.{same_Some, slice_get-get_or, slice_get_within}
-use Rattle.slot_rule.specs.declared.stream_state.StreamState.{StreamState}
-use Rattle.slot_rule.specs.States.{ChangesEach}
+use Rattle.slot_rule.specs.declared.queue_state.QueueState.{QueueState}
+use Rattle.slot_rule.specs.Private.States.{ChangesEach}
 
 pub slice_get-set_same : {X : Type 0} (xs : List X) (n : ℕ) (x : X) → n < length xs → slice_get (set xs n x) n ≡ Some x
 slice_get-set_same [] n x within = absurd (omega arith)
@@ -18,13 +18,13 @@ slice_get-set_other (y ∷ xs) (suc n) zero x apart = refl
 slice_get-set_other (y ∷ xs) (suc n) (suc k) x apart = slice_get-set_other xs n k x (λ e. apart (ap suc e))
 
 -- the first n states are changed, and the others are as they were
-pub record ChangesFirst (R : StreamState → StreamState → Type 0) (n : ℕ) (olds news : List StreamState) : Type 0 where
+pub record ChangesFirst (R : QueueState → QueueState → Type 0) (n : ℕ) (olds news : List QueueState) : Type 0 where
   pub as_many : length news ≡ length olds
-  pub each : (k : ℕ) (old new : StreamState) → k < n → slice_get olds k ≡ Some old → slice_get news k ≡ Some new → R old new
+  pub each : (k : ℕ) (old new : QueueState) → k < n → slice_get olds k ≡ Some old → slice_get news k ≡ Some new → R old new
   pub others : (k : ℕ) → n ≤ k → slice_get news k ≡ slice_get olds k
 
 -- one more state is changed
-pub ChangesFirst-more : (R : StreamState → StreamState → Type 0) (n : ℕ) (olds news : List StreamState) (d new : StreamState) → ChangesFirst R n olds news → n < length news
+pub ChangesFirst-more : (R : QueueState → QueueState → Type 0) (n : ℕ) (olds news : List QueueState) (d new : QueueState) → ChangesFirst R n olds news → n < length news
     → R (get_or news n d) new → ChangesFirst R (n + 1) olds (set news n new)
 ChangesFirst-more R n olds news d new first within related = record {
   as_many = length-set news n new ∙ first.as_many;
@@ -40,7 +40,7 @@ ChangesFirst-more R n olds news d new first within related = record {
   others = λ k from. slice_get-set_other news n k new (λ e. absurd (omega arith)) ∙ first.others k (omega arith);
 }
 
-pub ChangesEach-from_first : (R : StreamState → StreamState → Type 0) (n : ℕ) (olds news : List StreamState) → ChangesFirst R n olds news → length news ≤ n → ChangesEach R olds news
+pub ChangesEach-from_first : (R : QueueState → QueueState → Type 0) (n : ℕ) (olds news : List QueueState) → ChangesFirst R n olds news → length news ≤ n → ChangesEach R olds news
 ChangesEach-from_first R n olds news first all = record {
   as_many = first.as_many;
   each = λ k old new there there'. first.each k old new (omega (arith, slice_get_within news k new there')) there there';

@@ -6,20 +6,21 @@ use Rattle.version_table.specs.declared.table.Table.{Table}
 use Rattle.version_table.specs.Table.{IsValidTable}
 use Rattle.version_table.specs.Choice.{Fits}
 use Rattle.slot_rule.specs.declared.after.After.TheVariants.{AllSent as AllAreSent, Waiting}
-use Rattle.slot_rule.specs.declared.constants.TheConstants.{MARGIN_SUBTICKS, SUBTICKS_PER_TICK}
+use Rattle.slot_rule.specs.declared.constants.TheConstants.{MARGIN_SUBTICKS}
+use Rattle.stream_constants.specs.declared.clock.TheConstants.{SUBTICKS_PER_TICK}
 use Rattle.slot_rule.specs.declared.schedules.ScheduleFault.{ScheduleFault}
 use Rattle.slot_rule.specs.declared.schedules.ScheduleFault.TheVariants.{Missed, OutOfMemory}
 use Rattle.slot_rule.specs.declared.sent.Miss.{Miss}
 use Rattle.slot_rule.specs.declared.sent.Sent.{Sent}
 use Rattle.slot_rule.specs.declared.slot_list.SlotList.{SlotList}
-use Rattle.slot_rule.specs.declared.stream_state.StreamState.{StreamState}
+use Rattle.slot_rule.specs.declared.queue_state.QueueState.{QueueState}
 use Rattle.slot_rule.specs.Buffers.{Row}
 use Rattle.slot_rule.specs.Schedule.{AllSent, IsFirstMiss}
-use Rattle.slot_rule.specs.IdleSlots.{FillsPeriod}
+use Rattle.slot_rule.specs.Private.IdleSlots.{FillsPeriod}
 use Rattle.slot_rule.specs.SlotList.{sent_of, IsSlotList, CarriesPacket}
-use Rattle.slot_rule.specs.Slots.{HasRun, Shows, TellsAfter}
-use Rattle.slot_rule.specs.States.{IsFirstState, stream_of}
-use Rattle.slot_rule.specs.Streams.{streams_of}
+use Rattle.slot_rule.specs.Private.Slots.{HasRun, IsWhatStands, TellsAfter}
+use Rattle.slot_rule.specs.Private.States.{IsFirstState, queue_of}
+use Rattle.slot_rule.specs.Queues.{queues_of}
 use Rattle.slot_rule.specs.Timetable.{period}
 use Rattle.slot_rule.proofs.MissLaws.{HasRun-first, Reached, no_miss_found, schedule_found}
 use Rattle.slot_rule.proofs.RuleEnd.{AllSent-at_end}
@@ -29,25 +30,25 @@ use Rattle.slot_rule.proofs.SlotListLaws.{sent_of-shown, carries_last, IsSlotLis
 use Rattle.slot_rule.proofs.TrackLaws.{head_from_state}
 
 -- so many slots are listed, in which nothing misses and after which something is left to send
-pub record Listed (table : Table) (choice : List ℕ) (slots : ℕ) (states : List StreamState) (sent : List Sent) : Type 0 where
+pub record Listed (table : Table) (choice : List ℕ) (slots : ℕ) (states : List QueueState) (sent : List Sent) : Type 0 where
   pub reached : Reached table choice slots states
-  pub sent_is : sent ≡ map (sent_of (streams_of table choice)) reached.rows
-  pub left : (slots ≡ 0) ⊎ (AllSent (streams_of table choice) reached.rows → ⊥)
+  pub sent_is : sent ≡ map (sent_of (queues_of table choice)) reached.rows
+  pub left : (slots ≡ 0) ⊎ (AllSent (queues_of table choice) reached.rows → ⊥)
 
-pub Listed-first : (table : Table) (choice : List ℕ) (states : List StreamState) → map (stream_of table choice) states ≡ streams_of table choice → All (IsFirstState table choice) states
+pub Listed-first : (table : Table) (choice : List ℕ) (states : List QueueState) → map (queue_of table choice) states ≡ queues_of table choice → All (IsFirstState table choice) states
     → Listed table choice 0 states []
-Listed-first table choice states streams first = record {
-  reached = record { rows = []; slots_are = refl; run = HasRun-first table choice states streams first; in_time = NoMiss-nil table.slot (streams_of table choice) };
+Listed-first table choice states queues first = record {
+  reached = record { rows = []; slots_are = refl; run = HasRun-first table choice states queues first; in_time = NoMiss-nil table.slot (queues_of table choice) };
   sent_is = refl;
   left = inl refl;
 }
 
-module _ (table : Table) (choice : List ℕ) (valid : IsValidTable table) (fits : Fits table choice) (n : ℕ) (olds news : List StreamState) (row : Row) (sent : List Sent) (last : Sent) (listed : Listed table choice n olds sent) (next : IsNext table choice listed.reached.rows row) (run : HasRun table choice (listed.reached.rows ++ row ∷ []) news) (shows : Shows news row last) where
+module _ (table : Table) (choice : List ℕ) (valid : IsValidTable table) (fits : Fits table choice) (n : ℕ) (olds news : List QueueState) (row : Row) (sent : List Sent) (last : Sent) (listed : Listed table choice n olds sent) (next : IsNext table choice listed.reached.rows row) (run : HasRun table choice (listed.reached.rows ++ row ∷ []) news) (shows : IsWhatStands news row last) where
   -- what is listed once the slot is run
-  sent_more : sent ++ last ∷ [] ≡ map (sent_of (streams_of table choice)) (listed.reached.rows ++ row ∷ [])
+  sent_more : sent ++ last ∷ [] ≡ map (sent_of (queues_of table choice)) (listed.reached.rows ++ row ∷ [])
   sent_more =
       ap₂ (λ (front : List Sent) (x : Sent). front ++ x ∷ []) listed.sent_is (sent_of-shown table choice listed.reached.rows row news last run next shows)
-      ∙ sym (map-append (sent_of (streams_of table choice)) listed.reached.rows (row ∷ []))
+      ∙ sym (map-append (sent_of (queues_of table choice)) listed.reached.rows (row ∷ []))
 
   pub Listed-next : TellsAfter news (SUBTICKS_PER_TICK * ((n + 1) * table.slot) + MARGIN_SUBTICKS) row n Waiting → Listed table choice (n + 1) news (sent ++ last ∷ [])
   Listed-next tells =
@@ -64,9 +65,9 @@ module _ (table : Table) (choice : List ℕ) (valid : IsValidTable table) (fits 
         left = inr (λ all_sent. all_sent head.0 first.state.kind head.1 (head_from_state table choice (listed.reached.rows ++ row ∷ []) news run head.0 first.state head.1 first.there first.head));
       }
 
-  carries_or_none : AllSent (streams_of table choice) (listed.reached.rows ++ row ∷ []) → (n ≡ 0) ⊎ (AllSent (streams_of table choice) listed.reached.rows → ⊥) → (n ≡ 0) ⊎ CarriesPacket row
+  carries_or_none : AllSent (queues_of table choice) (listed.reached.rows ++ row ∷ []) → (n ≡ 0) ⊎ (AllSent (queues_of table choice) listed.reached.rows → ⊥) → (n ≡ 0) ⊎ CarriesPacket row
   carries_or_none all_sent (inl none) = inl none
-  carries_or_none all_sent (inr left) = inr (carries_last (streams_of table choice) listed.reached.rows row left all_sent)
+  carries_or_none all_sent (inr left) = inr (carries_last (queues_of table choice) listed.reached.rows row left all_sent)
 
   -- the list of a schedule, once its last period is filled
   pub IsSlotList-found : TellsAfter news (SUBTICKS_PER_TICK * ((n + 1) * table.slot) + MARGIN_SUBTICKS) row n AllAreSent → (list : SlotList) → 1 ≤ period table.slot
@@ -77,7 +78,7 @@ module _ (table : Table) (choice : List ℕ) (valid : IsValidTable table) (fits 
       (subst (λ k. (k ≡ 0) ⊎ CarriesPacket row) (sym listed.reached.slots_are) (carries_or_none schedule.sent listed.left)) sent_more fills
 
 -- not all slots in which a packet can be due pass with something left to send
-pub nothing_left_at_end : (table : Table) (choice : List ℕ) → IsValidTable table → Fits table choice → (n : ℕ) (states : List StreamState) (sent : List Sent) → Listed table choice n states sent
+pub nothing_left_at_end : (table : Table) (choice : List ℕ) → IsValidTable table → Fits table choice → (n : ℕ) (states : List QueueState) (sent : List Sent) → Listed table choice n states sent
     → TIME_SLOTS_MOST ≤ n → ⊥
 nothing_left_at_end table choice valid fits n states sent listed long =
     elim listed.left as (λ _. ⊥) [

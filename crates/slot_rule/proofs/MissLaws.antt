@@ -8,66 +8,67 @@ use Rattle.version_table.specs.Table.{IsValidTable}
 use Rattle.version_table.specs.Choice.{Fits}
 use Rattle.slot_rule.specs.declared.after.After.{After}
 use Rattle.slot_rule.specs.declared.after.After.TheVariants.{Missed, Waiting}
-use Rattle.slot_rule.specs.declared.constants.TheConstants.{MARGIN_SUBTICKS, SUBTICKS_PER_TICK}
+use Rattle.slot_rule.specs.declared.constants.TheConstants.{MARGIN_SUBTICKS}
+use Rattle.stream_constants.specs.declared.clock.TheConstants.{SUBTICKS_PER_TICK}
 use Rattle.slot_rule.specs.declared.sent.Miss.{Miss}
-use Rattle.slot_rule.specs.declared.stream_state.StreamState.{StreamState}
-use Rattle.slot_rule.specs.Buffers.{Row, Reserved, Carries, Empty, transport_work}
-use Rattle.slot_rule.specs.Heads.{IsFirstHead, Passes}
-use Rattle.slot_rule.specs.Schedule.{AllSent, IsHead, Misses, NoMiss, SentLate, arrival, main_work, IsFirstMiss, IsSchedule, IsScheduled}
-use Rattle.slot_rule.specs.Slots.{ComesLate, FirstOverdue, HasRun, NoneLate, NoneOverdue, RowStands, TellsAfter, Tracks}
-use Rattle.slot_rule.specs.States.{IsFirstState, stream_of}
-use Rattle.slot_rule.specs.StreamState.{Keeps, work_of_kind, work_of_main}
-use Rattle.slot_rule.specs.Streams.{Kind, Video, Audio, Packet, Stream, streams_of}
+use Rattle.slot_rule.specs.declared.queue_state.QueueState.{QueueState}
+use Rattle.slot_rule.specs.Buffers.{Row, Reserved, Carries, Empty, tb_work}
+use Rattle.slot_rule.specs.Private.Heads.{IsFirstHead, Passes}
+use Rattle.slot_rule.specs.Schedule.{AllSent, IsHead, Misses, NoMiss, SentLate, end_with_margin, mb_or_tb_work, IsFirstMiss, IsSchedule, IsScheduled}
+use Rattle.slot_rule.specs.Private.Slots.{ComesLate, FirstOverdue, HasRun, NoneLate, NoneOverdue, RowStands, TellsAfter, Tracks}
+use Rattle.slot_rule.specs.Private.States.{IsFirstState, queue_of}
+use Rattle.slot_rule.specs.Private.QueueState.{KeepsPlace, mb_or_tb_of_kind, mb_or_tb_of_state}
+use Rattle.slot_rule.specs.Queues.{QueueKind, Video, Audio, QueuedPacket, Queue, queues_of}
 use Rattle.slot_rule.proofs.Places.{All-at_place}
 use Rattle.slot_rule.proofs.RuleEnd.{AllSent-at_end}
 use Rattle.slot_rule.proofs.RuleRows.{IsNext, NoneMisses, FollowRule-nil, NoMiss-nil, NoMiss-push}
-use Rattle.slot_rule.proofs.RuleStreams.{IsHead-limited}
+use Rattle.slot_rule.proofs.RuleQueues.{IsHead-limited}
 use Rattle.slot_rule.proofs.TrackLaws.{head_from_state, state_from_head, state_there, stream_there}
 
 -- ---- before the first slot
-Tracks-first : (table : Table) (choice : List ℕ) (stream : ℕ) (state : StreamState) → IsFirstState table choice state → Tracks table choice [] stream state
+Tracks-first : (table : Table) (choice : List ℕ) (stream : ℕ) (state : QueueState) → IsFirstState table choice state → Tracks table choice [] stream state
 Tracks-first table choice stream state first =
-    let packets = (stream_of table choice state).packets in
+    let packets = (queue_of table choice state).packets in
     let is = first.state_is in
-    let zero_gone : state.gone ≡ 0 = ap (λ (s : StreamState). s.gone) is in
-    let zero_sent : state.sent ≡ 0 = ap (λ (s : StreamState). s.sent) is in
+    let zero_gone : state.gone ≡ 0 = ap (λ (s : QueueState). s.gone) is in
+    let zero_sent : state.sent ≡ 0 = ap (λ (s : QueueState). s.sent) is in
     record {
       place = first.place;
       sized = first.kind;
-      kind = ap (λ (s : StreamState). s.kind) is;
-      keeps = subst (λ (s : StreamState). Keeps packets s) (sym is) (record { within = zero-le; head = refl; order = le_refl 0; oldest = refl; held = refl });
+      kind = ap (λ (s : QueueState). s.kind) is;
+      keeps = subst (λ (s : QueueState). KeepsPlace packets s) (sym is) (record { within = zero-le; head = refl; order = le_refl 0; oldest = refl; held = refl });
       sent = zero_sent;
       gone = λ k packet e got. absurd (omega arith);
-      transport = ap (λ (s : StreamState). s.transport) is;
-      multiplex = ap (λ (s : StreamState). s.multiplex) is;
+      tb = ap (λ (s : QueueState). s.tb) is;
+      mb = ap (λ (s : QueueState). s.mb) is;
     }
 
-pub HasRun-first : (table : Table) (choice : List ℕ) (states : List StreamState) → map (stream_of table choice) states ≡ streams_of table choice → All (IsFirstState table choice) states
+pub HasRun-first : (table : Table) (choice : List ℕ) (states : List QueueState) → map (queue_of table choice) states ≡ queues_of table choice → All (IsFirstState table choice) states
     → HasRun table choice [] states
-HasRun-first table choice states streams first = record {
+HasRun-first table choice states queues first = record {
   follows = FollowRule-nil table choice;
-  streams = streams;
+  queues = queues;
   tracks = λ stream state there. Tracks-first table choice stream state (All-at_place (IsFirstState table choice) states first stream state there);
 }
 
 -- ---- after a row
-main_work-is : (table : Table) (choice : List ℕ) (rows : List Row) (stream : ℕ) (state : StreamState) → Tracks table choice rows stream state
-    → (kind : Kind) → state.kind ≡ kind → main_work table.slot stream kind rows ≡ work_of_main state
-main_work-is table choice rows stream state tracks (Video program vbv) e = sym (ap (λ (k : Kind). work_of_kind k state.transport state.multiplex) e ∙ tracks.multiplex)
-main_work-is table choice rows stream state tracks Audio e =
-    sym (ap (λ (k : Kind). work_of_kind k state.transport state.multiplex) e ∙ tracks.transport ∙ ap (λ (k : Kind). transport_work table.slot stream k rows) e)
+mb_or_tb_work-is : (table : Table) (choice : List ℕ) (rows : List Row) (stream : ℕ) (state : QueueState) → Tracks table choice rows stream state
+    → (kind : QueueKind) → state.kind ≡ kind → mb_or_tb_work table.slot stream kind rows ≡ mb_or_tb_of_state state
+mb_or_tb_work-is table choice rows stream state tracks (Video program vbv) e = sym (ap (λ (k : QueueKind). mb_or_tb_of_kind k state.tb state.mb) e ∙ tracks.mb)
+mb_or_tb_work-is table choice rows stream state tracks Audio e =
+    sym (ap (λ (k : QueueKind). mb_or_tb_of_kind k state.tb state.mb) e ∙ tracks.tb ∙ ap (λ (k : QueueKind). tb_work table.slot stream k rows) e)
 
-module _ (table : Table) (choice : List ℕ) (rows : List Row) (row : Row) (states : List StreamState) (run : HasRun table choice (rows ++ row ∷ []) states) (next : IsNext table choice rows row) where
+module _ (table : Table) (choice : List ℕ) (rows : List Row) (row : Row) (states : List QueueState) (run : HasRun table choice (rows ++ row ∷ []) states) (next : IsNext table choice rows row) where
   -- the kind of a stream that is said of a head packet is that of its state
-  kind_of_head : (stream : ℕ) (kind : Kind) (packet : Packet) (before : List Row) (state : StreamState) → IsHead (streams_of table choice) before stream kind packet
+  kind_of_head : (stream : ℕ) (kind : QueueKind) (packet : QueuedPacket) (before : List Row) (state : QueueState) → IsHead (queues_of table choice) before stream kind packet
       → slice_get states stream ≡ Some state → state.kind ≡ kind
   kind_of_head stream kind packet before state head there =
-      let same : ◌≡◌ {A = Stream} (stream_of table choice state) (record { kind = kind; packets = head.0 }) =
-      same_Some _ _ (sym (stream_there table choice states run.streams stream state there) ∙ head.1) in
-      (run.tracks stream state there).kind ∙ ap (λ (s : Stream). s.kind) same
+      let same : ◌≡◌ {A = Queue} (queue_of table choice state) (record { kind = kind; packets = head.0 }) =
+      same_Some _ _ (sym (stream_there table choice states run.queues stream state there) ∙ head.1) in
+      (run.tracks stream state there).kind ∙ ap (λ (s : Queue). s.kind) same
 
-  SentLate-from_states : (stream : ℕ) (packet : Packet) → ComesLate states (arrival table.slot (rows ++ row ∷ [])) row stream packet
-      → SentLate table.slot (streams_of table choice) (rows ++ row ∷ []) stream packet
+  SentLate-from_states : (stream : ℕ) (packet : QueuedPacket) → ComesLate states (end_with_margin table.slot (rows ++ row ∷ [])) row stream packet
+      → SentLate table.slot (queues_of table choice) (rows ++ row ∷ []) stream packet
   SentLate-from_states stream packet late =
       let goes = subst (λ (r : Row). IsNext table choice rows r) late.went next in
       let kind = kind_of_head stream goes.1.kind packet rows late.state goes.1.head late.there in
@@ -76,28 +77,28 @@ module _ (table : Table) (choice : List ℕ) (rows : List Row) (row : Row) (stat
         went = ap (λ (r : Row). rows ++ r ∷ []) late.went;
         kind = goes.1.kind;
         head = goes.1.head;
-        late = subst (λ n. SUBTICKS_PER_TICK * packet.due < arrival table.slot (rows ++ row ∷ []) + n)
-            (sym (main_work-is table choice (rows ++ row ∷ []) stream late.state (run.tracks stream late.state late.there) goes.1.kind kind)) late.late;
+        late = subst (λ n. SUBTICKS_PER_TICK * packet.due < end_with_margin table.slot (rows ++ row ∷ []) + n)
+            (sym (mb_or_tb_work-is table choice (rows ++ row ∷ []) stream late.state (run.tracks stream late.state late.there) goes.1.kind kind)) late.late;
       }
 
-  SentLate-to_states : (stream : ℕ) (packet : Packet) → SentLate table.slot (streams_of table choice) (rows ++ row ∷ []) stream packet
-      → ComesLate states (arrival table.slot (rows ++ row ∷ [])) row stream packet
+  SentLate-to_states : (stream : ℕ) (packet : QueuedPacket) → SentLate table.slot (queues_of table choice) (rows ++ row ∷ []) stream packet
+      → ComesLate states (end_with_margin table.slot (rows ++ row ∷ [])) row stream packet
   SentLate-to_states stream packet late =
-      let found = state_there table choice states run.streams stream (record { kind = late.kind; packets = late.head.0 }) late.head.1 in
+      let found = state_there table choice states run.queues stream (record { kind = late.kind; packets = late.head.0 }) late.head.1 in
       let kind = kind_of_head stream late.kind packet late.before found.0 late.head found.1 in
       record {
         state = found.0;
         there = found.1;
         went = (same_from_push rows late.before row (Carries stream packet) late.went).1;
-        late = subst (λ n. SUBTICKS_PER_TICK * packet.due < arrival table.slot (rows ++ row ∷ []) + n)
-            (main_work-is table choice (rows ++ row ∷ []) stream found.0 (run.tracks stream found.0 found.1) late.kind kind) late.late;
+        late = subst (λ n. SUBTICKS_PER_TICK * packet.due < end_with_margin table.slot (rows ++ row ∷ []) + n)
+            (mb_or_tb_work-is table choice (rows ++ row ∷ []) stream found.0 (run.tracks stream found.0 found.1) late.kind kind) late.late;
       }
 
   -- a miss that the states tell
-  pub Misses-from_states : (stream : ℕ) (packet : Packet)
-      → ComesLate states (arrival table.slot (rows ++ row ∷ [])) row stream packet
-      ⊎ (NoneLate states (arrival table.slot (rows ++ row ∷ [])) row × FirstOverdue states (arrival table.slot (rows ++ row ∷ [])) stream packet)
-      → Misses table.slot (streams_of table choice) (rows ++ row ∷ []) stream packet
+  pub Misses-from_states : (stream : ℕ) (packet : QueuedPacket)
+      → ComesLate states (end_with_margin table.slot (rows ++ row ∷ [])) row stream packet
+      ⊎ (NoneLate states (end_with_margin table.slot (rows ++ row ∷ [])) row × FirstOverdue states (end_with_margin table.slot (rows ++ row ∷ [])) stream packet)
+      → Misses table.slot (queues_of table choice) (rows ++ row ∷ []) stream packet
   Misses-from_states stream packet (inl late) = inl (SentLate-from_states stream packet late)
   Misses-from_states stream packet (inr (none, (is, late))) = inr (
     (λ other packet' sent. none other packet' (SentLate-to_states other packet' sent)),
@@ -108,8 +109,8 @@ module _ (table : Table) (choice : List ℕ) (rows : List Row) (row : Row) (stat
   )
 
   -- where the states tell none, nothing misses
-  pub NoneMisses-from_states : NoneLate states (arrival table.slot (rows ++ row ∷ [])) row → NoneOverdue states (arrival table.slot (rows ++ row ∷ []))
-      → NoneMisses table.slot (streams_of table choice) rows row
+  pub NoneMisses-from_states : NoneLate states (end_with_margin table.slot (rows ++ row ∷ [])) row → NoneOverdue states (end_with_margin table.slot (rows ++ row ∷ []))
+      → NoneMisses table.slot (queues_of table choice) rows row
   NoneMisses-from_states none_late none_overdue stream packet (inl late) = none_late stream packet (SentLate-to_states stream packet late)
   NoneMisses-from_states none_late none_overdue stream packet (inr over) =
       let found = state_from_head table choice (rows ++ row ∷ []) states run stream over.1.kind packet over.1.head in
@@ -117,47 +118,47 @@ module _ (table : Table) (choice : List ℕ) (rows : List Row) (row : Row) (stat
       let late = over.1.late in
       omega arith
 
-  pub AllSent-from_states : IsFirstHead Passes states None → AllSent (streams_of table choice) (rows ++ row ∷ [])
+  pub AllSent-from_states : IsFirstHead Passes states None → AllSent (queues_of table choice) (rows ++ row ∷ [])
   AllSent-from_states none stream kind packet head =
       let found = state_from_head table choice (rows ++ row ∷ []) states run stream kind packet head in
       none stream found.0 packet found.1 found.3 tt
 
 -- where no stream has a head packet, none is overdue
-pub NoneOverdue-from_none : (states : List StreamState) (time : ℕ) → IsFirstHead Passes states None → NoneOverdue states time
+pub NoneOverdue-from_none : (states : List QueueState) (time : ℕ) → IsFirstHead Passes states None → NoneOverdue states time
 NoneOverdue-from_none states time none stream state packet there head = absurd (none stream state packet there head tt)
 
 -- the stream of the row has a state, and its packet's due time is small
-pub RowStands-next : (table : Table) (choice : List ℕ) → IsValidTable table → Fits table choice → (rows : List Row) (row : Row) (states : List StreamState)
-    → map (stream_of table choice) states ≡ streams_of table choice → IsNext table choice rows row → RowStands states row
-RowStands-next table choice valid fits rows (Reserved sent) states streams next = tt
-RowStands-next table choice valid fits rows Empty states streams next = tt
-RowStands-next table choice valid fits rows (Carries stream packet) states streams next =
+pub RowStands-next : (table : Table) (choice : List ℕ) → IsValidTable table → Fits table choice → (rows : List Row) (row : Row) (states : List QueueState)
+    → map (queue_of table choice) states ≡ queues_of table choice → IsNext table choice rows row → RowStands states row
+RowStands-next table choice valid fits rows (Reserved sent) states queues next = tt
+RowStands-next table choice valid fits rows Empty states queues next = tt
+RowStands-next table choice valid fits rows (Carries stream packet) states queues next =
     let head = next.1.head in
-    let found = state_there table choice states streams stream (record { kind = next.1.kind; packets = head.0 }) head.1 in
+    let found = state_there table choice states queues stream (record { kind = next.1.kind; packets = head.0 }) head.1 in
     let limits = IsHead-limited table choice rows stream next.1.kind packet valid fits head in
     (slice_get_within states stream found.0 found.1, omega (arith, limits.due, limits.gone, mul-le-mul_left TIME_SLOTS_MOST valid.slot_most))
 
 -- ---- a run of slots in which nothing misses
-pub record Reached (table : Table) (choice : List ℕ) (slots : ℕ) (states : List StreamState) : Type 0 where
+pub record Reached (table : Table) (choice : List ℕ) (slots : ℕ) (states : List QueueState) : Type 0 where
   pub rows : List Row
   pub slots_are : length rows ≡ slots
   pub run : HasRun table choice rows states
-  pub in_time : NoMiss table.slot (streams_of table choice) rows
+  pub in_time : NoMiss table.slot (queues_of table choice) rows
 
-pub Reached-first : (table : Table) (choice : List ℕ) (states : List StreamState) → map (stream_of table choice) states ≡ streams_of table choice → All (IsFirstState table choice) states
+pub Reached-first : (table : Table) (choice : List ℕ) (states : List QueueState) → map (queue_of table choice) states ≡ queues_of table choice → All (IsFirstState table choice) states
     → Reached table choice 0 states
-Reached-first table choice states streams first =
-    record { rows = []; slots_are = refl; run = HasRun-first table choice states streams first; in_time = NoMiss-nil table.slot (streams_of table choice) }
+Reached-first table choice states queues first =
+    record { rows = []; slots_are = refl; run = HasRun-first table choice states queues first; in_time = NoMiss-nil table.slot (queues_of table choice) }
 
-arrival-is : (table : Table) (rows : List Row) (row : Row) (n : ℕ) → length rows ≡ n → arrival table.slot (rows ++ row ∷ []) ≡ SUBTICKS_PER_TICK * ((n + 1) * table.slot) + MARGIN_SUBTICKS
-arrival-is table rows row n slots_are = ap (λ (k : ℕ). SUBTICKS_PER_TICK * (k * table.slot) + MARGIN_SUBTICKS) (length_push rows row ∙ ap (λ k. k + 1) slots_are)
+end_with_margin-is : (table : Table) (rows : List Row) (row : Row) (n : ℕ) → length rows ≡ n → end_with_margin table.slot (rows ++ row ∷ []) ≡ SUBTICKS_PER_TICK * ((n + 1) * table.slot) + MARGIN_SUBTICKS
+end_with_margin-is table rows row n slots_are = ap (λ (k : ℕ). SUBTICKS_PER_TICK * (k * table.slot) + MARGIN_SUBTICKS) (length_push rows row ∙ ap (λ k. k + 1) slots_are)
 
 -- what is found after one more slot
-module _ (table : Table) (choice : List ℕ) (valid : IsValidTable table) (fits : Fits table choice) (n : ℕ) (olds news : List StreamState) (row : Row) (reached : Reached table choice n olds) (next : IsNext table choice reached.rows row) (run : HasRun table choice (reached.rows ++ row ∷ []) news) where
+module _ (table : Table) (choice : List ℕ) (valid : IsValidTable table) (fits : Fits table choice) (n : ℕ) (olds news : List QueueState) (row : Row) (reached : Reached table choice n olds) (next : IsNext table choice reached.rows row) (run : HasRun table choice (reached.rows ++ row ∷ []) news) where
   pub miss_found : (miss : Miss) → TellsAfter news (SUBTICKS_PER_TICK * ((n + 1) * table.slot) + MARGIN_SUBTICKS) row n (Missed miss) → IsFirstMiss table choice miss
   miss_found miss tells =
       let time : ℕ = SUBTICKS_PER_TICK * ((n + 1) * table.slot) + MARGIN_SUBTICKS in
-      let at : time ≡ arrival table.slot (reached.rows ++ row ∷ []) = sym (arrival-is table reached.rows row n reached.slots_are) in
+      let at : time ≡ end_with_margin table.slot (reached.rows ++ row ∷ []) = sym (end_with_margin-is table reached.rows row n reached.slots_are) in
       let packet = tells.0 in
       record {
         earlier = reached.rows;
@@ -173,10 +174,10 @@ module _ (table : Table) (choice : List ℕ) (valid : IsValidTable table) (fits 
       }
 
   pub no_miss_found : NoneLate news (SUBTICKS_PER_TICK * ((n + 1) * table.slot) + MARGIN_SUBTICKS) row → NoneOverdue news (SUBTICKS_PER_TICK * ((n + 1) * table.slot) + MARGIN_SUBTICKS)
-      → NoMiss table.slot (streams_of table choice) (reached.rows ++ row ∷ [])
+      → NoMiss table.slot (queues_of table choice) (reached.rows ++ row ∷ [])
   no_miss_found none_late none_overdue =
-      let at : SUBTICKS_PER_TICK * ((n + 1) * table.slot) + MARGIN_SUBTICKS ≡ arrival table.slot (reached.rows ++ row ∷ []) = sym (arrival-is table reached.rows row n reached.slots_are) in
-      NoMiss-push table.slot (streams_of table choice) reached.rows row reached.in_time
+      let at : SUBTICKS_PER_TICK * ((n + 1) * table.slot) + MARGIN_SUBTICKS ≡ end_with_margin table.slot (reached.rows ++ row ∷ []) = sym (end_with_margin-is table reached.rows row n reached.slots_are) in
+      NoMiss-push table.slot (queues_of table choice) reached.rows row reached.in_time
       (NoneMisses-from_states table choice reached.rows row news run next (subst (λ (t : ℕ). NoneLate news t row) at none_late) (subst (λ (t : ℕ). NoneOverdue news t) at none_overdue))
 
   pub schedule_found : TellsAfter news (SUBTICKS_PER_TICK * ((n + 1) * table.slot) + MARGIN_SUBTICKS) row n After.AllSent → IsSchedule table choice (reached.rows ++ row ∷ [])
@@ -191,7 +192,7 @@ module _ (table : Table) (choice : List ℕ) (valid : IsValidTable table) (fits 
       record { rows = reached.rows ++ row ∷ []; slots_are = length_push reached.rows row ∙ ap (λ k. k + 1) reached.slots_are; run = run; in_time = no_miss_found tells.0 tells.1 }
 
 -- after the last slot in which a packet can be due, all is sent
-pub schedule_at_end : (table : Table) (choice : List ℕ) → IsValidTable table → Fits table choice → (n : ℕ) (states : List StreamState) → Reached table choice n states → TIME_SLOTS_MOST ≤ n
+pub schedule_at_end : (table : Table) (choice : List ℕ) → IsValidTable table → Fits table choice → (n : ℕ) (states : List QueueState) → Reached table choice n states → TIME_SLOTS_MOST ≤ n
     → IsScheduled table choice
 schedule_at_end table choice valid fits n states reached long = (
   reached.rows,

@@ -3,12 +3,12 @@ use Rattle.std.proofs.Common.{◌≡◌, ℕ, ◌*◌, ◌≤◌, ◌⊎◌, tak
 use Rattle.version_table.specs.declared.table.AudioPacket.{AudioPacket}
 use Rattle.version_table.specs.declared.table.ProgramRow.{ProgramRow}
 use Rattle.version_table.specs.declared.table.Table.{Table}
-use Rattle.slot_rule.specs.declared.constants.TheConstants.{AUDIO_TB_SUBTICKS}
+use Rattle.stream_constants.specs.declared.decoder.TheConstants.{AUDIO_TB_SUBTICKS}
 use Rattle.slot_rule.specs.declared.sent.Sent.TheVariants.{Null, Pat, Pmt, Pcr, Video as VideoPiece, Audio as AudioPiece}
 use Rattle.slot_rule.specs.declared.slot_list.SlotList.{SlotList}
-use Rattle.slot_rule.specs.Streams.{Audio, streams_of}
-use Rattle.slot_rule.specs.Buffers.{Row, Reserved, Empty, transport_work}
-use Rattle.slot_rule.specs.IdleSlots.{FillsPeriod, idle_slots}
+use Rattle.slot_rule.specs.Queues.{Audio, queues_of}
+use Rattle.slot_rule.specs.Buffers.{Row, Reserved, Empty, tb_work}
+use Rattle.slot_rule.specs.Private.IdleSlots.{FillsPeriod, idle_slots}
 use Rattle.slot_rule.specs.Timetable.{period}
 use Rattle.slot_rule.specs.Schedule.{IsSchedule, IsScheduled, IsFirstMiss}
 use Rattle.slot_rule.specs.SlotList.{CarriesPacket, IsSlotList, sent_of, slots_of}
@@ -82,7 +82,7 @@ pub audio_slots : (rows : List Row) → IsSchedule three_in_time [] rows → slo
 audio_slots rows schedule = slots_of-same three_in_time [] 1 rows (rows_in (first_rows three_in_time [] 10)) schedule audio_schedule ∙ refl
 
 -- at slot 9 the work that waits is exactly that of 316 bytes
-pub audio_work : transport_work 1080 1 Audio (take 9 (rows_in (first_rows three_in_time [] 10))) ≡ 316 * AUDIO_TB_SUBTICKS
+pub audio_work : tb_work 1080 1 Audio (take 9 (rows_in (first_rows three_in_time [] 10))) ≡ 316 * AUDIO_TB_SUBTICKS
 audio_work = refl
 
 -- one tick less, and the last of them misses
@@ -101,10 +101,10 @@ went_misses_first_above = IsFirstMiss-from_run (table_of (one_unit 13679 184 ∷
 -- a list of slots is the one that is filled up after the last sent slot, or after the first slot where nothing is sent
 pub the_list : (table : Table) (choice : List ℕ) (before : List Row) (row : Row) (last : ℕ) (filled list : SlotList) → 1 ≤ period table.slot → length before ≡ last
     → IsSchedule table choice (before ++ row ∷ []) → (length before ≡ 0) ⊎ CarriesPacket row
-    → FillsPeriod table.slot (length table.programs) last (map (sent_of (streams_of table choice)) (before ++ row ∷ [])) filled → IsSlotList table choice list → list ≡ filled
+    → FillsPeriod table.slot (length table.programs) last (map (sent_of (queues_of table choice)) (before ++ row ∷ [])) filled → IsSlotList table choice list → list ≡ filled
 the_list table choice before row last filled list some last_is schedule carries fills is =
     IsSlotList-same table choice list filled is
-    (IsSlotList-filled table choice before row last (map (sent_of (streams_of table choice)) (before ++ row ∷ [])) filled some last_is schedule carries refl fills)
+    (IsSlotList-filled table choice before row last (map (sent_of (queues_of table choice)) (before ++ row ∷ [])) filled some last_is schedule carries refl fills)
 
 -- ten pieces of a unit, and 1,000 slots
 pub unit_list : (idle : ℕ) → idle ≡ 977 → (list : SlotList) → IsSlotList just_in_time (0 ∷ []) list
@@ -119,7 +119,7 @@ unit_list idle e list is =
     the_list just_in_time (0 ∷ []) (take 22 rows) (get_or rows 22 Empty) 22 _ list (lit≤ tt) refl unit_schedule (inr tt)
     (record { whole = refl; idle = idle; ends = omega arith; rows_are = refl }) is
 
--- two programs: their tables, their clocks, and a piece of each
+-- two programs: their tables, their PCRs, and a piece of each
 pub two_list : (idle : ℕ) → idle ≡ 993 → (list : SlotList) → IsSlotList two_programs (0 ∷ 0 ∷ []) list
     → list ≡ record { slots = 1000; rows = (Pat ∷ Pmt 0 ∷ Pmt 1 ∷ Pcr 0 ∷ Pcr 1 ∷ VideoPiece 0 0 0 ∷ VideoPiece 1 0 0 ∷ []) ++ idle_slots 1080 2 7 idle }
 two_list idle e list is =

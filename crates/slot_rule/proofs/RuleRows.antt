@@ -1,7 +1,7 @@
 -- Rows that follow the rule, and rows after which nothing misses: none, one more, a front, the row at a place.
 use Rattle.std.proofs.Common.{ℕ, ◌<◌, List, [], ◌∷◌, ◌++◌, length, get_or, take, drop, refl, sym, subst}
 use Rattle.version_table.specs.declared.table.Table.{Table}
-use Rattle.slot_rule.specs.Streams.{Packet, Stream, streams_of}
+use Rattle.slot_rule.specs.Queues.{QueuedPacket, Queue, queues_of}
 use Rattle.slot_rule.specs.Buffers.{Row}
 use Rattle.slot_rule.specs.Schedule.{IsRow, FollowRule, Misses, NoMiss}
 use Rattle.slot_rule.proofs.RuleFronts.{AtEach-nil, AtEach-push, AtEach-front, AtEach-at}
@@ -9,11 +9,11 @@ use Rattle.std.proofs.lemmas.List.{take-append-drop}
 
 -- the row of the slot after the rows before it, in a table under a choice
 abbrev pub IsNext : Table → List ℕ → List Row → Row → Type 0
-IsNext table choice = IsRow table.slot (length table.programs) (streams_of table choice)
+IsNext table choice = IsRow table.slot (length table.programs) (queues_of table choice)
 
 -- nothing misses after the rows and one more
-abbrev pub NoneMisses : ℕ → List Stream → List Row → Row → Type 0
-NoneMisses slot streams rows row = (stream : ℕ) (packet : Packet) → Misses slot streams (rows ++ row ∷ []) stream packet → ⊥
+abbrev pub NoneMisses : ℕ → List Queue → List Row → Row → Type 0
+NoneMisses slot queues rows row = (stream : ℕ) (packet : QueuedPacket) → Misses slot queues (rows ++ row ∷ []) stream packet → ⊥
 
 pub FollowRule-nil : (table : Table) (choice : List ℕ) → FollowRule table choice []
 FollowRule-nil table choice = AtEach-nil (IsNext table choice)
@@ -36,13 +36,13 @@ pub FollowRule-at : (table : Table) (choice : List ℕ) (rows : List Row) → Fo
     → (n : ℕ) (d : Row) → n < length rows → IsNext table choice (take n rows) (get_or rows n d)
 FollowRule-at table choice = AtEach-at (IsNext table choice)
 
-pub NoMiss-nil : (slot : ℕ) (streams : List Stream) → NoMiss slot streams []
-NoMiss-nil slot streams before row after stream packet e = AtEach-nil (NoneMisses slot streams) before row after e stream packet
+pub NoMiss-nil : (slot : ℕ) (queues : List Queue) → NoMiss slot queues []
+NoMiss-nil slot queues before row after stream packet e = AtEach-nil (NoneMisses slot queues) before row after e stream packet
 
-pub NoMiss-push : (slot : ℕ) (streams : List Stream) (rows : List Row) (row : Row)
-    → NoMiss slot streams rows → NoneMisses slot streams rows row → NoMiss slot streams (rows ++ row ∷ [])
-NoMiss-push slot streams rows row none at before x after stream packet e =
-    AtEach-push (NoneMisses slot streams) rows row (λ before' x' after' e' stream' packet'. none before' x' after' stream' packet' e') at before x after e stream packet
+pub NoMiss-push : (slot : ℕ) (queues : List Queue) (rows : List Row) (row : Row)
+    → NoMiss slot queues rows → NoneMisses slot queues rows row → NoMiss slot queues (rows ++ row ∷ [])
+NoMiss-push slot queues rows row none at before x after stream packet e =
+    AtEach-push (NoneMisses slot queues) rows row (λ before' x' after' e' stream' packet'. none before' x' after' stream' packet' e') at before x after e stream packet
 
-pub NoMiss-last : (slot : ℕ) (streams : List Stream) (rows : List Row) (row : Row) → NoMiss slot streams (rows ++ row ∷ []) → NoneMisses slot streams rows row
-NoMiss-last slot streams rows row none stream packet = none rows row [] stream packet refl
+pub NoMiss-last : (slot : ℕ) (queues : List Queue) (rows : List Row) (row : Row) → NoMiss slot queues (rows ++ row ∷ []) → NoneMisses slot queues rows row
+NoMiss-last slot queues rows row none stream packet = none rows row [] stream packet refl

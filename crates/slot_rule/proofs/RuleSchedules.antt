@@ -3,7 +3,7 @@ use Rattle.std.proofs.Common.{◌≡◌, ℕ, ◌+◌, ◌≤◌, List, [], ◌�
 use Rattle.std.proofs.lemmas.Bool.{cases_lt, cond-false}
 use Rattle.std.proofs.lemmas.List.Elements.{All-nil, All-push, All-head, All-tail}
 use Rattle.version_table.specs.declared.table.Table.{Table}
-use Rattle.slot_rule.specs.Streams.{Packet, streams_of}
+use Rattle.slot_rule.specs.Queues.{QueuedPacket, queues_of}
 use Rattle.slot_rule.specs.Buffers.{Row, Reserved, Carries, Empty, is_of}
 use Rattle.slot_rule.specs.Schedule.{IsHead, FollowRule, AllSent, IsSchedule}
 use Rattle.slot_rule.specs.SlotList.{slots_of}
@@ -16,14 +16,14 @@ abbrev pub CarryNone : (stream : ℕ) → List Row → Type 0
 CarryNone stream rows = All (λ row. is_of stream row ≡ false) rows
 
 -- where all is sent, no later row carries a packet
-row_after_all : (table : Table) (choice : List ℕ) (stream : ℕ) (rows more : List Row) (row : Row) → AllSent (streams_of table choice) rows → IsNext table choice (rows ++ more) row → is_of stream row ≡ false
+row_after_all : (table : Table) (choice : List ℕ) (stream : ℕ) (rows more : List Row) (row : Row) → AllSent (queues_of table choice) rows → IsNext table choice (rows ++ more) row → is_of stream row ≡ false
 row_after_all table choice stream rows more (Reserved sent) all_sent next = refl
 row_after_all table choice stream rows more Empty all_sent next = refl
 row_after_all table choice stream rows more (Carries s packet) all_sent next =
-    let head : (earlier : Packet) × IsHead (streams_of table choice) rows s next.1.kind earlier = IsHead-before (streams_of table choice) rows more s next.1.kind packet next.1.head in
+    let head : (earlier : QueuedPacket) × IsHead (queues_of table choice) rows s next.1.kind earlier = IsHead-before (queues_of table choice) rows more s next.1.kind packet next.1.head in
     absurd (all_sent s next.1.kind head.0 head.1)
 
-pub CarryNone-after_all : (table : Table) (choice : List ℕ) (stream : ℕ) (rows : List Row) → AllSent (streams_of table choice) rows
+pub CarryNone-after_all : (table : Table) (choice : List ℕ) (stream : ℕ) (rows : List Row) → AllSent (queues_of table choice) rows
     → (more : List Row) → FollowRule table choice (rows ++ more) → CarryNone stream more
 CarryNone-after_all table choice stream rows all_sent =
     by_push (λ more. FollowRule table choice (rows ++ more) → CarryNone stream more) (λ follows. All-nil (λ row. is_of stream row ≡ false))

@@ -6,8 +6,8 @@ use Rattle.std.proofs.lemmas.List.{length-append, length-map, length-replicate, 
 use Rattle.std.proofs.lemmas.List.Elements.{All-nil, All-cons, All-append, All-replicate, All-head, All-tail}
 use Rattle.std.proofs.lemmas.List.FromFn.{length-enumerate_from, get_or-enumerate_from}
 use Rattle.std.proofs.lemmas.List.Sums.{sum_by-cons}
-use Rattle.slot_rule.specs.declared.constants.TheConstants.{PAYLOAD_BYTES}
-use Rattle.slot_rule.specs.Streams.{Packet, payloads}
+use Rattle.stream_constants.specs.declared.packets.TheConstants.{PAYLOAD_BYTES}
+use Rattle.slot_rule.specs.Queues.{QueuedPacket, payloads}
 use Rattle.slot_rule.proofs.RuleSent.{payload_of}
 
 -- ---- the payloads of so many bytes
@@ -55,11 +55,11 @@ get_or-payloads bytes i within =
 
 -- ---- the packets of a unit from a piece on
 -- a packet of a unit, from its piece and its payload
-abbrev pub piece_of : (item due : ℕ) → (piece payload : ℕ) → Packet
+abbrev pub piece_of : (item due : ℕ) → (piece payload : ℕ) → QueuedPacket
 piece_of item due piece payload = record { item = item; piece = piece; payload = payload; due = due; gone = due }
 
 -- the packets of a unit from a piece on, where so many bytes are left from there; from piece 0 on, they are `unit_packets`
-abbrev pub unit_rest : (item piece due left : ℕ) → List Packet
+abbrev pub unit_rest : (item piece due left : ℕ) → List QueuedPacket
 unit_rest item piece due left = map (λ (n, payload). piece_of item due n payload) (enumerate_from piece (payloads left))
 
 pub unit_rest-last : (item piece due left : ℕ) → left ≤ PAYLOAD_BYTES → unit_rest item piece due left ≡ piece_of item due piece left ∷ []
@@ -75,7 +75,7 @@ drop-unit_rest item piece due left zero fits =
 drop-unit_rest item piece due left (suc n) fits =
     let next : (piece + 1) + n ≡ piece + suc n = omega arith in
     let rest : (left - PAYLOAD_BYTES) - PAYLOAD_BYTES * n ≡ left - PAYLOAD_BYTES * suc n = omega arith in
-    ap (λ (list : List Packet). drop (suc n) list) (unit_rest-more item piece due left (omega arith))
+    ap (λ (list : List QueuedPacket). drop (suc n) list) (unit_rest-more item piece due left (omega arith))
     ∙ drop-unit_rest item (piece + 1) due (left - PAYLOAD_BYTES) n (omega arith) ∙ ap₂ (λ (p l : ℕ). unit_rest item p due l) next rest
 
 pub length-unit_rest : (item piece due left : ℕ) → length (unit_rest item piece due left) ≡ (left - 1) / PAYLOAD_BYTES + 1
@@ -89,7 +89,7 @@ sum_of_pieces item piece due (payload ∷ list) =
     ∙ ap (λ n. payload + n) (sum_of_pieces item (piece + 1) due list) ∙ sym (sum_by-cons (λ x. x) payload list)
 
 -- what each packet of a unit has
-pub record IsOfUnit (item due : ℕ) (packet : Packet) : Type 0 where
+pub record IsOfUnit (item due : ℕ) (packet : QueuedPacket) : Type 0 where
   pub item_is : packet.item ≡ item
   pub due_is : packet.due ≡ due
   pub gone_is : packet.gone ≡ due
@@ -107,7 +107,7 @@ pub unit_rest-each : (item piece due left : ℕ) → 1 ≤ left → All (IsOfUni
 unit_rest-each item piece due left some = pieces_each item piece due (payloads left) (payloads-each left some)
 
 -- the packet at a place of what is left of a unit
-pub get_or-unit_rest : (item piece due left i : ℕ) (d : Packet) → i < length (unit_rest item piece due left)
+pub get_or-unit_rest : (item piece due left i : ℕ) (d : QueuedPacket) → i < length (unit_rest item piece due left)
     → get_or (unit_rest item piece due left) i d ≡ piece_of item due (piece + i) (min PAYLOAD_BYTES (left - PAYLOAD_BYTES * i))
 get_or-unit_rest item piece due left i d within =
     let fits : i < length (payloads left) = omega (arith, length-unit_rest item piece due left, length-payloads left) in

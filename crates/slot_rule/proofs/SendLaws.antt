@@ -2,75 +2,75 @@
 use Rattle.std.proofs.Common.{◌≡◌, ℕ, ◌<◌, ◌≤◌, All, List, length, get_or, set, Some, sym, ap, subst, ◌∙◌, length-set, arith}
 use Rattle.std.proofs.lemmas.Option.{same_Some, slice_get-get_or, slice_get_within, get_or_from_slice_get}
 use Rattle.version_table.specs.declared.table.Table.{Table}
-use Rattle.slot_rule.specs.declared.source.Source.{Source}
-use Rattle.slot_rule.specs.declared.stream_state.StreamState.{StreamState}
-use Rattle.slot_rule.specs.Heads.{IsFirst, PassesAt}
-use Rattle.slot_rule.specs.Slots.{Sends, SendsOne}
-use Rattle.slot_rule.specs.Source.{IsPlace}
-use Rattle.slot_rule.specs.States.{ChangesEach, IsPlaced, ReleasesAll, stream_of}
-use Rattle.slot_rule.specs.StreamState.{IsKind, IsNumbered, IsReady, Keeps, packets_at}
-use Rattle.slot_rule.specs.Streams.{Kind, Packet}
+use Rattle.slot_rule.specs.declared.queue_items.QueueItems.{QueueItems}
+use Rattle.slot_rule.specs.declared.queue_state.QueueState.{QueueState}
+use Rattle.slot_rule.specs.Private.Heads.{IsFirst, PassesAt}
+use Rattle.slot_rule.specs.Private.Slots.{Sends, SendsOne}
+use Rattle.slot_rule.specs.Private.QueueItems.{IsPlace}
+use Rattle.slot_rule.specs.Private.States.{ChangesEach, IsPlaced, ReleasesAll, queue_of}
+use Rattle.slot_rule.specs.Private.QueueState.{IsKind, IsNumbered, IsReady, KeepsPlace, packets_at}
+use Rattle.slot_rule.specs.Queues.{QueueKind, QueuedPacket}
 use Rattle.slot_rule.proofs.ListSteps.{slice_get-set_same, slice_get-set_other}
 
-pub released_placed : (table : Table) (choice : List ℕ) (start : ℕ) (old new : StreamState) → ReleasesAll table choice start old new → IsPlaced table choice old → IsPlaced table choice new
+pub released_placed : (table : Table) (choice : List ℕ) (start : ℕ) (old new : QueueState) → ReleasesAll table choice start old new → IsPlaced table choice old → IsPlaced table choice new
 released_placed table choice start old new released placed =
-    let same : old.source ≡ new.source = sym (ap (λ (s : StreamState). s.source) released.releases.changed) in
+    let same : old.items ≡ new.items = sym (ap (λ (s : QueueState). s.items) released.releases.changed) in
     record {
-      place = subst (λ (s : Source). IsPlace table choice s) same placed.place;
-      numbered = subst (λ (s : Source). All IsNumbered (packets_at table choice s)) same placed.numbered;
-      keeps = subst (λ (s : Source). Keeps (packets_at table choice s) new) same released.keeps;
+      place = subst (λ (s : QueueItems). IsPlace table choice s) same placed.place;
+      numbered = subst (λ (s : QueueItems). All IsNumbered (packets_at table choice s)) same placed.numbered;
+      keeps = subst (λ (s : QueueItems). KeepsPlace (packets_at table choice s) new) same released.keeps;
     }
 
-pub released_ready : (table : Table) (choice : List ℕ) (start : ℕ) (old new : StreamState) → ReleasesAll table choice start old new → IsReady old → IsReady new
+pub released_ready : (table : Table) (choice : List ℕ) (start : ℕ) (old new : QueueState) → ReleasesAll table choice start old new → IsReady old → IsReady new
 released_ready table choice start old new released ready =
     let changed = released.releases.changed in
-    let transport : new.transport ≡ old.transport = ap (λ (s : StreamState). s.transport) changed in
-    let multiplex : new.multiplex ≡ old.multiplex = ap (λ (s : StreamState). s.multiplex) changed in
-    let sent : new.sent ≡ old.sent = ap (λ (s : StreamState). s.sent) changed in
+    let tb : new.tb ≡ old.tb = ap (λ (s : QueueState). s.tb) changed in
+    let mb : new.mb ≡ old.mb = ap (λ (s : QueueState). s.mb) changed in
+    let sent : new.sent ≡ old.sent = ap (λ (s : QueueState). s.sent) changed in
     let fewer : new.held ≤ old.held = released.releases.fewer in
-    let kind : old.kind ≡ new.kind = sym (ap (λ (s : StreamState). s.kind) changed) in
-    let head : old.head ≡ new.head = sym (ap (λ (s : StreamState). s.head) changed) in
+    let kind : old.kind ≡ new.kind = sym (ap (λ (s : QueueState). s.kind) changed) in
+    let head : old.head ≡ new.head = sym (ap (λ (s : QueueState). s.head) changed) in
     let small = ready.small in
     record {
-      small = record { transport = omega (arith, small.transport); multiplex = omega (arith, small.multiplex); sent = omega (arith, small.sent); held = omega (arith, small.held) };
-      kind = subst (λ (k : Kind). IsKind k) kind ready.kind;
+      small = record { tb = omega (arith, small.tb); mb = omega (arith, small.mb); sent = omega (arith, small.sent); held = omega (arith, small.held) };
+      kind = subst (λ (k : QueueKind). IsKind k) kind ready.kind;
       payload = λ packet is. ready.payload packet (head ∙ is);
     }
 
 -- what holds of each state goes over a change of each
-pub All-over : (R : StreamState → StreamState → Type 0) (P Q : StreamState → Type 0) (olds news : List StreamState) → ChangesEach R olds news → ((old new : StreamState) → R old new → P old → Q new)
+pub All-over : (R : QueueState → QueueState → Type 0) (P Q : QueueState → Type 0) (olds news : List QueueState) → ChangesEach R olds news → ((old new : QueueState) → R old new → P old → Q new)
     → All P olds → All Q news
 All-over R P Q olds news changes over each k d within =
     let within' : k < length olds = omega (arith, changes.as_many) in
     over (get_or olds k d) (get_or news k d) (changes.each k (get_or olds k d) (get_or news k d) (slice_get-get_or olds k d within') (slice_get-get_or news k d within)) (each k d within')
 
-pub SendsOne-set : (table : Table) (choice : List ℕ) (stream : ℕ) (packet : Packet) (olds : List StreamState) (d new : StreamState) → stream < length olds
-    → Sends (stream_of table choice (get_or olds stream d)).packets packet (get_or olds stream d) new → SendsOne table choice stream packet olds (set olds stream new)
+pub SendsOne-set : (table : Table) (choice : List ℕ) (stream : ℕ) (packet : QueuedPacket) (olds : List QueueState) (d new : QueueState) → stream < length olds
+    → Sends (queue_of table choice (get_or olds stream d)).packets packet (get_or olds stream d) new → SendsOne table choice stream packet olds (set olds stream new)
 SendsOne-set table choice stream packet olds d new within sends = record {
   as_many = length-set olds stream new;
   own = λ old new' there there'.
       let old_is : get_or olds stream d ≡ old = get_or_from_slice_get olds stream old d there in
       let new_is : new ≡ new' = same_Some new new' (sym (slice_get-set_same olds stream new within) ∙ there') in
-      subst (λ (n : StreamState). Sends (stream_of table choice old).packets packet old n) new_is (subst (λ (o : StreamState). Sends (stream_of table choice o).packets packet o new) old_is sends);
+      subst (λ (n : QueueState). Sends (queue_of table choice old).packets packet old n) new_is (subst (λ (o : QueueState). Sends (queue_of table choice o).packets packet o new) old_is sends);
   others = λ other apart. slice_get-set_other olds stream other new apart;
 }
 
 -- the state of the packet that goes first, once packets that are gone are left out
-pub record IsSender (table : Table) (choice : List ℕ) (states : List StreamState) (stream : ℕ) (packet : Packet) (state : StreamState) : Type 0 where
+pub record IsSender (table : Table) (choice : List ℕ) (states : List QueueState) (stream : ℕ) (packet : QueuedPacket) (state : QueueState) : Type 0 where
   pub within : stream < length states
   pub placed : IsPlaced table choice state
   pub ready : IsReady state
   pub head : state.head ≡ Some packet
 
-pub IsSender-first : (table : Table) (choice : List ℕ) (start : ℕ) (olds news : List StreamState) (stream : ℕ) (packet : Packet) (d : StreamState)
+pub IsSender-first : (table : Table) (choice : List ℕ) (start : ℕ) (olds news : List QueueState) (stream : ℕ) (packet : QueuedPacket) (d : QueueState)
     → ChangesEach (ReleasesAll table choice start) olds news → All (IsPlaced table choice) olds → All IsReady olds → IsFirst (PassesAt start) news stream packet
     → IsSender table choice news stream packet (get_or news stream d)
 IsSender-first table choice start olds news stream packet d changes placed ready is =
-    let R : StreamState → StreamState → Type 0 = ReleasesAll table choice start in
+    let R : QueueState → QueueState → Type 0 = ReleasesAll table choice start in
     let within : stream < length news = slice_get_within news stream is.state is.there in
     record {
       within = within;
       placed = All-over R (IsPlaced table choice) (IsPlaced table choice) olds news changes (released_placed table choice start) placed stream d within;
       ready = All-over R IsReady IsReady olds news changes (released_ready table choice start) ready stream d within;
-      head = ap (λ (s : StreamState). s.head) (get_or_from_slice_get news stream is.state d is.there) ∙ is.head;
+      head = ap (λ (s : QueueState). s.head) (get_or_from_slice_get news stream is.state d is.there) ∙ is.head;
     }

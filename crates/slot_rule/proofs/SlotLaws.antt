@@ -7,43 +7,43 @@ use Rattle.version_table.specs.Table.{IsValidTable}
 use Rattle.version_table.specs.Choice.{Fits}
 use Rattle.slot_rule.specs.declared.sent.Sent.{Sent}
 use Rattle.slot_rule.specs.declared.sent.Sent.TheVariants.{Null, Pat, Pmt, Pcr, Video as VideoPiece, Audio as AudioPiece}
-use Rattle.slot_rule.specs.declared.stream_state.StreamState.{StreamState}
+use Rattle.slot_rule.specs.declared.queue_state.QueueState.{QueueState}
 use Rattle.slot_rule.specs.Buffers.{Row, Reserved, Carries, Empty, slot_subticks}
-use Rattle.slot_rule.specs.Slots.{Fills, HasRun, Reserves, SendsOne}
-use Rattle.slot_rule.specs.States.{ChangesEach, Drains, ReleasesAll, TakesClock, stream_of}
-use Rattle.slot_rule.specs.Streams.{Packet, streams_of}
+use Rattle.slot_rule.specs.Private.Slots.{FillsSlot, HasRun, Reserves, SendsOne}
+use Rattle.slot_rule.specs.Private.States.{ChangesEach, Drains, ReleasesAll, TakesPcr, queue_of}
+use Rattle.slot_rule.specs.Queues.{QueuedPacket, queues_of}
 use Rattle.slot_rule.specs.Timetable.{reserved}
-use Rattle.slot_rule.proofs.BringLaws.{Brings, Brings-nothing, Brings-clock, Brings-packet, HasRun-release, Tracks-drain, TakesClock-source, same_streams, state_before}
+use Rattle.slot_rule.proofs.BringLaws.{Brings, Brings-nothing, Brings-pcr, Brings-packet, HasRun-release, Tracks-drain, TakesPcr-items, same_queues, state_before}
 use Rattle.slot_rule.proofs.RuleRows.{IsNext, FollowRule-push}
-use Rattle.slot_rule.proofs.RuleWork.{packets_in-empty, packets_in-no_clock, packets_in-other, payload_in-other}
+use Rattle.slot_rule.proofs.RuleWork.{packets_in-empty, packets_in-no_pcr, packets_in-other, payload_in-other}
 use Rattle.slot_rule.proofs.TrackLaws.{AllHoldNoneGone, Goes-from_first, NothingGoes-from_none}
 
 -- the states tell what these rows left of each stream, with the work that one more row brings
-pub record HasBrought (table : Table) (choice : List ℕ) (rows : List Row) (row : Row) (states : List StreamState) : Type 0 where
-  pub streams : map (stream_of table choice) states ≡ streams_of table choice
-  pub brings : (stream : ℕ) (state : StreamState) → slice_get states stream ≡ Some state → Brings table choice rows row stream state
+pub record HasBrought (table : Table) (choice : List ℕ) (rows : List Row) (row : Row) (states : List QueueState) : Type 0 where
+  pub queues : map (queue_of table choice) states ≡ queues_of table choice
+  pub brings : (stream : ℕ) (state : QueueState) → slice_get states stream ≡ Some state → Brings table choice rows row stream state
 
 -- a row with nothing for any stream
-HasBrought-nothing : (table : Table) (choice : List ℕ) (rows : List Row) (sent : Sent) (states : List StreamState) → HasRun table choice rows states → ((p : ℕ) → sent ≡ Pcr p → ⊥)
+HasBrought-nothing : (table : Table) (choice : List ℕ) (rows : List Row) (sent : Sent) (states : List QueueState) → HasRun table choice rows states → ((p : ℕ) → sent ≡ Pcr p → ⊥)
     → HasBrought table choice rows (Reserved sent) states
 HasBrought-nothing table choice rows sent states run apart = record {
-  streams = run.streams;
-  brings = λ stream state there. Brings-nothing table choice rows (Reserved sent) stream state (run.tracks stream state there) refl (packets_in-no_clock stream state.kind sent apart) refl;
+  queues = run.queues;
+  brings = λ stream state there. Brings-nothing table choice rows (Reserved sent) stream state (run.tracks stream state there) refl (packets_in-no_pcr stream state.kind sent apart) refl;
 }
 
-HasBrought-same : (table : Table) (choice : List ℕ) (rows : List Row) (sent : Sent) (olds news : List StreamState) → HasRun table choice rows olds → ((p : ℕ) → sent ≡ Pcr p → ⊥) → news ≡ olds
+HasBrought-same : (table : Table) (choice : List ℕ) (rows : List Row) (sent : Sent) (olds news : List QueueState) → HasRun table choice rows olds → ((p : ℕ) → sent ≡ Pcr p → ⊥) → news ≡ olds
     → HasBrought table choice rows (Reserved sent) news
 HasBrought-same table choice rows sent olds news run apart same =
-    subst (λ (states : List StreamState). HasBrought table choice rows (Reserved sent) states) (sym same) (HasBrought-nothing table choice rows sent olds run apart)
+    subst (λ (states : List QueueState). HasBrought table choice rows (Reserved sent) states) (sym same) (HasBrought-nothing table choice rows sent olds run apart)
 
 -- a reserved slot
-HasBrought-reserved : (table : Table) (choice : List ℕ) (rows : List Row) (sent : Sent) (olds news : List StreamState) → HasRun table choice rows olds → Reserves sent olds news
+HasBrought-reserved : (table : Table) (choice : List ℕ) (rows : List Row) (sent : Sent) (olds news : List QueueState) → HasRun table choice rows olds → Reserves sent olds news
     → HasBrought table choice rows (Reserved sent) news
 HasBrought-reserved table choice rows (Pcr program) olds news run reserves = record {
-  streams = same_streams table choice olds news reserves.as_many (λ stream old new there there'. TakesClock-source program stream old new (reserves.each stream old new there there')) ∙ run.streams;
+  queues = same_queues table choice olds news reserves.as_many (λ stream old new there there'. TakesPcr-items program stream old new (reserves.each stream old new there there')) ∙ run.queues;
   brings = λ stream new there.
-      let before = state_before (TakesClock program) olds news stream new reserves there in
-      Brings-clock table choice rows program stream before.0 new before.2 (run.tracks stream before.0 before.1);
+      let before = state_before (TakesPcr program) olds news stream new reserves there in
+      Brings-pcr table choice rows program stream before.0 new before.2 (run.tracks stream before.0 before.1);
 }
 HasBrought-reserved table choice rows Null olds news run reserves = HasBrought-same table choice rows Null olds news run (λ p e. cc e) reserves
 HasBrought-reserved table choice rows Pat olds news run reserves = HasBrought-same table choice rows Pat olds news run (λ p e. cc e) reserves
@@ -52,18 +52,18 @@ HasBrought-reserved table choice rows (VideoPiece s item piece) olds news run re
 HasBrought-reserved table choice rows (AudioPiece s packet) olds news run reserves = HasBrought-same table choice rows (AudioPiece s packet) olds news run (λ p e. cc e) reserves
 
 -- a slot in which one stream's packet goes
-HasBrought-packet : (table : Table) (choice : List ℕ) (rows : List Row) (s : ℕ) (packet : Packet) (olds news : List StreamState) → HasRun table choice rows olds
+HasBrought-packet : (table : Table) (choice : List ℕ) (rows : List Row) (s : ℕ) (packet : QueuedPacket) (olds news : List QueueState) → HasRun table choice rows olds
     → SendsOne table choice s packet olds news → HasBrought table choice rows (Carries s packet) news
 HasBrought-packet table choice rows s packet olds news run sends = record {
-  streams = same_streams table choice olds news sends.as_many
-      (λ stream old new there there'. elim (cases_eq stream s) as (λ _. new.source ≡ old.source) [
+  queues = same_queues table choice olds news sends.as_many
+      (λ stream old new there there'. elim (cases_eq stream s) as (λ _. new.items ≡ old.items) [
         | inl own ↦
             (let there_own : slice_get olds s ≡ Some old = ap (λ k. slice_get olds k) (sym own) ∙ there in
             let there_own' : slice_get news s ≡ Some new = ap (λ k. slice_get news k) (sym own) ∙ there' in
-            ap (λ (state : StreamState). state.source) (sends.own old new there_own there_own').changed)
-        | inr other ↦ ap (λ (state : StreamState). state.source) (same_Some new old (sym there' ∙ sends.others stream other ∙ there))
+            ap (λ (state : QueueState). state.items) (sends.own old new there_own there_own').changed)
+        | inr other ↦ ap (λ (state : QueueState). state.items) (same_Some new old (sym there' ∙ sends.others stream other ∙ there))
       ])
-      ∙ run.streams;
+      ∙ run.queues;
   brings = λ stream new there. elim (cases_eq stream s) as (λ _. Brings table choice rows (Carries s packet) stream new) [
     | inl own ↦
         (let within : stream < length olds = omega (arith, slice_get_within news stream new there, sends.as_many) in
@@ -79,31 +79,31 @@ HasBrought-packet table choice rows s packet olds news run sends = record {
 }
 
 -- a free slot: its row is by the rule, and the states have what it brings
-free_slot : (table : Table) (choice : List ℕ) → IsValidTable table → Fits table choice → (rows : List Row) (row : Row) (olds news : List StreamState) → HasRun table choice rows olds
+free_slot : (table : Table) (choice : List ℕ) → IsValidTable table → Fits table choice → (rows : List Row) (row : Row) (olds news : List QueueState) → HasRun table choice rows olds
     → AllHoldNoneGone table choice (length rows * table.slot) olds → reserved table.slot (length table.programs) (length rows) ≡ None
-    → Fills table choice (length rows * table.slot) row olds news → IsNext table choice rows row × HasBrought table choice rows row news
+    → FillsSlot table choice (length rows * table.slot) row olds news → IsNext table choice rows row × HasBrought table choice rows row news
 free_slot table choice valid fits rows (Carries stream packet) olds news run rest free (first, sends) =
     ((free, Goes-from_first table choice valid fits rows olds run rest stream packet first), HasBrought-packet table choice rows stream packet olds news run sends)
 free_slot table choice valid fits rows Empty olds news run rest free (none, same) = (
   (free, NothingGoes-from_none table choice valid fits rows olds run rest none),
-  subst (λ (states : List StreamState). HasBrought table choice rows Empty states) (sym same)
-      (record { streams = run.streams; brings = λ stream state there. Brings-nothing table choice rows Empty stream state (run.tracks stream state there) refl (packets_in-empty stream state.kind) refl }),
+  subst (λ (states : List QueueState). HasBrought table choice rows Empty states) (sym same)
+      (record { queues = run.queues; brings = λ stream state there. Brings-nothing table choice rows Empty stream state (run.tracks stream state there) refl (packets_in-empty stream state.kind) refl }),
 )
 free_slot table choice valid fits rows (Reserved sent) olds news run rest free fills = absurd fills
 
 -- work is done after the row
-HasRun-drained : (table : Table) (choice : List ℕ) (rows : List Row) (row : Row) (olds mids news : List StreamState) → HasRun table choice rows olds → IsNext table choice rows row
+HasRun-drained : (table : Table) (choice : List ℕ) (rows : List Row) (row : Row) (olds mids news : List QueueState) → HasRun table choice rows olds → IsNext table choice rows row
     → HasBrought table choice rows row mids → ChangesEach (Drains (slot_subticks table.slot)) mids news → HasRun table choice (rows ++ row ∷ []) news
 HasRun-drained table choice rows row olds mids news run next brought drains = record {
   follows = FollowRule-push table choice rows row run.follows next;
-  streams = same_streams table choice mids news drains.as_many (λ stream old new there there'. ap (λ (state : StreamState). state.source) (drains.each stream old new there there')) ∙ brought.streams;
+  queues = same_queues table choice mids news drains.as_many (λ stream old new there there'. ap (λ (state : QueueState). state.items) (drains.each stream old new there there')) ∙ brought.queues;
   tracks = λ stream new there.
       let before = state_before (Drains (slot_subticks table.slot)) mids news stream new drains there in
       Tracks-drain table choice rows row stream before.0 new (brought.brings stream before.0 before.1) before.2;
 }
 
 -- a slot that is reserved
-pub reserved_slot-run : (table : Table) (choice : List ℕ) (rows : List Row) (sent : Sent) (row : Row) (olds mids news : List StreamState) → HasRun table choice rows olds
+pub reserved_slot-run : (table : Table) (choice : List ℕ) (rows : List Row) (sent : Sent) (row : Row) (olds mids news : List QueueState) → HasRun table choice rows olds
     → reserved table.slot (length table.programs) (length rows) ≡ Some sent → row ≡ Reserved sent → Reserves sent olds mids → ChangesEach (Drains (slot_subticks table.slot)) mids news
     → IsNext table choice rows row × HasRun table choice (rows ++ row ∷ []) news
 reserved_slot-run table choice rows sent row olds mids news run is row_is reserves drains =
@@ -111,9 +111,9 @@ reserved_slot-run table choice rows sent row olds mids news run is row_is reserv
     (is, HasRun-drained table choice rows (Reserved sent) olds mids news run is (HasBrought-reserved table choice rows sent olds mids run reserves) drains)
 
 -- a slot that is free
-pub free_slot-run : (table : Table) (choice : List ℕ) → IsValidTable table → Fits table choice → (rows : List Row) (row : Row) (olds released mids news : List StreamState)
+pub free_slot-run : (table : Table) (choice : List ℕ) → IsValidTable table → Fits table choice → (rows : List Row) (row : Row) (olds released mids news : List QueueState)
     → HasRun table choice rows olds → reserved table.slot (length table.programs) (length rows) ≡ None → ChangesEach (ReleasesAll table choice (length rows * table.slot)) olds released
-    → Fills table choice (length rows * table.slot) row released mids → ChangesEach (Drains (slot_subticks table.slot)) mids news
+    → FillsSlot table choice (length rows * table.slot) row released mids → ChangesEach (Drains (slot_subticks table.slot)) mids news
     → IsNext table choice rows row × HasRun table choice (rows ++ row ∷ []) news
 free_slot-run table choice valid fits rows row olds released mids news run free releases fills drains =
     let after = HasRun-release table choice rows olds released releases run in

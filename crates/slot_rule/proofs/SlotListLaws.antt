@@ -10,14 +10,14 @@ use Rattle.version_table.specs.Table.{IsValidTable}
 use Rattle.slot_rule.specs.declared.constants.TheConstants.{PERIOD_TICKS}
 use Rattle.slot_rule.specs.declared.sent.Sent.{Sent}
 use Rattle.slot_rule.specs.declared.slot_list.SlotList.{SlotList}
-use Rattle.slot_rule.specs.declared.stream_state.StreamState.{StreamState}
+use Rattle.slot_rule.specs.declared.queue_state.QueueState.{QueueState}
 use Rattle.slot_rule.specs.Timetable.{period}
-use Rattle.slot_rule.specs.Streams.{Kind, Packet, Stream, streams_of, Audio}
+use Rattle.slot_rule.specs.Queues.{QueueKind, QueuedPacket, Queue, queues_of, Audio}
 use Rattle.slot_rule.specs.Buffers.{Row, Reserved, Carries, Empty}
 use Rattle.slot_rule.specs.Schedule.{IsHead, AllSent, IsSchedule}
-use Rattle.slot_rule.specs.IdleSlots.{FillsPeriod, idle_slots}
+use Rattle.slot_rule.specs.Private.IdleSlots.{FillsPeriod, idle_slots}
 use Rattle.slot_rule.specs.SlotList.{kind_at, piece_sent, sent_of, CarriesPacket, PassesSent, IsSlotCount, IsSlotList}
-use Rattle.slot_rule.specs.Slots.{HasRun, Shows}
+use Rattle.slot_rule.specs.Private.Slots.{HasRun, IsWhatStands}
 use Rattle.slot_rule.proofs.IdleRows.{AllSent-more, IsSchedule-idle, idle_rows, idle_rows-sent, length-idle_rows}
 use Rattle.slot_rule.proofs.RuleRows.{IsNext, FollowRule-at, FollowRule-take}
 use Rattle.slot_rule.proofs.RuleSent.{count-empty, count-reserved}
@@ -25,34 +25,34 @@ use Rattle.slot_rule.proofs.RuleUnique.{FollowRule-longer, FollowRule-unique}
 use Rattle.slot_rule.proofs.TrackLaws.{state_there}
 
 -- ---- what a row shows
-kind_at-head : (streams : List Stream) (rows : List Row) (stream : ℕ) (kind : Kind) (packet : Packet) → IsHead streams rows stream kind packet → kind_at streams stream ≡ kind
-kind_at-head streams rows stream kind packet head =
-    let none : Stream = record { kind = Audio; packets = [] } in
-    let within : stream < length streams = slice_get_within streams stream _ head.1 in
-    let same : ◌≡◌ {A = Stream} (get_or streams stream none) (record { kind = kind; packets = head.0 }) =
-    same_Some _ _ (sym (slice_get-get_or streams stream none within) ∙ head.1) in
-    ap (λ (s : Stream). s.kind) same
+pub kind_at-head : (queues : List Queue) (rows : List Row) (stream : ℕ) (kind : QueueKind) (packet : QueuedPacket) → IsHead queues rows stream kind packet → kind_at queues stream ≡ kind
+kind_at-head queues rows stream kind packet head =
+    let none : Queue = record { kind = Audio; packets = [] } in
+    let within : stream < length queues = slice_get_within queues stream _ head.1 in
+    let same : ◌≡◌ {A = Queue} (get_or queues stream none) (record { kind = kind; packets = head.0 }) =
+    same_Some _ _ (sym (slice_get-get_or queues stream none within) ∙ head.1) in
+    ap (λ (s : Queue). s.kind) same
 
 -- what the states tell of the slot is what stands there
-pub sent_of-shown : (table : Table) (choice : List ℕ) (rows : List Row) (row : Row) (states : List StreamState) (sent : Sent) → HasRun table choice (rows ++ row ∷ []) states
-    → IsNext table choice rows row → Shows states row sent → sent ≡ sent_of (streams_of table choice) row
+pub sent_of-shown : (table : Table) (choice : List ℕ) (rows : List Row) (row : Row) (states : List QueueState) (sent : Sent) → HasRun table choice (rows ++ row ∷ []) states
+    → IsNext table choice rows row → IsWhatStands states row sent → sent ≡ sent_of (queues_of table choice) row
 sent_of-shown table choice rows (Reserved reserved) states sent run next shows = shows
 sent_of-shown table choice rows Empty states sent run next shows = shows
 sent_of-shown table choice rows (Carries stream packet) states sent run next shows =
     let kind = next.1.kind in
     let head = next.1.head in
-    let found = state_there table choice states run.streams stream (record { kind = kind; packets = head.0 }) head.1 in
-    let own : found.0.kind ≡ kind = (run.tracks stream found.0 found.1).kind ∙ ap (λ (s : Stream). s.kind) found.2 in
-    let at : kind_at (streams_of table choice) stream ≡ kind = kind_at-head (streams_of table choice) rows stream kind packet head in
-    shows found.0 found.1 ∙ ap (λ (k : Kind). piece_sent k stream packet) (own ∙ sym at)
+    let found = state_there table choice states run.queues stream (record { kind = kind; packets = head.0 }) head.1 in
+    let own : found.0.kind ≡ kind = (run.tracks stream found.0 found.1).kind ∙ ap (λ (s : Queue). s.kind) found.2 in
+    let at : kind_at (queues_of table choice) stream ≡ kind = kind_at-head (queues_of table choice) rows stream kind packet head in
+    shows found.0 found.1 ∙ ap (λ (k : QueueKind). piece_sent k stream packet) (own ∙ sym at)
 
 -- ---- how many slots there are
 -- the row in which the last packet is sent carries it
-pub carries_last : (streams : List Stream) (rows : List Row) (row : Row) → (AllSent streams rows → ⊥) → AllSent streams (rows ++ row ∷ []) → CarriesPacket row
-carries_last streams rows (Carries stream packet) left sent = tt
-carries_last streams rows (Reserved reserved) left sent =
+pub carries_last : (queues : List Queue) (rows : List Row) (row : Row) → (AllSent queues rows → ⊥) → AllSent queues (rows ++ row ∷ []) → CarriesPacket row
+carries_last queues rows (Carries stream packet) left sent = tt
+carries_last queues rows (Reserved reserved) left sent =
     left (λ stream kind packet head. sent stream kind packet (head.0, head.1, ap (λ k. slice_get head.0 k) (count-reserved stream reserved rows) ∙ head.2))
-carries_last streams rows Empty left sent =
+carries_last queues rows Empty left sent =
     left (λ stream kind packet head. sent stream kind packet (head.0, head.1, ap (λ k. slice_get head.0 k) (count-empty stream rows) ∙ head.2))
 
 -- a valid table's period has a slot
@@ -87,10 +87,10 @@ IsSlotCount-at period slots before row more some whole ends last = record {
 
 -- the list that the code fills to the end of the period
 pub IsSlotList-filled : (table : Table) (choice : List ℕ) (before : List Row) (row : Row) (last : ℕ) (rows : List Sent) (list : SlotList) → 1 ≤ period table.slot → length before ≡ last
-    → IsSchedule table choice (before ++ row ∷ []) → (length before ≡ 0) ⊎ CarriesPacket row → rows ≡ map (sent_of (streams_of table choice)) (before ++ row ∷ [])
+    → IsSchedule table choice (before ++ row ∷ []) → (length before ≡ 0) ⊎ CarriesPacket row → rows ≡ map (sent_of (queues_of table choice)) (before ++ row ∷ [])
     → FillsPeriod table.slot (length table.programs) last rows list → IsSlotList table choice list
 IsSlotList-filled table choice before row last rows list some last_is schedule carries rows_are fills =
-    let streams = streams_of table choice in
+    let queues = queues_of table choice in
     let programs = length table.programs in
     let front = before ++ row ∷ [] in
     let idle = idle_rows table.slot programs (length front) fills.idle in
@@ -98,20 +98,20 @@ IsSlotList-filled table choice before row last rows list some last_is schedule c
     let ends : length (front ++ idle) ≡ list.slots =
     length-append front idle ∙ ap₂ ◌+◌ first (length-idle_rows table.slot programs (length front) fills.idle) ∙ sym fills.ends in
     let split : front ++ idle ≡ before ++ row ∷ idle = append_assoc before (row ∷ []) idle in
-    let shown : idle_slots table.slot programs (last + 1) fills.idle ≡ map (sent_of streams) idle =
-    ap (λ n. idle_slots table.slot programs n fills.idle) (sym first) ∙ sym (idle_rows-sent streams table.slot programs (length front) fills.idle) in
+    let shown : idle_slots table.slot programs (last + 1) fills.idle ≡ map (sent_of queues) idle =
+    ap (λ n. idle_slots table.slot programs n fills.idle) (sym first) ∙ sym (idle_rows-sent queues table.slot programs (length front) fills.idle) in
     record {
       rows = front ++ idle;
       schedule = IsSchedule-idle table choice front schedule fills.idle;
       count = subst (λ (all : List Row). IsSlotCount (period table.slot) all list.slots) (sym split)
           (IsSlotCount-at (period table.slot) list.slots before row idle some (fills.whole ∙ ap (λ n. (n / period table.slot + 1) * period table.slot) (sym last_is)) (ap length (sym split) ∙ ends) carries);
       one_each = ends;
-      rows_are = fills.rows_are ∙ ap₂ (λ (a b : List Sent). a ++ b) rows_are shown ∙ sym (map-append (sent_of streams) front idle);
+      rows_are = fills.rows_are ∙ ap₂ (λ (a b : List Sent). a ++ b) rows_are shown ∙ sym (map-append (sent_of queues) front idle);
     }
 
 -- ---- one list
 -- where all is sent, no row carries a packet
-none_carried : (table : Table) (choice : List ℕ) (rows : List Row) (row : Row) → AllSent (streams_of table choice) rows → IsNext table choice rows row → CarriesPacket row → ⊥
+none_carried : (table : Table) (choice : List ℕ) (rows : List Row) (row : Row) → AllSent (queues_of table choice) rows → IsNext table choice rows row → CarriesPacket row → ⊥
 none_carried table choice rows (Carries stream packet) sent next carries = sent stream next.1.kind packet next.1.head
 none_carried table choice rows (Reserved reserved) sent next carries = carries
 none_carried table choice rows Empty sent next carries = carries
@@ -128,7 +128,7 @@ carries_within table choice rows rows' s s' n row there carries =
           let size : length front ≡ n = length-take-le n rows' (omega arith) in
           let longer : front ≡ rows ++ drop (length rows) front =
           FollowRule-longer table choice rows front s.follows (FollowRule-take table choice n rows' s'.follows) (omega arith) in
-          let sent : AllSent (streams_of table choice) front = subst (λ (all : List Row). AllSent (streams_of table choice) all) (sym longer) (AllSent-more (streams_of table choice) rows (drop (length rows) front) s.sent) in
+          let sent : AllSent (queues_of table choice) front = subst (λ (all : List Row). AllSent (queues_of table choice) all) (sym longer) (AllSent-more (queues_of table choice) rows (drop (length rows) front) s.sent) in
           let is : get_or rows' n row ≡ row = same_Some _ _ (sym (slice_get-get_or rows' n row within) ∙ there) in
           let next : IsNext table choice front row = subst (λ (r : Row). IsNext table choice front r) is (FollowRule-at table choice rows' s'.follows n row within) in
           absurd (none_carried table choice front row sent next carries))
@@ -150,4 +150,4 @@ pub IsSlotList-same : (table : Table) (choice : List ℕ) (a b : SlotList) → I
 IsSlotList-same table choice a b is is' =
     let slots : a.slots ≡ b.slots = le_antisymm (slots_upto table choice b a is' is) (slots_upto table choice a b is is') in
     let rows : is.rows ≡ is'.rows = FollowRule-unique table choice is.rows is'.rows is.schedule.follows is'.schedule.follows (is.one_each ∙ slots ∙ sym is'.one_each) in
-    SlotList-same a b slots (is.rows_are ∙ ap (λ (all : List Row). map (sent_of (streams_of table choice)) all) rows ∙ sym is'.rows_are)
+    SlotList-same a b slots (is.rows_are ∙ ap (λ (all : List Row). map (sent_of (queues_of table choice)) all) rows ∙ sym is'.rows_are)

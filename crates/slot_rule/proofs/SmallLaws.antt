@@ -8,74 +8,74 @@ use Rattle.version_table.specs.declared.limits.TheConstants.{TIME_SLOTS_MOST}
 use Rattle.version_table.specs.declared.table.Table.{Table}
 use Rattle.version_table.specs.Table.{IsValidTable}
 use Rattle.version_table.specs.Choice.{Fits}
-use Rattle.slot_rule.specs.declared.constants.TheConstants.{PAYLOAD_BYTES}
-use Rattle.slot_rule.specs.declared.stream_state.StreamState.{StreamState}
+use Rattle.stream_constants.specs.declared.packets.TheConstants.{PAYLOAD_BYTES}
+use Rattle.slot_rule.specs.declared.queue_state.QueueState.{QueueState}
 use Rattle.slot_rule.specs.Buffers.{Row, is_of}
-use Rattle.slot_rule.specs.Slots.{HasRun, IsDueSoon}
-use Rattle.slot_rule.specs.States.{IsPlaced, stream_of}
-use Rattle.slot_rule.specs.StreamState.{IsNumbered, IsReady, IsSmall}
-use Rattle.slot_rule.specs.Streams.{Packet, Stream, streams_of}
+use Rattle.slot_rule.specs.Private.Slots.{HasRun, IsDueSoon}
+use Rattle.slot_rule.specs.Private.States.{IsPlaced, queue_of}
+use Rattle.slot_rule.specs.Private.QueueState.{IsNumbered, IsReady, IsSmall}
+use Rattle.slot_rule.specs.Queues.{QueuedPacket, Queue, queues_of}
 use Rattle.slot_rule.proofs.Places.{All-at_place}
 use Rattle.slot_rule.proofs.RuleSent.{held-le}
-use Rattle.slot_rule.proofs.RuleStreams.{IsLimited, IsValidStream, IsValidStream-at, FollowRule-payloads, streams_of-few}
-use Rattle.slot_rule.proofs.RuleWork.{transport_work-bound, multiplex_work-bound}
+use Rattle.slot_rule.proofs.RuleQueues.{IsLimited, IsValidStream, IsValidStream-at, FollowRule-payloads, queues_of-few}
+use Rattle.slot_rule.proofs.RuleWork.{tb_work-bound, mb_work-bound}
 use Rattle.slot_rule.proofs.TrackLaws.{stream_there}
 
-module _ (table : Table) (choice : List ℕ) (valid : IsValidTable table) (fits : Fits table choice) (rows : List Row) (states : List StreamState) (run : HasRun table choice rows states) (few : length rows ≤ TIME_SLOTS_MOST) where
+module _ (table : Table) (choice : List ℕ) (valid : IsValidTable table) (fits : Fits table choice) (rows : List Row) (states : List QueueState) (run : HasRun table choice rows states) (few : length rows ≤ TIME_SLOTS_MOST) where
   pub states_few : length states < 2 ^ 32
   states_few =
-      let many : length states ≡ length (streams_of table choice) = sym (length-map states (stream_of table choice)) ∙ ap (λ (s : List Stream). length s) run.streams in
-      omega (arith, streams_of-few table choice valid)
+      let many : length states ≡ length (queues_of table choice) = sym (length-map states (queue_of table choice)) ∙ ap (λ (s : List Queue). length s) run.queues in
+      omega (arith, queues_of-few table choice valid)
 
-  limited : (stream : ℕ) (state : StreamState) → slice_get states stream ≡ Some state → All (IsLimited table.slot) (stream_of table choice state).packets
+  limited : (stream : ℕ) (state : QueueState) → slice_get states stream ≡ Some state → All (IsLimited table.slot) (queue_of table choice state).packets
   limited stream state there =
-      let stream_valid : IsValidStream table.slot (stream_of table choice state) = IsValidStream-at table choice stream (stream_of table choice state) valid fits (stream_there table choice states run.streams stream state there) in
+      let stream_valid : IsValidStream table.slot (queue_of table choice state) = IsValidStream-at table choice stream (queue_of table choice state) valid fits (stream_there table choice states run.queues stream state there) in
       stream_valid.each
 
-  head_limited : (stream : ℕ) (state : StreamState) (packet : Packet) → slice_get states stream ≡ Some state → state.head ≡ Some packet → IsLimited table.slot packet
+  head_limited : (stream : ℕ) (state : QueueState) (packet : QueuedPacket) → slice_get states stream ≡ Some state → state.head ≡ Some packet → IsLimited table.slot packet
   head_limited stream state packet there head =
-      All-at_place (IsLimited table.slot) (stream_of table choice state).packets (limited stream state there) state.sent packet (sym (run.tracks stream state there).keeps.head ∙ head)
+      All-at_place (IsLimited table.slot) (queue_of table choice state).packets (limited stream state there) state.sent packet (sym (run.tracks stream state there).keeps.head ∙ head)
 
-  state_small : (stream : ℕ) (state : StreamState) → slice_get states stream ≡ Some state → IsSmall state
+  state_small : (stream : ℕ) (state : QueueState) → slice_get states stream ≡ Some state → IsSmall state
   state_small stream state there =
       let tracks = run.tracks stream state there in
-      let packets = (stream_of table choice state).packets in
-      let transport = transport_work-bound table.slot stream state.kind rows in
-      let multiplex = multiplex_work-bound table.slot stream rows (FollowRule-payloads table choice stream rows valid fits run.follows) in
+      let packets = (queue_of table choice state).packets in
+      let tb = tb_work-bound table.slot stream state.kind rows in
+      let mb = mb_work-bound table.slot stream rows (FollowRule-payloads table choice stream rows valid fits run.follows) in
       let sent : state.sent ≤ length rows = omega (arith, tracks.sent, count_by-le-length (is_of stream) rows) in
       let payloads : All (λ packet. packet.payload ≤ PAYLOAD_BYTES) packets = All-weaker (IsLimited table.slot) (λ packet. packet.payload ≤ PAYLOAD_BYTES) (λ packet h. h.payload) packets (limited stream state there) in
       let held = held-le state.gone state.sent PAYLOAD_BYTES packets payloads in
       record {
-        transport = omega (arith, tracks.transport);
-        multiplex = omega (arith, tracks.multiplex);
+        tb = omega (arith, tracks.tb);
+        mb = omega (arith, tracks.mb);
         sent = omega arith;
         held = omega (arith, tracks.keeps.held);
       }
 
-  state_ready : (stream : ℕ) (state : StreamState) → slice_get states stream ≡ Some state → IsReady state
+  state_ready : (stream : ℕ) (state : QueueState) → slice_get states stream ≡ Some state → IsReady state
   state_ready stream state there = record {
     small = state_small stream state there;
     kind = (run.tracks stream state there).sized;
     payload = λ packet head. (head_limited stream state packet there head).payload;
   }
 
-  state_placed : (stream : ℕ) (state : StreamState) → slice_get states stream ≡ Some state → IsPlaced table choice state
+  state_placed : (stream : ℕ) (state : QueueState) → slice_get states stream ≡ Some state → IsPlaced table choice state
   state_placed stream state there =
       let tracks = run.tracks stream state there in
       record {
         place = tracks.place;
-        numbered = All-weaker (IsLimited table.slot) IsNumbered (λ packet h. record { item = h.item; piece = h.piece; payload = h.payload }) (stream_of table choice state).packets (limited stream state there);
+        numbered = All-weaker (IsLimited table.slot) IsNumbered (λ packet h. record { item = h.item; piece = h.piece; payload = h.payload }) (queue_of table choice state).packets (limited stream state there);
         keeps = tracks.keeps;
       }
 
-  state_soon : (stream : ℕ) (state : StreamState) → slice_get states stream ≡ Some state → IsDueSoon state
+  state_soon : (stream : ℕ) (state : QueueState) → slice_get states stream ≡ Some state → IsDueSoon state
   state_soon stream state there = record {
     small = state_small stream state there;
     due = λ packet head. let limits = head_limited stream state packet there head in omega (arith, limits.due, limits.gone, valid.slot_most, mul-le-mul_left TIME_SLOTS_MOST valid.slot_most);
   }
 
   -- what holds of each state by its number holds of each
-  all_states : (P : StreamState → Type 0) → ((stream : ℕ) (state : StreamState) → slice_get states stream ≡ Some state → P state) → All P states
+  all_states : (P : QueueState → Type 0) → ((stream : ℕ) (state : QueueState) → slice_get states stream ≡ Some state → P state) → All P states
   all_states P each k d within = each k (get_or states k d) (slice_get-get_or states k d within)
 
   pub all_small : All IsSmall states

@@ -2,16 +2,16 @@
 use Rattle.std.proofs.Common.{◌≡◌, ℕ, ◌+◌, ◌<◌, ◌≤◌, ◌-◌, List, length, get_or, slice_get, Option, Some, sym, ap, ◌∙◌, inl, inr, arith}
 use Rattle.std.proofs.lemmas.Bool.{cases_lt}
 use Rattle.std.proofs.lemmas.Option.{same_Some, slice_get_within, get_or_from_slice_get}
-use Rattle.slot_rule.specs.declared.stream_state.StreamState.{StreamState}
-use Rattle.slot_rule.specs.StreamState.{Keeps, Releases, held_bytes}
-use Rattle.slot_rule.specs.Streams.{Packet}
+use Rattle.slot_rule.specs.declared.queue_state.QueueState.{QueueState}
+use Rattle.slot_rule.specs.Private.QueueState.{KeepsPlace, Releases, held_bytes}
+use Rattle.slot_rule.specs.Queues.{QueuedPacket}
 use Rattle.slot_rule.proofs.RuleSent.{held-push, held-pop}
 
 -- the head packet goes
-pub Keeps-send : (packets : List Packet) (old : StreamState) (packet : Packet) (next : Option Packet) (transport multiplex : ℕ) → Keeps packets old
+pub KeepsPlace-send : (packets : List QueuedPacket) (old : QueueState) (packet : QueuedPacket) (next : Option QueuedPacket) (tb mb : ℕ) → KeepsPlace packets old
     → old.head ≡ Some packet → next ≡ slice_get packets (old.sent + 1)
-    → Keeps packets (record old { transport = transport; multiplex = multiplex; sent = old.sent + 1; head = next; held = old.held + packet.payload })
-Keeps-send packets old packet next transport multiplex keeps head next_is =
+    → KeepsPlace packets (record old { tb = tb; mb = mb; sent = old.sent + 1; head = next; held = old.held + packet.payload })
+KeepsPlace-send packets old packet next tb mb keeps head next_is =
     let got : slice_get packets old.sent ≡ Some packet = sym keeps.head ∙ head in
     let within : old.sent < length packets = slice_get_within packets old.sent packet got in
     let here : get_or packets old.sent packet ≡ packet = get_or_from_slice_get packets old.sent packet packet got in
@@ -21,32 +21,32 @@ Keeps-send packets old packet next transport multiplex keeps head next_is =
       head = next_is;
       order = omega arith;
       oldest = keeps.oldest;
-      held = ap (λ n. n + packet.payload) keeps.held ∙ sym (held-push old.gone old.sent packets packet keeps.order within ∙ ap (λ (p : Packet). held_bytes old.gone old.sent packets + p.payload) here);
+      held = ap (λ n. n + packet.payload) keeps.held ∙ sym (held-push old.gone old.sent packets packet keeps.order within ∙ ap (λ (p : QueuedPacket). held_bytes old.gone old.sent packets + p.payload) here);
     }
 
 -- the oldest packet that is held is gone
-pub Keeps-release : (packets : List Packet) (old : StreamState) (packet : Packet) (next : Option Packet) → Keeps packets old → old.gone < old.sent
+pub KeepsPlace-release : (packets : List QueuedPacket) (old : QueueState) (packet : QueuedPacket) (next : Option QueuedPacket) → KeepsPlace packets old → old.gone < old.sent
     → old.oldest ≡ Some packet → next ≡ slice_get packets (old.gone + 1)
-    → (packet.payload ≤ old.held) × Keeps packets (record old { gone = old.gone + 1; oldest = next; held = old.held - packet.payload })
-Keeps-release packets old packet next keeps some oldest next_is =
+    → (packet.payload ≤ old.held) × KeepsPlace packets (record old { gone = old.gone + 1; oldest = next; held = old.held - packet.payload })
+KeepsPlace-release packets old packet next keeps some oldest next_is =
     let within = keeps.within in
     let got : slice_get packets old.gone ≡ Some packet = sym keeps.oldest ∙ oldest in
     let here : get_or packets old.gone packet ≡ packet = get_or_from_slice_get packets old.gone packet packet got in
     let held_is : old.held ≡ packet.payload + held_bytes (old.gone + 1) old.sent packets =
-    keeps.held ∙ held-pop old.gone old.sent packets packet some keeps.within ∙ ap (λ (p : Packet). p.payload + held_bytes (old.gone + 1) old.sent packets) here in (
+    keeps.held ∙ held-pop old.gone old.sent packets packet some keeps.within ∙ ap (λ (p : QueuedPacket). p.payload + held_bytes (old.gone + 1) old.sent packets) here in (
       omega arith,
       record { within = keeps.within; head = keeps.head; order = omega arith; oldest = next_is; held = omega arith },
     )
 
 -- one more packet is gone
-pub Releases-more : (packets : List Packet) (start : ℕ) (old new : StreamState) (packet : Packet) (next : Option Packet) → Releases packets start old new
+pub Releases-more : (packets : List QueuedPacket) (start : ℕ) (old new : QueueState) (packet : QueuedPacket) (next : Option QueuedPacket) → Releases packets start old new
     → slice_get packets new.gone ≡ Some packet → packet.gone ≤ start
     → Releases packets start old (record new { gone = new.gone + 1; oldest = next; held = new.held - packet.payload })
 Releases-more packets start old new packet next released got past =
     let rises = released.rises in
     let fewer = released.fewer in
     record {
-      changed = ap (λ (s : StreamState). record s { gone = new.gone + 1; oldest = next; held = new.held - packet.payload }) released.changed;
+      changed = ap (λ (s : QueueState). record s { gone = new.gone + 1; oldest = next; held = new.held - packet.payload }) released.changed;
       rises = omega arith;
       fewer = omega arith;
       gone = λ k p from to at. elim (cases_lt k new.gone) as (λ _. p.gone ≤ start) [

@@ -1,11 +1,7 @@
 pub mod Buffers
-pub mod Heads
-pub mod IdleSlots
+pub mod Private
+pub mod Queues
 pub mod Schedule
+pub mod Sent
 pub mod SlotList
-pub mod Slots
-pub mod Source
-pub mod States
-pub mod StreamState
-pub mod Streams
 pub mod Timetable

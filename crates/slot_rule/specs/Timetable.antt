@@ -8,7 +8,7 @@ use Rattle.slot_rule.specs.declared.sent.Sent.TheVariants.{Pat, Pmt, Pcr}
 abbrev pub period : ℕ → ℕ
 period slot = PERIOD_TICKS / slot
 
--- what a slot at this offset within the period is reserved for: the PAT, then the PMTs, then the clocks
+-- what a slot at this offset within the period is reserved for: the PAT, then the PMTs, then the PCRs
 abbrev pub reserved_at : (programs offset : ℕ) → Option Sent
 reserved_at programs offset =
     if offset == 0 then Some Pat

@@ -1,16 +1,19 @@
 ghost use Rattle.std.specs.Prelude.{◌≡◌, ◌+◌, ◌*◌, ◌^◌, ◌<◌, ◌≤◌, All, length};
 ghost use Rattle.version_table.specs.declared.limits.TheConstants.{SLOT_MOST, TIME_SLOTS_MOST};
-ghost use Rattle.slot_rule.specs.declared.constants.TheConstants.{MARGIN_SUBTICKS, SUBTICKS_PER_TICK};
-ghost use Rattle.slot_rule.specs.Slots.{IsDueSoon, RowStands};
+ghost use Rattle.slot_rule.specs.declared.constants.TheConstants.{MARGIN_SUBTICKS};
+ghost use Rattle.stream_constants.specs.declared.clock.TheConstants.{SUBTICKS_PER_TICK};
+ghost use Rattle.slot_rule.specs.Private.Slots.{IsDueSoon, RowStands};
 
-use crate::constants::{MARGIN_SUBTICKS, SUBTICKS_PER_TICK};
+use crate::constants::MARGIN_SUBTICKS;
 use crate::heads::due_head;
-use crate::row::{Packet, Row};
+use crate::queue_state::QueueState;
+use crate::queued_packet::QueuedPacket;
+use crate::row::Row;
 use crate::sent::Miss;
-use crate::stream_state::StreamState;
+use stream_constants::clock::SUBTICKS_PER_TICK;
 
 /// What is found after a slot.
-#[derive(Clone, Copy, Debug, PartialEq, Eq)]
+#[derive(Clone, Copy)]
 pub enum After {
     /// A packet misses.
     Missed(Miss),
@@ -21,10 +24,10 @@ pub enum After {
 }
 
 impl After {
-    ghost use Rattle.slot_rule.specs.Slots.{TellsAfter};
+    ghost use Rattle.slot_rule.specs.Private.Slots.{TellsAfter};
 
     /// What is found after slot `n`, in which this row stood; the states are those after it.
-    pub fn slot(states: &[StreamState], row: Row, slot: u32, n: u32) -> After
+    pub fn slot(states: &[QueueState], row: Row, slot: u32, n: u32) -> After
         requires few { length states.now < 2 ^ 32 }
         requires soon { All IsDueSoon states.now }
         requires row { RowStands states.now row }
@@ -32,14 +35,15 @@ impl After {
         requires slot { slot ≤ SLOT_MOST }
         ensures { TellsAfter states.now (SUBTICKS_PER_TICK * ((n + 1) * slot) + MARGIN_SUBTICKS) row n result }
     {
-        let arrival = SUBTICKS_PER_TICK * (u64::from(n + 1) * u64::from(slot)) + MARGIN_SUBTICKS;
+        let end_with_margin = SUBTICKS_PER_TICK * (u64::from(n + 1) * u64::from(slot))
+            + MARGIN_SUBTICKS;
         if let Row::Carries { stream, packet } = row {
-            if SUBTICKS_PER_TICK * packet.due < arrival + states[stream].main_work() {
+            if SUBTICKS_PER_TICK * packet.due < end_with_margin + states[stream].mb_or_tb_work() {
                 return After::Missed(miss_of(stream, packet, n));
             }
         }
         match due_head(states) {
-            Some(head) if SUBTICKS_PER_TICK * head.packet.due < arrival => {
+            Some(head) if SUBTICKS_PER_TICK * head.packet.due < end_with_margin => {
                 After::Missed(miss_of(head.stream, head.packet, n))
             }
             Some(_) => After::Waiting,
@@ -49,7 +53,7 @@ impl After {
 }
 
 /// The miss of a packet after slot `n`.
-fn miss_of(stream: usize, packet: Packet, n: u32) -> Miss
+fn miss_of(stream: usize, packet: QueuedPacket, n: u32) -> Miss
     requires { stream < 2 ^ 32 }
     ensures { result ≡ record { stream = stream; unit = packet.item; slot = n; due = packet.due } }
 {

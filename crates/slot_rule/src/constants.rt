@@ -1,32 +1,19 @@
-//! Numbers of the slot clock and of the decoder's buffers.
+//! Numbers of this project's slot rule, which keeps the decoder's buffers from what the standard forbids.
+//!
+//! Ticks are 1/27,000,000 s and subticks 1/940 tick. The decoder's own numbers are those of `stream_constants`.
 
-/// Subticks in a tick of 1/27,000,000 s.
-pub const SUBTICKS_PER_TICK: u64 = 940;
-/// Ticks that one period of the timetable fits into.
+/// Ticks that one period of the timetable fits into: 0.04 s, so that PCRs and program tables come at least each 0.04 s,
+/// within the 0.1 s that 13818-1, 2.7.2 allows for PCRs.
 pub const PERIOD_TICKS: u32 = 1_080_000;
-/// Bytes of a transport packet.
-pub const PACKET_BYTES: u64 = 188;
-/// Payload bytes of a full transport packet.
-pub const PAYLOAD_BYTES: u64 = 184;
-/// Subticks that a byte takes to leave a video stream's transport buffer.
-pub const VIDEO_TB_SUBTICKS: u64 = 11_280;
-/// Subticks that a byte takes to leave an audio stream's transport buffer.
-pub const AUDIO_TB_SUBTICKS: u64 = 101_520;
-/// Subticks that a byte takes from the multiplexing buffer to the elementary stream buffer.
-pub const MB_SUBTICKS: u64 = 13_536;
-/// Bytes of work that may wait in a video stream's transport buffer where a packet goes.
+/// Bytes of work that may wait in a video queue's TB where a packet goes: with the packet that goes they are 316 of the
+/// 512 bytes of TB, so that a PCR packet, whose slot has no gate, still fits.
 pub const VIDEO_TB_GATE: u64 = 128;
-/// Bytes of work that may wait in an audio stream's transport buffer where a packet goes.
+/// Bytes of work that may wait in an audio queue's TB where a packet goes: with the packet that goes they are 504 of the
+/// 512 bytes of TB, and no PCR packet comes on its PID.
 pub const AUDIO_TB_GATE: u64 = 316;
-/// Bytes of an elementary stream buffer in each unit of `vbv_buffer_size`.
-pub const EB_UNIT_BYTES: u64 = 2_048;
-/// Bytes of a video stream's multiplexing buffer and elementary stream buffer together.
-pub const VIDEO_BYTES: u64 = 239_376;
-/// Bytes that stay free in the multiplexing buffer where a packet goes.
+/// Bytes that stay free in MB where a packet goes: MB can hold more bytes than its work says, since work is counted at
+/// the ends of slots, as if each payload went to MB at once.
 pub const MB_SPARE_BYTES: u64 = 1_024;
-/// Bytes of an audio stream's main buffer.
-pub const AUDIO_BYTES: u64 = 3_584;
-/// Ticks that a byte may lie in the decoder, at most.
-pub const HOLD_TICKS: u64 = 27_000_000;
-/// Subticks that a packet comes before its due time, at least, beside the work that waits for it.
+/// Subticks that a packet comes before its due time, at least, beside the work that waits for it: 7,200 ticks, in which
+/// its last byte passes TB and what MB holds above its work.
 pub const MARGIN_SUBTICKS: u64 = 6_768_000;

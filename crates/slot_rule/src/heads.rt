@@ -1,22 +1,22 @@
 ghost use Rattle.std.specs.Prelude.{◌≡◌, ◌^◌, ◌<◌, ◌≤◌, All};
-ghost use Rattle.slot_rule.specs.Heads.{IsOffer, IsFirstHead, Passes, PassesAt, earlier_head};
-ghost use Rattle.slot_rule.specs.StreamState.{IsReady};
+ghost use Rattle.slot_rule.specs.Private.Heads.{IsOffer, IsFirstHead, Passes, PassesAt, earlier_head};
+ghost use Rattle.slot_rule.specs.Private.QueueState.{IsReady};
 
-use crate::row::Packet;
-use crate::stream_state::StreamState;
+use crate::queue_state::QueueState;
+use crate::queued_packet::QueuedPacket;
 
 /// A stream's first packet that isn't sent.
-#[derive(Clone, Copy, Debug, PartialEq, Eq)]
+#[derive(Clone, Copy)]
 pub struct Head {
     /// The stream, over all programs, from 0.
     pub stream: usize,
     /// The packet.
-    pub packet: Packet,
+    pub packet: QueuedPacket,
 }
 
 /// The permitted head packet that is due first in a slot that begins at `start` ticks, and among equals that of the
 /// lowest stream; none where none may go.
-pub fn permitted_head(states: &[StreamState], start: u64) -> Option<Head>
+pub fn permitted_head(states: &[QueueState], start: u64) -> Option<Head>
     requires ready { All IsReady states.now }
     requires start { start < 2 ^ 60 }
     ensures { IsFirstHead (PassesAt start) states.now result }
@@ -29,7 +29,7 @@ pub fn permitted_head(states: &[StreamState], start: u64) -> Option<Head>
 }
 
 /// The head packet that is due first, and among equals that of the lowest stream; none where all is sent.
-pub fn due_head(states: &[StreamState]) -> Option<Head>
+pub fn due_head(states: &[QueueState]) -> Option<Head>
     ensures { IsFirstHead Passes states.now result }
 {
     let mut first = None;
@@ -40,7 +40,7 @@ pub fn due_head(states: &[StreamState]) -> Option<Head>
 }
 
 /// The stream's head packet where it may go in a slot that begins at `start` ticks.
-fn permitted(stream: usize, state: &StreamState, start: u64) -> Option<Head>
+fn permitted(stream: usize, state: &QueueState, start: u64) -> Option<Head>
     requires ready { IsReady state.now }
     requires start { start < 2 ^ 60 }
     ensures { IsOffer (PassesAt start) stream state.now result }
@@ -52,7 +52,7 @@ fn permitted(stream: usize, state: &StreamState, start: u64) -> Option<Head>
 }
 
 /// The stream's head packet.
-fn head_of(stream: usize, state: &StreamState) -> Option<Head>
+fn head_of(stream: usize, state: &QueueState) -> Option<Head>
     ensures { IsOffer Passes stream state.now result }
 {
     match state.head {

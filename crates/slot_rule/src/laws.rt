@@ -1,10 +1,14 @@
 //! Laws of the slot rule, as functions that do nothing.
 
-ghost use Rattle.std.specs.Prelude.{◌≡◌, ℕ, ◌≤◌, List, length, take};
+ghost use Rattle.std.specs.Prelude.{◌≡◌, ℕ, ◌≤◌, List, length, take, slice_get, Some};
 ghost use Rattle.version_table.specs.declared.table.Table.{Table};
 ghost use Rattle.slot_rule.specs.declared.sent.Miss.{Miss};
 ghost use Rattle.slot_rule.specs.declared.slot_list.SlotList.{SlotList};
+ghost use Rattle.version_table.specs.Choice.{Fits};
+ghost use Rattle.version_table.specs.Table.{IsValidTable};
+ghost use Rattle.slot_rule.specs.declared.sent.Sent.{Sent};
 ghost use Rattle.slot_rule.specs.Buffers.{Row};
+ghost use Rattle.slot_rule.specs.Sent.{IsOfTable};
 ghost use Rattle.slot_rule.specs.Schedule.{FollowRule, IsSchedule, IsScheduled, IsFirstMiss};
 ghost use Rattle.slot_rule.specs.SlotList.{IsSlotList, slots_of};
 
@@ -28,6 +32,13 @@ pub fn schedules_agree()
 /// A table has at most one list of slots under a choice.
 pub fn slot_list_is_one()
     ensures { (table : Table) (choice : List ℕ) (a b : SlotList) → IsSlotList table choice a → IsSlotList table choice b → a ≡ b }
+{}
+
+/// What stands in the slots of a schedule names programs of the table, its units and their chosen versions, and its
+/// audio streams and their packets, each by a number that exists.
+pub fn slots_name_the_table()
+    ensures { (table : Table) (choice : List ℕ) (list : SlotList) → IsValidTable table → Fits table choice → IsSlotList table choice list
+        → (n : ℕ) (sent : Sent) → slice_get list.rows n ≡ Some sent → IsOfTable table choice sent }
 {}
 
 /// The packets of a stream stand in the same slots in every schedule of a choice, however many idle slots end it.

@@ -1,6 +1,6 @@
 //! The slot rule: which packet goes in each slot of the output, and which table cannot be met.
 //!
-//! One transport packet goes in each slot. A timetable reserves slots for the program tables and the clocks; in each
+//! One transport packet goes in each slot. A timetable reserves slots for the program tables and the PCRs; in each
 //! other slot goes the permitted packet that is due first, where the gates of the decoder's buffers permit one
 //! (ISO/IEC 13818-1, 2.4.2, taken at slots). A packet that would come too late is a miss.
 //! Stands on `version_table` and `list_types`.
@@ -9,22 +9,23 @@
 mod after;
 pub mod constants;
 mod heads;
-mod kind;
 mod laws;
 mod misses;
+mod queue_items;
+mod queue_kind;
+mod queue_state;
+mod queued_packet;
 mod row;
 mod schedules;
 mod sent;
 mod slot;
 mod slot_list;
-mod source;
 mod states;
-mod stream_state;
 mod timetable;
 
 pub use laws::{
     first_miss_is_one, no_miss_where_scheduled, packets_keep_slots, schedules_agree,
-    slot_list_is_one,
+    slot_list_is_one, slots_name_the_table,
 };
 pub use misses::first_miss;
 pub use schedules::{ScheduleFault, schedule};

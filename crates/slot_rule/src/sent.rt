@@ -7,7 +7,7 @@ pub enum Sent {
     Pat,
     /// The program map section of the program of this number, from 0.
     Pmt(u8),
-    /// A clock reference on the video PID of the program of this number, from 0.
+    /// A PCR reference on the video PID of the program of this number, from 0.
     Pcr(u8),
     /// A piece of a coded picture: stream over all programs, unit within the stream, packet within the unit, from 0.
     Video { stream: u32, unit: u32, piece: u32 },

@@ -6,7 +6,7 @@ use crate::timetable::Timetable;
 use list_types::{ListOf, OutOfMemory};
 
 /// The slots of a table under a choice that is scheduled.
-#[derive(Debug, Drop)]
+#[derive(Drop)]
 pub struct SlotList {
     /// The number of slots: the least positive multiple of the timetable's period that is greater than the last slot
     /// in which a packet of a stream is sent; one period where none is.
@@ -16,7 +16,7 @@ pub struct SlotList {
 }
 
 impl SlotList {
-    ghost use Rattle.slot_rule.specs.IdleSlots.{FillsPeriod};
+    ghost use Rattle.slot_rule.specs.Private.IdleSlots.{FillsPeriod};
 
     /// The slots in `rows`, of which the last is slot `last`, and those after it up to the end of its period, in which
     /// stands what the timetable has there, else a null packet. Fails only for want of memory.

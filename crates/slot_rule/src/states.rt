@@ -1,17 +1,17 @@
 ghost use Rattle.std.specs.Prelude.{◌≡◌, ◌+◌, ◌<◌, ◌≤◌, [], ◌∷◌, ◌++◌, All, length, map, drop};
 ghost use Rattle.arrayvec.specs.ArrayVec.{array_vec_len};
-ghost use Rattle.version_table.specs.declared.limits.TheConstants.{VBV_MOST};
+ghost use Rattle.stream_constants.specs.declared.main_level.TheConstants.{VBV_MOST};
 ghost use Rattle.version_table.specs.Table.{IsValidTable};
 ghost use Rattle.version_table.specs.Choice.{Fits};
-ghost use Rattle.slot_rule.specs.declared.source.Source.TheVariants.{Units};
-ghost use Rattle.slot_rule.specs.Source.{IsPlace, program_at, stream_at};
-ghost use Rattle.slot_rule.specs.States.{ChangesEach, Drains, IsFirstState, IsPlaced, ReleasesAll, TakesClock, stream_of};
-ghost use Rattle.slot_rule.specs.Streams.{audio_of, streams_of, video_of};
-ghost use Rattle.slot_rule.specs.StreamState.{IsKind, IsSmall};
+ghost use Rattle.slot_rule.specs.declared.queue_items.QueueItems.TheVariants.{Units};
+ghost use Rattle.slot_rule.specs.Private.QueueItems.{IsPlace, program_at, queue_at};
+ghost use Rattle.slot_rule.specs.Private.States.{ChangesEach, Drains, IsFirstState, IsPlaced, ReleasesAll, TakesPcr, queue_of};
+ghost use Rattle.slot_rule.specs.Queues.{audio_of, queues_of, video_of};
+ghost use Rattle.slot_rule.specs.Private.QueueState.{IsKind, IsSmall};
 
-use crate::kind::Kind;
-use crate::source::{Source, program_at};
-use crate::stream_state::StreamState;
+use crate::queue_items::{QueueItems, program_at};
+use crate::queue_kind::QueueKind;
+use crate::queue_state::QueueState;
 use arrayvec::ArrayVec;
 use version_table::limits::{AUDIOS_MOST, PROGRAMS_MOST};
 use version_table::{Choice, Table};
@@ -20,13 +20,13 @@ use version_table::{Choice, Table};
 pub const STREAMS_MOST: usize = PROGRAMS_MOST * (1 + AUDIOS_MOST);
 
 /// The states of all streams, in stream order.
-pub type States = ArrayVec<StreamState, STREAMS_MOST>;
+pub type States = ArrayVec<QueueState, STREAMS_MOST>;
 
 /// The states of a table's streams before the first slot.
 pub fn first_states(table: &Table, choice: &Choice) -> States
     requires valid { IsValidTable table.now }
     requires fits { Fits table.now choice.now }
-    ensures streams { map (stream_of table.now choice.now) result.items ≡ streams_of table.now choice.now }
+    ensures queues { map (queue_of table.now choice.now) result.items ≡ queues_of table.now choice.now }
     ensures first { All (IsFirstState table.now choice.now) result.items }
 {
     let mut states = States::new();
@@ -45,14 +45,14 @@ fn add_program(table: &Table, choice: &Choice, states: &mut States, program: usi
     requires vbv { (program_at table.now program).vbv ≤ VBV_MOST }
     requires room { array_vec_len states.old + (1 + length (program_at table.now program).audios) ≤ STREAMS_MOST }
     requires first { All (IsFirstState table.now choice.now) states.old.items }
-    ensures streams { map (stream_of table.now choice.now) states.new.items
-        ≡ map (stream_of table.now choice.now) states.old.items
+    ensures queues { map (queue_of table.now choice.now) states.new.items
+        ≡ map (queue_of table.now choice.now) states.old.items
         ++ (video_of program (program_at table.now program) (drop first choice.now)
         ∷ map audio_of (program_at table.now program).audios) }
     ensures first { All (IsFirstState table.now choice.now) states.new.items }
 {
     let row = program_at(table, program);
-    let kind = Kind::Video {
+    let kind = QueueKind::Video {
         program: program as u8,
         vbv: row.vbv,
     };
@@ -61,34 +61,40 @@ fn add_program(table: &Table, choice: &Choice, states: &mut States, program: usi
         choice,
         states,
         kind,
-        Source::Units { program, first },
+        QueueItems::Units { program, first },
     );
     for audio in 0..row.audios.len() {
         add_stream(
             table,
             choice,
             states,
-            Kind::Audio,
-            Source::Packets { program, audio },
+            QueueKind::Audio,
+            QueueItems::Packets { program, audio },
         );
     }
 }
 
-fn add_stream(table: &Table, choice: &Choice, states: &mut States, kind: Kind, source: Source)
-    requires place { IsPlace table.now choice.now source }
-    requires kind { kind ≡ (stream_at table.now choice.now source).kind }
+fn add_stream(
+    table: &Table,
+    choice: &Choice,
+    states: &mut States,
+    kind: QueueKind,
+    items: QueueItems,
+)
+    requires place { IsPlace table.now choice.now items }
+    requires kind { kind ≡ (queue_at table.now choice.now items).kind }
     requires sized { IsKind kind }
     requires room { array_vec_len states.old < STREAMS_MOST }
     requires first { All (IsFirstState table.now choice.now) states.old.items }
-    ensures streams { map (stream_of table.now choice.now) states.new.items
-        ≡ map (stream_of table.now choice.now) states.old.items ++ stream_at table.now choice.now source ∷ [] }
+    ensures queues { map (queue_of table.now choice.now) states.new.items
+        ≡ map (queue_of table.now choice.now) states.old.items ++ queue_at table.now choice.now items ∷ [] }
     ensures first { All (IsFirstState table.now choice.now) states.new.items }
 {
-    states.push(StreamState::new(kind, source, source.first_packet(table, choice)));
+    states.push(QueueState::new(kind, items, items.first_packet(table, choice)));
 }
 
 /// Leaves out the packets that are gone at `start` ticks.
-pub fn release_all(table: &Table, choice: &Choice, states: &mut [StreamState], start: u64)
+pub fn release_all(table: &Table, choice: &Choice, states: &mut [QueueState], start: u64)
     requires { All (IsPlaced table.now choice.now) states.old }
     ensures { ChangesEach (ReleasesAll table.now choice.now start) states.old states.new }
 {
@@ -97,18 +103,18 @@ pub fn release_all(table: &Table, choice: &Choice, states: &mut [StreamState], s
     }
 }
 
-/// The clock of a program goes, on the PID of its video.
-pub fn take_clock(states: &mut [StreamState], program: u8)
+/// The PCR of a program goes, on the PID of its video.
+pub fn take_pcr(states: &mut [QueueState], program: u8)
     requires { All IsSmall states.old }
-    ensures { ChangesEach (TakesClock program) states.old states.new }
+    ensures { ChangesEach (TakesPcr program) states.old states.new }
 {
     for state in states.iter_mut() {
-        state.take_clock(program);
+        state.take_pcr(program);
     }
 }
 
 /// A slot passes, in which so many subticks of work are done in each buffer.
-pub fn drain_all(states: &mut [StreamState], subticks: u64)
+pub fn drain_all(states: &mut [QueueState], subticks: u64)
     ensures { ChangesEach (Drains subticks) states.old states.new }
 {
     for state in states.iter_mut() {

@@ -8,7 +8,7 @@ use crate::sent::Sent;
 use version_table::Table;
 
 /// Which slots are reserved.
-#[derive(Clone, Copy, Debug, PartialEq, Eq)]
+#[derive(Clone, Copy)]
 pub struct Timetable {
     /// Ticks of a slot.
     pub slot: u32,

@@ -11,7 +11,8 @@ use Rattle.version_table.specs.declared.table.Unit.{Unit as CodedUnit}
 use Rattle.version_table.specs.declared.table.ProgramRow.{ProgramRow}
 use Rattle.version_table.specs.declared.table.Table.{Table}
 use Rattle.version_table.specs.Table.{IsValidTable, IsValidUnit, units_of}
-use Rattle.version_table.specs.Choice.{HasVersion, Fits, AppendsEach, HasFewVersions, IsSmallestVersion, IsSmallestChoice, version_at, chosen_distortions, distortion_of_choice, level_version, level_choice}
+use Rattle.version_table.specs.Private.Choices.{AppendsEach, HasFewVersions}
+use Rattle.version_table.specs.Choice.{HasVersion, Fits, IsSmallestVersion, IsSmallestChoice, version_at, chosen_distortions, distortion_of_choice, level_version, level_choice}
 use Rattle.version_table.proofs.ValidUnits.{valid_units, few_versions}
 
 -- the numbers for some units, and those for others after them, from the numbers for all
@@ -23,10 +24,10 @@ pub record InParts (R : CodedUnit → ℕ → Type 0) (whole first others : List
 in_parts : (R : CodedUnit → ℕ → Type 0) (first others : List CodedUnit) (choice : List ℕ) → AllZip R (first ++ others) choice
     → InParts R (first ++ others) first others choice (take (length first) choice) (drop (length first) choice)
 in_parts R [] others choice fits = record { of_first = tt; of_others = fits; total = omega arith }
-in_parts R (coded ∷ first) others [] fits = absurd fits
-in_parts R (coded ∷ first) others (k ∷ choice) fits =
+in_parts R (unit ∷ first) others [] fits = absurd fits
+in_parts R (unit ∷ first) others (k ∷ choice) fits =
     let rest = in_parts R first others choice fits.1 in
-    let d = (version_at coded k).distortion in
+    let d = (version_at unit k).distortion in
     record {
       of_first = (fits.0, rest.of_first);
       of_others = rest.of_others;
@@ -35,8 +36,8 @@ in_parts R (coded ∷ first) others (k ∷ choice) fits =
 
 enough_for : (R : CodedUnit → ℕ → Type 0) (first others : List CodedUnit) (choice : List ℕ) → AllZip R (first ++ others) choice → length first ≤ length choice
 enough_for R [] others choice fits = omega arith
-enough_for R (coded ∷ first) others [] fits = absurd fits
-enough_for R (coded ∷ first) others (k ∷ choice) fits = omega (arith, enough_for R first others choice fits.1)
+enough_for R (unit ∷ first) others [] fits = absurd fits
+enough_for R (unit ∷ first) others (k ∷ choice) fits = omega (arith, enough_for R first others choice fits.1)
 
 -- the units of the programs from i on
 abbrev pub units_from : List ProgramRow → ℕ → List CodedUnit
@@ -81,11 +82,11 @@ parts_at R programs i program choice lt is fits first n front back first-is long
 chosen_small : (slot : ℕ) (units : List CodedUnit) (choice : List ℕ) → All (IsValidUnit slot) units → AllZip HasVersion units choice
     → sum (chosen_distortions units choice) ≤ length units * (DISTORTION_LIMIT - 1)
 chosen_small slot [] choice valid fits = omega arith
-chosen_small slot (coded ∷ units) [] valid fits = absurd fits
-chosen_small slot (coded ∷ units) (k ∷ choice) valid fits =
-    let rest = chosen_small slot units choice (All-tail (IsValidUnit slot) coded units valid) fits.1 in
-    let here = (All-head (IsValidUnit slot) coded units valid).versions k (record { bytes = 0; distortion = 0 }) fits.0 in
-    omega (arith, rest, here.distortion, sum_by-cons (λ x. x) (version_at coded k).distortion (chosen_distortions units choice))
+chosen_small slot (unit ∷ units) [] valid fits = absurd fits
+chosen_small slot (unit ∷ units) (k ∷ choice) valid fits =
+    let rest = chosen_small slot units choice (All-tail (IsValidUnit slot) unit units valid) fits.1 in
+    let here = (All-head (IsValidUnit slot) unit units valid).versions k (record { bytes = 0; distortion = 0 }) fits.0 in
+    omega (arith, rest, here.distortion, sum_by-cons (λ x. x) (version_at unit k).distortion (chosen_distortions units choice))
 
 -- the distortion of a choice is a number of 64 bits
 pub distortion_fits : (table : Table) (choice : List ℕ) → IsValidTable table → Fits table choice → distortion_of_choice table choice < 2 ^ 64
@@ -95,35 +96,35 @@ distortion_fits table choice valid fits =
 pub AllZip-append : (R : CodedUnit → ℕ → Type 0) (first others : List CodedUnit) (front back : List ℕ) → AllZip R first front → AllZip R others back → AllZip R (first ++ others) (front ++ back)
 AllZip-append R [] others [] back f b = b
 AllZip-append R [] others (k ∷ front) back f b = absurd f
-AllZip-append R (coded ∷ first) others [] back f b = absurd f
-AllZip-append R (coded ∷ first) others (k ∷ front) back f b = (f.0, AllZip-append R first others front back f.1 b)
+AllZip-append R (unit ∷ first) others [] back f b = absurd f
+AllZip-append R (unit ∷ first) others (k ∷ front) back f b = (f.0, AllZip-append R first others front back f.1 b)
 
-pub AllZip-weaker : (R Q : CodedUnit → ℕ → Type 0) → ((coded : CodedUnit) (k : ℕ) → R coded k → Q coded k) → (units : List CodedUnit) (choice : List ℕ) → AllZip R units choice → AllZip Q units choice
+pub AllZip-weaker : (R Q : CodedUnit → ℕ → Type 0) → ((unit : CodedUnit) (k : ℕ) → R unit k → Q unit k) → (units : List CodedUnit) (choice : List ℕ) → AllZip R units choice → AllZip Q units choice
 AllZip-weaker R Q leads [] [] h = tt
 AllZip-weaker R Q leads [] (k ∷ choice) h = absurd h
-AllZip-weaker R Q leads (coded ∷ units) [] h = absurd h
-AllZip-weaker R Q leads (coded ∷ units) (k ∷ choice) h = (leads coded k h.0, AllZip-weaker R Q leads units choice h.1)
+AllZip-weaker R Q leads (unit ∷ units) [] h = absurd h
+AllZip-weaker R Q leads (unit ∷ units) (k ∷ choice) h = (leads unit k h.0, AllZip-weaker R Q leads units choice h.1)
 
 -- the smallest versions are versions
 pub smallest_fits : (table : Table) (choice : List ℕ) → IsSmallestChoice table choice → Fits table choice
-smallest_fits table choice smallest = AllZip-weaker IsSmallestVersion HasVersion (λ coded k h. h.exists) (units_of table) choice smallest
+smallest_fits table choice smallest = AllZip-weaker IsSmallestVersion HasVersion (λ unit k h. h.exists) (units_of table) choice smallest
 
 levels_fit : (level : ℕ) (units : List CodedUnit) → All HasFewVersions units → AllZip HasVersion units (map (level_version level) units)
 levels_fit level [] each = tt
-levels_fit level (coded ∷ units) each =
-    let here = All-head HasFewVersions coded units each in
-    (omega (arith, here.0), levels_fit level units (All-tail HasFewVersions coded units each))
+levels_fit level (unit ∷ units) each =
+    let here = All-head HasFewVersions unit units each in
+    (omega (arith, here.0), levels_fit level units (All-tail HasFewVersions unit units each))
 
 pub level_fits : (table : Table) (level : ℕ) → IsValidTable table → Fits table (level_choice table level)
 level_fits table level valid = levels_fit level (units_of table) (few_versions table.slot (units_of table) (valid_units table valid))
 
 -- one more number for one more unit
-pub AppendsEach-more : (R : CodedUnit → ℕ → Type 0) (units : List CodedUnit) (i : ℕ) (coded : CodedUnit) (k : ℕ) (old new newer : List ℕ) → i < length units → coded ≡ get_or units i coded
-    → AppendsEach R (take i units) old new → R coded k → newer ≡ new ++ k ∷ [] → AppendsEach R (take (i + 1) units) old newer
-AppendsEach-more R units i coded k old new newer lt is so_far here appended = (
+pub AppendsEach-more : (R : CodedUnit → ℕ → Type 0) (units : List CodedUnit) (i : ℕ) (unit : CodedUnit) (k : ℕ) (old new newer : List ℕ) → i < length units → unit ≡ get_or units i unit
+    → AppendsEach R (take i units) old new → R unit k → newer ≡ new ++ k ∷ [] → AppendsEach R (take (i + 1) units) old newer
+AppendsEach-more R units i unit k old new newer lt is so_far here appended = (
   so_far.0 ++ k ∷ [],
   appended ∙ ap (λ (numbers : List ℕ). numbers ++ k ∷ []) so_far.1 ∙ append_assoc old so_far.0 (k ∷ []),
-  rw (take_more units i coded lt, ← is) (AllZip-append R (take i units) (coded ∷ []) so_far.0 (k ∷ []) so_far.2 (here, tt)),
+  rw (take_more units i unit lt, ← is) (AllZip-append R (take i units) (unit ∷ []) so_far.0 (k ∷ []) so_far.2 (here, tt)),
 )
 
 -- numbers for one more program
@@ -136,8 +137,8 @@ AllZip-more R programs i program units old new lt is units-is so_far added =
     (subst (λ (whole : List CodedUnit). AllZip R whole (old ++ added.0)) (ap (λ (us : List CodedUnit). front ++ us) units-is ∙ sym (units_before_more programs i program lt is)) both)
 
 -- of two numbers of a smallest version neither goes before the other
-smallest_version_is_one : (coded : CodedUnit) (j k : ℕ) → IsSmallestVersion coded j → IsSmallestVersion coded k → j ≡ k
-smallest_version_is_one coded j k a b =
+smallest_version_is_one : (unit : CodedUnit) (j k : ℕ) → IsSmallestVersion unit j → IsSmallestVersion unit k → j ≡ k
+smallest_version_is_one unit j k a b =
     elim (cases_eq j k) [
       | inl same ↦ same
       | inr other ↦
@@ -150,10 +151,10 @@ smallest_are_one : (units : List CodedUnit) (a b : List ℕ) → AllZip IsSmalle
 smallest_are_one [] [] [] f g = refl
 smallest_are_one [] (j ∷ a) b f g = absurd f
 smallest_are_one [] [] (k ∷ b) f g = absurd g
-smallest_are_one (coded ∷ units) [] b f g = absurd f
-smallest_are_one (coded ∷ units) (j ∷ a) [] f g = absurd g
-smallest_are_one (coded ∷ units) (j ∷ a) (k ∷ b) f g =
-    let head = smallest_version_is_one coded j k f.0 g.0 in
+smallest_are_one (unit ∷ units) [] b f g = absurd f
+smallest_are_one (unit ∷ units) (j ∷ a) [] f g = absurd g
+smallest_are_one (unit ∷ units) (j ∷ a) (k ∷ b) f g =
+    let head = smallest_version_is_one unit j k f.0 g.0 in
     let tail = smallest_are_one units a b f.1 g.1 in
     cc
 
@@ -162,10 +163,10 @@ smallest_is_one table a b = smallest_are_one (units_of table) a b
 
 last_levels : (level : ℕ) (units : List CodedUnit) → VERSIONS_MOST - 1 ≤ level → All HasFewVersions units → map (level_version level) units ≡ map (level_version (VERSIONS_MOST - 1)) units
 last_levels level [] high each = refl
-last_levels level (coded ∷ units) high each =
-    let here = All-head HasFewVersions coded units each in
-    let head : level_version level coded ≡ level_version (VERSIONS_MOST - 1) coded = omega (arith, here.1) in
-    let tail = last_levels level units high (All-tail HasFewVersions coded units each) in
+last_levels level (unit ∷ units) high each =
+    let here = All-head HasFewVersions unit units each in
+    let head : level_version level unit ≡ level_version (VERSIONS_MOST - 1) unit = omega (arith, here.1) in
+    let tail = last_levels level units high (All-tail HasFewVersions unit units each) in
     cc
 
 -- no unit of a valid table has more versions

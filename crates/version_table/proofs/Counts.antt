@@ -1,17 +1,16 @@
 -- Counts of lines, the last of some lines, and the audio streams of the last program.
-use Rattle.std.proofs.Common.{◌≡◌, ℕ, zero, suc, ◌+◌, ◌-◌, ◌<◌, ◌≤◌, Bool, true, false, not, cond, List, [], ◌∷◌, ◌++◌, length, map, reverse, count_by, Option, Some, None, refl, sym, ap, ◌∙◌, append_assoc, arith}
+use Rattle.std.proofs.Common.{◌≡◌, ℕ, suc, ◌+◌, ◌-◌, Bool, true, false, not, cond, List, [], ◌∷◌, ◌++◌, length, map, reverse, count_by, Some, None, refl, sym, ap, ◌∙◌, append_assoc, arith}
 use Rattle.std.specs.Prelude.{slice_get}
 use Rattle.std.specs.List.{flat_map, take_while}
 use Rattle.std.proofs.lemmas.List.{append-nil, reverse-append}
 use Rattle.std.proofs.lemmas.List.Sums.{sum_by-cons, sum_by-append, sum_by_push, take_while-cons}
 use Rattle.version_table.specs.declared.line.Line.{Line}
-use Rattle.version_table.specs.declared.line.Line.TheVariants.{Title, Slot, Nodes, Evaluations, Program, Coded, Audio, Packet}
-use Rattle.version_table.specs.declared.table.Unit.{Unit as CodedUnit}
+use Rattle.version_table.specs.declared.line.Line.TheVariants.{Program, Audio}
 use Rattle.version_table.specs.declared.table.AudioPacket.{AudioPacket}
 use Rattle.version_table.specs.declared.table.ProgramRow.{ProgramRow}
 use Rattle.version_table.specs.Lines.{line_of_unit, line_of_packet, lines_of_audio, lines_of_program}
 use Rattle.version_table.specs.Order.{last_line}
-use Rattle.version_table.specs.Limits.{is_program, is_unit, is_audio, is_packet, audios_here}
+use Rattle.version_table.specs.Limits.{is_program, is_audio, audios_here}
 
 -- ---- the last line
 

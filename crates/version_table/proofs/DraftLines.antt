@@ -1,19 +1,19 @@
 -- What the limits ask of a draft's lines, in terms of the draft.
-use Rattle.std.proofs.Common.{◌≡◌, ℕ, ◌+◌, ◌-◌, Bool, true, nat_lt, List, [], ◌∷◌, ◌++◌, length, map, count_by, Option, Some, None, refl, sym, ap, ◌∙◌, append_assoc, arith}
+use Rattle.std.proofs.Common.{◌≡◌, ℕ, ◌+◌, ◌-◌, true, nat_lt, List, [], ◌∷◌, ◌++◌, length, map, count_by, Option, Some, None, refl, ap, ◌∙◌, append_assoc, arith}
 use Rattle.std.specs.Prelude.{slice_get}
 use Rattle.std.specs.List.{flat_map}
 use Rattle.std.proofs.lemmas.List.{append-nil, map-append}
 use Rattle.version_table.specs.declared.draft.Draft.{Draft}
 use Rattle.version_table.specs.declared.line.Line.{Line}
-use Rattle.version_table.specs.declared.line.Line.TheVariants.{Title, Slot, Nodes, Evaluations, Program, Coded, Audio, Packet}
+use Rattle.version_table.specs.declared.line.Line.TheVariants.{Program, Audio}
 use Rattle.version_table.specs.declared.line.Stage.{Stage}
 use Rattle.version_table.specs.declared.line.Stage.TheVariants as stages
 use Rattle.version_table.specs.declared.table.Unit.{Unit as CodedUnit}
 use Rattle.version_table.specs.declared.table.AudioPacket.{AudioPacket}
 use Rattle.version_table.specs.Lines.{line_of_unit, line_of_packet, lines_of_audio, lines_of_program}
 use Rattle.version_table.specs.Order.{last_line}
-use Rattle.version_table.specs.Limits.{is_program, is_audio, audios_here, slot_of, rises, packet_due, packet_gone}
-use Rattle.version_table.specs.Draft.{Allows, head_of, open_program, lines_of_draft, IsTidy, IsDraft}
+use Rattle.version_table.specs.Limits.{is_program, is_audio, audios_here, slot_of, rises}
+use Rattle.version_table.specs.Private.Draft.{Allows, head_of, open_program, lines_of_draft, IsTidy, IsDraft}
 use Rattle.version_table.proofs.Counts.{last_line-append, last_line_push, last_parts, last_none, count-append, count-cons, count_none, programs_in_audios, programs_in_programs, audios_in_audios, audios_here_program}
 
 pub slot_of_units : (draft : Draft) → slot_of (lines_of_draft stages.Units draft) ≡ draft.slot
@@ -40,9 +40,9 @@ last_of_map {X} f line xs x e =
     let (front, is) = last_parts xs x e in
     ap (λ (ys : List X). last_line (line ∷ map f ys)) is ∙ ap (λ (ls : List Line). last_line (line ∷ ls)) (map-append f front (x ∷ [])) ∙ last_line_push (line ∷ map f front) (f x)
 
-pub rises_some : (draft : Draft) (coded : CodedUnit) (due : ℕ) → draft.audios ≡ [] → slice_get draft.units (length draft.units - 1) ≡ Some coded
-    → rises (last_line (lines_of_draft stages.Units draft)) due ≡ nat_lt coded.due due
-rises_some draft coded due no_audios last = ap (λ (line : Option Line). rises line due) (last_unit_line draft no_audios ∙ last_of_map line_of_unit (Program draft.vbv) draft.units coded last)
+pub rises_some : (draft : Draft) (unit : CodedUnit) (due : ℕ) → draft.audios ≡ [] → slice_get draft.units (length draft.units - 1) ≡ Some unit
+    → rises (last_line (lines_of_draft stages.Units draft)) due ≡ nat_lt unit.due due
+rises_some draft unit due no_audios last = ap (λ (line : Option Line). rises line due) (last_unit_line draft no_audios ∙ last_of_map line_of_unit (Program draft.vbv) draft.units unit last)
 
 pub rises_none : (draft : Draft) (due : ℕ) → draft.audios ≡ [] → slice_get draft.units (length draft.units - 1) ≡ None
     → rises (last_line (lines_of_draft stages.Units draft)) due ≡ true

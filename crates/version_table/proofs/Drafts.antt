@@ -7,7 +7,7 @@ use Rattle.std.proofs.lemmas.List.Concat.{flat_map-append}
 use Rattle.std.proofs.lemmas.List.Sums.{sum_by_push}
 use Rattle.version_table.specs.declared.draft.Draft.{Draft}
 use Rattle.version_table.specs.declared.line.Line.{Line}
-use Rattle.version_table.specs.declared.line.Line.TheVariants.{Title, Slot, Nodes, Evaluations, Program, Coded, Audio, Packet}
+use Rattle.version_table.specs.declared.line.Line.TheVariants.{Title, Slot, Nodes, Evaluations, Program, Unit as UnitLine, Audio, Packet}
 use Rattle.version_table.specs.declared.line.Stage.{Stage}
 use Rattle.version_table.specs.declared.line.Stage.TheVariants as stages
 use Rattle.version_table.specs.declared.line.StatedVersion.{StatedVersion}
@@ -16,7 +16,7 @@ use Rattle.version_table.specs.declared.table.AudioPacket.{AudioPacket}
 use Rattle.version_table.specs.declared.table.ProgramRow.{ProgramRow}
 use Rattle.version_table.specs.Lines.{stated, line_of_unit, line_of_packet, lines_of_audio, lines_of_program, lines_of_table}
 use Rattle.version_table.specs.Limits.{is_unit, is_packet}
-use Rattle.version_table.specs.Draft.{Allows, stage_after, head_of, open_program, lines_of_draft, IsTidy, IsDraft, AddsLine, with_audio_closed, with_program_closed, kept, with_unit, with_packet}
+use Rattle.version_table.specs.Private.Draft.{Allows, stage_after, head_of, open_program, lines_of_draft, IsTidy, IsDraft, AddsLine, with_audio_closed, with_program_closed, kept, with_unit, with_packet}
 
 -- the counts of a line more
 adds_line : (stage : Stage) (old : Draft) (line : Line) (new : Draft) → IsDraft stage old → IsTidy (stage_after line) new
@@ -112,22 +112,22 @@ pub stated_kept : (versions : List StatedVersion) → map stated (map kept versi
 stated_kept [] = refl
 stated_kept (version ∷ versions) = ap (λ (rest : List StatedVersion). version ∷ rest) (stated_kept versions)
 
-pub adds_unit : (draft : Draft) (stage : Stage) (due : ℕ) (versions : ArrayVec StatedVersion) → Allows stage (Coded due versions) → IsDraft stage draft → AddsLine stage draft (Coded due versions) (with_unit draft due versions.items)
+pub adds_unit : (draft : Draft) (stage : Stage) (due : ℕ) (versions : ArrayVec StatedVersion) → Allows stage (UnitLine due versions) → IsDraft stage draft → AddsLine stage draft (UnitLine due versions) (with_unit draft due versions.items)
 unfolding IsTidy lines_of_draft
 adds_unit draft stages.Units due versions allows was =
-    let coded : CodedUnit = record { due = due; versions = record { items = map kept versions.items } } in
-    let same : line_of_unit coded ≡ Coded due versions = ap (λ (items : List StatedVersion). Coded due (record { items = items })) (stated_kept versions.items) in
-    let more : map line_of_unit (draft.units ++ coded ∷ []) ≡ map line_of_unit draft.units ++ Coded due versions ∷ [] = map_push line_of_unit draft.units coded ∙ ap (λ (l : Line). map line_of_unit draft.units ++ l ∷ []) same in
+    let unit : CodedUnit = record { due = due; versions = record { items = map kept versions.items } } in
+    let same : line_of_unit unit ≡ UnitLine due versions = ap (λ (items : List StatedVersion). UnitLine due (record { items = items })) (stated_kept versions.items) in
+    let more : map line_of_unit (draft.units ++ unit ∷ []) ≡ map line_of_unit draft.units ++ UnitLine due versions ∷ [] = map_push line_of_unit draft.units unit ∙ ap (λ (l : Line). map line_of_unit draft.units ++ l ∷ []) same in
     let units = map line_of_unit draft.units in
     let behind = λ (audios : List (List AudioPacket)). flat_map lines_of_audio audios in
-    let open_now : open_program (with_unit draft due versions.items) ≡ open_program draft ++ Coded due versions ∷ [] =
-    ap (λ (audios : List (List AudioPacket)). Program draft.vbv ∷ map line_of_unit (draft.units ++ coded ∷ []) ++ behind audios) was.tidy.0
-    ∙ append-nil (Program draft.vbv ∷ map line_of_unit (draft.units ++ coded ∷ []))
+    let open_now : open_program (with_unit draft due versions.items) ≡ open_program draft ++ UnitLine due versions ∷ [] =
+    ap (λ (audios : List (List AudioPacket)). Program draft.vbv ∷ map line_of_unit (draft.units ++ unit ∷ []) ++ behind audios) was.tidy.0
+    ∙ append-nil (Program draft.vbv ∷ map line_of_unit (draft.units ++ unit ∷ []))
     ∙ ap (λ (lines : List Line). Program draft.vbv ∷ lines) more
-    ∙ sym (ap (λ (audios : List (List AudioPacket)). (Program draft.vbv ∷ units ++ behind audios) ++ Coded due versions ∷ []) was.tidy.0 ∙ ap (λ (lines : List Line). lines ++ Coded due versions ∷ []) (append-nil (Program draft.vbv ∷ units))) in
+    ∙ sym (ap (λ (audios : List (List AudioPacket)). (Program draft.vbv ∷ units ++ behind audios) ++ UnitLine due versions ∷ []) was.tidy.0 ∙ ap (λ (lines : List Line). lines ++ UnitLine due versions ∷ []) (append-nil (Program draft.vbv ∷ units))) in
     let front = head_of draft ++ flat_map lines_of_program draft.programs in
-    adds_line stages.Units draft (Coded due versions) (with_unit draft due versions.items) was was.tidy
-    (ap (λ (lines : List Line). front ++ lines) open_now ∙ sym (append_assoc front (open_program draft) (Coded due versions ∷ []))) refl (omega arith)
+    adds_line stages.Units draft (UnitLine due versions) (with_unit draft due versions.items) was was.tidy
+    (ap (λ (lines : List Line). front ++ lines) open_now ∙ sym (append_assoc front (open_program draft) (UnitLine due versions ∷ []))) refl (omega arith)
 adds_unit draft stage due versions allows was = absurd allows
 
 -- ---- audio streams and packets

@@ -4,18 +4,17 @@ use Rattle.std.proofs.lemmas.Bool.{cases_lt}
 use Rattle.std.proofs.lemmas.List.{append-nil, length-append}
 use Rattle.std.proofs.lemmas.List.Concat.{flat_map-append}
 use Rattle.version_table.specs.declared.limits.TheConstants.{TABLE_TEXT_MOST}
-use Rattle.version_table.specs.declared.fault.Limit.{Limit}
 use Rattle.version_table.specs.declared.fault.Limit.TheVariants as limits
 use Rattle.version_table.specs.declared.line.Line.{Line}
-use Rattle.version_table.specs.declared.line.Line.TheVariants.{Title, Slot, Nodes, Evaluations, Program, Coded, Audio, Packet}
+use Rattle.version_table.specs.declared.line.Line.TheVariants.{Title, Slot, Nodes, Evaluations, Program, Unit as UnitLine, Audio, Packet}
 use Rattle.version_table.specs.declared.line.Stage.{Stage}
 use Rattle.version_table.specs.declared.line.Stage.TheVariants as stages
-use Rattle.version_table.specs.Lines.{text_of_line, lines_of_table}
+use Rattle.version_table.specs.Lines.{text_of_line}
 use Rattle.version_table.specs.Order.{MayStand, IsOpening, IsForm}
-use Rattle.version_table.specs.Limits.{KeepLimits, BreakFirst}
-use Rattle.version_table.specs.Text.{text_of_lines, spelling, IsTextTable, IsSyntaxRefusal, IsLimitRefusal, Reading, Holds, RefusedAt, RefusedFor, IsRead}
-use Rattle.version_table.specs.Reading.{line_at}
-use Rattle.version_table.specs.Draft.{stage_after, Allows, is_whole}
+use Rattle.version_table.specs.Limits.{KeepLimits}
+use Rattle.version_table.specs.Text.{text_of_lines, IsSyntaxRefusal, TextReading, Holds, RefusedAt, RefusedFor, IsRead}
+use Rattle.version_table.specs.Private.Reading.{line_at}
+use Rattle.version_table.specs.Private.Draft.{stage_after, Allows, is_whole}
 use Rattle.version_table.proofs.Openings.{stage_of, stage_of_push, opening_walk, opening_push, no_lines_open, no_lines_kept, Stuck}
 use Rattle.version_table.proofs.Breaks.{kept_or_broken}
 use Rattle.version_table.proofs.LinesTable.{kept_table}
@@ -33,7 +32,7 @@ whole_next stages.Evaluations line whole allows = absurd cc
 whole_next stages.Programs (Program vbv) whole allows = refl
 whole_next stages.Units (Program vbv) whole allows = refl
 whole_next stages.Packets (Program vbv) whole allows = refl
-whole_next stages.Units (Coded due versions) whole allows = refl
+whole_next stages.Units (UnitLine due versions) whole allows = refl
 whole_next stages.Units Audio whole allows = refl
 whole_next stages.Packets Audio whole allows = refl
 whole_next stages.Packets (Packet due gone bytes) whole allows = refl
@@ -119,7 +118,7 @@ pub syntax_at : (text : List ℕ) (lines : List Line) (rest : List ℕ) → text
 syntax_at text lines rest parts opening stuck owed = record { before = lines; rest = rest; parts = parts; opening = opening; number = refl; no_line = λ line more may e. stuck line more may e; owed = owed }
 
 -- lines that have the form of a text are those of a table, or break a limit
-form_reading : (text : List ℕ) (lines : List Line) → length text ≤ TABLE_TEXT_MOST → text ≡ text_of_lines lines → IsForm lines → (reading : Reading) × IsRead text reading
+form_reading : (text : List ℕ) (lines : List Line) → length text ≤ TABLE_TEXT_MOST → text ≡ text_of_lines lines → IsForm lines → (reading : TextReading) × IsRead text reading
 form_reading text lines short parts form =
     elim (kept_or_broken [] lines no_lines_kept) [
       | inl kept ↦
@@ -129,7 +128,7 @@ form_reading text lines short parts form =
       | inr broken ↦ (RefusedFor broken.0, inr (short, record { lines = lines; spelled = parts; form = form; first = broken.1 }))
     ]
 
-out_reading : (text : List ℕ) → length text ≤ TABLE_TEXT_MOST → (lines : List Line) (rest : List ℕ) → text ≡ text_of_lines lines ++ rest → IsOpening lines → Stuck lines rest → (reading : Reading) × IsRead text reading
+out_reading : (text : List ℕ) → length text ≤ TABLE_TEXT_MOST → (lines : List Line) (rest : List ℕ) → text ≡ text_of_lines lines ++ rest → IsOpening lines → Stuck lines rest → (reading : TextReading) × IsRead text reading
 out_reading text short lines (c ∷ rest) parts opening stuck = (RefusedAt (length lines + 1), (short, syntax_at text lines (c ∷ rest) parts opening stuck (λ form none. absurd cc)))
 out_reading text short lines [] parts opening stuck =
     elim (cases_lt (length lines) 4) [
@@ -137,7 +136,7 @@ out_reading text short lines [] parts opening stuck =
       | inr four ↦ form_reading text lines short (parts ∙ append-nil (text_of_lines lines)) (opening, four)
     ]
 
-pub some_reading : (text : List ℕ) → (reading : Reading) × IsRead text reading
+pub some_reading : (text : List ℕ) → (reading : TextReading) × IsRead text reading
 some_reading text =
     elim (cases_lt TABLE_TEXT_MOST (length text)) [
       | inl long ↦ (RefusedFor limits.Bytes, inl (long, refl))

@@ -2,7 +2,7 @@
 use Rattle.std.proofs.Common.{◌≡◌, [], ◌∷◌, Some, None, codes, refl}
 use Rattle.std.specs.Fmt.{digits}
 use Rattle.version_table.specs.declared.fault.Limit.TheVariants as limits
-use Rattle.version_table.specs.declared.line.Line.TheVariants.{Title, Slot, Nodes, Evaluations, Program, Coded, Audio, Packet}
+use Rattle.version_table.specs.declared.line.Line.TheVariants.{Title, Slot, Nodes, Evaluations, Program, Unit as UnitLine, Audio, Packet}
 use Rattle.version_table.specs.declared.table.Table.{Table}
 use Rattle.version_table.specs.Lines.{text_of_line}
 use Rattle.version_table.specs.Limits.{first_limit, tests_of}
@@ -44,6 +44,6 @@ unfolding tests_of
 early_packet = refl
 
 -- equal due times of units
-equal_dues : first_limit (Title ∷ Slot 4000 ∷ Nodes 1 ∷ Evaluations 0 ∷ Program 112 ∷ Coded 10 (record { items = record { bytes = 1; distortion = 0 } ∷ [] }) ∷ []) (Coded 10 (record { items = record { bytes = 1; distortion = 0 } ∷ [] })) ≡ Some limits.Due
+equal_dues : first_limit (Title ∷ Slot 4000 ∷ Nodes 1 ∷ Evaluations 0 ∷ Program 112 ∷ UnitLine 10 (record { items = record { bytes = 1; distortion = 0 } ∷ [] }) ∷ []) (UnitLine 10 (record { items = record { bytes = 1; distortion = 0 } ∷ [] })) ≡ Some limits.Due
 unfolding tests_of
 equal_dues = refl

@@ -1,13 +1,15 @@
 -- What a line that breaks no limit keeps, as facts on its numbers.
-use Rattle.std.proofs.Common.{◌≡◌, ℕ, ◌<◌, ◌≤◌, Bool, true, false, cond, ◌&&◌, nat_lt, nat_le, List, [], ◌∷◌, ◌++◌, count_by, All, Option, Some, None, refl, sym, ap, ◌∙◌, arith, inl, inr}
+use Rattle.std.proofs.Common.{◌≡◌, ℕ, ◌<◌, ◌≤◌, Bool, true, false, ◌&&◌, nat_lt, nat_le, List, [], ◌∷◌, count_by, All, None, refl}
 use Rattle.std.specs.List.{flat_map}
-use Rattle.std.proofs.lemmas.Bool.{and_parts, and_from, leb-true, le-leb, ltb-true, lt-ltb, cases_Bool}
+use Rattle.std.proofs.lemmas.Bool.{and_parts, and_from, leb-true, le-leb, ltb-true, lt-ltb}
 use Rattle.std.proofs.lemmas.List.Elements.{All-nil, All-cons, All-head, All-tail}
-use Rattle.version_table.specs.declared.limits.TheConstants.{SLOT_LEAST, SLOT_MOST, NODES_MOST, EVALUATIONS_MOST, PROGRAMS_MOST, AUDIOS_MOST, UNITS_MOST, VBV_MOST, VERSION_BYTES_MOST, DISTORTION_LIMIT, PAYLOAD_MOST, TEXT_AUDIO_PACKETS_MOST}
+use Rattle.version_table.specs.declared.limits.TheConstants.{SLOT_LEAST, SLOT_MOST, NODES_MOST, EVALUATIONS_MOST, PROGRAMS_MOST, AUDIOS_MOST, UNITS_MOST, VERSION_BYTES_MOST, DISTORTION_LIMIT, TEXT_AUDIO_PACKETS_MOST}
+use Rattle.stream_constants.specs.declared.packets.TheConstants.{PAYLOAD_BYTES}
+use Rattle.stream_constants.specs.declared.main_level.TheConstants.{VBV_MOST}
 use Rattle.version_table.specs.declared.fault.Limit.{Limit}
 use Rattle.version_table.specs.declared.fault.Limit.TheVariants as limits
 use Rattle.version_table.specs.declared.line.Line.{Line}
-use Rattle.version_table.specs.declared.line.Line.TheVariants.{Title, Slot, Nodes, Evaluations, Program, Coded, Audio, Packet}
+use Rattle.version_table.specs.declared.line.Line.TheVariants.{Title, Slot, Nodes, Evaluations, Program, Unit as UnitLine, Audio, Packet}
 use Rattle.version_table.specs.declared.line.StatedVersion.{StatedVersion}
 use Rattle.version_table.specs.Order.{last_line}
 use Rattle.version_table.specs.Limits.{Test, test, version_tests, tests_of, first_failing, first_limit, is_program, is_unit, is_packet, is_within, audios_here, time_most, rises, packet_due, packet_gone}
@@ -37,7 +39,7 @@ pub record KeepsPacket (before : List Line) (due gone bytes : ℕ) : Type 0 wher
   pub gone_most : gone ≤ time_most before
   pub gones : packet_gone (last_line before) ≤ gone
   pub some : 1 ≤ bytes
-  pub bytes_most : bytes ≤ PAYLOAD_MOST
+  pub bytes_most : bytes ≤ PAYLOAD_BYTES
 
 -- a line behind others keeps all limits
 abbrev pub Keeps : List Line → Line → Type 0
@@ -46,7 +48,7 @@ Keeps before (Slot ticks) = (SLOT_LEAST ≤ ticks) × (ticks ≤ SLOT_MOST)
 Keeps before (Nodes n) = (1 ≤ n) × (n ≤ NODES_MOST)
 Keeps before (Evaluations n) = n ≤ EVALUATIONS_MOST
 Keeps before (Program vbv) = KeepsProgram before vbv
-Keeps before (Coded due versions) = KeepsUnit before due versions.items
+Keeps before (UnitLine due versions) = KeepsUnit before due versions.items
 Keeps before Audio = audios_here before < AUDIOS_MOST
 Keeps before (Packet due gone bytes) = KeepsPacket before due gone bytes
 
@@ -83,7 +85,7 @@ keeps_from before (Program vbv) h =
     let (programs, more) = first_kept limits.Programs (nat_lt (count_by is_program before) PROGRAMS_MOST) second h in
     let (some, most) = within 1 VBV_MOST vbv (first_kept limits.Vbv (is_within 1 VBV_MOST vbv) [] more).0 in
     record { programs = ltb-true (count_by is_program before) PROGRAMS_MOST programs; some = some; vbv_most = most }
-keeps_from before (Coded due versions) h =
+keeps_from before (UnitLine due versions) h =
     let others = flat_map version_tests versions.items in
     let due_test = nat_le due (time_most before) && rises (last_line before) due in
     let (units, more) = first_kept limits.Units (nat_lt (count_by is_unit before) UNITS_MOST) (test limits.Due due_test ∷ others) h in
@@ -94,7 +96,7 @@ keeps_from before Audio h = ltb-true (audios_here before) AUDIOS_MOST (first_kep
 keeps_from before (Packet due gone bytes) h =
     let due_test = is_within (packet_due (last_line before)) (time_most before) due in
     let gone_test = is_within due (time_most before) gone && nat_le (packet_gone (last_line before)) gone in
-    let fourth = test limits.Bytes (is_within 1 PAYLOAD_MOST bytes) ∷ [] in
+    let fourth = test limits.Bytes (is_within 1 PAYLOAD_BYTES bytes) ∷ [] in
     let third = test limits.Gone gone_test ∷ fourth in
     let second = test limits.Due due_test ∷ third in
     let (packets, more) = first_kept limits.Packets (nat_lt (count_by is_packet before) TEXT_AUDIO_PACKETS_MOST) second h in
@@ -103,7 +105,7 @@ keeps_from before (Packet due gone bytes) h =
     let (dues, due_most) = within (packet_due (last_line before)) (time_most before) due due_kept in
     let (gone_range, gone_order) = and_parts (is_within due (time_most before) gone) (nat_le (packet_gone (last_line before)) gone) gone_kept in
     let (gone_least, gone_most) = within due (time_most before) gone gone_range in
-    let (some, bytes_most) = within 1 PAYLOAD_MOST bytes (first_kept limits.Bytes (is_within 1 PAYLOAD_MOST bytes) [] more3).0 in
+    let (some, bytes_most) = within 1 PAYLOAD_BYTES bytes (first_kept limits.Bytes (is_within 1 PAYLOAD_BYTES bytes) [] more3).0 in
     record {
       packets = ltb-true (count_by is_packet before) TEXT_AUDIO_PACKETS_MOST packets;
       dues = dues;
@@ -130,7 +132,7 @@ keeps_to before (Slot ticks) h = rw (is_within-true SLOT_LEAST SLOT_MOST ticks h
 keeps_to before (Nodes n) h = rw (is_within-true 1 NODES_MOST n h.0 h.1) refl
 keeps_to before (Evaluations n) h = rw (le-leb n EVALUATIONS_MOST h) refl
 keeps_to before (Program vbv) h = rw (lt-ltb (count_by is_program before) PROGRAMS_MOST h.programs, is_within-true 1 VBV_MOST vbv h.some h.vbv_most) refl
-keeps_to before (Coded due versions) h =
+keeps_to before (UnitLine due versions) h =
     rw (lt-ltb (count_by is_unit before) UNITS_MOST h.units, and_from (nat_le due (time_most before)) (rises (last_line before) due) (le-leb due (time_most before) h.time) h.rising)
     (versions_pass versions.items h.each)
 keeps_to before Audio h = rw (lt-ltb (audios_here before) AUDIOS_MOST h) refl
@@ -139,5 +141,5 @@ keeps_to before (Packet due gone bytes) h =
       lt-ltb (count_by is_packet before) TEXT_AUDIO_PACKETS_MOST h.packets,
       is_within-true (packet_due (last_line before)) (time_most before) due h.dues h.due_most,
       and_from (is_within due (time_most before) gone) (nat_le (packet_gone (last_line before)) gone) (is_within-true due (time_most before) gone h.gone_least h.gone_most) (le-leb (packet_gone (last_line before)) gone h.gones),
-      is_within-true 1 PAYLOAD_MOST bytes h.some h.bytes_most,
+      is_within-true 1 PAYLOAD_BYTES bytes h.some h.bytes_most,
     ) refl

@@ -30,39 +30,39 @@ least-le (n ∷ numbers) zero lt = fold-min-le-start n numbers
 least-le (n ∷ numbers) (suc k) lt = fold-min-le n numbers k (omega arith)
 
 -- the least distortion of a unit is at most that of each version
-pub least_distortion-le : (coded : CodedUnit) (k : ℕ) → HasVersion coded k → least_distortion coded ≤ (version_at coded k).distortion
-least_distortion-le coded k has =
-    let versions = coded.versions.items in
-    let at : get_or (map (λ (version : Version). version.distortion) versions) k 0 ≡ (version_at coded k).distortion = get_or-map (λ (version : Version). version.distortion) versions k (record { bytes = 0; distortion = 0 }) 0 has in
+pub least_distortion-le : (unit : CodedUnit) (k : ℕ) → HasVersion unit k → least_distortion unit ≤ (version_at unit k).distortion
+least_distortion-le unit k has =
+    let versions = unit.versions.items in
+    let at : get_or (map (λ (version : Version). version.distortion) versions) k 0 ≡ (version_at unit k).distortion = get_or-map (λ (version : Version). version.distortion) versions k (record { bytes = 0; distortion = 0 }) 0 has in
     omega (arith, at, least-le (map (λ (version : Version). version.distortion) versions) k (omega (arith, length-map versions (λ (version : Version). version.distortion))))
 
 least-le-chosen : (units : List CodedUnit) (choice : List ℕ) → AllZip HasVersion units choice → sum (map least_distortion units) ≤ sum (chosen_distortions units choice)
 least-le-chosen [] [] fits = omega arith
 least-le-chosen [] (k ∷ choice) fits = absurd fits
-least-le-chosen (coded ∷ units) [] fits = absurd fits
-least-le-chosen (coded ∷ units) (k ∷ choice) fits =
+least-le-chosen (unit ∷ units) [] fits = absurd fits
+least-le-chosen (unit ∷ units) (k ∷ choice) fits =
     omega (
       arith,
-      least_distortion-le coded k fits.0,
+      least_distortion-le unit k fits.0,
       least-le-chosen units choice fits.1,
-      sum_by-cons (λ x. x) (least_distortion coded) (map least_distortion units),
-      sum_by-cons (λ x. x) (version_at coded k).distortion (chosen_distortions units choice),
+      sum_by-cons (λ x. x) (least_distortion unit) (map least_distortion units),
+      sum_by-cons (λ x. x) (version_at unit k).distortion (chosen_distortions units choice),
     )
 
 -- no choice that fits costs less
 pub least_distortions-le : (table : Table) (choice : List ℕ) → Fits table choice → least_distortions table ≤ distortion_of_choice table choice
 least_distortions-le table choice fits = least-le-chosen (units_of table) choice fits
 
-small_least : (slot : ℕ) (coded : CodedUnit) → IsValidUnit slot coded → least_distortion coded ≤ DISTORTION_LIMIT - 1
-small_least slot coded valid =
+small_least : (slot : ℕ) (unit : CodedUnit) → IsValidUnit slot unit → least_distortion unit ≤ DISTORTION_LIMIT - 1
+small_least slot unit valid =
     let first = valid.versions 0 (record { bytes = 0; distortion = 0 }) (omega (arith, valid.some_version)) in
-    omega (arith, first.distortion, least_distortion-le coded 0 (omega (arith, valid.some_version)))
+    omega (arith, first.distortion, least_distortion-le unit 0 (omega (arith, valid.some_version)))
 
 -- the least distortions together are a number of 64 bits
 pub least_distortions_fit : (table : Table) → IsValidTable table → least_distortions table < 2 ^ 64
 least_distortions_fit table valid =
     let units = units_of table in
-    let each = All-weaker (IsValidUnit table.slot) (λ coded. least_distortion coded ≤ DISTORTION_LIMIT - 1) (small_least table.slot) units (valid_units table valid) in
+    let each = All-weaker (IsValidUnit table.slot) (λ unit. least_distortion unit ≤ DISTORTION_LIMIT - 1) (small_least table.slot) units (valid_units table valid) in
     omega (arith, sum-map least_distortion units, sum_by-le least_distortion (DISTORTION_LIMIT - 1) units each, valid.units)
 
 -- one program's share of what is still to come

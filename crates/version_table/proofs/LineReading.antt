@@ -1,28 +1,21 @@
 -- A line that may stand at a place is read there, and nothing else is.
-use Rattle.std.proofs.Common.{◌≡◌, ℕ, zero, suc, ◌+◌, ◌-◌, ◌^◌, ◌<◌, ◌≤◌, ◌&&◌, ◌==◌, ◌⊎◌, nat_lt, true, false, List, [], ◌∷◌, ◌++◌, length, get_or, take, drop, codes, All, Option, Some, None, decimal, refl, sym, ap, subst, ◌∙◌, append_assoc, arith, inl, inr, lit≤, lt-ltb, le-ltb, eq-eqb, ne_eqb, drop_at, take-append-drop, get_or-take}
-use Rattle.std.specs.Char.{digit_value}
+use Rattle.std.proofs.Common.{◌≡◌, ℕ, zero, suc, ◌-◌, ◌^◌, ◌<◌, ◌≤◌, ◌&&◌, ◌==◌, ◌⊎◌, nat_lt, false, List, [], ◌∷◌, ◌++◌, length, get_or, take, drop, codes, All, Option, Some, None, decimal, refl, sym, ap, subst, ◌∙◌, append_assoc, arith, inl, inr, lit≤, lt-ltb, le-ltb, eq-eqb, ne_eqb, drop_at, take-append-drop, get_or-take}
 use Rattle.std.specs.List.{flat_map}
-use Rattle.std.specs.Option.{option_or, option_map_or}
+use Rattle.std.specs.Option.{option_map_or}
 use Rattle.std.specs.Str.Parse.{digits_value}
 use Rattle.std.specs.Net.Reader.{read_number}
-use Rattle.std.proofs.lemmas.Bool.{cases_lt, and_left, and_right, and_from, both_ways, eqb-false}
-use Rattle.std.proofs.lemmas.List.{get_or_append_left, append-nil}
+use Rattle.std.proofs.lemmas.Bool.{cases_lt, and_left, and_right, and_from, both_ways}
+use Rattle.std.proofs.lemmas.List.{get_or_append_left}
 use Rattle.std.proofs.lemmas.List.Elements.{All-nil, All-cons, All-head, All-tail}
 use Rattle.std.proofs.lemmas.List.Concat.{flat_map-cons}
 use Rattle.std.proofs.lemmas.Fmt.{decimal_is_IsNumeral, decimal_digit, first_decimal, decimal-digits_value}
 use Rattle.std.proofs.lemmas.Str.Parse.{numerals_by_value, tells_digits}
 use Rattle.std.proofs.NetLemmas.Numbers.{NoDigit, read_number_some, read_number_sound}
-use Rattle.std.proofs.NetLemmas.Options.{cond_none, and_then_some, map_some, same_parts}
-use Rattle.version_table.specs.declared.limits.TheConstants.{VERSIONS_MOST}
-use Rattle.version_table.specs.declared.line.Line.{Line}
-use Rattle.version_table.specs.declared.line.Line.TheVariants.{Title, Slot, Nodes, Evaluations, Program, Coded, Audio, Packet}
-use Rattle.version_table.specs.declared.line.Stage.{Stage}
-use Rattle.version_table.specs.declared.line.Stage.TheVariants as stages
+use Rattle.std.proofs.NetLemmas.Options.{cond_none, and_then_some, same_parts}
 use Rattle.version_table.specs.declared.line.StatedVersion.{StatedVersion}
-use Rattle.version_table.specs.Lines.{line_end, text_of_version, text_of_line}
-use Rattle.version_table.specs.Order.{IsStated, IsStatedVersion, HasSyntax}
-use Rattle.version_table.specs.Reading.{◌>>=◌, after, number_at, number_line, version_at, versions_at, unit_at, packet_at, program_at, stream_at, line_at}
-use Rattle.version_table.specs.Draft.{Allows}
+use Rattle.version_table.specs.Lines.{line_end, text_of_version}
+use Rattle.version_table.specs.Order.{IsStated, IsStatedVersion}
+use Rattle.version_table.specs.Private.Reading.{◌>>=◌, after, number_at, number_line, version_at, versions_at}
 use Rattle.version_table.proofs.Words.{after-append, after_sound}
 
 -- ---- numbers

@@ -1,5 +1,5 @@
 -- Each line is read from its text where it may stand, and what is read is such a line.
-use Rattle.std.proofs.Common.{◌≡◌, ℕ, zero, suc, ◌<◌, ◌≤◌, ◌==◌, ◌⊎◌, true, false, cond, List, [], ◌∷◌, ◌++◌, length, codes, All, Option, Some, None, decimal, refl, sym, ap, subst, ◌∙◌, append_assoc, arith, inl, inr, lit≤, ne_eqb}
+use Rattle.std.proofs.Common.{◌≡◌, ℕ, ◌==◌, ◌⊎◌, false, List, ◌++◌, length, codes, Option, Some, None, decimal, refl, sym, ap, subst, ◌∙◌, append_assoc, arith, inl, inr, lit≤, ne_eqb}
 use Rattle.arrayvec.specs.ArrayVec.{ArrayVec}
 use Rattle.std.specs.List.{flat_map}
 use Rattle.std.specs.Option.{option_map, option_or, option_map_or}
@@ -8,14 +8,14 @@ use Rattle.std.proofs.NetLemmas.Numbers.{NoDigit}
 use Rattle.std.proofs.NetLemmas.Options.{cond_none, and_then_some, map_some, same_parts}
 use Rattle.version_table.specs.declared.limits.TheConstants.{VERSIONS_MOST}
 use Rattle.version_table.specs.declared.line.Line.{Line}
-use Rattle.version_table.specs.declared.line.Line.TheVariants.{Title, Slot, Nodes, Evaluations, Program, Coded, Audio, Packet}
+use Rattle.version_table.specs.declared.line.Line.TheVariants.{Title, Slot, Nodes, Evaluations, Program, Unit as UnitLine, Audio, Packet}
 use Rattle.version_table.specs.declared.line.Stage.{Stage}
 use Rattle.version_table.specs.declared.line.Stage.TheVariants as stages
 use Rattle.version_table.specs.declared.line.StatedVersion.{StatedVersion}
 use Rattle.version_table.specs.Lines.{line_end, text_of_version, text_of_line}
-use Rattle.version_table.specs.Order.{IsStated, IsStatedVersion, HasSyntax}
-use Rattle.version_table.specs.Reading.{◌>>=◌, after, number_at, number_line, versions_at, unit_at, packet_at, program_at, stream_at, line_at}
-use Rattle.version_table.specs.Draft.{Allows}
+use Rattle.version_table.specs.Order.{IsStated, HasSyntax}
+use Rattle.version_table.specs.Private.Reading.{after, number_at, number_line, versions_at, unit_at, packet_at, program_at, stream_at, line_at}
+use Rattle.version_table.specs.Private.Draft.{Allows}
 use Rattle.version_table.proofs.Words.{after-append, after_sound}
 use Rattle.version_table.proofs.LineReading.{number_again, number_sound, number_line_again, number_line_sound, Ends, versions_again, versions_sound, versions_end, four_parts, map_or_cases}
 
@@ -27,6 +27,14 @@ pub record IsLineAt (stage : Stage) (text : List ℕ) (line : Line) (rest : List
 
 -- ---- programs
 
+-- where the line of one program may come, that of any may
+pub any_program : (stage : Stage) (vbv : ℕ) → Allows stage (Program 0) → Allows stage (Program vbv)
+any_program stages.Title vbv h = h
+any_program stages.Programs vbv h = h
+any_program stages.Units vbv h = h
+any_program stages.Packets vbv h = h
+any_program stage vbv h = absurd h
+
 program_again : (vbv : ℕ) (rest : List ℕ) → IsStated vbv → program_at (text_of_line (Program vbv) ++ rest) ≡ Some (Program vbv, rest)
 unfolding program_at text_of_line
 program_again vbv rest small = rw (number_line_again (codes "program ") vbv rest small) refl
@@ -37,17 +45,8 @@ program_sound stage text rest line allows e =
     and_then_some _ (number_line (codes "program ") text) _ e λ n read e1.
     let (line_is, rest_is) = same_parts (Program n.0) line n.1 rest e1 in
     let is = number_line_sound (codes "program ") text n.1 n.0 read in
-    let whole : IsLineAt stage text (Program n.0) n.1 = record { allows = any_vbv stage n.0 allows; syntax = is.stated; parts = is.parts } in
+    let whole : IsLineAt stage text (Program n.0) n.1 = record { allows = any_program stage n.0 allows; syntax = is.stated; parts = is.parts } in
     subst (λ (t : List ℕ). IsLineAt stage text line t) rest_is (subst (λ (l : Line). IsLineAt stage text l n.1) line_is whole)
-  where
-    any_vbv : (stage : Stage) (n : ℕ) → Allows stage (Program 0) → Allows stage (Program n)
-    any_vbv stages.Title n h = h
-    any_vbv stages.Slot n h = h
-    any_vbv stages.Nodes n h = h
-    any_vbv stages.Evaluations n h = h
-    any_vbv stages.Programs n h = h
-    any_vbv stages.Units n h = h
-    any_vbv stages.Packets n h = h
 
 -- ---- audio streams
 
@@ -77,7 +76,7 @@ behind_versions : (rest : List ℕ) → Ends (line_end ++ rest)
 unfolding after
 behind_versions rest = record { digit = lit≤ tt; space = refl }
 
-unit_again : (due : ℕ) (versions : ArrayVec StatedVersion) (rest : List ℕ) → HasSyntax (Coded due versions) → unit_at (text_of_line (Coded due versions) ++ rest) ≡ Some (Coded due versions, rest)
+unit_again : (due : ℕ) (versions : ArrayVec StatedVersion) (rest : List ℕ) → HasSyntax (UnitLine due versions) → unit_at (text_of_line (UnitLine due versions) ++ rest) ≡ Some (UnitLine due versions, rest)
 unfolding unit_at HasSyntax text_of_line
 unit_again due versions rest syntax =
     let others = flat_map text_of_version versions.items ++ (line_end ++ rest) in
@@ -102,7 +101,7 @@ unit_sound text rest line e =
     and_then_some _ (versions_at VERSIONS_MOST due.1) _ e2 λ versions versions_read e3.
     let (some, e4) = cond_none _ _ _ e3 in
     and_then_some _ (after line_end versions.1) _ e4 λ behind end_read e5.
-    let made : Line = Coded due.0 (record { items = versions.0 }) in
+    let made : Line = UnitLine due.0 (record { items = versions.0 }) in
     let (line_is, rest_is) = same_parts made line behind rest e5 in
     let number = number_sound front due.1 due.0 due_read in
     let texts = versions_sound VERSIONS_MOST due.1 versions.1 versions.0 versions_read in
@@ -185,7 +184,7 @@ line_again stages.Slot (Slot ticks) rest allows syntax = ap (option_map (λ n. (
 line_again stages.Nodes (Nodes n) rest allows syntax = ap (option_map (λ n. (Nodes n.0, n.1))) (number_line_again (codes "nodes ") n rest syntax)
 line_again stages.Evaluations (Evaluations n) rest allows syntax = ap (option_map (λ n. (Evaluations n.0, n.1))) (number_line_again (codes "evaluations ") n rest syntax)
 line_again stages.Programs (Program vbv) rest allows syntax = program_again vbv rest syntax
-line_again stages.Units (Coded due versions) rest allows syntax = ap (λ (o : Option (Line × List ℕ)). option_or o (stream_at (text_of_line (Coded due versions) ++ rest))) (unit_again due versions rest syntax)
+line_again stages.Units (UnitLine due versions) rest allows syntax = ap (λ (o : Option (Line × List ℕ)). option_or o (stream_at (text_of_line (UnitLine due versions) ++ rest))) (unit_again due versions rest syntax)
 line_again stages.Units Audio rest allows syntax = ap (λ (o : Option (Line × List ℕ)). option_or o (stream_at (text_of_line Audio ++ rest))) (audio_no_unit rest) ∙ audio_again rest
 line_again stages.Units (Program vbv) rest allows syntax = ap (λ (o : Option (Line × List ℕ)). option_or o (stream_at (text_of_line (Program vbv) ++ rest))) (program_no_unit vbv rest) ∙ program_in_stream vbv rest syntax
 line_again stages.Packets (Packet due gone bytes) rest allows syntax = ap (λ (o : Option (Line × List ℕ)). option_or o (stream_at (text_of_line (Packet due gone bytes) ++ rest))) (packet_again due gone bytes rest syntax)

@@ -1,23 +1,22 @@
 -- A table whose lines stand in order and keep all limits is one that a text may hold.
-use Rattle.std.proofs.Common.{◌≡◌, ℕ, zero, suc, ◌+◌, ◌*◌, ◌^◌, ◌<◌, ◌≤◌, true, nat_lt, List, [], ◌∷◌, ◌++◌, length, map, count_by, All, Option, Some, None, refl, sym, ap, subst, ◌∙◌, append_assoc, arith}
+use Rattle.std.proofs.Common.{◌≡◌, ℕ, ◌+◌, ◌<◌, ◌≤◌, true, List, [], ◌∷◌, ◌++◌, length, map, count_by, All, Option, Some, refl, sym, ap, ◌∙◌, arith}
 use Rattle.std.specs.List.{flat_map}
 use Rattle.std.proofs.lemmas.Bool.{ltb-true}
 use Rattle.std.proofs.lemmas.List.{length-append, length-map}
 use Rattle.std.proofs.lemmas.List.Elements.{All-nil, All-cons, All-head, All-tail, All-weaker}
 use Rattle.version_table.specs.declared.limits.TheConstants.{PROGRAMS_MOST, AUDIOS_MOST, UNITS_MOST, TEXT_AUDIO_PACKETS_MOST}
 use Rattle.version_table.specs.declared.line.Line.{Line}
-use Rattle.version_table.specs.declared.line.Line.TheVariants.{Title, Slot, Nodes, Evaluations, Program, Coded, Audio, Packet}
-use Rattle.version_table.specs.declared.table.Version.{Version}
+use Rattle.version_table.specs.declared.line.Line.TheVariants.{Nodes, Evaluations, Program, Audio}
 use Rattle.version_table.specs.declared.table.Unit.{Unit as CodedUnit}
 use Rattle.version_table.specs.declared.table.AudioPacket.{AudioPacket}
 use Rattle.version_table.specs.declared.table.ProgramRow.{ProgramRow}
 use Rattle.version_table.specs.declared.table.Table.{Table}
-use Rattle.version_table.specs.Table.{IsValidVersion, IsValidUnit, IsValidPacket, IsValidAudio, IsValidProgram, IsValidTable, units_of, audio_packets_of}
+use Rattle.version_table.specs.Table.{IsValidVersion, IsValidUnit, IsValidPacket, IsValidAudio, IsValidProgram}
 use Rattle.version_table.specs.Lines.{stated, line_of_unit, line_of_packet, lines_of_audio, lines_of_program, lines_of_table}
-use Rattle.version_table.specs.Order.{last_line, HasSyntax, MayStand, IsForm}
-use Rattle.version_table.specs.Limits.{is_program, is_unit, is_audio, is_packet, audios_here, rises, packet_due, packet_gone, first_limit, KeepLimits}
+use Rattle.version_table.specs.Order.{last_line, HasSyntax, IsForm}
+use Rattle.version_table.specs.Limits.{is_program, is_unit, is_audio, is_packet, audios_here, rises, packet_due, packet_gone, KeepLimits}
 use Rattle.version_table.specs.Text.{IsTextTable}
-use Rattle.version_table.proofs.Kept.{KeepsVersion, Keeps, keeps_from}
+use Rattle.version_table.proofs.Kept.{KeepsVersion, keeps_from}
 use Rattle.version_table.proofs.Counts.{last_line_push, count-append, count_push, count_none, audios_here-append, audios_here_push}
 use Rattle.version_table.proofs.Openings.{Walk, walk_from, walk_parts}
 use Rattle.version_table.proofs.Rising.{Adjacent, adjacent_rising, adjacent_steady}
@@ -32,13 +31,13 @@ All-from_map P f (x ∷ xs) each = All-cons (λ x. P (f x)) x xs (All-head P (f 
 record UnitsKept (slot : ℕ) (before : List Line) (units : List CodedUnit) : Type 0 where
   each : All (IsValidUnit slot) units
   first : RisesTo (last_line before) units
-  rising : Adjacent ◌<◌ (map (λ coded. coded.due) units)
+  rising : Adjacent ◌<◌ (map (λ unit. unit.due) units)
   few : count_by is_unit before + length units ≤ UNITS_MOST
 
-one_unit_kept : (slot : ℕ) (more : List Line) (coded : CodedUnit) → Good (behind slot more) (line_of_unit coded) → IsValidUnit slot coded
+one_unit_kept : (slot : ℕ) (more : List Line) (unit : CodedUnit) → Good (behind slot more) (line_of_unit unit) → IsValidUnit slot unit
 unfolding HasSyntax
-one_unit_kept slot more coded good =
-    let versions = coded.versions.items in
+one_unit_kept slot more unit good =
+    let versions = unit.versions.items in
     let len = length-map versions stated in
     let keeps = good.1 in
     record {
@@ -50,25 +49,25 @@ one_unit_kept slot more coded good =
 
 units_kept : (slot : ℕ) (more : List Line) (units : List CodedUnit) → Walk Good (behind slot more) (map line_of_unit units) → count_by is_unit (behind slot more) ≤ UNITS_MOST → UnitsKept slot (behind slot more) units
 units_kept slot more [] walk few = record { each = All-nil (IsValidUnit slot); first = tt; rising = tt; few = omega arith }
-units_kept slot more (coded ∷ units) walk few =
+units_kept slot more (unit ∷ units) walk few =
     let before = behind slot more in
-    let line = line_of_unit coded in
-    let here = one_unit_kept slot more coded walk.0 in
+    let line = line_of_unit unit in
+    let here = one_unit_kept slot more unit walk.0 in
     let count = count_push is_unit before line in
     let keeps = walk.0.1 in
     let rest = units_kept slot (more ++ line ∷ []) units walk.1 (omega (arith, keeps.units)) in
     record {
-      each = All-cons (IsValidUnit slot) coded units here rest.each;
+      each = All-cons (IsValidUnit slot) unit units here rest.each;
       first = keeps.rising;
       rising = risen units rest.first rest.rising;
       few = omega (arith, rest.few);
     }
   where
-    risen : (units : List CodedUnit) → RisesTo (last_line (behind slot (more ++ line_of_unit coded ∷ []))) units → Adjacent ◌<◌ (map (λ c. c.due) units) → Adjacent ◌<◌ (coded.due ∷ map (λ c. c.due) units)
+    risen : (units : List CodedUnit) → RisesTo (last_line (behind slot (more ++ line_of_unit unit ∷ []))) units → Adjacent ◌<◌ (map (λ c. c.due) units) → Adjacent ◌<◌ (unit.due ∷ map (λ c. c.due) units)
     risen [] first rising = tt
     risen (other ∷ units) first rising =
-        let after : rises (Some (line_of_unit coded)) other.due ≡ true = sym (ap (λ (last : Option Line). rises last other.due) (last_line_push (behind slot more) (line_of_unit coded))) ∙ first in
-        (ltb-true coded.due other.due after, rising)
+        let after : rises (Some (line_of_unit unit)) other.due ≡ true = sym (ap (λ (last : Option Line). rises last other.due) (last_line_push (behind slot more) (line_of_unit unit))) ∙ first in
+        (ltb-true unit.due other.due after, rising)
 
 -- ---- packets
 

@@ -1,20 +1,18 @@
 -- Lines that may stand one behind the other, and that a text has one beginning of such lines.
-use Rattle.std.proofs.Common.{◌≡◌, ℕ, zero, suc, ◌+◌, ◌<◌, ◌≤◌, ◌⊎◌, List, [], ◌∷◌, ◌++◌, length, Option, Some, None, refl, sym, ap, subst, ◌∙◌, append_assoc, arith, inl, inr}
-use Rattle.std.specs.List.{flat_map}
+use Rattle.std.proofs.Common.{◌≡◌, ℕ, List, [], ◌∷◌, ◌++◌, length, Option, Some, None, refl, sym, ap, subst, ◌∙◌, append_assoc, arith}
 use Rattle.std.proofs.lemmas.List.{append-nil, length-append}
-use Rattle.std.proofs.lemmas.List.Concat.{flat_map-cons, flat_map-append}
+use Rattle.std.proofs.lemmas.List.Concat.{flat_map-cons}
 use Rattle.std.proofs.NetLemmas.Options.{same_parts}
-use Rattle.version_table.specs.declared.fault.Limit.{Limit}
 use Rattle.version_table.specs.declared.line.Line.{Line}
-use Rattle.version_table.specs.declared.line.Line.TheVariants.{Title, Slot, Nodes, Evaluations, Program, Coded, Audio, Packet}
+use Rattle.version_table.specs.declared.line.Line.TheVariants.{Title, Slot, Nodes, Evaluations, Program, Unit as UnitLine, Audio, Packet}
 use Rattle.version_table.specs.declared.line.Stage.{Stage}
 use Rattle.version_table.specs.declared.line.Stage.TheVariants as stages
 use Rattle.version_table.specs.Lines.{text_of_line}
-use Rattle.version_table.specs.Order.{last_line, MayFollow, MayStand, HasSyntax, IsOpening, IsForm}
-use Rattle.version_table.specs.Limits.{first_limit, KeepLimits, BreakFirst}
+use Rattle.version_table.specs.Order.{last_line, MayFollow, MayStand, IsOpening}
+use Rattle.version_table.specs.Limits.{first_limit, KeepLimits}
 use Rattle.version_table.specs.Text.{text_of_lines}
-use Rattle.version_table.specs.Reading.{line_at}
-use Rattle.version_table.specs.Draft.{stage_after, Allows}
+use Rattle.version_table.specs.Private.Reading.{line_at}
+use Rattle.version_table.specs.Private.Draft.{stage_after, Allows}
 use Rattle.version_table.proofs.Counts.{last_line_push}
 use Rattle.version_table.proofs.LineTexts.{line_again}
 
@@ -38,7 +36,7 @@ follows_allows (Some (Slot ticks)) Title h = h
 follows_allows (Some (Nodes n)) Title h = h
 follows_allows (Some (Evaluations n)) Title h = h
 follows_allows (Some (Program vbv)) Title h = h
-follows_allows (Some (Coded due versions)) Title h = h
+follows_allows (Some (UnitLine due versions)) Title h = h
 follows_allows (Some Audio) Title h = h
 follows_allows (Some (Packet due gone bytes)) Title h = h
 follows_allows last line h = h
@@ -51,7 +49,7 @@ allows_follows (Some (Slot ticks)) Title h = h
 allows_follows (Some (Nodes n)) Title h = h
 allows_follows (Some (Evaluations n)) Title h = h
 allows_follows (Some (Program vbv)) Title h = h
-allows_follows (Some (Coded due versions)) Title h = h
+allows_follows (Some (UnitLine due versions)) Title h = h
 allows_follows (Some Audio) Title h = h
 allows_follows (Some (Packet due gone bytes)) Title h = h
 allows_follows last line h = h

@@ -1,8 +1,8 @@
 -- What a reader knows after the lines that it read, and what it answers at the end.
-use Rattle.std.proofs.Common.{◌≡◌, ℕ, zero, suc, ◌+◌, ◌<◌, ◌≤◌, true, false, List, [], ◌∷◌, ◌++◌, length, Option, Some, None, Result, Ok, Err, refl, sym, ap, subst, ◌∙◌, append_assoc, arith, inl, inr, MatchOption}
-use Rattle.std.specs.Prelude.{IfNone, IfOk, IfErr, MatchBool}
+use Rattle.std.proofs.Common.{◌≡◌, ℕ, ◌+◌, ◌<◌, ◌≤◌, true, false, List, [], ◌∷◌, ◌++◌, length, Option, Some, None, Result, Ok, Err, refl, sym, ap, subst, ◌∙◌, arith, inl, inr, MatchOption}
+use Rattle.std.specs.Prelude.{IfNone, IfOk, IfErr}
 use Rattle.std.proofs.lemmas.List.{append-nil, length-append, length_push}
-use Rattle.std.proofs.lemmas.List.Concat.{flat_map-append, flat_map-cons}
+use Rattle.std.proofs.lemmas.List.Concat.{flat_map-cons}
 use Rattle.version_table.specs.declared.limits.TheConstants.{TABLE_TEXT_MOST}
 use Rattle.version_table.specs.declared.fault.Limit.{Limit}
 use Rattle.version_table.specs.declared.fault.Limit.TheVariants as limits
@@ -13,15 +13,15 @@ use Rattle.version_table.specs.declared.line.Stage.{Stage}
 use Rattle.version_table.specs.declared.line.Stage.TheVariants as stages
 use Rattle.version_table.specs.declared.read.Reader.{Reader}
 use Rattle.version_table.specs.declared.table.Table.{Table}
-use Rattle.version_table.specs.Lines.{text_of_line, lines_of_table}
+use Rattle.version_table.specs.Lines.{text_of_line}
 use Rattle.version_table.specs.Order.{IsOpening, IsForm}
 use Rattle.version_table.specs.Limits.{first_limit, KeepLimits, BreakFirst}
-use Rattle.version_table.specs.Text.{text_of_lines, IsTextTable, IsSyntaxRefusal, IsLimitRefusal, Reading, Holds, RefusedAt, RefusedFor, IsRead, IsFaultOf, Says}
-use Rattle.version_table.specs.Reading.{line_at}
-use Rattle.version_table.specs.Draft.{stage_after, Allows, is_whole, lines_of_draft, IsDraft, AddsLine}
-use Rattle.version_table.specs.Reader.{IsLimitFault, TestsLine, TakesLine, IsTableOf, IsRefusedFor, Finishes}
-use Rattle.version_table.proofs.LineTexts.{IsLineAt, line_sound}
-use Rattle.version_table.proofs.Openings.{stage_of, stage_of_push, opening_push, kept_push, no_lines_open, no_lines_kept, Stuck}
+use Rattle.version_table.specs.Text.{text_of_lines, IsSyntaxRefusal, TextReading, Holds, RefusedAt, RefusedFor, IsRead, IsFaultOf, Says}
+use Rattle.version_table.specs.Private.Reading.{line_at}
+use Rattle.version_table.specs.Private.Draft.{stage_after, Allows, is_whole, lines_of_draft, IsDraft}
+use Rattle.version_table.specs.Private.Reader.{IsLimitFault, TestsLine, TakesLine, IsTableOf, IsRefusedFor, Finishes}
+use Rattle.version_table.proofs.LineTexts.{line_sound}
+use Rattle.version_table.proofs.Openings.{stage_of, stage_of_push, opening_push, kept_push, no_lines_open, no_lines_kept}
 use Rattle.version_table.proofs.Breaks.{break_push, break_here}
 use Rattle.version_table.proofs.LinesTable.{kept_table}
 use Rattle.version_table.proofs.Readings.{line_some, stuck_at_end, stuck_from_none, may_from_read, one_reading}
@@ -147,7 +147,7 @@ read_end text reader rest answer short at none finishes = by (is_whole reader.st
         subst (Answered text) (sym ends) (record { table = tt; refusal = read })
 
 -- no reading but that of the answer
-pub only_answer : (text : List ℕ) (answer : Result Table TableFault) → Answered text answer → (reading : Reading) → IsRead text reading → Says answer reading
+pub only_answer : (text : List ℕ) (answer : Result Table TableFault) → Answered text answer → (reading : TextReading) → IsRead text reading → Says answer reading
 only_answer text (Ok table) answered reading is = subst (Says (Ok table)) (one_reading text (Holds table) reading answered.table is) refl
 only_answer text (Err (TableSyntax n)) answered reading is = subst (Says (Err (TableSyntax n))) (one_reading text (RefusedAt n) reading answered.refusal is) refl
 only_answer text (Err (TableLimit name)) answered reading is =

@@ -1,28 +1,20 @@
 -- Each text is read in exactly one way.
-use Rattle.std.proofs.Common.{◌≡◌, ◌≢◌, ℕ, zero, suc, ◌+◌, ◌<◌, ◌≤◌, ◌⊎◌, true, false, List, [], ◌∷◌, ◌++◌, length, Option, Some, None, refl, sym, ap, subst, ◌∙◌, append_assoc, arith, inl, inr}
-use Rattle.std.proofs.lemmas.Bool.{cases_lt}
+use Rattle.std.proofs.Common.{◌≡◌, ℕ, ◌≤◌, List, [], ◌++◌, length, Some, None, sym, ap, subst, ◌∙◌, arith, inl, inr}
 use Rattle.std.proofs.lemmas.List.{append-nil, length-append}
-use Rattle.std.proofs.lemmas.List.Concat.{flat_map-append, flat_map-cons}
-use Rattle.version_table.specs.declared.limits.TheConstants.{TABLE_TEXT_MOST}
 use Rattle.version_table.specs.declared.fault.Limit.{Limit}
-use Rattle.version_table.specs.declared.fault.Limit.TheVariants as limits
 use Rattle.version_table.specs.declared.line.Line.{Line}
-use Rattle.version_table.specs.declared.line.Line.TheVariants.{Title, Slot, Nodes, Evaluations, Program, Coded, Audio, Packet}
-use Rattle.version_table.specs.declared.line.Stage.{Stage}
-use Rattle.version_table.specs.declared.line.Stage.TheVariants as stages
+use Rattle.version_table.specs.declared.line.Line.TheVariants.{Title, Slot, Nodes, Evaluations, Program, Unit as UnitLine, Audio, Packet}
 use Rattle.version_table.specs.declared.table.Table.{Table}
 use Rattle.version_table.specs.Lines.{text_of_line, lines_of_table}
 use Rattle.version_table.specs.Order.{last_line, MayStand, IsOpening, IsForm}
 use Rattle.version_table.specs.Limits.{KeepLimits, BreakFirst}
-use Rattle.version_table.specs.Text.{text_of_lines, spelling, IsTextTable, IsSyntaxRefusal, IsLimitRefusal, Reading, Holds, RefusedAt, RefusedFor, IsRead}
-use Rattle.version_table.specs.Reading.{line_at}
-use Rattle.version_table.specs.Draft.{stage_after, Allows, is_whole}
-use Rattle.version_table.proofs.LineTexts.{IsLineAt, line_again, line_sound}
-use Rattle.version_table.proofs.Openings.{stage_of, stage_of_push, follows_allows, allows_follows, Walk, opening_walk, opening_push, no_lines_open, no_lines_kept, Stuck, one_beginning}
-use Rattle.version_table.proofs.Breaks.{one_break, no_break, kept_or_broken}
+use Rattle.version_table.specs.Text.{text_of_lines, spelling, IsTextTable, IsSyntaxRefusal, IsLimitRefusal, TextReading, Holds, RefusedAt, RefusedFor, IsRead}
+use Rattle.version_table.specs.Private.Reading.{line_at}
+use Rattle.version_table.proofs.LineTexts.{line_again, line_sound}
+use Rattle.version_table.proofs.Openings.{stage_of, follows_allows, allows_follows, opening_walk, Stuck, one_beginning}
+use Rattle.version_table.proofs.Breaks.{one_break, no_break}
 use Rattle.version_table.proofs.TableLines.{table_form, table_kept}
-use Rattle.version_table.proofs.LinesTable.{kept_table}
-use Rattle.version_table.proofs.TableOf.{Follow, walk_follow, table_of, one_table, form_table}
+use Rattle.version_table.proofs.TableOf.{one_table}
 
 -- ---- lines have bytes
 
@@ -33,7 +25,7 @@ line_some (Slot ticks) = omega arith
 line_some (Nodes n) = omega arith
 line_some (Evaluations n) = omega arith
 line_some (Program vbv) = omega arith
-line_some (Coded due versions) = omega arith
+line_some (UnitLine due versions) = omega arith
 line_some Audio = omega arith
 line_some (Packet due gone bytes) = omega arith
 
@@ -105,7 +97,7 @@ limit_limit text k l a b =
     let same = (same_beginning text a.lines b.lines [] [] (limit_beginning text k a) (limit_beginning text l b)).0 in
     one_break b.lines k l (subst (λ (ls : List Line). BreakFirst ls k) same a.first) b.first
 
-pub one_reading : (text : List ℕ) (a b : Reading) → IsRead text a → IsRead text b → a ≡ b
+pub one_reading : (text : List ℕ) (a b : TextReading) → IsRead text a → IsRead text b → a ≡ b
 one_reading text (Holds t) (Holds u) f g = ap (λ (table : Table). Holds table) (table_table text t u f.1 g.1 f.2 g.2)
 one_reading text (Holds t) (RefusedAt n) f g = absurd (table_syntax text t n f.1 f.2 g.1)
 one_reading text (Holds t) (RefusedFor l) f (inl long) = absurd (omega (arith, f.0, long.0))

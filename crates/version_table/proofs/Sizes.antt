@@ -1,20 +1,20 @@
 -- The text of a table that a text may hold is never too long.
-use Rattle.std.proofs.Common.{◌≡◌, ℕ, ◌+◌, ◌*◌, ◌^◌, ◌<◌, ◌≤◌, List, [], ◌∷◌, ◌++◌, length, map, codes, decimal, All, refl, sym, ap, ◌∙◌, arith}
+use Rattle.std.proofs.Common.{◌≡◌, ℕ, ◌+◌, ◌*◌, ◌^◌, ◌<◌, ◌≤◌, List, [], ◌∷◌, ◌++◌, length, map, codes, decimal, All, refl, ap, ◌∙◌, arith}
 use Rattle.std.specs.List.{flat_map}
-use Rattle.std.proofs.lemmas.List.{length-append, length-map}
+use Rattle.std.proofs.lemmas.List.{length-append}
 use Rattle.std.proofs.lemmas.List.Elements.{All-head, All-tail}
 use Rattle.std.proofs.lemmas.List.Concat.{flat_map-append, flat_map-cons}
 use Rattle.std.proofs.lemmas.Fmt.{length-decimal-le}
 use Rattle.version_table.specs.declared.limits.TheConstants.{SLOT_MOST, TABLE_TEXT_MOST}
 use Rattle.version_table.specs.declared.line.Line.{Line}
-use Rattle.version_table.specs.declared.line.Line.TheVariants.{Title, Slot, Nodes, Evaluations, Program, Coded, Audio, Packet}
+use Rattle.version_table.specs.declared.line.Line.TheVariants.{Title, Slot, Nodes, Evaluations, Program, Audio}
 use Rattle.version_table.specs.declared.table.Version.{Version}
 use Rattle.version_table.specs.declared.table.Unit.{Unit as CodedUnit}
 use Rattle.version_table.specs.declared.table.AudioPacket.{AudioPacket}
 use Rattle.version_table.specs.declared.table.ProgramRow.{ProgramRow}
 use Rattle.version_table.specs.declared.table.Table.{Table}
 use Rattle.version_table.specs.Table.{IsValidVersion, IsValidUnit, IsValidPacket, IsValidAudio, IsValidProgram}
-use Rattle.version_table.specs.Lines.{line_end, stated, text_of_version, text_of_line, line_of_unit, line_of_packet, lines_of_audio, lines_of_program, lines_of_table}
+use Rattle.version_table.specs.Lines.{line_end, stated, text_of_version, text_of_line, line_of_unit, line_of_packet, lines_of_audio, lines_of_program}
 use Rattle.version_table.specs.Text.{text_of_lines, spelling, IsTextTable}
 use Rattle.version_table.proofs.TableLines.{packets_of, units_in, packets_in}
 
@@ -41,18 +41,18 @@ versions_size [] valid = omega arith
 versions_size (version ∷ versions) valid =
     omega (arith, length-append (text_of_version (stated version)) (flat_map text_of_version (map stated versions)), version_size version (All-head IsValidVersion version versions valid), versions_size versions (All-tail IsValidVersion version versions valid))
 
-unit_size : (slot : ℕ) (coded : CodedUnit) → slot ≤ SLOT_MOST → IsValidUnit slot coded → length (text_of_line (line_of_unit coded)) ≤ 210
+unit_size : (slot : ℕ) (unit : CodedUnit) → slot ≤ SLOT_MOST → IsValidUnit slot unit → length (text_of_line (line_of_unit unit)) ≤ 210
 unfolding text_of_line
-unit_size slot coded small valid =
-    let due = decimal coded.due in
-    let versions = flat_map text_of_version (map stated coded.versions.items) in
+unit_size slot unit small valid =
+    let due = decimal unit.due in
+    let versions = flat_map text_of_version (map stated unit.versions.items) in
     omega (
       arith,
       length-append (codes "unit " ++ due ++ versions) line_end,
       length-append (codes "unit " ++ due) versions,
       length-append (codes "unit ") due,
-      length-decimal-le 12 coded.due (omega arith) (omega (arith, valid.due)) (omega (arith, valid.due)),
-      versions_size coded.versions.items valid.versions,
+      length-decimal-le 12 unit.due (omega arith) (omega (arith, valid.due)) (omega (arith, valid.due)),
+      versions_size unit.versions.items valid.versions,
       valid.few_versions,
     )
 
@@ -88,8 +88,8 @@ size-cons line lines = ap length (flat_map-cons text_of_line line lines) ∙ len
 
 units_size : (slot : ℕ) (units : List CodedUnit) → slot ≤ SLOT_MOST → All (IsValidUnit slot) units → length (text_of_lines (map line_of_unit units)) ≤ 210 * length units
 units_size slot [] small valid = omega arith
-units_size slot (coded ∷ units) small valid =
-    omega (arith, size-cons (line_of_unit coded) (map line_of_unit units), unit_size slot coded small (All-head (IsValidUnit slot) coded units valid), units_size slot units small (All-tail (IsValidUnit slot) coded units valid))
+units_size slot (unit ∷ units) small valid =
+    omega (arith, size-cons (line_of_unit unit) (map line_of_unit units), unit_size slot unit small (All-head (IsValidUnit slot) unit units valid), units_size slot units small (All-tail (IsValidUnit slot) unit units valid))
 
 packets_size : (slot : ℕ) (packets : List AudioPacket) → slot ≤ SLOT_MOST → All (IsValidPacket slot) packets → length (text_of_lines (map line_of_packet packets)) ≤ 37 * length packets
 packets_size slot [] small valid = omega arith

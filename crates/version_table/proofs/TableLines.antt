@@ -1,28 +1,26 @@
 -- The lines of a table that a text may hold stand in order and keep all limits.
-use Rattle.std.proofs.Common.{◌≡◌, ℕ, zero, suc, ◌+◌, ◌*◌, ◌^◌, ◌<◌, ◌≤◌, true, nat_lt, List, [], ◌∷◌, ◌++◌, length, map, count_by, All, Option, Some, None, refl, sym, ap, subst, ◌∙◌, append_assoc, arith, inl, inr, lt-ltb}
+use Rattle.std.proofs.Common.{◌≡◌, ℕ, ◌+◌, ◌<◌, ◌≤◌, true, List, [], ◌∷◌, ◌++◌, length, map, count_by, All, Option, refl, sym, ap, subst, ◌∙◌, append_assoc, arith, lt-ltb}
 use Rattle.std.specs.List.{flat_map}
 use Rattle.std.proofs.lemmas.List.{append-nil, length-append, length-map}
 use Rattle.std.proofs.lemmas.List.Elements.{All-head, All-tail, All-map, All-weaker}
-use Rattle.std.proofs.lemmas.List.Concat.{flat_map-append}
-use Rattle.version_table.specs.declared.limits.TheConstants.{SLOT_MOST, PROGRAMS_MOST, AUDIOS_MOST, UNITS_MOST, VERSIONS_MOST, TIME_SLOTS_MOST, TEXT_AUDIO_PACKETS_MOST}
+use Rattle.version_table.specs.declared.limits.TheConstants.{SLOT_MOST, PROGRAMS_MOST, AUDIOS_MOST, UNITS_MOST, TEXT_AUDIO_PACKETS_MOST}
 use Rattle.version_table.specs.declared.line.Line.{Line}
-use Rattle.version_table.specs.declared.line.Line.TheVariants.{Title, Slot, Nodes, Evaluations, Program, Coded, Audio, Packet}
+use Rattle.version_table.specs.declared.line.Line.TheVariants.{Title, Slot, Nodes, Evaluations, Program, Audio}
 use Rattle.version_table.specs.declared.line.Stage.{Stage}
 use Rattle.version_table.specs.declared.line.Stage.TheVariants as stages
-use Rattle.version_table.specs.declared.line.StatedVersion.{StatedVersion}
-use Rattle.version_table.specs.declared.table.Version.{Version}
 use Rattle.version_table.specs.declared.table.Unit.{Unit as CodedUnit}
 use Rattle.version_table.specs.declared.table.AudioPacket.{AudioPacket}
 use Rattle.version_table.specs.declared.table.ProgramRow.{ProgramRow}
 use Rattle.version_table.specs.declared.table.Table.{Table}
-use Rattle.version_table.specs.Table.{IsValidVersion, IsValidUnit, IsValidPacket, IsValidAudio, IsValidProgram, IsValidTable, units_of, audio_packets_of}
+use Rattle.version_table.specs.Table.{IsValidVersion, IsValidUnit, IsValidPacket, IsValidAudio, IsValidProgram}
 use Rattle.version_table.specs.Lines.{stated, line_of_unit, line_of_packet, lines_of_audio, lines_of_program, lines_of_table}
 use Rattle.version_table.specs.Order.{last_line, IsStatedVersion, HasSyntax, MayFollow, MayStand, IsForm}
 use Rattle.version_table.specs.Limits.{is_program, is_unit, is_audio, is_packet, audios_here, rises, packet_due, packet_gone, KeepLimits}
 use Rattle.version_table.specs.Text.{IsTextTable}
-use Rattle.version_table.specs.Draft.{stage_after, Allows}
+use Rattle.version_table.specs.Private.Draft.{stage_after, Allows}
 use Rattle.version_table.proofs.Kept.{KeepsVersion, Keeps, keeps_to}
-use Rattle.version_table.proofs.Counts.{last_line_push, count-append, count-cons, count_push, count_none, count_each, programs_in_audios, audios_in_audios, audios_here-append, audios_here_push}
+use Rattle.version_table.proofs.Counts.{last_line_push, count-append, count-cons, count_push, count_none, count_each, programs_in_audios, audios_here-append, audios_here_push}
+use Rattle.version_table.proofs.LineTexts.{any_program}
 use Rattle.version_table.proofs.Openings.{stage_of, stage_of_push, allows_follows, Walk, walk_to, walk_append, walk_opening, Kept}
 use Rattle.version_table.proofs.Rising.{Adjacent, rising_adjacent, steady_adjacent}
 
@@ -47,12 +45,12 @@ stage_all f stage same before (x ∷ xs) at =
 
 abbrev pub RisesTo : Option Line → List CodedUnit → Type 0
 RisesTo last [] = Unit {0}
-RisesTo last (coded ∷ units) = rises last coded.due ≡ true
+RisesTo last (unit ∷ units) = rises last unit.due ≡ true
 
-unit_syntax : (slot : ℕ) (coded : CodedUnit) → slot ≤ SLOT_MOST → IsValidUnit slot coded → HasSyntax (line_of_unit coded)
+unit_syntax : (slot : ℕ) (unit : CodedUnit) → slot ≤ SLOT_MOST → IsValidUnit slot unit → HasSyntax (line_of_unit unit)
 unfolding HasSyntax
-unit_syntax slot coded small valid =
-    let versions = coded.versions.items in
+unit_syntax slot unit small valid =
+    let versions = unit.versions.items in
     let len = length-map versions stated in (
       omega (arith, valid.due),
       omega (arith, valid.some_version),
@@ -60,29 +58,29 @@ unit_syntax slot coded small valid =
       All-map IsStatedVersion stated versions (All-weaker IsValidVersion (λ v. IsStatedVersion (stated v)) (λ v h. (omega (arith, h.bytes), omega (arith, h.distortion))) versions valid.versions),
     )
 
-unit_versions : (slot : ℕ) (coded : CodedUnit) → IsValidUnit slot coded → All KeepsVersion (map stated coded.versions.items)
-unit_versions slot coded valid =
-    All-map KeepsVersion stated coded.versions.items (All-weaker IsValidVersion (λ v. KeepsVersion (stated v)) (λ v h. record { some = h.some_bytes; bytes = h.bytes; distortion = h.distortion }) coded.versions.items valid.versions)
+unit_versions : (slot : ℕ) (unit : CodedUnit) → IsValidUnit slot unit → All KeepsVersion (map stated unit.versions.items)
+unit_versions slot unit valid =
+    All-map KeepsVersion stated unit.versions.items (All-weaker IsValidVersion (λ v. KeepsVersion (stated v)) (λ v h. record { some = h.some_bytes; bytes = h.bytes; distortion = h.distortion }) unit.versions.items valid.versions)
 
 units_good : (slot : ℕ) (more : List Line) (units : List CodedUnit) → slot ≤ SLOT_MOST → stage_of (behind slot more) ≡ stages.Units → All (IsValidUnit slot) units
-    → RisesTo (last_line (behind slot more)) units → Adjacent ◌<◌ (map (λ coded. coded.due) units) → count_by is_unit (behind slot more) + length units ≤ UNITS_MOST
+    → RisesTo (last_line (behind slot more)) units → Adjacent ◌<◌ (map (λ unit. unit.due) units) → count_by is_unit (behind slot more) + length units ≤ UNITS_MOST
     → Walk Good (behind slot more) (map line_of_unit units)
 units_good slot more [] small at valid first rising few = tt
-units_good slot more (coded ∷ units) small at valid first rising few =
+units_good slot more (unit ∷ units) small at valid first rising few =
     let before = behind slot more in
-    let here = All-head (IsValidUnit slot) coded units valid in
-    let line = line_of_unit coded in
-    let keeps : Keeps before line = record { units = omega arith; time = here.due; rising = first; each = unit_versions slot coded here } in
+    let here = All-head (IsValidUnit slot) unit units valid in
+    let line = line_of_unit unit in
+    let keeps : Keeps before line = record { units = omega arith; time = here.due; rising = first; each = unit_versions slot unit here } in
     let count = count_push is_unit before line in (
-      (may_stand before line stages.Units at tt (unit_syntax slot coded small here), keeps),
-      units_good slot (more ++ line ∷ []) units small (stage_of_push before line) (All-tail (IsValidUnit slot) coded units valid) (next units rising) (rest units rising) (omega arith),
+      (may_stand before line stages.Units at tt (unit_syntax slot unit small here), keeps),
+      units_good slot (more ++ line ∷ []) units small (stage_of_push before line) (All-tail (IsValidUnit slot) unit units valid) (next units rising) (rest units rising) (omega arith),
     )
   where
-    next : (units : List CodedUnit) → Adjacent ◌<◌ (coded.due ∷ map (λ c. c.due) units) → RisesTo (last_line (behind slot (more ++ line_of_unit coded ∷ []))) units
+    next : (units : List CodedUnit) → Adjacent ◌<◌ (unit.due ∷ map (λ c. c.due) units) → RisesTo (last_line (behind slot (more ++ line_of_unit unit ∷ []))) units
     next [] rising = tt
-    next (other ∷ units) rising = ap (λ (last : Option Line). rises last other.due) (last_line_push (behind slot more) (line_of_unit coded)) ∙ lt-ltb coded.due other.due rising.0
+    next (other ∷ units) rising = ap (λ (last : Option Line). rises last other.due) (last_line_push (behind slot more) (line_of_unit unit)) ∙ lt-ltb unit.due other.due rising.0
 
-    rest : (units : List CodedUnit) → Adjacent ◌<◌ (coded.due ∷ map (λ c. c.due) units) → Adjacent ◌<◌ (map (λ c. c.due) units)
+    rest : (units : List CodedUnit) → Adjacent ◌<◌ (unit.due ∷ map (λ c. c.due) units) → Adjacent ◌<◌ (map (λ c. c.due) units)
     rest [] rising = tt
     rest (other ∷ units) rising = rising.1
 
@@ -204,13 +202,6 @@ audio_program stages.Units h = h
 audio_program stages.Packets h = h
 audio_program stage h = absurd h
 
-pub any_program : (stage : Stage) (vbv : ℕ) → Allows stage (Program 0) → Allows stage (Program vbv)
-any_program stages.Title vbv h = h
-any_program stages.Programs vbv h = h
-any_program stages.Units vbv h = h
-any_program stages.Packets vbv h = h
-any_program stage vbv h = absurd h
-
 -- what one program adds to the counts
 pub record ProgramAdds (before : List Line) (program : ProgramRow) : Type 0 where
   pub units : count_by is_unit (before ++ lines_of_program program) ≡ count_by is_unit before + length program.units
@@ -253,7 +244,7 @@ program_good slot more program small allows valid few few_units few_packets =
   where
     begins : (units : List CodedUnit) → RisesTo (last_line (behind slot (more ++ Program program.vbv ∷ []))) units
     begins [] = tt
-    begins (coded ∷ units) = ap (λ (last : Option Line). rises last coded.due) (last_line_push (behind slot more) (Program program.vbv))
+    begins (unit ∷ units) = ap (λ (last : Option Line). rises last unit.due) (last_line_push (behind slot more) (Program program.vbv))
 
 -- a program may come behind a program
 pub stage_program : (before : List Line) (program : ProgramRow) → Allows (stage_of (before ++ lines_of_program program)) (Program 0)

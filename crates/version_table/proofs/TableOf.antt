@@ -1,10 +1,10 @@
 -- The table of some lines: each table is that of its lines, and lines of the right form are those of a table.
-use Rattle.std.proofs.Common.{◌≡◌, ℕ, suc, ◌+◌, ◌<◌, ◌≤◌, List, [], ◌∷◌, ◌++◌, length, map, Option, Some, None, refl, sym, ap, subst, ◌∙◌, append_assoc, arith}
+use Rattle.std.proofs.Common.{◌≡◌, ℕ, ◌≤◌, List, [], ◌∷◌, ◌++◌, length, map, refl, sym, ap, subst, ◌∙◌, append_assoc, arith}
 use Rattle.std.specs.List.{flat_map}
 use Rattle.arrayvec.specs.ArrayVec.{ArrayVec}
 use Rattle.std.proofs.lemmas.List.{append-nil}
 use Rattle.version_table.specs.declared.line.Line.{Line}
-use Rattle.version_table.specs.declared.line.Line.TheVariants.{Title, Slot, Nodes, Evaluations, Program, Coded, Audio, Packet}
+use Rattle.version_table.specs.declared.line.Line.TheVariants.{Title, Slot, Nodes, Evaluations, Program, Unit as UnitLine, Audio, Packet}
 use Rattle.version_table.specs.declared.line.Stage.{Stage}
 use Rattle.version_table.specs.declared.line.Stage.TheVariants as stages
 use Rattle.version_table.specs.declared.line.StatedVersion.{StatedVersion}
@@ -14,8 +14,8 @@ use Rattle.version_table.specs.declared.table.AudioPacket.{AudioPacket}
 use Rattle.version_table.specs.declared.table.ProgramRow.{ProgramRow}
 use Rattle.version_table.specs.declared.table.Table.{Table}
 use Rattle.version_table.specs.Lines.{stated, line_of_unit, line_of_packet, lines_of_audio, lines_of_program, lines_of_table}
-use Rattle.version_table.specs.Order.{last_line, MayStand, IsOpening, IsForm}
-use Rattle.version_table.specs.Draft.{stage_after, Allows, kept}
+use Rattle.version_table.specs.Order.{last_line, MayStand, IsForm}
+use Rattle.version_table.specs.Private.Draft.{stage_after, Allows, kept}
 use Rattle.version_table.proofs.Openings.{stage_of, stage_of_push, follows_allows, Walk, opening_walk}
 use Rattle.version_table.proofs.Drafts.{stated_kept}
 
@@ -32,7 +32,7 @@ unit_of due versions = record { due = due; versions = record { items = map kept 
 abbrev pub parts_of : List Line → Parts
 parts_of [] = record { units = []; packets = []; audios = []; programs = [] }
 parts_of (Program vbv ∷ lines) = let rest = parts_of lines in record { units = []; packets = []; audios = []; programs = record { vbv = vbv; units = rest.units; audios = rest.audios } ∷ rest.programs }
-parts_of (Coded due versions ∷ lines) = let rest = parts_of lines in record rest { units = unit_of due versions ∷ rest.units }
+parts_of (UnitLine due versions ∷ lines) = let rest = parts_of lines in record rest { units = unit_of due versions ∷ rest.units }
 parts_of (Audio ∷ lines) = let rest = parts_of lines in record rest { packets = []; audios = rest.packets ∷ rest.audios }
 parts_of (Packet due gone bytes ∷ lines) = let rest = parts_of lines in record rest { packets = record { due = due; gone = gone; bytes = bytes } ∷ rest.packets }
 parts_of (line ∷ lines) = parts_of lines
@@ -43,8 +43,8 @@ kept_stated : (versions : List Version) → map kept (map stated versions) ≡ v
 kept_stated [] = refl
 kept_stated (version ∷ versions) = ap (λ (rest : List Version). version ∷ rest) (kept_stated versions)
 
-unit_again : (coded : CodedUnit) → unit_of coded.due (record { items = map stated coded.versions.items }) ≡ coded
-unit_again coded = ap (λ (items : List Version). record { due = coded.due; versions = record { items = items } }) (kept_stated coded.versions.items)
+unit_again : (unit : CodedUnit) → unit_of unit.due (record { items = map stated unit.versions.items }) ≡ unit
+unit_again unit = ap (λ (items : List Version). record { due = unit.due; versions = record { items = items } }) (kept_stated unit.versions.items)
 
 parts_packets : (packets : List AudioPacket) (lines : List Line) → parts_of (map line_of_packet packets ++ lines) ≡ record (parts_of lines) { packets = packets ++ (parts_of lines).packets }
 parts_packets [] lines = refl
@@ -66,9 +66,9 @@ parts_audios (packets ∷ audios) lines none =
 
 parts_units : (units : List CodedUnit) (lines : List Line) → parts_of (map line_of_unit units ++ lines) ≡ record (parts_of lines) { units = units ++ (parts_of lines).units }
 parts_units [] lines = refl
-parts_units (coded ∷ units) lines =
-    ap (λ (p : Parts). record p { units = unit_of coded.due (record { items = map stated coded.versions.items }) ∷ p.units }) (parts_units units lines)
-    ∙ ap (λ (c : CodedUnit). record (parts_of lines) { units = c ∷ (units ++ (parts_of lines).units) }) (unit_again coded)
+parts_units (unit ∷ units) lines =
+    ap (λ (p : Parts). record p { units = unit_of unit.due (record { items = map stated unit.versions.items }) ∷ p.units }) (parts_units units lines)
+    ∙ ap (λ (c : CodedUnit). record (parts_of lines) { units = c ∷ (units ++ (parts_of lines).units) }) (unit_again unit)
 
 abbrev only_programs : List ProgramRow → Parts
 only_programs programs = record { units = []; packets = []; audios = []; programs = programs }
@@ -123,8 +123,8 @@ walk_follow before (line ∷ lines) walk =
     (follows_allows (last_line before) line walk.0.0, subst (λ (s : Stage). Follow s lines) (stage_of_push before line) (walk_follow (before ++ line ∷ []) lines walk.1))
 
 -- the lines of a unit that was read
-unit_line : (due : ℕ) (versions : ArrayVec StatedVersion) → line_of_unit (unit_of due versions) ≡ Coded due versions
-unit_line due versions = ap (λ (items : List StatedVersion). Coded due (record { items = items })) (stated_kept versions.items)
+unit_line : (due : ℕ) (versions : ArrayVec StatedVersion) → line_of_unit (unit_of due versions) ≡ UnitLine due versions
+unit_line due versions = ap (λ (items : List StatedVersion). UnitLine due (record { items = items })) (stated_kept versions.items)
 
 -- what follows at a stage is spelled by its parts
 record AtPrograms (lines : List Line) : Type 0 where
@@ -168,9 +168,9 @@ spelled_at stages.Packets [] follow = record { units = refl; spelled = refl }
 spelled_at stages.Programs (Program vbv ∷ lines) follow = record { units = refl; packets = refl; audios = refl; spelled = program_spelled vbv lines (spelled_at stages.Units lines follow.1) }
 spelled_at stages.Units (Program vbv ∷ lines) follow = record { packets = refl; spelled = program_spelled vbv lines (spelled_at stages.Units lines follow.1) }
 spelled_at stages.Packets (Program vbv ∷ lines) follow = record { units = refl; spelled = program_spelled vbv lines (spelled_at stages.Units lines follow.1) }
-spelled_at stages.Units (Coded due versions ∷ lines) follow =
+spelled_at stages.Units (UnitLine due versions ∷ lines) follow =
     let rest = spelled_at stages.Units lines follow.1 in
-    record { packets = rest.packets; spelled = ap (λ (ls : List Line). Coded due versions ∷ ls) rest.spelled ∙ ap (λ (l : Line). l ∷ (map line_of_unit (parts_of lines).units ++ (flat_map lines_of_audio (parts_of lines).audios ++ flat_map lines_of_program (parts_of lines).programs))) (sym (unit_line due versions)) }
+    record { packets = rest.packets; spelled = ap (λ (ls : List Line). UnitLine due versions ∷ ls) rest.spelled ∙ ap (λ (l : Line). l ∷ (map line_of_unit (parts_of lines).units ++ (flat_map lines_of_audio (parts_of lines).audios ++ flat_map lines_of_program (parts_of lines).programs))) (sym (unit_line due versions)) }
 spelled_at stages.Units (Audio ∷ lines) follow =
     let rest = spelled_at stages.Packets lines follow.1 in
     record { packets = refl; spelled = audio_spelled lines rest ∙ ap (λ (us : List CodedUnit). map line_of_unit us ++ (flat_map lines_of_audio (parts_of (Audio ∷ lines)).audios ++ flat_map lines_of_program (parts_of lines).programs)) (sym rest.units) }

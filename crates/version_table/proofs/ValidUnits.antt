@@ -5,7 +5,7 @@ use Rattle.std.proofs.lemmas.List.Elements.{All-nil, All-head, All-tail, All-app
 use Rattle.version_table.specs.declared.table.Unit.{Unit as CodedUnit}
 use Rattle.version_table.specs.declared.table.Table.{Table}
 use Rattle.version_table.specs.Table.{IsValidTable, IsValidProgram, IsValidUnit, units_of}
-use Rattle.version_table.specs.Choice.{HasFewVersions}
+use Rattle.version_table.specs.Private.Choices.{HasFewVersions}
 
 -- what holds of each item of each list holds of each item of the lists end to end
 pub All-flat_map : {X A : Type 0} (P : A → Type 0) (f : X → List A) (xs : List X) → All (λ x. All P (f x)) xs → All P (flat_map f xs)
@@ -20,4 +20,4 @@ valid_units table valid =
     (All-weaker (IsValidProgram table.slot) (λ program. All (IsValidUnit table.slot) program.units) (λ program h. h.units) table.programs valid.programs)
 
 pub few_versions : (slot : ℕ) (units : List CodedUnit) → All (IsValidUnit slot) units → All HasFewVersions units
-few_versions slot units each = All-weaker (IsValidUnit slot) HasFewVersions (λ coded h. (h.some_version, h.few_versions)) units each
+few_versions slot units each = All-weaker (IsValidUnit slot) HasFewVersions (λ unit h. (h.some_version, h.few_versions)) units each

@@ -1,9 +1,9 @@
 -- The versions of a unit one after the other, as a loop reads them.
-use Rattle.std.proofs.Common.{◌≡◌, ℕ, zero, suc, ◌+◌, ◌-◌, ◌<◌, ◌≤◌, List, [], ◌∷◌, ◌++◌, length, codes, Option, Some, None, refl, sym, ap, ◌∙◌, append_assoc, arith}
+use Rattle.std.proofs.Common.{◌≡◌, ℕ, zero, suc, ◌-◌, ◌<◌, List, [], ◌∷◌, ◌++◌, length, codes, Some, None, refl, sym, ap, ◌∙◌, append_assoc, arith}
 use Rattle.std.proofs.lemmas.List.{append-nil, length_push}
 use Rattle.version_table.specs.declared.limits.TheConstants.{VERSIONS_MOST}
 use Rattle.version_table.specs.declared.line.StatedVersion.{StatedVersion}
-use Rattle.version_table.specs.Reading.{◌>>=◌, Read, after, version_at, versions_at}
+use Rattle.version_table.specs.Private.Reading.{◌>>=◌, Read, after, version_at, versions_at}
 
 -- what was read before, and what is still read
 abbrev pub with_front : List StatedVersion → Read (List StatedVersion) → Read (List StatedVersion)

@@ -1,7 +1,6 @@
 -- Choices: a version number for each unit, and what they cost.
-use Rattle.std.specs.Prelude.{◌≡◌, ◌≢◌, ℕ, ◌-◌, ◌<◌, ◌≤◌, ◌⊎◌, List, [], ◌∷◌, ◌++◌, length, fold, map, min, sum, slice_index_or}
+use Rattle.std.specs.Prelude.{◌≡◌, ◌≢◌, ℕ, ◌-◌, ◌<◌, ◌⊎◌, List, [], ◌∷◌, length, fold, map, min, sum, slice_index_or}
 use Rattle.std.specs.List.{AllZip}
-use Rattle.version_table.specs.declared.limits.TheConstants.{VERSIONS_MOST}
 use Rattle.version_table.specs.declared.table.Version.{Version}
 use Rattle.version_table.specs.declared.table.Unit.{Unit as CodedUnit}
 use Rattle.version_table.specs.declared.table.Table.{Table}
@@ -9,11 +8,7 @@ use Rattle.version_table.specs.Table.{units_of}
 
 -- the unit has a version of this number
 abbrev pub HasVersion : CodedUnit → ℕ → Type 0
-HasVersion coded k = k < length coded.versions.items
-
--- the unit has versions, and their numbers are below 256
-abbrev pub HasFewVersions : CodedUnit → Type 0
-HasFewVersions coded = (1 ≤ length coded.versions.items) × (length coded.versions.items ≤ VERSIONS_MOST)
+HasVersion unit k = k < length unit.versions.items
 
 -- the choice names an existing version for each unit
 abbrev pub Fits : Table → List ℕ → Type 0
@@ -21,13 +16,13 @@ Fits table choice = AllZip HasVersion (units_of table) choice
 
 -- version k of a unit; where it has none, no bytes without distortion
 abbrev pub version_at : CodedUnit → ℕ → Version
-version_at coded k = slice_index_or coded.versions.items k (record { bytes = 0; distortion = 0 })
+version_at unit k = slice_index_or unit.versions.items k (record { bytes = 0; distortion = 0 })
 
 -- the distortions of the chosen versions, one for each unit
 abbrev pub chosen_distortions : List CodedUnit → List ℕ → List ℕ
-chosen_distortions (coded ∷ units) (k ∷ choice) = (version_at coded k).distortion ∷ chosen_distortions units choice
+chosen_distortions (unit ∷ units) (k ∷ choice) = (version_at unit k).distortion ∷ chosen_distortions units choice
 chosen_distortions [] choice = []
-chosen_distortions (coded ∷ units) [] = []
+chosen_distortions (unit ∷ units) [] = []
 
 -- the distortion of a choice: the sum over all units
 abbrev pub distortion_of_choice : Table → List ℕ → ℕ
@@ -42,9 +37,9 @@ abbrev pub GoesBefore : Version → ℕ → Version → ℕ → Type 0
 GoesBefore a j b k = IsSmaller a b ⊎ ((a.bytes ≡ b.bytes) × (a.distortion ≡ b.distortion) × (j < k))
 
 -- version k of the unit goes before each of its other versions
-pub record IsSmallestVersion (coded : CodedUnit) (k : ℕ) : Type 0 where
-  pub exists : HasVersion coded k
-  pub first : (j : ℕ) → HasVersion coded j → j ≢ k → GoesBefore (version_at coded k) k (version_at coded j) j
+pub record IsSmallestVersion (unit : CodedUnit) (k : ℕ) : Type 0 where
+  pub exists : HasVersion unit k
+  pub first : (j : ℕ) → HasVersion unit j → j ≢ k → GoesBefore (version_at unit k) k (version_at unit j) j
 
 -- the smallest choice: of each unit the smallest version
 abbrev pub IsSmallestChoice : Table → List ℕ → Type 0
@@ -52,7 +47,7 @@ IsSmallestChoice table choice = AllZip IsSmallestVersion (units_of table) choice
 
 -- the number of a unit's version at a level: the level, or its last version where it has fewer
 abbrev pub level_version : ℕ → CodedUnit → ℕ
-level_version level coded = min level (length coded.versions.items - 1)
+level_version level unit = min level (length unit.versions.items - 1)
 
 -- the level choice: of each unit the version at that level
 abbrev pub level_choice : Table → ℕ → List ℕ
@@ -65,12 +60,8 @@ least (n ∷ numbers) = fold min n numbers
 
 -- the least distortion of a unit, over its versions
 abbrev pub least_distortion : CodedUnit → ℕ
-least_distortion coded = least (map (λ version. version.distortion) coded.versions.items)
+least_distortion unit = least (map (λ version. version.distortion) unit.versions.items)
 
 -- what the units of a table cost at least: the sum of their least distortions
 abbrev pub least_distortions : Table → ℕ
 least_distortions table = sum (map least_distortion (units_of table))
-
--- the new choice is the old one with a number for each unit at its end, of which the relation holds
-abbrev pub AppendsEach : (CodedUnit → ℕ → Type 0) → List CodedUnit → List ℕ → List ℕ → Type 0
-AppendsEach R units old new = (added : List ℕ) × (new ≡ old ++ added) × AllZip R units added

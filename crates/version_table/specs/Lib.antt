@@ -1,9 +1,7 @@
 pub mod Choice
-pub mod Draft
 pub mod Limits
 pub mod Lines
 pub mod Order
-pub mod Reader
-pub mod Reading
+pub mod Private
 pub mod Table
 pub mod Text

@@ -1,11 +1,13 @@
 -- Which limits the lines of a table text keep.
 use Rattle.std.specs.Prelude.{◌≡◌, ℕ, ◌*◌, Bool, true, false, not, ◌&&◌, nat_lt, nat_le, if◌then◌else◌, List, [], ◌∷◌, ◌++◌, count_by, reverse, codes, Option, Some, None}
 use Rattle.std.specs.List.{flat_map, take_while}
-use Rattle.version_table.specs.declared.limits.TheConstants.{SLOT_LEAST, SLOT_MOST, NODES_MOST, EVALUATIONS_MOST, PROGRAMS_MOST, AUDIOS_MOST, UNITS_MOST, VBV_MOST, VERSION_BYTES_MOST, DISTORTION_LIMIT, TIME_SLOTS_MOST, PAYLOAD_MOST, TEXT_AUDIO_PACKETS_MOST}
+use Rattle.version_table.specs.declared.limits.TheConstants.{SLOT_LEAST, SLOT_MOST, NODES_MOST, EVALUATIONS_MOST, PROGRAMS_MOST, AUDIOS_MOST, UNITS_MOST, VERSION_BYTES_MOST, DISTORTION_LIMIT, TIME_SLOTS_MOST, TEXT_AUDIO_PACKETS_MOST}
+use Rattle.stream_constants.specs.declared.packets.TheConstants.{PAYLOAD_BYTES}
+use Rattle.stream_constants.specs.declared.main_level.TheConstants.{VBV_MOST}
 use Rattle.version_table.specs.declared.fault.Limit.{Limit}
 use Rattle.version_table.specs.declared.fault.Limit.TheVariants as limits
 use Rattle.version_table.specs.declared.line.Line.{Line}
-use Rattle.version_table.specs.declared.line.Line.TheVariants.{Title, Slot, Nodes, Evaluations, Program, Coded, Audio, Packet}
+use Rattle.version_table.specs.declared.line.Line.TheVariants.{Title, Slot, Nodes, Evaluations, Program, Unit as UnitLine, Audio, Packet}
 use Rattle.version_table.specs.declared.line.StatedVersion.{StatedVersion}
 use Rattle.version_table.specs.Order.{last_line}
 
@@ -24,18 +26,22 @@ limit_name limits.Audios = codes "audios"
 limit_name limits.Units = codes "units"
 limit_name limits.Packets = codes "packets"
 
+-- the line begins a program
 abbrev pub is_program : Line → Bool
 is_program (Program vbv) = true
 is_program line = false
 
+-- the line is that of a unit
 abbrev pub is_unit : Line → Bool
-is_unit (Coded due versions) = true
+is_unit (UnitLine due versions) = true
 is_unit line = false
 
+-- the line begins an audio stream
 abbrev pub is_audio : Line → Bool
 is_audio Audio = true
 is_audio line = false
 
+-- the line is that of an audio packet
 abbrev pub is_packet : Line → Bool
 is_packet (Packet due gone bytes) = true
 is_packet line = false
@@ -55,18 +61,20 @@ time_most before = TIME_SLOTS_MOST * slot_of before
 
 -- a unit is due after the unit right before it
 abbrev pub rises : Option Line → ℕ → Bool
-rises (Some (Coded earlier versions)) due = nat_lt earlier due
+rises (Some (UnitLine earlier versions)) due = nat_lt earlier due
 rises last due = true
 
--- the due time of the audio packet right before, and its gone time; 0 where none is
+-- the due time of the audio packet right before; 0 where none is
 abbrev pub packet_due : Option Line → ℕ
 packet_due (Some (Packet due gone bytes)) = due
 packet_due last = 0
 
+-- the gone time of the audio packet right before; 0 where none is
 abbrev pub packet_gone : Option Line → ℕ
 packet_gone (Some (Packet due gone bytes)) = gone
 packet_gone last = 0
 
+-- from the first number up to the second
 abbrev pub is_within : ℕ → ℕ → ℕ → Bool
 is_within low high n = nat_le low n && nat_le n high
 
@@ -75,12 +83,15 @@ pub record Test : Type 0 where
   pub limit : Limit
   pub kept : Bool
 
+-- a test of a limit
 abbrev pub test : Limit → Bool → Test
 test limit kept = record { limit = limit; kept = kept }
 
+-- the tests of a version
 abbrev pub version_tests : StatedVersion → List Test
 version_tests version = test limits.Bytes (is_within 1 VERSION_BYTES_MOST version.bytes) ∷ test limits.Distortion (nat_lt version.distortion DISTORTION_LIMIT) ∷ []
 
+-- the tests of a unit behind other lines: first whether there may be one more, then its due time, then its versions
 abbrev pub unit_tests : List Line → ℕ → List StatedVersion → List Test
 unit_tests before due versions =
     test limits.Units (nat_lt (count_by is_unit before) UNITS_MOST)
@@ -94,13 +105,13 @@ tests_of before (Slot ticks) = test limits.Slot (is_within SLOT_LEAST SLOT_MOST 
 tests_of before (Nodes n) = test limits.Nodes (is_within 1 NODES_MOST n) ∷ []
 tests_of before (Evaluations n) = test limits.Evaluations (nat_le n EVALUATIONS_MOST) ∷ []
 tests_of before (Program vbv) = test limits.Programs (nat_lt (count_by is_program before) PROGRAMS_MOST) ∷ test limits.Vbv (is_within 1 VBV_MOST vbv) ∷ []
-tests_of before (Coded due versions) = unit_tests before due versions.items
+tests_of before (UnitLine due versions) = unit_tests before due versions.items
 tests_of before Audio = test limits.Audios (nat_lt (audios_here before) AUDIOS_MOST) ∷ []
 tests_of before (Packet due gone bytes) =
     test limits.Packets (nat_lt (count_by is_packet before) TEXT_AUDIO_PACKETS_MOST)
     ∷ test limits.Due (is_within (packet_due (last_line before)) (time_most before) due)
     ∷ test limits.Gone (is_within due (time_most before) gone && nat_le (packet_gone (last_line before)) gone)
-    ∷ test limits.Bytes (is_within 1 PAYLOAD_MOST bytes)
+    ∷ test limits.Bytes (is_within 1 PAYLOAD_BYTES bytes)
     ∷ []
 
 -- the first limit that isn't kept

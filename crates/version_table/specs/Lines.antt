@@ -3,7 +3,7 @@ use Rattle.std.specs.Prelude.{ℕ, List, [], ◌∷◌, ◌++◌, codes, map}
 use Rattle.std.specs.List.{flat_map}
 use Rattle.std.specs.Fmt.{decimal}
 use Rattle.version_table.specs.declared.line.Line.{Line}
-use Rattle.version_table.specs.declared.line.Line.TheVariants.{Title, Slot, Nodes, Evaluations, Program, Coded, Audio, Packet}
+use Rattle.version_table.specs.declared.line.Line.TheVariants.{Title, Slot, Nodes, Evaluations, Program, Unit as UnitLine, Audio, Packet}
 use Rattle.version_table.specs.declared.line.StatedVersion.{StatedVersion}
 use Rattle.version_table.specs.declared.table.Version.{Version}
 use Rattle.version_table.specs.declared.table.Unit.{Unit as CodedUnit}
@@ -26,7 +26,7 @@ text_of_line (Slot ticks) = codes "slot " ++ decimal ticks ++ line_end
 text_of_line (Nodes n) = codes "nodes " ++ decimal n ++ line_end
 text_of_line (Evaluations n) = codes "evaluations " ++ decimal n ++ line_end
 text_of_line (Program vbv) = codes "program " ++ decimal vbv ++ line_end
-text_of_line (Coded due versions) = codes "unit " ++ decimal due ++ flat_map text_of_version versions.items ++ line_end
+text_of_line (UnitLine due versions) = codes "unit " ++ decimal due ++ flat_map text_of_version versions.items ++ line_end
 text_of_line Audio = codes "audio" ++ line_end
 text_of_line (Packet due gone bytes) = codes "packet " ++ decimal due ++ codes " " ++ decimal gone ++ codes " " ++ decimal bytes ++ line_end
 
@@ -34,9 +34,11 @@ text_of_line (Packet due gone bytes) = codes "packet " ++ decimal due ++ codes "
 abbrev pub stated : Version → StatedVersion
 stated version = record { bytes = version.bytes; distortion = version.distortion }
 
+-- a unit: its due time and versions
 abbrev pub line_of_unit : CodedUnit → Line
-line_of_unit coded = Coded coded.due (record { items = map stated coded.versions.items })
+line_of_unit unit = UnitLine unit.due (record { items = map stated unit.versions.items })
 
+-- an audio packet: its times and bytes
 abbrev pub line_of_packet : AudioPacket → Line
 line_of_packet packet = Packet packet.due packet.gone packet.bytes
 

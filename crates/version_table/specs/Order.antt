@@ -3,7 +3,7 @@ use Rattle.std.specs.Prelude.{◌≡◌, ℕ, ◌^◌, ◌<◌, ◌≤◌, List,
 use Rattle.version_table.specs.declared.limits.TheConstants.{VERSIONS_MOST}
 use Rattle.version_table.specs.declared.line.Line.{Line}
 use Rattle.version_table.specs.declared.line.StatedVersion.{StatedVersion}
-use Rattle.version_table.specs.declared.line.Line.TheVariants.{Title, Slot, Nodes, Evaluations, Program, Coded, Audio, Packet}
+use Rattle.version_table.specs.declared.line.Line.TheVariants.{Title, Slot, Nodes, Evaluations, Program, Unit as UnitLine, Audio, Packet}
 
 -- the last of some lines
 abbrev pub last_line : List Line → Option Line
@@ -19,13 +19,13 @@ MayFollow (Some (Slot ticks)) (Nodes n) = Unit {0}
 MayFollow (Some (Nodes m)) (Evaluations n) = Unit {0}
 MayFollow (Some (Evaluations n)) (Program vbv) = Unit {0}
 -- behind the line of a program: its units, its audio streams, or the next program
-MayFollow (Some (Program vbv)) (Coded due versions) = Unit {0}
+MayFollow (Some (Program vbv)) (UnitLine due versions) = Unit {0}
 MayFollow (Some (Program vbv)) Audio = Unit {0}
 MayFollow (Some (Program vbv)) (Program next) = Unit {0}
 -- behind a unit: the next one, an audio stream, or the next program
-MayFollow (Some (Coded due versions)) (Coded next others) = Unit {0}
-MayFollow (Some (Coded due versions)) Audio = Unit {0}
-MayFollow (Some (Coded due versions)) (Program next) = Unit {0}
+MayFollow (Some (UnitLine due versions)) (UnitLine next others) = Unit {0}
+MayFollow (Some (UnitLine due versions)) Audio = Unit {0}
+MayFollow (Some (UnitLine due versions)) (Program next) = Unit {0}
 -- behind the line of an audio stream and behind its packets: a packet, the next stream, or the next program
 MayFollow (Some Audio) (Packet due gone bytes) = Unit {0}
 MayFollow (Some Audio) Audio = Unit {0}
@@ -39,6 +39,7 @@ MayFollow last line = ⊥
 abbrev pub IsStated : ℕ → Type 0
 IsStated n = n < 2 ^ 64
 
+-- the numbers of a version that a text may state
 abbrev pub IsStatedVersion : StatedVersion → Type 0
 IsStatedVersion version = IsStated version.bytes × IsStated version.distortion
 
@@ -49,7 +50,7 @@ HasSyntax (Slot ticks) = IsStated ticks
 HasSyntax (Nodes n) = IsStated n
 HasSyntax (Evaluations n) = IsStated n
 HasSyntax (Program vbv) = IsStated vbv
-HasSyntax (Coded due versions) =
+HasSyntax (UnitLine due versions) =
     IsStated due × (1 ≤ length versions.items) × (length versions.items ≤ VERSIONS_MOST) × All IsStatedVersion versions.items
 HasSyntax Audio = Unit {0}
 HasSyntax (Packet due gone bytes) = IsStated due × IsStated gone × IsStated bytes

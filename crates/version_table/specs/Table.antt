@@ -2,7 +2,9 @@
 use Rattle.std.specs.Prelude.{ℕ, ◌*◌, ◌<◌, ◌≤◌, List, length, map, All}
 use Rattle.std.specs.List.{flat_map}
 use Rattle.std.specs.List.Sorted.{IsNonDecreasing, IsStrictlyIncreasing}
-use Rattle.version_table.specs.declared.limits.TheConstants.{SLOT_LEAST, SLOT_MOST, NODES_MOST, EVALUATIONS_MOST, PROGRAMS_MOST, AUDIOS_MOST, UNITS_MOST, VERSIONS_MOST, VBV_MOST, VERSION_BYTES_MOST, DISTORTION_LIMIT, TIME_SLOTS_MOST, PAYLOAD_MOST, AUDIO_PACKETS_LIMIT}
+use Rattle.version_table.specs.declared.limits.TheConstants.{SLOT_LEAST, SLOT_MOST, NODES_MOST, EVALUATIONS_MOST, PROGRAMS_MOST, AUDIOS_MOST, UNITS_MOST, VERSIONS_MOST, VERSION_BYTES_MOST, DISTORTION_LIMIT, TIME_SLOTS_MOST, AUDIO_PACKETS_LIMIT}
+use Rattle.stream_constants.specs.declared.packets.TheConstants.{PAYLOAD_BYTES}
+use Rattle.stream_constants.specs.declared.main_level.TheConstants.{VBV_MOST}
 use Rattle.version_table.specs.declared.table.Version.{Version}
 use Rattle.version_table.specs.declared.table.Unit.{Unit as CodedUnit}
 use Rattle.version_table.specs.declared.table.AudioPacket.{AudioPacket}
@@ -17,23 +19,25 @@ units_of table = flat_map (λ program. program.units) table.programs
 abbrev pub audio_packets_of : Table → List AudioPacket
 audio_packets_of table = flat_map (λ program. flat_map (λ packets. packets) program.audios) table.programs
 
+-- a version has bytes, and its bytes and distortion are within the limits
 pub record IsValidVersion (version : Version) : Type 0 where
   pub some_bytes : 1 ≤ version.bytes
   pub bytes : version.bytes ≤ VERSION_BYTES_MOST
   pub distortion : version.distortion < DISTORTION_LIMIT
 
 -- a unit's due time and versions, where a slot lasts this many ticks
-pub record IsValidUnit (slot : ℕ) (coded : CodedUnit) : Type 0 where
-  pub due : coded.due ≤ TIME_SLOTS_MOST * slot
-  pub some_version : 1 ≤ length coded.versions.items
-  pub few_versions : length coded.versions.items ≤ VERSIONS_MOST
-  pub versions : All IsValidVersion coded.versions.items
+pub record IsValidUnit (slot : ℕ) (unit : CodedUnit) : Type 0 where
+  pub due : unit.due ≤ TIME_SLOTS_MOST * slot
+  pub some_version : 1 ≤ length unit.versions.items
+  pub few_versions : length unit.versions.items ≤ VERSIONS_MOST
+  pub versions : All IsValidVersion unit.versions.items
 
+-- an audio packet: it is gone no earlier than it is due, and its bytes fit a transport packet's payload
 pub record IsValidPacket (slot : ℕ) (packet : AudioPacket) : Type 0 where
   pub due : packet.due ≤ packet.gone
   pub gone : packet.gone ≤ TIME_SLOTS_MOST * slot
   pub some_bytes : 1 ≤ packet.bytes
-  pub bytes : packet.bytes ≤ PAYLOAD_MOST
+  pub bytes : packet.bytes ≤ PAYLOAD_BYTES
 
 -- an audio stream: neither due nor gone times fall
 pub record IsValidAudio (slot : ℕ) (packets : List AudioPacket) : Type 0 where
@@ -46,10 +50,11 @@ pub record IsValidProgram (slot : ℕ) (program : ProgramRow) : Type 0 where
   pub some_vbv : 1 ≤ program.vbv
   pub vbv : program.vbv ≤ VBV_MOST
   pub units : All (IsValidUnit slot) program.units
-  pub dues : IsStrictlyIncreasing (map (λ coded. coded.due) program.units)
+  pub dues : IsStrictlyIncreasing (map (λ unit. unit.due) program.units)
   pub few_audios : length program.audios ≤ AUDIOS_MOST
   pub audios : All (IsValidAudio slot) program.audios
 
+-- a table whose numbers and counts are within the limits
 pub record IsValidTable (table : Table) : Type 0 where
   pub slot_least : SLOT_LEAST ≤ table.slot
   pub slot_most : table.slot ≤ SLOT_MOST

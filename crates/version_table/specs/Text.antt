@@ -45,13 +45,13 @@ pub record IsLimitRefusal (text : List ℕ) (limit : Limit) : Type 0 where
   pub first : BreakFirst lines limit
 
 -- what a text can be: that of a table, or refused in a line, or for a limit
-pub data Reading : Type 0 where
-  Holds : Table → Reading
-  RefusedAt : ℕ → Reading
-  RefusedFor : Limit → Reading
+pub data TextReading : Type 0 where
+  Holds : Table → TextReading
+  RefusedAt : ℕ → TextReading
+  RefusedFor : Limit → TextReading
 
 -- a text is read so; one that is too long is refused for its bytes before all else
-abbrev pub IsRead : List ℕ → Reading → Type 0
+abbrev pub IsRead : List ℕ → TextReading → Type 0
 IsRead text (Holds table) = (length text ≤ TABLE_TEXT_MOST) × IsTextTable table × (text ≡ spelling table)
 IsRead text (RefusedAt n) = (length text ≤ TABLE_TEXT_MOST) × IsSyntaxRefusal text n
 IsRead text (RefusedFor limit) = ((TABLE_TEXT_MOST < length text) × (limit ≡ limits.Bytes)) ⊎ ((length text ≤ TABLE_TEXT_MOST) × IsLimitRefusal text limit)
@@ -63,7 +63,7 @@ IsFaultOf text (TableLimit name) = (limit : Limit) × IsRead text (RefusedFor li
 IsFaultOf text OutOfMemory = Unit {0}
 
 -- an answer is this reading, unless memory was wanted
-abbrev pub Says : Result Table TableFault → Reading → Type 0
+abbrev pub Says : Result Table TableFault → TextReading → Type 0
 Says (Ok table) (Holds other) = table ≡ other
 Says (Err (TableSyntax n)) (RefusedAt m) = n ≡ m
 Says (Err (TableLimit name)) (RefusedFor limit) = name.bytes ≡ limit_name limit

@@ -2,7 +2,8 @@ ghost use Rattle.std.specs.Prelude.{◌≡◌, ℕ, ◌+◌, ◌*◌, ◌^◌, �
 ghost use Rattle.std.specs.List.{AllZip};
 ghost use Rattle.version_table.specs.declared.table.Table.{Table};
 ghost use Rattle.version_table.specs.Table.{IsValidTable};
-ghost use Rattle.version_table.specs.Choice.{Fits, HasVersion, IsSmaller, IsSmallestChoice, IsSmallestVersion, HasFewVersions, AppendsEach, chosen_distortions, distortion_of_choice, level_version, level_choice, least_distortion, least_distortions};
+ghost use Rattle.version_table.specs.Private.Choices.{AppendsEach, HasFewVersions};
+ghost use Rattle.version_table.specs.Choice.{Fits, HasVersion, IsSmaller, IsSmallestChoice, IsSmallestVersion, chosen_distortions, distortion_of_choice, level_version, level_choice, least_distortion, least_distortions};
 
 use crate::table::{Choice, Table, Unit, Version};
 use list_types::{ListOf, OutOfMemory};

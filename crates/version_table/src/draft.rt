@@ -1,5 +1,5 @@
 ghost use Rattle.std.specs.Prelude.{◌≡◌, ◌<◌, ◌^◌, All, map};
-ghost use Rattle.version_table.specs.Draft.{kept};
+ghost use Rattle.version_table.specs.Private.Draft.{kept};
 
 use crate::limits::{TEXT_AUDIO_PACKETS_MOST, UNITS_MOST, VERSIONS_MOST};
 use crate::line::{Line, Stage, StatedVersion};
@@ -38,7 +38,7 @@ impl Draft {
     ghost use Rattle.std.specs.Prelude.{◌≡◌, ◌<◌, ◌^◌, [], None, All, OnOk, IfOk};
     ghost use Rattle.version_table.specs.Lines.{lines_of_table, stated};
     ghost use Rattle.version_table.specs.Limits.{first_limit};
-    ghost use Rattle.version_table.specs.Draft.{Allows, AddsLine, IsDraft, lines_of_draft, with_audio_closed, with_program_closed, with_unit, with_packet};
+    ghost use Rattle.version_table.specs.Private.Draft.{Allows, AddsLine, IsDraft, lines_of_draft, with_audio_closed, with_program_closed, with_unit, with_packet};
 
     /// A draft without lines.
     pub fn new(alloc: Global) -> Draft
@@ -72,7 +72,7 @@ impl Draft {
             Line::Nodes(n) => self.nodes = *n as u32,
             Line::Evaluations(n) => self.evaluations = *n as u32,
             Line::Program(vbv) => self.add_program(alloc, stage, *vbv as u8)?,
-            Line::Coded { due, versions } => self.add_unit(*due, versions)?,
+            Line::Unit { due, versions } => self.add_unit(*due, versions)?,
             Line::Audio => self.close_audio(alloc, stage)?,
             Line::Packet { due, gone, bytes } => self.add_packet(*due, *gone, *bytes as u8)?,
         }

@@ -1,13 +1,13 @@
 ghost use Rattle.std.specs.Prelude.{◌≡◌, ◌≤◌, length};
 ghost use Rattle.version_table.specs.Limits.{limit_name};
-ghost use Rattle.version_table.specs.Reader.{IsLimitFault};
+ghost use Rattle.version_table.specs.Private.Reader.{IsLimitFault};
 
 use arrayvec::ArrayString;
 use list_types::OutOfMemory;
 use thiserror::Error;
 
 /// A limit that a number in a table text breaks, or the count of its lines of a kind.
-#[derive(Clone, Copy, Debug, PartialEq, Eq)]
+#[derive(Clone, Copy)]
 pub enum Limit {
     Slot,
     Nodes,

@@ -4,13 +4,15 @@ ghost use Rattle.std.specs.Prelude.{◌≡◌, ◌+◌, ◌*◌, [], ◌∷◌, 
 ghost use Rattle.std.specs.List.{flat_map};
 ghost use Rattle.version_table.specs.Order.{last_line};
 ghost use Rattle.version_table.specs.Limits.{is_within, first_failing, test, version_tests, unit_tests, first_limit, is_program, audios_here, time_most, rises, packet_due, packet_gone};
-ghost use Rattle.version_table.specs.Draft.{Allows, IsDraft, lines_of_draft};
+ghost use Rattle.version_table.specs.Private.Draft.{Allows, IsDraft, lines_of_draft};
 
 use crate::draft::Draft;
 use crate::fault::Limit;
 use crate::limits::*;
 use crate::line::{Line, Stage, StatedVersion};
 use crate::table::AudioPacket;
+use stream_constants::main_level::VBV_MOST;
+use stream_constants::packets::PAYLOAD_BYTES;
 
 impl Draft {
     /// The first limit that a line breaks behind those of the draft, in reading order.
@@ -29,7 +31,7 @@ impl Draft {
             Line::Nodes(n) => unless(is_within(1, NODES_MOST as u64, *n), Limit::Nodes),
             Line::Evaluations(n) => unless(*n <= EVALUATIONS_MOST as u64, Limit::Evaluations),
             Line::Program(vbv) => self.program_limit(stage, *vbv),
-            Line::Coded { due, versions } => self.unit_limit(*due, versions.as_slice()),
+            Line::Unit { due, versions } => self.unit_limit(*due, versions.as_slice()),
             Line::Audio => unless(self.audio_count(stage) < AUDIOS_MOST, Limit::Audios),
             Line::Packet { due, gone, bytes } => self.packet_limit(*due, *gone, *bytes),
         }
@@ -80,7 +82,7 @@ impl Draft {
         if !is_within(due, most, gone) || gone < last.gone {
             return Some(Limit::Gone);
         }
-        unless(is_within(1, PAYLOAD_MOST as u64, bytes), Limit::Bytes)
+        unless(is_within(1, PAYLOAD_BYTES as u64, bytes), Limit::Bytes)
     }
 
     /// Whether a due time is greater than that of the last unit of the open program.

@@ -13,19 +13,15 @@ pub const PROGRAMS_MOST: usize = 8;
 /// Audio streams of a program, at most.
 pub const AUDIOS_MOST: usize = 8;
 /// Units of a table over all programs, at most.
-pub const UNITS_MOST: usize = 16_384;
+pub const UNITS_MOST: usize = 32_768;
 /// Versions of a unit, at most; at least one.
 pub const VERSIONS_MOST: usize = 8;
-/// The elementary buffer in units of 2,048 bytes (`vbv_buffer_size`), at most; at least one.
-pub const VBV_MOST: u8 = 112;
 /// Bytes of a version's PES packet, at most; at least one.
 pub const VERSION_BYTES_MOST: u32 = 4_194_304;
 /// A version's distortion is below this.
 pub const DISTORTION_LIMIT: u64 = 281_474_976_710_656;
 /// Due and gone times are at most this many slots.
 pub const TIME_SLOTS_MOST: u64 = 4_194_304;
-/// Payload bytes of a transport packet, at most; at least one.
-pub const PAYLOAD_MOST: u8 = 184;
 /// Audio packets of a table are fewer than this.
 pub const AUDIO_PACKETS_LIMIT: u64 = 4_294_967_296;
 /// Audio packets in a table text, at most.

@@ -1,11 +1,11 @@
 ghost use Rattle.std.specs.Prelude.{◌≡◌};
-ghost use Rattle.version_table.specs.Draft.{stage_after, is_whole};
+ghost use Rattle.version_table.specs.Private.Draft.{stage_after, is_whole};
 
 use crate::limits::VERSIONS_MOST;
 use arrayvec::ArrayVec;
 
 /// The numbers of a version as a text states them.
-#[derive(Clone, Copy, Debug, Default, PartialEq, Eq)]
+#[derive(Clone, Copy, Default)]
 pub struct StatedVersion {
     /// Bytes.
     pub bytes: u64,
@@ -27,7 +27,7 @@ pub enum Line {
     /// Begins a program, with the size of its elementary buffer.
     Program(u64),
     /// A coded picture.
-    Coded {
+    Unit {
         due: u64,
         versions: ArrayVec<StatedVersion, VERSIONS_MOST>,
     },
@@ -43,7 +43,7 @@ pub enum Line {
 
 impl Line {
     /// Which lines may come behind this one.
-    pub fn next_stage(&self) -> Stage
+    pub(crate) fn next_stage(&self) -> Stage
         ensures { result ≡ stage_after self.now }
     {
         match self {
@@ -51,14 +51,14 @@ impl Line {
             Line::Slot(_) => Stage::Nodes,
             Line::Nodes(_) => Stage::Evaluations,
             Line::Evaluations(_) => Stage::Programs,
-            Line::Program(_) | Line::Coded { .. } => Stage::Units,
+            Line::Program(_) | Line::Unit { .. } => Stage::Units,
             Line::Audio | Line::Packet { .. } => Stage::Packets,
         }
     }
 }
 
 /// Which lines may come next.
-#[derive(Clone, Copy, Debug, PartialEq, Eq)]
+#[derive(Clone, Copy, PartialEq)]
 pub enum Stage {
     /// The first line.
     Title,

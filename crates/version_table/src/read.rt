@@ -1,7 +1,7 @@
 ghost use Rattle.std.specs.Prelude.{◌≡◌, ◌<◌, ◌≤◌, List, length, IfOk, IfErr, IfNone, OnOk};
-ghost use Rattle.version_table.specs.Draft.{Allows, IsDraft};
-ghost use Rattle.version_table.specs.Text.{IsRead, IsFaultOf, Says, Reading, Holds};
-ghost use Rattle.version_table.specs.Reader.{TakesLine, KeepsLine, Finishes};
+ghost use Rattle.version_table.specs.Private.Draft.{Allows, IsDraft};
+ghost use Rattle.version_table.specs.Text.{IsRead, IsFaultOf, Says, TextReading, Holds};
+ghost use Rattle.version_table.specs.Private.Reader.{TakesLine, KeepsLine, Finishes};
 
 use crate::draft::Draft;
 use crate::fault::{Limit, TableFault, limit_fault};
@@ -23,7 +23,7 @@ pub fn read_table(alloc: Global, text: &[u8]) -> Result<Table, TableFault>
     ensures refusal { IfErr result (IsFaultOf text.now) }
 
     // What is so is answered, unless memory is wanted.
-    ensures only { (reading : Reading) → IsRead text.now reading → Says result reading }
+    ensures only { (reading : TextReading) → IsRead text.now reading → Says result reading }
 {
     if text.len() > TABLE_TEXT_MOST {
         return Err(limit_fault(Limit::Bytes));

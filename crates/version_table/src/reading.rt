@@ -3,14 +3,14 @@
 ghost use Rattle.std.specs.Option.{option_copied};
 ghost use Rattle.std.specs.Net.Reader.{read_number};
 ghost use Rattle.std.specs.Prelude.{◌≡◌, ◌≤◌, length, IfSome};
-ghost use Rattle.version_table.specs.Reading.{after, number_at, number_line, version_at, versions_at, unit_at, packet_at, program_at, stream_at, line_at, seen, seen_versions};
+ghost use Rattle.version_table.specs.Private.Reading.{after, number_at, number_line, version_at, versions_at, unit_at, packet_at, program_at, stream_at, line_at, seen, seen_versions};
 
 use crate::limits::VERSIONS_MOST;
 use crate::line::{Line, Stage, StatedVersion};
 use arrayvec::ArrayVec;
 
 /// The next line of a text, where one comes that may stand there, and what follows it.
-#[tactic(auto, unfolding(crate::specs::Reading::line_at))]
+#[tactic(auto, unfolding(crate::specs::Private::Reading::line_at))]
 pub fn line_at(stage: Stage, text: &[u8]) -> Option<(Line, &[u8])>
     ensures { seen result ≡ line_at stage text.now }
 {
@@ -44,7 +44,7 @@ pub fn line_at(stage: Stage, text: &[u8]) -> Option<(Line, &[u8])>
 }
 
 /// The line of an audio stream or of a program.
-#[tactic(auto, unfolding(crate::specs::Reading::stream_at))]
+#[tactic(auto, unfolding(crate::specs::Private::Reading::stream_at))]
 fn stream_at(text: &[u8]) -> Option<(Line, &[u8])>
     ensures { seen result ≡ stream_at text.now }
 {
@@ -54,7 +54,7 @@ fn stream_at(text: &[u8]) -> Option<(Line, &[u8])>
     }
 }
 
-#[tactic(auto, unfolding(crate::specs::Reading::program_at))]
+#[tactic(auto, unfolding(crate::specs::Private::Reading::program_at))]
 fn program_at(text: &[u8]) -> Option<(Line, &[u8])>
     ensures { seen result ≡ program_at text.now }
 {
@@ -62,7 +62,7 @@ fn program_at(text: &[u8]) -> Option<(Line, &[u8])>
     Some((Line::Program(vbv), rest))
 }
 
-#[tactic(auto, unfolding(crate::specs::Reading::unit_at))]
+#[tactic(auto, unfolding(crate::specs::Private::Reading::unit_at))]
 fn unit_at(text: &[u8]) -> Option<(Line, &[u8])>
     ensures { seen result ≡ unit_at text.now }
 {
@@ -73,10 +73,10 @@ fn unit_at(text: &[u8]) -> Option<(Line, &[u8])>
         return None;
     }
     let rest = after(rest, b"\n")?;
-    Some((Line::Coded { due, versions }, rest))
+    Some((Line::Unit { due, versions }, rest))
 }
 
-#[tactic(auto, unfolding(crate::specs::Reading::packet_at))]
+#[tactic(auto, unfolding(crate::specs::Private::Reading::packet_at))]
 fn packet_at(text: &[u8]) -> Option<(Line, &[u8])>
     ensures { seen result ≡ packet_at text.now }
 {
@@ -105,7 +105,7 @@ fn versions_at(text: &[u8]) -> Option<(ArrayVec<StatedVersion, VERSIONS_MOST>, &
     Some((versions, rest))
 }
 
-#[tactic(auto, unfolding(crate::specs::Reading::version_at))]
+#[tactic(auto, unfolding(crate::specs::Private::Reading::version_at))]
 fn version_at(text: &[u8]) -> Option<(StatedVersion, &[u8])>
     ensures { seen result ≡ version_at text.now }
 {
@@ -115,7 +115,7 @@ fn version_at(text: &[u8]) -> Option<(StatedVersion, &[u8])>
 }
 
 /// A line of a word with its space, and one number.
-#[tactic(auto, unfolding(crate::specs::Reading::number_line))]
+#[tactic(auto, unfolding(crate::specs::Private::Reading::number_line))]
 fn number_line<'a>(text: &'a [u8], word: &[u8]) -> Option<(u64, &'a [u8])>
     ensures { seen result ≡ number_line word.now text.now }
 {
@@ -125,7 +125,7 @@ fn number_line<'a>(text: &'a [u8], word: &[u8]) -> Option<(u64, &'a [u8])>
 }
 
 /// The decimal number below 2^64 at the front, without a needless leading zero.
-#[tactic(auto, unfolding(crate::specs::Reading::number_at))]
+#[tactic(auto, unfolding(crate::specs::Private::Reading::number_at))]
 fn number_at(text: &[u8]) -> Option<(u64, &[u8])>
     ensures { seen result ≡ number_at text.now }
 {

@@ -3,7 +3,7 @@ use arrayvec::ArrayVec;
 use list_types::ListOf;
 
 /// One way to send a coded picture.
-#[derive(Clone, Copy, Debug, Default, PartialEq, Eq)]
+#[derive(Clone, Copy, Debug, Default, PartialEq)]
 pub struct Version {
     /// Bytes of its PES packet, header included.
     pub bytes: u32,
@@ -21,7 +21,7 @@ pub struct Unit {
 }
 
 /// The payload of one transport packet of an audio stream.
-#[derive(Clone, Copy, Debug, Default, PartialEq, Eq)]
+#[derive(Clone, Copy, Debug, Default, PartialEq)]
 pub struct AudioPacket {
     /// When its first byte is wanted, in ticks.
     pub due: u64,

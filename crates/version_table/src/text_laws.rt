@@ -2,16 +2,16 @@
 
 ghost use Rattle.std.specs.Prelude.{◌≡◌, List, ℕ};
 ghost use Rattle.version_table.specs.declared.table.Table.{Table};
-ghost use Rattle.version_table.specs.Text.{IsTextTable, IsRead, Reading, Holds, spelling};
+ghost use Rattle.version_table.specs.Text.{IsTextTable, IsRead, TextReading, Holds, spelling};
 
 /// Each text is read in one way: as the text of a table, or refused in a line, or refused for a limit.
 pub fn some_reading()
-    ensures { (text : List ℕ) → (reading : Reading) × IsRead text reading }
+    ensures { (text : List ℕ) → (reading : TextReading) × IsRead text reading }
 {}
 
 /// No text is read in two ways.
 pub fn one_reading()
-    ensures { (text : List ℕ) (a b : Reading) → IsRead text a → IsRead text b → a ≡ b }
+    ensures { (text : List ℕ) (a b : TextReading) → IsRead text a → IsRead text b → a ≡ b }
 {}
 
 /// The round trip: the spelling of a table is read as that table.

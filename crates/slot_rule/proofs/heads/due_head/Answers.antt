@@ -1,4 +1,4 @@
-use Rattle.slot_rule.specs.Heads.{Passes}
+use Rattle.slot_rule.specs.Private.Heads.{Passes}
 use Rattle.slot_rule.proofs.HeadLaws.{IsFirstHead-read, IsFirstHead-all}
 use Rattle.slot_rule.proofs.heads.due_head.Goals as goal
 

@@ -1,4 +1,4 @@
-use Rattle.slot_rule.specs.Heads.{PassesAt}
+use Rattle.slot_rule.specs.Private.Heads.{PassesAt}
 use Rattle.slot_rule.proofs.HeadLaws.{IsFirstHead-read, IsFirstHead-all}
 use Rattle.slot_rule.proofs.heads.permitted_head.Goals as goal
 

@@ -1,5 +1,5 @@
 use Rattle.std.proofs.Common.{take}
-use Rattle.slot_rule.specs.Heads.{IsFirstHead, PassesAt}
+use Rattle.slot_rule.specs.Private.Heads.{IsFirstHead, PassesAt}
 use Rattle.slot_rule.proofs.heads.permitted_head.Given as goal
 
 abbrev pub invariant-loop-stream : goal.invariant-loop-stream

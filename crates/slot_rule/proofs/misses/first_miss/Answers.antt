@@ -1,8 +1,8 @@
 use Rattle.std.proofs.Common.{◌≡◌, ◌∷◌, [], ◌++◌, List, Some, None, map, All, sym, subst, arith}
 use Rattle.std.proofs.lemmas.List.{length_push}
-use Rattle.slot_rule.specs.declared.stream_state.StreamState.{StreamState}
-use Rattle.slot_rule.specs.States.{IsFirstState, stream_of}
-use Rattle.slot_rule.specs.Streams.{streams_of}
+use Rattle.slot_rule.specs.declared.queue_state.QueueState.{QueueState}
+use Rattle.slot_rule.specs.Private.States.{IsFirstState, queue_of}
+use Rattle.slot_rule.specs.Queues.{queues_of}
 use Rattle.slot_rule.proofs.MissLaws.{Reached-first, Reached-next, RowStands-next, miss_found, schedule_found, schedule_at_end}
 use Rattle.slot_rule.proofs.RuleEnd.{answer_scheduled, answer_missed}
 use Rattle.slot_rule.proofs.SmallLaws.{all_soon}
@@ -13,8 +13,8 @@ loop-n-init c =
     let table = c.args.table.now in
     let choice = c.args.choice.now in
     let same = sym c.as_mut_slice-states.ensures.value in
-    Reached-first table choice c.as_mut_slice-states.result.now (subst (λ (s : List StreamState). map (stream_of table choice) s ≡ streams_of table choice) same c.first_states-states.ensures.streams)
-    (subst (λ (s : List StreamState). All (IsFirstState table choice) s) same c.first_states-states.ensures.first)
+    Reached-first table choice c.as_mut_slice-states.result.now (subst (λ (s : List QueueState). map (queue_of table choice) s ≡ queues_of table choice) same c.first_states-states.ensures.queues)
+    (subst (λ (s : List QueueState). All (IsFirstState table choice) s) same c.first_states-states.ensures.first)
 
 pub slot-requires-clause-soon : goal.slot-requires-clause-soon
 slot-requires-clause-soon c =
@@ -27,7 +27,7 @@ pub slot-requires-clause-row : goal.slot-requires-clause-row
 slot-requires-clause-row c =
     let reached = c.loop-n.invariant in
     let step = c.run_slot-row.ensures reached.rows reached.slots_are reached.run in
-    RowStands-next c.args.table.now c.args.choice.now c.requires.valid c.requires.fits reached.rows c.run_slot-row.result c.run_slot-row.new.states step.1.streams step.0
+    RowStands-next c.args.table.now c.args.choice.now c.requires.valid c.requires.fits reached.rows c.run_slot-row.result c.run_slot-row.new.states step.1.queues step.0
 
 pub returns-in-Missed-clause-scheduled : goal.returns-in-Missed-clause-scheduled
 returns-in-Missed-clause-scheduled c =

@@ -1,10 +1,10 @@
 use Rattle.std.proofs.Common.{◌≡◌, ◌+◌, ℕ, ◌∷◌, [], ◌++◌, List, length, map, All, sym, subst, subst₂, arith}
 use Rattle.std.proofs.lemmas.List.{length_push}
 use Rattle.slot_rule.specs.declared.sent.Sent.{Sent}
-use Rattle.slot_rule.specs.declared.stream_state.StreamState.{StreamState}
-use Rattle.slot_rule.specs.IdleSlots.{FillsPeriod}
-use Rattle.slot_rule.specs.States.{IsFirstState, stream_of}
-use Rattle.slot_rule.specs.Streams.{streams_of}
+use Rattle.slot_rule.specs.declared.queue_state.QueueState.{QueueState}
+use Rattle.slot_rule.specs.Private.IdleSlots.{FillsPeriod}
+use Rattle.slot_rule.specs.Private.States.{IsFirstState, queue_of}
+use Rattle.slot_rule.specs.Queues.{queues_of}
 use Rattle.slot_rule.proofs.ListedLaws.{Listed, Listed-first, Listed-next, IsSlotList-found, TellsMisses-listed, TellsMisses-missed, nothing_left_at_end}
 use Rattle.slot_rule.proofs.MissLaws.{RowStands-next, miss_found}
 use Rattle.slot_rule.proofs.SlotListLaws.{some_period}
@@ -18,14 +18,14 @@ loop-n-init c =
     let same = sym c.as_mut_slice-states.ensures.value in
     subst (λ (sent : List Sent). Listed table choice 0 c.as_mut_slice-states.result.now sent) (sym c.new-rows.ensures)
     (Listed-first table choice c.as_mut_slice-states.result.now
-    (subst (λ (s : List StreamState). map (stream_of table choice) s ≡ streams_of table choice) same c.first_states-states.ensures.streams)
-    (subst (λ (s : List StreamState). All (IsFirstState table choice) s) same c.first_states-states.ensures.first))
+    (subst (λ (s : List QueueState). map (queue_of table choice) s ≡ queues_of table choice) same c.first_states-states.ensures.queues)
+    (subst (λ (s : List QueueState). All (IsFirstState table choice) s) same c.first_states-states.ensures.first))
 
 pub sent-requires-clause-stands : goal.sent-requires-clause-stands
 sent-requires-clause-stands c =
     let reached = c.loop-n.invariant.reached in
     let step = c.run_slot-row.ensures reached.rows reached.slots_are reached.run in
-    RowStands-next c.args.table.now c.args.choice.now c.requires.valid c.requires.fits reached.rows c.run_slot-row.result c.run_slot-row.new.states step.1.streams step.0
+    RowStands-next c.args.table.now c.args.choice.now c.requires.valid c.requires.fits reached.rows c.run_slot-row.result c.run_slot-row.new.states step.1.queues step.0
 
 pub slot-requires-clause-soon : goal.slot-requires-clause-soon
 slot-requires-clause-soon c =
@@ -38,7 +38,7 @@ pub slot-requires-clause-row : goal.slot-requires-clause-row
 slot-requires-clause-row c =
     let reached = c.loop-n.invariant.reached in
     let step = c.run_slot-row.ensures reached.rows reached.slots_are reached.run in
-    RowStands-next c.args.table.now c.args.choice.now c.requires.valid c.requires.fits reached.rows c.run_slot-row.result c.run_slot-row.new.states step.1.streams step.0
+    RowStands-next c.args.table.now c.args.choice.now c.requires.valid c.requires.fits reached.rows c.run_slot-row.result c.run_slot-row.new.states step.1.queues step.0
 
 pub returns-in-Missed-clause-missed : goal.returns-in-Missed-clause-missed
 returns-in-Missed-clause-missed c =

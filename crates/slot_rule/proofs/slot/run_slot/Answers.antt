@@ -1,8 +1,8 @@
 use Rattle.std.proofs.Common.{◌≡◌, ℕ, ◌*◌, List, length, sym, ap, ap₂, subst, ◌∙◌, arith}
-use Rattle.slot_rule.specs.declared.stream_state.StreamState.{StreamState}
+use Rattle.slot_rule.specs.declared.queue_state.QueueState.{QueueState}
 use Rattle.slot_rule.specs.Buffers.{Row, slot_subticks}
-use Rattle.slot_rule.specs.Slots.{Fills, Reserves}
-use Rattle.slot_rule.specs.States.{ChangesEach, Drains, ReleasesAll}
+use Rattle.slot_rule.specs.Private.Slots.{FillsSlot, Reserves}
+use Rattle.slot_rule.specs.Private.States.{ChangesEach, Drains, ReleasesAll}
 use Rattle.slot_rule.specs.Timetable.{reserved}
 use Rattle.slot_rule.proofs.SlotLaws.{reserved_slot-run, free_slot-run}
 use Rattle.slot_rule.proofs.SmallLaws.{states_few, all_small, all_ready, all_placed}
@@ -42,13 +42,13 @@ returns c rows len run =
     elim c.match-at.branch [
       | in-Some w ↦
           reserved_slot-run table choice rows w.in-Some.reserved c.match-at.row olds mids news run (at ∙ w.in-Some.is) (w.row-is ∙ w.reserve-row.ensures.row)
-          (subst (λ (states : List StreamState). Reserves w.in-Some.reserved olds states) (sym w.states-is) w.reserve-row.ensures.changes) drains
+          (subst (λ (states : List QueueState). Reserves w.in-Some.reserved olds states) (sym w.states-is) w.reserve-row.ensures.changes) drains
       | in-None w ↦
           (let filled = w.send_first-row.ensures in
           let start : w.from.result * w.from-in-None.result ≡ length rows * table.slot = ap₂ ◌*◌ (w.from.ensures ∙ sym len) w.from-in-None.ensures in
           free_slot-run table choice c.requires.valid c.requires.fits rows c.match-at.row olds filled.0 mids news run (at ∙ w.in-None.is)
           (subst (λ (n : ℕ). ChangesEach (ReleasesAll table choice n) olds filled.0) start filled.1)
-          (subst (λ (row : Row). Fills table choice (length rows * table.slot) row filled.0 mids) (sym w.row-is)
-          (subst (λ (states : List StreamState). Fills table choice (length rows * table.slot) w.send_first-row.result filled.0 states) (sym w.states-is)
-          (subst (λ (n : ℕ). Fills table choice n w.send_first-row.result filled.0 w.send_first-row.new.states) start filled.2))) drains)
+          (subst (λ (row : Row). FillsSlot table choice (length rows * table.slot) row filled.0 mids) (sym w.row-is)
+          (subst (λ (states : List QueueState). FillsSlot table choice (length rows * table.slot) w.send_first-row.result filled.0 states) (sym w.states-is)
+          (subst (λ (n : ℕ). FillsSlot table choice n w.send_first-row.result filled.0 w.send_first-row.new.states) start filled.2))) drains)
     ]

@@ -1,7 +1,7 @@
 use Rattle.std.proofs.Common.{arith}
 use Rattle.std.proofs.lemmas.Option.{slice_get_within}
-use Rattle.slot_rule.specs.States.{ReleasesAll}
-use Rattle.slot_rule.specs.StreamState.{IsReady}
+use Rattle.slot_rule.specs.Private.States.{ReleasesAll}
+use Rattle.slot_rule.specs.Private.QueueState.{IsReady}
 use Rattle.slot_rule.proofs.SendLaws.{All-over, IsSender-first, SendsOne-set, released_ready}
 use Rattle.slot_rule.proofs.slot.send_first.Goals as goal
 

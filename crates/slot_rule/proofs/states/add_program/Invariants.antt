@@ -1,14 +1,14 @@
 use Rattle.std.proofs.Common.{◌≡◌, ◌+◌, All, ◌∷◌, ◌++◌, drop, map, take}
 use Rattle.arrayvec.specs.ArrayVec.{array_vec_len}
-use Rattle.slot_rule.specs.Source.{program_at}
-use Rattle.slot_rule.specs.States.{IsFirstState, stream_of}
-use Rattle.slot_rule.specs.Streams.{audio_of, video_of}
+use Rattle.slot_rule.specs.Private.QueueItems.{program_at}
+use Rattle.slot_rule.specs.Private.States.{IsFirstState, queue_of}
+use Rattle.slot_rule.specs.Queues.{audio_of, video_of}
 use Rattle.slot_rule.proofs.states.add_program.Given as goal
 
 abbrev pub invariant-loop-audio : goal.invariant-loop-audio
 invariant-loop-audio l = record {
-  streams : map (stream_of l.table l.choice) l.states.items
-      ≡ map (stream_of l.table l.choice) l.fn.states.items
+  queues : map (queue_of l.table l.choice) l.states.items
+      ≡ map (queue_of l.table l.choice) l.fn.states.items
       ++ (video_of l.program (program_at l.table l.program) (drop l.first l.choice) ∷ map audio_of (take l.audio (program_at l.table l.program).audios));
   first : All (IsFirstState l.table l.choice) l.states.items;
   many : array_vec_len l.states ≡ array_vec_len l.fn.states + (1 + l.audio);

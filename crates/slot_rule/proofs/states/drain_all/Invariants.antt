@@ -1,4 +1,4 @@
-use Rattle.slot_rule.specs.States.{Drains}
+use Rattle.slot_rule.specs.Private.States.{Drains}
 use Rattle.slot_rule.proofs.ListSteps.{ChangesFirst}
 use Rattle.slot_rule.proofs.states.drain_all.Given as goal
 

@@ -1,5 +1,5 @@
 use Rattle.std.proofs.Common.{◌<◌, length, arith}
-use Rattle.slot_rule.specs.States.{ReleasesAll}
+use Rattle.slot_rule.specs.Private.States.{ReleasesAll}
 use Rattle.slot_rule.proofs.ListSteps.{ChangesFirst-more, ChangesEach-from_first}
 use Rattle.slot_rule.proofs.states.release_all.Goals as goal
 

@@ -1,4 +1,4 @@
-use Rattle.slot_rule.specs.States.{ReleasesAll}
+use Rattle.slot_rule.specs.Private.States.{ReleasesAll}
 use Rattle.slot_rule.proofs.ListSteps.{ChangesFirst}
 use Rattle.slot_rule.proofs.states.release_all.Given as goal
 

@@ -1,5 +1,5 @@
 use Rattle.std.proofs.Common.{◌≡◌, map, take}
-use Rattle.version_table.specs.Draft.{kept}
+use Rattle.version_table.specs.Private.Draft.{kept}
 use Rattle.version_table.proofs.draft.kept_versions.Given as goal
 
 abbrev pub invariant-loop-version : goal.invariant-loop-version

@@ -1,4 +1,4 @@
-use Rattle.std.proofs.Common.{Err, arith}
+use Rattle.std.proofs.Common.{arith}
 use Rattle.version_table.proofs.Readers.{too_long, only_answer}
 use Rattle.version_table.proofs.read.read_table.Goals as goal
 

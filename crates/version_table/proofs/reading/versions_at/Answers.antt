@@ -1,8 +1,8 @@
-use Rattle.std.proofs.Common.{◌≡◌, ◌<◌, ◌≤◌, length, ap, sym, ◌∙◌, arith}
+use Rattle.std.proofs.Common.{◌≡◌, ◌<◌, length, sym, arith}
 use Rattle.std.proofs.lemmas.Bool.{eqb-true, eqb-false}
 use Rattle.std.proofs.lemmas.List.{length_push}
 use Rattle.version_table.specs.declared.limits.TheConstants.{VERSIONS_MOST}
-use Rattle.version_table.specs.Reading.{versions_at}
+use Rattle.version_table.specs.Private.Reading.{versions_at}
 use Rattle.version_table.proofs.Versions.{goes_on, one_too_many, breaks_off, stops}
 use Rattle.version_table.proofs.reading.versions_at.Goals as goal
 

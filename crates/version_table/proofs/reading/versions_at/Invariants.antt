@@ -1,6 +1,6 @@
 use Rattle.std.proofs.Common.{◌≡◌, ◌-◌, ◌≤◌, length}
 use Rattle.version_table.specs.declared.limits.TheConstants.{VERSIONS_MOST}
-use Rattle.version_table.specs.Reading.{versions_at}
+use Rattle.version_table.specs.Private.Reading.{versions_at}
 use Rattle.version_table.proofs.Versions.{with_front}
 use Rattle.version_table.proofs.reading.versions_at.Given as goal
 

@@ -1,5 +1,5 @@
 use Rattle.std.proofs.Common.{◌≡◌, ℕ, ◌+◌, ◌++◌}
-use Rattle.slot_rule.specs.IdleSlots.{idle_slots}
+use Rattle.slot_rule.specs.Private.IdleSlots.{idle_slots}
 use Rattle.slot_rule.proofs.slot_list.SlotList.fill.Given as goal
 
 abbrev pub invariant-loop-n : goal.invariant-loop-n

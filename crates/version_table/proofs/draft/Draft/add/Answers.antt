@@ -1,9 +1,7 @@
-use Rattle.std.proofs.Common.{◌^◌, ◌<◌, sym, subst, arith}
+use Rattle.std.proofs.Common.{◌^◌, ◌<◌, arith}
 use Rattle.std.proofs.lemmas.List.Elements.{All-weaker}
-use Rattle.version_table.specs.declared.line.Line.{Line}
-use Rattle.version_table.specs.declared.line.Line.TheVariants.{Title, Slot, Nodes, Evaluations, Program, Coded, Audio, Packet}
-use Rattle.version_table.specs.Draft.{AddsLine, Allows, lines_of_draft}
-use Rattle.version_table.proofs.Kept.{Keeps, KeepsVersion, keeps_from}
+use Rattle.version_table.specs.Private.Draft.{lines_of_draft}
+use Rattle.version_table.proofs.Kept.{KeepsVersion, keeps_from}
 use Rattle.version_table.proofs.Drafts.{adds_title, adds_slot, adds_nodes, adds_evaluations, adds_program, adds_unit, adds_audio, adds_packet}
 use Rattle.version_table.proofs.draft.Draft.add.Goals as goal
 
@@ -29,13 +27,13 @@ overflow_cast-vbv c =
 
 pub add_unit-requires-clause-few : goal.add_unit-requires-clause-few
 add_unit-requires-clause-few c =
-    let keeps = rw c.in-Coded.is at (keeps_from (lines_of_draft c.args.stage c.args.self.now) c.args.line.now c.requires.kept) in
+    let keeps = rw c.in-Unit.is at (keeps_from (lines_of_draft c.args.stage c.args.self.now) c.args.line.now c.requires.kept) in
     omega (arith, keeps.units, c.requires.draft.unit_count)
 
 pub add_unit-requires-clause-small : goal.add_unit-requires-clause-small
 add_unit-requires-clause-small c =
-    let keeps = rw c.in-Coded.is at (keeps_from (lines_of_draft c.args.stage c.args.self.now) c.args.line.now c.requires.kept) in
-    All-weaker KeepsVersion (λ version. version.bytes < 2 ^ 32) (λ version h. omega (arith, h.bytes)) c.in-Coded.versions.items keeps.each
+    let keeps = rw c.in-Unit.is at (keeps_from (lines_of_draft c.args.stage c.args.self.now) c.args.line.now c.requires.kept) in
+    All-weaker KeepsVersion (λ version. version.bytes < 2 ^ 32) (λ version h. omega (arith, h.bytes)) c.in-Unit.versions.items keeps.each
 
 pub overflow_cast-bytes : goal.overflow_cast-bytes
 overflow_cast-bytes c =
@@ -73,11 +71,11 @@ returns-in_ok-add_program-in-Program c =
     let new = c.in_ok-add_program-in-Program.ensures in
     rw (is, new) (adds_program c.args.self.now c.args.stage c.in-Program.vbv (rw is at c.requires.stands) c.requires.draft)
 
-pub returns-in_ok-add_unit-in-Coded : goal.returns-in_ok-add_unit-in-Coded
-returns-in_ok-add_unit-in-Coded c =
-    let is = c.in-Coded.is in
-    let new = c.in_ok-add_unit-in-Coded.ensures in
-    rw (is, new) (adds_unit c.args.self.now c.args.stage c.in-Coded.due c.in-Coded.versions (rw is at c.requires.stands) c.requires.draft)
+pub returns-in_ok-add_unit-in-Unit : goal.returns-in_ok-add_unit-in-Unit
+returns-in_ok-add_unit-in-Unit c =
+    let is = c.in-Unit.is in
+    let new = c.in_ok-add_unit-in-Unit.ensures in
+    rw (is, new) (adds_unit c.args.self.now c.args.stage c.in-Unit.due c.in-Unit.versions (rw is at c.requires.stands) c.requires.draft)
 
 pub returns-in_ok-close_audio-in-Audio : goal.returns-in_ok-close_audio-in-Audio
 returns-in_ok-close_audio-in-Audio c =

@@ -1,5 +1,5 @@
 use Rattle.std.proofs.Common.{refl}
-use Rattle.version_table.specs.Draft.{lines_of_draft}
+use Rattle.version_table.specs.Private.Draft.{lines_of_draft}
 use Rattle.version_table.proofs.Drafts.{no_lines}
 use Rattle.version_table.proofs.draft.Draft.new.Goals as goal
 

@@ -1,5 +1,4 @@
-use Rattle.std.proofs.Common.{sym, ap, length, ◌∙◌}
-use Rattle.version_table.specs.declared.table.ProgramRow.{ProgramRow}
+use Rattle.std.proofs.Common.{sym, ◌∙◌}
 use Rattle.version_table.proofs.DraftLines.{program_count_programs, program_count_open}
 use Rattle.version_table.proofs.draft.Draft.program_count.Goals as goal
 

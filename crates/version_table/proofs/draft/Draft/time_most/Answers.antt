@@ -1,4 +1,4 @@
-use Rattle.std.proofs.Common.{arith, ◌*◌, ap, sym, ◌∙◌, ℕ}
+use Rattle.std.proofs.Common.{◌*◌, ap, sym, ◌∙◌, ℕ}
 use Rattle.version_table.specs.declared.limits.TheConstants.{TIME_SLOTS_MOST}
 use Rattle.version_table.proofs.DraftLines.{slot_of_units, slot_of_packets}
 use Rattle.version_table.proofs.draft.Draft.time_most.Goals as goal

@@ -1,0 +1,41 @@
+-- The head packet that goes first among those that pass a test.
+use Rattle.std.specs.Prelude.{◌≡◌, ℕ, ◌⊎◌, List, slice_get, nat_lt, if◌then◌else◌, Option, Some, None}
+use Rattle.slot_rule.specs.declared.heads.Head.{Head}
+use Rattle.slot_rule.specs.declared.queue_state.QueueState.{QueueState}
+use Rattle.slot_rule.specs.Queues.{QueuedPacket}
+use Rattle.slot_rule.specs.Schedule.{IsBefore}
+use Rattle.slot_rule.specs.Private.QueueState.{Permits}
+
+-- the packet may go in a slot that begins at a time
+abbrev pub PassesAt : ℕ → QueueState → QueuedPacket → Type 0
+PassesAt start state packet = Permits state packet start
+
+-- any packet passes
+abbrev pub Passes : QueueState → QueuedPacket → Type 0
+Passes state packet = Unit {0}
+
+-- what the stream has to offer: its head packet if that passes
+abbrev pub IsOffer : (QueueState → QueuedPacket → Type 0) → (stream : ℕ) → QueueState → Option Head → Type 0
+IsOffer P stream state None = (packet : QueuedPacket) → state.head ≡ Some packet → P state packet → ⊥
+IsOffer P stream state (Some head) = (head.stream ≡ stream) × (state.head ≡ Some head.packet) × P state head.packet
+
+-- the head packet of the stream passes, and goes before that of each other stream that passes
+pub record IsFirst (P : QueueState → QueuedPacket → Type 0) (states : List QueueState) (stream : ℕ) (packet : QueuedPacket) : Type 0 where
+  pub state : QueueState
+  pub there : slice_get states stream ≡ Some state
+  pub head : state.head ≡ Some packet
+  pub passes : P state packet
+  pub first : (other : ℕ) (state' : QueueState) (packet' : QueuedPacket) → slice_get states other ≡ Some state' → state'.head ≡ Some packet'
+      → P state' packet' → (other ≡ stream) ⊎ IsBefore stream packet other packet'
+
+-- the head packet that goes first among those that pass; none where none passes
+abbrev pub IsFirstHead : (QueueState → QueuedPacket → Type 0) → List QueueState → Option Head → Type 0
+IsFirstHead P states None =
+    (stream : ℕ) (state : QueueState) (packet : QueuedPacket) → slice_get states stream ≡ Some state → state.head ≡ Some packet → P state packet → ⊥
+IsFirstHead P states (Some head) = IsFirst P states head.stream head.packet
+
+-- the one that is due first; the first of the two where they are due at the same time
+abbrev pub earlier_head : Option Head → Option Head → Option Head
+earlier_head first None = first
+earlier_head None (Some head) = Some head
+earlier_head (Some first) (Some head) = if nat_lt head.packet.due first.packet.due then Some head else Some first

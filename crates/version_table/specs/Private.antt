@@ -1,0 +1,4 @@
+pub mod Choices
+pub mod Draft
+pub mod Reader
+pub mod Reading
