@@ -1,5 +1,6 @@
 pub mod Blocks
-pub mod Codes
+pub mod MappedCodes
+pub mod PairSteps
 pub mod Examples
 pub mod Macroblocks
 pub mod Places

@@ -23,7 +23,7 @@ use Rattle.requantiser.specs.Macroblocks.{has_coefficients, is_empty_block, patt
 use Rattle.requantiser.specs.Private.Shapes.{BeginsWithLevel, HasShape}
 use Rattle.requantiser.specs.Private.Walk.{mapped_code, coarsened_block, coarsened_blocks, first_of, kept_blocks, is_coded_without_motion, are_empty, with_blocks, coarsened_macroblock}
 use Rattle.requantiser.proofs.Blocks.{level_from, level_here, level_there, level_before, coarsened_block-is, one_coarser_block}
-use Rattle.requantiser.proofs.Codes.{mapped_code-is, one_mapped}
+use Rattle.requantiser.proofs.MappedCodes.{mapped_code-is, one_mapped}
 use Rattle.requantiser.proofs.Places.{BothOrNone}
 use Rattle.requantiser.proofs.Ranges.{IsFirst, find-some, find-none}
 

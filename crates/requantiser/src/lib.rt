@@ -1,6 +1,9 @@
 //! Coarser pictures: the version of a coded picture whose coefficients are quantised more coarsely.
 #![tactic(auto)]
 
+mod block;
+mod codes;
+
 /// Bits of vbv_delay (ISO/IEC 13818-2, 6.2.3).
 pub const DELAY_BITS: u32 = 16;
 

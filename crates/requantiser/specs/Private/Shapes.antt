@@ -1,15 +1,22 @@
 -- What the walk needs of a macroblock; the grammar has it of each macroblock that bits spell.
-use Rattle.std.specs.Prelude.{◌≡◌, ◌≢◌, ◌<◌, ℕ, pos, None, List, [], ◌∷◌, length, true, false, slice_index_or}
+use Rattle.std.specs.Prelude.{◌≡◌, ◌≢◌, ◌<◌, ◌+◌, ◌-◌, ◌^◌, ℕ, unsigned_abs, pos, None, List, [], ◌∷◌, length, true, false, slice_index_or}
 use Rattle.syntax_types.specs.declared.block.Block.{Block}
 use Rattle.syntax_types.specs.declared.block.RunLevel.{RunLevel}
+use Rattle.syntax_types.specs.declared.block.TheConstants.{BLOCK_PLACES}
 use Rattle.syntax_types.specs.declared.macroblock.TheConstants.{BLOCKS}
 use Rattle.syntax_types.specs.declared.macroblock.Macroblock.{Macroblock}
+use Rattle.picture_grammar.specs.declared.escape.TheConstants.{LEVEL_BITS}
 use Rattle.picture_grammar.specs.Macroblock.{is_coded, no_block}
 
 -- the first coefficient isn't 0
 abbrev pub BeginsWithLevel : List RunLevel → Type 0
 BeginsWithLevel [] = ⊥
 BeginsWithLevel (pair ∷ pairs) = pair.level ≢ pos 0
+
+-- the coefficients from a place on stand within the block, and their levels have a code
+abbrev pub FitBlock : ℕ → List RunLevel → Type 0
+FitBlock place [] = Unit {0}
+FitBlock place (pair ∷ pairs) = (place + pair.run < BLOCK_PLACES) × (unsigned_abs pair.level < 2 ^ (LEVEL_BITS - 1)) × FitBlock (place + pair.run + 1) pairs
 
 -- six blocks; those of a macroblock that isn't intra have no DC coefficient, and begin with a level where they are coded;
 -- a pattern has a block

@@ -39,6 +39,14 @@ coarsened_pairs new place waiting (pair ∷ pairs) =
       | false ↦ record { run = waiting + pair.run; level = new (place + pair.run) pair.level } ∷ coarsened_pairs new (place + pair.run + 1) 0 pairs
     ]
 
+-- a coefficient behind so many zeros, unless it is 0
+abbrev pub kept_pair : ℕ → ℤ → List RunLevel
+kept_pair zeros level = elim (unsigned_abs level == 0) [ true ↦ [] | false ↦ record { run = zeros; level = level } ∷ [] ]
+
+-- the zeros that wait behind a level that so many zeros precede
+abbrev pub zeros_behind : ℕ → ℤ → ℕ
+zeros_behind zeros level = elim (unsigned_abs level == 0) [ true ↦ zeros + 1 | false ↦ 0 ]
+
 abbrev pub coarsened_block : SeqState → PicCoding → BlockWay → ℕ → ℕ → Block → Block
 coarsened_block seq coding way code mapped block = record {
   dc = block.dc;
