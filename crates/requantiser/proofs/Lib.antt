@@ -3,6 +3,7 @@ pub mod MappedCodes
 pub mod PairSteps
 pub mod Examples
 pub mod Macroblocks
+pub mod Patterns
 pub mod Places
 pub mod Ranges
 pub mod ShapeTest

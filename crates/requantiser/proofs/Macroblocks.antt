@@ -4,7 +4,7 @@ use Rattle.std.specs.Prelude.{◌==◌, ◌&&◌, ◌||◌, not, is_some, slice_
 use Rattle.std.specs.Int.{int_signum}
 use Rattle.std.specs.List.{range_with_len}
 use Rattle.std.proofs.lemmas.Bool.{cases_order, and_parts, and_from, not-true}
-use Rattle.std.proofs.lemmas.List.{same_lists, get_or_default, get_or-replicate}
+use Rattle.std.proofs.lemmas.List.{same_lists, get_or_default, get_or-replicate, get_or-set_same, get_or-set_other}
 use Rattle.std.proofs.lemmas.List.Sums.{AllPass-from_list_all}
 use Rattle.std.proofs.lemmas.List.Elements.{All-get_or}
 use Rattle.std.proofs.lemmas.List.FromFn.{get_or-map-range_with_len, length-map-range_with_len}
@@ -36,11 +36,33 @@ empty_block block no_dc empty = ap₂ (λ d items. let block : Block = record { 
 
 module _ (seq : SeqState) (coding : PicCoding) (kind : Kind) (code mapped : ℕ) where
   -- the walk over the block with this index
-  abbrev one_block : List Block → ℕ → Block
+  abbrev pub one_block : List Block → ℕ → Block
   one_block blocks i = coarsened_block seq coding (block_way coding kind i) code mapped (slice_index_or blocks i no_block)
 
   get_or-coarsened : (blocks : List Block) (i : ℕ) → i < BLOCKS → get_or (coarsened_blocks seq coding kind code mapped blocks) i no_block ≡ one_block blocks i
   get_or-coarsened blocks i below = get_or-map-range_with_len (one_block blocks) 0 BLOCKS i i no_block below (omega arith)
+
+  -- blocks that are each what the walk makes are all that it makes
+  pub all_blocks : (blocks made : List Block) → length made ≡ BLOCKS → ((k : ℕ) → k < BLOCKS → get_or made k no_block ≡ one_block blocks k)
+      → made ≡ coarsened_blocks seq coding kind code mapped blocks
+  all_blocks blocks made six each = same_lists made (coarsened_blocks seq coding kind code mapped blocks) (six ∙ sym (length-map-range_with_len (one_block blocks) 0 BLOCKS))
+      (λ k d below. get_or_default made k d no_block below ∙ each k (omega (arith, six)) ∙ sym (get_or-coarsened blocks k (omega (arith, six)))
+      ∙ get_or_default (coarsened_blocks seq coding kind code mapped blocks) k no_block d (omega (arith, six, length-map-range_with_len (one_block blocks) 0 BLOCKS)))
+
+  -- one more block is made
+  pub one_more_block : (blocks before : List Block) (i : ℕ) (block d : Block) → length before ≡ BLOCKS → length blocks ≡ BLOCKS → i < BLOCKS
+      → block ≡ coarsened_block seq coding (block_way coding kind i) code mapped (get_or blocks i d)
+      → ((k : ℕ) → k < i → get_or before k no_block ≡ one_block blocks k)
+      → (k : ℕ) → k < i + 1 → get_or (slice_set before i block) k no_block ≡ one_block blocks k
+  one_more_block blocks before i block d six six' within is each k below = by_place (cases_order k i)
+    where
+      by_place : (k ≡ i) ⊎ ((k < i) ⊎ (i < k)) → get_or (slice_set before i block) k no_block ≡ one_block blocks k
+      by_place (inl here) =
+          ap (λ n. get_or (slice_set before i block) n no_block) here ∙ get_or-set_same before i block no_block (omega (arith, six))
+          ∙ is ∙ ap (coarsened_block seq coding (block_way coding kind i) code mapped) (get_or_default blocks i d no_block (omega (arith, six')))
+          ∙ ap (one_block blocks) (sym here)
+      by_place (inr (inl before_it)) = get_or-set_other before i k block no_block (λ e. absurd (omega arith)) ∙ each k before_it
+      by_place (inr (inr behind)) = absurd (omega arith)
 
   -- the walk over the blocks makes the coarser blocks
   pub coarsened_blocks-are : (blocks : List Block) → length blocks ≡ BLOCKS

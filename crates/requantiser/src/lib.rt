@@ -3,6 +3,7 @@
 
 mod block;
 mod codes;
+mod macroblock;
 
 /// Bits of vbv_delay (ISO/IEC 13818-2, 6.2.3).
 pub const DELAY_BITS: u32 = 16;

@@ -1,5 +1,6 @@
 -- What the walk needs of a macroblock; the grammar has it of each macroblock that bits spell.
-use Rattle.std.specs.Prelude.{◌≡◌, ◌≢◌, ◌<◌, ◌+◌, ◌-◌, ◌^◌, ℕ, unsigned_abs, pos, None, List, [], ◌∷◌, length, true, false, slice_index_or}
+use Rattle.std.specs.Prelude.{◌≡◌, ◌≢◌, ◌<◌, ◌+◌, ◌-◌, ◌^◌, ℕ, unsigned_abs, pos, Some, None, List, [], ◌∷◌, length, true, false, slice_index_or, if◌then◌else◌}
+use Rattle.quant_math.specs.Scales.{IsCode}
 use Rattle.syntax_types.specs.declared.block.Block.{Block}
 use Rattle.syntax_types.specs.declared.block.RunLevel.{RunLevel}
 use Rattle.syntax_types.specs.declared.block.TheConstants.{BLOCK_PLACES}
@@ -26,3 +27,8 @@ pub record HasShape (m : Macroblock) : Type 0 where
   pub begins : m.kind.intra ≡ false → (i : ℕ) → i < BLOCKS → is_coded m.kind m.pattern i ≡ true
       → let block : Block = slice_index_or m.blocks i no_block in BeginsWithLevel block.pairs.items
   pub some_coded : m.kind.intra ≡ false → m.kind.pattern ≡ true → (i : ℕ) × (i < BLOCKS) × (is_coded m.kind m.pattern i ≡ true)
+
+-- all coefficients stand within their blocks, and a code is one
+pub record IsMeasured (m : Macroblock) : Type 0 where
+  pub blocks : (i : ℕ) → i < BLOCKS → let block : Block = slice_index_or m.blocks i no_block in FitBlock (if m.kind.intra then 1 else 0) block.pairs.items
+  pub code : (code : ℕ) → m.code ≡ Some code → IsCode code

@@ -94,6 +94,15 @@ with_blocks coding mapped before skipped m blocks =
       blocks = blocks;
     }
 
+-- the blocks that stand in the coarser picture for those of a macroblock, or none where it is skipped
+abbrev pub made_blocks : SeqState → PicCoding → Bool → ℕ → ℕ → Macroblock → Option (List Block)
+made_blocks seq coding inner code mapped from =
+    let blocks = coarsened_blocks seq coding from.kind code mapped from.blocks in
+    elim (is_coded_without_motion from.kind && are_empty blocks) [
+      | false ↦ Some blocks
+      | true ↦ elim inner [ true ↦ None | false ↦ Some (kept_blocks from) ]
+    ]
+
 -- what becomes of a macroblock, where this code is in force in it, and that one before it in the coarser picture, behind
 -- so many skipped ones
 abbrev pub coarsened_macroblock : SeqState → PicCoding → ℕ → Bool → ℕ → ℕ → ℕ → Macroblock → Option Macroblock

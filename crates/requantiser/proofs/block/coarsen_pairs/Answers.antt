@@ -62,11 +62,11 @@ loop-pair-preserved c =
     let here = one_fits c.loop-pair.place c.loop-pair.pair-index c.args.pairs.now no_pair within c.loop-pair.invariant.fit in
     let fits : SFits w16 c.coarsen_level-level.result = search rules in
     let level : to_z w16 (of_z w16 c.coarsen_level-level.result) ≡ new (c.loop-pair.place + pair.run) pair.level =
-        to_z-of_z w16 c.coarsen_level-level.result fits ∙ c.coarsen_level-level.ensures ∙ ap (new (c.loop-pair.place + pair.run)) (held_level pair.level here.1) in
+    to_z-of_z w16 c.coarsen_level-level.result fits ∙ c.coarsen_level-level.ensures ∙ ap (new (c.loop-pair.place + pair.run)) (held_level pair.level here.1) in
     let items : c.add_level-waiting.new.to.items ≡ c.loop-pair.to.items ++ kept_pair zeros (new (c.loop-pair.place + pair.run) pair.level) =
-        c.add_level-waiting.ensures.items ∙ ap (λ level. c.loop-pair.to.items ++ kept_pair zeros level) level in
+    c.add_level-waiting.ensures.items ∙ ap (λ level. c.loop-pair.to.items ++ kept_pair zeros level) level in
     let waiting : c.add_level-waiting.result ≡ zeros_behind zeros (new (c.loop-pair.place + pair.run) pair.level) =
-        c.add_level-waiting.ensures.waiting ∙ ap (zeros_behind zeros) level in
+    c.add_level-waiting.ensures.waiting ∙ ap (zeros_behind zeros) level in
     record {
       rest = ap₂ (λ xs n. xs ++ coarsened_pairs new (c.loop-pair.place + pair.run + 1) n (drop (c.loop-pair.pair-index + 1) c.args.pairs.now)) items waiting
           ∙ one_pair new c.loop-pair.place c.loop-pair.waiting c.loop-pair.pair-index c.args.pairs.now c.loop-pair.to.items _ no_pair within c.loop-pair.invariant.rest;
