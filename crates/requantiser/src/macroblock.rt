@@ -1,12 +1,12 @@
 ghost use Rattle.std.specs.Prelude.{◌≡◌, ◌<◌, ◌^◌, ◌+◌, ℕ, Option, true, false, if◌then◌else◌, unwrap_or, IsTrue, ◌↔◌};
 ghost use Rattle.quant_math.specs.Scales.{IsCode, IsMappedCode};
 ghost use Rattle.syntax_types.specs.declared.block.Block.{Block as BlockOf};
-ghost use Rattle.picture_grammar.specs.Macroblock.{block_way as way_of_block, has_dct_type as dct_type_stands, is_coded as is_coded_block};
+ghost use Rattle.picture_grammar.specs.Macroblock.{block_way as way_of_block, has_dct_type as dct_type_stands, is_coded as is_coded_block, no_block};
 ghost use Rattle.requantiser.specs.Blocks.{no_blocks};
 ghost use Rattle.requantiser.specs.Levels.{HasWeights};
 ghost use Rattle.requantiser.specs.Macroblocks.{pattern_of as pattern_of_blocks};
-ghost use Rattle.requantiser.specs.Private.Shapes.{HasShape, IsMeasured};
-ghost use Rattle.requantiser.specs.Private.Walk.{coarsened_blocks, made_blocks, kept_blocks, first_coded as first_coded_block, are_empty as are_all_empty, is_coded_without_motion as stands_without_motion, with_blocks};
+ghost use Rattle.requantiser.specs.Private.Shapes.{FitBlock, HasShape, IsMeasured};
+ghost use Rattle.requantiser.specs.Private.Walk.{coarsened_blocks, made_blocks, kept_blocks, first_of, first_coded as first_coded_block, are_empty as are_all_empty, is_coded_without_motion as stands_without_motion, with_blocks};
 
 use crate::block::coarsen_block;
 use crate::codes::Codes;
@@ -89,13 +89,24 @@ fn are_empty(blocks: &[Block; BLOCKS]) -> bool
 /// Of the blocks of a macroblock that are all emptied, the first one that is coded keeps its first coefficient, with a
 /// level of 1.
 fn keep_first(from: &Macroblock, to: &mut [Block; BLOCKS])
+    requires shape { HasShape from.now }
+    requires measured { IsMeasured from.now }
     requires empty { to.old ≡ no_blocks }
     ensures { to.new ≡ kept_blocks from.now }
 {
     let i = first_coded(from);
-    if let Some(pair) = from.blocks[i].pairs.as_slice().first() {
+    keep_level(&from.blocks[i], &mut to[i]);
+}
+
+/// Writes the first coefficient of a block with a level of 1 into an empty one.
+fn keep_level(from: &Block, to: &mut Block)
+    requires fits { (start : ℕ) × FitBlock start from.now.pairs.items }
+    requires empty { to.old ≡ no_block }
+    ensures { to.new ≡ first_of from.now }
+{
+    if let Some(pair) = from.pairs.as_slice().first() {
         let level = pair.level.signum();
-        to[i].pairs.push(RunLevel {
+        to.pairs.push(RunLevel {
             run: pair.run,
             level,
         });
