@@ -1,5 +1,5 @@
 -- What the walk makes of a macroblock is what the version has there, and nothing else is.
-use Rattle.std.proofs.Common.{◌≡◌, ◌≢◌, ℕ, ◌+◌, ◌<◌, pos, Option, Some, None, List, [], ◌∷◌, Bool, true, false, refl, sym, ◌∙◌, ap, ap₂, subst, ◌⊎◌, inl, inr, arith, length, unwrap_or, get_or}
+use Rattle.std.proofs.Common.{◌≡◌, ◌≢◌, ℕ, ◌+◌, ◌<◌, pos, Option, Some, None, List, [], ◌∷◌, Bool, true, false, refl, sym, ◌∙◌, ap, ap₂, subst, ◌⊎◌, inl, inr, arith, length, unwrap_or, get_or, option_map}
 use Rattle.std.specs.Prelude.{◌==◌, ◌&&◌, ◌||◌, not, is_some, slice_index_or, slice_set, find, if◌then◌else◌}
 use Rattle.std.specs.Int.{int_signum}
 use Rattle.std.specs.List.{range_with_len}
@@ -21,7 +21,7 @@ use Rattle.requantiser.specs.Blocks.{IsCoarserBlock, AreCoarserBlocks, KeepsFirs
 use Rattle.requantiser.specs.Levels.{level_at}
 use Rattle.requantiser.specs.Macroblocks.{has_coefficients, is_empty_block, pattern_of, IsEmptiedWithoutMotion, HasBlocks, IsCoarserMacroblock, IsCoarserAt}
 use Rattle.requantiser.specs.Private.Shapes.{BeginsWithLevel, HasShape}
-use Rattle.requantiser.specs.Private.Walk.{mapped_code, coarsened_block, coarsened_blocks, first_of, kept_blocks, is_coded_without_motion, are_empty, with_blocks, coarsened_macroblock}
+use Rattle.requantiser.specs.Private.Walk.{mapped_code, coarsened_block, coarsened_blocks, first_of, kept_blocks, is_coded_without_motion, are_empty, with_blocks, made_blocks, coarsened_macroblock}
 use Rattle.requantiser.proofs.Blocks.{level_from, level_here, level_there, level_before, coarsened_block-is, one_coarser_block}
 use Rattle.requantiser.proofs.MappedCodes.{mapped_code-is, one_mapped}
 use Rattle.requantiser.proofs.Places.{BothOrNone}
@@ -345,3 +345,25 @@ module _ (seq : SeqState) (coding : PicCoding) (m : ℕ) (inner : Bool) (code be
       ap (behind_skipped skipped) (coarser-is seq coding (unwrap_or from.code code) mapped before from a first)
       ∙ ap (λ blocks. with_blocks coding mapped before skipped from blocks) blocks
       ∙ sym (ap (behind_skipped skipped) (coarser-is seq coding (unwrap_or from.code code) mapped before from b again))
+
+-- the walk over a macroblock makes its blocks, then what it says
+pub coarsened_macroblock-made : (seq : SeqState) (coding : PicCoding) (m : ℕ) (inner : Bool) (code mapped before skipped : ℕ) (from : Macroblock) (made : Option (List Block))
+    → mapped ≡ mapped_code coding.q_scale_type m code → made ≡ made_blocks seq coding inner code mapped from
+    → option_map (with_blocks coding mapped before skipped from) made ≡ coarsened_macroblock seq coding m inner code before skipped from
+coarsened_macroblock-made seq coding m inner code mapped before skipped from made is made_is =
+    ap (option_map (with_blocks coding mapped before skipped from)) made_is
+    ∙ ap (λ n. option_map (with_blocks coding n before skipped from) (made_blocks seq coding inner code n from)) is
+    ∙ by_test (is_coded_without_motion from.kind && are_empty blocks) inner refl refl
+  where
+    blocks : List Block
+    blocks = coarsened_blocks seq coding from.kind code (mapped_code coding.q_scale_type m code) from.blocks
+
+    with : List Block → Macroblock
+    with bs = with_blocks coding (mapped_code coding.q_scale_type m code) before skipped from bs
+
+    by_test : (t i : Bool) → t ≡ (is_coded_without_motion from.kind && are_empty blocks) → i ≡ inner
+        → option_map with (elim t [ false ↦ Some blocks | true ↦ elim i [ true ↦ None | false ↦ Some (kept_blocks from) ] ])
+        ≡ (elim t [ false ↦ Some (with blocks) | true ↦ elim i [ true ↦ None | false ↦ Some (with (kept_blocks from)) ] ])
+    by_test false i test is = refl
+    by_test true true test is = refl
+    by_test true false test is = refl

@@ -4,6 +4,8 @@
 mod block;
 mod codes;
 mod macroblock;
+mod step;
+mod version_state;
 
 /// Bits of vbv_delay (ISO/IEC 13818-2, 6.2.3).
 pub const DELAY_BITS: u32 = 16;

@@ -20,7 +20,7 @@ use syntax_types::{
 const LUMINANCE_BLOCKS: usize = 4;
 
 /// Writes the blocks that stand in the coarser picture for those of a macroblock, and says whether it is coded there.
-fn make_blocks(
+pub fn make_blocks(
     seq: &SeqState,
     coding: &PicCoding,
     codes: Codes,
@@ -134,7 +134,7 @@ fn is_coded(kind: Kind, pattern: u8, i: usize) -> bool
 }
 
 /// Writes what a macroblock says in the coarser picture besides its blocks, which stand already.
-fn write_head(
+pub fn write_head(
     coding: &PicCoding,
     mapped: u8,
     before: u8,
