@@ -1,33 +1,22 @@
 -- What a sink got in several calls: what each function that puts bits by other ones needs. They speak of `Gets` and
 -- `GetsFront`, so of `Puts` and `PutsFront` between states of a writer.
-use Rattle.std.proofs.Common.{◌≡◌, ℕ, ◌+◌, ◌-◌, ◌*◌, ◌%◌, ◌^◌, ◌<◌, List, [], ◌∷◌, ◌++◌, Option, None, Some, false, Result, Ok, Err, OnOk, IsErrAnd, ◌≤◌, length, drop, refl, sym, ap, subst, inl, inr, ◌∙◌, arith, append_assoc, append-nil, length-append}
+use Rattle.std.proofs.Common.{◌≡◌, ℕ, ◌+◌, ◌-◌, ◌*◌, ◌%◌, ◌^◌, ◌<◌, List, [], ◌++◌, false, Result, Ok, Err, OnOk, IsErrAnd, ◌≤◌, length, refl, sym, ap, subst, inl, inr, ◌∙◌, arith, append_assoc, append-nil, length-append}
 use Rattle.std.proofs.lemmas.Bool.{cases_lt}
 use Rattle.std.proofs.lemmas.Result.{on_ok_weaker, on_err_weaker}
 use Rattle.shelf_io.specs.declared.fault.Fault.{Fault}
 use Rattle.shelf_io.specs.Counts.{Rose}
-use Rattle.shelf_io.specs.Sink.{with_bytes}
-use Rattle.bit_lists.specs.Bits.{IsPrefix}
-use Rattle.bit_lists.specs.Fields.{AreBytes, bit_list}
-use Rattle.bit_lists.proofs.PrefixLemmas.{IsPrefix-append, IsPrefix-split, IsPrefix-through}
+use Rattle.shelf_io.specs.Sink.{Told, with_bytes}
+use Rattle.shelf_io.proofs.Written.{with_bytes-twice}
+use Rattle.bit_lists.specs.Fields.{bit_list}
+use Rattle.bit_lists.proofs.ByteLemmas.{bit_list-append, length-bit_list, AreBytes-append}
+use Rattle.bit_lists.proofs.PrefixLemmas.{IsPrefix-append, IsPrefix-behind, IsPrefix-through}
 use Rattle.bit_cursor.specs.declared.bit_writer.BitWriter.{BitWriter}
 use Rattle.bit_cursor.specs.BitWriter.{Gets, GetsFront, AddsBits, Writes, told_by, waiting_in, is_stopped, sink_of}
-use Rattle.bit_cursor.proofs.Gets.{bit_list-append, length-bit_list, gets_none}
+use Rattle.bit_cursor.proofs.Gets.{gets_none}
 
-AreBytes-append : (xs ys : List ℕ) → AreBytes xs → AreBytes ys → AreBytes (xs ++ ys)
-AreBytes-append [] ys are are' = are'
-AreBytes-append (x ∷ xs) ys are are' = (are.0, AreBytes-append xs ys are.1 are')
-
-with_bytes-twice : (told : Option (List ℕ)) (xs ys : List ℕ) → with_bytes (with_bytes told xs) ys ≡ with_bytes told (xs ++ ys)
-with_bytes-twice None xs ys = refl
-with_bytes-twice (Some bytes) xs ys = ap Some (append_assoc bytes xs ys)
-
-IsPrefix-behind : (front c d : List ℕ) → IsPrefix c d → IsPrefix (front ++ c) (front ++ d)
-IsPrefix-behind front c d begins =
-    let split : front ++ d ≡ (front ++ c) ++ drop (length c) d = ap (λ rest. front ++ rest) (IsPrefix-split c d begins) ∙ sym (append_assoc front c (drop (length c) d)) in
-    rw split (IsPrefix-append (front ++ c) (drop (length c) d))
 
 -- what was put in two calls, one after the other
-pub gets_twice : {told mid after : Option (List ℕ)} {waited first waits then still : List ℕ} → Gets told mid waited first waits → Gets mid after waits then still → Gets told after waited (first ++ then) still
+pub gets_twice : {told mid after : Told} {waited first waits then still : List ℕ} → Gets told mid waited first waits → Gets mid after waits then still → Gets told after waited (first ++ then) still
 gets_twice {told} {waited} {first} {waits} {then} {still} a b = record {
   bytes = a.bytes ++ b.bytes;
   are_bytes = AreBytes-append a.bytes b.bytes a.are_bytes b.are_bytes;
@@ -37,7 +26,7 @@ gets_twice {told} {waited} {first} {waits} {then} {still} a b = record {
 }
 
 -- and in two calls of which the second one failed
-pub gets_then_front : {told mid after : Option (List ℕ)} {waited first waits then : List ℕ} → Gets told mid waited first waits → GetsFront mid after waits then → GetsFront told after waited (first ++ then)
+pub gets_then_front : {told mid after : Told} {waited first waits then : List ℕ} → Gets told mid waited first waits → GetsFront mid after waits then → GetsFront told after waited (first ++ then)
 gets_then_front {told} {waited} {first} {waits} {then} a b =
     let order : bit_list a.bytes ++ (waits ++ then) ≡ waited ++ (first ++ then) =
     sym (append_assoc (bit_list a.bytes) waits then) ∙ ap (λ bits. bits ++ then) a.in_order ∙ append_assoc waited first then in
@@ -49,7 +38,7 @@ gets_then_front {told} {waited} {first} {waits} {then} a b =
     }
 
 -- and in a call that failed, with more to come
-pub gets_front_more : {told after : Option (List ℕ)} {waited first : List ℕ} (more : List ℕ) → GetsFront told after waited first → GetsFront told after waited (first ++ more)
+pub gets_front_more : {told after : Told} {waited first : List ℕ} (more : List ℕ) → GetsFront told after waited first → GetsFront told after waited (first ++ more)
 gets_front_more {waited} {first} more a = record {
   bytes = a.bytes;
   are_bytes = a.are_bytes;
@@ -58,17 +47,17 @@ gets_front_more {waited} {first} more a = record {
 }
 
 -- the bits that stand behind a whole byte are all that stood and all that were put, but for the whole bytes among them
-pub gets_odd : {told after : Option (List ℕ)} {waited put waits : List ℕ} → Gets told after waited put waits → length waits % 8 ≡ (length waited + length put) % 8
+pub gets_odd : {told after : Told} {waited put waits : List ℕ} → Gets told after waited put waits → length waits % 8 ≡ (length waited + length put) % 8
 gets_odd {waited} {put} {waits} a =
     let lengths : 8 * length a.bytes + length waits ≡ length waited + length put =
     ap (λ n. n + length waits) (sym (length-bit_list a.bytes)) ∙ sym (length-append (bit_list a.bytes) waits) ∙ ap (length {A = ℕ}) a.in_order ∙ length-append waited put in
     omega arith
 
-pub odd_after : {told after : Option (List ℕ)} {waited put waits : List ℕ} (n : ℕ) → length put ≡ n → Gets told after waited put waits → length waits % 8 ≡ (length waited % 8 + n) % 8
+pub odd_after : {told after : Told} {waited put waits : List ℕ} (n : ℕ) → length put ≡ n → Gets told after waited put waits → length waits % 8 ≡ (length waited % 8 + n) % 8
 odd_after {waited} {put} {waits} n is a = let odd : length waits % 8 ≡ (length waited + length put) % 8 = gets_odd a in omega arith
 
 -- what was put by a writer in which nothing waited and that was finished
-pub gets_whole : {told mid after : Option (List ℕ)} {put waits : List ℕ} → Gets told mid [] put waits → Gets mid after waits [] [] → AddsBits told after put
+pub gets_whole : {told mid after : Told} {put waits : List ℕ} → Gets told mid [] put waits → Gets mid after waits [] [] → AddsBits told after put
 gets_whole {put} a b =
     let all = gets_twice a b in
     record {
@@ -86,7 +75,7 @@ rose_later a b c first then rose small = elim (cases_lt b (2 ^ 64 - 1)) [
   | inr full ↦ omega arith
 ]
 
-module _ {K : Type 0} {written : K → Option (List ℕ)} {faults : K → ℕ} {keeps : K → K → Type 0} where
+module _ {K : Type 0} {written : K → Told} {faults : K → ℕ} {keeps : K → K → Type 0} where
   -- nothing was put
   pub writes_none : {T : Type 0} (x : T) (a : BitWriter K) → ((first : K) → keeps first first) → is_stopped a ≡ false → Writes written faults keeps a a (Ok x) []
   writes_none x a keeps_itself goes = record {
@@ -133,7 +122,7 @@ module _ {K : Type 0} {written : K → Option (List ℕ)} {faults : K → ℕ} {
   writes_exit {U} {a} {b} {xs} (Err f) more is call = subst (λ (fault : Fault). Writes {T = U} written faults keeps a b (Err fault) (xs ++ more)) (sym is) (writes_no_more more call)
 
   -- what the sink holds at last, when a writer was made at a, put these bits up to b and was finished
-  pub finished : {T U : Type 0} {a b : BitWriter K} {x : T} {bits put : List ℕ} {told : Option (List ℕ)} (r : Result U Fault) (out : K) {last : K} → told_by written a ≡ told → waiting_in a ≡ []
+  pub finished : {T U : Type 0} {a b : BitWriter K} {x : T} {bits put : List ℕ} {told : Told} (r : Result U Fault) (out : K) {last : K} → told_by written a ≡ told → waiting_in a ≡ []
       → Writes written faults keeps a b (Ok x) bits → OnOk r (Gets (told_by written b) (written out) (waiting_in b) [] []) → bits ≡ put → last ≡ out → OnOk r (AddsBits told (written last) put)
   finished {a} {b} {bits} (Ok x) out start none call ends are back =
       rw (← start, ← are, back) (gets_whole (subst (λ (waited : List ℕ). Gets (told_by written a) (told_by written b) waited bits (waiting_in b)) none call.ok) ends)

@@ -1,44 +1,26 @@
 -- What a sink got in one call.
-use Rattle.std.proofs.Common.{◌≡◌, ℕ, zero, suc, ◌*◌, ◌≤◌, List, [], ◌∷◌, ◌++◌, Option, None, Some, Result, Ok, Err, OnOk, OnErr, length, take, drop, refl, sym, ap, subst, ◌∙◌, arith, append_assoc, append-nil}
-use Rattle.std.proofs.lemmas.Grind.{flat_map-append}
-use Rattle.std.proofs.lemmas.List.{take-append-drop, take_at, length-take-le}
-use Rattle.shelf_io.specs.Sink.{with_bytes, AddsPrefix}
+use Rattle.std.proofs.Common.{◌≡◌, ℕ, ◌*◌, ◌≤◌, List, [], ◌++◌, Result, Ok, Err, OnOk, OnErr, length, take, drop, refl, sym, ap, subst, ◌∙◌, append_assoc}
+use Rattle.std.proofs.lemmas.List.{take_at, length-take-le}
+use Rattle.shelf_io.specs.Sink.{Told, with_bytes, AddsPrefix}
+use Rattle.shelf_io.proofs.Written.{with_bytes-none}
 use Rattle.bit_lists.specs.Bits.{IsPrefix}
-use Rattle.bit_lists.specs.Fields.{AreBytes, bit_list, bits_of_byte}
+use Rattle.bit_lists.specs.Fields.{AreBytes, bit_list}
 use Rattle.bit_lists.proofs.PrefixLemmas.{IsPrefix-append}
+use Rattle.bit_lists.proofs.ByteLemmas.{length-bit_list, bit_list-take, AreBytes-take}
 use Rattle.bit_cursor.specs.BitWriter.{Gets, GetsFront}
 
-pub bit_list-append : (xs ys : List ℕ) → bit_list (xs ++ ys) ≡ bit_list xs ++ bit_list ys
-bit_list-append xs ys = flat_map-append bits_of_byte xs ys
-
-pub length-bit_list : (bytes : List ℕ) → length (bit_list bytes) ≡ 8 * length bytes
-length-bit_list [] = refl
-length-bit_list (x ∷ xs) = ap (λ n. suc (suc (suc (suc (suc (suc (suc (suc n)))))))) (length-bit_list xs) ∙ omega arith
-
-pub AreBytes-take : (k : ℕ) (xs : List ℕ) → AreBytes xs → AreBytes (take k xs)
-AreBytes-take zero xs are = tt
-AreBytes-take (suc k) [] are = tt
-AreBytes-take (suc k) (x ∷ xs) are = (are.0, AreBytes-take k xs are.1)
-
-with_bytes-none : (told : Option (List ℕ)) → told ≡ with_bytes told []
-with_bytes-none None = refl
-with_bytes-none (Some bytes) = ap Some (sym (append-nil bytes))
-
--- the bits of the first bytes begin those of all
-bit_list-take : (k : ℕ) (bytes : List ℕ) → bit_list bytes ≡ bit_list (take k bytes) ++ bit_list (drop k bytes)
-bit_list-take k bytes = ap bit_list (sym (take-append-drop k bytes)) ∙ bit_list-append (take k bytes) (drop k bytes)
 
 -- nothing went out
-pub gets_none : (told : Option (List ℕ)) (waited put waits : List ℕ) → waits ≡ waited ++ put → Gets told told waited put waits
+pub gets_none : (told : Told) (waited put waits : List ℕ) → waits ≡ waited ++ put → Gets told told waited put waits
 gets_none told waited put waits is = record { bytes = []; are_bytes = tt; at_the_end = with_bytes-none told; in_order = is }
 
 -- these bytes went out
-pub gets_bytes : {X Y : Type 0} (r : Result X Y) (told after : Option (List ℕ)) (bytes waited put waits : List ℕ) → AreBytes bytes → bit_list bytes ++ waits ≡ waited ++ put → OnOk r (after ≡ with_bytes told bytes) → OnOk r (Gets told after waited put waits)
+pub gets_bytes : {X Y : Type 0} (r : Result X Y) (told after : Told) (bytes waited put waits : List ℕ) → AreBytes bytes → bit_list bytes ++ waits ≡ waited ++ put → OnOk r (after ≡ with_bytes told bytes) → OnOk r (Gets told after waited put waits)
 gets_bytes (Ok x) told after bytes waited put waits are order adds = record { bytes = bytes; are_bytes = are; at_the_end = adds; in_order = order }
 gets_bytes (Err e) told after bytes waited put waits are order adds = tt
 
 -- or a front of them
-pub gets_front : {X Y : Type 0} (r : Result X Y) (told after : Option (List ℕ)) (bytes waited put waits : List ℕ) → AreBytes bytes → bit_list bytes ++ waits ≡ waited ++ put → OnErr r (AddsPrefix told after bytes) → OnErr r (GetsFront told after waited put)
+pub gets_front : {X Y : Type 0} (r : Result X Y) (told after : Told) (bytes waited put waits : List ℕ) → AreBytes bytes → bit_list bytes ++ waits ≡ waited ++ put → OnErr r (AddsPrefix told after bytes) → OnErr r (GetsFront told after waited put)
 gets_front (Ok x) told after bytes waited put waits are order adds = tt
 gets_front (Err e) told after bytes waited put waits are order adds =
     let k = adds.0 in

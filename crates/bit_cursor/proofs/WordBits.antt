@@ -1,33 +1,15 @@
 -- Bits of a word that is a number of so many bits.
-use Rattle.std.proofs.Common.{◌≡◌, ℕ, ◌+◌, ◌-◌, ◌*◌, ◌/◌, ◌%◌, ◌^◌, ◌<◌, ◌≤◌, List, ◌++◌, replicate, sym, ap, ap₂, subst, ◌∙◌, arith, append-nil}
+use Rattle.std.proofs.Common.{◌≡◌, ℕ, ◌+◌, ◌-◌, ◌*◌, ◌/◌, ◌%◌, ◌^◌, ◌<◌, ◌≤◌, List, ◌++◌, replicate, sym, ap, ap₂, subst, ◌∙◌, arith}
 use Rattle.std.proofs.Math.Nat.{mul-le-mul_right, mod-lt, mod-eq_of_lt}
 use Rattle.std.proofs.Math.Pow.{pow_mono}
 use Rattle.std.proofs.lemmas.Nat.{pow-add, pow_pos, shl_below, shr_below, shl_whole}
 use Rattle.std.specs.Int.{w32, to_be_bytes}
 use Rattle.bit_lists.specs.Bits.{bits_of}
-use Rattle.bit_lists.specs.Fields.{AreBytes, bit_list, bits_of_byte}
+use Rattle.bit_lists.specs.Fields.{bit_list}
 use Rattle.bit_lists.proofs.BitLemmas.{bits_of-mod}
-use Rattle.bit_lists.proofs.JoinedLemmas.{bits_of-append, bits_of-put, bits_of-zero, bits_of-byte}
+use Rattle.bit_lists.proofs.JoinedLemmas.{bits_of-append, bits_of-put, bits_of-zero}
+use Rattle.bit_lists.proofs.ByteLemmas.{bit_list-to_be_bytes}
 use Rattle.bit_cursor.specs.WaitingBits.{IsWord}
-
-low_byte : (x : ℕ) → bits_of_byte (x % 256) ≡ bits_of 8 x
-low_byte x = sym (bits_of-byte (x % 256)) ∙ bits_of-mod 8 x
-
--- a word's bytes, the highest first, have its bits
-pub bit_list-to_be_bytes : (x : ℕ) → bit_list (to_be_bytes w32 x) ≡ bits_of 32 x
-bit_list-to_be_bytes x =
-    ap₂ (λ (a b : List ℕ). a ++ b) (low_byte (x / 256 ^ 3)) (
-    ap₂ (λ (a b : List ℕ). a ++ b) (low_byte (x / 256 ^ 2)) (
-    ap₂ (λ (a b : List ℕ). a ++ b) (low_byte (x / 256 ^ 1)) (append-nil (bits_of_byte (x % 256)) ∙ low_byte x)
-    ∙ sym (bits_of-append 8 8 x))
-    ∙ sym (bits_of-append 8 16 x))
-    ∙ sym (bits_of-append 8 24 x)
-
-pub AreBytes-to_be_bytes : (x : ℕ) → AreBytes (to_be_bytes w32 x)
-AreBytes-to_be_bytes x = (below (x / 256 ^ 3), (below (x / 256 ^ 2), (below (x / 256 ^ 1), (below x, tt))))
-  where
-    below : (y : ℕ) → y % 256 < 2 ^ 8
-    below y = omega arith
 
 -- ---- a word and what is put behind it
 

@@ -32,6 +32,10 @@ number_of-bits_of (suc n) v =
 pub bits_of-same : (n v w : ℕ) → bits_of n v ≡ bits_of n w → v % 2 ^ n ≡ w % 2 ^ n
 bits_of-same n v w e = sym (number_of-bits_of n v) ∙ ap number_of e ∙ number_of-bits_of n w
 
+-- numbers that fit have the same bits only where they are the same
+pub bits_of-one : (n v w : ℕ) → v < 2 ^ n → w < 2 ^ n → bits_of n v ≡ bits_of n w → v ≡ w
+bits_of-one n v w lt lt' same = sym (mod-eq_of_lt lt) ∙ bits_of-same n v w same ∙ mod-eq_of_lt lt'
+
 -- only the lowest bits count
 pub bits_of-mod : (n v : ℕ) → bits_of n (v % 2 ^ n) ≡ bits_of n v
 unfolding bits_of

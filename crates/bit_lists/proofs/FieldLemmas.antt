@@ -1,8 +1,8 @@
 -- Numbers in bits, by the bytes that hold them.
-use Rattle.std.proofs.Common.{◌≡◌, ℕ, zero, suc, ◌+◌, ◌-◌, ◌*◌, ◌/◌, ◌%◌, ◌^◌, ◌<◌, List, get_or, refl, add-zero, add-suc, add_assoc, pow-suc, arith}
+use Rattle.std.proofs.Common.{◌≡◌, ℕ, zero, suc, ◌+◌, ◌-◌, ◌*◌, ◌/◌, ◌%◌, ◌^◌, ◌<◌, Bool, true, false, List, get_or, refl, add-zero, add-suc, add_assoc, pow-suc, arith}
 use Rattle.std.proofs.lemmas.Nat.{mod-pow-add, shr-shr}
 use Rattle.std.proofs.Math.Numerals.{add-one}
-use Rattle.bit_lists.specs.Fields.{bit, bits}
+use Rattle.bit_lists.specs.Fields.{bit, bits, flag}
 
 -- one more bit of a number below it
 pub bit_more : (x k n : ℕ) → 2 * (x / 2 ^ (k + 1) % 2 ^ n) + x / 2 ^ k % 2 ≡ x / 2 ^ k % 2 ^ suc n
@@ -33,3 +33,15 @@ bits-add bytes first m zero = rw add-zero (omega arith)
 bits-add bytes first m (suc n) =
     let step : bits bytes first (m + n) ≡ bits bytes first m * 2 ^ n + bits bytes (first + m) n = bits-add bytes first m n in
     rw (add-suc, step, add_assoc first m n, pow-suc) (omega arith)
+
+-- ---- flags
+
+pub flag_below : (is_set : Bool) → flag is_set < 2
+flag_below true = omega arith
+flag_below false = omega arith
+
+pub flag-same : (a b : Bool) → flag a ≡ flag b → a ≡ b
+flag-same true true e = refl
+flag-same true false e = absurd (let e' : 1 ≡ 0 = e in omega arith)
+flag-same false true e = absurd (let e' : 0 ≡ 1 = e in omega arith)
+flag-same false false e = refl

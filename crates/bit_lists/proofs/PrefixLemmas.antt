@@ -1,5 +1,5 @@
 -- Lists of bits that begin other ones.
-use Rattle.std.proofs.Common.{◌≡◌, ℕ, ◌^◌, ◌<◌, ◌≤◌, ◌⊎◌, List, [], ◌∷◌, ◌++◌, length, take, drop, refl, sym, ap, ap₂, ◌∙◌, inl, inr, arith}
+use Rattle.std.proofs.Common.{◌≡◌, ℕ, ◌^◌, ◌<◌, ◌≤◌, ◌⊎◌, List, [], ◌∷◌, ◌++◌, length, take, drop, refl, sym, ap, ap₂, ◌∙◌, inl, inr, arith, append_assoc}
 use Rattle.std.proofs.lemmas.Bool.{cases_lt}
 use Rattle.std.proofs.lemmas.List.{take-append-le, take-append-drop, take-take, take_all, length-take}
 use Rattle.std.proofs.Math.Nat.{mod-eq_of_lt}
@@ -39,6 +39,20 @@ IsPrefix-through c d bits p q =
 -- of one length, the front is the whole
 pub IsPrefix-whole : (c d : List ℕ) → length c ≡ length d → IsPrefix c d → c ≡ d
 IsPrefix-whole c d same begins = sym begins ∙ take_all (length c) d (omega arith)
+
+-- what begins goes on to begin behind a common front
+pub IsPrefix-behind : (front c d : List ℕ) → IsPrefix c d → IsPrefix (front ++ c) (front ++ d)
+IsPrefix-behind front c d begins =
+    let split : front ++ d ≡ (front ++ c) ++ drop (length c) d =
+    ap (λ rest. front ++ rest) (IsPrefix-split c d begins) ∙ sym (append_assoc front c (drop (length c) d)) in
+    rw split (IsPrefix-append (front ++ c) (drop (length c) d))
+
+-- ... and the other way round
+pub IsPrefix-without : (front c d : List ℕ) → IsPrefix (front ++ c) (front ++ d) → IsPrefix c d
+IsPrefix-without [] c d begins = begins
+IsPrefix-without (x ∷ front) c d begins =
+    let rest : IsPrefix (front ++ c) (front ++ d) = cc in
+    IsPrefix-without front c d rest
 
 -- ---- bytes
 

@@ -6,6 +6,7 @@ use Rattle.std.proofs.lemmas.Bool.{and_parts, ltb-true}
 use Rattle.std.proofs.lemmas.List.{length-drop, take-append-drop}
 use Rattle.std.proofs.Math.Pow.{pow-lt}
 use Rattle.std.proofs.lemmas.Nat.{pow_pos, one_shl}
+use Rattle.bit_lists.proofs.PrefixLemmas.{IsPrefix-without}
 use Rattle.bit_lists.specs.Bits.{IsPrefix, bits_of}
 use Rattle.bit_lists.proofs.BitLemmas.{length-bits_of, bits_of-mod}
 use Rattle.prefix_codes.specs.declared.table_name.TableName.{TableName}
@@ -51,11 +52,6 @@ small-size table s code tests listed =
 
 pub begins-size : (table : TableName) (bits : List ℕ) (s len : ℕ) → is_sizes table ≡ true → Begins table bits s len → (s < 12) × (len + s < 24)
 begins-size table bits s len tests b = let small = small-size table s b.code tests b.listed in (small.0, (let counted = b.counted in let fits = small.1 in omega arith))
-
--- what begins behind a common front
-IsPrefix-behind : (front d e : List ℕ) → IsPrefix (front ++ d) (front ++ e) → IsPrefix d e
-IsPrefix-behind [] d e p = p
-IsPrefix-behind (x ∷ front) d e p = let rest : IsPrefix (front ++ d) (front ++ e) = cc in IsPrefix-behind front d e rest
 
 abbrev Sizes : TableName → ℕ → List ℕ → Type 0
 Sizes table symbol code = code_in table symbol ≡ Some code
@@ -150,7 +146,7 @@ module _ (table : TableName) (tests : is_sizes table ≡ true) (window : Window)
           let count : length bits ≡ window.known = ap length all ∙ length-front_of 24 window.bits window.known window.within in
           let whole : IsPrefix bits (b.code ++ bits_of size the_bits) =
           ap (λ n. take n (b.code ++ bits_of size the_bits)) count ∙ ap (take window.known) (sym fields) ∙ take-front_of 24 window.bits window.known (len + size) (omega arith) ∙ sym all in
-          IsPrefix-behind b.code (drop len bits) (bits_of size the_bits) (subst (λ x. IsPrefix x (b.code ++ bits_of size the_bits)) split whole)
+          IsPrefix-without b.code (drop len bits) (bits_of size the_bits) (subst (λ x. IsPrefix x (b.code ++ bits_of size the_bits)) split whole)
 
       left-length : length (drop len bits) < size
       left-length =

@@ -8,7 +8,7 @@ use Rattle.prefix_codes.specs.declared.symbol.TheConstants.{END_OF_BLOCK, ESCAPE
 use Rattle.prefix_codes.specs.declared.table_name.TableName.{TableName}
 use Rattle.prefix_codes.specs.declared.table_name.TableName.TheVariants.{Address, TypeI, TypeP, TypeB, Pattern, Motion, DcLuma, DcChroma, CoeffZero, CoeffFirst, CoeffOne}
 use Rattle.prefix_codes.specs.Entry.{Entry}
-use Rattle.prefix_codes.specs.TableName.{entries, code_in}
+use Rattle.prefix_codes.specs.TableName.{entries, code_in, is_coefficients}
 use Rattle.prefix_codes.proofs.Computing.{tables}
 use Rattle.prefix_codes.proofs.TableLemmas.{code_in-passes}
 use Rattle.prefix_codes.proofs.CoefficientLemmas.{IsCoefficients, coefficient_code-symbol}
@@ -17,7 +17,7 @@ use Rattle.picture_grammar.specs.Element.{Rule, passes, MayStand}
 use Rattle.picture_grammar.specs.Block.{Coefficient, CoefficientCode, is_within}
 use Rattle.picture_grammar.specs.Block.Coefficient.{end_of_block, run_size, escape}
 use Rattle.picture_grammar.proofs.Codes.{symbol_of, fronts, coefficient_code-listed}
-use Rattle.block_coeffs.specs.Why.{is_coefficients, rules_at}
+use Rattle.block_coeffs.specs.Why.{rules_at}
 use Rattle.block_coeffs.specs.Cut.{least_run, symbol_fits, BeginCode}
 
 pub coefficients-is : (table : TableName) → is_coefficients table ≡ true → IsCoefficients table

@@ -5,6 +5,7 @@ use Rattle.std.proofs.lemmas.Int.{to_z-of_z, fits_signed_from_abs}
 use Rattle.std.proofs.lemmas.Bool.{lt-ltb, ltb-true}
 use Rattle.std.proofs.lemmas.List.{drop_all}
 use Rattle.shelf_io.specs.declared.fault.Fault.{Fault}
+use Rattle.shelf_io.specs.Sink.{Told}
 use Rattle.bit_lists.specs.Bits.{bits_of}
 use Rattle.bit_lists.specs.Fields.{flag}
 use Rattle.bit_cursor.specs.declared.bit_writer.BitWriter.{BitWriter}
@@ -45,12 +46,8 @@ pub as_flag : (is_set : Bool) → bool_byte is_set ≡ flag is_set
 as_flag true = refl
 as_flag false = refl
 
-pub flag_below : (negative : Bool) → flag negative < 2 ^ 1
-flag_below true = omega arith
-flag_below false = omega arith
-
 -- the same bits in another form
-pub writes_as : {K T : Type 0} {written : K → Option (List ℕ)} {faults : K → ℕ} {keeps : K → K → Type 0} {a b : BitWriter K} {r : Result T Fault} {xs ys : List ℕ}
+pub writes_as : {K T : Type 0} {written : K → Told} {faults : K → ℕ} {keeps : K → K → Type 0} {a b : BitWriter K} {r : Result T Fault} {xs ys : List ℕ}
     → Writes written faults keeps a b r xs → xs ≡ ys → Writes written faults keeps a b r ys
 writes_as {written} {faults} {keeps} {a} {b} {r} call same = subst (λ (bits : List ℕ). Writes written faults keeps a b r bits) same call
 

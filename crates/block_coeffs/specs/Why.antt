@@ -1,7 +1,6 @@
 -- Why no coefficient and no end of block stands at some bits (ISO/IEC 13818-2, 6.2.6 and 7.2.2).
-use Rattle.std.specs.Prelude.{ℕ, Bool, true, false, List, [], ◌∷◌}
+use Rattle.std.specs.Prelude.{ℕ, List, [], ◌∷◌}
 use Rattle.prefix_codes.specs.declared.table_name.TableName.{TableName}
-use Rattle.prefix_codes.specs.declared.table_name.TableName.TheVariants.{Address, TypeI, TypeP, TypeB, Pattern, Motion, DcLuma, DcChroma, CoeffZero, CoeffFirst, CoeffOne}
 use Rattle.picture_grammar.specs.Refusal.{Refusal}
 use Rattle.picture_grammar.specs.Element.{Rule, rule, IsRefused}
 use Rattle.picture_grammar.specs.Block.{Coefficient, CoefficientCode, is_within, is_level}
@@ -9,20 +8,6 @@ use Rattle.block_coeffs.specs.declared.block_fault.BlockFault.{BlockFault}
 use Rattle.block_coeffs.specs.declared.block_fault.BlockFault.TheVariants as fault
 use Rattle.block_coeffs.specs.declared.why.Why.{Why}
 use Rattle.block_coeffs.specs.declared.why.Why.TheVariants as why
-
--- the tables of coefficients, B-14 and B-15
-abbrev pub is_coefficients : TableName → Bool
-is_coefficients Address = false
-is_coefficients TypeI = false
-is_coefficients TypeP = false
-is_coefficients TypeB = false
-is_coefficients Pattern = false
-is_coefficients Motion = false
-is_coefficients DcLuma = false
-is_coefficients DcChroma = false
-is_coefficients CoeffZero = true
-is_coefficients CoeffFirst = true
-is_coefficients CoeffOne = true
 
 -- the kind of refusal in the grammar
 abbrev pub refusal_of : Why → Refusal

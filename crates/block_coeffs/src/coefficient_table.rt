@@ -1,7 +1,7 @@
 ghost use Rattle.std.specs.Prelude.{◌≡◌, IsTrue};
 ghost use Rattle.picture_grammar.specs.Block.{dc_table, coefficient_table};
 ghost use Rattle.block_coeffs.specs.DcStanding.{is_sizes};
-ghost use Rattle.block_coeffs.specs.Why.{is_coefficients};
+ghost use Rattle.prefix_codes.specs.TableName.{is_coefficients};
 
 use prefix_codes::TableName;
 use syntax_types::BlockWay;

@@ -1,6 +1,6 @@
 ghost use Rattle.std.specs.Prelude.{◌≡◌, ◌≤◌, ℕ, ◌↔◌, List, IsTrue};
-ghost use Rattle.prefix_codes.specs.TableName.{Begins};
-ghost use Rattle.block_coeffs.specs.Why.{is_coefficients, IsWhy};
+ghost use Rattle.prefix_codes.specs.TableName.{Begins, is_coefficients};
+ghost use Rattle.block_coeffs.specs.Why.{IsWhy};
 ghost use Rattle.block_coeffs.specs.Cut.{symbol_fits, BeginCode, BeginAllowed};
 ghost use Rattle.block_coeffs.specs.Standing.{seen, Shows};
 

@@ -5,7 +5,7 @@ ghost use Rattle.syntax_types.specs.declared.block.Block.{Block};
 ghost use Rattle.picture_grammar.specs.Grammar.{many, optional, more_of};
 ghost use Rattle.picture_grammar.specs.Block.{block, coefficient, dc_coefficient};
 ghost use Rattle.block_coeffs.specs.DcStanding.{is_sizes, dc_by};
-ghost use Rattle.block_coeffs.specs.Why.{is_coefficients};
+ghost use Rattle.prefix_codes.specs.TableName.{is_coefficients};
 ghost use Rattle.block_coeffs.specs.Standing.{coefficient_at, Shows};
 ghost use Rattle.block_coeffs.specs.Reading.{Advances, Reads, Comes, Explains, IsOutside};
 

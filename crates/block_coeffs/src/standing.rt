@@ -1,8 +1,7 @@
 ghost use Rattle.std.specs.Prelude.{◌≡◌, ◌≢◌, ◌≤◌, ◌<◌, ◌^◌, ◌+◌, ℕ, [], ◌∷◌, ◌++◌, IsTrue};
 ghost use Rattle.bit_lists.specs.Fields.{flag};
-ghost use Rattle.prefix_codes.specs.TableName.{Begins};
+ghost use Rattle.prefix_codes.specs.TableName.{Begins, is_coefficients};
 ghost use Rattle.picture_grammar.specs.Block.{signed, escape_level};
-ghost use Rattle.block_coeffs.specs.Why.{is_coefficients};
 ghost use Rattle.block_coeffs.specs.Standing.{IsFound, seen};
 
 use crate::cut::why_none;

@@ -20,11 +20,11 @@ exact-done value = record {
 }
 
 -- what ends with something that ends with these ends with these
-EndsWith-through : (bits middle rest : List ℕ) → EndsWith bits middle → EndsWith middle rest → EndsWith bits rest
+pub EndsWith-through : (bits middle rest : List ℕ) → EndsWith bits middle → EndsWith middle rest → EndsWith bits rest
 EndsWith-through bits middle rest (f, p) (g, q) = (f ++ g, p ∙ ap (λ m. f ++ m) q ∙ sym (append_assoc f g rest))
 
 -- a fact about a value and the bits behind it, at equal ones
-moved : {A : Type 0} (P : A → List ℕ → Type 0) (a b : A) (middle other : List ℕ) → (a ≡ b) × (middle ≡ other) → P a middle → P b other
+pub moved : {A : Type 0} (P : A → List ℕ → Type 0) (a b : A) (middle other : List ℕ) → (a ≡ b) × (middle ≡ other) → P a middle → P b other
 moved P a b middle other same p = subst (λ bits. P b bits) same.1 (subst (λ x. P x middle) same.0 p)
 
 module _ {A B : Type 0} (first : Grammar A) (next : A → Grammar B) (exact : IsExact first) (each_next : (a : A) → IsExact (next a)) where
@@ -71,34 +71,34 @@ pub exact-when : {A : Type 0} (test : Bool) (grammar : Grammar A) (absent : A) �
 exact-when true grammar absent exact = exact
 exact-when false grammar absent exact = exact-done absent
 
-module _ {A : Type 0} (Comes : List ℕ → Type 0) (then else : Grammar A) (exact : IsExact then) (other_exact : IsExact else) where
-  if_value : (v w : A) (bits rest other : List ℕ) → (if_next Comes then else).Spells v bits rest → (if_next Comes then else).Spells w bits other → (v ≡ w) × (rest ≡ other)
+module _ {A : Type 0} (IsSuch : List ℕ → Type 0) (then else : Grammar A) (exact : IsExact then) (other_exact : IsExact else) where
+  if_value : (v w : A) (bits rest other : List ℕ) → (if_next IsSuch then else).Spells v bits rest → (if_next IsSuch then else).Spells w bits other → (v ≡ w) × (rest ≡ other)
   if_value v w bits rest other (inl (c, s)) (inl (d, t)) = exact.one_value v w bits rest other s t
   if_value v w bits rest other (inl (c, s)) (inr (d, t)) = absurd (d c)
   if_value v w bits rest other (inr (c, s)) (inl (d, t)) = absurd (c d)
   if_value v w bits rest other (inr (c, s)) (inr (d, t)) = other_exact.one_value v w bits rest other s t
 
-  if_both : (v : A) (bits rest left : List ℕ) (refusal : Refusal) → (if_next Comes then else).Spells v bits rest → (if_next Comes then else).Refuses bits refusal left → ⊥
+  if_both : (v : A) (bits rest left : List ℕ) (refusal : Refusal) → (if_next IsSuch then else).Spells v bits rest → (if_next IsSuch then else).Refuses bits refusal left → ⊥
   if_both v bits rest left refusal (inl (c, s)) (inl (d, t)) = exact.not_both v bits rest left refusal s t
   if_both v bits rest left refusal (inl (c, s)) (inr (d, t)) = d c
   if_both v bits rest left refusal (inr (c, s)) (inl (d, t)) = c d
   if_both v bits rest left refusal (inr (c, s)) (inr (d, t)) = other_exact.not_both v bits rest left refusal s t
 
-  if_refusal : (bits left other : List ℕ) (r s : Refusal) → (if_next Comes then else).Refuses bits r left → (if_next Comes then else).Refuses bits s other → (r ≡ s) × (left ≡ other)
+  if_refusal : (bits left other : List ℕ) (r s : Refusal) → (if_next IsSuch then else).Refuses bits r left → (if_next IsSuch then else).Refuses bits s other → (r ≡ s) × (left ≡ other)
   if_refusal bits left other r s (inl (c, p)) (inl (d, q)) = exact.one_refusal bits left other r s p q
   if_refusal bits left other r s (inl (c, p)) (inr (d, q)) = absurd (d c)
   if_refusal bits left other r s (inr (c, p)) (inl (d, q)) = absurd (c d)
   if_refusal bits left other r s (inr (c, p)) (inr (d, q)) = other_exact.one_refusal bits left other r s p q
 
-  if_spelled : (v : A) (bits rest : List ℕ) → (if_next Comes then else).Spells v bits rest → EndsWith bits rest
+  if_spelled : (v : A) (bits rest : List ℕ) → (if_next IsSuch then else).Spells v bits rest → EndsWith bits rest
   if_spelled v bits rest (inl (c, s)) = exact.spelled_front v bits rest s
   if_spelled v bits rest (inr (c, s)) = other_exact.spelled_front v bits rest s
 
-  if_refused : (bits left : List ℕ) (refusal : Refusal) → (if_next Comes then else).Refuses bits refusal left → EndsWith bits left
+  if_refused : (bits left : List ℕ) (refusal : Refusal) → (if_next IsSuch then else).Refuses bits refusal left → EndsWith bits left
   if_refused bits left refusal (inl (c, r)) = exact.refused_front bits left refusal r
   if_refused bits left refusal (inr (c, r)) = other_exact.refused_front bits left refusal r
 
-  pub exact-if_next : IsExact (if_next Comes then else)
+  pub exact-if_next : IsExact (if_next IsSuch then else)
   exact-if_next = record { one_value = if_value; not_both = if_both; one_refusal = if_refusal; spelled_front = if_spelled; refused_front = if_refused }
 
 pub exact-at_bits : {A : Type 0} (grammar : List ℕ → Grammar A) → ((bits : List ℕ) → IsExact (grammar bits)) → IsExact (at_bits grammar)

@@ -21,29 +21,29 @@ use Rattle.picture_grammar.proofs.MacroblockLaws.{exact-extra_information, exact
 
 -- ---- start codes
 
-exact-zero_bits : (refusal : Refusal) → IsExact (zero_bits refusal)
+pub exact-zero_bits : (refusal : Refusal) → IsExact (zero_bits refusal)
 exact-zero_bits refusal = exact-at_bits _ (λ bits. exact-uimsbf _ _)
 
-exact-zero_bytes : (refusal : Refusal) → IsExact (zero_bytes refusal)
+pub exact-zero_bytes : (refusal : Refusal) → IsExact (zero_bytes refusal)
 exact-zero_bytes refusal = exact-many _ (λ before. exact-if_next _ _ _ (exact-done _) (exact-bind _ _ (exact-uimsbf 8 _) (λ byte. exact-done _)))
 
-exact-start_code : (refusal : Refusal) (may_come : ℕ → Bool) → IsExact (start_code refusal may_come)
+pub exact-start_code : (refusal : Refusal) (may_come : ℕ → Bool) → IsExact (start_code refusal may_come)
 exact-start_code refusal may_come = exact-then _ _ (exact-zero_bytes refusal) (exact-element _ _ _ (free-behind _ 8))
 
-exact-only_zero_bytes : IsExact only_zero_bytes
+pub exact-only_zero_bytes : IsExact only_zero_bytes
 exact-only_zero_bytes =
     exact-many _ (λ before. exact-if_next _ _ _ (exact-done _) (exact-if_next _ _ _
     (exact-then _ _ (exact-start_code _ _) (exact-done _)) (exact-bind _ _ (exact-uimsbf 8 _) (λ byte. exact-done _))))
 
 -- ---- headers
 
-exact-matrix_if_loaded : IsExact matrix_if_loaded
+pub exact-matrix_if_loaded : IsExact matrix_if_loaded
 exact-matrix_if_loaded =
     let weight = uimsbf 8 (rule BadHeader is_not_zero ∷ []) in
     exact-bind one_flag (λ load. optional load (repeated BLOCK_PLACES weight)) (exact-flag_where [])
     (λ load. exact-optional load (repeated BLOCK_PLACES weight) (exact-repeated BLOCK_PLACES weight (exact-uimsbf 8 _)))
 
-exact-sequence_header : (before : Option SeqState) → IsExact (sequence_header before)
+pub exact-sequence_header : (before : Option SeqState) → IsExact (sequence_header before)
 exact-sequence_header before =
     exact-bind _ _ (exact-uimsbf 12 _)
     (λ width. exact-bind _ _ (exact-uimsbf 12 _)
@@ -57,7 +57,7 @@ exact-sequence_header before =
     (λ intra. exact-bind _ _ exact-matrix_if_loaded
     (λ non_intra. exact-done _))))))))))
 
-exact-sequence_extension : (before : Option SeqState) → IsExact (sequence_extension before)
+pub exact-sequence_extension : (before : Option SeqState) → IsExact (sequence_extension before)
 exact-sequence_extension before =
     exact-then _ _ (exact-uimsbf 8 _)
     (exact-bind _ _ (exact-flag_where _)
@@ -71,13 +71,13 @@ exact-sequence_extension before =
     (exact-then _ _ (exact-uimsbf 2 [])
     (exact-then _ _ (exact-uimsbf 5 []) (exact-done progressive)))))))))))
 
-exact-group_header : IsExact group_header
+pub exact-group_header : IsExact group_header
 exact-group_header = exact-then _ _ (exact-uimsbf 25 []) (exact-then _ _ (exact-flag_where []) (exact-flag_where []))
 
-exact-old_f_code : IsExact old_f_code
+pub exact-old_f_code : IsExact old_f_code
 exact-old_f_code = exact-then _ _ (exact-flag_where []) (exact-uimsbf 3 [])
 
-exact-picture_header : IsExact picture_header
+pub exact-picture_header : IsExact picture_header
 exact-picture_header =
     exact-then _ _ (exact-uimsbf 10 [])
     (exact-bind _ _ (exact-uimsbf 3 _)
@@ -86,8 +86,8 @@ exact-picture_header =
     (exact-then _ _ (exact-optional _ _ exact-old_f_code)
     (exact-then _ _ (exact-many _ exact-extra_information) (exact-done _))))))
 
-exact-picture_coding_extension : (kind vbv_delay : ℕ) → IsExact (picture_coding_extension kind vbv_delay)
-exact-picture_coding_extension kind vbv_delay =
+pub exact-picture_coding_extension : (progressive : Bool) (kind vbv_delay : ℕ) → IsExact (picture_coding_extension progressive kind vbv_delay)
+exact-picture_coding_extension progressive kind vbv_delay =
     exact-bind _ _ (exact-uimsbf 4 _)
     (λ forward_horizontal. exact-bind _ _ (exact-uimsbf 4 _)
     (λ forward_vertical. exact-bind _ _ (exact-uimsbf 4 _)
@@ -95,7 +95,7 @@ exact-picture_coding_extension kind vbv_delay =
     (λ backward_vertical. exact-bind _ _ (exact-uimsbf 2 [])
     (λ dc_precision. exact-bind _ _ (exact-uimsbf 2 _)
     (λ structure. exact-bind _ _ (exact-flag_where [])
-    (λ top_field_first. exact-bind _ _ (exact-flag_where [])
+    (λ top_field_first. exact-bind _ _ (exact-flag_where _)
     (λ frame_pred_frame_dct. exact-bind _ _ (exact-flag_where _)
     (λ concealment. exact-bind _ _ (exact-flag_where [])
     (λ q_scale_type. exact-bind _ _ (exact-flag_where [])
@@ -106,7 +106,7 @@ exact-picture_coding_extension kind vbv_delay =
     (λ progressive_frame. exact-bind _ _ (exact-flag_where [])
     (λ composite. exact-then _ _ (exact-optional _ _ (exact-uimsbf 20 [])) (exact-done _)))))))))))))))))
 
-exact-quant_matrix_extension : IsExact quant_matrix_extension
+pub exact-quant_matrix_extension : IsExact quant_matrix_extension
 exact-quant_matrix_extension =
     exact-bind _ _ exact-matrix_if_loaded
     (λ intra. exact-bind _ _ exact-matrix_if_loaded
@@ -114,25 +114,25 @@ exact-quant_matrix_extension =
 
 -- ---- heads
 
-exact-unread : IsExact unread
+pub exact-unread : IsExact unread
 exact-unread = exact-then _ _ (exact-at_bits _ (λ bits. exact-uimsbf _ [])) (exact-many _ (λ before. exact-if_next _ _ _ (exact-done _) (exact-one_more _ (exact-uimsbf 8 []))))
 
-exact-extension : (identifiers : ℕ → Bool) → IsExact (extension identifiers)
+pub exact-extension : (identifiers : ℕ → Bool) → IsExact (extension identifiers)
 exact-extension identifiers =
     exact-bind _ _ (exact-uimsbf 4 _)
     (λ identifier. exact-bind _ _ (exact-when _ _ _ exact-quant_matrix_extension)
     (λ loaded. exact-then _ _ (exact-optional _ _ (exact-zero_bits _)) (exact-then _ _ (exact-optional _ _ exact-unread) (exact-done loaded))))
 
-exact-extension_or_user_data : (start_codes identifiers : ℕ → Bool) (before : List Loaded) → IsExact (extension_or_user_data start_codes identifiers before)
+pub exact-extension_or_user_data : (start_codes identifiers : ℕ → Bool) (before : List Loaded) → IsExact (extension_or_user_data start_codes identifiers before)
 exact-extension_or_user_data start_codes identifiers before =
     exact-if_next _ _ _ (exact-bind _ _ (exact-start_code _ _)
     (λ byte. exact-bind _ _ (exact-when _ _ _ (exact-extension identifiers))
     (λ loaded. exact-then _ _ (exact-optional _ _ exact-unread) (exact-done _)))) (exact-done _)
 
-exact-user_data_only : IsExact user_data_only
+pub exact-user_data_only : IsExact user_data_only
 exact-user_data_only = exact-many _ (exact-extension_or_user_data _ (λ identifier. false))
 
-exact-sequence_headers : (before : Option SeqState) → IsExact (sequence_headers before)
+pub exact-sequence_headers : (before : Option SeqState) → IsExact (sequence_headers before)
 exact-sequence_headers before =
     exact-then _ _ (exact-start_code _ _)
     (exact-bind _ _ (exact-sequence_header before)
@@ -143,25 +143,25 @@ exact-sequence_headers before =
     (λ progressive. exact-then _ _ (exact-zero_bits _)
     (exact-then _ _ (exact-many _ (exact-extension_or_user_data _ _)) (exact-done _))))))))
 
-exact-sequence_part : (before : Option SeqState) → IsExact (sequence_part before)
+pub exact-sequence_part : (before : Option SeqState) → IsExact (sequence_part before)
 exact-sequence_part None = exact-sequence_headers None
 exact-sequence_part (Some before) = exact-if_next _ _ _ (exact-sequence_headers (Some before)) (exact-done before)
 
-exact-group_part : IsExact group_part
+pub exact-group_part : IsExact group_part
 exact-group_part =
     exact-if_next _ _ _ (exact-then _ _ (exact-start_code _ _)
     (exact-then _ _ exact-group_header
     (exact-then _ _ (exact-zero_bits _)
     (exact-then _ _ exact-user_data_only (exact-done tt))))) (exact-done tt)
 
-exact-picture_part : (seq : SeqState) → IsExact (picture_part seq)
+pub exact-picture_part : (seq : SeqState) → IsExact (picture_part seq)
 exact-picture_part seq =
     exact-then _ _ (exact-start_code _ _)
     (exact-bind _ _ exact-picture_header
     (λ header. exact-then _ _ (exact-zero_bits _)
     (exact-then _ _ (exact-start_code _ _)
     (exact-then _ _ (exact-uimsbf 4 _)
-    (exact-bind _ _ (exact-picture_coding_extension _ _)
+    (exact-bind _ _ (exact-picture_coding_extension _ _ _)
     (λ coding. exact-then _ _ (exact-zero_bits _)
     (exact-bind _ _ (exact-many _ (exact-extension_or_user_data _ _))
     (λ loaded. exact-done _))))))))
@@ -176,10 +176,10 @@ exact-head before =
 
 -- ---- units
 
-exact-whole_slice : (seq : SeqState) (coding : PicCoding) (byte : ℕ) → IsExact (whole_slice seq coding byte)
+pub exact-whole_slice : (seq : SeqState) (coding : PicCoding) (byte : ℕ) → IsExact (whole_slice seq coding byte)
 exact-whole_slice seq coding byte = exact-bind _ _ (exact-slice seq coding _) (λ slice. exact-then _ _ (exact-zero_bits _) (exact-done slice))
 
-exact-next_slice : (seq : SeqState) (coding : PicCoding) (before : List Slice) → IsExact (next_slice seq coding before)
+pub exact-next_slice : (seq : SeqState) (coding : PicCoding) (before : List Slice) → IsExact (next_slice seq coding before)
 exact-next_slice seq coding [] = exact-bind _ _ (exact-start_code _ _) (λ byte. exact-bind _ _ (exact-whole_slice seq coding byte) (λ slice. exact-done _))
 exact-next_slice seq coding (s ∷ ss) =
     exact-if_next _ _ _ (exact-then _ _ exact-only_zero_bytes (exact-done _))

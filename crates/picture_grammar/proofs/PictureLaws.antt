@@ -26,12 +26,12 @@ exact-flag_where rules = exact-element _ _ rules free-flag
 
 -- ---- blocks
 
-exact-after_code : (c : Coefficient) → IsExact (after_code c)
+pub exact-after_code : (c : Coefficient) → IsExact (after_code c)
 exact-after_code end_of_block = exact-done (last tt)
 exact-after_code (run_size run size) = exact-bind one_flag _ (exact-flag_where []) (λ negative. exact-done _)
 exact-after_code (escape run level) = exact-done _
 
-exact-coefficient : (way : BlockWay) (before : List RunLevel) → IsExact (coefficient way before)
+pub exact-coefficient : (way : BlockWay) (before : List RunLevel) → IsExact (coefficient way before)
 exact-coefficient way before = exact-bind _ after_code (exact-element _ _ _ (free-coefficient _)) exact-after_code
 
 pub exact-block : (way : BlockWay) → IsExact (block way)

@@ -43,6 +43,7 @@ pub data Coefficient : Type 0 where
   end_of_block : Coefficient
   run_size escape : ℕ → ℕ → Coefficient
 
+-- a coefficient has this code: that of its symbol in the table, and behind an escape its run and its level
 abbrev pub CoefficientCode : TableName → Coefficient → List ℕ → Type 0
 CoefficientCode table end_of_block code = code_in table END_OF_BLOCK ≡ Some code
 CoefficientCode table (run_size run size) code = coefficient_code table run size ≡ Some code
@@ -94,6 +95,7 @@ coefficient way before =
 
 -- ---- block(i) (6.2.6)
 
+-- the DC coefficient of an intra block, then coefficients up to the end of block
 unfoldable pub block : BlockWay → Grammar Block
 block way = do
   dc ← optional way.intra (dc_coefficient way)

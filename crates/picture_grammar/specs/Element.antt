@@ -16,9 +16,11 @@ pub record Rule (A : Type 0) : Type 0 where
   pub refusal : Refusal
   pub test : A → Bool
 
+-- a rule by its parts
 abbrev pub rule : {A : Type 0} → Refusal → (A → Bool) → Rule A
 rule refusal test = record { refusal = refusal; test = test }
 
+-- a value passes all rules
 abbrev pub passes : {A : Type 0} → List (Rule A) → A → Bool
 passes rules value = list_all (λ r. r.test value) rules
 
@@ -77,6 +79,7 @@ uimsbf n rules = element (λ number code. (number < 2 ^ n) × (code ≡ bits_of 
 abbrev pub flag_where : List (Rule Bool) → Grammar Bool
 flag_where rules = element (λ is_set code. code ≡ flag is_set ∷ []) End rules
 
+-- a flag of either value
 abbrev pub one_flag : Grammar Bool
 one_flag = flag_where []
 

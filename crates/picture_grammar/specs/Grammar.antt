@@ -49,9 +49,9 @@ when false grammar absent = done absent
 
 -- nextbits() (5.2.2): one grammar where the bits are such, and another one where they aren't
 abbrev pub if_next : {A : Type 0} → (List ℕ → Type 0) → Grammar A → Grammar A → Grammar A
-if_next Comes then else = record {
-  Spells = λ v bits rest. (Comes bits × then.Spells v bits rest) ⊎ ((¬ Comes bits) × else.Spells v bits rest);
-  Refuses = λ bits refusal left. (Comes bits × then.Refuses bits refusal left) ⊎ ((¬ Comes bits) × else.Refuses bits refusal left);
+if_next IsSuch then else = record {
+  Spells = λ v bits rest. (IsSuch bits × then.Spells v bits rest) ⊎ ((¬ IsSuch bits) × else.Spells v bits rest);
+  Refuses = λ bits refusal left. (IsSuch bits × then.Refuses bits refusal left) ⊎ ((¬ IsSuch bits) × else.Refuses bits refusal left);
 }
 
 -- a grammar that depends on the bits that are left, as on how far the next whole byte is (5.2.1)
@@ -90,6 +90,7 @@ abbrev pub more_of : {A : Type 0} → Option A → Next A (Unit {0})
 more_of (Some value) = more value
 more_of None = last tt
 
+-- a value that is one more of a list
 abbrev pub one_more : {A B : Type 0} → Grammar A → Grammar (Next A B)
 one_more grammar = grammar >>= λ value. done (more value)
 

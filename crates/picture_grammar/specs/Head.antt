@@ -8,7 +8,7 @@ use Rattle.picture_grammar.specs.Refusal.Refusal.{BadHeader, NotMpeg2, Profile}
 use Rattle.picture_grammar.specs.Grammar.{Grammar, done, ◌>>=◌, ◌>>◌, optional, when, if_next, at_bits, ahead, many, Next, one_more}
 use Rattle.picture_grammar.specs.Grammar.Next.{more, last}
 use Rattle.picture_grammar.specs.Element.{uimsbf, rule}
-use Rattle.picture_grammar.specs.StartCode.{start_code_prefix, start_code, zero_bits, Comes, is_slice}
+use Rattle.picture_grammar.specs.StartCode.{start_code_prefix, start_code, zero_bits, StartCodeComes, is_slice}
 use Rattle.picture_grammar.specs.Headers.{Loaded, sequence_header, sequence_extension, group_header, picture_header, picture_coding_extension, quant_matrix_extension, with_loaded}
 
 -- ---- extension_and_user_data() (6.2.2.2)
@@ -23,6 +23,7 @@ unread = do
 abbrev pub is_scalable : ℕ → Bool
 is_scalable identifier = identifier == SEQUENCE_SCALABLE || identifier == SPATIAL_SCALABLE || identifier == TEMPORAL_SCALABLE
 
+-- no matrix is loaded
 abbrev pub no_matrix : Loaded
 no_matrix = record { intra = None; non_intra = None }
 
@@ -37,12 +38,13 @@ extension may_come = do
 
 -- extension_data() with one of these identifiers, or user_data(), by these start codes; or neither comes
 abbrev pub extension_or_user_data : (ℕ → Bool) → (ℕ → Bool) → List Loaded → Grammar (Next Loaded (Unit {0}))
-extension_or_user_data start_codes identifiers before = if_next (Comes start_codes) (do
+extension_or_user_data start_codes identifiers before = if_next (StartCodeComes start_codes) (do
   byte ← start_code BadHeader start_codes
   loaded ← when (byte == EXTENSION) (extension identifiers) no_matrix
   optional (byte == USER_DATA) unread
   done (more loaded)) (done (last tt))
 
+-- any number of extensions with such identifiers and of user data, in any order
 abbrev pub extensions_and_user_data : (ℕ → Bool) → Grammar (List Loaded × Unit {0})
 extensions_and_user_data identifiers = many (extension_or_user_data (λ byte. byte == EXTENSION || byte == USER_DATA) identifiers)
 
@@ -68,11 +70,11 @@ sequence_headers before = do
 -- the state in force before the picture: that of a sequence header, which the first unit has, or the one before
 abbrev pub sequence_part : Option SeqState → Grammar SeqState
 sequence_part None = sequence_headers None
-sequence_part (Some before) = if_next (Comes (λ byte. byte == SEQUENCE_HEADER)) (sequence_headers (Some before)) (done before)
+sequence_part (Some before) = if_next (StartCodeComes (λ byte. byte == SEQUENCE_HEADER)) (sequence_headers (Some before)) (done before)
 
 -- a group of pictures header and user data, where such a header comes
 abbrev pub group_part : Grammar (Unit {0})
-group_part = if_next (Comes (λ byte. byte == GROUP)) (do
+group_part = if_next (StartCodeComes (λ byte. byte == GROUP)) (do
   start_code BadHeader (λ byte. byte == GROUP)
   group_header
   zero_bits BadHeader
@@ -87,7 +89,7 @@ picture_part seq = do
   zero_bits BadHeader
   start_code NotMpeg2 (λ byte. byte == EXTENSION)
   uimsbf 4 (rule NotMpeg2 (λ identifier. identifier == PICTURE_CODING) ∷ [])
-  coding ← picture_coding_extension header.0 header.1
+  coding ← picture_coding_extension seq.progressive header.0 header.1
   zero_bits BadHeader
   loaded ← extensions_and_user_data (λ identifier. identifier == QUANT_MATRIX || identifier == COPYRIGHT || identifier == PICTURE_DISPLAY)
   done (fold with_loaded seq loaded.0, coding)

@@ -8,8 +8,9 @@ use Rattle.syntax_types.specs.declared.block.TheConstants.{BLOCK_PLACES}
 use Rattle.syntax_types.specs.declared.picture.TheConstants.{I_PICTURE, P_PICTURE, B_PICTURE, FRAME_PICTURE}
 use Rattle.syntax_types.specs.declared.picture.PicCoding.{PicCoding}
 use Rattle.syntax_types.specs.declared.picture.SeqState.{SeqState}
-use Rattle.picture_grammar.specs.declared.limits.TheConstants.{WIDTH_LEAST, WIDTH_MOST, HEIGHT_LEAST, HEIGHT_MOST, RATE_CODE_MOST, VBV_MOST, MAIN_AT_MAIN, CHROMA_420, F_CODE_MOST}
-use Rattle.picture_grammar.specs.Refusal.Refusal.{BadHeader, Size, Profile, LowDelay, FieldPicture}
+use Rattle.stream_constants.specs.declared.main_level.TheConstants.{VBV_MOST}
+use Rattle.picture_grammar.specs.declared.limits.TheConstants.{WIDTH_LEAST, WIDTH_MOST, HEIGHT_LEAST, HEIGHT_MOST, RATE_CODE_MOST, MAIN_AT_MAIN, CHROMA_420, F_CODE_MOST}
+use Rattle.picture_grammar.specs.Refusal.Refusal.{BadHeader, Size, Profile, LowDelay}
 use Rattle.picture_grammar.specs.Grammar.{Grammar, done, ◌>>=◌, ◌>>◌, optional, repeated, many}
 use Rattle.picture_grammar.specs.Element.{uimsbf, one_flag, flag_where, marker_bit, rule}
 use Rattle.picture_grammar.specs.Slice.{extra_information}
@@ -25,6 +26,7 @@ abbrev pub repeats : Option SeqState → (SeqState → ℕ) → ℕ → Bool
 repeats None field number = true
 repeats (Some before) field number = number == field before
 
+-- the number is no 0
 abbrev pub is_not_zero : ℕ → Bool
 is_not_zero number = not (number == 0)
 
@@ -89,6 +91,7 @@ sequence_extension before = do
 
 -- ---- group_of_pictures_header() (6.2.2.6)
 
+-- group_of_pictures_header() behind its start code
 abbrev pub group_header : Grammar Bool
 group_header = do
   uimsbf 25 []  -- time_code
@@ -114,6 +117,7 @@ picture_header = do
   many extra_information
   done (kind, vbv_delay)
 
+-- an f_code that counts is from 1 to 9 (Table 7-8)
 abbrev pub is_f_code : ℕ → Bool
 is_f_code number = is_from_to 1 F_CODE_MOST number
 
@@ -121,17 +125,19 @@ is_f_code number = is_from_to 1 F_CODE_MOST number
 abbrev pub f_code : Bool → Grammar ℕ
 f_code is_needed = uimsbf 4 (rule BadHeader (λ number. not is_needed || is_f_code number) ∷ [])
 
--- picture_coding_extension() behind its identifier. The concealment vectors of an I-picture need the forward f_codes.
-abbrev pub picture_coding_extension : ℕ → ℕ → Grammar PicCoding
-picture_coding_extension kind vbv_delay = do
+-- picture_coding_extension() behind its identifier, by progressive_sequence, picture_coding_type and vbv_delay. A
+-- progressive sequence has frame pictures alone, a field picture has frame_pred_frame_dct 0, and the concealment vectors
+-- of an I-picture need the forward f_codes.
+abbrev pub picture_coding_extension : Bool → ℕ → ℕ → Grammar PicCoding
+picture_coding_extension progressive kind vbv_delay = do
   forward_horizontal ← f_code (kind == P_PICTURE || kind == B_PICTURE)
   forward_vertical ← f_code (kind == P_PICTURE || kind == B_PICTURE)
   backward_horizontal ← f_code (kind == B_PICTURE)
   backward_vertical ← f_code (kind == B_PICTURE)
   dc_precision ← uimsbf 2 []
-  structure ← uimsbf 2 (rule BadHeader is_not_zero ∷ rule FieldPicture (λ number. number == FRAME_PICTURE) ∷ [])
+  structure ← uimsbf 2 (rule BadHeader is_not_zero ∷ rule BadHeader (λ number. not progressive || number == FRAME_PICTURE) ∷ [])
   top_field_first ← one_flag
-  frame_pred_frame_dct ← one_flag
+  frame_pred_frame_dct ← flag_where (rule BadHeader (λ is_set. not is_set || structure == FRAME_PICTURE) ∷ [])
   concealment ← flag_where (rule BadHeader (λ is_set. not is_set || (is_f_code forward_horizontal && is_f_code forward_vertical)) ∷ [])
   q_scale_type ← one_flag
   intra_vlc_format ← one_flag
@@ -173,5 +179,6 @@ quant_matrix_extension = do
   flag_where (rule BadHeader not ∷ [])  -- load_chroma_non_intra_quantiser_matrix
   done (record { intra = intra; non_intra = non_intra })
 
+-- the state with the matrices that were loaded (6.3.11)
 abbrev pub with_loaded : SeqState → Loaded → SeqState
 with_loaded seq loaded = record seq { intra = matrix_or loaded.intra seq.intra; non_intra = matrix_or loaded.non_intra seq.non_intra }

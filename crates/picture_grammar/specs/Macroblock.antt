@@ -9,17 +9,17 @@ use Rattle.prefix_codes.specs.declared.table_name.TableName.TheVariants.{Address
 use Rattle.prefix_codes.specs.TableName.{code_in}
 use Rattle.syntax_types.specs.declared.block.Block.{Block}
 use Rattle.syntax_types.specs.declared.block.BlockWay.{BlockWay}
-use Rattle.syntax_types.specs.declared.macroblock.TheConstants.{BLOCKS, FRAME_BASED}
+use Rattle.syntax_types.specs.declared.macroblock.TheConstants.{BLOCKS, FIELD_BASED, FRAME_BASED}
 use Rattle.syntax_types.specs.declared.macroblock.Kind.{Kind}
 use Rattle.syntax_types.specs.declared.macroblock.Macroblock.{Macroblock}
-use Rattle.syntax_types.specs.declared.picture.TheConstants.{I_PICTURE, P_PICTURE}
+use Rattle.syntax_types.specs.declared.picture.TheConstants.{I_PICTURE, P_PICTURE, FRAME_PICTURE}
 use Rattle.syntax_types.specs.declared.picture.PicCoding.{PicCoding}
 use Rattle.picture_grammar.specs.Refusal.Refusal.{BadAddress, BadType, BadPattern}
 use Rattle.picture_grammar.specs.Grammar.{Grammar, done, ◌>>=◌, ◌>>◌, optional, when, each, many, Next}
 use Rattle.picture_grammar.specs.Grammar.Next.{more, last}
 use Rattle.picture_grammar.specs.Element.{element, vlclbf, uimsbf, one_flag, marker_bit, rule}
 use Rattle.picture_grammar.specs.Block.{block}
-use Rattle.picture_grammar.specs.Motion.{frame_motion, motion_vectors}
+use Rattle.picture_grammar.specs.Motion.{MotionFormat, frame_motion, field_motion, motion_vectors}
 
 -- ---- the address (6.3.17)
 
@@ -50,24 +50,40 @@ most_increment coding first columns_left = if coding.kind == I_PICTURE && not fi
 abbrev pub type_table : PicCoding → TableName
 type_table coding = if coding.kind == I_PICTURE then TypeI else (if coding.kind == P_PICTURE then TypeP else TypeB)
 
+-- the symbol of macroblock_type: the sum of the flags that are set
 abbrev pub type_symbol : Kind → ℕ
 type_symbol kind = QUANT * flag kind.quant + FORWARD * flag kind.forward + BACKWARD * flag kind.backward + PATTERN * flag kind.pattern + INTRA * flag kind.intra
 
+-- macroblock_type by the table of the picture type
 abbrev pub macroblock_type : PicCoding → Grammar Kind
 macroblock_type coding = element (λ kind code. code_in (type_table coding) (type_symbol kind) ≡ Some code) BadType []
 
--- frame_motion_type stands where there is motion and it may vary
+-- picture_structure is that of a frame picture (Table 6-14)
+abbrev pub is_frame : PicCoding → Bool
+is_frame coding = coding.structure == FRAME_PICTURE
+
+-- frame_motion_type or field_motion_type stands where there is motion, but not where it is always frame-based
 abbrev pub has_motion_type : PicCoding → Kind → Bool
-has_motion_type coding kind = not coding.frame_pred_frame_dct && (kind.forward || kind.backward)
+has_motion_type coding kind = (kind.forward || kind.backward) && not (is_frame coding && coding.frame_pred_frame_dct)
 
--- frame_motion_type, which isn't 0
+-- what counts where none stands, as for the vector of concealment (6.3.17.1)
+abbrev pub usual_motion_type : PicCoding → ℕ
+usual_motion_type coding = if is_frame coding then FRAME_BASED else FIELD_BASED
+
+-- frame_motion_type or field_motion_type, which isn't 0
 abbrev pub motion_type : PicCoding → Kind → Grammar ℕ
-motion_type coding kind = when (has_motion_type coding kind) (uimsbf 2 (rule BadType (λ number. not (number == 0)) ∷ [])) FRAME_BASED
+motion_type coding kind =
+    when (has_motion_type coding kind) (uimsbf 2 (rule BadType (λ number. not (number == 0)) ∷ [])) (usual_motion_type coding)
 
--- dct_type stands where there are coefficients and it may vary
+-- how the vectors of a macroblock are coded (Tables 6-17 and 6-18)
+abbrev pub motion_format : PicCoding → ℕ → MotionFormat
+motion_format coding motion_type = if is_frame coding then frame_motion motion_type else field_motion motion_type
+
+-- dct_type stands in a frame picture, where there are coefficients and it may vary
 abbrev pub has_dct_type : PicCoding → Kind → Bool
-has_dct_type coding kind = not coding.frame_pred_frame_dct && (kind.intra || kind.pattern)
+has_dct_type coding kind = is_frame coding && not coding.frame_pred_frame_dct && (kind.intra || kind.pattern)
 
+-- dct_type, which counts as 0 where it does not stand
 abbrev pub dct_type : PicCoding → Kind → Grammar Bool
 dct_type coding kind = when (has_dct_type coding kind) one_flag false
 
@@ -89,6 +105,7 @@ has_forward coding kind = kind.forward || has_concealment coding kind
 abbrev pub f_codes : PicCoding → ℕ → List ℕ
 f_codes coding direction = slice_index_or coding.f_code direction []
 
+-- how block i of a macroblock is coded: the first four are those of luminance (6.1.3.1)
 abbrev pub block_way : PicCoding → Kind → ℕ → BlockWay
 block_way coding kind i = record { intra = kind.intra; luma = nat_lt i 4; vlc_one = coding.intra_vlc_format }
 
@@ -96,9 +113,11 @@ block_way coding kind i = record { intra = kind.intra; luma = nat_lt i 4; vlc_on
 abbrev pub is_coded : Kind → ℕ → ℕ → Bool
 is_coded kind pattern i = kind.intra || (bit_at pattern (BLOCKS - 1 - i) == 1)
 
+-- a block that is not coded
 abbrev pub no_block : Block
 no_block = record { dc = None; pairs = record { items = [] } }
 
+-- the six blocks in order, each where it is coded
 abbrev pub blocks : PicCoding → Kind → ℕ → Grammar (List Block)
 blocks coding kind pattern =
     each (range_with_len 0 BLOCKS) (λ i. when (is_coded kind pattern i) (block (block_way coding kind i)) no_block)
@@ -111,8 +130,8 @@ macroblock coding first columns_left = do
   motion_type ← motion_type coding kind
   field_dct ← dct_type coding kind
   code ← optional kind.quant quantiser_scale_code
-  forward ← when (has_forward coding kind) (motion_vectors (f_codes coding 0) (frame_motion motion_type)) []
-  backward ← when kind.backward (motion_vectors (f_codes coding 1) (frame_motion motion_type)) []
+  forward ← when (has_forward coding kind) (motion_vectors (f_codes coding 0) (motion_format coding motion_type)) []
+  backward ← when kind.backward (motion_vectors (f_codes coding 1) (motion_format coding motion_type)) []
   optional (has_concealment coding kind) (marker_bit BadType)
   pattern ← when kind.pattern (vlclbf Pattern BadPattern []) 0
   blocks ← blocks coding kind pattern

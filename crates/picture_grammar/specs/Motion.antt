@@ -1,7 +1,7 @@
 -- Motion vectors (ISO/IEC 13818-2, 6.2.5.2, 6.2.5.2.1 and 6.3.17.2).
 use Rattle.std.specs.Prelude.{◌≡◌, ◌-◌, ◌≤◌, ◌==◌, ◌&&◌, ℕ, zero, suc, ℤ, pos, negsuc, unsigned_abs, not, Some, None, List, [], ◌∷◌, Bool, false, slice_index, if◌then◌else◌}
 use Rattle.prefix_codes.specs.declared.table_name.TableName.TheVariants.{Motion}
-use Rattle.syntax_types.specs.declared.macroblock.TheConstants.{FIELD_BASED, DUAL_PRIME}
+use Rattle.syntax_types.specs.declared.macroblock.TheConstants.{FIELD_BASED, SIXTEEN_BY_EIGHT, DUAL_PRIME}
 use Rattle.syntax_types.specs.declared.macroblock.Vector.{Vector}
 use Rattle.picture_grammar.specs.Refusal.Refusal.{NoCode, End}
 use Rattle.picture_grammar.specs.Grammar.{Grammar, done, ◌>>=◌, optional, when, repeated}
@@ -14,11 +14,19 @@ pub record MotionFormat : Type 0 where
   pub select : Bool
   pub dual : Bool
 
--- the vectors of a frame picture by frame_motion_type (Table 6-17)
+-- in a frame picture, by frame_motion_type (Table 6-17)
 abbrev pub frame_motion : ℕ → MotionFormat
 frame_motion motion_type = record {
   count = if motion_type == FIELD_BASED then 2 else 1;
   select = motion_type == FIELD_BASED;
+  dual = motion_type == DUAL_PRIME;
+}
+
+-- in a field picture, by field_motion_type (Table 6-18)
+abbrev pub field_motion : ℕ → MotionFormat
+field_motion motion_type = record {
+  count = if motion_type == SIXTEEN_BY_EIGHT then 2 else 1;
+  select = not (motion_type == DUAL_PRIME);
   dual = motion_type == DUAL_PRIME;
 }
 
@@ -28,6 +36,7 @@ dmvector_code (pos zero) = 0 ∷ []
 dmvector_code (pos (suc n)) = 1 ∷ 0 ∷ []
 dmvector_code (negsuc n) = 1 ∷ 1 ∷ []
 
+-- dmvector, -1, 0 or 1
 abbrev pub dmvector : Grammar ℤ
 dmvector = element (λ value code. (unsigned_abs value ≤ 1) × (code ≡ dmvector_code value)) End []
 

@@ -8,13 +8,15 @@ use Rattle.syntax_types.specs.declared.picture.PicCoding.{PicCoding}
 use Rattle.syntax_types.specs.declared.picture.Picture.{Picture}
 use Rattle.syntax_types.specs.declared.picture.SeqState.{SeqState}
 use Rattle.syntax_types.specs.declared.slice.Slice.{Slice}
-use Rattle.picture_grammar.specs.declared.limits.TheConstants.{WIDTH_LEAST, WIDTH_MOST, HEIGHT_LEAST, HEIGHT_MOST, RATE_CODE_MOST, VBV_MOST, MACROBLOCK_SIZE}
+use Rattle.stream_constants.specs.declared.main_level.TheConstants.{VBV_MOST}
+use Rattle.picture_grammar.specs.declared.limits.TheConstants.{WIDTH_LEAST, WIDTH_MOST, HEIGHT_LEAST, HEIGHT_MOST, RATE_CODE_MOST, MACROBLOCK_SIZE}
 use Rattle.picture_grammar.specs.declared.start_codes.TheConstants.{FIRST_SLICE, SEQUENCE_END}
 use Rattle.picture_grammar.specs.Refusal.{Refusal}
 use Rattle.picture_grammar.specs.Refusal.Refusal.{BadHeader, Uncovered}
 use Rattle.picture_grammar.specs.Grammar.{Grammar, done, ◌>>=◌, ◌>>◌, optional, if_next, many, Next, with_bytes}
 use Rattle.picture_grammar.specs.Grammar.Next.{more, last}
 use Rattle.picture_grammar.specs.StartCode.{start_code, zero_bits, only_zero_bytes, is_slice}
+use Rattle.picture_grammar.specs.Macroblock.{is_frame}
 use Rattle.picture_grammar.specs.Slice.{slice, columns}
 use Rattle.picture_grammar.specs.Head.{head}
 
@@ -60,11 +62,17 @@ picture_unit before = do
 
 -- ---- the macroblocks of a picture (6.1.2)
 
--- mb_height (6.3.3)
-abbrev pub rows : SeqState → ℕ
-rows seq = if seq.progressive then (seq.height + (MACROBLOCK_SIZE - 1)) / MACROBLOCK_SIZE
-    else 2 * ((seq.height + (2 * MACROBLOCK_SIZE - 1)) / (2 * MACROBLOCK_SIZE))
+-- macroblock rows of a field of an interlaced sequence (6.3.3)
+abbrev pub field_rows : SeqState → ℕ
+field_rows seq = (seq.height + (2 * MACROBLOCK_SIZE - 1)) / (2 * MACROBLOCK_SIZE)
 
+-- macroblock rows of a picture, mb_height (6.3.3): a frame of an interlaced sequence has those of its two fields
+abbrev pub rows : SeqState → PicCoding → ℕ
+rows seq coding = if is_frame coding
+    then (if seq.progressive then (seq.height + (MACROBLOCK_SIZE - 1)) / MACROBLOCK_SIZE else 2 * field_rows seq)
+    else field_rows seq
+
+-- the column of the first macroblock of a slice
 abbrev pub first_column : List Macroblock → ℕ
 first_column [] = 0
 first_column (m ∷ ms) = m.skipped_before
@@ -77,10 +85,11 @@ addresses seq slice =
 
 -- the slices hold all macroblocks of the picture in order, each once (6.1.2.2)
 abbrev pub IsCovered : Picture → Type 0
-IsCovered picture = flat_map (addresses picture.seq) picture.slices ≡ range_with_len 0 (rows picture.seq * columns picture.seq)
+IsCovered picture = flat_map (addresses picture.seq) picture.slices ≡ range_with_len 0 (rows picture.seq picture.coding * columns picture.seq)
 
 -- ---- what bytes spell
 
+-- 64 weights of a byte each, none of them 0
 abbrev pub AreWeights : List ℕ → Type 0
 AreWeights weights = (length weights ≡ BLOCK_PLACES) × AllByRecursion (λ weight. (0 < weight) × (weight < 2 ^ 8)) weights
 

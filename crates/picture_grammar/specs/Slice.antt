@@ -48,13 +48,13 @@ abbrev pub columns_left : SeqState → List Macroblock → ℕ
 columns_left seq macroblocks = columns seq - sum_by (λ m. m.skipped_before + 1) macroblocks
 
 -- 23 zero bits, or nothing but zero bits to the unit's end, close a slice
-abbrev pub Closes : List ℕ → Type 0
-Closes bits = IsPrefix (replicate SLICE_CLOSING_BITS 0) bits ⊎ (bits ≡ replicate (length bits) 0)
+abbrev pub ClosesSlice : List ℕ → Type 0
+ClosesSlice bits = IsPrefix (replicate SLICE_CLOSING_BITS 0) bits ⊎ (bits ≡ replicate (length bits) 0)
 
 -- the first macroblock; behind it another one, or the close of the slice
 abbrev pub next_macroblock : SeqState → PicCoding → List Macroblock → Grammar (Next Macroblock (Unit {0}))
 next_macroblock seq coding [] = one_more (macroblock coding true (columns seq))
-next_macroblock seq coding (m ∷ ms) = if_next Closes (done (last tt)) (one_more (macroblock coding false (columns_left seq (m ∷ ms))))
+next_macroblock seq coding (m ∷ ms) = if_next ClosesSlice (done (last tt)) (one_more (macroblock coding false (columns_left seq (m ∷ ms))))
 
 -- slice() (6.2.4) of a macroblock row, from behind its start code to the end of its last macroblock
 unfoldable pub slice : SeqState → PicCoding → ℕ → Grammar Slice

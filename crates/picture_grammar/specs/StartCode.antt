@@ -20,6 +20,7 @@ start_code_bits byte = start_code_prefix ++ bits_of 8 byte
 abbrev pub zero_bits : Refusal → Grammar ℕ
 zero_bits refusal = at_bits (λ bits. uimsbf (length bits % 8) (rule refusal (λ number. number == 0) ∷ []))
 
+-- a byte 0
 abbrev pub zero_byte : Refusal → Grammar ℕ
 zero_byte refusal = uimsbf 8 (rule refusal (λ byte. byte == 0) ∷ [])
 
@@ -34,7 +35,7 @@ start_code refusal may_come = do
   element (λ byte code. (byte < 2 ^ 8) × (code ≡ start_code_bits byte)) refusal (rule refusal may_come ∷ [])
 
 -- behind zero bytes one of these start codes comes
-pub record Comes (may_come : ℕ → Bool) (bits : List ℕ) : Type 0 where
+pub record StartCodeComes (may_come : ℕ → Bool) (bits : List ℕ) : Type 0 where
   pub zeros : ℕ
   pub byte : ℕ
   pub rest : List ℕ
@@ -42,6 +43,7 @@ pub record Comes (may_come : ℕ → Bool) (bits : List ℕ) : Type 0 where
   pub is_one : may_come byte ≡ true
   pub stands : bits ≡ replicate (8 * zeros) 0 ++ start_code_bits byte ++ rest
 
+-- slice_start_code: the bytes 01 to AF (Table 6-1)
 abbrev pub is_slice : ℕ → Bool
 is_slice byte = nat_le FIRST_SLICE byte && nat_le byte LAST_SLICE
 

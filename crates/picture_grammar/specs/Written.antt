@@ -37,6 +37,7 @@ if_any written part = option_map_or written part []
 
 -- ---- blocks
 
+-- the size by its table, and so many bits
 abbrev pub written_dc : BlockWay → Dc → List ℕ
 written_dc way dc = code_for (dc_table way.luma) dc.size ++ bits_of dc.size dc.bits
 
@@ -45,6 +46,7 @@ abbrev pub level_bits : ℤ → ℕ
 level_bits (pos n) = n
 level_bits (negsuc n) = 2 ^ LEVEL_BITS - suc n
 
+-- the escape, the run in 6 bits and the level in 12
 abbrev pub written_escape : TableName → RunLevel → List ℕ
 written_escape table pair = code_for table ESCAPE ++ bits_of RUN_BITS pair.run ++ bits_of LEVEL_BITS (level_bits pair.level)
 
@@ -60,6 +62,7 @@ written_coefficients way place [] = code_for (coefficient_table way place) END_O
 written_coefficients way place (pair ∷ pairs) =
     written_coefficient (coefficient_table way place) pair ++ written_coefficients way (place + (pair.run + 1)) pairs
 
+-- the DC coefficient of an intra block, the coefficients, the end of block
 unfoldable pub written_block : BlockWay → Block → List ℕ
 written_block way block = if_any (written_dc way) block.dc ++ written_coefficients way (first_place way) block.pairs.items
 
@@ -71,6 +74,7 @@ written_increment increment =
     let escapes = (increment - 1) / escape_increment in
     flat_map (λ _. code_for Address ADDRESS_ESCAPE) (range_with_len 0 escapes) ++ code_for Address (increment - escape_increment * escapes)
 
+-- motion_code, its sign and motion_residual, each where it stands
 abbrev pub written_part : ℕ → ℤ → ℕ → List ℕ
 written_part f_code code residual =
     let size = unsigned_abs code in
@@ -84,14 +88,17 @@ written_vector_part f_codes vector part =
     written_part (slice_index f_codes part) (slice_index_or vector.code part (pos 0)) (slice_index vector.residual part)
     ++ if_any (λ dual. dmvector_code (slice_index_or dual part (pos 0))) vector.dual
 
+-- the field select where it stands, then the two parts
 abbrev pub written_vector : List ℕ → Vector → List ℕ
 written_vector f_codes vector =
     if_any (λ field. flag field ∷ []) vector.select ++ written_vector_part f_codes vector 0 ++ written_vector_part f_codes vector 1
 
+-- block i, where it is coded
 abbrev pub written_coded_block : PicCoding → Macroblock → ℕ → List ℕ
 written_coded_block coding m i =
     if is_coded m.kind m.pattern i then written_block (block_way coding m.kind i) (slice_index_or m.blocks i no_block) else []
 
+-- the parts of a macroblock in order, each where it stands
 unfoldable pub written_macroblock : PicCoding → Macroblock → List ℕ
 written_macroblock coding m =
     written_increment (m.skipped_before + 1)
@@ -107,6 +114,7 @@ written_macroblock coding m =
 
 -- ---- slices
 
+-- the extension flag, and what stands behind it where it is set
 abbrev pub written_slice_info : Option SliceInfo → List ℕ
 written_slice_info None = 0 ∷ []
 written_slice_info (Some info) =
@@ -123,6 +131,7 @@ written_slice coding slice =
 abbrev pub to_whole_bytes : List ℕ → List ℕ
 to_whole_bytes bits = bits ++ replicate ((8 - length bits % 8) % 8) 0
 
+-- the head, each slice behind its start code up to a whole byte, and the sequence end code
 unfoldable pub written_picture : Picture → List ℕ
 written_picture picture =
     bit_list picture.head

@@ -3,7 +3,8 @@
 //!
 //! The crate is definitions, which every reader and writer of pictures cites, and the numbers in them. A grammar is a
 //! sequence of elements in the order of the syntax tables; what it spells and what it refuses is said once, for all of
-//! them (specs/Grammar, specs/Element). Stands on `syntax_types`, `prefix_codes`, `quant_math` and `bit_lists`.
+//! them (specs/Grammar, specs/Element). Stands on `syntax_types`, `prefix_codes`,
+//! `quant_math`, `bit_lists` and `stream_constants`.
 #![tactic(auto)]
 
 pub mod escape;

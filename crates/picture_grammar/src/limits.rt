@@ -1,4 +1,4 @@
-//! What headers may say.
+//! What headers may say, beside the greatest buffer of Main level, which `stream_constants` has.
 
 /// The least horizontal_size, in samples.
 pub const WIDTH_LEAST: u16 = 16;
@@ -14,9 +14,6 @@ pub const HEIGHT_MOST: u16 = 576;
 
 /// The greatest frame_rate_code of Main level, 30 pictures/s (Tables 6-4 and 8-11).
 pub const RATE_CODE_MOST: u8 = 5;
-
-/// The greatest vbv_buffer_size of Main level, 1,835,008 bits in units of 16,384 (Table 8-14).
-pub const VBV_MOST: u8 = 112;
 
 /// profile_and_level_indication of Main profile at Main level (Tables 8-2 to 8-4).
 pub const MAIN_AT_MAIN: u8 = 0x48;

@@ -1,5 +1,6 @@
+mod CodeLemmas
 pub mod CoefficientLemmas
 pub mod Computing
 pub mod Examples
-pub mod RowLemmas
+pub mod LevelLemmas
 pub mod TableLemmas

@@ -14,7 +14,7 @@ use Rattle.prefix_codes.specs.declared.table_name.TableName.TheVariants.{Address
 use Rattle.prefix_codes.proofs.Computing.{tables}
 
 -- the first list begins the second
-unfoldable begins : List ℕ → List ℕ → Bool
+unfoldable pub begins : List ℕ → List ℕ → Bool
 begins [] ys = true
 begins (x ∷ xs) [] = false
 begins (x ∷ xs) (y ∷ ys) = nat_eq x y && begins xs ys
@@ -46,7 +46,7 @@ entries_apart CoeffOne = refl
 -- ---- what the test says of codes
 
 -- a code that begins another one
-begins_from_IsPrefix : (xs ys : List ℕ) → IsPrefix xs ys → begins xs ys ≡ true
+pub begins_from_IsPrefix : (xs ys : List ℕ) → IsPrefix xs ys → begins xs ys ≡ true
 unfolding begins
 begins_from_IsPrefix [] ys h = refl
 begins_from_IsPrefix (x ∷ xs) [] h = cc

@@ -1,5 +1,5 @@
 pub mod CoefficientTables
 pub mod Entry
 pub mod MacroblockTables
-pub mod Row
+pub mod Private
 pub mod TableName

@@ -1,5 +1,5 @@
 -- The code tables by name (ISO/IEC 13818-2, Annex B).
-use Rattle.std.specs.Prelude.{◌≡◌, ℕ, ◌&&◌, nat_eq, nat_lt, Option, Some, None, List, length, if◌then◌else◌}
+use Rattle.std.specs.Prelude.{◌≡◌, ℕ, Bool, true, false, ◌&&◌, nat_eq, nat_lt, Option, Some, None, List, length, if◌then◌else◌}
 use Rattle.std.specs.Map.{lookup}
 use Rattle.prefix_codes.specs.declared.symbol.TheConstants.{LEVELS_PER_RUN, RUNS}
 use Rattle.prefix_codes.specs.declared.table_name.TableName.{TableName}
@@ -22,6 +22,20 @@ entries DcChroma = dct_dc_size_chrominance
 entries CoeffZero = dct_coefficients_zero
 entries CoeffFirst = dct_coefficients_first
 entries CoeffOne = dct_coefficients_one
+
+-- the tables of coefficients, B-14 and B-15
+abbrev pub is_coefficients : TableName → Bool
+is_coefficients Address = false
+is_coefficients TypeI = false
+is_coefficients TypeP = false
+is_coefficients TypeB = false
+is_coefficients Pattern = false
+is_coefficients Motion = false
+is_coefficients DcLuma = false
+is_coefficients DcChroma = false
+is_coefficients CoeffZero = true
+is_coefficients CoeffFirst = true
+is_coefficients CoeffOne = true
 
 -- the code of a symbol, if the table has one
 unfoldable pub code_in : TableName → ℕ → Option (List ℕ)

@@ -1,56 +1,81 @@
-ghost use Rattle.std.specs.Prelude.{◌≡◌, map, IsTrue};
-ghost use Rattle.std.specs.List.{list_all};
-ghost use Rattle.prefix_codes.specs.TableName.{entries};
-ghost use Rattle.prefix_codes.specs.Row.{entry_of, has_code};
+ghost use Rattle.std.specs.Prelude.{◌≡◌};
+ghost use Rattle.prefix_codes.specs.Private.Levels.{first_of, second_of};
+ghost use Rattle.prefix_codes.specs.Private.Codes.{codes_of};
 
-use crate::code::Code;
 use crate::table_name::TableName;
 
-/// A row, of a symbol or of a run and a level, and of the value and the number of the code's bits.
-macro_rules! row {
-    ($symbol:expr, $bits:expr, $len:expr) => {
-        Row {
-            symbol: $symbol,
-            code: Code { bits: $bits, len: $len },
-        }
-    };
-    ($run:expr, $level:expr, $bits:expr, $len:expr) => {
-        row!($run * LEVELS_PER_RUN + $level, $bits, $len)
-    };
-}
+pub mod coefficients;
+pub mod macroblocks;
 
-macro_rules! rows {
-    ($(($($part:expr),*)),* $(,)?) => {
-        [$(row!($($part),*)),*]
-    };
-}
+/// How many of a window's first bits a first level tells apart.
+pub const FIRST_BITS: u32 = 8;
 
-mod coefficients;
-mod macroblocks;
+/// A word has a length in its lowest bits, so many.
+pub const LENGTH_BITS: u32 = 8;
 
-/// A symbol and its code.
-#[derive(Clone, Copy)]
-pub struct Row {
-    pub symbol: u16,
-    pub code: Code,
-}
+/// It has a number behind the length, in so many bits.
+pub const NUMBER_BITS: u32 = 16;
 
-/// The rows of a table, in the order of the standard.
-pub fn rows(table: TableName) -> &'static [Row]
-    ensures entries { map entry_of result.now ≡ entries table }
-    ensures codes { IsTrue (list_all has_code result.now) }
+/// Words of a first level from this one on lead to the second levels.
+pub const LINK: u32 = 1 << 31;
+
+/// The first level of a table: a word for each value of a window's first `FIRST_BITS` bits.
+///
+/// Below `LINK` a word's length and number are the length and the symbol of the code that stands there, and the word is 0
+/// where none does. From `LINK` on the code is longer: the length says how many more bits tell it, and the number where
+/// the words for their values begin in the second levels.
+pub fn first_level(table: TableName) -> &'static [u32; 256]
+    ensures { result.now ≡ first_of table }
 {
     match table {
-        TableName::Address => &macroblocks::MACROBLOCK_ADDRESS_INCREMENT,
-        TableName::TypeI => &macroblocks::MACROBLOCK_TYPE_I,
-        TableName::TypeP => &macroblocks::MACROBLOCK_TYPE_P,
-        TableName::TypeB => &macroblocks::MACROBLOCK_TYPE_B,
-        TableName::Pattern => &macroblocks::CODED_BLOCK_PATTERN,
-        TableName::Motion => &macroblocks::MOTION_CODE,
-        TableName::DcLuma => &macroblocks::DCT_DC_SIZE_LUMINANCE,
-        TableName::DcChroma => &macroblocks::DCT_DC_SIZE_CHROMINANCE,
-        TableName::CoeffZero => &coefficients::DCT_COEFFICIENTS_ZERO,
-        TableName::CoeffFirst => &coefficients::DCT_COEFFICIENTS_FIRST,
-        TableName::CoeffOne => &coefficients::DCT_COEFFICIENTS_ONE,
+        TableName::Address => &macroblocks::ADDRESS_FIRST,
+        TableName::TypeI => &macroblocks::TYPE_I_FIRST,
+        TableName::TypeP => &macroblocks::TYPE_P_FIRST,
+        TableName::TypeB => &macroblocks::TYPE_B_FIRST,
+        TableName::Pattern => &macroblocks::PATTERN_FIRST,
+        TableName::Motion => &macroblocks::MOTION_FIRST,
+        TableName::DcLuma => &macroblocks::DC_LUMA_FIRST,
+        TableName::DcChroma => &macroblocks::DC_CHROMA_FIRST,
+        TableName::CoeffZero => &coefficients::COEFF_ZERO_FIRST,
+        TableName::CoeffFirst => &coefficients::COEFF_FIRST_FIRST,
+        TableName::CoeffOne => &coefficients::COEFF_ONE_FIRST,
+    }
+}
+
+/// The second levels of a table, one behind the other.
+pub fn second_levels(table: TableName) -> &'static [u32]
+    ensures { result.now ≡ second_of table }
+{
+    match table {
+        TableName::Address => &macroblocks::ADDRESS_SECOND,
+        TableName::TypeI => &[],
+        TableName::TypeP => &[],
+        TableName::TypeB => &[],
+        TableName::Pattern => &macroblocks::PATTERN_SECOND,
+        TableName::Motion => &macroblocks::MOTION_SECOND,
+        TableName::DcLuma => &macroblocks::DC_LUMA_SECOND,
+        TableName::DcChroma => &macroblocks::DC_CHROMA_SECOND,
+        TableName::CoeffZero => &coefficients::COEFF_ZERO_SECOND,
+        TableName::CoeffFirst => &coefficients::COEFF_ZERO_SECOND,
+        TableName::CoeffOne => &coefficients::COEFF_ONE_SECOND,
+    }
+}
+
+/// The codes of a table by their places: a word's number is the value of the code's bits. It is 0 where there is none.
+pub fn codes(table: TableName) -> &'static [u32]
+    ensures { result.now ≡ codes_of table }
+{
+    match table {
+        TableName::Address => &macroblocks::ADDRESS_CODES,
+        TableName::TypeI => &macroblocks::TYPE_I_CODES,
+        TableName::TypeP => &macroblocks::TYPE_P_CODES,
+        TableName::TypeB => &macroblocks::TYPE_B_CODES,
+        TableName::Pattern => &macroblocks::PATTERN_CODES,
+        TableName::Motion => &macroblocks::MOTION_CODES,
+        TableName::DcLuma => &macroblocks::DC_LUMA_CODES,
+        TableName::DcChroma => &macroblocks::DC_CHROMA_CODES,
+        TableName::CoeffZero => &coefficients::COEFF_ZERO_CODES,
+        TableName::CoeffFirst => &coefficients::COEFF_FIRST_CODES,
+        TableName::CoeffOne => &coefficients::COEFF_ONE_CODES,
     }
 }

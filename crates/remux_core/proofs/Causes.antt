@@ -1,6 +1,7 @@
 -- Each cause has its status, where no count rose.
 use Rattle.std.proofs.Common.{◌≡◌, ◌⊎◌, ℕ, List, Some, refl, sym, ap, subst, inl, inr}
 use Rattle.std.specs.FinMap.{get}
+use Rattle.shelf_io.specs.Counts.{ShelfCounts}
 use Rattle.shelf_io.specs.Files.{Files}
 use Rattle.version_table.specs.declared.table.Table.{Table}
 use Rattle.version_table.specs.Choice.{IsSmallestChoice}
@@ -112,17 +113,16 @@ refused_status laws words files statuses.WriteFault line new certificate text re
 refused_status laws words files statuses.Missing line new certificate text refusal before after outcome plans refused cause quiet = absurd (quiet.absences cause)
 
 -- a shelf's cause is one of both
-pub cause_of : {K : Type 0} (faults write_faults absences : K → ℕ) (old new : K) (status : Status) (a b : ℕ) → HasShelfCause faults write_faults absences old new status
-    → HasCause (record { faults = faults old; write_faults = write_faults old; absences = absences old; out_faults = a })
-    (record { faults = faults new; write_faults = write_faults new; absences = absences new; out_faults = b }) status
-cause_of f w m old new statuses.Ok a b cause = tt
-cause_of f w m old new statuses.Usage a b cause = tt
-cause_of f w m old new (statuses.JobRefused refusal) a b cause = tt
-cause_of f w m old new (statuses.Unschedulable miss) a b cause = tt
-cause_of f w m old new statuses.ReadFault a b cause = cause
-cause_of f w m old new statuses.WriteFault a b cause = inl cause
-cause_of f w m old new statuses.Missing a b cause = cause
-cause_of f w m old new statuses.OutOfMemory a b cause = tt
+pub cause_of : (old new : ShelfCounts) (status : Status) (a b : ℕ) → HasShelfCause old new status
+    → HasCause (record { shelf = old; out_faults = a }) (record { shelf = new; out_faults = b }) status
+cause_of old new statuses.Ok a b cause = tt
+cause_of old new statuses.Usage a b cause = tt
+cause_of old new (statuses.JobRefused refusal) a b cause = tt
+cause_of old new (statuses.Unschedulable miss) a b cause = tt
+cause_of old new statuses.ReadFault a b cause = cause
+cause_of old new statuses.WriteFault a b cause = inl cause
+cause_of old new statuses.Missing a b cause = cause
+cause_of old new statuses.OutOfMemory a b cause = tt
 
 -- what is decided and told whole is the outcome
 pub outcome_of : (words : List (List ℕ)) (files : Files) (status : Status) (line : List ℕ) (new : Files) → Decides words files status line new → Outcome words files status line new

@@ -2,7 +2,7 @@
 use Rattle.std.specs.Prelude.{◌≡◌, ℕ, ◌+◌, ◌≤◌, ◌⊎◌, List, [], ◌++◌, length, take, Option, Some, None}
 use Rattle.std.specs.FinMap.{get, insert}
 use Rattle.std.specs.String.{string_bytes}
-use Rattle.shelf_io.specs.Counts.{Rose}
+use Rattle.shelf_io.specs.Counts.{Rose, ShelfCounts}
 use Rattle.shelf_io.specs.Files.{Files}
 use Rattle.version_table.specs.declared.limits.TheConstants.{TABLE_TEXT_MOST}
 use Rattle.version_table.specs.declared.table.Table.{Table}
@@ -105,27 +105,24 @@ OnFiles None new P = Unit {0}
 
 -- the counts of a shelf and of a sink
 pub record Counts : Type 0 where
-  pub faults : ℕ
-  pub write_faults : ℕ
-  pub absences : ℕ
+  pub shelf : ShelfCounts
   pub out_faults : ℕ
 
-abbrev pub counts_of : {K O : Type 0} (faults write_faults absences : K → ℕ) (out_faults : O → ℕ) → K → O → Counts
-counts_of faults write_faults absences out_faults shelf out =
-    record { faults = faults shelf; write_faults = write_faults shelf; absences = absences shelf; out_faults = out_faults out }
+abbrev pub counts_of : {K O : Type 0} (counts : K → ShelfCounts) (out_faults : O → ℕ) → K → O → Counts
+counts_of counts out_faults shelf out = record { shelf = counts shelf; out_faults = out_faults out }
 
 -- no count rose
 pub record IsQuiet (old new : Counts) : Type 0 where
-  pub faults : Rose old.faults new.faults → ⊥
-  pub write_faults : Rose old.write_faults new.write_faults → ⊥
-  pub absences : Rose old.absences new.absences → ⊥
+  pub faults : Rose old.shelf.faults new.shelf.faults → ⊥
+  pub write_faults : Rose old.shelf.write_faults new.shelf.write_faults → ⊥
+  pub absences : Rose old.shelf.absences new.shelf.absences → ⊥
   pub out_faults : Rose old.out_faults new.out_faults → ⊥
 
 -- no count falls
 pub record Grow (old new : Counts) : Type 0 where
-  pub faults : old.faults ≤ new.faults
-  pub write_faults : old.write_faults ≤ new.write_faults
-  pub absences : old.absences ≤ new.absences
+  pub faults : old.shelf.faults ≤ new.shelf.faults
+  pub write_faults : old.shelf.write_faults ≤ new.shelf.write_faults
+  pub absences : old.shelf.absences ≤ new.shelf.absences
   pub out_faults : old.out_faults ≤ new.out_faults
 
 -- a text is refused with this status, or memory was wanted
@@ -136,23 +133,23 @@ IsRefusing text status = ⊥
 
 -- a fault of the outside has its cause in a count that rose
 abbrev pub HasCause : Counts → Counts → Status → Type 0
-HasCause old new ReadFault = Rose old.faults new.faults
-HasCause old new WriteFault = Rose old.write_faults new.write_faults ⊎ Rose old.out_faults new.out_faults
-HasCause old new Missing = Rose old.absences new.absences
+HasCause old new ReadFault = Rose old.shelf.faults new.shelf.faults
+HasCause old new WriteFault = Rose old.shelf.write_faults new.shelf.write_faults ⊎ Rose old.out_faults new.out_faults
+HasCause old new Missing = Rose old.shelf.absences new.shelf.absences
 HasCause old new status = Unit {0}
 
 -- of a shelf alone: a fault has its cause in a count that rose
-abbrev pub HasShelfCause : {K : Type 0} (faults write_faults absences : K → ℕ) → K → K → Status → Type 0
-HasShelfCause faults write_faults absences old new ReadFault = Rose (faults old) (faults new)
-HasShelfCause faults write_faults absences old new WriteFault = Rose (write_faults old) (write_faults new)
-HasShelfCause faults write_faults absences old new Missing = Rose (absences old) (absences new)
-HasShelfCause faults write_faults absences old new status = Unit {0}
+abbrev pub HasShelfCause : ShelfCounts → ShelfCounts → Status → Type 0
+HasShelfCause old new ReadFault = Rose old.faults new.faults
+HasShelfCause old new WriteFault = Rose old.write_faults new.write_faults
+HasShelfCause old new Missing = Rose old.absences new.absences
+HasShelfCause old new status = Unit {0}
 
 -- of a shelf alone: no count falls
-pub record GrowOf {K : Type 0} (faults write_faults absences : K → ℕ) (old new : K) : Type 0 where
-  pub faults_grow : faults old ≤ faults new
-  pub write_faults_grow : write_faults old ≤ write_faults new
-  pub absences_grow : absences old ≤ absences new
+pub record GrowOf (old new : ShelfCounts) : Type 0 where
+  pub faults_grow : old.faults ≤ new.faults
+  pub write_faults_grow : old.write_faults ≤ new.write_faults
+  pub absences_grow : old.absences ≤ new.absences
 
 -- the words are `plan TABLE CERT`, and these are the first bytes of what TABLE holds, up to one past the limit
 pub record HoldsText (words : List (List ℕ)) (files : Files) (certificate front : List ℕ) : Type 0 where

@@ -43,15 +43,15 @@ pub fn run<K: Shelf, O: Sink>(alloc: Global, words: &[String], shelf: &mut K, ou
     // Where no count rose, the status is that of its cause, unless memory was wanted.
     ensures scheduled { (files : Files) (certificate : List ℕ) (table : AnyTable) (choice : List ℕ) → K.files shelf.old ≡ Some files
         → PlansTable (map string_bytes words.now) files certificate table → IsSmallestChoice table choice → IsScheduled table choice
-        → IsQuiet (counts_of K.faults K.write_faults K.absences O.faults shelf.old out.old) (counts_of K.faults K.write_faults K.absences O.faults shelf.new out.new)
+        → IsQuiet (counts_of K.counts O.faults shelf.old out.old) (counts_of K.counts O.faults shelf.new out.new)
         → (result ≡ Status.Ok) ⊎ (result ≡ Status.OutOfMemory) }
     ensures unschedulable { (files : Files) (certificate : List ℕ) (table : AnyTable) (choice : List ℕ) (miss : AnyMiss) → K.files shelf.old ≡ Some files
         → PlansTable (map string_bytes words.now) files certificate table → IsSmallestChoice table choice → IsFirstMiss table choice miss
-        → IsQuiet (counts_of K.faults K.write_faults K.absences O.faults shelf.old out.old) (counts_of K.faults K.write_faults K.absences O.faults shelf.new out.new)
+        → IsQuiet (counts_of K.counts O.faults shelf.old out.old) (counts_of K.counts O.faults shelf.new out.new)
         → (result ≡ Status.Unschedulable miss) ⊎ (result ≡ Status.OutOfMemory) }
     ensures refused { (files : Files) (certificate text : List ℕ) (refusal : AnyRefusal) → K.files shelf.old ≡ Some files
         → PlansText (map string_bytes words.now) files certificate text → IsRefused text refusal
-        → IsQuiet (counts_of K.faults K.write_faults K.absences O.faults shelf.old out.old) (counts_of K.faults K.write_faults K.absences O.faults shelf.new out.new)
+        → IsQuiet (counts_of K.counts O.faults shelf.old out.old) (counts_of K.counts O.faults shelf.new out.new)
         → IsRefusing text result }
 
     // Usage is the words' fault alone, whatever the shelf tells.
@@ -61,12 +61,12 @@ pub fn run<K: Shelf, O: Sink>(alloc: Global, words: &[String], shelf: &mut K, ou
 
     // A fault of the outside comes only where its count rose in this call. No count falls.
     ensures cause { HasCause
-        (counts_of K.faults K.write_faults K.absences O.faults shelf.old out.old)
-        (counts_of K.faults K.write_faults K.absences O.faults shelf.new out.new)
+        (counts_of K.counts O.faults shelf.old out.old)
+        (counts_of K.counts O.faults shelf.new out.new)
         result }
     ensures counts { Grow
-        (counts_of K.faults K.write_faults K.absences O.faults shelf.old out.old)
-        (counts_of K.faults K.write_faults K.absences O.faults shelf.new out.new) }
+        (counts_of K.counts O.faults shelf.old out.old)
+        (counts_of K.counts O.faults shelf.new out.new) }
 {
     // Laws that the clauses stand on: a text has one reading, a table one smallest choice, and a choice is scheduled or has one first miss.
     one_reading();
@@ -96,8 +96,8 @@ fn perform<K: Shelf>(alloc: Global, words: &[String], shelf: &mut K) -> Option<E
     ensures ends { OnFiles (K.files shelf.old) (K.files shelf.new) (λ held new. Ends (map string_bytes words.now) held result new) }
     ensures usage { IfSome result (λ ended. ended.status ≡ Status.Usage → IsCommand (map string_bytes words.now) → ⊥) }
     ensures no_command { (IsCommand (map string_bytes words.now) → ⊥) → IfSome result (λ ended. ended.status ≡ Status.Usage) }
-    ensures cause { IfSome result (λ ended. HasShelfCause K.faults K.write_faults K.absences shelf.old shelf.new ended.status) }
-    ensures counts { GrowOf K.faults K.write_faults K.absences shelf.old shelf.new }
+    ensures cause { IfSome result (λ ended. HasShelfCause (K.counts shelf.old) (K.counts shelf.new) ended.status) }
+    ensures counts { GrowOf (K.counts shelf.old) (K.counts shelf.new) }
 {
     match plan_files(words) {
         None => end_with(alloc, Status::Usage, report::usage_report(alloc)),
@@ -110,8 +110,8 @@ fn plan_file<K: Shelf>(alloc: Global, files: &PlanFiles<'_>, shelf: &mut K) -> O
     ensures ends { OnFiles (K.files shelf.old) (K.files shelf.new) (λ held new. (words : List (List ℕ))
         → IsPlanCommand words files.now.table.now files.now.certificate.now → Ends words held result new) }
     ensures no_usage { IfSome result (λ ended. ended.status ≢ Status.Usage) }
-    ensures cause { IfSome result (λ ended. HasShelfCause K.faults K.write_faults K.absences shelf.old shelf.new ended.status) }
-    ensures counts { GrowOf K.faults K.write_faults K.absences shelf.old shelf.new }
+    ensures cause { IfSome result (λ ended. HasShelfCause (K.counts shelf.old) (K.counts shelf.new) ended.status) }
+    ensures counts { GrowOf (K.counts shelf.old) (K.counts shelf.new) }
 {
     match read_file(alloc, shelf, files.table, TABLE_TEXT_MOST as u64) {
         Ok(text) => plan_text(alloc, files, text.as_slice(), shelf),
@@ -139,8 +139,8 @@ fn plan_text<K: Shelf>(
     ensures ends { OnFiles (K.files shelf.old) (K.files shelf.new) (λ held new. (words : List (List ℕ))
         → HoldsText words held files.now.certificate.now text.now → Ends words held result new) }
     ensures no_usage { IfSome result (λ ended. ended.status ≢ Status.Usage) }
-    ensures cause { IfSome result (λ ended. HasShelfCause K.faults K.write_faults K.absences shelf.old shelf.new ended.status) }
-    ensures counts { GrowOf K.faults K.write_faults K.absences shelf.old shelf.new }
+    ensures cause { IfSome result (λ ended. HasShelfCause (K.counts shelf.old) (K.counts shelf.new) ended.status) }
+    ensures counts { GrowOf (K.counts shelf.old) (K.counts shelf.new) }
 {
     match read_table(alloc, text) {
         Ok(table) => plan_table(alloc, files, &table, shelf),
@@ -159,8 +159,8 @@ fn plan_table<K: Shelf>(
     ensures ends { OnFiles (K.files shelf.old) (K.files shelf.new) (λ held new. (words : List (List ℕ))
         → PlansTable words held files.now.certificate.now table.now → Ends words held result new) }
     ensures no_usage { IfSome result (λ ended. ended.status ≢ Status.Usage) }
-    ensures cause { IfSome result (λ ended. HasShelfCause K.faults K.write_faults K.absences shelf.old shelf.new ended.status) }
-    ensures counts { GrowOf K.faults K.write_faults K.absences shelf.old shelf.new }
+    ensures cause { IfSome result (λ ended. HasShelfCause (K.counts shelf.old) (K.counts shelf.new) ended.status) }
+    ensures counts { GrowOf (K.counts shelf.old) (K.counts shelf.new) }
 {
     match make_plan(alloc, table) {
         Ok(plan) => write_plan(alloc, files, &plan, shelf),
@@ -184,8 +184,8 @@ fn write_plan<K: Shelf>(
     ensures ends { OnFiles (K.files shelf.old) (K.files shelf.new) (λ held new. (words : List (List ℕ))
         → HasPlan words held files.now.certificate.now (contents_of plan.now) → Ends words held result new) }
     ensures no_usage { IfSome result (λ ended. ended.status ≢ Status.Usage) }
-    ensures cause { IfSome result (λ ended. HasShelfCause K.faults K.write_faults K.absences shelf.old shelf.new ended.status) }
-    ensures counts { GrowOf K.faults K.write_faults K.absences shelf.old shelf.new }
+    ensures cause { IfSome result (λ ended. HasShelfCause (K.counts shelf.old) (K.counts shelf.new) ended.status) }
+    ensures counts { GrowOf (K.counts shelf.old) (K.counts shelf.new) }
 {
     let done = end_with(alloc, Status::Ok, report::plan_report(alloc, plan))?;
     let Ok(bytes) = plan.bytes(alloc) else {

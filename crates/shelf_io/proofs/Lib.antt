@@ -4,3 +4,4 @@ pub mod Whole
 pub mod OneFile
 pub mod Taken
 pub mod Started
+pub mod Counted

@@ -2,7 +2,7 @@
 use Rattle.std.proofs.Common.{◌≡◌, ℕ, ◌+◌, ◌-◌, ◌<◌, ◌≤◌, List, [], ◌++◌, Option, None, Some, IfSome, length, take, drop, min, refl, ap, sym, ◌∙◌, arith, subst, append_assoc, length-take-le, length-drop, add-zero, append-nil}
 use Rattle.std.proofs.Math.Seq.{take-add}
 use Rattle.std.proofs.lemmas.List.{drop_at, take_at, drop_all, take_all, drop-drop, length-take}
-use Rattle.shelf_io.specs.Buffer.{Fills}
+use Rattle.shelf_io.specs.Buffer.{CopiesFront}
 use Rattle.shelf_io.specs.Source.{without_front, Takes, FillsUp}
 
 front_twice : (told : Option (List ℕ)) (k n : ℕ) → without_front (without_front told k) n ≡ without_front told (k + n)
@@ -22,7 +22,7 @@ after_front None now done P Q R is before then f = tt
 after_front (Some bytes) now done P Q R is before then f = f bytes before (subst (λ told. IfSome told Q) is then)
 
 -- bytes that go into the part of a buffer behind those that it holds already
-module _ (bytes old buf room : List ℕ) (done n : ℕ) (few : done ≤ length bytes) (front : buf ≡ take done bytes ++ drop done old) (fills : Fills (drop done bytes) (take (length buf - done) (drop done buf)) room n) where
+module _ (bytes old buf room : List ℕ) (done n : ℕ) (few : done ≤ length bytes) (front : buf ≡ take done bytes ++ drop done old) (fills : CopiesFront (drop done bytes) (take (length buf - done) (drop done buf)) room n) where
   -- they come behind these
   pub fills_more : take done buf ++ (room ++ drop (length buf - done) (drop done buf)) ≡ take (done + n) bytes ++ drop (done + n) old
   fills_more =
@@ -44,7 +44,7 @@ module _ (bytes old buf room : List ℕ) (done n : ℕ) (few : done ≤ length b
       add_fits h is = omega arith
 
 -- where none came, no bytes are left
-pub full_or_end : (bytes old buf room : List ℕ) (done : ℕ) → done ≤ length bytes → done < length buf → length buf ≡ length old → buf ≡ take done bytes ++ drop done old → Fills (drop done bytes) (take (length buf - done) (drop done buf)) room 0 → FillsUp bytes old (take done buf ++ (room ++ drop (length buf - done) (drop done buf))) done
+pub full_or_end : (bytes old buf room : List ℕ) (done : ℕ) → done ≤ length bytes → done < length buf → length buf ≡ length old → buf ≡ take done bytes ++ drop done old → CopiesFront (drop done bytes) (take (length buf - done) (drop done buf)) room 0 → FillsUp bytes old (take done buf ++ (room ++ drop (length buf - done) (drop done buf))) done
 full_or_end bytes old buf room done few room_left same front fills = record {
   front = fills_more bytes old buf room done 0 few front fills ∙ ap (λ k. take k bytes ++ drop k old) (add-zero done);
   count = ended fills.progress (length-drop done bytes) (length-take (length buf - done) (drop done buf) ∙ ap (min (length buf - done)) (length-drop done buf));

@@ -7,8 +7,8 @@ use Rattle.std.specs.Cmp.{eq_by_cmp_equiv}
 use Rattle.std.specs.Cmp.Lexicographic.{slice_cmp, nat_list_cmp_total}
 use Rattle.std.specs.FinMap.{get, insert, get-insert, same_map, slice_cmp-IsAntisymmetric, nat_cmp-IsAntisymmetric}
 use Rattle.shelf_io.specs.Files.{Files, IfTold, content_of}
-use Rattle.shelf_io.specs.Buffer.{Fills}
-use Rattle.shelf_io.specs.WholeFile.{AddsNext}
+use Rattle.shelf_io.specs.Buffer.{CopiesFront}
+use Rattle.shelf_io.specs.Private.WholeFile.{AddsNext}
 
 -- a choice made twice by one test is made once
 pub chosen_twice : {A : Type 0} (b : Bool) (x y z : A) → cond b x (cond b y z) ≡ cond b x z
@@ -30,7 +30,7 @@ content_of-insert files name content =
     ∙ ap (λ b. cond b (Some content) (get files name)) ((eq_by_cmp_equiv nat_list_cmp_total).refl name))
 
 -- n bytes that a read gave, at the end of what stands before them
-pub adds_next : (content old new before after : List ℕ) (at n : ℕ) → at ≡ length old → 0 < length before → new ≡ old ++ take n after → Fills (drop at content) before after n → AddsNext old new n content
+pub adds_next : (content old new before after : List ℕ) (at n : ℕ) → at ≡ length old → 0 < length before → new ≡ old ++ take n after → CopiesFront (drop at content) before after n → AddsNext old new n content
 adds_next content old new before after at n place room added fills front =
     let bytes : take n after ≡ take n (drop (length old) content) =
     ap (take n) fills.front ∙ take_at _ (drop n before) n (length-take-le n (drop at content) fills.within) ∙ ap (λ place. take n (drop place content)) place in

@@ -1,12 +1,10 @@
 -- Files as a shelf tells them.
-use Rattle.std.specs.Prelude.{◌≡◌, ℕ, List, [], ◌++◌, Option, None, IfSome, IsSomeAnd, unwrap_or, map, String, Vec}
+use Rattle.std.specs.Prelude.{◌≡◌, ℕ, List, [], ◌++◌, Option, None, IfSome, IsSomeAnd, unwrap_or}
 use Rattle.std.specs.Coded.{Coded, coded_ℕ, coded_list}
 use Rattle.std.specs.Option.{option_map}
 use Rattle.std.specs.Ordering.{nat_cmp}
 use Rattle.std.specs.Cmp.Lexicographic.{slice_cmp}
-use Rattle.std.specs.FinMap.{FinMap, code, get, insert, from_entries}
-use Rattle.std.specs.String.{string_bytes}
-use Rattle.std.specs.BTreeMap.{BTreeMap}
+use Rattle.std.specs.FinMap.{FinMap, code, get, insert}
 
 -- contents by the bytes of the files' names
 abbrev pub Files : Type 0
@@ -35,7 +33,3 @@ with_content told name content = option_map (λ files. insert files name content
 -- what a shelf tells after these bytes were added to the end of a file, and every other file stayed
 abbrev pub with_more : Option Files → List ℕ → List ℕ → Option Files
 with_more told name bytes = option_map (λ files. insert files name (content_of files name ++ bytes)) told
-
--- the files that a table in memory holds
-abbrev pub files_of : {A B : Type 0} → BTreeMap (String A) (Vec ℕ B) → Files
-files_of table = from_entries (map (λ e. (string_bytes e.0, e.1.items)) table.entries)

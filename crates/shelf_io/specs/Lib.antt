@@ -1,7 +1,10 @@
+pub mod Asked
 pub mod Buffer
 pub mod CalmShelf
+pub mod Causes
+pub mod CountSink
+pub mod Counted
 pub mod Counts
-pub mod FileShelf
 pub mod Files
 pub mod MemShelf
 pub mod MemSink
@@ -10,3 +13,4 @@ pub mod Sink
 pub mod Source
 pub mod WholeFile
 pub mod Writing
+pub mod Private

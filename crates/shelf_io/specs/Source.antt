@@ -1,6 +1,10 @@
 -- What was taken from a source.
-use Rattle.std.specs.Prelude.{◌≡◌, ℕ, ◌+◌, List, Option, drop, length, take, min, ◌++◌}
+use Rattle.std.specs.Prelude.{◌≡◌, ℕ, ◌+◌, ◌^◌, List, Option, drop, length, take, min, ◌++◌}
 use Rattle.std.specs.Option.{option_map}
+
+-- a source gives at most these bytes, so that each loop over one ends
+abbrev pub source_bytes_most : ℕ
+source_bytes_most = 2 ^ 60
 
 -- what a source tells after n bytes were taken
 abbrev pub without_front : Option (List ℕ) → ℕ → Option (List ℕ)

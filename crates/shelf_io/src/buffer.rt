@@ -1,9 +1,9 @@
 ghost use Rattle.std.specs.Prelude.{◌≡◌, drop};
-ghost use Rattle.shelf_io.specs.Buffer.{Fills};
+ghost use Rattle.shelf_io.specs.Buffer.{CopiesFront};
 
 /// Copies as many bytes as fit into the front of a buffer, and answers how many.
 pub fn copy_front(bytes: &[u8], buf: &mut [u8]) -> usize
-    ensures { Fills bytes.now buf.old buf.new result }
+    ensures { CopiesFront bytes.now buf.old buf.new result }
 {
     let count = bytes.len().min(buf.len());
     buf[..count].copy_from_slice(&bytes[..count]);

@@ -2,7 +2,7 @@ ghost use Rattle.std.specs.Prelude.{◌≡◌, ◌≢◌, ℕ, [], ◌++◌, ◌
 ghost use Rattle.std.specs.Option.{option_copied};
 ghost use Rattle.std.specs.FinMap.{empty, get, insert};
 ghost use Rattle.shelf_io.specs.Files.{content_of};
-ghost use Rattle.shelf_io.specs.Buffer.{Fills};
+ghost use Rattle.shelf_io.specs.Buffer.{CopiesFront};
 
 use crate::fault::Fault;
 use crate::file_table::FileTable;
@@ -58,21 +58,17 @@ impl CalmShelf {
 
 impl Shelf for CalmShelf {
     ghost use Rattle.std.specs.Prelude.{Some};
-    ghost use Rattle.shelf_io.specs.CalmShelf.{after_read};
+    ghost use Rattle.shelf_io.specs.CalmShelf.{after_read, calm_counts};
 
     ghost files = { λ shelf. Some shelf.files };
 
-    ghost faults = { λ _. 0 };
-
-    ghost write_faults = { λ _. 0 };
-
-    ghost absences = { λ shelf. shelf.absences };
+    ghost counts = { calm_counts };
 
     fn read(&mut self, name: &str, at: u64, buf: &mut [u8]) -> Result<usize, Fault>
         ensures missing { IsErrOf result Fault.Missing ↔ (get self.old.files name.now ≡ None) }
         ensures only { IsOkUnless result Fault.Missing }
         ensures count { IfOk result (λ n. n ≤ length buf.old) }
-        ensures held { IfOk result (λ n. IsSomeAnd (get self.old.files name.now) (λ content. Fills (drop at content) buf.old buf.new n)) }
+        ensures held { IfOk result (λ n. IsSomeAnd (get self.old.files name.now) (λ content. CopiesFront (drop at content) buf.old buf.new n)) }
         ensures kept { OnErr result (buf.new ≡ buf.old) }
         ensures after { self.new ≡ after_read self.old result }
     {

@@ -38,10 +38,10 @@ impl CalmSink {
 }
 
 impl Sink for CalmSink {
-    ghost use Rattle.std.specs.Prelude.{Some};
+    ghost use Rattle.shelf_io.specs.Sink.{Bytes};
     ghost use Rattle.std.proofs.Common.{rules};
 
-    ghost written = { λ sink. Some sink };
+    ghost written = { λ sink. Bytes sink };
 
     ghost faults = { λ _. 0 };
 

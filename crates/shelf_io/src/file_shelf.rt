@@ -1,8 +1,10 @@
-ghost use Rattle.std.specs.Prelude.{◌≡◌, ◌≢◌, ◌≤◌, ◌<◌, length, IfOk};
-ghost use Rattle.shelf_io.specs.Counts.{one_more};
+ghost use Rattle.std.specs.Prelude.{◌≡◌, ◌≢◌, ◌≤◌, ◌<◌, length, IfOk, OnErr};
+ghost use Rattle.shelf_io.specs.Counted.{counts_after_read, counts_after_write};
+ghost use Rattle.shelf_io.specs.Counts.{no_counts};
 
 use crate::fault::Fault;
 use crate::shelf::Shelf;
+use crate::whole_file::PIECE_BYTES;
 use std::fs::{File, OpenOptions};
 use std::io;
 use std::io::{ErrorKind, Read, Seek, SeekFrom, Write};
@@ -20,9 +22,9 @@ pub struct FileShelf<'a, R> {
 }
 
 impl<'a, R> Model for FileShelf<'a, R> {
-    ghost use Rattle.shelf_io.specs.FileShelf.{FolderCounts, counts_code};
+    ghost use Rattle.shelf_io.specs.Counts.{ShelfCounts, counts_code};
 
-    ghost Value = { FolderCounts };
+    ghost Value = { ShelfCounts };
 
     ghost coded = { counts_code };
 
@@ -32,7 +34,7 @@ impl<'a, R> Model for FileShelf<'a, R> {
 impl<'a, R: Files> FileShelf<'a, R> {
     /// The working folder of the process, with all counts at 0.
     pub fn new(rt: &'a R) -> Self
-        ensures { result ≡ record { faults = 0; write_faults = 0; absences = 0 } }
+        ensures { result ≡ no_counts }
     {
         FileShelf {
             rt,
@@ -48,13 +50,14 @@ impl<'a, R: Files> Shelf for FileShelf<'a, R> {
 
     ghost files = { λ _. None };
 
-    ghost faults = { λ shelf. shelf.faults };
+    ghost counts = { λ shelf. shelf };
 
-    ghost write_faults = { λ shelf. shelf.write_faults };
-
-    ghost absences = { λ shelf. shelf.absences };
-
-    fn read(&mut self, name: &str, at: u64, buf: &mut [u8]) -> Result<usize, Fault> {
+    fn read(&mut self, name: &str, at: u64, buf: &mut [u8]) -> Result<usize, Fault>
+        ensures count { IfOk result (λ n. n ≤ length buf.old) }
+        ensures kept { OnErr result (buf.new ≡ buf.old) }
+        ensures memory { result ≢ Err Fault.OutOfMemory }
+        ensures after { self.new ≡ counts_after_read self.old result }
+    {
         match read_at(self.rt, name, at, buf) {
             Ok(count) => Ok(count),
             Err(error) if error.kind() == ErrorKind::NotFound => {
@@ -68,7 +71,11 @@ impl<'a, R: Files> Shelf for FileShelf<'a, R> {
         }
     }
 
-    fn start(&mut self, name: &str) -> Result<(), Fault> {
+    fn start(&mut self, name: &str) -> Result<(), Fault>
+        ensures never_missing { result ≢ Err Fault.Missing }
+        ensures memory { result ≢ Err Fault.OutOfMemory }
+        ensures after { self.new ≡ counts_after_write self.old result }
+    {
         match File::create(self.rt, name) {
             Ok(_) => Ok(()),
             Err(_) => {
@@ -78,7 +85,13 @@ impl<'a, R: Files> Shelf for FileShelf<'a, R> {
         }
     }
 
-    fn append(&mut self, name: &str, piece: &[u8]) -> Result<usize, Fault> {
+    fn append(&mut self, name: &str, piece: &[u8]) -> Result<usize, Fault>
+        ensures count { IfOk result (λ n. n ≤ length piece.now) }
+        ensures progress { IfOk result (λ n. 0 < length piece.now → 0 < n) }
+        ensures never_missing { result ≢ Err Fault.Missing }
+        ensures memory { result ≢ Err Fault.OutOfMemory }
+        ensures after { self.new ≡ counts_after_write self.old result }
+    {
         match append_to(self.rt, name, piece) {
             Ok(count) => Ok(count),
             Err(_) => {
@@ -89,13 +102,25 @@ impl<'a, R: Files> Shelf for FileShelf<'a, R> {
     }
 }
 
+/// Reads through a room of its own, since nothing is known of a buffer in which a read failed.
 fn read_at<R: Files>(rt: &R, name: &str, at: u64, buf: &mut [u8]) -> io::Result<usize>
-    ensures { IfOk result (λ n. n ≤ length buf.old) }
+    ensures count { IfOk result (λ n. n ≤ length buf.old) }
+    ensures kept { OnErr result (buf.new ≡ buf.old) }
 {
     let mut file = File::open(rt, name)?;
     file.seek(SeekFrom::Start(at))?;
+    let mut room = [0u8; PIECE_BYTES];
+    let size = buf.len().min(PIECE_BYTES);
+    let count = read_some(&mut file, &mut room[..size])?;
+    buf[..count].copy_from_slice(&room[..count]);
+    Ok(count)
+}
+
+fn read_some<F: Read>(from: &mut F, buf: &mut [u8]) -> io::Result<usize>
+    ensures { IfOk result (λ n. n ≤ length buf.old) }
+{
     for _ in 0..u64::MAX {
-        match file.read(buf) {
+        match from.read(buf) {
             Err(error) if error.kind() == ErrorKind::Interrupted => {}
             answer => return answer,
         }

@@ -1,7 +1,7 @@
 ghost use Rattle.std.specs.Prelude.{◌≡◌, [], ◌↔◌, ◌++◌, None, IsNone, drop, IfSome, IfNone, OnOk, OnErr, IsSomeAnd};
 ghost use Rattle.std.specs.Option.{option_copied};
 ghost use Rattle.std.specs.FinMap.{empty, get, insert};
-ghost use Rattle.shelf_io.specs.Buffer.{Fills};
+ghost use Rattle.shelf_io.specs.Buffer.{CopiesFront};
 ghost use Rattle.shelf_io.specs.Files.{content_of};
 
 use crate::buffer::{bytes_from, copy_front};
@@ -17,7 +17,8 @@ pub struct FileTable {
 }
 
 impl Model for FileTable {
-    ghost use Rattle.shelf_io.specs.Files.{Files, files_code, files_of};
+    ghost use Rattle.shelf_io.specs.Files.{Files, files_code};
+    ghost use Rattle.shelf_io.specs.Private.FileTable.{files_of};
 
     ghost Value = { Files };
 
@@ -49,7 +50,7 @@ impl FileTable {
     /// Reads from place `at` of a file, and answers how many bytes, or None where the file isn't held.
     pub fn read(&self, name: &str, at: u64, buf: &mut [u8]) -> Option<usize>
         ensures absent { IsNone result ↔ (get self.now name.now ≡ None) }
-        ensures held { IfSome result (λ n. IsSomeAnd (get self.now name.now) (λ content. Fills (drop at content) buf.old buf.new n)) }
+        ensures held { IfSome result (λ n. IsSomeAnd (get self.now name.now) (λ content. CopiesFront (drop at content) buf.old buf.new n)) }
         ensures kept { IfNone result (buf.new ≡ buf.old) }
     {
         match self.content(name) {

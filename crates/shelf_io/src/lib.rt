@@ -12,6 +12,7 @@
 mod buffer;
 mod calm_shelf;
 mod calm_sink;
+mod count_sink;
 mod fault;
 mod file_shelf;
 mod file_table;
@@ -30,6 +31,7 @@ mod writing;
 
 pub use calm_shelf::CalmShelf;
 pub use calm_sink::CalmSink;
+pub use count_sink::CountSink;
 pub use fault::Fault;
 pub use file_shelf::FileShelf;
 pub use mem_shelf::MemShelf;
@@ -39,7 +41,7 @@ pub use reading::Reading;
 pub use shelf::Shelf;
 pub use sink::{Sink, put_all};
 pub use slice_source::SliceSource;
-pub use source::{Source, take_full};
+pub use source::{SOURCE_BYTES_MOST, Source, take_full};
 pub use vec_sink::VecSink;
 pub use whole_file::{read_file, write_file};
 pub use writing::Writing;

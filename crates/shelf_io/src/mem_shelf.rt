@@ -1,9 +1,9 @@
 ghost use Rattle.std.specs.Prelude.{◌≡◌, ◌≢◌, ℕ, [], ◌++◌, ◌≤◌, ◌↔◌, None, length, drop, IsTrue, IfOk, OnOk, OnErr, IsErrOf, IsSomeAnd, IsOkUnless, Contains};
 ghost use Rattle.std.specs.Option.{option_copied};
 ghost use Rattle.std.specs.FinMap.{empty, get, insert};
-ghost use Rattle.shelf_io.specs.Counts.{one_more};
+ghost use Rattle.shelf_io.specs.Counts.{no_counts};
 ghost use Rattle.shelf_io.specs.Files.{content_of};
-ghost use Rattle.shelf_io.specs.Buffer.{Fills};
+ghost use Rattle.shelf_io.specs.Buffer.{CopiesFront};
 
 use crate::fault::Fault;
 use crate::file_table::FileTable;
@@ -20,6 +20,7 @@ pub struct MemShelf {
     write_faults: u64,
     absences: u64,
     calls: NumberedCalls,
+    since_fault: u64,
 }
 
 impl Model for MemShelf {
@@ -29,13 +30,19 @@ impl Model for MemShelf {
 
     ghost coded = { shelf_code };
 
-    ghost view = { λ a. record { files = a.table; faults = a.faults; write_faults = a.write_faults; absences = a.absences; calls = a.calls.count; failing = a.calls.failing.items } };
+    ghost view = { λ a. record {
+      files = a.table;
+      counts = record { faults = a.faults; write_faults = a.write_faults; absences = a.absences };
+      calls = a.calls.count;
+      since_fault = a.since_fault;
+      failing = a.calls.failing.items;
+    } };
 }
 
 impl MemShelf {
     /// A shelf that holds no file, and fails in the calls with these numbers.
     pub fn new(alloc: Global, fails: Vec<u64>) -> Self
-        ensures { result ≡ record { files = empty; faults = 0; write_faults = 0; absences = 0; calls = 0; failing = fails.items } }
+        ensures { result ≡ record { files = empty; counts = no_counts; calls = 0; since_fault = 0; failing = fails.items } }
     {
         MemShelf {
             table: FileTable::new(alloc),
@@ -46,6 +53,7 @@ impl MemShelf {
                 count: 0,
                 failing: fails,
             },
+            since_fault: 0,
         }
     }
 
@@ -73,28 +81,31 @@ impl Shelf for MemShelf {
 
     ghost files = { λ shelf. Some shelf.files };
 
-    ghost faults = { λ shelf. shelf.faults };
+    ghost counts = { λ shelf. shelf.counts };
 
-    ghost write_faults = { λ shelf. shelf.write_faults };
-
-    ghost absences = { λ shelf. shelf.absences };
+    ghost since_fault = { λ shelf. shelf.since_fault };
 
     fn read(&mut self, name: &str, at: u64, buf: &mut [u8]) -> Result<usize, Fault>
         ensures failed { IsErrOf result Fault.Failed ↔ FailsNext self.old }
         ensures missing { IsErrOf result Fault.Missing ↔ ((¬ FailsNext self.old) × (get self.old.files name.now ≡ None)) }
         ensures memory { result ≢ Err Fault.OutOfMemory }
         ensures count { IfOk result (λ n. n ≤ length buf.old) }
-        ensures held { IfOk result (λ n. IsSomeAnd (get self.old.files name.now) (λ content. Fills (drop at content) buf.old buf.new n)) }
+        ensures held { IfOk result (λ n. IsSomeAnd (get self.old.files name.now) (λ content. CopiesFront (drop at content) buf.old buf.new n)) }
         ensures kept { OnErr result (buf.new ≡ buf.old) }
         ensures after { self.new ≡ after_read self.old result }
     {
         if self.calls.next_fails() {
+            self.since_fault = 0;
             self.faults = self.faults.saturating_add(1);
             return Err(Fault::Failed);
         }
         match self.table.read(name, at, buf) {
-            Some(count) => Ok(count),
+            Some(count) => {
+                self.since_fault = self.since_fault.saturating_add(1);
+                Ok(count)
+            }
             None => {
+                self.since_fault = 0;
                 self.absences = self.absences.saturating_add(1);
                 Err(Fault::Missing)
             }
@@ -106,11 +117,14 @@ impl Shelf for MemShelf {
         ensures never_missing { result ≢ Err Fault.Missing }
         ensures after { self.new ≡ after_write self.old result (insert self.old.files name.now []) }
     {
+        let since_fault = self.since_fault.saturating_add(1);
+        self.since_fault = 0;
         if self.calls.next_fails() {
             self.write_faults = self.write_faults.saturating_add(1);
             return Err(Fault::Failed);
         }
         self.table.put(name, &[])?;
+        self.since_fault = since_fault;
         Ok(())
     }
 
@@ -120,11 +134,14 @@ impl Shelf for MemShelf {
         ensures whole { IfOk result (λ n. n ≡ length piece.now) }
         ensures after { self.new ≡ after_write self.old result (insert self.old.files name.now (content_of self.old.files name.now ++ piece.now)) }
     {
+        let since_fault = self.since_fault.saturating_add(1);
+        self.since_fault = 0;
         if self.calls.next_fails() {
             self.write_faults = self.write_faults.saturating_add(1);
             return Err(Fault::Failed);
         }
         self.table.append(name, piece)?;
+        self.since_fault = since_fault;
         Ok(piece.len())
     }
 }

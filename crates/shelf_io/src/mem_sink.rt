@@ -13,6 +13,7 @@ pub struct MemSink {
     written: Vec<u8>,
     faults: u64,
     calls: NumberedCalls,
+    since_fault: u64,
 }
 
 impl Model for MemSink {
@@ -22,13 +23,13 @@ impl Model for MemSink {
 
     ghost coded = { sink_code };
 
-    ghost view = { λ a. record { written = a.written.items; faults = a.faults; calls = a.calls.count; failing = a.calls.failing.items } };
+    ghost view = { λ a. record { written = a.written.items; faults = a.faults; calls = a.calls.count; since_fault = a.since_fault; failing = a.calls.failing.items } };
 }
 
 impl MemSink {
     /// An empty sink, which fails in the calls with these numbers.
     pub fn new(alloc: Global, fails: Vec<u64>) -> Self
-        ensures { result ≡ record { written = []; faults = 0; calls = 0; failing = fails.items } }
+        ensures { result ≡ record { written = []; faults = 0; calls = 0; since_fault = 0; failing = fails.items } }
     {
         MemSink {
             written: Vec::new(alloc),
@@ -37,6 +38,7 @@ impl MemSink {
                 count: 0,
                 failing: fails,
             },
+            since_fault: 0,
         }
     }
 
@@ -49,13 +51,15 @@ impl MemSink {
 }
 
 impl Sink for MemSink {
-    ghost use Rattle.std.specs.Prelude.{Some};
+    ghost use Rattle.shelf_io.specs.Sink.{Bytes};
     ghost use Rattle.std.proofs.Common.{rules};
     ghost use Rattle.shelf_io.specs.MemSink.{FailsNext, after_put};
 
-    ghost written = { λ sink. Some sink.written };
+    ghost written = { λ sink. Bytes sink.written };
 
     ghost faults = { λ sink. sink.faults };
+
+    ghost since_fault = { λ sink. sink.since_fault };
 
     ghost keeps = { λ old new. new.failing ≡ old.failing };
 
@@ -69,11 +73,14 @@ impl Sink for MemSink {
         ensures whole { IfOk result (λ n. n ≡ length piece.now) }
         ensures after { self.new ≡ after_put self.old result piece.now }
     {
+        let since_fault = self.since_fault.saturating_add(1);
+        self.since_fault = 0;
         if self.calls.next_fails() {
             self.faults = self.faults.saturating_add(1);
             return Err(Fault::Failed);
         }
         self.written.extend_from_slice(piece)?;
+        self.since_fault = since_fault;
         Ok(piece.len())
     }
 }

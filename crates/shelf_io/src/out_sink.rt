@@ -1,4 +1,5 @@
-ghost use Rattle.std.specs.Prelude.{◌≡◌};
+ghost use Rattle.std.specs.Prelude.{◌≡◌, ◌≢◌, ◌≤◌, ◌<◌, length, IfOk};
+ghost use Rattle.shelf_io.specs.Counted.{faults_after_put};
 
 use crate::fault::Fault;
 use crate::file_shelf::write_some;
@@ -31,10 +32,10 @@ impl<'a, R: Print> OutSink<'a, R> {
 }
 
 impl<'a, R: Print> Sink for OutSink<'a, R> {
-    ghost use Rattle.std.specs.Prelude.{None};
+    ghost use Rattle.shelf_io.specs.Sink.{Nothing};
     ghost use Rattle.std.proofs.Common.{rules};
 
-    ghost written = { λ _. None };
+    ghost written = { λ _. Nothing };
 
     ghost faults = { λ faults. faults };
 
@@ -44,7 +45,13 @@ impl<'a, R: Print> Sink for OutSink<'a, R> {
 
     ghost keeps_on = { Prim.search rules };
 
-    fn put(&mut self, piece: &[u8]) -> Result<usize, Fault> {
+    fn put(&mut self, piece: &[u8]) -> Result<usize, Fault>
+        ensures count { IfOk result (λ n. n ≤ length piece.now) }
+        ensures progress { IfOk result (λ n. 0 < length piece.now → 0 < n) }
+        ensures never_missing { result ≢ Err Fault.Missing }
+        ensures memory { result ≢ Err Fault.OutOfMemory }
+        ensures after { self.new ≡ faults_after_put self.old result }
+    {
         if piece.is_empty() {
             return Ok(0);
         }

@@ -2,12 +2,9 @@ ghost use Rattle.std.specs.Prelude.{◌≡◌};
 
 use crate::fault::Fault;
 use crate::shelf::Shelf;
-use crate::source::Source;
+use crate::source::{SOURCE_BYTES_MOST, Source};
 
-/// A file is read up to its first 2^60 bytes, so that reading one ends.
-const MOST_BYTES: u64 = 1 << 60;
-
-/// A source over one file of a shelf, from its start. Its counts are the shelf's.
+/// A source over the first `SOURCE_BYTES_MOST` bytes of one file of a shelf. Its counts are the shelf's.
 #[derive(Drop)]
 pub struct Reading<'a, K> {
     shelf: &'a mut K,
@@ -41,11 +38,11 @@ impl<'a, K: Shelf> Source for Reading<'a, K> {
 
     ghost most = { λ reading. most_from (place_of reading) };
 
-    ghost faults = { λ reading. K.faults (shelf_of reading).now };
+    ghost faults = { λ reading. (K.counts (shelf_of reading).now).faults };
 
-    ghost absences = { λ reading. K.absences (shelf_of reading).now };
+    ghost absences = { λ reading. (K.counts (shelf_of reading).now).absences };
 
-    ghost keeps = { KeepsShelf K.files K.write_faults };
+    ghost keeps = { KeepsShelf K.files K.counts };
 
     ghost most_fits = { λ reading. Prim.omega arith };
 
@@ -54,7 +51,7 @@ impl<'a, K: Shelf> Source for Reading<'a, K> {
     ghost keeps_on = { Prim.search rules };
 
     fn take(&mut self, buf: &mut [u8]) -> Result<usize, Fault> {
-        let most = MOST_BYTES.saturating_sub(self.place) as usize;
+        let most = SOURCE_BYTES_MOST.saturating_sub(self.place) as usize;
         let size = buf.len().min(most);
         let count = self.shelf.read(self.name, self.place, &mut buf[..size])?;
         self.place += count as u64;

@@ -1,7 +1,9 @@
-ghost use Rattle.std.specs.Prelude.{◌≡◌, ◌≢◌, ℕ, Option, [], List, length, drop, take, ◌<◌, ◌≤◌, IfOk, OnOk, OnErr, OnSome, IsErrOf};
-ghost use Rattle.shelf_io.specs.Counts.{Rose};
+ghost use Rattle.std.specs.Prelude.{◌≡◌, ℕ, Option, [], List, length, drop, take, ◌+◌, ◌<◌, ◌≤◌, IfOk, OnOk, OnErr, IsErrOf};
+ghost use Rattle.shelf_io.specs.Asked.{AsksUpTo, AsksNothing};
+ghost use Rattle.shelf_io.specs.Causes.{ReadCauses, WriteCauses};
+ghost use Rattle.shelf_io.specs.Counts.{ShelfCounts};
 ghost use Rattle.shelf_io.specs.Files.{Files, IfTold, Lacks, with_content, with_more};
-ghost use Rattle.shelf_io.specs.Buffer.{Fills};
+ghost use Rattle.shelf_io.specs.Buffer.{CopiesFront};
 
 use crate::fault::Fault;
 
@@ -10,42 +12,39 @@ pub trait Shelf {
     /// The files that it holds, where it tells them: those in memory do, a folder of real files doesn't.
     ghost files: { Self → Option Files };
 
-    /// How many calls of `read` have failed.
-    ghost faults: { Self → ℕ };
+    /// How many calls of `read` have failed, how many of `start` and `append`, and how many of `read` met a name that
+    /// isn't held.
+    ghost counts: { Self → ShelfCounts };
 
-    /// How many calls of `start` and `append` have failed.
-    ghost write_faults: { Self → ℕ };
+    /// The farthest place of each file that a call of `read` asked for, where it keeps count of them.
+    ghost asked: { Self → List ℕ → ℕ } = { λ _ _. 0 };
 
-    /// How many calls of `read` met a name that isn't held.
-    ghost absences: { Self → ℕ };
+    /// How many calls came after the last one that answered a fault, where it keeps count of them.
+    ghost since_fault: { Self → ℕ } = { λ _. 0 };
 
     /// Reads bytes of a file from place `at` on into the front of `buf`, and answers how many. It answers 0 for
     /// a buffer that isn't empty only at or past the file's end.
     fn read(&mut self, name: &str, at: u64, buf: &mut [u8]) -> Result<usize, Fault>
         ensures count { IfOk result (λ n. n ≤ length buf.old) }
-        ensures held { IfOk result (λ n. IfTold (files self.old) name.now (λ content. Fills (drop at content) buf.old buf.new n)) }
-        ensures kept { OnErr result (OnSome (files self.old) (buf.new ≡ buf.old)) }
+        ensures held { IfOk result (λ n. IfTold (files self.old) name.now (λ content. CopiesFront (drop at content) buf.old buf.new n)) }
+        ensures kept { OnErr result (buf.new ≡ buf.old) }
         ensures files { files self.new ≡ files self.old }
 
-        ensures failed { IsErrOf result Fault.Failed → Rose (faults self.old) (faults self.new) }
-        ensures missing { IsErrOf result Fault.Missing → Rose (absences self.old) (absences self.new) }
         ensures lacking { IsErrOf result Fault.Missing → Lacks (files self.old) name.now }
+        ensures asked { AsksUpTo name.now (at + length buf.old) (asked self.old) (asked self.new) }
 
-        ensures faults { faults self.old ≤ faults self.new }
-        ensures write_faults { write_faults self.new ≡ write_faults self.old }
-        ensures absences { absences self.old ≤ absences self.new };
+        ensures causes { ReadCauses (IsErrOf result Fault.Failed) (IsErrOf result Fault.Missing) (counts self.old) (counts self.new) }
+        ensures fault_last { OnErr result (since_fault self.new ≡ 0) };
 
     /// Makes a file empty, also one that isn't held yet.
     fn start(&mut self, name: &str) -> Result<(), Fault>
         ensures ok { OnOk result (files self.new ≡ with_content (files self.old) name.now []) }
         ensures err { OnErr result (files self.new ≡ files self.old) }
 
-        ensures failed { IsErrOf result Fault.Failed → Rose (write_faults self.old) (write_faults self.new) }
-        ensures never_missing { result ≢ Err Fault.Missing }
+        ensures asked { AsksNothing (asked self.old) (asked self.new) }
 
-        ensures faults { faults self.new ≡ faults self.old }
-        ensures write_faults { write_faults self.old ≤ write_faults self.new }
-        ensures absences { absences self.new ≡ absences self.old };
+        ensures causes { WriteCauses (IsErrOf result Fault.Failed) (IsErrOf result Fault.Missing) (counts self.old) (counts self.new) }
+        ensures fault_last { OnErr result (since_fault self.new ≡ 0) };
 
     /// Adds bytes from the front of a piece to the end of a file, and answers how many. A file that isn't held
     /// counts as empty. It answers 0 only for an empty piece.
@@ -55,10 +54,8 @@ pub trait Shelf {
         ensures ok { IfOk result (λ n. files self.new ≡ with_more (files self.old) name.now (take n piece.now)) }
         ensures err { OnErr result (files self.new ≡ files self.old) }
 
-        ensures failed { IsErrOf result Fault.Failed → Rose (write_faults self.old) (write_faults self.new) }
-        ensures never_missing { result ≢ Err Fault.Missing }
+        ensures asked { AsksNothing (asked self.old) (asked self.new) }
 
-        ensures faults { faults self.new ≡ faults self.old }
-        ensures write_faults { write_faults self.old ≤ write_faults self.new }
-        ensures absences { absences self.new ≡ absences self.old };
+        ensures causes { WriteCauses (IsErrOf result Fault.Failed) (IsErrOf result Fault.Missing) (counts self.old) (counts self.new) }
+        ensures fault_last { OnErr result (since_fault self.new ≡ 0) };
 }

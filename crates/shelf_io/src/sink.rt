@@ -1,16 +1,19 @@
-ghost use Rattle.std.specs.Prelude.{◌≡◌, ◌≢◌, ℕ, Option, List, length, take, ◌<◌, ◌≤◌, IfOk, OnOk, OnErr, IsErrOf};
-ghost use Rattle.shelf_io.specs.Counts.{Rose};
-ghost use Rattle.shelf_io.specs.Sink.{with_bytes, AddsPrefix};
+ghost use Rattle.std.specs.Prelude.{◌≡◌, ℕ, length, take, ◌<◌, ◌≤◌, IfOk, OnOk, OnErr, IsErrOf};
+ghost use Rattle.shelf_io.specs.Causes.{SinkCauses};
+ghost use Rattle.shelf_io.specs.Sink.{Told, with_bytes, AddsPrefix};
 
 use crate::fault::Fault;
 
 /// Takes bytes in order. A call that answers a fault adds nothing.
 pub trait Sink {
-    /// What was written so far, where it tells it.
-    ghost written: { Self → Option (List ℕ) };
+    /// What was written so far, or its number of bytes, where it tells them.
+    ghost written: { Self → Told };
 
     /// How many calls have failed.
     ghost faults: { Self → ℕ };
+
+    /// How many calls came after the last one that answered a fault, where it keeps count of them.
+    ghost since_fault: { Self → ℕ } = { λ _. 0 };
 
     /// A later state keeps what no call of `put` changes: what it borrows, and what isn't written to.
     ghost keeps: { Self → Self → Type 0 };
@@ -22,9 +25,8 @@ pub trait Sink {
         ensures ok { IfOk result (λ n. written self.new ≡ with_bytes (written self.old) (take n piece.now)) }
         ensures err { OnErr result (written self.new ≡ written self.old) }
 
-        ensures failed { IsErrOf result Fault.Failed → Rose (faults self.old) (faults self.new) }
-        ensures never_missing { result ≢ Err Fault.Missing }
-        ensures faults { faults self.old ≤ faults self.new }
+        ensures causes { SinkCauses faults (IsErrOf result Fault.Failed) (IsErrOf result Fault.Missing) self.old self.new }
+        ensures fault_last { OnErr result (since_fault self.new ≡ 0) }
         ensures keeps { keeps self.old self.new };
 
     ghost keeps_itself: { (sink : Self) → keeps sink sink };
@@ -37,9 +39,8 @@ pub fn put_all<K: Sink>(sink: &mut K, piece: &[u8]) -> Result<(), Fault>
     ensures ok { OnOk result (K.written sink.new ≡ with_bytes (K.written sink.old) piece.now) }
     ensures err { OnErr result (AddsPrefix (K.written sink.old) (K.written sink.new) piece.now) }
 
-    ensures failed { IsErrOf result Fault.Failed → Rose (K.faults sink.old) (K.faults sink.new) }
-    ensures never_missing { result ≢ Err Fault.Missing }
-    ensures faults { K.faults sink.old ≤ K.faults sink.new }
+    ensures causes { SinkCauses K.faults (IsErrOf result Fault.Failed) (IsErrOf result Fault.Missing) sink.old sink.new }
+    ensures fault_last { OnErr result (K.since_fault sink.new ≡ 0) }
     ensures keeps { K.keeps sink.old sink.new }
 {
     let mut done = 0;

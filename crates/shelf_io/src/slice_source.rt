@@ -1,5 +1,5 @@
 ghost use Rattle.std.specs.Prelude.{◌≡◌, ◌≤◌, ◌^◌, length, drop, min, slice_get, IsOkAnd};
-ghost use Rattle.shelf_io.specs.Buffer.{Fills};
+ghost use Rattle.shelf_io.specs.Buffer.{CopiesFront};
 
 use crate::buffer::copy_front;
 use crate::fault::Fault;
@@ -54,7 +54,7 @@ impl<'a> Source for SliceSource<'a> {
 
     fn take(&mut self, buf: &mut [u8]) -> Result<usize, Fault>
         ensures count { IsOkAnd result (λ n. n ≤ length buf.old) }
-        ensures fills { IsOkAnd result (Fills self.old buf.old buf.new) }
+        ensures fills { IsOkAnd result (CopiesFront self.old buf.old buf.new) }
         ensures taken { IsOkAnd result (λ n. self.new ≡ drop n self.old) }
         ensures bounded { length self.old ≤ 2 ^ 60 }
     {

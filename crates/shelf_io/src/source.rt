@@ -1,9 +1,12 @@
-ghost use Rattle.std.specs.Prelude.{◌≡◌, ℕ, Option, List, length, ◌^◌, ◌<◌, ◌≤◌, slice_get, is_some, if◌then◌else◌, IfOk, OnErr, IfSome, OnSome, IsErrOf};
-ghost use Rattle.shelf_io.specs.Buffer.{Fills};
-ghost use Rattle.shelf_io.specs.Counts.{Rose};
-ghost use Rattle.shelf_io.specs.Source.{Takes, FillsUp};
+ghost use Rattle.std.specs.Prelude.{◌≡◌, ℕ, Option, List, length, ◌≤◌, slice_get, is_some, if◌then◌else◌, IfOk, OnErr, IfSome, IsErrOf};
+ghost use Rattle.shelf_io.specs.Buffer.{CopiesFront};
+ghost use Rattle.shelf_io.specs.Causes.{SourceCauses};
+ghost use Rattle.shelf_io.specs.Source.{Takes, FillsUp, source_bytes_most};
 
 use crate::fault::Fault;
+
+/// A source gives at most these bytes, so that each loop over one ends: a file is read up to them.
+pub const SOURCE_BYTES_MOST: u64 = 1 << 60;
 
 /// Gives bytes in order, and ends. A call that answers a fault takes nothing.
 pub trait Source {
@@ -26,17 +29,14 @@ pub trait Source {
     /// a buffer that isn't empty only at the end.
     fn take(&mut self, buf: &mut [u8]) -> Result<usize, Fault>
         ensures count { IfOk result (λ n. n ≤ length buf.old) }
-        ensures told { IfOk result (λ n. IfSome (left self.old) (λ bytes. Fills bytes buf.old buf.new n)) }
-        ensures kept { OnErr result (OnSome (left self.old) (buf.new ≡ buf.old)) }
+        ensures told { IfOk result (λ n. IfSome (left self.old) (λ bytes. CopiesFront bytes buf.old buf.new n)) }
+        ensures kept { OnErr result (buf.new ≡ buf.old) }
         ensures ok { IfOk result (Takes (left self.old) (left self.new) (most self.old) (most self.new)) }
         ensures err { OnErr result ((left self.new ≡ left self.old) × (most self.new ≡ most self.old)) }
 
         ensures within { IfSome (left self.old) (λ bytes. length bytes ≤ most self.old) }
 
-        ensures failed { IsErrOf result Fault.Failed → Rose (faults self.old) (faults self.new) }
-        ensures missing { IsErrOf result Fault.Missing → Rose (absences self.old) (absences self.new) }
-        ensures faults { faults self.old ≤ faults self.new }
-        ensures absences { absences self.old ≤ absences self.new }
+        ensures causes { SourceCauses faults absences (IsErrOf result Fault.Failed) (IsErrOf result Fault.Missing) self.old self.new }
         ensures keeps { keeps self.old self.new };
 
     /// Takes one byte, or answers None at the end.
@@ -46,10 +46,7 @@ pub trait Source {
             (if is_some byte then 1 else 0)) }
         ensures err { OnErr result ((left self.new ≡ left self.old) × (most self.new ≡ most self.old)) }
 
-        ensures failed { IsErrOf result Fault.Failed → Rose (faults self.old) (faults self.new) }
-        ensures missing { IsErrOf result Fault.Missing → Rose (absences self.old) (absences self.new) }
-        ensures faults { faults self.old ≤ faults self.new }
-        ensures absences { absences self.old ≤ absences self.new }
+        ensures causes { SourceCauses faults absences (IsErrOf result Fault.Failed) (IsErrOf result Fault.Missing) self.old self.new }
         ensures keeps { keeps self.old self.new }
     {
         let mut byte = [0u8];
@@ -57,7 +54,7 @@ pub trait Source {
         Ok(if count == 0 { None } else { Some(byte[0]) })
     }
 
-    ghost most_fits: { (source : Self) → most source ≤ 2 ^ 60 };
+    ghost most_fits: { (source : Self) → most source ≤ source_bytes_most };
 
     ghost keeps_itself: { (source : Self) → keeps source source };
 
@@ -72,10 +69,7 @@ pub fn take_full<S: Source>(source: &mut S, buf: &mut [u8]) -> Result<usize, Fau
     ensures ok { IfOk result (Takes (S.left source.old) (S.left source.new) (S.most source.old) (S.most source.new)) }
     ensures err { OnErr result ((n : ℕ) × Takes (S.left source.old) (S.left source.new) (S.most source.old) (S.most source.new) n) }
 
-    ensures failed { IsErrOf result Fault.Failed → Rose (S.faults source.old) (S.faults source.new) }
-    ensures missing { IsErrOf result Fault.Missing → Rose (S.absences source.old) (S.absences source.new) }
-    ensures faults { S.faults source.old ≤ S.faults source.new }
-    ensures absences { S.absences source.old ≤ S.absences source.new }
+    ensures causes { SourceCauses S.faults S.absences (IsErrOf result Fault.Failed) (IsErrOf result Fault.Missing) source.old source.new }
     ensures keeps { S.keeps source.old source.new }
 {
     let mut done = 0;

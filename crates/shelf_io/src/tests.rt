@@ -1,3 +1,7 @@
+ghost use Rattle.std.specs.Prelude.{◌≡◌, OnOk, codes, if◌then◌else◌};
+ghost use Rattle.std.specs.Str.{bytes_eq};
+ghost use Rattle.shelf_io.specs.Sink.{with_bytes};
+
 use super::*;
 use std::fmt::Display;
 use std::test::Fail;
@@ -50,6 +54,55 @@ fn a_file_is_read_one_byte_past_its_limit_and_no_further(rt: HostRuntime) -> Res
     Ok(())
 }
 
+/// A shelf over another one, which keeps count of the places that one of its files was asked for.
+#[derive(Drop)]
+struct WatchedShelf<'a, K> {
+    inner: K,
+    name: &'a str,
+    asked: u64,
+}
+
+impl<'a, K: Shelf> Shelf for WatchedShelf<'a, K> {
+    ghost files = { λ shelf. K.files shelf.inner };
+
+    ghost counts = { λ shelf. K.counts shelf.inner };
+
+    ghost asked = { λ shelf name. if bytes_eq name shelf.name.now then shelf.asked else 0 };
+
+    ghost since_fault = { λ shelf. K.since_fault shelf.inner };
+
+    fn read(&mut self, name: &str, at: u64, buf: &mut [u8]) -> Result<usize, Fault> {
+        if name == self.name {
+            self.asked = self.asked.max(at.saturating_add(buf.len() as u64));
+        }
+        self.inner.read(name, at, buf)
+    }
+
+    fn start(&mut self, name: &str) -> Result<(), Fault> {
+        self.inner.start(name)
+    }
+
+    fn append(&mut self, name: &str, piece: &[u8]) -> Result<usize, Fault> {
+        self.inner.append(name, piece)
+    }
+}
+
+#[test]
+fn a_file_is_asked_for_one_byte_past_its_limit_and_no_further(rt: HostRuntime) -> Result<(), Fail> {
+    let alloc = rt.alloc();
+    let mut inner = CalmShelf::new(alloc);
+    inner.put_file("a", b"abcdef")?;
+    let mut shelf = WatchedShelf {
+        inner,
+        name: "a",
+        asked: 0,
+    };
+    let front = read_file(alloc, &mut shelf, "a", 3)?;
+    assert_eq!(rt; front.as_slice(), b"abcd".as_slice());
+    assert_eq!(rt; shelf.asked, 4);
+    Ok(())
+}
+
 #[test]
 fn a_write_that_fails_leaves_what_was_held_before(rt: HostRuntime) -> Result<(), Fail> {
     let alloc = rt.alloc();
@@ -81,6 +134,22 @@ fn sinks_in_memory_hold_what_was_put(rt: HostRuntime) -> Result<(), Fail> {
     put_all(&mut vector, b"cd")?;
     assert_eq!(rt; vector.bytes(), b"cd".as_slice());
     assert_eq!(rt; vector.into_bytes().as_slice(), b"cd".as_slice());
+    Ok(())
+}
+
+/// Puts ten bytes in two pieces. What a sink tells is known of each.
+fn put_ten<K: Sink>(to: &mut K) -> Result<(), Fault>
+    ensures { OnOk result (K.written to.new ≡ with_bytes (with_bytes (K.written to.old) (codes "0123")) (codes "456789")) }
+{
+    put_all(to, b"0123")?;
+    put_all(to, b"456789")
+}
+
+#[test]
+fn a_sink_that_counts_tells_how_many_bytes_a_writer_puts(rt: HostRuntime) -> Result<(), Fail> {
+    let mut sink = CountSink::new();
+    put_ten(&mut sink)?;
+    assert_eq!(rt; sink.count(), 10);
     Ok(())
 }
 

@@ -53,10 +53,10 @@ impl VecSink {
 }
 
 impl Sink for VecSink {
-    ghost use Rattle.std.specs.Prelude.{Some};
+    ghost use Rattle.shelf_io.specs.Sink.{Bytes};
     ghost use Rattle.std.proofs.Common.{rules};
 
-    ghost written = { λ sink. Some sink };
+    ghost written = { λ sink. Bytes sink };
 
     ghost faults = { λ _. 0 };
 

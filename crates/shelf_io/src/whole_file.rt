@@ -1,7 +1,10 @@
-ghost use Rattle.std.specs.Prelude.{◌≡◌, ◌≢◌, ◌+◌, ◌<◌, ◌≤◌, ◌^◌, length, take, vec_len, IfOk, OnOk, OnErr, IsErrOf};
-ghost use Rattle.shelf_io.specs.Counts.{Rose};
+ghost use Rattle.std.specs.Prelude.{◌≡◌, ◌+◌, ◌<◌, ◌≤◌, length, take, vec_len, IfOk, OnOk, OnErr, IsErrOf};
+ghost use Rattle.shelf_io.specs.Asked.{AsksUpTo, AsksNothing};
+ghost use Rattle.shelf_io.specs.Causes.{ReadCauses, WriteCauses};
 ghost use Rattle.shelf_io.specs.Files.{IfTold, Lacks, with_content};
-ghost use Rattle.shelf_io.specs.WholeFile.{AddsNext, HoldsPrefix};
+ghost use Rattle.shelf_io.specs.Source.{source_bytes_most};
+ghost use Rattle.shelf_io.specs.Private.WholeFile.{AddsNext};
+ghost use Rattle.shelf_io.specs.WholeFile.{HoldsPrefix};
 
 use crate::fault::Fault;
 use crate::shelf::Shelf;
@@ -10,8 +13,8 @@ use crate::writing::Writing;
 use list_types::ListOf;
 use std::alloc::Global;
 
-/// How many bytes `read_file` asks for at once.
-const PIECE_BYTES: usize = 65_536;
+/// How many bytes are asked for at once.
+pub const PIECE_BYTES: usize = 65_536;
 
 /// Reads a file from its start up to one byte past a limit: all of a file that is no longer, and else its first
 /// `limit + 1` bytes. It asks for no byte behind these, and each turn but the last takes at least one.
@@ -21,19 +24,18 @@ pub fn read_file<K: Shelf>(
     name: &str,
     limit: u64,
 ) -> Result<ListOf<u8>, Fault>
-    requires { limit < 2 ^ 60 }
+    requires { limit < source_bytes_most }
 
     ensures length { IfOk result (λ bytes. length bytes ≤ limit + 1) }
     ensures told { IfOk result (λ bytes. IfTold (K.files shelf.old) name.now (λ content. bytes ≡ take (limit + 1) content)) }
     ensures files { K.files shelf.new ≡ K.files shelf.old }
 
-    ensures failed { IsErrOf result Fault.Failed → Rose (K.faults shelf.old) (K.faults shelf.new) }
-    ensures missing { IsErrOf result Fault.Missing → Rose (K.absences shelf.old) (K.absences shelf.new) }
     ensures lacking { IsErrOf result Fault.Missing → Lacks (K.files shelf.old) name.now }
+    ensures asked { AsksUpTo name.now (limit + 1) (K.asked shelf.old) (K.asked shelf.new) }
 
-    ensures faults { K.faults shelf.old ≤ K.faults shelf.new }
-    ensures write_faults { K.write_faults shelf.new ≡ K.write_faults shelf.old }
-    ensures absences { K.absences shelf.old ≤ K.absences shelf.new }
+    ensures causes { ReadCauses (IsErrOf result Fault.Failed) (IsErrOf result Fault.Missing) (K.counts shelf.old) (K.counts shelf.new) }
+    ensures failed_last { IsErrOf result Fault.Failed → K.since_fault shelf.new ≡ 0 }
+    ensures missing_last { IsErrOf result Fault.Missing → K.since_fault shelf.new ≡ 0 }
 {
     let most = limit as usize + 1;
     let mut room = [0u8; PIECE_BYTES];
@@ -61,13 +63,12 @@ fn read_more<K: Shelf>(
     ensures told { IfOk result (λ n. IfTold (K.files shelf.old) name.now (AddsNext bytes.old.items bytes.new.items n)) }
     ensures files { K.files shelf.new ≡ K.files shelf.old }
 
-    ensures failed { IsErrOf result Fault.Failed → Rose (K.faults shelf.old) (K.faults shelf.new) }
-    ensures missing { IsErrOf result Fault.Missing → Rose (K.absences shelf.old) (K.absences shelf.new) }
     ensures lacking { IsErrOf result Fault.Missing → Lacks (K.files shelf.old) name.now }
+    ensures asked { AsksUpTo name.now (most) (K.asked shelf.old) (K.asked shelf.new) }
 
-    ensures faults { K.faults shelf.old ≤ K.faults shelf.new }
-    ensures write_faults { K.write_faults shelf.new ≡ K.write_faults shelf.old }
-    ensures absences { K.absences shelf.old ≤ K.absences shelf.new }
+    ensures causes { ReadCauses (IsErrOf result Fault.Failed) (IsErrOf result Fault.Missing) (K.counts shelf.old) (K.counts shelf.new) }
+    ensures failed_last { IsErrOf result Fault.Failed → K.since_fault shelf.new ≡ 0 }
+    ensures missing_last { IsErrOf result Fault.Missing → K.since_fault shelf.new ≡ 0 }
 {
     let asked = room.len().min(most - bytes.len());
     let piece = &mut room[..asked];
@@ -81,12 +82,10 @@ pub fn write_file<K: Shelf>(shelf: &mut K, name: &str, bytes: &[u8]) -> Result<(
     ensures ok { OnOk result (K.files shelf.new ≡ with_content (K.files shelf.old) name.now bytes.now) }
     ensures err { OnErr result (HoldsPrefix (K.files shelf.old) (K.files shelf.new) name.now bytes.now) }
 
-    ensures failed { IsErrOf result Fault.Failed → Rose (K.write_faults shelf.old) (K.write_faults shelf.new) }
-    ensures never_missing { result ≢ Err Fault.Missing }
+    ensures asked { AsksNothing (K.asked shelf.old) (K.asked shelf.new) }
 
-    ensures faults { K.faults shelf.new ≡ K.faults shelf.old }
-    ensures write_faults { K.write_faults shelf.old ≤ K.write_faults shelf.new }
-    ensures absences { K.absences shelf.new ≡ K.absences shelf.old }
+    ensures causes { WriteCauses (IsErrOf result Fault.Failed) (IsErrOf result Fault.Missing) (K.counts shelf.old) (K.counts shelf.new) }
+    ensures fault_last { OnErr result (K.since_fault shelf.new ≡ 0) }
 {
     shelf.start(name)?;
     put_all(&mut Writing::new(shelf, name), bytes)

@@ -30,9 +30,11 @@ impl<'a, K: Shelf> Sink for Writing<'a, K> {
 
     ghost written = { λ writing. written_to (K.files (shelf_of writing).now) (name_of writing) };
 
-    ghost faults = { λ writing. K.write_faults (shelf_of writing).now };
+    ghost faults = { λ writing. (K.counts (shelf_of writing).now).write_faults };
 
-    ghost keeps = { KeepsOthers K.files K.faults K.absences };
+    ghost since_fault = { λ writing. K.since_fault (shelf_of writing).now };
+
+    ghost keeps = { KeepsOthers K.files K.counts K.asked };
 
     ghost keeps_itself = { Prim.search rules };
 

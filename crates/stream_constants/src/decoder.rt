@@ -50,7 +50,8 @@ pub const SYSTEM_TB_SUBTICKS: u64 = 203_040;
 
 const _: () = prove!(SYSTEM_TB_SUBTICKS * 1_000_000 == 8 * SUBTICKS_PER_SECOND);
 
-/// Subticks that a byte takes to leave the main buffer of system data: Rbx is 80,000 bit/s.
+/// Subticks that a byte takes to leave the main buffer of system data: Rbx is 80,000 bit/s, which is more than a 500th of
+/// each multiplex whose slots have 1,016 ticks or more.
 pub const SYSTEM_SUBTICKS: u64 = 2_538_000;
 
 const _: () = prove!(SYSTEM_SUBTICKS * 80_000 == 8 * SUBTICKS_PER_SECOND);

@@ -11,7 +11,7 @@ pub struct RunLevel {
 }
 
 /// The DC coefficient of an intra block as it is coded (7.2.1).
-#[derive(Clone, Copy, Debug, Default, PartialEq, Eq)]
+#[derive(Clone, Copy, Debug, PartialEq, Eq)]
 pub struct Dc {
     /// dct_dc_size, the number of bits that follow.
     pub size: u8,
@@ -20,7 +20,7 @@ pub struct Dc {
 }
 
 /// How the blocks of a macroblock are coded (7.2).
-#[derive(Clone, Copy, Debug, PartialEq, Eq)]
+#[derive(Clone, Copy)]
 pub struct BlockWay {
     /// The macroblock is intra.
     pub intra: bool,
@@ -31,7 +31,7 @@ pub struct BlockWay {
 }
 
 /// The coefficients of a block of 8 by 8 samples (6.2.6). A block that isn't coded has neither.
-#[derive(Debug, Default, Drop)]
+#[derive(Default, Drop)]
 pub struct Block {
     /// The DC coefficient, in intra blocks alone.
     pub dc: Option<Dc>,

@@ -12,7 +12,11 @@ mod slice;
 pub use block::{BLOCK_PLACES, Block, BlockWay, Dc, RunLevel};
 pub use list_types::{ListOf, OutOfMemory};
 pub use macroblock::{
-    BLOCKS, DUAL_PRIME, FIELD_BASED, FRAME_BASED, Kind, Macroblock, VECTORS_MOST, Vector,
+    BLOCKS, DUAL_PRIME, FIELD_BASED, FRAME_BASED, Kind, Macroblock, SIXTEEN_BY_EIGHT, VECTORS_MOST,
+    Vector,
 };
-pub use picture::{B_PICTURE, FRAME_PICTURE, I_PICTURE, P_PICTURE, PicCoding, Picture, SeqState};
+pub use picture::{
+    B_PICTURE, BOTTOM_FIELD, FRAME_PICTURE, I_PICTURE, P_PICTURE, PicCoding, Picture, SeqState,
+    TOP_FIELD,
+};
 pub use slice::{Slice, SliceInfo};

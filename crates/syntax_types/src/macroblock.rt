@@ -4,20 +4,24 @@ use arrayvec::ArrayVec;
 /// The blocks of a macroblock in 4:2:0 format: four of luminance, then Cb and Cr (6.1.3.1).
 pub const BLOCKS: usize = 6;
 
-/// frame_motion_type field-based: two vectors, each from a field (Table 6-17).
+/// Field-based prediction: in a frame picture two vectors, each from a field (frame_motion_type, Table 6-17), in a field
+/// picture one from a field (field_motion_type, Table 6-18).
 pub const FIELD_BASED: u8 = 1;
 
-/// frame_motion_type frame-based: one vector.
+/// frame_motion_type frame-based prediction: one vector.
 pub const FRAME_BASED: u8 = 2;
 
-/// frame_motion_type dual prime: one vector, with a small difference.
+/// field_motion_type 16x8 motion compensation: a vector for the upper half of the macroblock, and one for the lower.
+pub const SIXTEEN_BY_EIGHT: u8 = 2;
+
+/// Dual prime prediction, in frame and field pictures: one vector, with a small difference.
 pub const DUAL_PRIME: u8 = 3;
 
 /// The most vectors that a macroblock has in one direction.
 pub const VECTORS_MOST: usize = 2;
 
 /// A motion vector as it is coded (6.2.5.2.1). The arrays have the horizontal part, then the vertical one.
-#[derive(Clone, Copy, Debug, Default, PartialEq, Eq)]
+#[derive(Clone, Copy, Default)]
 pub struct Vector {
     /// motion_vertical_field_select, where it stands.
     pub select: Option<bool>,
@@ -30,7 +34,7 @@ pub struct Vector {
 }
 
 /// The flags of a macroblock_type (Tables B-2 to B-4).
-#[derive(Clone, Copy, Debug, Default, PartialEq, Eq)]
+#[derive(Clone, Copy)]
 pub struct Kind {
     /// macroblock_quant: a quantiser_scale_code stands.
     pub quant: bool,
@@ -45,15 +49,16 @@ pub struct Kind {
 }
 
 /// A macroblock that isn't skipped (6.2.5).
-#[derive(Debug, Default, Drop)]
+#[derive(Drop)]
 pub struct Macroblock {
     /// The skipped macroblocks before it in its slice; for the first macroblock of a slice, its column.
     pub skipped_before: u16,
     /// macroblock_type.
     pub kind: Kind,
-    /// frame_motion_type (Table 6-17), `FRAME_BASED` where none stands.
+    /// frame_motion_type in a frame picture (Table 6-17), `FRAME_BASED` where none stands; field_motion_type in a field
+    /// picture (Table 6-18), `FIELD_BASED` where none stands.
     pub motion_type: u8,
-    /// dct_type: the luminance blocks are those of the two fields. False where none stands.
+    /// dct_type: the luminance blocks are those of the two fields. False where none stands, as in field pictures.
     pub field_dct: bool,
     /// quantiser_scale_code, where it stands.
     pub code: Option<u8>,

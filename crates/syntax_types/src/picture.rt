@@ -10,11 +10,17 @@ pub const P_PICTURE: u8 = 2;
 /// picture_coding_type of a B-picture.
 pub const B_PICTURE: u8 = 3;
 
-/// picture_structure of a frame picture (Table 6-14).
+/// picture_structure of a field picture of the top field (Table 6-14).
+pub const TOP_FIELD: u8 = 1;
+
+/// picture_structure of a field picture of the bottom field.
+pub const BOTTOM_FIELD: u8 = 2;
+
+/// picture_structure of a frame picture.
 pub const FRAME_PICTURE: u8 = 3;
 
 /// What the picture header and the picture coding extension say (6.2.3, 6.2.3.1), as far as it is used.
-#[derive(Clone, Copy, Debug, Default, PartialEq, Eq)]
+#[derive(Clone, Copy)]
 pub struct PicCoding {
     /// picture_coding_type: `I_PICTURE`, `P_PICTURE` or `B_PICTURE`.
     pub kind: u8,
@@ -24,7 +30,7 @@ pub struct PicCoding {
     pub f_code: [[u8; 2]; 2],
     /// intra_dc_precision.
     pub dc_precision: u8,
-    /// picture_structure: `FRAME_PICTURE`.
+    /// picture_structure: `TOP_FIELD`, `BOTTOM_FIELD` or `FRAME_PICTURE`.
     pub structure: u8,
     /// top_field_first.
     pub top_field_first: bool,
@@ -45,7 +51,7 @@ pub struct PicCoding {
 }
 
 /// What the headers so far leave in force for the pictures that follow (6.2.2.1, 6.2.2.3, 6.2.3.2).
-#[derive(Clone, Copy, Debug, PartialEq, Eq)]
+#[derive(Clone, Copy)]
 pub struct SeqState {
     /// horizontal_size, in samples.
     pub width: u16,
@@ -63,8 +69,8 @@ pub struct SeqState {
     pub non_intra: [u8; 64],
 }
 
-/// A coded picture with the headers before it, a frame (6.2.2, 6.2.3).
-#[derive(Debug, Drop)]
+/// A coded picture with the headers before it, a frame or a field (6.2.2, 6.2.3).
+#[derive(Drop)]
 pub struct Picture {
     /// What is in force for this picture.
     pub seq: SeqState,

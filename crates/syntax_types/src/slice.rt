@@ -2,7 +2,7 @@ use crate::macroblock::Macroblock;
 use list_types::ListOf;
 
 /// What a slice header holds behind slice_extension_flag (6.2.4).
-#[derive(Debug, Drop)]
+#[derive(Drop)]
 pub struct SliceInfo {
     /// intra_slice.
     pub intra_slice: bool,
@@ -13,7 +13,7 @@ pub struct SliceInfo {
 }
 
 /// Macroblocks of one row, in order (6.2.4).
-#[derive(Debug, Drop)]
+#[derive(Drop)]
 pub struct Slice {
     /// The macroblock row, from 0.
     pub row: u8,

@@ -6,7 +6,8 @@ use Rattle.bit_lists.specs.Fields.{flag}
 use Rattle.bit_lists.proofs.JoinedLemmas.{bits_of-put}
 use Rattle.prefix_codes.specs.TableName.{coefficient_code}
 use Rattle.picture_grammar.specs.Written.{written_escape}
-use Rattle.block_coeffs.proofs.Writing.{writes_as, as_flag, sign_bit, flag_below, held_level}
+use Rattle.block_coeffs.proofs.Writing.{writes_as, as_flag, sign_bit, held_level}
+use Rattle.bit_lists.proofs.FieldLemmas.{flag_below}
 use Rattle.block_coeffs.proofs.written.write_coefficient.Goals as goal
 
 -- a code and a sign bit in one number

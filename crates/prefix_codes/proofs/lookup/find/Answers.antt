@@ -1,11 +1,15 @@
-use Rattle.std.proofs.Common.{arith}
-use Rattle.prefix_codes.proofs.RowLemmas.{IsAnswer-found, IsAnswer-none}
+use Rattle.std.proofs.Common.{refl, arith}
+use Rattle.prefix_codes.proofs.LevelLemmas.{known_answer, none_known, unknown_answer}
 use Rattle.prefix_codes.proofs.lookup.find.Goals as goal
 
-pub returns-then-begins-clause-front : goal.returns-then-begins-clause-front
-returns-then-begins-clause-front c =
-    IsAnswer-found c.args.table c.rows-row-items.result.now c.rows-row-items.ensures.entries _ c.loop-row.row-index c.loop-row-test.true (c.begins.ensures.front.0 c.if-begins.true)
+pub returns-then-len-eq0-clause-front : goal.returns-then-len-eq0-clause-front
+returns-then-len-eq0-clause-front c =
+    none_known c.args.table c.args.window c.args.known c.word_at-word.result _ c.length-len.result c.word_at-word.ensures refl c.length-len.ensures c.if-len-eq0.true
+
+pub returns-then-from-known-clause-front : goal.returns-then-from-known-clause-front
+returns-then-from-known-clause-front c =
+    unknown_answer c.args.table c.args.window c.args.known c.word_at-word.result _ c.length-len.result c.word_at-word.ensures refl c.length-len.ensures (omega arith) (omega arith)
 
 pub returns-clause-front : goal.returns-clause-front
 returns-clause-front c =
-    IsAnswer-none c.args.table c.rows-row-items.result.now c.rows-row-items.ensures.entries _ (λ k lt. c.loop-row.invariant k (omega arith))
+    known_answer c.args.table c.args.window c.args.known c.word_at-word.result c.number.result c.length-len.result c.word_at-word.ensures c.number.ensures c.length-len.ensures (omega arith) (omega arith)

@@ -31,7 +31,7 @@ returns-in-Ok-clause-scheduled g c = λ files certificate table choice told plan
     let ends = on_told (g.K.Shelf.files c.args.shelf.now) (g.K.Shelf.files c.perform.new.shelf) files (λ held after. Ends words held (Some ended) after) c.in-Some.ensures.ends told in
     scheduled_status laws words files ended.status (string_bytes ended.line) ends.0 certificate table choice _ _
     (outcome_of words files ended.status (string_bytes ended.line) ends.0 ends.1) plans small scheduled
-    (cause_of g.K.Shelf.faults g.K.Shelf.write_faults g.K.Shelf.absences c.args.shelf.now c.perform.new.shelf ended.status (g.O.Sink.faults c.args.out.now) (g.O.Sink.faults c.put_all.new.sink) c.in-Some.ensures.cause) quiet
+    (cause_of (g.K.Shelf.counts c.args.shelf.now) (g.K.Shelf.counts c.perform.new.shelf) ended.status (g.O.Sink.faults c.args.out.now) (g.O.Sink.faults c.put_all.new.sink) c.in-Some.ensures.cause) quiet
 
 pub returns-in-Ok-clause-unschedulable : goal.returns-in-Ok-clause-unschedulable
 returns-in-Ok-clause-unschedulable g c = λ files certificate table choice miss told plans small first quiet.
@@ -41,7 +41,7 @@ returns-in-Ok-clause-unschedulable g c = λ files certificate table choice miss 
     let ends = on_told (g.K.Shelf.files c.args.shelf.now) (g.K.Shelf.files c.perform.new.shelf) files (λ held after. Ends words held (Some ended) after) c.in-Some.ensures.ends told in
     missed_status laws words files ended.status (string_bytes ended.line) ends.0 certificate table choice miss _ _
     (outcome_of words files ended.status (string_bytes ended.line) ends.0 ends.1) plans small first
-    (cause_of g.K.Shelf.faults g.K.Shelf.write_faults g.K.Shelf.absences c.args.shelf.now c.perform.new.shelf ended.status (g.O.Sink.faults c.args.out.now) (g.O.Sink.faults c.put_all.new.sink) c.in-Some.ensures.cause) quiet
+    (cause_of (g.K.Shelf.counts c.args.shelf.now) (g.K.Shelf.counts c.perform.new.shelf) ended.status (g.O.Sink.faults c.args.out.now) (g.O.Sink.faults c.put_all.new.sink) c.in-Some.ensures.cause) quiet
 
 pub returns-in-Ok-clause-refused : goal.returns-in-Ok-clause-refused
 returns-in-Ok-clause-refused g c = λ files certificate text refusal told plans refused quiet.
@@ -51,7 +51,7 @@ returns-in-Ok-clause-refused g c = λ files certificate text refusal told plans 
     let ends = on_told (g.K.Shelf.files c.args.shelf.now) (g.K.Shelf.files c.perform.new.shelf) files (λ held after. Ends words held (Some ended) after) c.in-Some.ensures.ends told in
     refused_status laws words files ended.status (string_bytes ended.line) ends.0 certificate text refusal _ _
     (outcome_of words files ended.status (string_bytes ended.line) ends.0 ends.1) plans refused
-    (cause_of g.K.Shelf.faults g.K.Shelf.write_faults g.K.Shelf.absences c.args.shelf.now c.perform.new.shelf ended.status (g.O.Sink.faults c.args.out.now) (g.O.Sink.faults c.put_all.new.sink) c.in-Some.ensures.cause) quiet
+    (cause_of (g.K.Shelf.counts c.args.shelf.now) (g.K.Shelf.counts c.perform.new.shelf) ended.status (g.O.Sink.faults c.args.out.now) (g.O.Sink.faults c.put_all.new.sink) c.in-Some.ensures.cause) quiet
 
 pub returns-in-Err-Failed-clause-outcome : goal.returns-in-Err-Failed-clause-outcome
 returns-in-Err-Failed-clause-outcome g c =

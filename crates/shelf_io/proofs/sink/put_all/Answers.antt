@@ -9,6 +9,6 @@ loop-done-preserved g c =
     record {
       within = omega arith;
       told = with_bytes_twice _ _ _ c.args.piece.now c.loop-done.done c.in_ok-done.field-0 count c.loop-done.invariant.told c.in_ok-done.ensures.ok;
-      faults = omega arith;
+      faults = omega (arith, c.in_ok-done.ensures.causes.faults_grow);
       keeps = g.met.K.Sink.keeps_on _ _ _ c.loop-done.invariant.keeps c.in_ok-done.ensures.keeps;
     }

@@ -11,8 +11,8 @@ loop-done-preserved g c = record {
     fills_more bytes c.args.buf.now c.loop-done.buf c.take.new.buf c.loop-done.done c.in_ok-count.count before.1 before.0 fills,
     few_more bytes c.args.buf.now c.loop-done.buf c.take.new.buf c.loop-done.done c.in_ok-count.count before.1 before.0 fills,
   ));
-  faults = omega (arith, c.in_ok-count.ensures.faults, c.loop-done.invariant.faults);
-  absences = omega (arith, c.in_ok-count.ensures.absences, c.loop-done.invariant.absences);
+  faults = omega (arith, c.in_ok-count.ensures.causes.faults_grow, c.loop-done.invariant.faults);
+  absences = omega (arith, c.in_ok-count.ensures.causes.absences_grow, c.loop-done.invariant.absences);
   keeps = g.met.S.Source.keeps_on _ _ _ c.loop-done.invariant.keeps c.in_ok-count.ensures.keeps;
 }
 

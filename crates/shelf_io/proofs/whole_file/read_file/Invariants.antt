@@ -1,4 +1,6 @@
 use Rattle.std.proofs.Common.{◌≡◌, ◌≤◌, ◌+◌, ◌-◌, length, vec_len, take, min}
+use Rattle.shelf_io.specs.Asked.{AsksUpTo}
+use Rattle.shelf_io.specs.Causes.{ReadCauses}
 use Rattle.shelf_io.specs.Files.{IfTold}
 use Rattle.shelf_io.proofs.whole_file.read_file.Given as goal
 
@@ -7,9 +9,8 @@ invariant-loop-count g l = record {
   within : vec_len l.bytes ≤ l.most;
   told : IfTold (g.K.Shelf.files l.fn.shelf) l.name (λ content. (l.bytes.items ≡ take (length l.bytes.items) content) × (l.count ≡ 0 → length content ≤ length l.bytes.items));
   files : g.K.Shelf.files l.shelf ≡ g.K.Shelf.files l.fn.shelf;
-  faults : g.K.Shelf.faults l.fn.shelf ≤ g.K.Shelf.faults l.shelf;
-  write_faults : g.K.Shelf.write_faults l.shelf ≡ g.K.Shelf.write_faults l.fn.shelf;
-  absences : g.K.Shelf.absences l.fn.shelf ≤ g.K.Shelf.absences l.shelf;
+  asked : AsksUpTo l.name l.most (g.K.Shelf.asked l.fn.shelf) (g.K.Shelf.asked l.shelf);
+  causes : ReadCauses ⊥ ⊥ (g.K.Shelf.counts l.fn.shelf) (g.K.Shelf.counts l.shelf);
 }
 
 abbrev pub decreases-loop-count : goal.decreases-loop-count

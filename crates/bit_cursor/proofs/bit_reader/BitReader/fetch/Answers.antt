@@ -29,8 +29,8 @@ loop-self-preserved g c =
       keeps = record {
         same_source = c.loop-self.invariant.keeps.same_source;
         keeps = g.met.S.Source.keeps_on _ _ _ c.loop-self.invariant.keeps.keeps c.in_ok-byte.ensures.keeps;
-        faults = omega (arith, c.in_ok-byte.ensures.faults);
-        absences = omega (arith, c.in_ok-byte.ensures.absences);
+        faults = omega (arith, c.in_ok-byte.ensures.causes.faults_grow);
+        absences = omega (arith, c.in_ok-byte.ensures.causes.absences_grow);
       };
     }
 

@@ -1,7 +1,8 @@
 use Rattle.std.proofs.Common.{◌≡◌, ◌+◌, ◌-◌, ◌*◌, ◌/◌, ◌%◌, ◌<◌, ℕ, List, [], ◌++◌, length, take, replicate, ap, sym, ◌∙◌, arith, length-append}
 use Rattle.std.proofs.lemmas.List.{length-replicate}
 use Rattle.bit_lists.specs.Fields.{bit_list}
-use Rattle.bit_cursor.proofs.Gets.{gets_bytes, gets_front, whole_bytes, AreBytes-take, length-bit_list}
+use Rattle.bit_cursor.proofs.Gets.{gets_bytes, gets_front, whole_bytes}
+use Rattle.bit_lists.proofs.ByteLemmas.{AreBytes-take, length-bit_list}
 use Rattle.bit_cursor.proofs.bit_writer.BitWriter.finish.Goals as goal
 
 -- the bytes that go out are those of what waits

@@ -11,9 +11,9 @@ returns-clause-writes g c = record {
   ok = gets_bytes c.put_all-result.result _ _ c.in-Some.bytes _ (bits_of c.args.n c.args.value) c.push.new.self c.in-Some.ensures.0 c.in-Some.ensures.1 c.put_all-result.ensures.ok;
   err = gets_front c.put_all-result.result _ _ c.in-Some.bytes _ (bits_of c.args.n c.args.value) c.push.new.self c.in-Some.ensures.0 c.in-Some.ensures.1 c.put_all-result.ensures.err;
   stopped = c.is_err-self.ensures.value;
-  failed = c.put_all-result.ensures.failed;
-  never_missing = c.put_all-result.ensures.never_missing;
-  counts = c.put_all-result.ensures.faults;
+  failed = c.put_all-result.ensures.causes.failed_rose;
+  never_missing = c.put_all-result.ensures.causes.never_missing;
+  counts = c.put_all-result.ensures.causes.faults_grow;
   kept = c.put_all-result.ensures.keeps;
   same_sink = refl;
 }

@@ -2,7 +2,8 @@ use Rattle.std.proofs.Common.{◌≡◌, ◌-◌, ◌*◌, ◌%◌, ◌^◌, ◌
 use Rattle.bit_lists.specs.Bits.{bits_of}
 use Rattle.bit_lists.specs.Fields.{bit_list}
 use Rattle.bit_lists.proofs.BitLemmas.{length-bits_of}
-use Rattle.bit_cursor.proofs.WordBits.{bit_list-to_be_bytes, shifted, filled, filled_below}
+use Rattle.bit_lists.proofs.ByteLemmas.{bit_list-to_be_bytes}
+use Rattle.bit_cursor.proofs.WordBits.{shifted, filled, filled_below}
 use Rattle.bit_cursor.proofs.waiting_bits.WaitingBits.filled_up.Goals as goal
 
 pub overflow_cast-self-inside-2 : goal.overflow_cast-self-inside-2

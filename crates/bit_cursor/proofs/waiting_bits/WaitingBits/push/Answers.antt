@@ -1,7 +1,8 @@
 use Rattle.std.proofs.Common.{◌≡◌, ◌+◌, ◌*◌, ◌%◌, ◌^◌, ℕ, ◌++◌, ap, ap₂, ◌∙◌}
 use Rattle.std.proofs.Math.Facts.{Fits-of_lt}
 use Rattle.bit_lists.specs.Bits.{bits_of}
-use Rattle.bit_cursor.proofs.WordBits.{shifted, x_bits, x_IsWord, front_below, front_and_rest, AreBytes-to_be_bytes}
+use Rattle.bit_cursor.proofs.WordBits.{shifted, x_bits, x_IsWord, front_below, front_and_rest}
+use Rattle.bit_lists.proofs.ByteLemmas.{AreBytes-to_be_bytes}
 use Rattle.bit_cursor.proofs.waiting_bits.WaitingBits.push.Goals as goal
 
 pub invariant_of-self : goal.invariant_of-self

@@ -1,7 +1,7 @@
 use Rattle.std.proofs.Common.{ap, ◌∙◌}
 use Rattle.std.specs.String.{string_bytes}
 use Rattle.std.specs.FinMap.{insert}
-use Rattle.shelf_io.specs.Files.{files_of}
+use Rattle.shelf_io.specs.Private.FileTable.{files_of}
 use Rattle.shelf_io.proofs.Held.{files_of_updated}
 use Rattle.shelf_io.proofs.file_table.FileTable.set.Goals as goal
 

@@ -1,7 +1,7 @@
 -- A take that always answers Ok meets what a source promises.
 use Rattle.std.proofs.Common.{◌≡◌, ◌≤◌, ◌+◌, ◌-◌, ◌^◌, min, ℕ, List, [], ◌∷◌, Option, Some, cond, is_some, slice_get, Result, Ok, Err, IfOk, OnErr, IsOkAnd, length, drop, subst, ap, refl, arith, length-drop}
 use Rattle.shelf_io.specs.declared.fault.Fault.{Fault}
-use Rattle.shelf_io.specs.Buffer.{Fills}
+use Rattle.shelf_io.specs.Buffer.{CopiesFront}
 use Rattle.shelf_io.specs.Source.{Takes}
 use Rattle.shelf_io.proofs.slice_source.SliceSourceSource.TheImpl.Goals as goal
 
@@ -16,7 +16,7 @@ on_err (Err e) P Q h = absurd h
 never_err : {T : Type 0} (r : Result T Fault) (e : Fault) (P : T → Type 0) → IsOkAnd r P → r ≡ Err e → ⊥
 never_err r e P h is = subst (λ x. IsOkAnd x P) is h
 
-takes : (r : Result ℕ Fault) (old new before after : List ℕ) → length old ≤ 2 ^ 60 → IsOkAnd r (Fills old before after) → IsOkAnd r (λ n. new ≡ drop n old) → IfOk r (Takes (Some old) (Some new) (min (length old) (2 ^ 60)) (min (length new) (2 ^ 60)))
+takes : (r : Result ℕ Fault) (old new before after : List ℕ) → length old ≤ 2 ^ 60 → IsOkAnd r (CopiesFront old before after) → IsOkAnd r (λ n. new ≡ drop n old) → IfOk r (Takes (Some old) (Some new) (min (length old) (2 ^ 60)) (min (length new) (2 ^ 60)))
 takes (Ok n) old new before after fits fills rest = record {
   rest = ap Some rest;
   fewer = simp (rest, length-drop) (fewer fits fills.within);
@@ -34,10 +34,12 @@ take-tells g c = record {
   ok = takes c.result c.args.self.now c.new.self.now c.args.buf.now c.new.buf.now c.ensures.bounded c.ensures.fills c.ensures.taken;
   err = on_err c.result _ _ c.ensures.count;
   within = omega arith;
-  failed = λ is. absurd (never_err c.result _ _ c.ensures.count is);
-  missing = λ is. absurd (never_err c.result _ _ c.ensures.count is);
-  faults = omega arith;
-  absences = omega arith;
+  causes = record {
+    failed_rose = λ is. absurd (never_err c.result _ _ c.ensures.count is);
+    missing_rose = λ is. absurd (never_err c.result _ _ c.ensures.count is);
+    faults_grow = omega arith;
+    absences_grow = omega arith;
+  };
   keeps = tt;
 }
 
@@ -54,9 +56,11 @@ take_byte-tells g c = record {
   told = if_ok c.result _ c.ensures.first;
   ok = takes_byte c.result c.args.self.now c.new.self.now c.ensures.bounded c.ensures.first c.ensures.taken;
   err = on_err c.result _ _ c.ensures.first;
-  failed = λ is. absurd (never_err c.result _ _ c.ensures.first is);
-  missing = λ is. absurd (never_err c.result _ _ c.ensures.first is);
-  faults = omega arith;
-  absences = omega arith;
+  causes = record {
+    failed_rose = λ is. absurd (never_err c.result _ _ c.ensures.first is);
+    missing_rose = λ is. absurd (never_err c.result _ _ c.ensures.first is);
+    faults_grow = omega arith;
+    absences_grow = omega arith;
+  };
   keeps = tt;
 }

@@ -11,6 +11,7 @@ returns-clause-keeps g c = record {
   same_name = refl;
   same_others = put_others c.append.result _ _ c.args.self.now.name.now c.args.piece.now c.append.ensures.ok c.append.ensures.err;
   still_held = put_held c.append.result _ _ c.args.self.now.name.now c.args.piece.now c.append.ensures.ok c.append.ensures.err;
-  same_faults = c.append.ensures.faults;
-  same_absences = c.append.ensures.absences;
+  same_faults = c.append.ensures.causes.same_faults;
+  same_absences = c.append.ensures.causes.same_absences;
+  asks_nothing = c.append.ensures.asked;
 }

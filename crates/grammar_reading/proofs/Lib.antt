@@ -1,0 +1,4 @@
+pub mod BitsRead
+pub mod Cuts
+pub mod Fronts
+pub mod Several

@@ -1,0 +1,3 @@
+-- What private functions and types of the crate stand on.
+pub mod FileTable
+pub mod WholeFile

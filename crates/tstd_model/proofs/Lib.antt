@@ -1,0 +1,9 @@
+pub mod Counts
+pub mod CursorSteps
+pub mod Examples
+pub mod FaultLaws
+pub mod LateLaws
+pub mod OldLaws
+pub mod OverLaws
+pub mod RisingLaws
+pub mod Server

@@ -1,0 +1,5 @@
+pub mod Private
+pub mod Instants
+pub mod PacketBytes
+pub mod Decoder
+pub mod Faults

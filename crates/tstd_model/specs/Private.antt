@@ -1,0 +1,4 @@
+pub mod Cursors
+pub mod Scans
+pub mod Server
+pub mod Walks
