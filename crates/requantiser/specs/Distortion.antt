@@ -38,4 +38,4 @@ squared_difference a b = unsigned_abs (a -ℤ b) * unsigned_abs (a -ℤ b)
 unfoldable pub distortion_between : Picture → Picture → ℕ
 distortion_between from to = sum_by (λ address. sum_by (λ i. sum_by
     (λ place. squared_difference (coefficient_of_picture from address i place) (coefficient_of_picture to address i place))
-    (range_with_len 0 BLOCK_PLACES)) (range_with_len 0 BLOCKS)) (range_with_len 0 (rows from.seq * columns from.seq))
+    (range_with_len 0 BLOCK_PLACES)) (range_with_len 0 BLOCKS)) (range_with_len 0 (rows from.seq from.coding * columns from.seq))

@@ -13,7 +13,8 @@ use crate::codes::Codes;
 use arrayvec::ArrayVec;
 use quant_math::map_code;
 use syntax_types::{
-    BLOCKS, Block, BlockWay, Kind, Macroblock, PicCoding, RunLevel, SeqState, VECTORS_MOST, Vector,
+    BLOCKS, Block, BlockWay, FRAME_PICTURE, Kind, Macroblock, PicCoding, RunLevel, SeqState,
+    VECTORS_MOST, Vector,
 };
 
 /// The blocks of luminance stand before those of chrominance (ISO/IEC 13818-2, 6.1.3.1).
@@ -170,11 +171,13 @@ pub fn write_head(
     to.pattern = pattern;
 }
 
-/// dct_type stands where there are coefficients and it may vary (ISO/IEC 13818-2, 6.2.5.1).
+/// dct_type stands in a frame picture, where there are coefficients and it may vary (ISO/IEC 13818-2, 6.2.5.1).
 fn has_dct_type(coding: &PicCoding, kind: Kind) -> bool
     ensures { result ≡ dct_type_stands coding.now kind }
 {
-    !coding.frame_pred_frame_dct && (kind.intra || kind.pattern)
+    coding.structure == FRAME_PICTURE
+        && !coding.frame_pred_frame_dct
+        && (kind.intra || kind.pattern)
 }
 
 /// coded_block_pattern: a bit for each block, the first one the most significant (ISO/IEC 13818-2, 6.3.17.4).
