@@ -8,3 +8,4 @@ pub mod Places
 pub mod Ranges
 pub mod ShapeTest
 pub mod Slices
+pub mod Spelled
