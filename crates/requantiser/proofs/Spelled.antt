@@ -30,6 +30,7 @@ use Rattle.picture_grammar.specs.Block.{dc_coefficient, Coefficient, Coefficient
 use Rattle.picture_grammar.specs.Block.Coefficient.{end_of_block, run_size, escape}
 use Rattle.picture_grammar.specs.Macroblock.{block_way, is_coded, no_block, quantiser_scale_code, macroblock}
 use Rattle.picture_grammar.proofs.Codes.{coefficient_code-listed}
+use Rattle.requantiser.specs.VersionState.{IsSpelledMacroblock}
 use Rattle.requantiser.specs.Private.Shapes.{BeginsWithLevel, FitBlock, HasShape, IsMeasured}
 use Rattle.requantiser.proofs.Ranges.{IsFirst, find-some}
 
@@ -227,3 +228,6 @@ spelled-walkable coding first columns_left v bits rest
     each_block i below = subst (λ k. IsBlockOf kind pattern k (get_or blocks i no_block)) (get_or-range_with_len 0 BLOCKS i 0 below ∙ zero-add i)
         (each_passes grammar (IsBlockOf kind pattern) (λ i b bits rest s. block-is coding kind pattern i (is_coded kind pattern i) b bits rest refl s) (range_with_len 0 BLOCKS) blocks m9 m10 s10 0 no_block i
         (omega (arith, length-range_with_len 0 BLOCKS)))
+
+pub walkable : (coding : PicCoding) (m : Macroblock) → IsSpelledMacroblock coding m → IsWalkable m
+walkable coding m s = spelled-walkable coding s.first s.columns_left m s.bits s.rest s.spelled

@@ -7,6 +7,9 @@ mod macroblock;
 mod step;
 mod version_state;
 
+pub use step::coarsen_macroblock;
+pub use version_state::VersionState;
+
 /// Bits of vbv_delay (ISO/IEC 13818-2, 6.2.3).
 pub const DELAY_BITS: u32 = 16;
 

@@ -1,6 +1,8 @@
 ghost use Rattle.std.specs.Prelude.{◌≡◌, ◌<◌, ◌+◌, ℕ, Option, true, false, if◌then◌else◌, unwrap_or};
 ghost use Rattle.quant_math.specs.Scales.{IsCode};
 ghost use Rattle.requantiser.specs.Levels.{HasWeights};
+ghost use Rattle.requantiser.specs.Macroblocks.{IsCoarserAt};
+ghost use Rattle.requantiser.specs.VersionState.{IsSpelledMacroblock, IsStateBehind, made_of};
 ghost use Rattle.requantiser.specs.Private.Shapes.{HasShape, IsMeasured};
 ghost use Rattle.requantiser.specs.Private.Walk.{mapped_code, coarsened_macroblock};
 
@@ -10,7 +12,27 @@ use crate::version_state::VersionState;
 use quant_math::map_code;
 use syntax_types::{Macroblock, PicCoding, SeqState};
 
-/// Writes what becomes of a macroblock into one that is lent, and says whether it is coded in the version.
+/// Writes what becomes of a macroblock that some bits spell into one that is lent, and says whether it is coded in the
+/// version; where it is skipped there, what was lent says nothing. An inner macroblock is neither the first nor the last
+/// one of its slice that isn't skipped. All skipped macroblocks of a row fit their number.
+pub fn coarsen_macroblock(
+    seq: &SeqState,
+    coding: &PicCoding,
+    inner: bool,
+    state: &mut VersionState,
+    from: &Macroblock,
+    to: &mut Macroblock,
+) -> bool
+    requires weights { HasWeights seq.now }
+    requires spelled { IsSpelledMacroblock coding.now from.now }
+    requires room { state.old.skipped + from.now.skipped_before < u16.MAX }
+    ensures at { IsCoarserAt seq.now coding.now state.old.m inner state.old.source_code state.old.version_code (Option.Some from.now) (made_of result to.new) }
+    ensures behind { IsStateBehind from.now (made_of result to.new) state.old state.new }
+{
+    step(seq, coding, inner, state, from, to)
+}
+
+/// The same of a macroblock of the right shape, by the walk.
 fn step(
     seq: &SeqState,
     coding: &PicCoding,

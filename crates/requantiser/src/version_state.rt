@@ -1,5 +1,8 @@
 ghost use Rattle.quant_math.specs.Scales.{IsCode};
 
+use quant_math::map_code;
+use syntax_types::PicCoding;
+
 /// Where the version at `m` sixteenths stands in a slice, between two macroblocks.
 #[derive(Clone, Copy)]
 pub struct VersionState {
@@ -12,4 +15,25 @@ pub struct VersionState {
     /// Macroblocks that are skipped in the version since its last one, or since the start of the row.
     pub skipped: u16,
     ghost is_code: { IsCode source_code },
+}
+
+impl VersionState {
+    ghost use Rattle.std.specs.Prelude.{◌≡◌};
+    ghost use Rattle.quant_math.specs.Scales.{IsMappedCode};
+
+    /// The state at the start of a slice with this code.
+    pub fn new(coding: &PicCoding, m: u16, code: u8) -> Self
+        requires { IsCode code }
+        ensures ratio { result.m ≡ m }
+        ensures source_code { result.source_code ≡ code }
+        ensures version_code { IsMappedCode coding.now.q_scale_type code m result.version_code }
+        ensures skipped { result.skipped ≡ 0 }
+    {
+        VersionState {
+            m,
+            source_code: code,
+            version_code: map_code(code, m, coding.q_scale_type),
+            skipped: 0,
+        }
+    }
 }
