@@ -1,4 +1,5 @@
 pub mod Blocks
+pub mod MacroblockSteps
 pub mod MappedCodes
 pub mod PairSteps
 pub mod Examples

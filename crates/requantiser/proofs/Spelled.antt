@@ -31,7 +31,7 @@ use Rattle.picture_grammar.specs.Block.Coefficient.{end_of_block, run_size, esca
 use Rattle.picture_grammar.specs.Macroblock.{block_way, is_coded, no_block, quantiser_scale_code, macroblock}
 use Rattle.picture_grammar.proofs.Codes.{coefficient_code-listed}
 use Rattle.requantiser.specs.VersionState.{IsSpelledMacroblock}
-use Rattle.requantiser.specs.Private.Shapes.{BeginsWithLevel, FitBlock, HasShape, IsMeasured}
+use Rattle.requantiser.specs.Private.Shapes.{BeginsWithLevel, FitBlock, HasShape, IsMeasured, IsWalkable}
 use Rattle.requantiser.proofs.Ranges.{IsFirst, find-some}
 
 -- ---- a coefficient
@@ -195,11 +195,6 @@ has_block kind true pattern bits rest is non_intra (code, listed, passing, split
     by_search (Some i) is some =
         let first : IsFirst (λ i. bit_at pattern (BLOCKS - 1 - i) == 1) 0 BLOCKS i = find-some (λ i. bit_at pattern (BLOCKS - 1 - i) == 1) 0 BLOCKS i (sym is) in
         (i, first.below, ap (λ b. b || (bit_at pattern (BLOCKS - 1 - i) == 1)) non_intra ∙ first.passes)
-
--- what the walk needs of a macroblock
-pub record IsWalkable (m : Macroblock) : Type 0 where
-  pub shape : HasShape m
-  pub measured : IsMeasured m
 
 pub spelled-walkable : (coding : PicCoding) (first : Bool) (columns_left : ℕ) (v : Macroblock) (bits rest : List ℕ) → (macroblock coding first columns_left).Spells v bits rest → IsWalkable v
 unfolding macroblock

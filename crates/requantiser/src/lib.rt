@@ -4,6 +4,7 @@
 mod block;
 mod codes;
 mod macroblock;
+mod slice;
 mod step;
 mod version_state;
 

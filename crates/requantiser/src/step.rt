@@ -33,7 +33,7 @@ pub fn coarsen_macroblock(
 }
 
 /// The same of a macroblock of the right shape, by the walk.
-fn step(
+pub fn step(
     seq: &SeqState,
     coding: &PicCoding,
     inner: bool,

@@ -1,5 +1,6 @@
 -- What the walk needs of a macroblock; the grammar has it of each macroblock that bits spell.
 use Rattle.std.specs.Prelude.{◌≡◌, ◌≢◌, ◌<◌, ◌+◌, ◌-◌, ◌^◌, ℕ, unsigned_abs, pos, Some, None, List, [], ◌∷◌, length, true, false, slice_index_or, if◌then◌else◌}
+use Rattle.std.specs.List.{AllByRecursion}
 use Rattle.quant_math.specs.Scales.{IsCode}
 use Rattle.syntax_types.specs.declared.block.Block.{Block}
 use Rattle.syntax_types.specs.declared.block.RunLevel.{RunLevel}
@@ -32,3 +33,11 @@ pub record HasShape (m : Macroblock) : Type 0 where
 pub record IsMeasured (m : Macroblock) : Type 0 where
   pub blocks : (i : ℕ) → i < BLOCKS → let block : Block = slice_index_or m.blocks i no_block in FitBlock (if m.kind.intra then 1 else 0) block.pairs.items
   pub code : (code : ℕ) → m.code ≡ Some code → IsCode code
+
+-- what the walk needs of a macroblock
+pub record IsWalkable (m : Macroblock) : Type 0 where
+  pub shape : HasShape m
+  pub measured : IsMeasured m
+
+abbrev pub AreWalkable : List Macroblock → Type 0
+AreWalkable ms = AllByRecursion IsWalkable ms
