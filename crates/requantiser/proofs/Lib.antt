@@ -10,3 +10,5 @@ pub mod Ranges
 pub mod ShapeTest
 pub mod Slices
 pub mod Spelled
+pub mod SpelledHeads
+pub mod SpelledSlices

@@ -175,12 +175,14 @@ pattern_has_block : (pattern : ℕ) (code : List ℕ) → code_in Pattern patter
 unfolding coded_block_pattern
 pattern_has_block pattern code listed = code_in-passes (λ e. is_some (find (λ i. bit_at e.0 (BLOCKS - 1 - i) == 1) (range_with_len 0 BLOCKS))) Pattern pattern code refl listed
 
-has_code : (present : Bool) (written : Option ℕ) (code : ℕ) (bits rest : List ℕ) → (optional present quantiser_scale_code).Spells written bits rest → written ≡ Some code → IsCode code
-has_code true written code bits rest (number, m, (bits', (fits, same), passing, split), (e, f)) is =
-    let number_is : number ≡ code = same_Some number code (sym e ∙ is) in
+pub is_code : (code : ℕ) (bits rest : List ℕ) → quantiser_scale_code.Spells code bits rest → IsCode code
+is_code number bits rest (bits', (fits, same), passing, split) =
     let some : not (number == 0) ≡ true = (and_parts (not (number == 0)) true passing).0 in
     let other : number ≡ 0 → ⊥ = eqb-false number 0 (not-true (number == 0) some) in
-    (omega (arith, number_is, fits), omega (arith, number_is, fits))
+    (omega arith, omega arith)
+
+has_code : (present : Bool) (written : Option ℕ) (code : ℕ) (bits rest : List ℕ) → (optional present quantiser_scale_code).Spells written bits rest → written ≡ Some code → IsCode code
+has_code true written code bits rest (number, m, s, (e, f)) is = subst IsCode (same_Some number code (sym e ∙ is)) (is_code number bits m s)
 has_code false written code bits rest (e, f) is = absurd (none-some code (sym e ∙ is))
 
 has_block : (kind : Kind) (present : Bool) (pattern : ℕ) (bits rest : List ℕ) → present ≡ true → kind.intra ≡ false → (when present (vlclbf Pattern BadPattern []) 0).Spells pattern bits rest

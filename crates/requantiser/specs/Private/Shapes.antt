@@ -1,5 +1,5 @@
 -- What the walk needs of a macroblock; the grammar has it of each macroblock that bits spell.
-use Rattle.std.specs.Prelude.{◌≡◌, ◌≢◌, ◌<◌, ◌+◌, ◌-◌, ◌^◌, ℕ, unsigned_abs, pos, Some, None, List, [], ◌∷◌, length, true, false, slice_index_or, if◌then◌else◌}
+use Rattle.std.specs.Prelude.{◌≡◌, ◌≢◌, ◌<◌, ◌≤◌, ◌+◌, ◌-◌, ◌^◌, ℕ, unsigned_abs, pos, Some, None, List, [], ◌∷◌, length, true, false, slice_index_or, if◌then◌else◌}
 use Rattle.std.specs.List.{AllByRecursion}
 use Rattle.quant_math.specs.Scales.{IsCode}
 use Rattle.syntax_types.specs.declared.block.Block.{Block}
@@ -7,8 +7,10 @@ use Rattle.syntax_types.specs.declared.block.RunLevel.{RunLevel}
 use Rattle.syntax_types.specs.declared.block.TheConstants.{BLOCK_PLACES}
 use Rattle.syntax_types.specs.declared.macroblock.TheConstants.{BLOCKS}
 use Rattle.syntax_types.specs.declared.macroblock.Macroblock.{Macroblock}
+use Rattle.syntax_types.specs.declared.slice.Slice.{Slice}
 use Rattle.picture_grammar.specs.declared.escape.TheConstants.{LEVEL_BITS}
 use Rattle.picture_grammar.specs.Macroblock.{is_coded, no_block}
+use Rattle.requantiser.specs.Slices.{end_column}
 
 -- the first coefficient isn't 0
 abbrev pub BeginsWithLevel : List RunLevel → Type 0
@@ -41,3 +43,9 @@ pub record IsWalkable (m : Macroblock) : Type 0 where
 
 abbrev pub AreWalkable : List Macroblock → Type 0
 AreWalkable ms = AllByRecursion IsWalkable ms
+
+-- what the walk needs of a slice of a picture with so many columns
+pub record IsWalkableSlice (columns : ℕ) (slice : Slice) : Type 0 where
+  pub code : IsCode slice.code
+  pub macroblocks : AreWalkable slice.macroblocks
+  pub within : end_column slice ≤ columns
