@@ -11,4 +11,5 @@ pub mod ShapeTest
 pub mod Slices
 pub mod Spelled
 pub mod SpelledHeads
+pub mod SpelledPictures
 pub mod SpelledSlices
