@@ -31,7 +31,7 @@ module _ (seq : SeqState) (coding : PicCoding) (m : ℕ) where
   coarsened_macroblocks-cons : (first : Bool) (code before skipped : ℕ) (from : Macroblock) (later : List Macroblock) (made : Option Macroblock)
       → made ≡ coarsened_macroblock seq coding m (not first && not (is_none later)) (unwrap_or from.code code) before (skipped + from.skipped_before) from
       → option_to_list made ++ coarsened_macroblocks seq coding m false (unwrap_or from.code code) (unwrap_or (option_and_then (λ x. x.code) made) before)
-          (if is_some made then 0 else skipped + from.skipped_before + 1) later
+      (if is_some made then 0 else skipped + from.skipped_before + 1) later
       ≡ coarsened_macroblocks seq coding m first code before skipped (from ∷ later)
   coarsened_macroblocks-cons first code before skipped from later None is =
       let spans : skipped + from.skipped_before + 1 ≡ skipped + (from.skipped_before + 1) = omega arith in
@@ -50,12 +50,12 @@ module _ (seq : SeqState) (coding : PicCoding) (m : ℕ) where
       → made ≡ coarsened_macroblock seq coding m (not (i == 0) && not (i + 1 == length ms)) (unwrap_or from.code code) before (skipped + from.skipped_before) from
       → done ++ coarsened_macroblocks seq coding m (i == 0) code before skipped (drop i ms) ≡ all
       → (done ++ option_to_list made) ++ coarsened_macroblocks seq coding m (i + 1 == 0) (unwrap_or from.code code) (unwrap_or (option_and_then (λ x. x.code) made) before)
-          (if is_some made then 0 else skipped + from.skipped_before + 1) (drop (i + 1) ms) ≡ all
+      (if is_some made then 0 else skipped + from.skipped_before + 1) (drop (i + 1) ms) ≡ all
   one_macroblock code before skipped i ms done all from d made at within is rest =
       let later : (i + 1 == 0) ≡ false = ne_eqb (i + 1) 0 (λ e. absurd (omega arith)) in
       append_assoc done _ _
       ∙ ap (λ first. done ++ (option_to_list made ++ coarsened_macroblocks seq coding m first (unwrap_or from.code code) (unwrap_or (option_and_then (λ x. x.code) made) before)
-          (if is_some made then 0 else skipped + from.skipped_before + 1) (drop (i + 1) ms))) later
+      (if is_some made then 0 else skipped + from.skipped_before + 1) (drop (i + 1) ms))) later
       ∙ ap (λ xs. done ++ xs) (coarsened_macroblocks-cons (i == 0) code before skipped from (drop (i + 1) ms) made
       (is ∙ ap (λ last. coarsened_macroblock seq coding m (not (i == 0) && not last) (unwrap_or from.code code) before (skipped + from.skipped_before) from) (sym (is_none-drop ms i within)))
       ∙ ap (coarsened_macroblocks seq coding m (i == 0) code before skipped) (sym (cut ms i from d at within)))

@@ -1,8 +1,10 @@
 -- Lawful pictures have what the walk needs.
 use Rattle.std.proofs.Common.{◌≡◌, ℕ, ◌+◌, ◌<◌, ◌≤◌, ◌-◌, Option, Some, None, List, [], ◌∷◌, ◌++◌, Bool, true, false, refl, sym, ◌∙◌, ap, subst, inl, inr, arith}
-use Rattle.std.specs.List.{AllByRecursion}
+use Rattle.std.specs.Prelude.{map}
+use Rattle.std.specs.List.{AllByRecursion, AllZip}
 use Rattle.std.proofs.lemmas.Option.{none-some, same_Some}
 use Rattle.bit_lists.specs.Fields.{bit_list}
+use Rattle.syntax_types.specs.declared.macroblock.Macroblock.{Macroblock}
 use Rattle.syntax_types.specs.declared.picture.PicCoding.{PicCoding}
 use Rattle.syntax_types.specs.declared.picture.Picture.{Picture}
 use Rattle.syntax_types.specs.declared.picture.SeqState.{SeqState}
@@ -13,7 +15,10 @@ use Rattle.picture_grammar.specs.Grammar.Next.{more, last}
 use Rattle.picture_grammar.specs.Picture.{whole_slice, slice_or_end, next_slice, picture_unit, IsLawful, MayPrecede}
 use Rattle.picture_grammar.specs.Slice.{columns}
 use Rattle.picture_grammar.specs.StartCode.{is_slice}
-use Rattle.requantiser.specs.Private.Shapes.{IsWalkableSlice}
+use Rattle.requantiser.specs.Slices.{IsCoarserSlice}
+use Rattle.requantiser.specs.Private.Shapes.{HasShape, AreWalkable, IsWalkableSlice}
+use Rattle.requantiser.specs.Private.Walk.{coarsened_slice}
+use Rattle.requantiser.proofs.Slices.{coarsened_slice-is}
 use Rattle.requantiser.proofs.SpelledHeads.{IsUsable, head-usable, columns-few}
 use Rattle.requantiser.proofs.SpelledSlices.{spelled_slice-walkable}
 
@@ -56,3 +61,15 @@ unit_is before picture bits rest may (headers, m1, (s1, bytes, whole), (slices, 
 
 pub lawful-walkable : (picture : Picture) → IsLawful picture → IsWalkablePicture picture
 lawful-walkable picture lawful = unit_is lawful.before picture (bit_list lawful.bytes) [] lawful.preceded lawful.spelled
+
+-- ---- the slices of a version
+
+shapes_of : (ms : List Macroblock) → AreWalkable ms → AllByRecursion HasShape ms
+shapes_of [] are = tt
+shapes_of (m ∷ ms) are = (are.0.shape, shapes_of ms are.1)
+
+pub coarsened_slices-are : (seq : SeqState) (coding : PicCoding) (m columns : ℕ) (slices : List Slice) → AllByRecursion (IsWalkableSlice columns) slices
+    → AllZip (IsCoarserSlice seq coding m) slices (map (coarsened_slice seq coding m) slices)
+coarsened_slices-are seq coding m columns [] are = tt
+coarsened_slices-are seq coding m columns (s ∷ ss) are =
+    (coarsened_slice-is seq coding m s (shapes_of s.macroblocks are.0.macroblocks), coarsened_slices-are seq coding m columns ss are.1)

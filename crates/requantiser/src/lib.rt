@@ -4,10 +4,12 @@
 mod block;
 mod codes;
 mod macroblock;
+mod picture;
 mod slice;
 mod step;
 mod version_state;
 
+pub use picture::coarsen_slices;
 pub use step::coarsen_macroblock;
 pub use version_state::VersionState;
 

@@ -16,7 +16,7 @@ loop-i-preserved c =
     let made : Option Macroblock = coarsened_macroblock c.args.seq.now c.args.coding.now c.loop-i.state.m c.is_inner-inner.result (unwrap_or from.code code) before (skipped + from.skipped_before) from in
     let behind = c.in_ok-add_macroblock.ensures.behind in
     let is : made ≡ coarsened_macroblock c.args.seq.now c.args.coding.now c.args.start.m (not (c.loop-i.i == 0) && not (c.loop-i.i + 1 == length c.args.macroblocks.now)) (unwrap_or from.code code) before (skipped + from.skipped_before) from =
-        ap₂ (λ m inner. coarsened_macroblock c.args.seq.now c.args.coding.now m inner (unwrap_or from.code code) before (skipped + from.skipped_before) from) c.loop-i.invariant.ratio c.is_inner-inner.ensures in
+    ap₂ (λ m inner. coarsened_macroblock c.args.seq.now c.args.coding.now m inner (unwrap_or from.code code) before (skipped + from.skipped_before) from) c.loop-i.invariant.ratio c.is_inner-inner.ensures in
     let spans = one_span c.args.macroblocks.now c.loop-i.i from from c.index-macroblocks-i.is within in
     let waiting = none_or (is_some made) (skipped + from.skipped_before + 1) in
     record {
