@@ -2,6 +2,7 @@ pub mod Blocks
 pub mod MacroblockSteps
 pub mod MappedCodes
 pub mod PairSteps
+pub mod Coefficients
 pub mod Examples
 pub mod Macroblocks
 pub mod Patterns
@@ -10,6 +11,7 @@ pub mod Ranges
 pub mod ShapeTest
 pub mod Slices
 pub mod Spelled
+pub mod Sums
 pub mod SpelledHeads
 pub mod SpelledPictures
 pub mod SpelledSlices

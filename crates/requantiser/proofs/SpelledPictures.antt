@@ -24,7 +24,7 @@ use Rattle.requantiser.proofs.SpelledSlices.{spelled_slice-walkable}
 
 module _ (seq : SeqState) (coding : PicCoding) where
   whole_is : (byte : ℕ) (v : Slice) (bits rest : List ℕ) → (whole_slice seq coding byte).Spells v bits rest → IsWalkableSlice (columns seq) v
-  whole_is byte v bits rest (found, m, s, (zeros, m', t, (e, f))) = subst (IsWalkableSlice (columns seq)) (sym e) (spelled_slice-walkable seq coding (byte - FIRST_SLICE) found bits m s)
+  whole_is byte v bits rest (found, m, s, (padding, m', t, (e, f))) = subst (IsWalkableSlice (columns seq)) (sym e) (spelled_slice-walkable seq coding (byte - FIRST_SLICE) found bits m s)
 
   one_is : (present : Bool) (byte : ℕ) (found : Option Slice) (v : Slice) (bits rest : List ℕ) → (optional present (whole_slice seq coding byte)).Spells found bits rest
       → more v ≡ slice_or_end found → IsWalkableSlice (columns seq) v
@@ -39,8 +39,8 @@ module _ (seq : SeqState) (coding : PicCoding) where
       let same : more v ≡ more found = e in
       let which : found ≡ v = cc in
       subst (IsWalkableSlice (columns seq)) which (whole_is byte found m1 m2 s2)
-  next_is (b ∷ bs) v bits middle (inl (closes, (zeros, m1, s1, (e, f)))) = absurd (let clash : more v ≡ last false = e in cc)
-  next_is (b ∷ bs) v bits middle (inr (open_unit, (byte, m1, s1, (found, m2, s2, (zeros, m3, s3, (e, f)))))) = one_is (is_slice byte) byte found v m1 m2 s2 e
+  next_is (b ∷ bs) v bits middle (inl (closes, (nothing, m1, s1, (e, f)))) = absurd (let clash : more v ≡ last false = e in cc)
+  next_is (b ∷ bs) v bits middle (inr (open_unit, (byte, m1, s1, (found, m2, s2, (nothing, m3, s3, (e, f)))))) = one_is (is_slice byte) byte found v m1 m2 s2 e
 
   all_are : (before slices : List Slice) (end : Bool) (bits rest : List ℕ) → SpellsList (next_slice seq coding) before slices end bits rest → AllByRecursion (IsWalkableSlice (columns seq)) slices
   all_are before [] end bits rest s = tt

@@ -93,7 +93,7 @@ fn coarsen_level(
 }
 
 /// The weight of a place of the scan (ISO/IEC 13818-2, 7.3 and 7.4.2.1).
-fn weight_at(seq: &SeqState, coding: &PicCoding, intra: bool, place: u8) -> u8
+pub fn weight_at(seq: &SeqState, coding: &PicCoding, intra: bool, place: u8) -> u8
     requires weights { HasWeights seq.now }
     requires place { place < BLOCK_PLACES }
     ensures value { result ≡ weight_at_place seq.now coding.now intra place }

@@ -3,6 +3,7 @@
 
 mod block;
 mod codes;
+mod difference;
 mod macroblock;
 mod picture;
 mod slice;

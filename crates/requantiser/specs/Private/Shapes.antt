@@ -1,6 +1,7 @@
 -- What the walk needs of a macroblock; the grammar has it of each macroblock that bits spell.
-use Rattle.std.specs.Prelude.{◌≡◌, ◌≢◌, ◌<◌, ◌≤◌, ◌+◌, ◌-◌, ◌^◌, ℕ, unsigned_abs, pos, Some, None, List, [], ◌∷◌, length, true, false, slice_index_or, if◌then◌else◌}
+use Rattle.std.specs.Prelude.{◌≡◌, ◌≢◌, ◌<◌, ◌≤◌, ◌+◌, ◌-◌, ◌^◌, ℕ, ℤ, unsigned_abs, pos, Some, None, List, [], ◌∷◌, length, true, false, slice_index_or, if◌then◌else◌}
 use Rattle.std.specs.List.{AllByRecursion}
+use Rattle.quant_math.specs.declared.levels.TheConstants.{LEAST_COEFFICIENT}
 use Rattle.quant_math.specs.Scales.{IsCode}
 use Rattle.syntax_types.specs.declared.block.Block.{Block}
 use Rattle.syntax_types.specs.declared.block.RunLevel.{RunLevel}
@@ -49,3 +50,7 @@ pub record IsWalkableSlice (columns : ℕ) (slice : Slice) : Type 0 where
   pub code : IsCode slice.code
   pub macroblocks : AreWalkable slice.macroblocks
   pub within : end_column slice ≤ columns
+
+-- the numbers are coefficients of a block, as inverse quantisation gives them
+abbrev pub AreCoefficients : List ℤ → Type 0
+AreCoefficients numbers = (place : ℕ) → unsigned_abs (slice_index_or numbers place (pos 0)) ≤ unsigned_abs LEAST_COEFFICIENT

@@ -1,0 +1,33 @@
+-- Sums over numbers from one on.
+use Rattle.std.proofs.Common.{◌≡◌, ℕ, zero, suc, ◌+◌, ◌-◌, ◌<◌, ◌≤◌, ◌*◌, refl, sym, ◌∙◌, ap, ap₂, arith}
+use Rattle.std.specs.List.{sum_by, range_with_len}
+use Rattle.std.proofs.lemmas.List.Sums.{sum_by-cons}
+use Rattle.requantiser.specs.Private.Sums.{sum_from}
+
+-- the first number, then the others
+pub sum_from-suc : (f : ℕ → ℕ) (a n : ℕ) → sum_from f a (suc n) ≡ f a + sum_from f (a + 1) n
+unfolding sum_from
+sum_from-suc f a n = sum_by-cons f a (range_with_len (a + 1) n)
+
+pub sum_from-none : (f : ℕ → ℕ) (a : ℕ) → sum_from f a 0 ≡ 0
+unfolding sum_from
+sum_from-none f a = refl
+
+-- one more number is summed
+pub one_more_number : (f : ℕ → ℕ) (sum i end x all : ℕ) → i < end → x ≡ f i → sum + sum_from f i (end - i) ≡ all → sum + x + sum_from f (i + 1) (end - (i + 1)) ≡ all
+one_more_number f sum i end x all below is rest =
+    let count : end - i ≡ suc (end - (i + 1)) = omega arith in
+    omega (arith, rest, is, ap (sum_from f i) count, sum_from-suc f i (end - (i + 1)))
+
+-- all numbers are summed
+pub no_more_number : (f : ℕ → ℕ) (sum i end all : ℕ) → end ≤ i → sum + sum_from f i (end - i) ≡ all → sum ≡ all
+no_more_number f sum i end all past rest =
+    let count : end - i ≡ 0 = omega arith in
+    omega (arith, rest, ap (sum_from f i) count, sum_from-none f i)
+
+-- sums of equal numbers are equal
+pub sum_from-same : (f g : ℕ → ℕ) (a n : ℕ) → ((k : ℕ) → a ≤ k → k < a + n → f k ≡ g k) → sum_from f a n ≡ sum_from g a n
+sum_from-same f g a zero same = sum_from-none f a ∙ sym (sum_from-none g a)
+sum_from-same f g a (suc n) same =
+    sum_from-suc f a n ∙ ap₂ (λ x y. x + y) (same a (omega arith) (omega arith)) (sum_from-same f g (a + 1) n (λ k low high. same k (omega arith) (omega arith)))
+    ∙ sym (sum_from-suc g a n)
