@@ -41,16 +41,11 @@ coefficient_of_picture picture address i place = option_map_or
 abbrev pub squared_difference : ℤ → ℤ → ℕ
 squared_difference a b = unsigned_abs (a -ℤ b) * unsigned_abs (a -ℤ b)
 
--- the sum of f over all blocks of a macroblock and all places of the scan
-unfoldable pub sum_over_places : (ℕ → ℕ → ℕ) → ℕ
-sum_over_places f = sum_by (λ i. sum_by (λ place. f i place) (range_with_len 0 BLOCK_PLACES)) (range_with_len 0 BLOCKS)
-
--- the sum of the squares of the differences of two macroblocks' coefficients, each under the code in force in it
-abbrev pub macroblock_distortion : SeqState → PicCoding → ℕ → ℕ → Option Macroblock → Option Macroblock → ℕ
-macroblock_distortion seq coding code_from code_to from to = sum_over_places (λ i place.
-    squared_difference (coefficient_of_macroblock seq coding code_from from i place) (coefficient_of_macroblock seq coding code_to to i place))
+-- the sum of the squares of the differences of the coefficients that two macroblocks have by block and place of the scan
+unfoldable pub difference_of : (ℕ → ℕ → ℤ) → (ℕ → ℕ → ℤ) → ℕ
+difference_of f g = sum_by (λ i. sum_by (λ place. squared_difference (f i place) (g i place)) (range_with_len 0 BLOCK_PLACES)) (range_with_len 0 BLOCKS)
 
 -- the sum of the squares of the differences, over all coefficients of the picture but the DC coefficients of intra blocks
 unfoldable pub distortion_between : Picture → Picture → ℕ
-distortion_between from to = sum_by (λ address. sum_over_places (λ i place.
-    squared_difference (coefficient_of_picture from address i place) (coefficient_of_picture to address i place))) (range_with_len 0 (rows from.seq from.coding * columns from.seq))
+distortion_between from to =
+    sum_by (λ address. difference_of (coefficient_of_picture from address) (coefficient_of_picture to address)) (range_with_len 0 (rows from.seq from.coding * columns from.seq))

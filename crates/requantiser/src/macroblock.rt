@@ -64,7 +64,7 @@ fn coarsen_blocks(
     }
 }
 
-fn block_way(coding: &PicCoding, kind: Kind, i: usize) -> BlockWay
+pub fn block_way(coding: &PicCoding, kind: Kind, i: usize) -> BlockWay
     ensures { result ≡ way_of_block coding.now kind i }
 {
     BlockWay {

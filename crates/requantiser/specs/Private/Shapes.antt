@@ -8,9 +8,11 @@ use Rattle.syntax_types.specs.declared.block.RunLevel.{RunLevel}
 use Rattle.syntax_types.specs.declared.block.TheConstants.{BLOCK_PLACES}
 use Rattle.syntax_types.specs.declared.macroblock.TheConstants.{BLOCKS}
 use Rattle.syntax_types.specs.declared.macroblock.Macroblock.{Macroblock}
+use Rattle.syntax_types.specs.declared.picture.SeqState.{SeqState}
 use Rattle.syntax_types.specs.declared.slice.Slice.{Slice}
 use Rattle.picture_grammar.specs.declared.escape.TheConstants.{LEVEL_BITS}
 use Rattle.picture_grammar.specs.Macroblock.{is_coded, no_block}
+use Rattle.requantiser.specs.Levels.{HasWeights}
 use Rattle.requantiser.specs.Slices.{end_column}
 
 -- the first coefficient isn't 0
@@ -54,3 +56,10 @@ pub record IsWalkableSlice (columns : ℕ) (slice : Slice) : Type 0 where
 -- the numbers are coefficients of a block, as inverse quantisation gives them
 abbrev pub AreCoefficients : List ℤ → Type 0
 AreCoefficients numbers = (place : ℕ) → unsigned_abs (slice_index_or numbers place (pos 0)) ≤ unsigned_abs LEAST_COEFFICIENT
+
+-- what the coefficients of a macroblock need
+pub record IsSide (seq : SeqState) (code : ℕ) (m : Macroblock) : Type 0 where
+  pub weights : HasWeights seq
+  pub code_is : IsCode code
+  pub six : length m.blocks ≡ BLOCKS
+  pub blocks : (i : ℕ) → i < BLOCKS → let block : Block = slice_index_or m.blocks i no_block in FitBlock (if m.kind.intra then 1 else 0) block.pairs.items
