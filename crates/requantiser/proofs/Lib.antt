@@ -1,5 +1,6 @@
 pub mod Blocks
 pub mod MacroblockSteps
+pub mod Made
 pub mod MappedCodes
 pub mod PairSteps
 pub mod Coefficients

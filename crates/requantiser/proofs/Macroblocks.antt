@@ -39,7 +39,7 @@ module _ (seq : SeqState) (coding : PicCoding) (kind : Kind) (code mapped : ℕ)
   abbrev pub one_block : List Block → ℕ → Block
   one_block blocks i = coarsened_block seq coding (block_way coding kind i) code mapped (slice_index_or blocks i no_block)
 
-  get_or-coarsened : (blocks : List Block) (i : ℕ) → i < BLOCKS → get_or (coarsened_blocks seq coding kind code mapped blocks) i no_block ≡ one_block blocks i
+  pub get_or-coarsened : (blocks : List Block) (i : ℕ) → i < BLOCKS → get_or (coarsened_blocks seq coding kind code mapped blocks) i no_block ≡ one_block blocks i
   get_or-coarsened blocks i below = get_or-map-range_with_len (one_block blocks) 0 BLOCKS i i no_block below (omega arith)
 
   -- blocks that are each what the walk makes are all that it makes
