@@ -41,8 +41,12 @@ times_one (suc (suc n)) b small = absurd (omega arith)
 
 level_small : (level : ℤ) (weight from to : ℕ) (intra : Bool) → unsigned_abs (coarser_level level weight from to intra) ≤ unsigned_abs level
 level_small level weight from to intra =
-    omega (arith, unsigned_abs-mul (int_signum level) (pos (coarser_size level weight from to intra)), times_one (unsigned_abs (int_signum level)) (coarser_size level weight from to intra) (signum_small level),
-    size_small level weight from to intra)
+    omega (
+      arith,
+      unsigned_abs-mul (int_signum level) (pos (coarser_size level weight from to intra)),
+      times_one (unsigned_abs (int_signum level)) (coarser_size level weight from to intra) (signum_small level),
+      size_small level weight from to intra,
+    )
 
 -- ---- the coefficients of a block
 
@@ -99,7 +103,7 @@ module _ (seq : SeqState) (coding : PicCoding) (code mapped : ℕ) (from : Macro
           let first : ℕ = first_coded from in
           let block : Block = slice_index_or from.blocks first no_block in
           let made : get_or (kept_blocks from) i no_block ≡ first_of block =
-              ap (λ n. get_or (kept_blocks from) n no_block) here ∙ get_or-set_same no_blocks first (first_of block) no_block (omega arith) in
+          ap (λ n. get_or (kept_blocks from) n no_block) here ∙ get_or-set_same no_blocks first (first_of block) no_block (omega arith) in
           let start : ℕ = if from.kind.intra then 1 else 0 in
           let zero_start : 0 ≡ start = sym (ap (λ (intra : Bool). if intra then 1 else 0) non_intra) in
           subst (λ (b : Block). FitBlock start b.pairs.items) (sym made) (subst (λ n. let b : Block = first_of block in FitBlock n b.pairs.items) zero_start

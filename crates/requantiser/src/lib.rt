@@ -11,7 +11,7 @@ mod step;
 mod version_state;
 
 pub use picture::coarsen_slices;
-pub use step::coarsen_macroblock;
+pub use step::{Coarsened, coarsen_macroblock};
 pub use version_state::VersionState;
 
 /// Bits of vbv_delay (ISO/IEC 13818-2, 6.2.3).

@@ -143,7 +143,9 @@ pub fn write_head(
     from: &Macroblock,
     to: &mut Macroblock,
 )
-    ensures { to.new ≡ with_blocks coding.now mapped before skipped from.now to.old.blocks }
+    requires { IsCode mapped }
+    ensures head { to.new ≡ with_blocks coding.now mapped before skipped from.now to.old.blocks }
+    ensures code { (code : ℕ) → to.new.code ≡ Option.Some code → IsCode code }
 {
     let pattern = if from.kind.intra {
         0

@@ -1,5 +1,6 @@
-ghost use Rattle.std.specs.Prelude.{◌≡◌, ◌<◌, ◌+◌, ℕ, Option, true, false, if◌then◌else◌, unwrap_or};
+ghost use Rattle.std.specs.Prelude.{◌≡◌, ◌<◌, ◌≤◌, ◌+◌, ◌^◌, ℕ, Option, true, false, if◌then◌else◌, unwrap_or};
 ghost use Rattle.quant_math.specs.Scales.{IsCode};
+ghost use Rattle.requantiser.specs.Distortion.{coefficient_of_macroblock, difference_of};
 ghost use Rattle.requantiser.specs.Levels.{HasWeights};
 ghost use Rattle.requantiser.specs.Macroblocks.{IsCoarserAt};
 ghost use Rattle.requantiser.specs.VersionState.{IsSpelledMacroblock, IsStateBehind, made_of};
@@ -7,14 +8,24 @@ ghost use Rattle.requantiser.specs.Private.Shapes.{HasShape, IsMeasured};
 ghost use Rattle.requantiser.specs.Private.Walk.{mapped_code, coarsened_macroblock};
 
 use crate::codes::Codes;
+use crate::difference::{Side, difference_of_one, difference_of_two};
 use crate::macroblock::{make_blocks, write_head};
 use crate::version_state::VersionState;
 use quant_math::map_code;
 use syntax_types::{Macroblock, PicCoding, SeqState};
 
-/// Writes what becomes of a macroblock that some bits spell into one that is lent, and says whether it is coded in the
-/// version; where it is skipped there, what was lent says nothing. An inner macroblock is neither the first nor the last
-/// one of its slice that isn't skipped. All skipped macroblocks of a row fit their number.
+/// What became of a macroblock in a version.
+#[derive(Clone, Copy)]
+pub struct Coarsened {
+    /// It is coded there, and not skipped.
+    pub coded: bool,
+    /// The sum of the squares of the differences of its coefficients.
+    pub distortion: u64,
+}
+
+/// Writes what becomes of a macroblock that some bits spell into one that is lent; where it is skipped in the version,
+/// what was lent says nothing. An inner macroblock is neither the first nor the last one of its slice that isn't skipped.
+/// All skipped macroblocks of a row fit their number.
 pub fn coarsen_macroblock(
     seq: &SeqState,
     coding: &PicCoding,
@@ -22,14 +33,42 @@ pub fn coarsen_macroblock(
     state: &mut VersionState,
     from: &Macroblock,
     to: &mut Macroblock,
-) -> bool
+) -> Coarsened
     requires weights { HasWeights seq.now }
     requires spelled { IsSpelledMacroblock coding.now from.now }
     requires room { state.old.skipped + from.now.skipped_before < u16.MAX }
-    ensures at { IsCoarserAt seq.now coding.now state.old.m inner state.old.source_code state.old.version_code (Option.Some from.now) (made_of result to.new) }
-    ensures behind { IsStateBehind from.now (made_of result to.new) state.old state.new }
+    ensures at { IsCoarserAt seq.now coding.now state.old.m inner state.old.source_code state.old.version_code (Option.Some from.now) (made_of result.coded to.new) }
+    ensures behind { IsStateBehind from.now (made_of result.coded to.new) state.old state.new }
+    ensures distortion { result.distortion ≡ difference_of (coefficient_of_macroblock seq.now coding.now state.new.source_code (Option.Some from.now))
+        (coefficient_of_macroblock seq.now coding.now state.new.version_code (made_of result.coded to.new)) }
+    ensures bound { result.distortion ≤ 2 ^ 41 }
 {
-    step(seq, coding, inner, state, from, to)
+    let coded = step(seq, coding, inner, state, from, to);
+    let source = Side {
+        seq,
+        coding,
+        code: state.source_code,
+        macroblock: from,
+    };
+    if coded {
+        let version = Side {
+            seq,
+            coding,
+            code: state.version_code,
+            macroblock: to,
+        };
+        let distortion = difference_of_two(source, version);
+        Coarsened {
+            coded: true,
+            distortion,
+        }
+    } else {
+        let distortion = difference_of_one(source);
+        Coarsened {
+            coded: false,
+            distortion,
+        }
+    }
 }
 
 /// The same of a macroblock of the right shape, by the walk.
@@ -62,7 +101,7 @@ pub fn step(
         return false;
     }
     write_head(coding, mapped, state.version_code, skipped, from, to);
-    state.version_code = to.code.unwrap_or(state.version_code);
+    state.version_code = code_in_force(to.code, state.version_code);
     state.skipped = 0;
     true
 }

@@ -14,7 +14,8 @@ pub struct VersionState {
     pub version_code: u8,
     /// Macroblocks that are skipped in the version since its last one, or since the start of the row.
     pub skipped: u16,
-    ghost is_code: { IsCode source_code },
+    ghost source_is_code: { IsCode source_code },
+    ghost version_is_code: { IsCode version_code },
 }
 
 impl VersionState {

@@ -13,8 +13,8 @@ loop-i-preserved c =
     let f : ℕ → ℕ → ℤ = coefficient_of_macroblock c.args.a.seq.now c.args.a.coding.now c.args.a.code (Some c.args.a.macroblock.now) in
     let below : c.loop-i.i < 6 = c.loop-i-test.true in
     let is : c.squared_differences-sum.result ≡ block_difference f (λ i place. pos 0) c.loop-i.i =
-        c.squared_differences-sum.ensures.value
-        ∙ block_difference-is f (λ i place. pos 0) c.loop-i.i c.block_coefficients-coefficients.result (replicate 64 (pos 0)) c.block_coefficients-coefficients.ensures.value (all_zeros 64) in
+    c.squared_differences-sum.ensures.value
+    ∙ block_difference-is f (λ i place. pos 0) c.loop-i.i c.block_coefficients-coefficients.result (replicate 64 (pos 0)) c.block_coefficients-coefficients.ensures.value (all_zeros 64) in
     record {
       rest = one_more_number (block_difference f (λ i place. pos 0)) c.loop-i.sum c.loop-i.i 6 c.squared_differences-sum.result _ below is c.loop-i.invariant.rest;
       bound = omega (arith, c.squared_differences-sum.ensures.bound, c.loop-i.invariant.bound);

@@ -9,8 +9,8 @@ loop-i-preserved c =
     let g : ℕ → ℕ → ℤ = coefficient_of_macroblock c.args.b.seq.now c.args.b.coding.now c.args.b.code (Some c.args.b.macroblock.now) in
     let below : c.loop-i.i < 6 = c.loop-i-test.true in
     let is : c.squared_differences-sum.result ≡ block_difference f g c.loop-i.i =
-        c.squared_differences-sum.ensures.value
-        ∙ block_difference-is f g c.loop-i.i c.block_coefficients-first.result c.block_coefficients-second.result c.block_coefficients-first.ensures.value c.block_coefficients-second.ensures.value in
+    c.squared_differences-sum.ensures.value
+    ∙ block_difference-is f g c.loop-i.i c.block_coefficients-first.result c.block_coefficients-second.result c.block_coefficients-first.ensures.value c.block_coefficients-second.ensures.value in
     record {
       rest = one_more_number (block_difference f g) c.loop-i.sum c.loop-i.i 6 c.squared_differences-sum.result _ below is c.loop-i.invariant.rest;
       bound = omega (arith, c.squared_differences-sum.ensures.bound, c.loop-i.invariant.bound);
