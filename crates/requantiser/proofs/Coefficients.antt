@@ -1,9 +1,9 @@
 -- The coefficients of a block, one after the other.
-use Rattle.std.proofs.Common.{◌≡◌, ℕ, zero, suc, ◌+◌, ◌<◌, ◌≤◌, ◌^◌, ℤ, pos, unsigned_abs, ◌⊎◌, List, [], ◌∷◌, Bool, true, false, refl, sym, ◌∙◌, ap, subst, inl, inr, length, drop, get_or, add-one, drop-cons, arith}
+use Rattle.std.proofs.Common.{◌≡◌, ℕ, zero, suc, ◌+◌, ◌<◌, ◌≤◌, ℤ, pos, unsigned_abs, ◌⊎◌, List, [], ◌∷◌, Bool, true, false, refl, sym, ◌∙◌, ap, subst, inl, inr, length, get_or, arith}
 use Rattle.std.specs.Prelude.{replicate, slice_set, int_div, ◌*ℤ◌, ◌+ℤ◌}
 use Rattle.std.proofs.lemmas.Bool.{cases_order, cases_lt}
 use Rattle.std.proofs.lemmas.Int.{ints}
-use Rattle.std.proofs.lemmas.List.{drop_all, length-set, get_or-set_same, get_or-set_other}
+use Rattle.std.proofs.lemmas.List.{length-set, get_or-set_same, get_or-set_other}
 use Rattle.quant_math.specs.Levels.{coefficient_of, saturation_of}
 use Rattle.syntax_types.specs.declared.block.Block.{Block}
 use Rattle.syntax_types.specs.declared.block.BlockWay.{BlockWay}
@@ -11,7 +11,7 @@ use Rattle.syntax_types.specs.declared.block.RunLevel.{RunLevel}
 use Rattle.syntax_types.specs.declared.picture.PicCoding.{PicCoding}
 use Rattle.syntax_types.specs.declared.picture.SeqState.{SeqState}
 use Rattle.requantiser.specs.Levels.{coefficient_at, level_at, scale_of, weight_at}
-use Rattle.requantiser.specs.Private.Shapes.{FitBlock, AreCoefficients}
+use Rattle.requantiser.specs.Private.Shapes.{AreCoefficients}
 use Rattle.requantiser.proofs.Blocks.{level_from, level_here, level_there, level_before}
 
 zero_product : (n : ℕ) → pos 0 *ℤ pos n ≡ pos 0

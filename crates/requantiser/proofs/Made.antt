@@ -1,26 +1,22 @@
 -- What the walk makes of a macroblock stands within its blocks too.
-use Rattle.std.proofs.Common.{◌≡◌, ◌≢◌, ℕ, zero, suc, ◌+◌, ◌*◌, ◌^◌, ◌<◌, ◌≤◌, min, ℤ, pos, negsuc, unsigned_abs, Option, Some, None, List, [], ◌∷◌, Bool, true, false, refl, sym, ◌∙◌, ap, subst, ◌⊎◌, inl, inr, arith, length, get_or, option_map}
-use Rattle.std.specs.Prelude.{◌==◌, ◌&&◌, not, ◌*ℤ◌, slice_index_or, slice_set, if◌then◌else◌}
+use Rattle.std.proofs.Common.{◌≡◌, ℕ, zero, suc, ◌+◌, ◌*◌, ◌<◌, ◌≤◌, ℤ, pos, negsuc, unsigned_abs, Option, Some, None, List, [], ◌∷◌, Bool, true, false, refl, sym, ◌∙◌, ap, subst, ◌⊎◌, inl, inr, arith, length, get_or, option_map}
+use Rattle.std.specs.Prelude.{◌==◌, ◌&&◌, not, slice_index_or, if◌then◌else◌}
 use Rattle.std.specs.Int.{int_signum}
-use Rattle.std.specs.List.{range_with_len}
 use Rattle.std.proofs.lemmas.Bool.{cases_Bool, cases_eq, and_parts, not-true}
-use Rattle.std.proofs.lemmas.Int.{ints, unsigned_abs-mul}
+use Rattle.std.proofs.lemmas.Int.{unsigned_abs-mul}
 use Rattle.std.proofs.lemmas.List.{length-set, get_or-set_same, get_or-set_other, get_or-replicate}
 use Rattle.std.proofs.lemmas.List.FromFn.{length-map-range_with_len}
 use Rattle.std.proofs.lemmas.Option.{none-some, same_Some}
 use Rattle.quant_math.specs.Levels.{coarser_level, coarser_size}
 use Rattle.syntax_types.specs.declared.block.Block.{Block}
-use Rattle.syntax_types.specs.declared.block.BlockWay.{BlockWay}
 use Rattle.syntax_types.specs.declared.block.RunLevel.{RunLevel}
 use Rattle.syntax_types.specs.declared.macroblock.TheConstants.{BLOCKS}
-use Rattle.syntax_types.specs.declared.macroblock.Kind.{Kind}
 use Rattle.syntax_types.specs.declared.macroblock.Macroblock.{Macroblock}
 use Rattle.syntax_types.specs.declared.picture.PicCoding.{PicCoding}
 use Rattle.syntax_types.specs.declared.picture.SeqState.{SeqState}
-use Rattle.picture_grammar.specs.Block.{first_place}
 use Rattle.picture_grammar.specs.Macroblock.{block_way, no_block}
-use Rattle.requantiser.specs.Blocks.{no_blocks, block_of_one}
-use Rattle.requantiser.specs.Private.Shapes.{FitBlock, IsMeasured, IsWalkable}
+use Rattle.requantiser.specs.Blocks.{no_blocks}
+use Rattle.requantiser.specs.Private.Shapes.{FitBlock, IsMeasured}
 use Rattle.requantiser.specs.Private.Walk.{mapped_code, new_level, coarsened_pairs, coarsened_block, coarsened_blocks, first_of, first_coded, kept_blocks, is_coded_without_motion, are_empty, with_blocks, made_blocks, coarsened_macroblock}
 use Rattle.requantiser.proofs.Macroblocks.{get_or-coarsened, coarsened_macroblock-made}
 

@@ -1,6 +1,6 @@
 -- Macroblocks that some bits spell have the shape that the walk needs.
-use Rattle.std.proofs.Common.{◌≡◌, ◌≢◌, ℕ, zero, suc, ℤ, pos, negsuc, unsigned_abs, ◌+◌, ◌-◌, ◌*◌, ◌^◌, ◌<◌, ◌≤◌, ◌&&◌, ◌⊎◌, Option, Some, None, List, [], ◌∷◌, ◌++◌, Bool, true, false, nat_lt, refl, sym, ◌∙◌, ap, subst, inl, inr, length, get_or, add-zero, zero-add, arith}
-use Rattle.std.specs.Prelude.{◌==◌, ◌||◌, not, find, is_some, slice_index_or, if◌then◌else◌}
+use Rattle.std.proofs.Common.{◌≡◌, ◌≢◌, ℕ, zero, suc, ℤ, pos, unsigned_abs, ◌+◌, ◌-◌, ◌^◌, ◌<◌, ◌&&◌, Option, Some, None, List, [], ◌∷◌, ◌++◌, Bool, true, false, nat_lt, refl, sym, ◌∙◌, ap, subst, inl, inr, length, get_or, add-zero, zero-add, arith}
+use Rattle.std.specs.Prelude.{◌==◌, ◌||◌, not, find, is_some, if◌then◌else◌}
 use Rattle.std.specs.Int.{bit_at}
 use Rattle.std.specs.List.{range_with_len}
 use Rattle.std.proofs.lemmas.Bool.{and_parts, cases_lt, lt-ltb, le-ltb, ltb-true, eq-eqb, cases_eq, eqb-false, not-true}
@@ -23,7 +23,7 @@ use Rattle.syntax_types.specs.declared.macroblock.Kind.{Kind}
 use Rattle.syntax_types.specs.declared.macroblock.Macroblock.{Macroblock}
 use Rattle.syntax_types.specs.declared.picture.PicCoding.{PicCoding}
 use Rattle.picture_grammar.specs.Refusal.Refusal.{NoCode, TooMany, BadEscape, BadPattern}
-use Rattle.picture_grammar.specs.Grammar.{Grammar, SpellsList, optional, when, each, Next}
+use Rattle.picture_grammar.specs.Grammar.{Grammar, SpellsList, optional, when, each}
 use Rattle.picture_grammar.specs.Grammar.Next.{more, last}
 use Rattle.picture_grammar.specs.Element.{rule, element, vlclbf}
 use Rattle.picture_grammar.specs.Block.{dc_coefficient, Coefficient, CoefficientCode, after_code, is_level, signed, escape_level, is_within, next_place, coefficient_table, coefficient, block, first_place}
@@ -31,7 +31,7 @@ use Rattle.picture_grammar.specs.Block.Coefficient.{end_of_block, run_size, esca
 use Rattle.picture_grammar.specs.Macroblock.{block_way, is_coded, no_block, quantiser_scale_code, macroblock}
 use Rattle.picture_grammar.proofs.Codes.{coefficient_code-listed}
 use Rattle.requantiser.specs.VersionState.{IsSpelledMacroblock}
-use Rattle.requantiser.specs.Private.Shapes.{BeginsWithLevel, FitBlock, HasShape, IsMeasured, IsWalkable}
+use Rattle.requantiser.specs.Private.Shapes.{BeginsWithLevel, FitBlock, IsWalkable}
 use Rattle.requantiser.proofs.Ranges.{IsFirst, find-some}
 
 -- ---- a coefficient

@@ -1,9 +1,8 @@
 -- Heads that some bits spell leave weights in force that aren't 0, and at most 120 columns.
-use Rattle.std.proofs.Common.{◌≡◌, ℕ, zero, suc, ◌+◌, ◌-◌, ◌*◌, ◌/◌, ◌^◌, ◌<◌, ◌≤◌, Option, Some, None, List, [], ◌∷◌, ◌++◌, Bool, true, false, refl, sym, ◌∙◌, ap, subst, inl, inr, length, get_or, add-zero, arith, unwrap_or}
-use Rattle.std.specs.Prelude.{◌==◌, ◌&&◌, not, nat_le, nat_lt, fold, map, slice_index, position, if◌then◌else◌}
+use Rattle.std.proofs.Common.{◌≡◌, ℕ, zero, suc, ◌^◌, ◌<◌, ◌≤◌, Option, Some, None, List, [], ◌∷◌, ◌++◌, Bool, true, false, refl, sym, ◌∙◌, ap, subst, inl, inr, length, arith, unwrap_or}
+use Rattle.std.specs.Prelude.{◌==◌, ◌&&◌, not, nat_le, nat_lt, fold, map, slice_index, position}
 use Rattle.std.specs.List.{AllByRecursion, list_all, range_with_len}
 use Rattle.std.proofs.lemmas.Bool.{and_parts, ltb-true, leb-true, eqb-false, not-true}
-use Rattle.std.proofs.lemmas.List.{length-map}
 use Rattle.std.proofs.lemmas.List.FromFn.{length-map-range_with_len}
 use Rattle.std.proofs.lemmas.List.Quantifiers.{position-Some}
 use Rattle.std.proofs.lemmas.Option.{none-some, same_Some}
@@ -11,11 +10,11 @@ use Rattle.quant_math.specs.Matrices.{default_weights}
 use Rattle.quant_math.specs.Scans.{zigzag_scan}
 use Rattle.syntax_types.specs.declared.picture.PicCoding.{PicCoding}
 use Rattle.syntax_types.specs.declared.picture.SeqState.{SeqState}
-use Rattle.picture_grammar.specs.declared.limits.TheConstants.{WIDTH_LEAST, WIDTH_MOST, HEIGHT_LEAST, HEIGHT_MOST, MACROBLOCK_SIZE}
+use Rattle.picture_grammar.specs.declared.limits.TheConstants.{WIDTH_LEAST, WIDTH_MOST}
 use Rattle.picture_grammar.specs.declared.start_codes.TheConstants.{EXTENSION, QUANT_MATRIX}
 use Rattle.picture_grammar.specs.Refusal.Refusal.{BadHeader}
 use Rattle.picture_grammar.specs.Element.{uimsbf, rule}
-use Rattle.picture_grammar.specs.Grammar.{Grammar, SpellsList, optional, when, repeated, many, Next}
+use Rattle.picture_grammar.specs.Grammar.{SpellsList, optional, when, repeated}
 use Rattle.picture_grammar.specs.Grammar.Next.{more, last}
 use Rattle.picture_grammar.specs.Headers.{Loaded, is_not_zero, is_from_to, matrix_if_loaded, in_raster_order, matrix_or, sequence_header, quant_matrix_extension, with_loaded}
 use Rattle.picture_grammar.specs.Head.{no_matrix, extension, extension_or_user_data, sequence_headers, sequence_part, picture_part, head}

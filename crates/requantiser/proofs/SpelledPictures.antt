@@ -1,8 +1,7 @@
 -- Lawful pictures have what the walk needs.
-use Rattle.std.proofs.Common.{◌≡◌, ℕ, ◌+◌, ◌<◌, ◌≤◌, ◌-◌, Option, Some, None, List, [], ◌∷◌, ◌++◌, Bool, true, false, refl, sym, ◌∙◌, ap, subst, inl, inr, arith}
+use Rattle.std.proofs.Common.{◌≡◌, ℕ, ◌-◌, Option, Some, List, [], ◌∷◌, ◌++◌, Bool, true, false, sym, ◌∙◌, ap, subst, inl, inr}
 use Rattle.std.specs.Prelude.{map}
 use Rattle.std.specs.List.{AllByRecursion, AllZip}
-use Rattle.std.proofs.lemmas.Option.{none-some, same_Some}
 use Rattle.bit_lists.specs.Fields.{bit_list}
 use Rattle.syntax_types.specs.declared.macroblock.Macroblock.{Macroblock}
 use Rattle.syntax_types.specs.declared.picture.PicCoding.{PicCoding}
@@ -10,7 +9,7 @@ use Rattle.syntax_types.specs.declared.picture.Picture.{Picture}
 use Rattle.syntax_types.specs.declared.picture.SeqState.{SeqState}
 use Rattle.syntax_types.specs.declared.slice.Slice.{Slice}
 use Rattle.picture_grammar.specs.declared.start_codes.TheConstants.{FIRST_SLICE}
-use Rattle.picture_grammar.specs.Grammar.{Grammar, SpellsList, optional, Next}
+use Rattle.picture_grammar.specs.Grammar.{SpellsList, optional}
 use Rattle.picture_grammar.specs.Grammar.Next.{more, last}
 use Rattle.picture_grammar.specs.Picture.{whole_slice, slice_or_end, next_slice, picture_unit, IsLawful, MayPrecede}
 use Rattle.picture_grammar.specs.Slice.{columns}
@@ -19,7 +18,7 @@ use Rattle.requantiser.specs.Slices.{IsCoarserSlice}
 use Rattle.requantiser.specs.Private.Shapes.{HasShape, AreWalkable, IsWalkableSlice}
 use Rattle.requantiser.specs.Private.Walk.{coarsened_slice}
 use Rattle.requantiser.proofs.Slices.{coarsened_slice-is}
-use Rattle.requantiser.proofs.SpelledHeads.{IsUsable, head-usable, columns-few}
+use Rattle.requantiser.proofs.SpelledHeads.{IsUsable, head-usable}
 use Rattle.requantiser.proofs.SpelledSlices.{spelled_slice-walkable}
 
 module _ (seq : SeqState) (coding : PicCoding) where

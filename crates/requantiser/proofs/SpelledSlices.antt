@@ -1,24 +1,22 @@
 -- Slices that some bits spell have the shape that the walk needs.
-use Rattle.std.proofs.Common.{◌≡◌, ℕ, zero, suc, ◌+◌, ◌-◌, ◌*◌, ◌<◌, ◌≤◌, ◌⊎◌, min, Option, Some, None, List, [], ◌∷◌, ◌++◌, Bool, true, false, refl, sym, ◌∙◌, ap, subst, inl, inr, length, add-zero, arith, append_assoc, append-nil}
+use Rattle.std.proofs.Common.{◌≡◌, ℕ, ◌+◌, ◌-◌, ◌*◌, ◌<◌, ◌≤◌, min, Some, List, [], ◌∷◌, ◌++◌, Bool, true, false, refl, sym, ap, subst, inl, inr, length, arith, append_assoc, append-nil}
 use Rattle.std.specs.Prelude.{◌==◌, ◌&&◌, not, nat_le, nat_lt, if◌then◌else◌}
-use Rattle.std.specs.List.{sum_by, AllByRecursion}
+use Rattle.std.specs.List.{sum_by}
 use Rattle.std.proofs.lemmas.Bool.{and_parts, ltb-true, leb-true}
 use Rattle.std.proofs.lemmas.List.Sums.{sum_by-append, sum_by-cons}
-use Rattle.bit_lists.specs.Bits.{number_of}
 use Rattle.prefix_codes.specs.declared.symbol.TheConstants.{ADDRESS_ESCAPE}
 use Rattle.prefix_codes.specs.declared.table_name.TableName.TheVariants.{Address}
 use Rattle.prefix_codes.specs.TableName.{code_in}
 use Rattle.prefix_codes.specs.MacroblockTables.{macroblock_address_increment}
 use Rattle.prefix_codes.proofs.TableLemmas.{code_in-passes}
-use Rattle.quant_math.specs.Scales.{IsCode}
 use Rattle.syntax_types.specs.declared.macroblock.Macroblock.{Macroblock}
 use Rattle.syntax_types.specs.declared.picture.PicCoding.{PicCoding}
 use Rattle.syntax_types.specs.declared.picture.SeqState.{SeqState}
 use Rattle.syntax_types.specs.declared.picture.TheConstants.{I_PICTURE}
 use Rattle.syntax_types.specs.declared.slice.Slice.{Slice}
-use Rattle.picture_grammar.specs.Grammar.{Grammar, SpellsList, Next}
+use Rattle.picture_grammar.specs.Grammar.{SpellsList, Next}
 use Rattle.picture_grammar.specs.Grammar.Next.{more, last}
-use Rattle.picture_grammar.specs.Macroblock.{address_code, address_increment, most_increment, escape_increment, quantiser_scale_code, macroblock}
+use Rattle.picture_grammar.specs.Macroblock.{address_code, address_increment, most_increment, escape_increment, macroblock}
 use Rattle.picture_grammar.specs.Slice.{columns, columns_left, next_macroblock, slice}
 use Rattle.requantiser.specs.Private.Shapes.{IsWalkable, AreWalkable, IsWalkableSlice}
 use Rattle.requantiser.proofs.MacroblockSteps.{span_of}

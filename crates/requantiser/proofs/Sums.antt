@@ -1,6 +1,6 @@
 -- Sums over numbers from one on.
-use Rattle.std.proofs.Common.{◌≡◌, ℕ, zero, suc, ◌+◌, ◌-◌, ◌<◌, ◌≤◌, ◌*◌, ℤ, pos, List, get_or, refl, sym, ◌∙◌, ap, ap₂, arith}
-use Rattle.std.specs.List.{sum_by, range_with_len}
+use Rattle.std.proofs.Common.{◌≡◌, ℕ, zero, suc, ◌+◌, ◌-◌, ◌<◌, ◌≤◌, ℤ, pos, List, get_or, refl, sym, ◌∙◌, ap, ap₂, arith}
+use Rattle.std.specs.List.{range_with_len}
 use Rattle.std.proofs.lemmas.List.Sums.{sum_by-cons}
 use Rattle.requantiser.specs.Distortion.{squared_difference, difference_of}
 use Rattle.requantiser.specs.Private.Sums.{sum_from}

@@ -1,4 +1,4 @@
-use Rattle.std.proofs.Common.{◌≡◌, ◌<◌, ◌≤◌, ◌+◌, ◌++◌, [], rules, SFits, ℕ, pos, w16, to_z, of_z, length, drop, get_or, refl, sym, ◌∙◌, ap, ap₂, subst, arith}
+use Rattle.std.proofs.Common.{◌≡◌, ◌<◌, ◌≤◌, ◌+◌, ◌++◌, rules, SFits, ℕ, pos, w16, to_z, of_z, length, drop, get_or, sym, ◌∙◌, ap, ap₂, subst, arith}
 use Rattle.std.proofs.lemmas.Int.{to_z-of_z}
 use Rattle.syntax_types.specs.declared.block.RunLevel.{RunLevel}
 use Rattle.picture_grammar.specs.Block.{first_place}

@@ -1,12 +1,11 @@
-use Rattle.std.proofs.Common.{rules, ◌≡◌, ◌<◌, ◌≤◌, ◌+◌, ℕ, ℤ, SFits, pos, unsigned_abs, w16, to_z, of_z, length, List, ◌∷◌, drop, drop-cons, add-one, get_or, refl, sym, ◌∙◌, ap, subst, arith}
+use Rattle.std.proofs.Common.{rules, ◌≡◌, ◌<◌, ◌≤◌, ◌+◌, ℤ, SFits, pos, w16, to_z, of_z, length, ◌∷◌, drop, drop-cons, add-one, get_or, refl, sym, ◌∙◌, ap, subst, arith}
 use Rattle.std.specs.Prelude.{slice_set, replicate}
 use Rattle.std.proofs.lemmas.Int.{to_z-of_z}
 use Rattle.syntax_types.specs.declared.block.RunLevel.{RunLevel}
 use Rattle.picture_grammar.specs.Block.{first_place}
-use Rattle.requantiser.specs.Levels.{level_at}
 use Rattle.requantiser.specs.Private.Shapes.{FitBlock}
 use Rattle.requantiser.proofs.Blocks.{level_from}
-use Rattle.requantiser.proofs.Coefficients.{StandSoFar, coefficient, one_more_coefficient, all_coefficients, no_coefficients, all_zeros}
+use Rattle.requantiser.proofs.Coefficients.{StandSoFar, coefficient, one_more_coefficient, no_coefficients, all_zeros}
 use Rattle.requantiser.proofs.PairSteps.{one_fits, first_place-flag, first_place-most, held_level}
 use Rattle.requantiser.proofs.difference.coefficients_of.Goals as goal
 

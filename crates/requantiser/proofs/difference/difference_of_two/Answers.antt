@@ -1,4 +1,4 @@
-use Rattle.std.proofs.Common.{◌≡◌, ◌+◌, ◌*◌, ◌^◌, ◌≤◌, ◌<◌, ℕ, ℤ, Some, ◌∙◌, arith}
+use Rattle.std.proofs.Common.{◌≡◌, ◌<◌, ℕ, ℤ, Some, ◌∙◌, arith}
 use Rattle.requantiser.specs.Distortion.{coefficient_of_macroblock}
 use Rattle.requantiser.proofs.Sums.{block_difference, block_difference-is, difference_of-blocks, one_more_number, no_more_number}
 use Rattle.requantiser.proofs.difference.difference_of_two.Goals as goal

@@ -1,4 +1,4 @@
-use Rattle.std.proofs.Common.{◌≡◌, ◌+◌, ◌*◌, ◌^◌, ◌≤◌, ◌<◌, ℕ, ℤ, pos, unsigned_abs, w16, to_z, of_z, get_or, ap₂, ◌∙◌, arith}
+use Rattle.std.proofs.Common.{◌≡◌, ◌≤◌, ◌<◌, ℤ, pos, unsigned_abs, w16, to_z, of_z, get_or, ap₂, ◌∙◌, arith}
 use Rattle.std.proofs.lemmas.Int.{to_z-of_z, fits_signed_from_abs}
 use Rattle.requantiser.specs.Distortion.{squared_difference}
 use Rattle.requantiser.proofs.Sums.{one_more_number, no_more_number}

@@ -1,4 +1,4 @@
-use Rattle.std.proofs.Common.{◌≡◌, ◌≤◌, ◌+◌, ◌-◌, ◌*◌, ◌^◌, ℕ, pos, get_or}
+use Rattle.std.proofs.Common.{◌≡◌, ◌≤◌, ◌+◌, ◌-◌, ◌*◌, ◌^◌, pos, get_or}
 use Rattle.requantiser.specs.Distortion.{squared_difference}
 use Rattle.requantiser.specs.Private.Sums.{sum_from}
 use Rattle.requantiser.proofs.difference.squared_differences.Given as goal

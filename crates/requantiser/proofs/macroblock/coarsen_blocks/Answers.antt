@@ -1,9 +1,7 @@
-use Rattle.std.proofs.Common.{◌≡◌, ◌+◌, ◌<◌, ◌≤◌, ℕ, ◌⊎◌, inl, inr, length, get_or, sym, ◌∙◌, ap, ap₂, arith}
+use Rattle.std.proofs.Common.{get_or, ◌∙◌, ap, arith}
 use Rattle.std.proofs.lemmas.List.{length-set}
-use Rattle.syntax_types.specs.declared.block.Block.{Block}
-use Rattle.picture_grammar.specs.Macroblock.{no_block}
 use Rattle.requantiser.specs.Private.Walk.{coarsened_block}
-use Rattle.requantiser.proofs.Macroblocks.{one_block, all_blocks, one_more_block}
+use Rattle.requantiser.proofs.Macroblocks.{all_blocks, one_more_block}
 use Rattle.requantiser.proofs.macroblock.coarsen_blocks.Goals as goal
 
 pub loop-i-init : goal.loop-i-init

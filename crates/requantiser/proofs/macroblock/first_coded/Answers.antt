@@ -1,4 +1,4 @@
-use Rattle.std.proofs.Common.{◌≡◌, ◌<◌, ◌≤◌, ℕ, Option, Some, None, unwrap_or, sym, ◌∙◌, ap, arith}
+use Rattle.std.proofs.Common.{ℕ, Option, unwrap_or, sym, ◌∙◌, ap, arith}
 use Rattle.picture_grammar.specs.Macroblock.{is_coded}
 use Rattle.requantiser.proofs.Ranges.{find-first, find-nothing}
 use Rattle.requantiser.proofs.macroblock.first_coded.Goals as goal

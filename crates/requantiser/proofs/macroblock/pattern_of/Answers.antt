@@ -1,7 +1,5 @@
-use Rattle.std.proofs.Common.{◌≡◌, ◌<◌, ◌≤◌, length, get_or, sym, ◌∙◌, ap, arith}
-use Rattle.std.specs.Prelude.{◌==◌}
+use Rattle.std.proofs.Common.{◌≡◌, ◌<◌, ◌≤◌, length, get_or, arith}
 use Rattle.syntax_types.specs.declared.block.Block.{Block}
-use Rattle.picture_grammar.specs.Macroblock.{no_block}
 use Rattle.requantiser.proofs.Patterns.{bit_of, bit_of-code, bit_of-most, one_block_bit, one_bit_more, only_pattern}
 use Rattle.requantiser.proofs.macroblock.pattern_of.Goals as goal
 

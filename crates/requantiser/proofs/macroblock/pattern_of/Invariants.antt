@@ -1,4 +1,4 @@
-use Rattle.std.proofs.Common.{◌≡◌, ◌<◌, ◌≤◌, ◌+◌, ◌-◌, ◌*◌, ◌^◌, drop}
+use Rattle.std.proofs.Common.{◌≡◌, ◌<◌, ◌+◌, ◌-◌, ◌*◌, ◌^◌, drop}
 use Rattle.requantiser.specs.Macroblocks.{pattern_of}
 use Rattle.requantiser.proofs.macroblock.pattern_of.Given as goal
 

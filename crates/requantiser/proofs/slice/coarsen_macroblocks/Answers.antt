@@ -1,5 +1,5 @@
-use Rattle.std.proofs.Common.{◌≡◌, ◌+◌, ◌<◌, ◌++◌, ℕ, Option, List, Bool, sym, ◌∙◌, ap, ap₂, subst, arith, length, drop, get_or, unwrap_or}
-use Rattle.std.specs.Prelude.{◌==◌, ◌&&◌, not, is_some, option_and_then, if◌then◌else◌}
+use Rattle.std.proofs.Common.{◌≡◌, ◌+◌, ◌<◌, ◌++◌, ℕ, Option, ◌∙◌, ap, ap₂, arith, length, drop, unwrap_or}
+use Rattle.std.specs.Prelude.{◌==◌, ◌&&◌, not, is_some}
 use Rattle.std.specs.Option.{option_to_list}
 use Rattle.syntax_types.specs.declared.macroblock.Macroblock.{Macroblock}
 use Rattle.requantiser.specs.Private.Walk.{coarsened_macroblock, coarsened_macroblocks}

@@ -1,4 +1,4 @@
-use Rattle.std.proofs.Common.{◌+◌, Some, None, sym, subst, unwrap_or}
+use Rattle.std.proofs.Common.{◌+◌, Some, sym, subst, unwrap_or}
 use Rattle.requantiser.specs.Macroblocks.{IsCoarserAt}
 use Rattle.requantiser.specs.Private.Shapes.{IsWalkable}
 use Rattle.requantiser.proofs.Made.{FitBlocks, made-fits}
@@ -20,8 +20,8 @@ difference_of_two-distortion-requires-clause-first c =
 pub difference_of_two-distortion-requires-clause-second : goal.difference_of_two-distortion-requires-clause-second
 difference_of_two-distortion-requires-clause-second c =
     let fits : FitBlocks c.step-coded.new.to.kind.intra c.step-coded.new.to.blocks =
-        made-fits c.args.seq.now c.args.coding.now c.args.state.now.m c.args.inner (unwrap_or c.args.from.now.code c.args.state.now.source_code) c.args.state.now.version_code
-        (c.args.state.now.skipped + c.args.from.now.skipped_before) c.args.from.now c.step-coded.new.to (walkable c.args.coding.now c.args.from.now c.requires.spelled).measured c.if-coded.ensures.made in
+    made-fits c.args.seq.now c.args.coding.now c.args.state.now.m c.args.inner (unwrap_or c.args.from.now.code c.args.state.now.source_code) c.args.state.now.version_code
+    (c.args.state.now.skipped + c.args.from.now.skipped_before) c.args.from.now c.step-coded.new.to (walkable c.args.coding.now c.args.from.now c.requires.spelled).measured c.if-coded.ensures.made in
     record { weights = c.requires.weights; code_is = c.step-coded.new.state.version_is_code; six = fits.six; blocks = fits.each }
 
 pub difference_of_one-distortion-requires : goal.difference_of_one-distortion-requires

@@ -1,5 +1,4 @@
-use Rattle.std.proofs.Common.{◌≡◌, ◌+◌, ℕ, Option, Some, List, ◌∙◌, ap}
-use Rattle.syntax_types.specs.declared.block.Block.{Block}
+use Rattle.std.proofs.Common.{◌≡◌, ◌+◌, ℕ, Some, ◌∙◌, ap}
 use Rattle.syntax_types.specs.declared.macroblock.Macroblock.{Macroblock}
 use Rattle.requantiser.specs.Private.Walk.{made_blocks, coarsened_macroblock}
 use Rattle.requantiser.proofs.Macroblocks.{coarsened_macroblock-made}
