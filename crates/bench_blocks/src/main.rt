@@ -7,10 +7,10 @@
 ghost use Rattle.std.specs.Prelude.{◌≤◌, ◌^◌, length};
 
 use bit_cursor::BitReader;
-use block_coeffs::read_block;
+use block_coeffs::read_block_into;
 use shelf_io::{FileShelf, SliceSource, read_file};
 use std::{env, io};
-use syntax_types::BlockWay;
+use syntax_types::{Block, BlockWay};
 
 /// The most bytes that are read of a file.
 const FILE_BYTES: u64 = 1 << 30;
@@ -60,12 +60,23 @@ fn count(bytes: &[u8], way: BlockWay) -> Counts
     };
     let mut source = SliceSource::new(bytes);
     let mut reader = BitReader::new(&mut source);
+    let mut block = Block::default();
     for _ in 0..u64::MAX {
-        let Ok(block) = read_block(&mut reader, way) else {
+        if !reads_next(&mut reader, way, &mut block) {
             break;
-        };
+        }
         counts.blocks = counts.blocks.wrapping_add(1);
         counts.coefficients = counts.coefficients.wrapping_add(block.pairs.len() as u64);
     }
     counts
+}
+
+/// Reads the next block, and says whether there was one. It isn't inlined, so that the block is filled as for any caller.
+#[inline(never)]
+fn reads_next(
+    reader: &mut BitReader<'_, SliceSource<'_>>,
+    way: BlockWay,
+    into: &mut Block,
+) -> bool {
+    read_block_into(reader, way, into).is_ok()
 }

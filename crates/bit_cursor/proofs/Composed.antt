@@ -14,7 +14,6 @@ use Rattle.bit_cursor.specs.declared.bit_writer.BitWriter.{BitWriter}
 use Rattle.bit_cursor.specs.BitWriter.{Gets, GetsFront, AddsBits, Writes, told_by, waiting_in, is_stopped, sink_of}
 use Rattle.bit_cursor.proofs.Gets.{gets_none}
 
-
 -- what was put in two calls, one after the other
 pub gets_twice : {told mid after : Told} {waited first waits then still : List ℕ} → Gets told mid waited first waits → Gets mid after waits then still → Gets told after waited (first ++ then) still
 gets_twice {told} {waited} {first} {waits} {then} {still} a b = record {

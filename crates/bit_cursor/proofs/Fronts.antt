@@ -1,5 +1,5 @@
 -- What is given and shown of the bits that are left, by the word that holds the first of them.
-use Rattle.std.proofs.Common.{◌≡◌, ℕ, ◌+◌, ◌-◌, ◌*◌, ◌/◌, ◌%◌, ◌^◌, ◌≤◌, List, ◌++◌, Option, None, Some, IfSome, length, take, replicate, sym, ap, subst, ◌∙◌, arith, append-nil}
+use Rattle.std.proofs.Common.{◌≡◌, ℕ, ◌+◌, ◌-◌, ◌*◌, ◌/◌, ◌%◌, ◌^◌, ◌<◌, ◌≤◌, List, ◌++◌, Option, None, Some, IfSome, length, take, replicate, sym, ap, subst, ◌∙◌, arith, append-nil}
 use Rattle.std.proofs.Math.Nat.{mod-eq_of_lt, mod-lt}
 use Rattle.std.proofs.Math.Seq.{take-append-add}
 use Rattle.std.proofs.lemmas.List.{length-append, take_all, take-append-le, take-replicate, nil_from_length}
@@ -24,16 +24,13 @@ front_is n m w rest = record {
   front = held_front n m w rest;
 }
 
-front_shows : (n m w : ℕ) (rest : List ℕ) → Shows n (bits_of (n + m) w ++ rest) (w / 2 ^ m % 2 ^ n) n
-front_shows n m w rest =
-    let bits = bits_of (n + m) w ++ rest in
-    let part = w / 2 ^ m % 2 ^ n in
-    let long : n ≤ length bits = omega (arith, length-append (bits_of (n + m) w) rest, length-bits_of (n + m) w) in
-    record {
-      known = omega arith;
-      window = sym (ap number_of (take-append-le n bits (replicate n 0) long) ∙ number_of-front n m w rest);
-      front = take_all n (bits_of n part) (omega (arith, length-bits_of n part)) ∙ sym (held_front n m w rest);
-    }
+-- a number in the first bits shows them
+front_shows : (n number : ℕ) (bits : List ℕ) → IsFront n bits number → Shows n bits number n
+front_shows n number bits is = record {
+  known = omega (arith, is.enough);
+  window = is.value ∙ ap number_of (sym (take-append-le n bits (replicate n 0) is.enough));
+  front = take_all n (bits_of n number) (omega (arith, length-bits_of n number)) ∙ sym is.front;
+}
 
 -- fewer bits are left than are shown
 few_show : (h m w : ℕ) → Shows (h + m) (bits_of h w) ((w % 2 ^ h) * 2 ^ m) h
@@ -61,21 +58,26 @@ told_front (Some bytes) bits h n w le is =
     subst (λ o. IfSome o (λ bs. IsFront n bs (w / 2 ^ (h - n) % 2 ^ n))) is
     (subst (λ k. IsFront n (bits_of k w ++ bit_list bytes) (w / 2 ^ (h - n) % 2 ^ n)) whole (front_is n (h - n) w (bit_list bytes)))
 
-pub told_shown : (told bits : Option (List ℕ)) (h n w : ℕ) → n ≤ h → told_bits told h w ≡ bits → IfSome bits (λ bs. Shows n bs (w / 2 ^ (h - n) % 2 ^ n) n)
-told_shown None bits h n w le is = subst (λ o. IfSome o (λ bs. Shows n bs (w / 2 ^ (h - n) % 2 ^ n) n)) is tt
-told_shown (Some bytes) bits h n w le is =
-    let whole : n + (h - n) ≡ h = omega arith in
-    subst (λ o. IfSome o (λ bs. Shows n bs (w / 2 ^ (h - n) % 2 ^ n) n)) is
-    (subst (λ k. Shows n (bits_of k w ++ bit_list bytes) (w / 2 ^ (h - n) % 2 ^ n) n) whole (front_shows n (h - n) w (bit_list bytes)))
+pub told_whole : (told : Option (List ℕ)) (P : List ℕ → Type 0) (n number : ℕ) → IfSome told (λ bits. IsFront n bits number) → IfSome told (λ bits. P bits → Shows n bits number n)
+told_whole None P n number is = tt
+told_whole (Some bits) P n number is = λ any. front_shows n number bits is
 
 -- the held bits are all that are left
-pub told_few : (told bits : Option (List ℕ)) (h n w : ℕ) → h ≤ n → told_bits told h w ≡ bits → IfSome bits (λ bs. length bs ≡ h) → IfSome bits (λ bs. Shows n bs ((w % 2 ^ h) * 2 ^ (n - h)) h)
-told_few None bits h n w le is all = subst (λ o. IfSome o (λ bs. Shows n bs ((w % 2 ^ h) * 2 ^ (n - h)) h)) is tt
-told_few (Some bytes) bits h n w le is all =
+pub told_few : (told : Option (List ℕ)) (h n w : ℕ) → h < n → IfSome (told_bits told h w) (λ bits. length bits ≡ h → Shows n bits ((w % 2 ^ h) * 2 ^ (n - h)) h)
+told_few None h n w lt = tt
+told_few (Some bytes) h n w lt = λ size.
     let whole : h + (n - h) ≡ n = omega arith in
-    let size : length (bits_of h w ++ bit_list bytes) ≡ h = subst (λ o. IfSome o (λ bs. length bs ≡ h)) (sym is) all in
     let none : length (bit_list bytes) ≡ 0 = omega (arith, length-append (bits_of h w) (bit_list bytes), length-bits_of h w) in
     let held : bits_of h w ++ bit_list bytes ≡ bits_of h w = ap (λ r. bits_of h w ++ r) (nil_from_length (bit_list bytes) none) ∙ append-nil (bits_of h w) in
-    subst (λ o. IfSome o (λ bs. Shows n bs ((w % 2 ^ h) * 2 ^ (n - h)) h)) is
-    (subst (λ bs. Shows n bs ((w % 2 ^ h) * 2 ^ (n - h)) h) (sym held)
-    (subst (λ k. Shows k (bits_of h w) ((w % 2 ^ h) * 2 ^ (n - h)) h) whole (few_show h (n - h) w)))
+    subst (λ bs. Shows n bs ((w % 2 ^ h) * 2 ^ (n - h)) h) (sym held)
+    (subst (λ k. Shows k (bits_of h w) ((w % 2 ^ h) * 2 ^ (n - h)) h) whole (few_show h (n - h) w))
+
+-- what follows from a fact follows where that fact does
+pub told_where : (told : Option (List ℕ)) (F : Type 0) (A B : List ℕ → Type 0) → F → IfSome told (λ bits. A bits → B bits) → IfSome told (λ bits. (F → A bits) → B bits)
+told_where None F A B holds follows = tt
+told_where (Some bits) F A B holds follows = λ a. follows (a holds)
+
+-- what holds of the bits that are told where something else does
+pub told_both : (told : Option (List ℕ)) (F : Type 0) (A B : List ℕ → Type 0) → IfSome told (λ bits. (F → A bits) → B bits) → (F → IfSome told A) → IfSome told B
+told_both None F A B follows holds = tt
+told_both (Some bits) F A B follows holds = follows holds

@@ -1,5 +1,5 @@
 -- What a sink got in one call.
-use Rattle.std.proofs.Common.{◌≡◌, ℕ, ◌*◌, ◌≤◌, List, [], ◌++◌, Result, Ok, Err, OnOk, OnErr, length, take, drop, refl, sym, ap, subst, ◌∙◌, append_assoc}
+use Rattle.std.proofs.Common.{◌≡◌, ℕ, ◌*◌, ◌≤◌, List, [], ◌++◌, Result, Ok, Err, OnOk, OnErr, length, take, drop, sym, ap, subst, ◌∙◌, append_assoc}
 use Rattle.std.proofs.lemmas.List.{take_at, length-take-le}
 use Rattle.shelf_io.specs.Sink.{Told, with_bytes, AddsPrefix}
 use Rattle.shelf_io.proofs.Written.{with_bytes-none}
@@ -8,7 +8,6 @@ use Rattle.bit_lists.specs.Fields.{AreBytes, bit_list}
 use Rattle.bit_lists.proofs.PrefixLemmas.{IsPrefix-append}
 use Rattle.bit_lists.proofs.ByteLemmas.{length-bit_list, bit_list-take, AreBytes-take}
 use Rattle.bit_cursor.specs.BitWriter.{Gets, GetsFront}
-
 
 -- nothing went out
 pub gets_none : (told : Told) (waited put waits : List ℕ) → waits ≡ waited ++ put → Gets told told waited put waits

@@ -9,7 +9,7 @@ use Rattle.bit_lists.specs.Fields.{bit_list}
 use Rattle.bit_lists.proofs.BitLemmas.{bits_of-mod}
 use Rattle.bit_lists.proofs.JoinedLemmas.{bits_of-append, bits_of-put, bits_of-zero}
 use Rattle.bit_lists.proofs.ByteLemmas.{bit_list-to_be_bytes}
-use Rattle.bit_cursor.specs.WaitingBits.{IsWord}
+use Rattle.bit_cursor.specs.Private.WaitingBits.{IsWord}
 
 -- ---- a word and what is put behind it
 

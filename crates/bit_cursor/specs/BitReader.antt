@@ -33,10 +33,11 @@ without_bits told n = option_map (drop n) told
 abbrev pub place : {S : Type 0} {g : Ghosts S} → BitReader S g → ℕ
 place reader = 8 * reader.taken - reader.held
 
--- how many calls of the source have failed, and how many met something that isn't held
+-- how many calls of the source have failed
 abbrev pub faults_of : {S : Type 0} {g : Ghosts S} → BitReader S g → ℕ
 faults_of {S} {g} reader = g.faults (source_of reader).now
 
+-- how many calls of the source met something that isn't held
 abbrev pub absences_of : {S : Type 0} {g : Ghosts S} → BitReader S g → ℕ
 absences_of {S} {g} reader = g.absences (source_of reader).now
 

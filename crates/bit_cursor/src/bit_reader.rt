@@ -1,8 +1,8 @@
-ghost use Rattle.std.specs.Prelude.{◌≡◌, ◌+◌, ◌-◌, ◌*◌, ◌%◌, ◌^◌, ◌<◌, ◌≤◌, length, IfOk, OnErr, IfSome, IsErrOf};
+ghost use Rattle.std.specs.Prelude.{◌≡◌, ◌+◌, ◌-◌, ◌*◌, ◌%◌, ◌^◌, ◌<◌, ◌≤◌, ◌↔◌, length, min, IfOk, OnErr, IfSome, IsErrOf, IsTrue};
 ghost use Rattle.shelf_io.specs.Counts.{Rose};
 ghost use Rattle.bit_cursor.specs.Reading.{IsFront, Shows, bytes_beyond, byte_aligned};
 
-use crate::bit_fault::BitFault;
+use crate::fault::BitFault;
 use shelf_io::{Fault, Source};
 
 /// The bits of a source in order, most significant bit of each byte first. It borrows the source, and takes no byte of
@@ -43,6 +43,7 @@ impl<'a, S: Source> BitReader<'a, S> {
 
     /// The next n bits as a number, n at most 32. The answer is End where fewer are left, and Outside where the source
     /// failed; then no bit is given and the place stays.
+    #[inline]
     pub fn bits(&mut self, n: u32) -> Result<u32, BitFault>
         requires { n ≤ 32 }
         ensures value { IfOk result (λ value. IfSome (bits_left self.old) (λ bits. IsFront n bits value)) }
@@ -61,22 +62,22 @@ impl<'a, S: Source> BitReader<'a, S> {
         ensures missing { IsErrOf result (BitFault.Outside Fault.Missing) → Rose (absences_of self.old) (absences_of self.new) }
         ensures keeps { KeepsSource self.old self.new }
     {
-        if self.held < n {
-            self.fetch(n)?;
-            if self.held < n {
-                return Err(BitFault::End);
-            }
+        if !self.hold(n)? {
+            return Err(BitFault::End);
         }
-        self.held -= n;
-        Ok(lowest(self.word >> self.held, n))
+        let value = self.held_front(n);
+        self.skip(n);
+        Ok(value)
     }
 
     /// The next n bits as a window, n at most 24, and how many of them are known. Where fewer are left the window's bits
     /// behind them are 0. The reader stays where it is, also where the source failed.
+    #[inline]
     pub fn peek(&mut self, n: u32) -> Result<(u32, u32), Fault>
         requires { n ≤ 24 }
         ensures window { IfOk result (λ seen. IfSome (bits_left self.old) (λ bits. Shows n bits seen.0 seen.1)) }
         ensures known { IfOk result (λ seen. seen.1 ≤ n) }
+        ensures held { IfOk result (λ seen. seen.1 ≤ bits_held self.new) }
         ensures below { IfOk result (λ seen. seen.0 < 2 ^ n) }
         ensures unknown { IfOk result (λ seen. seen.0 % 2 ^ (n - seen.1) ≡ 0) }
 
@@ -88,17 +89,74 @@ impl<'a, S: Source> BitReader<'a, S> {
         ensures missing { IsErrOf result Fault.Missing → Rose (absences_of self.old) (absences_of self.new) }
         ensures keeps { KeepsSource self.old self.new }
     {
+        self.hold(n)?;
+        Ok(self.held_window(n))
+    }
+
+    /// Whether n bits are held, n at most 32, behind whole bytes that this call takes of the source where they aren't: no
+    /// only where fewer are left. The reader stays where it is, also where the source failed.
+    #[inline]
+    pub fn hold(&mut self, n: u32) -> Result<bool, Fault>
+        requires { n ≤ 32 }
+        ensures enough { IfOk result (λ enough. IsTrue enough ↔ (n ≤ bits_held self.new)) }
+        ensures few { IfOk result (λ _. bits_held self.new < n → IfSome (bits_left self.old) (λ bits. length bits ≡ bits_held self.new)) }
+
+        ensures left { bits_left self.new ≡ bits_left self.old }
+        ensures place { place self.new ≡ place self.old }
+        ensures fetched { Fetches n self.old self.new }
+
+        ensures failed { IsErrOf result Fault.Failed → Rose (faults_of self.old) (faults_of self.new) }
+        ensures missing { IsErrOf result Fault.Missing → Rose (absences_of self.old) (absences_of self.new) }
+        ensures keeps { KeepsSource self.old self.new }
+    {
         if self.held < n {
             self.fetch(n)?;
-            if self.held < n {
-                let window = lowest(self.word, self.held) << (n - self.held);
-                return Ok((window, self.held));
-            }
         }
-        Ok((lowest(self.word >> (self.held - n), n), n))
+        Ok(self.held >= n)
+    }
+
+    /// The next n bits as a number, which are held, n at most 32. The reader stays where it is.
+    #[inline]
+    pub fn held_front(&self, n: u32) -> u32
+        requires width { n ≤ 32 }
+        requires held { n ≤ bits_held self.now }
+        ensures value { IfSome (bits_left self.now) (λ bits. IsFront n bits result) }
+        ensures below { result < 2 ^ n }
+    {
+        lowest(self.word >> (self.held - n), n)
+    }
+
+    /// The next n bits as a window, n at most 24, and how many of them are known: those that are held. Where fewer are the
+    /// window's bits behind them are 0. The reader stays where it is.
+    #[inline]
+    pub fn held_window(&self, n: u32) -> (u32, u32)
+        requires { n ≤ 24 }
+        ensures window { IfSome (bits_left self.now) (λ bits. (bits_held self.now < n → length bits ≡ bits_held self.now) → Shows n bits result.0 result.1) }
+        ensures known { result.1 ≡ min n (bits_held self.now) }
+        ensures below { result.0 < 2 ^ n }
+        ensures unknown { result.0 % 2 ^ (n - result.1) ≡ 0 }
+    {
+        if self.held < n {
+            return self.short_window(n);
+        }
+        (self.held_front(n), n)
+    }
+
+    /// Moves past the next n bits, which are held. It takes no byte of the source.
+    #[inline]
+    pub fn skip(&mut self, n: u32)
+        requires { n ≤ bits_held self.old }
+        ensures left { bits_left self.new ≡ without_bits (bits_left self.old) n }
+        ensures place { place self.new ≡ place self.old + n }
+        ensures held { bits_held self.new + n ≡ bits_held self.old }
+        ensures same_source { (source_of self.new).ghost_name ≡ (source_of self.old).ghost_name }
+        ensures source { (source_of self.new).now ≡ (source_of self.old).now }
+    {
+        self.held -= n;
     }
 
     /// Moves to the next byte, or stays at a whole byte. It takes no byte of the source.
+    #[inline]
     pub fn align(&mut self)
         ensures place { place self.new ≡ byte_aligned (place self.old) }
         ensures left { bits_left self.new ≡ without_bits (bits_left self.old) (place self.new - place self.old) }
@@ -110,10 +168,26 @@ impl<'a, S: Source> BitReader<'a, S> {
     }
 
     /// The place of the next bit, in bits from the source's first.
+    #[inline]
     pub fn place(&self) -> u64
         ensures { result ≡ place self.now }
     {
         8 * self.taken - u64::from(self.held)
+    }
+
+    // The held bits as a window that they don't fill.
+    #[cold]
+    #[inline(never)]
+    fn short_window(&self, n: u32) -> (u32, u32)
+        requires short { bits_held self.now < n }
+        requires width { n ≤ 24 }
+        ensures window { IfSome (bits_left self.now) (λ bits. length bits ≡ bits_held self.now → Shows n bits result.0 result.1) }
+        ensures known { result.1 ≡ bits_held self.now }
+        ensures below { result.0 < 2 ^ n }
+        ensures unknown { result.0 % 2 ^ (n - result.1) ≡ 0 }
+    {
+        let window = lowest(self.word, self.held) << (n - self.held);
+        (window, self.held)
     }
 
     // Takes bytes until n bits are held or the source ends.
@@ -141,6 +215,7 @@ impl<'a, S: Source> BitReader<'a, S> {
 }
 
 // The number in the lowest n bits of a word, n at most 32.
+#[inline]
 fn lowest(word: u64, n: u32) -> u32
     requires { n ≤ 32 }
     ensures { result ≡ word % 2 ^ n }

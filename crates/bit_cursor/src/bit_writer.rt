@@ -34,6 +34,7 @@ impl<'a, K: Sink> BitWriter<'a, K> {
     }
 
     /// Puts a number in n bits (uimsbf of ISO/IEC 13818-2, 5.2), n at most 32. A fault is the sink's own.
+    #[inline]
     pub fn put_bits(&mut self, value: u32, n: u32) -> Result<(), Fault>
         requires goes { is_stopped self.old ≡ false }
         requires number { value < 2 ^ n }

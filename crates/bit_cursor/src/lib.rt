@@ -7,14 +7,14 @@
 //! its own. Stands on `shelf_io` and on the words of `bit_lists`.
 #![tactic(auto)]
 
-mod bit_fault;
 mod bit_reader;
 mod bit_writer;
+mod fault;
 mod waiting_bits;
 
-pub use bit_fault::BitFault;
 pub use bit_reader::BitReader;
 pub use bit_writer::BitWriter;
+pub use fault::BitFault;
 
 #[cfg(test)]
 mod tests;

@@ -1,7 +1,7 @@
 ghost use Rattle.std.specs.Prelude.{◌≡◌, ℕ, ◌-◌, ◌<◌, ◌≤◌, ◌^◌, List, [], ◌++◌, length, replicate, MatchOption};
 ghost use Rattle.bit_lists.specs.Bits.{bits_of};
 ghost use Rattle.bit_lists.specs.Fields.{AreBytes, bit_list};
-ghost use Rattle.bit_cursor.specs.WaitingBits.{IsWord};
+ghost use Rattle.bit_cursor.specs.Private.WaitingBits.{IsWord};
 
 use std::marker::Model;
 
@@ -35,6 +35,7 @@ impl WaitingBits {
     }
 
     /// Adds the lowest `n` bits of a number, and gives the first four bytes once they are there.
+    #[inline]
     pub fn push(&mut self, value: u32, n: u32) -> Option<[u8; 4]>
         requires number { value < 2 ^ n }
         requires width { n ≤ 32 }

@@ -1,5 +1,5 @@
 -- A DC coefficient: the code of its size, and its bits.
-use Rattle.std.proofs.Common.{◌≡◌, ℕ, ◌+◌, ◌-◌, ◌*◌, ◌/◌, ◌%◌, ◌^◌, ◌<◌, ◌≤◌, ◌&&◌, ◌⊎◌, Bool, true, nat_lt, List, [], ◌∷◌, ◌++◌, length, take, drop, Some, refl, sym, ap, ap₂, subst, ◌∙◌, inl, inr, arith, append-nil}
+use Rattle.std.proofs.Common.{◌≡◌, ℕ, ◌+◌, ◌-◌, ◌*◌, ◌/◌, ◌%◌, ◌^◌, ◌<◌, ◌≤◌, ◌&&◌, ◌⊎◌, Bool, true, nat_lt, List, [], ◌++◌, length, take, drop, Some, refl, sym, ap, ap₂, subst, ◌∙◌, inl, inr, arith, append-nil}
 use Rattle.std.specs.List.{list_all}
 use Rattle.std.proofs.Math.Nat.{mod-lt}
 use Rattle.std.proofs.lemmas.Bool.{and_parts, ltb-true}
@@ -17,14 +17,14 @@ use Rattle.prefix_codes.proofs.Computing.{tables}
 use Rattle.prefix_codes.proofs.TableLemmas.{code_in-passes}
 use Rattle.picture_grammar.specs.Refusal.Refusal.{End}
 use Rattle.picture_grammar.specs.Element.{MayStand}
-use Rattle.block_coeffs.specs.declared.window.Window.{Window}
+use Rattle.grammar_reading.specs.declared.window.Window.{Window}
 use Rattle.block_coeffs.specs.declared.why.Why.TheVariants as why
 use Rattle.block_coeffs.specs.declared.dc_standing.DcStanding.TheVariants.{Coefficient, Refused}
-use Rattle.block_coeffs.specs.Cut.{BeginCode}
-use Rattle.block_coeffs.specs.Standing.{seen, Shows}
-use Rattle.block_coeffs.specs.DcStanding.{is_sizes, dc_by, IsWhyNoSize, IsDcFound}
-use Rattle.block_coeffs.proofs.Fronts.{front_of-more, length-front_of, take-front_of}
-use Rattle.block_coeffs.proofs.Cuts.{begun-length, shows-all, shows-filled, seen-begins}
+use Rattle.grammar_reading.specs.Cut.{BeginsCode}
+use Rattle.grammar_reading.specs.Window.{seen, ShowsFront}
+use Rattle.block_coeffs.specs.Private.DcStanding.{is_sizes, dc_by, IsWhyNoSize, IsDcFound}
+use Rattle.grammar_reading.proofs.Fronts.{front_of-more, length-front_of, take-front_of}
+use Rattle.grammar_reading.proofs.Cuts.{begun-length, shows-all, shows-filled, seen-begins}
 use Rattle.block_coeffs.proofs.Pairs.{seen-code}
 
 -- a size is at most 11, and its code and bits fit a window
@@ -59,7 +59,7 @@ Sizes table symbol code = code_in table symbol ≡ Some code
 module _ (table : TableName) (tests : is_sizes table ≡ true) (window : Window) where
   -- ---- no size
 
-  module _ (none : (symbol len : ℕ) → Begins table (seen window window.known) symbol len → ⊥) (bits : List ℕ) (shows : Shows window bits) where
+  module _ (none : (symbol len : ℕ) → Begins table (seen window window.known) symbol len → ⊥) (bits : List ℕ) (shows : ShowsFront window bits) where
     no_code : (s : ℕ) (code : List ℕ) → code_in table s ≡ Some code → IsPrefix code bits → ⊥
     no_code s code listed p =
         let small = small-size table s code tests listed in
@@ -79,7 +79,7 @@ module _ (table : TableName) (tests : is_sizes table ≡ true) (window : Window)
         let count = length-front_of 24 window.bits window.known window.within in
         shows-all window bits window.within (λ full. let fits = small.1 in omega arith) shows
 
-    pub no_size-end : (s : ℕ) → BeginCode table s (seen window window.known) → IsWhyNoSize table why.End bits
+    pub no_size-end : (s : ℕ) → BeginsCode table s (seen window window.known) → IsWhyNoSize table why.End bits
     no_size-end s b =
         let all = seen-short s b.code b.listed b.cut in
         inr (inr (
@@ -88,7 +88,7 @@ module _ (table : TableName) (tests : is_sizes table ≡ true) (window : Window)
           refl,
         ))
 
-    pub no_size-none : ((s : ℕ) → s < 12 → BeginCode table s (seen window window.known) → ⊥) → IsWhyNoSize table why.NoCode bits
+    pub no_size-none : ((s : ℕ) → s < 12 → BeginsCode table s (seen window window.known) → ⊥) → IsWhyNoSize table why.NoCode bits
     no_size-none missing = inl (none_may, refl) where
       none_may : MayStand (Sizes table) [] bits → ⊥
       none_may m = by_cases m.agrees where
@@ -129,7 +129,7 @@ module _ (table : TableName) (tests : is_sizes table ≡ true) (window : Window)
     )
 
     -- where the bits end within those of the size
-    module _ (short : window.known < len + size) (bits : List ℕ) (shows : Shows window bits) where
+    module _ (short : window.known < len + size) (bits : List ℕ) (shows : ShowsFront window bits) where
       all : bits ≡ seen window window.known
       all =
           let small = begins-size table (seen window window.known) size len tests b in

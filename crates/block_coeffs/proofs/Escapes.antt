@@ -21,14 +21,15 @@ use Rattle.picture_grammar.specs.Block.{Coefficient, CoefficientCode, is_within,
 use Rattle.picture_grammar.specs.Block.Coefficient.{end_of_block, run_size, escape}
 use Rattle.picture_grammar.proofs.Codes.{symbol_of, fronts, coefficient_code-listed, free-coefficient}
 use Rattle.picture_grammar.proofs.ElementLaws.{breaks}
-use Rattle.block_coeffs.specs.declared.window.Window.{Window}
+use Rattle.grammar_reading.specs.declared.window.Window.{Window}
 use Rattle.block_coeffs.specs.declared.standing.Standing.TheVariants.{Pair, Refused}
 use Rattle.block_coeffs.specs.declared.why.Why.TheVariants as why
-use Rattle.block_coeffs.specs.Why.{rules_at}
-use Rattle.block_coeffs.specs.Standing.{seen, Shows, coefficient_at, IsFound}
-use Rattle.block_coeffs.proofs.Fronts.{front_of-bits, length-front_of}
+use Rattle.block_coeffs.specs.Private.Why.{rules_at}
+use Rattle.block_coeffs.specs.Private.Standing.{coefficient_at, IsFound}
+use Rattle.grammar_reading.specs.Window.{seen, ShowsFront}
+use Rattle.grammar_reading.proofs.Fronts.{front_of-bits, length-front_of}
 use Rattle.block_coeffs.proofs.Symbols.{escape_code}
-use Rattle.block_coeffs.proofs.Cuts.{shows-all, begins-seen, begun-length}
+use Rattle.grammar_reading.proofs.Cuts.{shows-all, begins-seen, begun-length}
 use Rattle.block_coeffs.proofs.Pairs.{seen-code}
 
 -- ---- numbers
@@ -144,7 +145,7 @@ module _ {table : TableName} (is : IsCoefficients table) (place : ℕ) (window :
   whole-coded : CoefficientCode table (escape run level) (seen window 24)
   whole-coded = (bits_of 6 1, escape_code is, omega arith, omega arith, take_all 24 (bits_of 24 window.bits) (omega (arith, length-bits_of 24 window.bits)) ∙ escape-fields window.bits first-one)
 
-  module _ (bits : List ℕ) (shows : Shows window bits) where
+  module _ (bits : List ℕ) (shows : ShowsFront window bits) where
     escape_begins : IsPrefix (bits_of 6 1) bits
     escape_begins = begins-seen window bits (bits_of 6 1) (omega (arith, length-bits_of 6 1)) shows front_is
 
@@ -198,7 +199,7 @@ module _ {table : TableName} (is : IsCoefficients table) (place : ℕ) (window :
   the_level = window.bits % 2 ^ 12
 
   -- whatever may stand there is an escape
-  the-escape : (bits : List ℕ) → Shows window bits → (rules : List (Rule Coefficient)) (m : MayStand (CoefficientCode table) rules bits) → EscapeCode m.value m.code
+  the-escape : (bits : List ℕ) → ShowsFront window bits → (rules : List (Rule Coefficient)) (m : MayStand (CoefficientCode table) rules bits) → EscapeCode m.value m.code
   the-escape bits shows rules m = escape-code is m.value m.code m.coded (same-symbol is place window len b bits shows rules m)
 
   -- where all 24 bits are seen
@@ -206,11 +207,11 @@ module _ {table : TableName} (is : IsCoefficients table) (place : ℕ) (window :
     seen-is : seen window window.known ≡ seen window 24
     seen-is = ap (seen window) full
 
-    whole_begins : (bits : List ℕ) → Shows window bits → IsPrefix (seen window 24) bits
+    whole_begins : (bits : List ℕ) → ShowsFront window bits → IsPrefix (seen window 24) bits
     whole_begins bits shows = ap (λ n. take n bits) (length-front_of 24 window.bits 24 (omega arith)) ∙ shows ∙ seen-is
 
     whole-breaks : (before after : List (Rule Coefficient)) (broken : Rule Coefficient) → rules_at place ≡ before ++ broken ∷ after → passes before (escape the_run the_level) ≡ true → broken.test (escape the_run the_level) ≡ false
-        → (bits : List ℕ) → Shows window bits → (coefficient_at table place).Refuses bits broken.refusal bits
+        → (bits : List ℕ) → ShowsFront window bits → (coefficient_at table place).Refuses bits broken.refusal bits
     whole-breaks before after broken order passing fails bits shows =
         inl (
           refl,
@@ -226,7 +227,7 @@ module _ {table : TableName} (is : IsCoefficients table) (place : ℕ) (window :
         let within = and_from (nat_lt (place + the_run) 64) true (lt-ltb (place + the_run) 64 fits) refl in
         (omega arith, whole-breaks (rule TooMany (is_within place) ∷ []) [] (rule BadEscape is_level) refl within (is_level-forbidden the_run the_level forbidden))
 
-    pub pair-whole : (level : ℤ) → place + the_run < 64 → (the_level ≡ 0 → ⊥) → (the_level ≡ 2048 → ⊥) → level ≡ escape_level the_level → IsFound table place window (Pair (record { run = the_run; level = level }) 24)
+    pub pair-whole : (level : ℤ) → place + the_run < 64 → (the_level ≡ 0 → ⊥) → (the_level ≡ 2048 → ⊥) → level ≡ escape_level the_level → IsFound table place window (Pair the_run level 24)
     pair-whole level fits not_zero not_least level_is =
         let within = lt-ltb (place + the_run) 64 fits in
         let allowed = and_from (is_level (escape the_run the_level)) true (is_level-allowed the_run the_level not_zero not_least) refl in
@@ -242,7 +243,7 @@ module _ {table : TableName} (is : IsCoefficients table) (place : ℕ) (window :
         )
 
   -- where the bits end within the escape
-  module _ (short : window.known < 24) (bits : List ℕ) (shows : Shows window bits) where
+  module _ (short : window.known < 24) (bits : List ℕ) (shows : ShowsFront window bits) where
     all : bits ≡ seen window window.known
     all = shows-all window bits window.within (λ full. omega arith) shows
 

@@ -7,19 +7,22 @@ use Rattle.prefix_codes.specs.Entry.{printed_bits}
 use Rattle.prefix_codes.proofs.Computing.{tables}
 use Rattle.picture_grammar.specs.Block.{block}
 use Rattle.picture_grammar.proofs.Examples.{non_intra, one_escape, bad_escape}
-use Rattle.block_coeffs.specs.declared.block_fault.BlockFault.TheVariants as fault
-use Rattle.block_coeffs.specs.declared.window.Window.{Window}
-use Rattle.block_coeffs.specs.Cut.{symbol_fits, BeginAllowed}
-use Rattle.block_coeffs.specs.Standing.{seen, Shows}
-use Rattle.block_coeffs.specs.Reading.{ReadsFrom, ExplainsFrom}
+use Rattle.block_coeffs.specs.declared.fault.BlockFault.TheVariants as fault
+use Rattle.grammar_reading.specs.declared.window.Window.{Window}
+use Rattle.block_coeffs.specs.Private.Cut.{symbol_fits, BeginAllowed}
+use Rattle.grammar_reading.specs.Window.{seen, ShowsFront}
+use Rattle.grammar_reading.specs.BitsRead.{ReadsFrom, ExplainsFrom}
+use Rattle.grammar_reading.proofs.BitsRead.{anywhere}
+use Rattle.picture_grammar.proofs.LocalLaws.{local-block}
+use Rattle.block_coeffs.specs.BlockFault.{refusal_told}
 
 -- from place 100 on an escape with run 0 and level 2047 and the end of block are read up to place 126
 read_escape : ReadsFrom (block non_intra) (record { dc = None; pairs = record { items = record { run = 0; level = pos 2047 } ∷ [] } })
     (Some (printed_bits "000001 000000 011111111111 10 0101")) (Some (printed_bits "0101")) 100 126
-read_escape = record { front = printed_bits "000001 000000 011111111111 10"; spelled = one_escape; left = refl; moved = refl }
+read_escape = record { front = printed_bits "000001 000000 011111111111 10"; spelled = anywhere (local-block non_intra) _ (printed_bits "000001 000000 011111111111 10") [] (printed_bits "0101") one_escape; left = refl; moved = refl }
 
 -- with the level -2048 the escape is refused at its first bit
-refused_escape : ExplainsFrom (block non_intra) (fault.BadEscape 100) (printed_bits "000001 000000 100000000000 10") 100
+refused_escape : ExplainsFrom (block non_intra) (refusal_told (fault.BadEscape 100)) (printed_bits "000001 000000 100000000000 10") 100
 refused_escape = record { front = []; left = printed_bits "000001 000000 100000000000 10"; split = refl; refused = bad_escape; moved = refl }
 
 -- two bits of a window
@@ -31,7 +34,7 @@ unfolding bits_of two_bits
 two_ones = refl
 
 -- ... which shows the bits 11 where they are all, and no other ones
-shown : Shows two_bits (1 ∷ 1 ∷ [])
+shown : ShowsFront two_bits (1 ∷ 1 ∷ [])
 unfolding bits_of two_bits
 shown = refl
 

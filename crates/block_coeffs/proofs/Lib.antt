@@ -3,8 +3,6 @@ pub mod Cuts
 pub mod Dcs
 pub mod Escapes
 pub mod Examples
-pub mod Fronts
-pub mod Grammars
 pub mod Pairs
 pub mod Steps
 pub mod Symbols

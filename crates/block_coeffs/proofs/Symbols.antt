@@ -17,8 +17,9 @@ use Rattle.picture_grammar.specs.Element.{Rule, passes, MayStand}
 use Rattle.picture_grammar.specs.Block.{Coefficient, CoefficientCode, is_within}
 use Rattle.picture_grammar.specs.Block.Coefficient.{end_of_block, run_size, escape}
 use Rattle.picture_grammar.proofs.Codes.{symbol_of, fronts, coefficient_code-listed}
-use Rattle.block_coeffs.specs.Why.{rules_at}
-use Rattle.block_coeffs.specs.Cut.{least_run, symbol_fits, BeginCode}
+use Rattle.block_coeffs.specs.Private.Why.{rules_at}
+use Rattle.block_coeffs.specs.Private.Cut.{least_run, symbol_fits}
+use Rattle.grammar_reading.specs.Cut.{BeginsCode}
 
 pub coefficients-is : (table : TableName) → is_coefficients table ≡ true → IsCoefficients table
 coefficients-is Address e = cc
@@ -70,6 +71,10 @@ are_met one_is = refl
 pub symbol-most : {table : TableName} (s : ℕ) (code : List ℕ) → IsCoefficients table → code_in table s ≡ Some code → s < 4002
 symbol-most {table} s code is listed = ltb-true s 4002 (code_in-passes is_met table s code (are_met is) listed)
 
+-- behind the end of block stands the escape alone
+pub past-end : {table : TableName} (s : ℕ) (code : List ℕ) → IsCoefficients table → code_in table s ≡ Some code → END_OF_BLOCK < s → s ≡ ESCAPE
+past-end s code is listed past = let most = symbol-most s code is listed in omega arith
+
 -- ---- where a symbol may stand
 
 cond-either : (b x : Bool) → x ≡ true → cond b true x ≡ true
@@ -107,7 +112,7 @@ pub record Begun (table : TableName) (place symbol : ℕ) (bits : List ℕ) : Ty
   pub cut : IsPrefix bits code
   pub passing : symbol_fits place symbol ≡ true → passes (rules_at place) value ≡ true
 
-begun-end : (table : TableName) (place symbol : ℕ) (bits : List ℕ) → symbol ≡ END_OF_BLOCK → BeginCode table symbol bits → Begun table place symbol bits
+begun-end : (table : TableName) (place symbol : ℕ) (bits : List ℕ) → symbol ≡ END_OF_BLOCK → BeginsCode table symbol bits → Begun table place symbol bits
 begun-end table place symbol bits same b = record {
   value = end_of_block;
   code = b.code;
@@ -116,7 +121,7 @@ begun-end table place symbol bits same b = record {
   passing = λ fits. refl;
 }
 
-begun-escape : (table : TableName) (place symbol : ℕ) (bits : List ℕ) → symbol ≡ ESCAPE → BeginCode table symbol bits → Begun table place symbol bits
+begun-escape : (table : TableName) (place symbol : ℕ) (bits : List ℕ) → symbol ≡ ESCAPE → BeginsCode table symbol bits → Begun table place symbol bits
 begun-escape table place symbol bits same b = record {
   value = escape 0 1;
   code = b.code ++ bits_of 6 0 ++ bits_of 12 1;
@@ -126,7 +131,7 @@ begun-escape table place symbol bits same b = record {
   passing = λ fits. let here : nat_lt (place + 0) 64 ≡ true = ap (symbol_fits place) (sym same) ∙ fits in and_from (nat_lt (place + 0) 64) true here refl;
 }
 
-begun-run : {table : TableName} (place symbol : ℕ) (bits : List ℕ) → IsCoefficients table → (symbol ≡ END_OF_BLOCK → ⊥) → (symbol ≡ ESCAPE → ⊥) → BeginCode table symbol bits → Begun table place symbol bits
+begun-run : {table : TableName} (place symbol : ℕ) (bits : List ℕ) → IsCoefficients table → (symbol ≡ END_OF_BLOCK → ⊥) → (symbol ≡ ESCAPE → ⊥) → BeginsCode table symbol bits → Begun table place symbol bits
 begun-run {table} place symbol bits is no_end no_escape b = record {
   value = run_size (symbol / LEVELS_PER_RUN) (symbol % LEVELS_PER_RUN);
   code = b.code;
@@ -138,7 +143,7 @@ begun-run {table} place symbol bits is no_end no_escape b = record {
       and_from (nat_lt (place + symbol / LEVELS_PER_RUN) 64) true (ap (λ r. nat_lt (place + r) 64) (sym run_is) ∙ here) refl;
 }
 
-pub begun : {table : TableName} (place symbol : ℕ) (bits : List ℕ) → IsCoefficients table → BeginCode table symbol bits → Begun table place symbol bits
+pub begun : {table : TableName} (place symbol : ℕ) (bits : List ℕ) → IsCoefficients table → BeginsCode table symbol bits → Begun table place symbol bits
 begun {table} place symbol bits is b = elim (cases_eq symbol END_OF_BLOCK) [
   | inl same ↦ begun-end table place symbol bits same b
   | inr no_end ↦ elim (cases_eq symbol ESCAPE) [
@@ -152,12 +157,12 @@ abbrev pub NoCodeStands : TableName → List ℕ → Type 0
 NoCodeStands table bits = (s : ℕ) (f : List ℕ) → code_in table s ≡ Some f → IsPrefix f bits → ⊥
 
 -- then a coefficient may stand there only where the bits begin the code of its symbol
-pub may-begin : (table : TableName) (bits : List ℕ) → NoCodeStands table bits → (rules : List (Rule Coefficient)) (m : MayStand (CoefficientCode table) rules bits) → BeginCode table (symbol_of m.value) bits
+pub may-begin : (table : TableName) (bits : List ℕ) → NoCodeStands table bits → (rules : List (Rule Coefficient)) (m : MayStand (CoefficientCode table) rules bits) → BeginsCode table (symbol_of m.value) bits
 may-begin table bits none rules m = by_cases m.agrees where
   f : (front : List ℕ) × (code_in table (symbol_of m.value) ≡ Some front) × IsPrefix front m.code
   f = fronts table m.value m.code m.coded
 
-  by_cases : IsPrefix m.code bits ⊎ IsPrefix bits m.code → BeginCode table (symbol_of m.value) bits
+  by_cases : IsPrefix m.code bits ⊎ IsPrefix bits m.code → BeginsCode table (symbol_of m.value) bits
   by_cases (inl p) = absurd (none (symbol_of m.value) f.0 f.1 (IsPrefix-through f.0 m.code bits f.2 p))
   by_cases (inr p) = elim (IsPrefix-either f.0 bits m.code f.2 p) [
     | inl q ↦ absurd (none (symbol_of m.value) f.0 f.1 q)

@@ -18,7 +18,7 @@ use Rattle.picture_grammar.specs.Element.{rule, element}
 use Rattle.picture_grammar.specs.Block.{dc_table, dc_coefficient, Coefficient, CoefficientCode, after_code, is_level, signed, escape_level, is_within, next_place, coefficient_table, coefficient, block, first_place}
 use Rattle.picture_grammar.specs.Block.Coefficient.{end_of_block, run_size, escape}
 use Rattle.picture_grammar.proofs.Codes.{coefficient_code-listed}
-use Rattle.block_coeffs.specs.Writing.{CanStand, CanFollow}
+use Rattle.block_coeffs.specs.Private.Writing.{CanStand, CanFollow}
 
 -- ---- the DC coefficient
 

@@ -1,8 +1,7 @@
 -- Blocks that some bits spell can be written.
-use Rattle.std.proofs.Common.{◌≡◌, ℕ, ℤ, unsigned_abs, ◌+◌, ◌*◌, ◌^◌, ◌<◌, ◌≤◌, ◌&&◌, List, [], ◌∷◌, ◌++◌, Option, None, Result, Bool, true, false, nat_lt, if◌then◌else◌, refl, w16, to_z, of_z, sym, ap, subst, ◌∙◌, add-one, length, get_or, drop, drop-cons, append_assoc, arith}
+use Rattle.std.proofs.Common.{◌≡◌, ℕ, ℤ, unsigned_abs, ◌+◌, ◌^◌, ◌<◌, ◌≤◌, List, [], ◌∷◌, ◌++◌, Result, Bool, true, false, refl, w16, to_z, of_z, sym, ap, subst, ◌∙◌, add-one, length, get_or, drop, drop-cons, append_assoc, arith}
 use mir.Val.{bool_byte}
 use Rattle.std.proofs.lemmas.Int.{to_z-of_z, fits_signed_from_abs}
-use Rattle.std.proofs.lemmas.Bool.{lt-ltb, ltb-true}
 use Rattle.std.proofs.lemmas.List.{drop_all}
 use Rattle.shelf_io.specs.declared.fault.Fault.{Fault}
 use Rattle.shelf_io.specs.Sink.{Told}
@@ -11,29 +10,13 @@ use Rattle.bit_lists.specs.Fields.{flag}
 use Rattle.bit_cursor.specs.declared.bit_writer.BitWriter.{BitWriter}
 use Rattle.bit_cursor.specs.BitWriter.{Writes}
 use Rattle.prefix_codes.specs.declared.symbol.TheConstants.{END_OF_BLOCK}
-use Rattle.prefix_codes.specs.declared.table_name.TableName.{TableName}
-use Rattle.prefix_codes.specs.TableName.{code_in, coefficient_code}
 use Rattle.syntax_types.specs.declared.block.BlockWay.{BlockWay}
 use Rattle.syntax_types.specs.declared.block.RunLevel.{RunLevel}
 use Rattle.picture_grammar.specs.Block.{coefficient_table}
 use Rattle.picture_grammar.specs.Written.{code_for, written_coefficient, written_coefficients}
-use Rattle.block_coeffs.specs.Writing.{CanFollow}
+use Rattle.block_coeffs.specs.Private.Writing.{CanFollow}
 
--- ---- codes of coefficients
-
-pub coefficient_code-within : (table : TableName) (run size : ℕ) → run < 32 → 0 < size → size < 64 → coefficient_code table run size ≡ code_in table (64 * run + size)
-unfolding coefficient_code
-coefficient_code-within table run size few some small = rw (lt-ltb run 32 few, lt-ltb 0 size some, lt-ltb size 64 small) refl
-
-pub coefficient_code-beyond : (table : TableName) (run size : ℕ) → (run < 32 → 0 < size → size < 64 → ⊥) → coefficient_code table run size ≡ None
-unfolding coefficient_code
-coefficient_code-beyond table run size beyond = go (nat_lt run 32) (nat_lt 0 size) (nat_lt size 64) refl refl refl
-  where
-    go : (a b c : Bool) → nat_lt run 32 ≡ a → nat_lt 0 size ≡ b → nat_lt size 64 ≡ c → (if a && b && c then code_in table (64 * run + size) else None) ≡ None
-    go true true true p q r = absurd (beyond (ltb-true run 32 p) (ltb-true 0 size q) (ltb-true size 64 r))
-    go true true false p q r = refl
-    go true false c p q r = refl
-    go false b c p q r = refl
+-- ---- bits of a coefficient
 
 -- a level's sign bit
 pub sign_bit : (negative : Bool) → bits_of 1 (flag negative) ≡ flag negative ∷ []

@@ -1,6 +1,2 @@
-pub mod Cut
-pub mod DcStanding
-pub mod Reading
-pub mod Standing
-pub mod Why
-pub mod Writing
+pub mod BlockFault
+pub mod Private

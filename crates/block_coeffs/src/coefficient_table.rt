@@ -1,6 +1,6 @@
 ghost use Rattle.std.specs.Prelude.{◌≡◌, IsTrue};
 ghost use Rattle.picture_grammar.specs.Block.{dc_table, coefficient_table};
-ghost use Rattle.block_coeffs.specs.DcStanding.{is_sizes};
+ghost use Rattle.block_coeffs.specs.Private.DcStanding.{is_sizes};
 ghost use Rattle.prefix_codes.specs.TableName.{is_coefficients};
 
 use prefix_codes::TableName;

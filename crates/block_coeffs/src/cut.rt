@@ -1,22 +1,24 @@
 ghost use Rattle.std.specs.Prelude.{◌≡◌, ◌≤◌, ℕ, ◌↔◌, List, IsTrue};
 ghost use Rattle.prefix_codes.specs.TableName.{Begins, is_coefficients};
-ghost use Rattle.block_coeffs.specs.Why.{IsWhy};
-ghost use Rattle.block_coeffs.specs.Cut.{symbol_fits, BeginCode, BeginAllowed};
-ghost use Rattle.block_coeffs.specs.Standing.{seen, Shows};
+ghost use Rattle.block_coeffs.specs.Private.Why.{IsWhy};
+ghost use Rattle.block_coeffs.specs.Private.Cut.{symbol_fits, BeginAllowed};
+ghost use Rattle.grammar_reading.specs.Window.{seen, ShowsFront};
 
 use crate::why::Why;
-use crate::window::Window;
+use grammar_reading::{Window, begins_code};
 use prefix_codes::symbol::{END_OF_BLOCK, ESCAPE, LEVELS_PER_RUN};
-use prefix_codes::{TableName, WINDOW_BITS, code_of};
+use prefix_codes::{TableName, WINDOW_BITS};
 use syntax_types::BLOCK_PLACES;
 
 /// Why nothing stands at bits that no code of the table begins: they end within a code that may stand at the place, or
 /// within one that leads past the block's last place alone, or no code stands there.
+#[cold]
+#[inline(never)]
 pub fn why_none(table: TableName, place: u32, window: Window) -> Why
     requires table { IsTrue (is_coefficients table) }
     requires place { place ≤ BLOCK_PLACES }
     requires none { (symbol len : ℕ) → Begins table (seen window window.known) symbol len → ⊥ }
-    ensures { (bits : List ℕ) → Shows window bits → IsWhy table place result bits }
+    ensures { (bits : List ℕ) → ShowsFront window bits → IsWhy table place result bits }
 {
     if window.known == WINDOW_BITS {
         Why::NoCode
@@ -36,24 +38,11 @@ fn may_begin(table: TableName, place: u32, window: Window) -> bool
     ensures { IsTrue result ↔ BeginAllowed table place (seen window window.known) }
 {
     for symbol in 0..ESCAPE + 1 {
-        if fits(symbol, place) && begin_code(table, symbol, window) {
+        if fits(symbol, place) && begins_code(table, symbol, window) {
             return true;
         }
     }
     false
-}
-
-/// Whether the known bits begin the code of a symbol.
-pub fn begin_code(table: TableName, symbol: u16, window: Window) -> bool
-    ensures { IsTrue result ↔ BeginCode table symbol (seen window window.known) }
-{
-    let Some(code) = code_of(table, symbol) else {
-        return false;
-    };
-    let len = u32::from(code.len);
-    window.known <= len
-        && code.bits >> (len - window.known)
-            == window.bits % (1 << WINDOW_BITS) >> (WINDOW_BITS - window.known)
 }
 
 /// Whether a coefficient with this symbol may stand at a place: the end of block everywhere, an escape where any run is

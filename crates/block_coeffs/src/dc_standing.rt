@@ -1,11 +1,10 @@
 ghost use Rattle.std.specs.Prelude.{ℕ, List, IsTrue};
 ghost use Rattle.prefix_codes.specs.TableName.{Begins};
-ghost use Rattle.block_coeffs.specs.Standing.{seen, Shows};
-ghost use Rattle.block_coeffs.specs.DcStanding.{is_sizes, IsWhyNoSize, IsDcFound};
+ghost use Rattle.grammar_reading.specs.Window.{seen, ShowsFront};
+ghost use Rattle.block_coeffs.specs.Private.DcStanding.{is_sizes, IsWhyNoSize, IsDcFound};
 
-use crate::cut::begin_code;
 use crate::why::Why;
-use crate::window::Window;
+use grammar_reading::{Window, begins_code};
 use prefix_codes::{TableName, WINDOW_BITS, find};
 use syntax_types::Dc;
 
@@ -54,10 +53,10 @@ pub fn what_dc(table: TableName, window: Window) -> DcStanding
 fn why_no_size(table: TableName, window: Window) -> Why
     requires table { IsTrue (is_sizes table) }
     requires none { (symbol len : ℕ) → Begins table (seen window window.known) symbol len → ⊥ }
-    ensures { (bits : List ℕ) → Shows window bits → IsWhyNoSize table result bits }
+    ensures { (bits : List ℕ) → ShowsFront window bits → IsWhyNoSize table result bits }
 {
     for size in 0..SIZE_MOST + 1 {
-        if begin_code(table, size, window) {
+        if begins_code(table, size, window) {
             return Why::End;
         }
     }

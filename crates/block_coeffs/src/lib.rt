@@ -2,23 +2,23 @@
 //!
 //! `read_block` reads a block from a `BitReader`: it answers the block that the bits spell, or the kind and the place of
 //! their refusal, each exactly where the grammar of `picture_grammar` has it. Each coefficient is one look-up on one
-//! window of bits. `write_block` puts a block's written spelling into a `BitWriter`, which is read back as that block.
-//! No call takes memory. Stands on `bit_cursor`, `prefix_codes`, `syntax_types` and `picture_grammar`.
+//! window of bits. `read_block_into` reads into a block that is lent. `write_block` puts a block's written spelling into
+//! a `BitWriter`, which is read back as that block. No call takes memory. Stands on `bit_cursor`,
+//! `prefix_codes`, `syntax_types`, `picture_grammar` and `grammar_reading`.
 #![tactic(auto)]
 
-mod block_fault;
 mod coefficient_table;
 mod cut;
 mod dc_standing;
+mod fault;
 mod reading;
 mod standing;
 mod why;
-mod window;
 mod written;
 mod written_codes;
 
-pub use block_fault::BlockFault;
-pub use reading::read_block;
+pub use fault::BlockFault;
+pub use reading::{read_block, read_block_into};
 pub use written::write_block;
 
 #[cfg(test)]

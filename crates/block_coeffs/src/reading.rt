@@ -1,21 +1,21 @@
-ghost use Rattle.std.specs.Prelude.{◌≡◌, ◌≤◌, ◌<◌, ◌+◌, IfOk, IfErr, OnErr, IfSome, IsErrOf, IsTrue, MatchResult, List, ℕ, length};
+ghost use Rattle.std.specs.Prelude.{◌≡◌, ◌≤◌, ◌<◌, ◌+◌, IfOk, IfErr, OnOk, OnErr, IfSome, IsErrOf, IsNone, IsTrue, MatchResult, List, [], ℕ, length};
 ghost use Rattle.shelf_io.specs.Counts.{Rose};
-ghost use Rattle.bit_cursor.specs.BitReader.{bits_left, without_bits, place, faults_of, absences_of, KeepsSource};
+ghost use Rattle.bit_cursor.specs.BitReader.{bits_left, bits_held, place, faults_of, absences_of, KeepsSource};
 ghost use Rattle.syntax_types.specs.declared.block.Block.{Block};
-ghost use Rattle.picture_grammar.specs.Grammar.{many, optional, more_of};
+ghost use Rattle.picture_grammar.specs.Grammar.{many, optional};
 ghost use Rattle.picture_grammar.specs.Block.{block, coefficient, dc_coefficient};
-ghost use Rattle.block_coeffs.specs.DcStanding.{is_sizes, dc_by};
-ghost use Rattle.prefix_codes.specs.TableName.{is_coefficients};
-ghost use Rattle.block_coeffs.specs.Standing.{coefficient_at, Shows};
-ghost use Rattle.block_coeffs.specs.Reading.{Advances, Reads, Comes, Explains, IsOutside};
+ghost use Rattle.block_coeffs.specs.Private.DcStanding.{is_sizes, dc_by};
+ghost use Rattle.grammar_reading.specs.Window.{ShowsFront};
+ghost use Rattle.grammar_reading.specs.BitsRead.{Advances, AnswersSpelling, BeginsWith, Explains, Reads};
+ghost use Rattle.block_coeffs.specs.BlockFault.{refusal_told};
 
-use crate::block_fault::BlockFault;
 use crate::coefficient_table::{size_table, table_at};
 use crate::dc_standing::{DcStanding, what_dc};
+use crate::fault::BlockFault;
 use crate::standing::{Standing, what_stands};
-use crate::window::Window;
 use arrayvec::ArrayVec;
-use bit_cursor::{BitFault, BitReader};
+use bit_cursor::BitReader;
+use grammar_reading::Window;
 use prefix_codes::{TableName, WINDOW_BITS};
 use shelf_io::{Fault, Source};
 use syntax_types::{BLOCK_PLACES, Block, BlockWay, Dc, RunLevel};
@@ -28,18 +28,38 @@ pub fn read_block<S: Source>(
     way: BlockWay,
 ) -> Result<Block, BlockFault>
     ensures ok { IfOk result (λ b. Reads (block way) b from.old from.new) }
-    ensures exact { (b : Block) (rest : List ℕ) → Comes (block way) b from.old rest →
-        MatchResult result (λ found. (found ≡ b) × (bits_left from.new ≡ Some rest)) IsOutside }
-    ensures refused { IfErr result (Explains (block way) from.old) }
+    ensures exact { AnswersSpelling (block way) refusal_told result from.old from.new }
+    ensures refused { IfErr result (λ fault. Explains (block way) from.old (refusal_told fault)) }
     ensures advances { Advances from.old from.new }
 
     ensures failed { IsErrOf result (BlockFault.Outside Fault.Failed) → Rose (faults_of from.old) (faults_of from.new) }
     ensures missing { IsErrOf result (BlockFault.Outside Fault.Missing) → Rose (absences_of from.old) (absences_of from.new) }
     ensures keeps { KeepsSource from.old from.new }
 {
-    let dc = read_first(from, way)?;
-    let pairs = read_pairs(from, way)?;
-    Ok(Block { dc, pairs })
+    let mut block = Block::default();
+    read_block_into(from, way, &mut block)?;
+    Ok(block)
+}
+
+/// The same into a block that is lent, whatever it holds. After an answer that isn't Ok it may hold anything.
+pub fn read_block_into<S: Source>(
+    from: &mut BitReader<'_, S>,
+    way: BlockWay,
+    into: &mut Block,
+) -> Result<(), BlockFault>
+    ensures ok { OnOk result (Reads (block way) into.new from.old from.new) }
+    ensures exact { (b : Block) (rest : List ℕ) → BeginsWith (block way) b from.old rest →
+        MatchResult result (λ _. (into.new ≡ b) × (bits_left from.new ≡ Some rest)) (λ fault. IsNone (refusal_told fault)) }
+    ensures refused { IfErr result (λ fault. Explains (block way) from.old (refusal_told fault)) }
+    ensures advances { Advances from.old from.new }
+
+    ensures failed { IsErrOf result (BlockFault.Outside Fault.Failed) → Rose (faults_of from.old) (faults_of from.new) }
+    ensures missing { IsErrOf result (BlockFault.Outside Fault.Missing) → Rose (absences_of from.old) (absences_of from.new) }
+    ensures keeps { KeepsSource from.old from.new }
+{
+    into.dc = read_first(from, way)?;
+    into.pairs.clear();
+    read_pairs(from, way, &mut into.pairs)
 }
 
 /// The DC coefficient of an intra block, and None of another one.
@@ -48,7 +68,7 @@ fn read_first<S: Source>(
     way: BlockWay,
 ) -> Result<Option<Dc>, BlockFault>
     ensures ok { IfOk result (λ dc. Reads (optional way.intra (dc_coefficient way)) dc from.old from.new) }
-    ensures refused { IfErr result (Explains (optional way.intra (dc_coefficient way)) from.old) }
+    ensures refused { IfErr result (λ fault. Explains (optional way.intra (dc_coefficient way)) from.old (refusal_told fault)) }
     ensures kept { OnErr result (bits_left from.new ≡ bits_left from.old) }
     ensures kept_place { OnErr result (place from.new ≡ place from.old) }
 
@@ -68,7 +88,7 @@ fn read_first<S: Source>(
 fn read_dc<S: Source>(from: &mut BitReader<'_, S>, table: TableName) -> Result<Dc, BlockFault>
     requires { IsTrue (is_sizes table) }
     ensures ok { IfOk result (λ dc. Reads (dc_by table) dc from.old from.new) }
-    ensures refused { IfErr result (Explains (dc_by table) from.old) }
+    ensures refused { IfErr result (λ fault. Explains (dc_by table) from.old (refusal_told fault)) }
     ensures kept { OnErr result (bits_left from.new ≡ bits_left from.old) }
     ensures kept_place { OnErr result (place from.new ≡ place from.old) }
 
@@ -76,103 +96,61 @@ fn read_dc<S: Source>(from: &mut BitReader<'_, S>, table: TableName) -> Result<D
     ensures missing { IsErrOf result (BlockFault.Outside Fault.Missing) → Rose (absences_of from.old) (absences_of from.new) }
     ensures keeps { KeepsSource from.old from.new }
 {
-    let window = look(from)?;
-    match what_dc(table, window) {
+    from.hold(WINDOW_BITS)?;
+    match what_dc(table, held_window(from)) {
         DcStanding::Coefficient { dc, len } => {
-            skip(from, len)?;
+            from.skip(len);
             Ok(dc)
         }
         DcStanding::Refused { why, behind } => Err(why.at(from.place() + u64::from(behind))),
     }
 }
 
-/// The coefficients up to the end of block.
+/// The coefficients up to the end of block, behind none.
 fn read_pairs<S: Source>(
     from: &mut BitReader<'_, S>,
     way: BlockWay,
-) -> Result<ArrayVec<RunLevel, BLOCK_PLACES>, BlockFault>
-    ensures ok { IfOk result (λ pairs. Reads (many (coefficient way)) (pairs.items, tt) from.old from.new) }
-    ensures refused { IfErr result (Explains (many (coefficient way)) from.old) }
+    into: &mut ArrayVec<RunLevel, BLOCK_PLACES>,
+) -> Result<(), BlockFault>
+    requires { into.old.items ≡ [] }
+    ensures ok { OnOk result (Reads (many (coefficient way)) (into.new.items, tt) from.old from.new) }
+    ensures refused { IfErr result (λ fault. Explains (many (coefficient way)) from.old (refusal_told fault)) }
     ensures advances { OnErr result (Advances from.old from.new) }
 
     ensures failed { IsErrOf result (BlockFault.Outside Fault.Failed) → Rose (faults_of from.old) (faults_of from.new) }
     ensures missing { IsErrOf result (BlockFault.Outside Fault.Missing) → Rose (absences_of from.old) (absences_of from.new) }
     ensures keeps { KeepsSource from.old from.new }
 {
-    let mut pairs = ArrayVec::new();
     let mut index = u32::from(way.intra);
-    'coefficients: while let Some(pair) = next_coefficient(from, table_at(way, index), index)? {
-        pairs.push(pair);
-        index += u32::from(pair.run) + 1;
-    }
-    Ok(pairs)
-}
-
-/// The coefficient that stands next, at this index of the block's places, or None for the end of block. It takes no bit
-/// where none of them stands there.
-fn next_coefficient<S: Source>(
-    from: &mut BitReader<'_, S>,
-    table: TableName,
-    index: u32,
-) -> Result<Option<RunLevel>, BlockFault>
-    requires table { IsTrue (is_coefficients table) }
-    requires index { index ≤ BLOCK_PLACES }
-    ensures ok { IfOk result (λ pair. Reads (coefficient_at table index) (more_of pair) from.old from.new) }
-    ensures within { IfOk result (λ pair. IfSome pair (λ pair. index + pair.run < BLOCK_PLACES)) }
-    ensures refused { IfErr result (Explains (coefficient_at table index) from.old) }
-    ensures kept { OnErr result (bits_left from.new ≡ bits_left from.old) }
-    ensures kept_place { OnErr result (place from.new ≡ place from.old) }
-
-    ensures failed { IsErrOf result (BlockFault.Outside Fault.Failed) → Rose (faults_of from.old) (faults_of from.new) }
-    ensures missing { IsErrOf result (BlockFault.Outside Fault.Missing) → Rose (absences_of from.old) (absences_of from.new) }
-    ensures keeps { KeepsSource from.old from.new }
-{
-    let window = look(from)?;
-    match what_stands(table, index, window) {
-        Standing::EndOfBlock { len } => {
-            skip(from, len)?;
-            Ok(None)
+    let mut table = table_at(way, index);
+    let later = table_at(way, 1);
+    'coefficients: loop {
+        from.hold(WINDOW_BITS)?;
+        let window = held_window(from);
+        match what_stands(table, index, window) {
+            Standing::EndOfBlock { len } => {
+                from.skip(len);
+                return Ok(());
+            }
+            Standing::Pair { run, level, len } => {
+                from.skip(len);
+                into.push(RunLevel { run, level });
+                index += u32::from(run) + 1;
+                table = later;
+            }
+            Standing::Refused { why, behind } => {
+                return Err(why.at(from.place() + u64::from(behind)));
+            }
         }
-        Standing::Pair { pair, len } => {
-            skip(from, len)?;
-            Ok(Some(pair))
-        }
-        Standing::Refused { why, behind } => Err(why.at(from.place() + u64::from(behind))),
     }
 }
 
-/// What is seen of the bits that are left.
-fn look<S: Source>(from: &mut BitReader<'_, S>) -> Result<Window, BlockFault>
-    ensures shows { IfOk result (λ window. IfSome (bits_left from.old) (Shows window)) }
-    ensures outside { IfErr result IsOutside }
-    ensures left { bits_left from.new ≡ bits_left from.old }
-    ensures place { place from.new ≡ place from.old }
-
-    ensures failed { IsErrOf result (BlockFault.Outside Fault.Failed) → Rose (faults_of from.old) (faults_of from.new) }
-    ensures missing { IsErrOf result (BlockFault.Outside Fault.Missing) → Rose (absences_of from.old) (absences_of from.new) }
-    ensures keeps { KeepsSource from.old from.new }
+/// What is seen of the bits that are left by those that are held: all of them, or a whole window.
+#[inline]
+fn held_window<S: Source>(from: &BitReader<'_, S>) -> Window
+    ensures shows { IfSome (bits_left from.now) (λ bits. (bits_held from.now < WINDOW_BITS → length bits ≡ bits_held from.now) → ShowsFront result bits) }
+    ensures held { result.known ≤ bits_held from.now }
 {
-    let (bits, known) = from.peek(WINDOW_BITS)?;
-    Ok(Window { bits, known })
-}
-
-/// Takes so many of the bits that are left, which a window showed.
-fn skip<S: Source>(from: &mut BitReader<'_, S>, len: u32) -> Result<(), BlockFault>
-    requires len { len ≤ WINDOW_BITS }
-    requires shown { IfSome (bits_left from.old) (λ bits. len ≤ length bits) }
-    ensures left { IfOk result (λ _. bits_left from.new ≡ without_bits (bits_left from.old) len) }
-    ensures place { IfOk result (λ _. place from.new ≡ place from.old + len) }
-    ensures outside { IfErr result (λ fault. IfSome (bits_left from.old) (λ _. IsOutside fault)) }
-    ensures kept { OnErr result (bits_left from.new ≡ bits_left from.old) }
-    ensures kept_place { OnErr result (place from.new ≡ place from.old) }
-
-    ensures failed { IsErrOf result (BlockFault.Outside Fault.Failed) → Rose (faults_of from.old) (faults_of from.new) }
-    ensures missing { IsErrOf result (BlockFault.Outside Fault.Missing) → Rose (absences_of from.old) (absences_of from.new) }
-    ensures keeps { KeepsSource from.old from.new }
-{
-    match from.bits(len) {
-        Ok(_) => Ok(()),
-        Err(BitFault::End) => Err(BlockFault::End { at: from.place() }),
-        Err(BitFault::Outside(fault)) => Err(BlockFault::Outside(fault)),
-    }
+    let (bits, known) = from.held_window(WINDOW_BITS);
+    Window { bits, known }
 }

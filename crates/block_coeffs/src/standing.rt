@@ -2,15 +2,16 @@ ghost use Rattle.std.specs.Prelude.{◌≡◌, ◌≢◌, ◌≤◌, ◌<◌, �
 ghost use Rattle.bit_lists.specs.Fields.{flag};
 ghost use Rattle.prefix_codes.specs.TableName.{Begins, is_coefficients};
 ghost use Rattle.picture_grammar.specs.Block.{signed, escape_level};
-ghost use Rattle.block_coeffs.specs.Standing.{IsFound, seen};
+ghost use Rattle.block_coeffs.specs.Private.Standing.{IsFound};
+ghost use Rattle.grammar_reading.specs.Window.{seen};
 
 use crate::cut::why_none;
 use crate::why::Why;
-use crate::window::Window;
+use grammar_reading::Window;
 use picture_grammar::escape::{LEVEL_BITS, RUN_BITS};
 use prefix_codes::symbol::{END_OF_BLOCK, ESCAPE, LEVELS_PER_RUN};
 use prefix_codes::{TableName, WINDOW_BITS, find};
-use syntax_types::{BLOCK_PLACES, RunLevel};
+use syntax_types::BLOCK_PLACES;
 
 /// The level of an escape that is forbidden beside 0: -2048 in two's complement (Table B-16).
 const FORBIDDEN_LEVEL: u32 = 1 << (LEVEL_BITS - 1);
@@ -20,32 +21,37 @@ const FORBIDDEN_LEVEL: u32 = 1 << (LEVEL_BITS - 1);
 pub enum Standing {
     /// The end of block, in so many bits.
     EndOfBlock { len: u32 },
-    /// A coefficient, in so many bits with its sign.
-    Pair { pair: RunLevel, len: u32 },
+    /// A coefficient of this run and level, in so many bits with its sign.
+    Pair { run: u8, level: i16, len: u32 },
     /// Neither, for this reason, behind so many bits.
     Refused { why: Why, behind: u32 },
 }
 
 /// What stands at the front of a window, by a table of coefficients, at a place of the block: one look-up.
+#[inline(always)]
 pub fn what_stands(table: TableName, place: u32, window: Window) -> Standing
     requires table { IsTrue (is_coefficients table) }
     requires place { place ≤ BLOCK_PLACES }
     ensures { IsFound table place window result }
 {
-    match find(table, window.bits, window.known) {
-        None => Standing::Refused {
+    let Some((symbol, len)) = find(table, window.bits, window.known) else {
+        return Standing::Refused {
             why: why_none(table, place, window),
             behind: 0,
-        },
-        Some((END_OF_BLOCK, len)) => Standing::EndOfBlock {
-            len: u32::from(len),
-        },
-        Some((ESCAPE, _)) => escaped(place, window),
-        Some((symbol, len)) => by_table(place, window, symbol, u32::from(len)),
+        };
+    };
+    let len = u32::from(len);
+    if symbol < END_OF_BLOCK {
+        by_table(place, window, symbol, len)
+    } else if symbol == END_OF_BLOCK {
+        Standing::EndOfBlock { len }
+    } else {
+        escaped(place, window)
     }
 }
 
 /// The coefficient whose code stands there: its run and the size of its level are the symbol's, and its sign follows.
+#[inline(always)]
 fn by_table(place: u32, window: Window, symbol: u16, len: u32) -> Standing
     requires place { place ≤ BLOCK_PLACES }
     requires within { len ≤ window.known }
@@ -67,16 +73,15 @@ fn by_table(place: u32, window: Window, symbol: u16, len: u32) -> Standing
     }
     let level = with_sign(symbol % LEVELS_PER_RUN, bit_at(window, len));
     Standing::Pair {
-        pair: RunLevel {
-            run: run as u8,
-            level,
-        },
+        run: run as u8,
+        level,
         len: len + 1,
     }
 }
 
 /// The escape whose code stands there, with its run and its level (7.2.2.3). Where the bits end within it, the zeros
 /// past them make its run the least that it may have.
+#[cold]
 fn escaped(place: u32, window: Window) -> Standing
     requires { place ≤ BLOCK_PLACES }
     ensures { (table : TableName) (len : ℕ) → IsTrue (is_coefficients table) →
@@ -92,10 +97,8 @@ fn escaped(place: u32, window: Window) -> Standing
         Why::BadEscape
     } else {
         return Standing::Pair {
-            pair: RunLevel {
-                run: run as u8,
-                level: in_twos_complement(level),
-            },
+            run: run as u8,
+            level: in_twos_complement(level),
             len: WINDOW_BITS,
         };
     };
@@ -103,6 +106,7 @@ fn escaped(place: u32, window: Window) -> Standing
 }
 
 /// The bit behind so many bits of a window.
+#[inline]
 fn bit_at(window: Window, index: u32) -> bool
     requires { index < WINDOW_BITS }
     ensures { seen window (index + 1) ≡ seen window index ++ flag result ∷ [] }
@@ -111,6 +115,7 @@ fn bit_at(window: Window, index: u32) -> bool
 }
 
 /// A level by its size and its sign.
+#[inline]
 fn with_sign(size: u16, negative: bool) -> i16
     requires { size < LEVELS_PER_RUN }
     ensures { result ≡ signed size negative }
@@ -120,6 +125,7 @@ fn with_sign(size: u16, negative: bool) -> i16
 }
 
 /// The level of an escape (Table B-16).
+#[inline]
 fn in_twos_complement(level: u32) -> i16
     requires { level < 2 ^ LEVEL_BITS }
     ensures { result ≡ escape_level level }

@@ -1,4 +1,4 @@
-use crate::block_fault::BlockFault;
+use crate::fault::BlockFault;
 
 /// Why no coefficient and no end of block stands at some bits.
 #[derive(Clone, Copy, Debug, PartialEq, Eq)]
@@ -11,7 +11,7 @@ pub enum Why {
 
 impl Why {
     ghost use Rattle.std.specs.Prelude.{◌≡◌};
-    ghost use Rattle.block_coeffs.specs.Why.{fault_at};
+    ghost use Rattle.block_coeffs.specs.Private.Why.{fault_at};
 
     /// The refusal at a place in bits.
     pub fn at(self, at: u64) -> BlockFault

@@ -1,14 +1,15 @@
-ghost use Rattle.std.specs.Prelude.{◌≡◌, ◌<◌, ◌≤◌, ◌^◌, List, ℕ, false};
+ghost use Rattle.std.specs.Prelude.{◌≡◌, ◌<◌, ◌≤◌, ◌^◌, List, ℕ, IsTrue, false};
 ghost use Rattle.bit_cursor.specs.BitWriter.{is_stopped, Writes};
+ghost use Rattle.prefix_codes.specs.TableName.{is_coefficients};
 ghost use Rattle.picture_grammar.specs.Block.{block as block_grammar, first_place};
 ghost use Rattle.picture_grammar.specs.Written.{code_for as bits_for, written_dc, written_escape, written_coefficient, written_coefficients, written_block};
-ghost use Rattle.block_coeffs.specs.Writing.{CanStand, CanFollow};
+ghost use Rattle.block_coeffs.specs.Private.Writing.{CanStand, CanFollow};
 
 use crate::coefficient_table::{size_table, table_at};
-use crate::written_codes::{code_for, coefficient_code, level_field};
+use crate::written_codes::{code_for, level_field};
 use bit_cursor::BitWriter;
 use picture_grammar::escape::{LEVEL_BITS, RUN_BITS};
-use prefix_codes::{TableName, symbol};
+use prefix_codes::{TableName, coefficient_code, symbol};
 use shelf_io::{Fault, Sink};
 use syntax_types::{Block, BlockWay, Dc, RunLevel};
 
@@ -62,11 +63,14 @@ fn write_coefficients<K: Sink>(
     ensures { Writes K.written K.faults K.keeps to.old to.new result (written_coefficients way (first_place way) pairs.now) }
 {
     let mut place = u32::from(way.intra);
+    let mut table = table_at(way, place);
+    let later = table_at(way, 1);
     for pair in pairs {
-        write_coefficient(to, table_at(way, place), *pair)?;
+        write_coefficient(to, table, *pair)?;
         place += u32::from(pair.run) + 1;
+        table = later;
     }
-    write_code(to, table_at(way, place), symbol::END_OF_BLOCK)
+    write_code(to, table, symbol::END_OF_BLOCK)
 }
 
 fn write_coefficient<K: Sink>(
@@ -75,6 +79,7 @@ fn write_coefficient<K: Sink>(
     pair: RunLevel,
 ) -> Result<(), Fault>
     requires goes { is_stopped to.old ≡ false }
+    requires table { IsTrue (is_coefficients table) }
     requires stands { CanStand pair }
     ensures { Writes K.written K.faults K.keeps to.old to.new result (written_coefficient table pair) }
 {

@@ -1,5 +1,6 @@
 pub mod Cycles
 pub mod Elements
+pub mod Gathering
 pub mod Prefix
 pub mod Refusals
 pub mod RoundTrip

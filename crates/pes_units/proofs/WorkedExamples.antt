@@ -1,12 +1,14 @@
 -- The definitions, computed at worked examples.
-use Rattle.std.proofs.Common.{◌≡◌, ℕ, ◌^◌, ◌-◌, true, false, List, [], ◌∷◌, ◌++◌, Some, None, refl, pos, arith}
+use Rattle.std.proofs.Common.{◌≡◌, ℕ, ◌^◌, ◌-◌, Bool, true, false, List, [], ◌∷◌, ◌++◌, Some, None, refl, pos, arith}
 use Rattle.std.proofs.lemmas.Int.{ints}
 use Rattle.bit_lists.specs.Fields.{bit, bits}
-use Rattle.pes_units.specs.declared.pes_fault.PesFault.TheVariants.{BadPrefix, Short, Scrambled, BadMarker}
+use Rattle.payload_lists.specs.Payload.{CarriedPayload}
+use Rattle.pes_units.specs.declared.pes_fault.PesFault.TheVariants.{BadPrefix, Short, Scrambled, BadMarker, BadLength}
 use Rattle.pes_units.specs.declared.pes_header.PesHeader.{PesHeader}
 use Rattle.pes_units.specs.declared.times.Times.{Times}
 use Rattle.pes_units.specs.PesHeader.{header_of, refusal}
-use Rattle.pes_units.specs.PesPackets.{Piece, gathered, is_dropped, is_length_sound, last_refusal, pes_packets}
+use Rattle.pes_units.specs.PesPackets.{gathered, is_dropped, is_length_sound, packet_refusal, last_refusal}
+use Rattle.pes_units.specs.Private.PesPackets.{pes_packets}
 use Rattle.pes_units.specs.TimeAxis.{IsUnwrapped}
 use Rattle.pes_units.specs.VideoHeader.{written_header}
 
@@ -119,17 +121,24 @@ no_time stated = record { stream_id = 0xC0; stated = stated; times = record { pt
 abbrev stating : ℕ → List ℕ
 stating n = 0x00 ∷ 0x00 ∷ 0x01 ∷ 0xC0 ∷ 0x00 ∷ n ∷ 0x80 ∷ 0x00 ∷ 0x00 ∷ []
 
-abbrev pieces : List Piece
+abbrev carried : ℕ → Bool → List ℕ → CarriedPayload
+carried at start bytes = record { at = at; payload = record { start = start; bytes = bytes } }
+
+abbrev pieces : List CarriedPayload
 pieces =
-    record { at = 188; start = false; payload = 7 ∷ 7 ∷ [] }
-    ∷ record { at = 376; start = true; payload = stating 5 ++ 1 ∷ [] }
-    ∷ record { at = 752; start = false; payload = 2 ∷ [] }
-    ∷ record { at = 940; start = true; payload = 0x00 ∷ 0x00 ∷ 0x01 ∷ [] }
-    ∷ record { at = 1128; start = false; payload = 0xC0 ∷ 0x00 ∷ 6 ∷ 0x80 ∷ 0x00 ∷ 0x00 ∷ 3 ∷ [] }
+    carried 188 false (7 ∷ 7 ∷ [])
+    ∷ carried 376 true (stating 5 ++ 1 ∷ [])
+    ∷ carried 752 false (2 ∷ [])
+    ∷ carried 940 true (0x00 ∷ 0x00 ∷ 0x01 ∷ [])
+    ∷ carried 1128 false (0xC0 ∷ 0x00 ∷ 6 ∷ 0x80 ∷ 0x00 ∷ 0x00 ∷ 3 ∷ [])
     ∷ []
 
 pieces-gathered : gathered pieces ≡ record { at = 376; bytes = stating 5 ++ 1 ∷ 2 ∷ [] } ∷ record { at = 940; bytes = stating 6 ++ 3 ∷ [] } ∷ []
 pieces-gathered = refl
+
+-- a start flag without payload means nothing
+empty_start : gathered (carried 0 true (1 ∷ []) ∷ carried 188 true [] ∷ carried 376 false (2 ∷ []) ∷ []) ≡ record { at = 0; bytes = 1 ∷ 2 ∷ [] } ∷ []
+empty_start = refl
 
 -- the last one states two bytes of payload and has one, so it is cut
 pieces-packets : pes_packets false (gathered pieces) ≡ record { header = no_time 5; payload = 1 ∷ 2 ∷ [] } ∷ []
@@ -166,6 +175,19 @@ whole_and_short = refl
 audio_without_length : is_length_sound false (stating 0 ++ 1 ∷ []) ≡ false
 unfolding bit bits
 audio_without_length = refl
+
+-- a packet that is longer than it states, and an audio packet that states nothing
+longer_than_stated : packet_refusal false (stating 4 ++ 1 ∷ 2 ∷ []) ≡ Some BadLength
+unfolding bit bits
+longer_than_stated = refl
+
+nothing_stated : packet_refusal false (stating 0 ++ 1 ∷ []) ≡ Some BadLength
+unfolding bit bits
+nothing_stated = refl
+
+as_long_as_stated : packet_refusal false (stating 4 ++ 1 ∷ []) ≡ None
+unfolding bit bits
+as_long_as_stated = refl
 
 -- ---- times on one axis
 

@@ -3,3 +3,4 @@ pub mod PesPackets
 pub mod TimeAxis
 pub mod Times
 pub mod VideoHeader
+pub mod Private

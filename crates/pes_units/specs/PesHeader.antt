@@ -2,7 +2,7 @@
 use Rattle.std.specs.Prelude.{◌≡◌, ℕ, ◌+◌, ◌<◌, ◌==◌, nat_eq, nat_le, Bool, true, false, not, ◌&&◌, ◌||◌, IsTrue, List, [], ◌∷◌, length, take, Option, Some, None, is_none, if◌then◌else◌}
 use Rattle.std.specs.List.{find, starts_with}
 use Rattle.pes_units.specs.declared.pes_fault.PesFault.{PesFault}
-use Rattle.pes_units.specs.declared.pes_fault.PesFault.TheVariants.{BadPrefix, Short, Scrambled, BadMarker}
+use Rattle.pes_units.specs.declared.pes_fault.PesFault.TheVariants.{BadPrefix, Short, Scrambled, BadMarker, BadLength}
 use Rattle.pes_units.specs.declared.pes_header.PesHeader.{PesHeader}
 use Rattle.bit_lists.specs.Fields.{bits}
 use Rattle.pes_units.specs.Times.{pes_header_data_length, HasTimes, are_times_sound, times_of}
@@ -73,12 +73,13 @@ abbrev pub has_prefix : Bool → List ℕ → Bool
 has_prefix video bytes = starts_with nat_eq (0 ∷ 0 ∷ 1 ∷ []) (take 3 bytes) && (nat_le (length bytes) 3 || is_stream_id video (stream_id bytes))
 
 -- The bytes have a fault: a wrong prefix; no byte behind the header; scrambling; other bits than `10`, or times that don't
--- stand as announced. Bits past the end are 0, so fewer than nine bytes are short too.
+-- stand as announced. Bits past the end are 0, so fewer than nine bytes are short too. A bad length is no fault of a header.
 abbrev pub has_fault : Bool → List ℕ → PesFault → Bool
 has_fault video bytes BadPrefix = not (has_prefix video bytes)
 has_fault video bytes Short = nat_le (length bytes) (header_length bytes)
 has_fault video bytes Scrambled = not (pes_scrambling_control bytes == 0)
 has_fault video bytes BadMarker = not ((fixed_bits bytes == 2) && are_times_sound bytes)
+has_fault video bytes BadLength = false
 
 -- the first fault that the bytes have
 abbrev pub refusal : Bool → List ℕ → Option PesFault

@@ -1,34 +1,45 @@
 -- The PES packets of a PID (ISO/IEC 13818-1, 2.4.3.3 and 2.4.3.6).
-use Rattle.std.specs.Prelude.{ℕ, ◌+◌, ◌==◌, nat_lt, Bool, not, ◌&&◌, ◌||◌, List, [], ◌∷◌, ◌++◌, length, drop, Option, if◌then◌else◌}
-use Rattle.std.specs.List.{find}
+use Rattle.std.specs.Prelude.{ℕ, ◌+◌, ◌==◌, ◌≡◌, ◌<◌, nat_lt, Bool, true, false, not, ◌&&◌, ◌||◌, List, [], ◌∷◌, ◌++◌, length, drop, All, Option, Some, None, is_some, if◌then◌else◌}
+use Rattle.std.specs.List.{find, flat_map}
+use Rattle.payload_lists.specs.Payload.{CarriedPayload, is_start}
 use Rattle.pes_units.specs.declared.pes_fault.PesFault.{PesFault}
-use Rattle.pes_units.specs.declared.pes_fault.PesFault.TheVariants.{BadPrefix, Scrambled, BadMarker}
+use Rattle.pes_units.specs.declared.pes_fault.PesFault.TheVariants.{BadPrefix, Scrambled, BadMarker, BadLength}
 use Rattle.pes_units.specs.declared.pes_header.PesHeader.{PesHeader}
 use Rattle.pes_units.specs.PesHeader.{pes_packet_length, header_length, fields_of, has_fault, is_header_whole, refusal}
 
 -- ---- how they are gathered
-
--- what a transport packet of the PID brings: its place in the file, payload_unit_start_indicator and payload
-pub record Piece : Type 0 where
-  pub at : ℕ
-  pub start : Bool
-  pub payload : List ℕ
 
 -- the bytes of a PES packet, and the place of its first transport packet
 pub record Gathered : Type 0 where
   pub at : ℕ
   pub bytes : List ℕ
 
--- the payload before the next packet with the start flag
-abbrev pub up_to_start : List Piece → List ℕ
+-- the bytes before the next payload in which a PES packet begins
+abbrev pub up_to_start : List CarriedPayload → List ℕ
 up_to_start [] = []
-up_to_start (piece ∷ pieces) = if piece.start then [] else piece.payload ++ up_to_start pieces
+up_to_start (carried ∷ more) = if is_start carried.payload then [] else carried.payload.bytes ++ up_to_start more
 
--- from each packet with the start flag up to the next one; what comes before the first is dropped
-abbrev pub gathered : List Piece → List Gathered
+-- from each payload in which a PES packet begins up to the next one; what comes before the first is dropped
+abbrev pub gathered : List CarriedPayload → List Gathered
 gathered [] = []
-gathered (piece ∷ pieces) =
-    if piece.start then record { at = piece.at; bytes = piece.payload ++ up_to_start pieces } ∷ gathered pieces else gathered pieces
+gathered (carried ∷ more) =
+    if is_start carried.payload then record { at = carried.at; bytes = carried.payload.bytes ++ up_to_start more } ∷ gathered more else gathered more
+
+-- a PES packet cut into payloads: the first one, at its place, has bytes and the start flag, the others no flag
+pub record IsCut (packet : Gathered) (pieces : List CarriedPayload) : Type 0 where
+  pub first : List ℕ
+  pub others : List CarriedPayload
+  pub pieces_are : pieces ≡ record { at = packet.at; payload = record { start = true; bytes = first } } ∷ others
+  pub some : 0 < length first
+  pub flags : All (λ carried. carried.payload.start ≡ false) others
+  pub joined : packet.bytes ≡ first ++ flat_map (λ carried. carried.payload.bytes) others
+
+-- each packet cut in some way, one behind the other
+abbrev pub AreCuts : List Gathered → List (List CarriedPayload) → Type 0
+AreCuts [] [] = Unit {0}
+AreCuts [] (_ ∷ _) = ⊥
+AreCuts (_ ∷ _) [] = ⊥
+AreCuts (packet ∷ packets) (pieces ∷ cuts) = IsCut packet pieces × AreCuts packets cuts
 
 -- ---- the last one, which the end of the stream may cut
 
@@ -36,34 +47,21 @@ gathered (piece ∷ pieces) =
 abbrev pub is_cut : Bool → List ℕ → Bool
 is_cut video bytes = nat_lt (length bytes) 6 || (video && (pes_packet_length bytes == 0)) || nat_lt (length bytes) (6 + pes_packet_length bytes)
 
--- what refuses a last packet: where it is cut, that it is short is no fault
+-- a packet that isn't cut is as long as it states; only video may state nothing
+abbrev pub is_length_sound : Bool → List ℕ → Bool
+is_length_sound video bytes = if pes_packet_length bytes == 0 then video else length bytes == 6 + pes_packet_length bytes
+
+-- the first fault of a packet that isn't cut: its header's, or a length that it doesn't have
+abbrev pub packet_refusal : Bool → List ℕ → Option PesFault
+packet_refusal video bytes = if is_some (refusal video bytes) then refusal video bytes else if is_length_sound video bytes then None else Some BadLength
+
+-- what refuses a last packet: where it is cut, that it is short or not as long as it states is no fault
 abbrev pub last_refusal : Bool → List ℕ → Option PesFault
 last_refusal video bytes =
-    if not (is_cut video bytes) then refusal video bytes
+    if not (is_cut video bytes) then packet_refusal video bytes
     else if is_header_whole bytes then find (has_fault video bytes) (BadPrefix ∷ Scrambled ∷ BadMarker ∷ [])
     else find (has_fault video bytes) (BadPrefix ∷ [])
 
 -- a cut packet is dropped, but in video it is taken as it is where its header is whole
 abbrev pub is_dropped : Bool → List ℕ → Bool
 is_dropped video bytes = is_cut video bytes && not (video && is_header_whole bytes)
-
--- ---- headers and payloads
-
--- a packet that isn't cut is as long as it states; only video may state nothing
-abbrev pub is_length_sound : Bool → List ℕ → Bool
-is_length_sound video bytes = if pes_packet_length bytes == 0 then video else length bytes == 6 + pes_packet_length bytes
-
--- a PES packet: its header, and what follows it
-pub record PesPacket : Type 0 where
-  pub header : PesHeader
-  pub payload : List ℕ
-
--- the packet that the bytes are
-abbrev pub packet_of : List ℕ → PesPacket
-packet_of bytes = record { header = fields_of bytes; payload = drop (header_length bytes) bytes }
-
--- the header and the payload of each of the gathered packets, where nothing refuses them; a dropped last one is left out
-abbrev pub pes_packets : Bool → List Gathered → List PesPacket
-pes_packets video [] = []
-pes_packets video (last ∷ []) = if is_dropped video last.bytes then [] else packet_of last.bytes ∷ []
-pes_packets video (packet ∷ next ∷ packets) = packet_of packet.bytes ∷ pes_packets video (next ∷ packets)

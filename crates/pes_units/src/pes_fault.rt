@@ -16,4 +16,7 @@ pub enum PesFault {
     /// bit of a time is 0.
     #[error("bad marker")]
     BadMarker,
+    /// A whole PES packet isn't as long as it states, or an audio packet states the length 0. No header has this fault.
+    #[error("bad length")]
+    BadLength,
 }

@@ -2,7 +2,7 @@ ghost use Rattle.std.specs.Prelude.{◌≡◌, ◌≤◌, [], ◌∷◌, length,
 ghost use Rattle.std.specs.List.{find};
 ghost use Rattle.std.specs.Result.{result_err, result_ok};
 ghost use Rattle.pes_units.specs.PesHeader.{IsPesHeader, fields_of, has_fault, has_prefix, header_length, header_of, is_header_whole, is_stream_id, pes_packet_length, refusal};
-ghost use Rattle.pes_units.specs.PesPackets.{is_cut, is_dropped, last_refusal};
+ghost use Rattle.pes_units.specs.PesPackets.{is_cut, is_dropped, is_length_sound, packet_refusal, last_refusal};
 
 use crate::pes_fault::PesFault;
 use crate::times::Times;
@@ -58,6 +58,21 @@ impl PesHeader {
         Self::read_whole(bytes)
     }
 
+    /// The header of a whole PES packet, as each but the last of a PID is. An error is the first fault that the packet
+    /// has, in the order of `PesFault`.
+    #[tactic(auto, using(crate::proofs::Elements::elements))]
+    pub fn read_packet(bytes: &[u8], video: bool) -> Result<PesHeader, PesFault>
+        ensures fault { result_err result ≡ packet_refusal video bytes.now }
+        ensures header { IfOk result (λ header. header ≡ fields_of bytes.now) }
+        ensures is_header { IfOk result (λ header. IsPesHeader video header bytes.now) }
+    {
+        let header = Self::read(bytes, video)?;
+        if !is_length_sound(bytes, video) {
+            return Err(PesFault::BadLength);
+        }
+        Ok(header)
+    }
+
     /// The header of the last packet of a PID, which the end of the stream may cut. None is answered where it is cut and
     /// is dropped: in audio, and where its header isn't whole. An error is the first fault that the packet has, in the
     /// order of `PesFault`, but that a cut packet is short is no fault.
@@ -67,7 +82,7 @@ impl PesHeader {
         ensures header { IfOk result (λ header. header ≡ (if is_dropped video bytes.now then None else Some (fields_of bytes.now))) }
     {
         if !is_cut(bytes, video) {
-            return Ok(Some(Self::read(bytes, video)?));
+            return Ok(Some(Self::read_packet(bytes, video)?));
         }
         if !has_prefix(bytes, video) {
             return Err(PesFault::BadPrefix);
@@ -158,4 +173,18 @@ fn stated_length(bytes: &[u8]) -> u16
     ensures { result ≡ pes_packet_length bytes.now }
 {
     u16::from_be_bytes([bytes[4], bytes[5]])
+}
+
+/// True where a packet is as long as it states, or is a video packet that states no length.
+#[tactic(auto, using(crate::proofs::Elements::elements))]
+fn is_length_sound(bytes: &[u8], video: bool) -> bool
+    requires { 6 ≤ length bytes.now }
+    ensures { result ≡ is_length_sound video bytes.now }
+{
+    let stated = stated_length(bytes) as usize;
+    if stated == 0 {
+        video
+    } else {
+        bytes.len() == STATING_BYTES + stated
+    }
 }

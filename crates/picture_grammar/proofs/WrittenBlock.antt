@@ -22,7 +22,7 @@ use Rattle.picture_grammar.specs.Written.{code_for, if_any, written_dc, level_bi
 
 -- ---- signs and levels
 
-unsigned_abs-signed : (size : ℕ) (negative : Bool) → unsigned_abs (signed size negative) ≡ size
+pub unsigned_abs-signed : (size : ℕ) (negative : Bool) → unsigned_abs (signed size negative) ≡ size
 unsigned_abs-signed size false = refl
 unsigned_abs-signed zero true = refl
 unsigned_abs-signed (suc n) true = refl
@@ -41,16 +41,16 @@ level_bits-escape_level n lt = elim (cases_lt n 2048) [
 ]
 
 -- the code of a symbol that has one
-code_for-listed : (table : TableName) (symbol : ℕ) (code : List ℕ) → code_in table symbol ≡ Some code → code_for table symbol ≡ code
+pub code_for-listed : (table : TableName) (symbol : ℕ) (code : List ℕ) → code_in table symbol ≡ Some code → code_for table symbol ≡ code
 code_for-listed table symbol code listed = ap (λ o. unwrap_or o []) listed
 
 module _ (way : BlockWay) (before : List RunLevel) where
   -- the pair is spelled as it is written, whatever follows
-  abbrev Written : RunLevel → List ℕ → Type 0
+  abbrev pub Written : RunLevel → List ℕ → Type 0
   Written pair other = (coefficient way before).Spells (more pair) (written_coefficient (coefficient_table way (next_place way before)) pair ++ other) other
 
   -- by a code of the table
-  by_table : (pair : RunLevel) (code other : List ℕ) → coefficient_code (coefficient_table way (next_place way before)) pair.run (unsigned_abs pair.level) ≡ Some code
+  pub by_table : (pair : RunLevel) (code other : List ℕ) → coefficient_code (coefficient_table way (next_place way before)) pair.run (unsigned_abs pair.level) ≡ Some code
       → nat_lt (next_place way before + pair.run) 64 ≡ true → Written pair other
   by_table pair code other listed within =
       let negative = int_lt pair.level (pos 0) in
@@ -64,7 +64,7 @@ module _ (way : BlockWay) (before : List RunLevel) where
       )
 
   -- by an escape where the table has no code
-  by_escape : (pair : RunLevel) (level : ℕ) (front other : List ℕ) → coefficient_code (coefficient_table way (next_place way before)) pair.run (unsigned_abs pair.level) ≡ None
+  pub by_escape : (pair : RunLevel) (level : ℕ) (front other : List ℕ) → coefficient_code (coefficient_table way (next_place way before)) pair.run (unsigned_abs pair.level) ≡ None
       → code_in (coefficient_table way (next_place way before)) ESCAPE ≡ Some front → pair.run < 2 ^ 6 → level < 2 ^ 12 → escape_level level ≡ pair.level
       → passes (rule TooMany (is_within (next_place way before)) ∷ rule BadEscape is_level ∷ []) (escape pair.run level) ≡ true → Written pair other
   by_escape pair level front other none listed run_fits level_fits level_is passing =
@@ -143,7 +143,7 @@ dc_written way dc bits middle other (size, m, (code, listed, p, split), (number,
     ∙ append_assoc code (bits_of size number) other in
     (size, bits_of size number ++ other, (code, listed, refl, written), (number, other, (bits_of size number, (fits, refl), refl, refl), (e, refl)))
 
-optional_written : (present : Bool) (way : BlockWay) (dc : Option Dc) (bits middle other : List ℕ) → (optional present (dc_coefficient way)).Spells dc bits middle
+pub optional_written : (present : Bool) (way : BlockWay) (dc : Option Dc) (bits middle other : List ℕ) → (optional present (dc_coefficient way)).Spells dc bits middle
     → (optional present (dc_coefficient way)).Spells dc (if_any (written_dc way) dc ++ other) other
 optional_written true way dc bits middle other (v, m, s, (e, f)) =
     (v, other, subst (λ d. (dc_coefficient way).Spells v (if_any (written_dc way) d ++ other) other) (sym e) (dc_written way v bits m other s), (e, refl))

@@ -1,22 +1,23 @@
 -- Units, each a coded picture with its headers, and lawful pictures (ISO/IEC 13818-2, 6.1.2, 6.2.2 and 6.3.3).
-use Rattle.std.specs.Prelude.{◌≡◌, ◌⊎◌, ◌<◌, ◌≤◌, ◌+◌, ◌-◌, ◌*◌, ◌/◌, ◌^◌, ◌==◌, ◌||◌, ℕ, Option, Some, None, List, [], ◌∷◌, length, replicate, Bool, true, false, if◌then◌else◌}
+use Rattle.std.specs.Prelude.{◌≡◌, ◌≢◌, ◌⊎◌, ◌<◌, ◌≤◌, ◌+◌, ◌-◌, ◌*◌, ◌/◌, ◌^◌, ◌==◌, ◌||◌, ℕ, Option, Some, None, List, [], ◌∷◌, length, replicate, Bool, true, false, if◌then◌else◌}
 use Rattle.std.specs.List.{sum_by, flat_map, range_with_len, AllByRecursion}
 use Rattle.bit_lists.specs.Fields.{AreBytes, bit_list}
 use Rattle.syntax_types.specs.declared.block.TheConstants.{BLOCK_PLACES}
 use Rattle.syntax_types.specs.declared.macroblock.Macroblock.{Macroblock}
+use Rattle.syntax_types.specs.declared.picture.TheConstants.{I_PICTURE, B_PICTURE, TOP_FIELD, FRAME_PICTURE}
 use Rattle.syntax_types.specs.declared.picture.PicCoding.{PicCoding}
 use Rattle.syntax_types.specs.declared.picture.Picture.{Picture}
 use Rattle.syntax_types.specs.declared.picture.SeqState.{SeqState}
 use Rattle.syntax_types.specs.declared.slice.Slice.{Slice}
 use Rattle.stream_constants.specs.declared.main_level.TheConstants.{VBV_MOST}
-use Rattle.picture_grammar.specs.declared.limits.TheConstants.{WIDTH_LEAST, WIDTH_MOST, HEIGHT_LEAST, HEIGHT_MOST, RATE_CODE_MOST, MACROBLOCK_SIZE}
+use Rattle.picture_grammar.specs.declared.limits.TheConstants.{WIDTH_LEAST, WIDTH_MOST, HEIGHT_LEAST, HEIGHT_MOST, RATE_CODE_MOST, MACROBLOCK_SIZE, F_CODE_MOST}
 use Rattle.picture_grammar.specs.declared.start_codes.TheConstants.{FIRST_SLICE, SEQUENCE_END}
 use Rattle.picture_grammar.specs.Refusal.{Refusal}
 use Rattle.picture_grammar.specs.Refusal.Refusal.{BadHeader, Uncovered}
 use Rattle.picture_grammar.specs.Grammar.{Grammar, done, ◌>>=◌, ◌>>◌, optional, if_next, many, Next, with_bytes}
 use Rattle.picture_grammar.specs.Grammar.Next.{more, last}
 use Rattle.picture_grammar.specs.StartCode.{start_code, zero_bits, only_zero_bytes, is_slice}
-use Rattle.picture_grammar.specs.Macroblock.{is_frame}
+use Rattle.picture_grammar.specs.Macroblock.{is_frame, f_codes}
 use Rattle.picture_grammar.specs.Slice.{slice, columns}
 use Rattle.picture_grammar.specs.Head.{head}
 
@@ -101,6 +102,22 @@ pub record IsState (seq : SeqState) : Type 0 where
   pub vbv : (1 ≤ seq.vbv) × (seq.vbv ≤ VBV_MOST)
   pub intra : AreWeights seq.intra
   pub non_intra : AreWeights seq.non_intra
+
+-- an f_code that counts (Table 7-8)
+abbrev pub IsFCode : ℕ → Type 0
+IsFCode number = (1 ≤ number) × (number ≤ F_CODE_MOST)
+
+-- A coding that a picture may have: forward f_codes count but in I-pictures with no concealment vectors, backward ones in
+-- B-pictures (6.3.9, 6.3.10).
+pub record IsCoding (coding : PicCoding) : Type 0 where
+  pub kind : (I_PICTURE ≤ coding.kind) × (coding.kind ≤ B_PICTURE)
+  pub vbv_delay : coding.vbv_delay < 2 ^ 16
+  pub f_code : (length coding.f_code ≡ 2) × AllByRecursion (λ codes. (length codes ≡ 2) × AllByRecursion (λ number. number < 2 ^ 4) codes) coding.f_code
+  pub forward : (coding.kind ≢ I_PICTURE) ⊎ (coding.concealment ≡ true) → AllByRecursion IsFCode (f_codes coding 0)
+  pub backward : coding.kind ≡ B_PICTURE → AllByRecursion IsFCode (f_codes coding 1)
+  pub dc_precision : coding.dc_precision < 2 ^ 2
+  pub structure : (TOP_FIELD ≤ coding.structure) × (coding.structure ≤ FRAME_PICTURE)
+  pub frame_pred_frame_dct : coding.frame_pred_frame_dct ≡ true → coding.structure ≡ FRAME_PICTURE
 
 -- a state that may be in force before a unit, or none before the first one
 abbrev pub MayPrecede : Option SeqState → Type 0

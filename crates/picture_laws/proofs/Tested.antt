@@ -120,7 +120,7 @@ zeros-begin m n rest le =
     ∙ ap (λ x. x ++ rest) (sym (replicate-append-replicate m (n - m) 0)) ∙ append_assoc (replicate m 0) (replicate (n - m) 0) rest in
     subst (IsPrefix (replicate m 0)) (sym split) (IsPrefix-append (replicate m 0) (replicate (n - m) 0 ++ rest))
 
-prefix-zeros : start_code_prefix ≡ replicate 23 0 ++ 1 ∷ []
+pub prefix-zeros : start_code_prefix ≡ replicate 23 0 ++ 1 ∷ []
 unfolding bits_of
 prefix-zeros = refl
 
@@ -129,7 +129,7 @@ unfolding bits_of
 not-zeros e = let d = ap (λ (bits : List ℕ). get_or bits 23 0) e in omega arith
 
 -- no prefix stands before the zero byte before it
-no-prefix : (n : ℕ) (rest : List ℕ) → IsPrefix start_code_prefix (replicate 8 0 ++ (replicate n 0 ++ (start_code_prefix ++ rest))) → ⊥
+pub no-prefix : (n : ℕ) (rest : List ℕ) → IsPrefix start_code_prefix (replicate 8 0 ++ (replicate n 0 ++ (start_code_prefix ++ rest))) → ⊥
 no-prefix n rest p =
     let zeros : replicate 8 0 ++ (replicate n 0 ++ (start_code_prefix ++ rest)) ≡ replicate (8 + (n + 23)) 0 ++ (1 ∷ rest) =
     ap (λ x. replicate 8 0 ++ (replicate n 0 ++ (x ++ rest))) prefix-zeros

@@ -1,0 +1,2 @@
+pub mod SliceStands
+pub mod Spellable

@@ -5,4 +5,7 @@
 //! `picture_grammar`.
 #![tactic(auto)]
 
+pub mod pictures;
 pub mod units;
+pub mod written;
+pub mod zero_bits;

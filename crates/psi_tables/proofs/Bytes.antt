@@ -1,12 +1,11 @@
 -- The bytes of a section so far, by how they are kept.
-use Rattle.std.proofs.Common.{◌≡◌, ℕ, zero, suc, ◌+◌, ◌^◌, ◌<◌, ◌≤◌, Bool, true, false, List, ◌++◌, length, take, replicate, refl, sym, ap, ◌∙◌, arith, length-append, append_assoc, ⊎_elim}
-use Rattle.std.specs.Prelude.{nat_le}
+use Rattle.std.proofs.Common.{◌≡◌, ℕ, zero, suc, ◌+◌, ◌^◌, ◌<◌, ◌≤◌, true, false, List, ◌++◌, length, take, replicate, refl, sym, ap, ◌∙◌, arith, length-append, append_assoc, ⊎_elim}
 use Rattle.std.proofs.lemmas.List.{append-nil, length-replicate, take-append-le}
 use Rattle.arrayvec.specs.ArrayVec.{ArrayVec}
-use Rattle.std.proofs.lemmas.Bool.{cases_lt, le-leb, leb-true, leb-false, lt-leb}
+use Rattle.std.proofs.lemmas.Bool.{cases_lt}
 use Rattle.psi_tables.specs.declared.section_front.SectionFront.{SectionFront}
 use Rattle.psi_tables.specs.Sections.{is_read, section_size}
-use Rattle.psi_tables.specs.SectionFront.{front_bytes, is_bad, IsSound, IsLike}
+use Rattle.psi_tables.specs.Private.SectionFront.{front_bytes, is_bad, IsSound, IsLike}
 use Rattle.psi_tables.proofs.Fronts.{is_read-append, section_size-append, is_bad-append}
 
 pub length-front : (front : SectionFront) → length (front_bytes front) ≡ length front.section.items + front.passed

@@ -7,7 +7,7 @@ use Rattle.psi_tables.specs.declared.section.SectionFault.{SectionFault}
 use Rattle.psi_tables.specs.declared.section.SectionFault.TheVariants.{BadSection}
 use Rattle.psi_tables.specs.Section.{section_length}
 use Rattle.psi_tables.specs.Sections.{Found, is_read, has_bad_length, section_size, checked, found_at, found_from, until_error}
-use Rattle.psi_tables.specs.SectionFront.{is_bad, is_settled, IsLike}
+use Rattle.psi_tables.specs.Private.SectionFront.{is_bad, is_settled, IsLike}
 use Rattle.psi_tables.proofs.Headers.{table_id-append, section_length-append, table_id-same, section_length-same}
 
 -- ---- tests as truth values

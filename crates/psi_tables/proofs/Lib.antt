@@ -1,9 +1,13 @@
+pub mod Alone
 pub mod Building
 pub mod Bytes
 pub mod CrcDivision
+pub mod FrontLaw
 pub mod Fronts
+pub mod GoodSection
 pub mod Headers
 pub mod Held
+pub mod Pieces
 pub mod Reading
 pub mod Steps
 pub mod Turns

@@ -8,7 +8,8 @@ use Rattle.psi_tables.specs.declared.stream.Stream.{Stream}
 use Rattle.psi_tables.specs.declared.program_map.ProgramMap.{ProgramMap}
 use Rattle.psi_tables.specs.Section.{IsRow}
 use Rattle.psi_tables.specs.Descriptors.{IsDescriptor, count_dropped}
-use Rattle.psi_tables.specs.Streams.{StreamInfo, IsStreamInfo, IsKeepable, stream_of}
+use Rattle.psi_tables.specs.Streams.{StreamInfo, IsStreamInfo, stream_of}
+use Rattle.psi_tables.specs.Private.Streams.{IsKeepable}
 use Rattle.psi_tables.specs.Pmt.{PCR_PID, program_info_length, IsMapContent, HasRoom}
 use Rattle.psi_tables.proofs.Elements.{PCR_PID-is, program_info_length-is, and_15, and_31}
 use Rattle.psi_tables.proofs.Rows.{same_row}

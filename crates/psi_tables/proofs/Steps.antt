@@ -6,7 +6,7 @@ use Rattle.std.proofs.Math.Seq.{take-add}
 use Rattle.std.proofs.lemmas.Bool.{cases_lt, le-ltb}
 use Rattle.psi_tables.specs.declared.section.SectionFault.{SectionFault}
 use Rattle.psi_tables.specs.Sections.{Found, is_read, has_bad_length, section_size, found_at, found_from, until_error}
-use Rattle.psi_tables.specs.SectionFront.{is_bad, is_settled, IsFront, IsLike, IsHeld, IsSound, TakesIn, ReadsOn, front_bytes, missing_bytes}
+use Rattle.psi_tables.specs.Private.SectionFront.{is_bad, is_settled, IsFront, IsLike, IsHeld, IsSound, TakesIn, ReadsOn, front_bytes, missing_bytes}
 use Rattle.psi_tables.specs.declared.section_front.SectionFront.{SectionFront}
 use Rattle.psi_tables.proofs.Headers.{get_or-header}
 use Rattle.psi_tables.proofs.Fronts.{section_size-append, is_bad-append, is_bad-like, unsettled-good, found_at-unsettled, settled-header, settled-size, unsettled-size, found_at-passed, found_at-append, found_at-like, found_from-one, found_from-whole, found_from-error, found_from-like, section_size-like}

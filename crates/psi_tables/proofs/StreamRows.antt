@@ -9,7 +9,8 @@ use Rattle.std.proofs.lemmas.List.Sums.{sum_by_push}
 use Rattle.psi_tables.specs.declared.stream.Stream.{Stream}
 use Rattle.psi_tables.specs.Section.{IsRow}
 use Rattle.psi_tables.specs.Descriptors.{IsDescriptor, kept_bytes, count_dropped}
-use Rattle.psi_tables.specs.Streams.{StreamInfo, ES_info_length, IsStreamInfo, IsKeepable, stream_of}
+use Rattle.psi_tables.specs.Streams.{StreamInfo, ES_info_length, IsStreamInfo, stream_of}
+use Rattle.psi_tables.specs.Private.Streams.{IsKeepable}
 use Rattle.psi_tables.proofs.Rows.{IsTold, IsUnderWay, same_parts, same_row, under_way_none, under_way_more, under_way_rest}
 use Rattle.psi_tables.proofs.DescriptorRows.{descriptors_told, count_dropped-row}
 use Rattle.psi_tables.proofs.Elements.{ES_info_length-is}

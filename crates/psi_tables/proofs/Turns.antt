@@ -1,7 +1,8 @@
 -- Reading in turn.
 use Rattle.std.proofs.Common.{◌≡◌, List, [], ◌∷◌, ◌++◌, refl, sym, ap, ◌∙◌, append_assoc, ◌+◌, length, arith}
 use Rattle.std.proofs.lemmas.List.{append-nil}
-use Rattle.psi_tables.specs.Sections.{Payload, Found, sections_of, GivesInTurn}
+use Rattle.payload_lists.specs.Payload.{Payload}
+use Rattle.psi_tables.specs.Sections.{Found, sections_of, GivesInTurn}
 
 pub turn-start : GivesInTurn [] [] []
 turn-start = record { all = λ later. refl }

@@ -3,9 +3,11 @@ use Rattle.std.specs.Prelude.{◌≡◌, ℕ, ◌+◌, ◌==◌, Bool, not, ◌|
 use Rattle.std.specs.List.{filter, concat}
 use Rattle.bit_lists.specs.Fields.{bits}
 
+-- the kind of a descriptor, its first byte
 abbrev pub descriptor_tag : List ℕ → ℕ
 descriptor_tag bytes = bits bytes 0 8
 
+-- the number of bytes behind its first two
 abbrev pub descriptor_length : List ℕ → ℕ
 descriptor_length bytes = bits bytes 8 8
 
@@ -18,6 +20,7 @@ pub record IsDescriptor (descriptor bytes : List ℕ) : Type 0 where
 abbrev pub is_tag_kept : ℕ → Bool
 is_tag_kept tag = (tag == 2) || (tag == 3) || (tag == 10)
 
+-- a descriptor with a kept tag
 abbrev pub is_kept : List ℕ → Bool
 is_kept descriptor = is_tag_kept (descriptor_tag descriptor)
 

@@ -2,6 +2,7 @@
 use Rattle.std.specs.Prelude.{◌≡◌, ℕ, ◌+◌, ◌^◌, ◌<◌, ◌≤◌, List, ◌++◌, length, take, drop, map, All}
 use Rattle.std.specs.List.{flat_map, sum_by}
 use Rattle.bit_lists.specs.Fields.{bits}
+use Rattle.psi_tables.specs.declared.stream.TheConstants.{DESCRIPTOR_BYTES}
 use Rattle.psi_tables.specs.declared.program_map.ProgramMap.{ProgramMap}
 use Rattle.psi_tables.specs.Section.{table_id_extension, IsCurrent, IsWhole, IsRow, content, written_header, written_pid, written_length}
 use Rattle.psi_tables.specs.Descriptors.{IsDescriptor, count_dropped}
@@ -11,6 +12,7 @@ use Rattle.psi_tables.specs.Streams.{StreamInfo, IsStreamInfo, stream_of, IsStre
 abbrev pub PCR_PID : List ℕ → ℕ
 PCR_PID bytes = bits bytes 3 13
 
+-- bytes of the program's own descriptors
 abbrev pub program_info_length : List ℕ → ℕ
 program_info_length bytes = bits bytes 20 12
 
@@ -35,7 +37,7 @@ pub record IsPmt (program : ProgramMap) (bytes : List ℕ) : Type 0 where
 -- no more streams, and no more descriptor bytes of a stream, than are kept
 pub record HasRoom (program : ProgramMap) : Type 0 where
   pub streams : length program.streams.items ≤ 64
-  pub descriptors : All (λ stream. length stream.descriptors.items ≤ 183) program.streams.items
+  pub descriptors : All (λ stream. length stream.descriptors.items ≤ DESCRIPTOR_BYTES) program.streams.items
 
 -- ---- how it is written
 
@@ -44,6 +46,7 @@ pub record IsWritable (program : ProgramMap) : Type 0 where
   pub pcr : program.pcr_pid < 2 ^ 13
   pub streams : All IsStreamWritable program.streams.items
 
+-- the streams, each as it is written
 abbrev pub written_streams : ProgramMap → List ℕ
 written_streams program = flat_map written_stream program.streams.items
 

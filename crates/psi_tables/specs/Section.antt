@@ -6,9 +6,11 @@ use Rattle.psi_tables.specs.Crc.{IsCrcOf}
 
 -- ---- its elements, each by its first bit and its number of bits
 
+-- the kind of a section
 abbrev pub table_id : List ℕ → ℕ
 table_id bytes = bits bytes 0 8
 
+-- the number of bytes behind this element
 abbrev pub section_length : List ℕ → ℕ
 section_length bytes = bits bytes 12 12
 
@@ -16,6 +18,7 @@ section_length bytes = bits bytes 12 12
 abbrev pub table_id_extension : List ℕ → ℕ
 table_id_extension bytes = bits bytes 24 16
 
+-- 1 for a section that holds now
 abbrev pub current_next_indicator : List ℕ → ℕ
 current_next_indicator bytes = bits bytes 47 1
 
@@ -50,6 +53,7 @@ written_header table size extension = table ∷ to_be_bytes w16 (0xB000 + size) 
 abbrev pub written_pid : ℕ → List ℕ
 written_pid pid = to_be_bytes w16 (0xE000 + pid)
 
+-- twelve bits of a length behind four set ones
 abbrev pub written_length : ℕ → List ℕ
 written_length n = to_be_bytes w16 (0xF000 + n)
 

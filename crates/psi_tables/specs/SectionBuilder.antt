@@ -1,10 +1,12 @@
 -- What a builder holds, as a list of payloads that give the same sections.
 use Rattle.std.specs.Prelude.{◌≡◌, ℕ, ◌-◌, ◌≤◌, true, false, List, [], ◌∷◌, ◌++◌, take, drop, Result, Ok, Err, if◌then◌else◌}
 use Rattle.arrayvec.specs.ArrayVec.{ArrayVec}
+use Rattle.stream_constants.specs.declared.packets.TheConstants.{PAYLOAD_BYTES}
 use Rattle.psi_tables.specs.declared.section.SectionFault.{SectionFault}
 use Rattle.psi_tables.specs.declared.section_builder.SectionBuilder.TheInside.{Inside}
-use Rattle.psi_tables.specs.Sections.{Payload, Found}
-use Rattle.psi_tables.specs.SectionFront.{front_bytes, is_settled, IsHeld}
+use Rattle.payload_lists.specs.Payload.{Payload}
+use Rattle.psi_tables.specs.Sections.{Found}
+use Rattle.psi_tables.specs.Private.SectionFront.{front_bytes, is_settled, IsHeld}
 
 -- a section in memory by its bytes
 abbrev pub found_of : Result (ArrayVec ℕ) SectionFault → Found
@@ -31,6 +33,6 @@ payloads_held builder = if builder.points_past then pointing_past ∷ [] else pa
 -- Bytes wait only behind a whole section.
 pub record IsInOrder (builder : Inside) : Type 0 where
   pub places : builder.at ≤ builder.end
-  pub end : builder.end ≤ 184
+  pub end : builder.end ≤ PAYLOAD_BYTES
   pub held : IsHeld builder.front
   pub unsettled : is_settled (front_bytes builder.front) ≡ false → builder.at ≡ builder.end

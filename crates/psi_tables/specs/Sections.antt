@@ -1,29 +1,18 @@
 -- The sections in the payloads of one PID (ISO/IEC 13818-1, 2.4.4), as a list for any list of payloads.
-use Rattle.std.specs.Prelude.{◌≡◌, ℕ, zero, suc, ◌+◌, ◌-◌, ◌*◌, ◌^◌, ◌==◌, nat_lt, nat_le, bit_xor, Bool, not, ◌&&◌, ◌||◌, List, [], ◌∷◌, ◌++◌, length, take, drop, replicate, slice_index, Result, Ok, Err, is_err, if◌then◌else◌, refl}
+use Rattle.std.specs.Prelude.{◌≡◌, ℕ, zero, suc, ◌+◌, ◌-◌, ◌*◌, ◌^◌, ◌==◌, nat_lt, nat_le, bit_xor, Bool, false, not, ◌||◌, List, [], ◌∷◌, ◌++◌, length, take, drop, replicate, slice_index, Result, Ok, Err, is_err, if◌then◌else◌}
 use Rattle.std.specs.List.{list_any}
-use Rattle.std.specs.Coded.{Coded, code_by, coded×, coded_bool, coded_list, coded_ℕ}
 use Rattle.bit_lists.specs.Fields.{bit_list}
+use Rattle.payload_lists.specs.Payload.{Payload, is_start}
 use Rattle.psi_tables.specs.declared.section.SectionFault.{SectionFault}
 use Rattle.psi_tables.specs.declared.section.SectionFault.TheVariants.{BadSection, BadCrc}
 use Rattle.psi_tables.specs.Crc.{crc_polynomial, inverted}
 use Rattle.psi_tables.specs.Section.{table_id, section_length}
 
--- ---- payloads
-
--- a packet's payload_unit_start_indicator and its payload
-pub record Payload : Type 0 where
-  pub start : Bool
-  pub bytes : List ℕ
-
--- by this code a proof tells payloads apart
-abbrev pub payload_code : Coded Payload
-payload_code =
-    code_by (Bool × List ℕ) (coded× coded_bool (coded_list coded_ℕ))
-    (λ payload. (payload.start, payload.bytes)) (λ pair. record { start = pair.0; bytes = pair.1 }) (λ _. refl)
+-- ---- a pointer in a payload
 
 -- a payload with the start flag begins with a pointer_field (2.4.4.1); the flag of one without bytes means nothing
 abbrev pub has_pointer : Payload → Bool
-has_pointer payload = payload.start && nat_lt 0 (length payload.bytes)
+has_pointer payload = is_start payload
 
 -- its first byte: so many bytes stand between it and the place where a section begins
 abbrev pub pointer_field : Payload → ℕ
@@ -140,6 +129,14 @@ sections_behind before (payload ∷ payloads) =
 -- the sections of payloads, and the errors in their places
 unfoldable pub sections_of : List Payload → List Found
 sections_of payloads = sections_behind [] payloads
+
+-- what a payload adds to the sections of those before it
+abbrev pub added : List Payload → Payload → List Found
+added before payload = drop (length (sections_of before)) (sections_of (before ++ payload ∷ []))
+
+-- a payload that goes on with what is before it
+abbrev pub going : List ℕ → Payload
+going bytes = record { start = false; bytes = bytes }
 
 -- ---- reading in turn
 

@@ -1,5 +1,5 @@
 -- Elementary streams in program map sections (ISO/IEC 13818-1, 2.4.4.8).
-use Rattle.std.specs.Prelude.{◌≡◌, ℕ, ◌+◌, ◌^◌, ◌<◌, ◌≤◌, List, ◌∷◌, ◌++◌, length, drop}
+use Rattle.std.specs.Prelude.{◌≡◌, ℕ, ◌+◌, ◌^◌, ◌<◌, List, ◌∷◌, ◌++◌, length, drop}
 use Rattle.std.specs.List.{AllPass}
 use Rattle.bit_lists.specs.Fields.{bits}
 use Rattle.psi_tables.specs.declared.stream.Stream.{Stream}
@@ -12,6 +12,7 @@ pub record StreamInfo : Type 0 where
   pub elementary_PID : ℕ
   pub descriptors : List (List ℕ)
 
+-- bytes of a stream's descriptors
 abbrev pub ES_info_length : List ℕ → ℕ
 ES_info_length bytes = bits bytes 28 12
 
@@ -29,10 +30,6 @@ stream_of info = record {
   pid = info.elementary_PID;
   descriptors = record { items = kept_bytes info.descriptors };
 }
-
--- the bytes of its kept descriptors are no more than are kept
-abbrev pub IsKeepable : StreamInfo → Type 0
-IsKeepable info = length (kept_bytes info.descriptors) ≤ 183
 
 -- ---- how it is written
 

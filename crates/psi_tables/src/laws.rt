@@ -1,12 +1,15 @@
 //! Laws of the definitions, each the contract of a function that does nothing.
 
-ghost use Rattle.std.specs.Prelude.{◌≡◌, ℕ, ◌↔◌, List, [], ◌∷◌, ◌++◌, ◌+◌, length};
-ghost use Rattle.psi_tables.specs.Crc.{IsCrcOf};
-ghost use Rattle.psi_tables.specs.Sections.{Payload, Found, crc_over, sections_of, GivesInTurn};
+ghost use Rattle.std.specs.Prelude.{◌≡◌, ℕ, ◌<◌, ◌↔◌, List, [], ◌∷◌, ◌++◌, ◌+◌, length, map, replicate, true, Ok};
+ghost use Rattle.std.specs.List.{concat};
+ghost use Rattle.psi_tables.specs.Crc.{IsCrcOf, HasRightCrc};
+ghost use Rattle.payload_lists.specs.Payload.{Payload};
+ghost use Rattle.psi_tables.specs.Sections.{Found, added, crc_over, found_at, going, sections_of, stuffing_byte, GivesInTurn};
 
 /// The CRC by long division, of which sections are made, is the one that the division of polynomials leaves.
 pub fn crc_by_long_division()
-    ensures { (bytes : List ℕ) (crc : ℕ) → IsCrcOf crc bytes ↔ (crc ≡ crc_over bytes) }
+    ensures crc { (bytes : List ℕ) (crc : ℕ) → IsCrcOf crc bytes ↔ (crc ≡ crc_over bytes) }
+    ensures right { (bytes : List ℕ) → (crc_over bytes ≡ 0) ↔ HasRightCrc bytes }
 {}
 
 /// How `SectionBuilder` is read in turn: it starts with nothing, and each `feed` and each `pull` that gives keeps what
@@ -27,4 +30,20 @@ pub fn sections_in_turn()
     ensures fewer { (held now : List Payload) (found : Found) →
         ((later : List Payload) → sections_of (held ++ later) ≡ found ∷ sections_of (now ++ later)) →
         length (sections_of held) ≡ length (sections_of now) + 1 }
+{}
+
+/// Bytes that are one section, with a right length and a right CRC, are read however they are cut, and what follows is
+/// read as if they weren't there: alone in a payload with stuffing behind them, or in pieces over payloads of which only
+/// the first one has the start flag.
+pub fn a_section_in_any_pieces()
+    ensures alone { (section : List ℕ) (n : ℕ) (later : List Payload) → found_at section ≡ Ok section ∷ [] →
+        sections_of (record { start = true; bytes = 0 ∷ (section ++ replicate n stuffing_byte) } ∷ later) ≡ Ok section ∷ sections_of later }
+    ensures pieces { (section first : List ℕ) (pieces : List (List ℕ)) (later : List Payload) →
+        section ≡ first ++ concat pieces → 0 < length first → found_at section ≡ Ok section ∷ [] →
+        sections_of (record { start = true; bytes = 0 ∷ first } ∷ (map going pieces ++ later)) ≡ Ok section ∷ sections_of later }
+{}
+
+/// What payloads give stays what is given first, whatever follows: so each payload adds to the sections of those before.
+pub fn each_payload_adds()
+    ensures { (before : List Payload) (payload : Payload) → sections_of (before ++ payload ∷ []) ≡ sections_of before ++ added before payload }
 {}

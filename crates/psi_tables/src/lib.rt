@@ -24,7 +24,7 @@ pub use pat::{is_pat, read_pat, write_pat};
 pub use pmt::{PACKET_SECTION_BYTES, read_pmt, write_pmt};
 pub use program_map::ProgramMap;
 pub use section::{SECTION_BYTES, Section, SectionFault};
-pub use section_builder::{MOST_PAYLOAD_BYTES, SectionBuilder};
+pub use section_builder::SectionBuilder;
 pub use stream::{DESCRIPTOR_BYTES, STREAMS_MOST, Stream};
 
 #[cfg(test)]

@@ -11,9 +11,10 @@ use crate::section::{
     UNCOUNTED_BYTES, content_of, is_current, put_crc, put_header, put_length, put_pid,
 };
 use crate::streams::{put_streams, read_streams, streams_length};
+use stream_constants::packets::PAYLOAD_BYTES;
 
 /// The most bytes of a section that stands in one packet, behind a pointer.
-pub const PACKET_SECTION_BYTES: usize = 183;
+pub const PACKET_SECTION_BYTES: usize = PAYLOAD_BYTES - 1;
 
 /// Length of the PCR's PID and the length of the program's own descriptors, in bytes.
 const MAP_BYTES: usize = 4;
@@ -53,7 +54,7 @@ pub fn write_pmt(map: &ProgramMap, into: &mut Section) -> Result<(), SectionFaul
     ensures map { OnOk result (IsPmt (without_dropped map.now) into.new.items) }
     ensures room { OnOk result (HasRoom (without_dropped map.now)) }
     ensures crc { OnOk result (HasRightCrc into.new.items) }
-    ensures long { (result ≡ Err SectionFault.TooLong) ↔ (183 < pmt_length map.now) }
+    ensures long { (result ≡ Err SectionFault.TooLong) ↔ (PACKET_SECTION_BYTES < pmt_length map.now) }
     ensures err { IfErr result (λ fault. (fault ≡ SectionFault.TooLong) × (into.new ≡ into.old)) }
 {
     let streams = streams_length(map.streams.as_slice());

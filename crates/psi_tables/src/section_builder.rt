@@ -1,13 +1,12 @@
 ghost use Rattle.std.specs.Prelude.{◌≡◌, ◌≤◌, [], ◌∷◌, ◌++◌, List, length, Err, IfNone, IfSome, IfErr};
-ghost use Rattle.psi_tables.specs.Sections.{Payload, sections_of};
+ghost use Rattle.payload_lists.specs.Payload.{Payload};
+ghost use Rattle.psi_tables.specs.Sections.{sections_of};
 
 use crate::section::{Section, SectionFault};
 use crate::section_front::SectionFront;
 use std::marker::Model;
 use std::mem;
-
-/// The most bytes of a packet's payload.
-pub const MOST_PAYLOAD_BYTES: usize = 184;
+use stream_constants::packets::PAYLOAD_BYTES;
 
 /// Reads the sections in the payloads of one PID (ISO/IEC 13818-1, 2.4.4), in order.
 ///
@@ -18,7 +17,7 @@ pub struct SectionBuilder {
     /// The section that is read.
     front: SectionFront,
     /// Sections wait in these bytes behind it, from `at` to `end`.
-    waiting: [u8; MOST_PAYLOAD_BYTES],
+    waiting: [u8; PAYLOAD_BYTES],
     at: usize,
     end: usize,
     /// A pointer past its payload is what waits.
@@ -28,7 +27,7 @@ pub struct SectionBuilder {
 impl Model for SectionBuilder {
     ghost use Rattle.std.specs.Prelude.{List};
     ghost use Rattle.std.specs.Coded.{coded_list};
-    ghost use Rattle.psi_tables.specs.Sections.{Payload, payload_code};
+    ghost use Rattle.payload_lists.specs.Payload.{Payload, payload_code};
 
     ghost Value = { List Payload };
 
@@ -51,7 +50,7 @@ impl SectionBuilder {
     {
         SectionBuilder {
             front: SectionFront::new(),
-            waiting: [0; MOST_PAYLOAD_BYTES],
+            waiting: [0; PAYLOAD_BYTES],
             at: 0,
             end: 0,
             points_past: false,
@@ -59,10 +58,10 @@ impl SectionBuilder {
     }
 
     /// Takes a payload, with its packet's `payload_unit_start_indicator`. It needs that no section waits, as after
-    /// `pull` answered None, and a payload of at most 184 bytes.
+    /// `pull` answered None, and a payload of at most `PAYLOAD_BYTES`.
     pub fn feed(&mut self, start: bool, payload: &[u8])
         requires pulled { sections_of self.old ≡ [] }
-        requires size { length payload.now ≤ MOST_PAYLOAD_BYTES }
+        requires size { length payload.now ≤ PAYLOAD_BYTES }
         ensures { (later : List Payload) →
             sections_of (self.new ++ later) ≡ sections_of (self.old ++ record { start = start; bytes = payload.now } ∷ later) }
     {

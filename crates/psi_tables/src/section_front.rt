@@ -1,7 +1,7 @@
 ghost use Rattle.std.specs.Prelude.{◌≡◌, ℕ, true, false, ◌+◌, ◌^◌, ◌<◌, ◌≤◌, nat_le, ◌++◌, [], ◌∷◌, length, take, not, ◌&&◌, Ok, Err, MatchOption};
 ghost use Rattle.psi_tables.specs.Section.{section_length};
 ghost use Rattle.psi_tables.specs.Sections.{length_end, is_read, has_bad_length, section_size, found_at};
-ghost use Rattle.psi_tables.specs.SectionFront.{front_bytes, is_settled, is_bad, missing_bytes, IsSound, IsHeld, IsLike, TakesIn, GoesOn, ReadsOn};
+ghost use Rattle.psi_tables.specs.Private.SectionFront.{front_bytes, is_settled, is_bad, missing_bytes, IsSound, IsHeld, IsLike, TakesIn, GoesOn, ReadsOn};
 
 use crate::crc::crc32;
 use crate::section::{LENGTH_HIGH, PAT_TABLE, PMT_TABLE, Section, SectionFault, UNCOUNTED_BYTES};

@@ -1,10 +1,11 @@
+use crate::pmt::PACKET_SECTION_BYTES;
 use arrayvec::ArrayVec;
 
 /// The most streams of a program map that is kept.
 pub const STREAMS_MOST: usize = 64;
 
 /// The most bytes of a stream's kept descriptors.
-pub const DESCRIPTOR_BYTES: usize = 183;
+pub const DESCRIPTOR_BYTES: usize = PACKET_SECTION_BYTES;
 
 /// What is kept of an elementary stream in a program map (ISO/IEC 13818-1, 2.4.4.8).
 #[derive(Debug, Default, PartialEq, Eq, Drop)]

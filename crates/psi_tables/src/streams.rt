@@ -2,7 +2,8 @@ ghost use Rattle.std.specs.Prelude.{◌≡◌, ℕ, ◌+◌, ◌*◌, ◌^◌, �
 ghost use Rattle.std.specs.List.{sum_by, flat_map};
 ghost use Rattle.psi_tables.specs.Section.{IsRow};
 ghost use Rattle.psi_tables.specs.Descriptors.{count_dropped};
-ghost use Rattle.psi_tables.specs.Streams.{StreamInfo, ES_info_length, IsStreamInfo, IsKeepable, stream_of, IsStreamWritable, written_stream};
+ghost use Rattle.psi_tables.specs.Streams.{StreamInfo, ES_info_length, IsStreamInfo, stream_of, IsStreamWritable, written_stream};
+ghost use Rattle.psi_tables.specs.Private.Streams.{IsKeepable};
 
 use crate::descriptors::read_descriptors;
 use crate::section::{LENGTH_HIGH, PID_HIGH, Section, put, put_length, put_pid};

@@ -1,32 +1,25 @@
 //! The program: the words of the command line, the files of the working folder, and a report line on standard output.
 //!
-//! All that it promises stands on `remux_core`'s `run`. `--help` and `--version`, each as the only word, are answered
-//! here. Stands on `remux_core` and `shelf_io`.
+//! All that it promises stands on `remux_core`'s `run`: the exit status is the code of the status that `run` ends with. For
+//! each status but 0 a sentence on standard error says what is wrong and what to do. `--help` and `--version`, each as the
+//! only word, are answered here. Stands on `remux_core` and `shelf_io`.
 #![tactic(auto)]
+
+mod exit;
+mod help;
+mod sentence;
 
 ghost use Rattle.std.specs.Prelude.{◌≡◌, ◌⊎◌, map};
 ghost use Rattle.std.specs.String.{string_bytes};
 ghost use Rattle.remux_core.specs.Command.{IsCommand};
 
-use remux_core::{Status, run};
+use crate::exit::exit_status;
+use crate::help::{HELP, VERSION};
+use remux_core::Status;
 use shelf_io::{FileShelf, OutSink};
 use std::process::ExitCode;
 use std::rt::{Env, Files};
-use std::{env, io};
-
-const HELP: &str = "remux_cli: a statistical remultiplexer for MPEG-2 whose promises are proved
-
-  remux_cli plan TABLE CERT   plans the table of pictures in the file TABLE, writes a certificate of
-                              the plan to CERT, and prints one line of JSON
-  remux_cli --help            prints this text
-  remux_cli --version         prints the version
-
-The exit status is 0 where the work was done, 2 for other words, 3 for a refused table, 5 where the
-smallest choice can't be scheduled, 6 where a file can't be read, 7 where one can't be written,
-9 where TABLE is missing, and 10 where memory is wanting.
-";
-
-const VERSION: &str = "remux_cli 0.1.0\n";
+use std::{env, fs, io};
 
 fn main(rt: HostRuntime) -> ExitCode {
     match words(&rt) {
@@ -47,11 +40,23 @@ fn words<R: Env + AllocGlobal>(rt: &R) -> io::Result<Vec<String>> {
 }
 
 /// The exit status of a command line.
-fn answer<R: Files + Print + AllocGlobal>(rt: &R, words: &[String]) -> u8 {
+fn answer<R: Files + Print + Eprint + AllocGlobal>(rt: &R, words: &[String]) -> u8 {
     match words {
         [word] if word.as_str() == "--help" => told(rt, HELP),
         [word] if word.as_str() == "--version" => told(rt, VERSION),
+        // Two names of one file are no command.
+        [_, table, certificate] if name_one_file(rt, table.as_str(), certificate.as_str()) => {
+            command(rt, &[])
+        }
         _ => command(rt, words),
+    }
+}
+
+/// Whether two names are those of one existing file, as far as the machine tells: by `./`, doubled slashes and links.
+fn name_one_file<R: Files + AllocGlobal>(rt: &R, first: &str, second: &str) -> bool {
+    match (fs::canonicalize(rt, first), fs::canonicalize(rt, second)) {
+        (Ok(first), Ok(second)) => first == second,
+        _ => false,
     }
 }
 
@@ -66,11 +71,9 @@ fn told(rt: &impl Print, text: &str) -> u8
 }
 
 /// Runs a command over the working folder and standard output.
-fn command<R: Files + Print + AllocGlobal>(rt: &R, words: &[String]) -> u8
+fn command<R: Files + Print + Eprint + AllocGlobal>(rt: &R, words: &[String]) -> u8
     ensures usage { result ≡ 2 → IsCommand (map string_bytes words.now) → ⊥ }
-    ensures no_command { (IsCommand (map string_bytes words.now) → ⊥) → (result ≡ 2) ⊎ (result ≡ 7) ⊎ (result ≡ 10) }
+    ensures no_command { (IsCommand (map string_bytes words.now) → ⊥) → (result ≡ 2) ⊎ ((result ≡ 7) ⊎ (result ≡ 10)) }
 {
-    let mut shelf = FileShelf::new(rt);
-    let mut out = OutSink::new(rt);
-    run(rt.alloc(), words, &mut shelf, &mut out).code()
+    exit_status(rt, words, &mut FileShelf::new(rt), &mut OutSink::new(rt))
 }

@@ -5,13 +5,22 @@ use Rattle.std.specs.Option.{IsSomeAnd}
 use Rattle.std.specs.FinMap.{get}
 use Rattle.std.specs.String.{string_bytes}
 use Rattle.shelf_io.specs.Files.{Files}
+use Rattle.shelf_io.specs.WholeFile.{HoldsPrefix}
 use Rattle.version_table.specs.declared.limits.TheConstants.{TABLE_TEXT_MOST}
 use Rattle.version_table.specs.declared.fault.TableFault.{TableFault}
 use Rattle.version_table.specs.declared.fault.TableFault.TheVariants as faults
 use Rattle.version_table.specs.Text.{IsRead, IsFaultOf, TextReading, Holds, RefusedAt, RefusedFor}
-use Rattle.remux_core.specs.declared.outcome.Ended.{Ended}
+use Rattle.remux_core.specs.declared.ended.Ended.{Ended}
+use Rattle.remux_core.specs.declared.status.JobRefusal.TheVariants.{TableSyntax, TableLimit}
 use Rattle.remux_core.specs.declared.status.Status.{Status}
-use Rattle.remux_core.specs.Outcome.{Decides, Ends, HoldsText, IsRefusedFor}
+use Rattle.remux_core.specs.declared.status.Status.TheVariants.{JobRefused}
+use Rattle.remux_core.specs.Answer.{Decides, EndsWith, AnswerHasCause, HasCause, Leaves}
+use Rattle.remux_core.specs.Certificate.{Certificate, certificate_bytes}
+use Rattle.remux_core.specs.PlanCommand.{HasPlan}
+use Rattle.remux_core.proofs.Told.{HoldsPart, on_prefix}
+use Rattle.remux_core.specs.Command.{Command, Plan}
+use Rattle.remux_core.specs.Outside.{ShelfFacts, OnFiles}
+use Rattle.remux_core.specs.Private.Ended.{answer_of, HoldsFront, refusal_by, IsRefusedFor}
 
 -- a front of at most one byte past the limit is the whole text, or passes the limit as the text does
 take_all_of : (n : ℕ) (text front : List ℕ) → front ≡ take (n + 1) text → length front ≤ n → front ≡ text
@@ -46,13 +55,37 @@ held_text (Some files) held name bytes n is found =
     ] refl found
 
 -- a text that is refused ends the command with its refusal
-pub refused_ends : (words : List (List ℕ)) (held : Files) (certificate front : List ℕ) (result : Option Ended) (fault : TableFault)
-    → HoldsText words held certificate front → IsFaultOf front fault → IfSome result (IsRefusedFor fault) → Ends words held result held
-refused_ends words held certificate front None fault holds is so = inl refl
-refused_ends words held certificate front (Some ended) (faults.TableSyntax n) holds is so =
-    subst (λ (s : Status). Decides words held s (string_bytes ended.line) held) (sym so.0)
-    (certificate, holds.text, holds.plans, read_whole holds.text front (RefusedAt n) holds.front_is is, so.1, refl)
-refused_ends words held certificate front (Some ended) (faults.TableLimit name) holds is so =
-    subst (λ (s : Status). Decides words held s (string_bytes ended.line) held) (sym so.0)
-    (certificate, holds.text, holds.plans, (is.0, read_whole holds.text front (RefusedFor is.0) holds.front_is is.1, is.2), so.1, refl)
-refused_ends words held certificate front (Some ended) faults.OutOfMemory holds is so = absurd so
+pub refused_ends : (table certificate : List ℕ) (held : Files) (front : List ℕ) (result : Option Ended) (fault : TableFault)
+    → HoldsFront held table front → IsFaultOf front fault → IfSome result (IsRefusedFor (refusal_by fault)) → Decides (Some (Plan table certificate)) held (answer_of result) held
+refused_ends table certificate held front None fault holds is so = inl refl
+refused_ends table certificate held front (Some ended) (faults.TableSyntax n) holds is so =
+    subst (λ (s : Status). EndsWith (Some (Plan table certificate)) held s (string_bytes ended.line) held) (sym so.0)
+    ((holds.text, holds.held, read_whole holds.text front (RefusedAt n) holds.front_is is), refl)
+refused_ends table certificate held front (Some ended) (faults.TableLimit name) holds is so =
+    subst (λ (s : Status). EndsWith (Some (Plan table certificate)) held s (string_bytes ended.line) held) (sym so.0)
+    ((holds.text, holds.held, (is.0, read_whole holds.text front (RefusedFor is.0) holds.front_is is.1, is.2)), refl)
+refused_ends table certificate held front (Some ended) faults.OutOfMemory holds is so = absurd so
+
+-- and that is its cause
+pub refused_cause : (command : Command) (old new : ShelfFacts) (result : Option Ended) (fault : TableFault)
+    → IfSome result (IsRefusedFor (refusal_by fault)) → AnswerHasCause (Some command) old new (answer_of result)
+refused_cause command old new None fault so = tt
+refused_cause command old new (Some ended) (faults.TableSyntax n) so =
+    subst (λ (s : Status). HasCause (Some command) old new s (string_bytes ended.line)) (sym so.0) so.1
+refused_cause command old new (Some ended) (faults.TableLimit name) so =
+    subst (λ (s : Status). HasCause (Some command) old new s (string_bytes ended.line)) (sym so.0) so.1
+refused_cause command old new (Some ended) faults.OutOfMemory so = absurd so
+
+-- a front of the certificate of a plan is what `plan` may leave
+pub plan_leaves : (table certificate : List ℕ) (plan : Certificate) (files after : Files) → HasPlan files table plan
+    → HoldsPart certificate (certificate_bytes plan) files after → Leaves (Some (Plan table certificate)) files after
+plan_leaves table certificate plan files after has (inl same) = inl same
+plan_leaves table certificate plan files after has (inr (k, few, written)) = inr (plan, has, k, few, written)
+
+-- a call that wrote a front of some bytes, which are those of the certificate of a plan
+pub part_written : (old new : Option Files) (table certificate : List ℕ) (plan : Certificate) (bytes : List ℕ) → bytes ≡ certificate_bytes plan
+    → HoldsPrefix old new certificate bytes → OnFiles old new (λ held after. HasPlan held table plan → Leaves (Some (Plan table certificate)) held after)
+part_written old new table certificate plan bytes is holds =
+    on_prefix old new certificate (certificate_bytes plan) (λ held after. HasPlan held table plan → Leaves (Some (Plan table certificate)) held after)
+    (subst (λ (b : List ℕ). HoldsPrefix old new certificate b) is holds)
+    (λ held after part has. plan_leaves table certificate plan held after has part)

@@ -1,5 +1,8 @@
-mod Causes
-mod Ended
+mod Answered
+mod Counted
+mod Ending
 mod Floats
 mod Held
+mod LevelChoices
+mod One
 mod Told

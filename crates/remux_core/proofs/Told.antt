@@ -1,10 +1,9 @@
 -- Files that a shelf tells, over calls that leave them, or write one of them.
-use Rattle.std.proofs.Common.{◌≡◌, ℕ, List, Option, Some, None, refl, subst, inl, inr}
+use Rattle.std.proofs.Common.{◌≡◌, ◌⊎◌, ◌≤◌, ℕ, List, length, take, Option, Some, None, refl, subst, inl, inr}
 use Rattle.std.specs.FinMap.{insert}
 use Rattle.shelf_io.specs.Files.{Files, with_content}
 use Rattle.shelf_io.specs.WholeFile.{HoldsPrefix}
-use Rattle.remux_core.specs.Certificate.{Certificate, certificate_bytes}
-use Rattle.remux_core.specs.Outcome.{OnFiles, HoldsFront}
+use Rattle.remux_core.specs.Outside.{OnFiles}
 
 -- a call that left the files
 pub on_same : (old new : Option Files) (P : Files → Files → Type 0) → new ≡ old → ((held : Files) → old ≡ Some held → P held held) → OnFiles old new P
@@ -23,14 +22,18 @@ on_content (Some held) (Some after) name bytes P is each =
     let one : insert held name bytes ≡ after = cc in
     subst (λ (files : Files). P held files) one (each held refl)
 
--- a call that wrote a front of a certificate
-pub on_prefix : (old new : Option Files) (name : List ℕ) (plan : Certificate) (P : Files → Files → Type 0) → HoldsPrefix old new name (certificate_bytes plan)
-    → ((held after : Files) → HoldsFront held name plan after → P held after) → OnFiles old new P
-on_prefix None new name plan P holds each = tt
-on_prefix (Some held) None name plan P (inl same) each = cc
-on_prefix (Some held) None name plan P (inr more) each = let is = more.2 in cc
-on_prefix (Some held) (Some after) name plan P (inl same) each = each held after (inl (cc))
-on_prefix (Some held) (Some after) name plan P (inr more) each = let is = more.2 in each held after (inr (more.0, more.1, cc))
+-- a file is as it was, or holds a front of these bytes, and every other file stays
+abbrev pub HoldsPart : (name bytes : List ℕ) → (held after : Files) → Type 0
+HoldsPart name bytes held after = (after ≡ held) ⊎ ((k : ℕ) × (k ≤ length bytes) × (after ≡ insert held name (take k bytes)))
+
+-- a call that wrote a front of some bytes
+pub on_prefix : (old new : Option Files) (name bytes : List ℕ) (P : Files → Files → Type 0) → HoldsPrefix old new name bytes
+    → ((held after : Files) → HoldsPart name bytes held after → P held after) → OnFiles old new P
+on_prefix None new name bytes P holds each = tt
+on_prefix (Some held) None name bytes P (inl same) each = cc
+on_prefix (Some held) None name bytes P (inr more) each = let is = more.2 in cc
+on_prefix (Some held) (Some after) name bytes P (inl same) each = each held after (inl (cc))
+on_prefix (Some held) (Some after) name bytes P (inr more) each = let is = more.2 in each held after (inr (more.0, more.1, cc))
 
 -- a call that came after one that left the files
 pub on_after : (old middle new : Option Files) (P Q : Files → Files → Type 0) → middle ≡ old → OnFiles middle new P
@@ -49,3 +52,9 @@ on_told (Some held) None files P holds told = absurd holds
 on_told (Some held) (Some after) files P holds told =
     let one : held ≡ files = cc in
     (after, subst (λ (f : Files). P f after) one holds)
+
+-- what follows of told files
+pub on_then : (old new : Option Files) (P Q : Files → Files → Type 0) → OnFiles old new P → ((held after : Files) → P held after → Q held after) → OnFiles old new Q
+on_then None new P Q holds each = tt
+on_then (Some held) None P Q holds each = absurd holds
+on_then (Some held) (Some after) P Q holds each = each held after holds

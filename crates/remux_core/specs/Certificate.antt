@@ -14,6 +14,7 @@ pub record Certificate : Type 0 where
   pub choice : List ℕ
   pub nodes : List Node
 
+-- the bytes of a node: an open one is the byte 4
 abbrev pub node_bytes : Node → List ℕ
 node_bytes Open = 4 ∷ []
 

@@ -1,7 +1,11 @@
+pub mod Answer
 pub mod Certificate
 pub mod Command
 pub mod Outcome
+pub mod Outside
 pub mod Plan
-pub mod Planned
+pub mod PlanCommand
+pub mod Promises
 pub mod Report
 pub mod Status
+pub mod Private

@@ -1,8 +1,11 @@
--- The exit status of each way that a command ends.
-use Rattle.std.specs.Prelude.{ℕ}
+-- The statuses, with the exit status of each.
+use Rattle.std.specs.Prelude.{◌≡◌, ℕ}
 use Rattle.remux_core.specs.declared.status.Status.{Status}
 use Rattle.remux_core.specs.declared.status.Status.TheVariants.{Ok, Usage, JobRefused, Unschedulable, ReadFault, WriteFault, Missing, OutOfMemory}
+use Rattle.remux_core.specs.declared.status.JobRefusal.{JobRefusal}
+use Rattle.remux_core.specs.declared.status.JobRefusal.TheVariants.{TableSyntax, TableLimit}
 
+-- the exit status, which a report line prints too
 abbrev pub code_of : Status → ℕ
 code_of Ok = 0
 code_of Usage = 2
@@ -12,3 +15,14 @@ code_of ReadFault = 6
 code_of WriteFault = 7
 code_of Missing = 9
 code_of OutOfMemory = 10
+
+-- two refusals of a text are the same, names compared by their bytes
+abbrev pub IsSameRefusal : JobRefusal → JobRefusal → Type 0
+IsSameRefusal (TableSyntax n) (TableSyntax m) = n ≡ m
+IsSameRefusal (TableLimit name) (TableLimit other) = name.bytes ≡ other.bytes
+IsSameRefusal first second = ⊥
+
+-- two statuses are the same, names compared by their bytes
+abbrev pub IsSameStatus : Status → Status → Type 0
+IsSameStatus (JobRefused refusal) (JobRefused other) = IsSameRefusal refusal other
+IsSameStatus first second = first ≡ second

@@ -22,7 +22,7 @@ const MARK: [u8; 5] = *b"RMXC\x01";
 const OPEN: u8 = 4;
 
 impl Certificate {
-    ghost use Rattle.remux_core.specs.Planned.{contents_of};
+    ghost use Rattle.remux_core.specs.Private.Planned.{contents_of};
 
     /// The bytes of the certificate's file. Fails only for want of memory.
     pub fn bytes(&self, alloc: Global) -> Result<Vec<u8>, OutOfMemory>

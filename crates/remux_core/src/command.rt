@@ -1,6 +1,7 @@
-ghost use Rattle.std.specs.Prelude.{◌≡◌, ◌↔◌, ◌∷◌, [], ℕ, List, map, IsNone, IfSome, IsTrue};
+ghost use Rattle.std.specs.Prelude.{◌≡◌, ◌↔◌, ◌∷◌, [], map, IsNone, IfSome, IsTrue};
 ghost use Rattle.std.specs.String.{string_bytes};
-ghost use Rattle.remux_core.specs.Command.{IsPlanCommand, IsCommand};
+ghost use Rattle.remux_core.specs.Command.{IsPlanCommand, IsSaid};
+ghost use Rattle.remux_core.specs.Private.Parsed.{command_of};
 
 /// The file names of `plan TABLE CERT`.
 #[derive(Clone, Copy)]
@@ -11,10 +12,9 @@ pub struct PlanFiles<'a> {
     pub certificate: &'a str,
 }
 
-/// The file names of the command; none where the words are no command.
+/// The file names where words are `plan TABLE CERT`; none where they are those of no command.
 pub fn plan_files(words: &[String]) -> Option<PlanFiles<'_>>
-    ensures command { IfSome result (λ files. IsPlanCommand (map string_bytes words.now) files.table.now files.certificate.now) }
-    ensures none { IsNone result → IsCommand (map string_bytes words.now) → ⊥ }
+    ensures { IsSaid (map string_bytes words.now) (command_of result) }
 {
     match words {
         [verb, table, certificate] => {

@@ -1,19 +1,23 @@
 //! The top call: `run` takes the words of a command, a shelf of files and a sink for its report.
 //!
-//! `plan TABLE CERT` plans a table text and writes the certificate of the plan. Its contract is the main theorem:
-//! each status comes exactly where its cause stands, the plan is scheduled, its bound is true of every scheduled
-//! choice, and no other file changes. Stands on `shelf_io`, `version_table` and `slot_rule`.
+//! Its contract is the main theorem: each status comes exactly where its cause stands, a plan is scheduled, its bound is
+//! true of every scheduled choice, and no file changes but those that the command writes. Each command is a case of a
+//! few definitions. Stands on `shelf_io`, `version_table` and `slot_rule`.
 #![tactic(auto)]
 
 mod certificate;
 mod command;
-mod outcome;
+mod ended;
+pub mod laws;
+mod levels;
+mod plan_command;
 mod planner;
 mod report;
 mod status;
+mod top_call;
 
-pub use outcome::run;
 pub use status::{JobRefusal, Status};
+pub use top_call::run;
 
 #[cfg(test)]
 mod tests;

@@ -4,17 +4,16 @@ ghost use Rattle.version_table.specs.declared.limits.TheConstants.{UNITS_MOST};
 ghost use Rattle.version_table.specs.Choice.{Fits, IsSmallestChoice, distortion_of_choice};
 ghost use Rattle.slot_rule.specs.Schedule.{IsScheduled};
 ghost use Rattle.remux_core.specs.Plan.{IsPlan};
-ghost use Rattle.remux_core.specs.Planned.{contents_of, IsMissOfSmallest, IsKnown, IsNoWorse, IsNoWorseThanLevel};
+ghost use Rattle.remux_core.specs.Private.Planned.{contents_of, IsMissOfSmallest, IsKnown, IsNoWorse, IsNoWorseThanLevel};
 
 use crate::certificate::Certificate;
+use crate::levels::level_count;
 use list_types::OutOfMemory;
 use slot_rule::{Miss, first_miss};
 use std::alloc::Global;
 use thiserror::Error;
-use version_table::limits::VERSIONS_MOST;
 use version_table::{
-    Choice, Table, distortion_of, least_total, level, level_choices_end, smallest,
-    smallest_choice_is_one,
+    Choice, Table, distortion_of, least_total, level, smallest, smallest_choice_is_one,
 };
 
 /// Why there is no plan.
@@ -75,15 +74,14 @@ fn try_levels(alloc: Global, table: &Table, known: Known) -> Result<Known, OutOf
     ensures known { IfOk result (IsKnown table.now) }
     ensures no_worse { IfOk result (IsNoWorse table.now known.distortion) }
 {
-    level_choices_end();
     let mut best = known;
-    for k in 0..VERSIONS_MOST as u8 {
+    for k in 0..level_count(table) {
         best = try_level(alloc, table, best, k)?;
     }
     Ok(best)
 }
 
-/// The better of a known choice and a level choice, the known one among equals.
+/// The better of a known choice and a level choice, the known one among equals. One that isn't better needs no schedule.
 fn try_level(alloc: Global, table: &Table, known: Known, k: u8) -> Result<Known, OutOfMemory>
     requires valid { IsValidTable table.now }
     requires known { IsKnown table.now known }
@@ -92,11 +90,8 @@ fn try_level(alloc: Global, table: &Table, known: Known, k: u8) -> Result<Known,
     ensures level { IfOk result (IsNoWorseThanLevel table.now k) }
 {
     let choice = level(alloc, table, k)?;
-    if first_miss(table, &choice).is_some() {
-        return Ok(known);
-    }
     let distortion = distortion_of(table, &choice);
-    if distortion < known.distortion {
+    if distortion < known.distortion && first_miss(table, &choice).is_none() {
         Ok(Known { choice, distortion })
     } else {
         Ok(known)

@@ -4,10 +4,11 @@ ghost use Rattle.std.specs.Prelude.{◌≡◌, false, IfOk, codes};
 ghost use Rattle.std.specs.String.{string_bytes};
 ghost use Rattle.serde_json.specs.View.{view};
 ghost use Rattle.serde_json.specs.Written.{has_float};
-ghost use Rattle.remux_core.specs.Planned.{contents_of};
+ghost use Rattle.remux_core.specs.Private.Planned.{contents_of};
 ghost use Rattle.remux_core.specs.Report as spec;
 
 use crate::certificate::Certificate;
+use crate::status::{JobRefusal, Status};
 use list_types::OutOfMemory;
 use serde_json::{Value, json};
 use slot_rule::Miss;
@@ -40,40 +41,51 @@ pub fn plan_report(alloc: Global, plan: &Certificate) -> Result<Value, AllocErro
 pub fn usage_report(alloc: Global) -> Result<Value, AllocError>
     ensures { IfOk result (λ value. view value ≡ spec.usage_report) }
 {
-    json!(in alloc; {"reason": "usage", "status": 2})
+    let status = Status::Usage.code();
+    json!(in alloc; {"reason": "usage", "status": status})
 }
 
-/// A table text that has no table's line at this line.
-pub fn syntax_report(alloc: Global, line: u64) -> Result<Value, AllocError>
-    ensures { IfOk result (λ value. view value ≡ spec.syntax_report line) }
+/// A table text that is refused.
+pub fn refusal_report(alloc: Global, refusal: &JobRefusal) -> Result<Value, AllocError>
+    ensures { IfOk result (λ value. view value ≡ spec.refusal_report refusal.now) }
 {
-    json!(in alloc; {"line": line, "reason": "table syntax", "status": 3})
-}
-
-/// A table text that breaks the limit of this name.
-pub fn limit_report(alloc: Global, name: &str) -> Result<Value, AllocError>
-    ensures { IfOk result (λ value. view value ≡ spec.limit_report name.now) }
-{
-    json!(in alloc; {"name": name, "reason": "table limit", "status": 3})
+    let status = Status::JobRefused(*refusal).code();
+    match refusal {
+        JobRefusal::TableSyntax(line) => {
+            json!(in alloc; {"line": *line, "reason": "table syntax", "status": status})
+        }
+        JobRefusal::TableLimit(name) => {
+            let name = name.as_str();
+            json!(in alloc; {"name": name, "reason": "table limit", "status": status})
+        }
+    }
 }
 
 /// A table that can't be met.
 pub fn miss_report(alloc: Global, miss: Miss) -> Result<Value, AllocError>
     ensures { IfOk result (λ value. view value ≡ spec.miss_report miss) }
 {
+    let status = Status::Unschedulable(miss).code();
     json!(in alloc; {
-        "due": miss.due, "reason": "unschedulable", "slot": miss.slot, "status": 5, "stream": miss.stream,
+        "due": miss.due, "reason": "unschedulable", "slot": miss.slot, "status": status, "stream": miss.stream,
         "unit": miss.unit
     })
 }
 
 /// A file that can't be read or written, or is missing.
-pub fn file_report(alloc: Global, reason: &str, status: u8, name: &str) -> Result<Value, AllocError>
+pub fn file_report(
+    alloc: Global,
+    reason: &str,
+    status: Status,
+    name: &str,
+) -> Result<Value, AllocError>
     ensures { IfOk result (λ value. view value ≡ spec.file_report reason.now status name.now) }
 {
+    let status = status.code();
     json!(in alloc; {"name": name, "reason": reason, "status": status})
 }
 
+/// What is said of a plan.
 fn plan_object(
     alloc: Global,
     plan: &Certificate,

@@ -1,5 +1,5 @@
 -- The states over one slot: packets that are gone are left out, the row brings work, work is done.
-use Rattle.std.proofs.Common.{◌≡◌, ℕ, ◌+◌, ◌-◌, ◌*◌, ◌<◌, ◌≤◌, ◌⊎◌, false, List, [], ◌∷◌, ◌++◌, length, map, get_or, slice_get, count_by, Some, None, refl, sym, ap, subst, ◌∙◌, inl, inr, cond, add-zero, mul-zero, mul-one, le_trans, mul-le-mul_right, arith}
+use Rattle.std.proofs.Common.{◌≡◌, ℕ, ◌+◌, ◌-◌, ◌*◌, ◌<◌, ◌≤◌, ◌⊎◌, false, List, [], ◌∷◌, ◌++◌, length, map, get_or, slice_get, count_by, Some, None, refl, sym, ap, subst, ◌∙◌, inl, inr, cond, max, add-zero, mul-zero, mul-one, le_trans, mul-le-mul_right, arith}
 use Rattle.std.proofs.lemmas.Bool.{cases_eq, cases_lt}
 use Rattle.std.proofs.lemmas.List.{length_push, length-map, get_or-map, same_lists}
 use Rattle.std.proofs.lemmas.Option.{slice_get-get_or, slice_get_within}
@@ -10,9 +10,9 @@ use Rattle.slot_rule.specs.declared.sent.Sent.TheVariants.{Pcr}
 use Rattle.slot_rule.specs.declared.queue_items.QueueItems.{QueueItems}
 use Rattle.slot_rule.specs.declared.queue_state.QueueState.{QueueState}
 use Rattle.slot_rule.specs.Buffers.{Row, Reserved, Carries, is_of, packets_in, payload_in, slot_subticks, tb_subticks, tb_work, mb_work}
-use Rattle.slot_rule.specs.Private.Slots.{HasRun, Sends, Tracks}
+use Rattle.slot_rule.specs.Private.Slots.{HasRun, Sends, Tracks, subtick_after}
 use Rattle.slot_rule.specs.Private.QueueItems.{IsPlace, queue_at}
-use Rattle.slot_rule.specs.Private.States.{ChangesEach, Drains, ReleasesAll, TakesPcr, queue_of}
+use Rattle.slot_rule.specs.Private.States.{ChangesEach, ReleasesAll, TakesPcr, queue_of}
 use Rattle.slot_rule.specs.Private.QueueState.{HasPcr, HoldsNoneGone, IsKind, KeepsPlace, packets_at}
 use Rattle.slot_rule.specs.Queues.{QueueKind, Video, Audio, QueuedPacket}
 use Rattle.slot_rule.proofs.RuleSent.{count-push, count-carried, count-reserved}
@@ -28,7 +28,7 @@ same_queues table choice olds news many sources =
     (λ k d within.
     let below : k < length news = omega (arith, length-map news (queue_of table choice)) in
     let below' : k < length olds = omega arith in
-    let e : QueueState = record { kind = Audio; items = QueueItems.Packets 0 0; tb = 0; mb = 0; sent = 0; head = None; gone = 0; oldest = None; held = 0 } in
+    let e : QueueState = record { kind = Audio; items = QueueItems.Packets 0 0; tb_empty = 0; mb_empty = 0; sent = 0; head = None; gone = 0; oldest = None; held = 0 } in
     get_or-map (queue_of table choice) news k e d below
     ∙ ap (λ (s : QueueItems). queue_at table choice s) (sources k (get_or olds k e) (get_or news k e) (slice_get-get_or olds k e below') (slice_get-get_or news k e below))
     ∙ sym (get_or-map (queue_of table choice) olds k e d below'))
@@ -53,8 +53,8 @@ Tracks-release table choice rows stream old new released tracks =
             | inl before ↦ (let rises = released.releases.rises in let same : old.gone ≡ k + 1 = omega arith in tracks.gone k packet same got')
             | inr after ↦ released.releases.gone k packet after (omega arith) got'
           ];
-      tb = ap (λ (s : QueueState). s.tb) changed ∙ tracks.tb ∙ ap (λ (k : QueueKind). tb_work table.slot stream k rows) kind;
-      mb = ap (λ (s : QueueState). s.mb) changed ∙ tracks.mb;
+      tb = ap (λ (s : QueueState). s.tb_empty - subtick_after table.slot rows) changed ∙ tracks.tb ∙ ap (λ (k : QueueKind). tb_work table.slot stream k rows) kind;
+      mb = ap (λ (s : QueueState). s.mb_empty - subtick_after table.slot rows) changed ∙ tracks.mb;
     }
 
 -- the state that a state was before the change
@@ -90,8 +90,8 @@ pub record Brings (table : Table) (choice : List ℕ) (rows : List Row) (row : R
   pub keeps : KeepsPlace (packets_at table choice state.items) state
   pub sent : state.sent ≡ count_by (is_of stream) (rows ++ row ∷ [])
   pub gone : (k : ℕ) (packet : QueuedPacket) → state.gone ≡ k + 1 → slice_get (packets_at table choice state.items) k ≡ Some packet → packet.gone ≤ length rows * table.slot
-  pub tb : state.tb ≡ tb_work table.slot stream state.kind rows + PACKET_BYTES * tb_subticks state.kind * packets_in stream state.kind row
-  pub mb : state.mb ≡ mb_work table.slot stream rows + MB_SUBTICKS * payload_in stream row
+  pub tb : state.tb_empty - subtick_after table.slot rows ≡ tb_work table.slot stream state.kind rows + PACKET_BYTES * tb_subticks state.kind * packets_in stream state.kind row
+  pub mb : state.mb_empty - subtick_after table.slot rows ≡ mb_work table.slot stream rows + MB_SUBTICKS * payload_in stream row
 
 -- a row without a packet of the stream
 pub Brings-nothing : (table : Table) (choice : List ℕ) (rows : List Row) (row : Row) (stream : ℕ) (state : QueueState) → Tracks table choice rows stream state
@@ -111,7 +111,7 @@ Brings-nothing table choice rows row stream state tracks other packets payload =
     }
 
 -- the PCR of a program is that of the stream's program, or is not
-pcr_cases : (kind : QueueKind) (program stream : ℕ)
+pub pcr_cases : (kind : QueueKind) (program stream : ℕ)
     → (HasPcr kind program × (packets_in stream kind (Reserved (Pcr program)) ≡ 1)) ⊎ ((HasPcr kind program → ⊥) × (packets_in stream kind (Reserved (Pcr program)) ≡ 0))
 pcr_cases Audio program stream = inr ((λ has. has), refl)
 pcr_cases (Video number vbv) program stream =
@@ -120,35 +120,41 @@ pcr_cases (Video number vbv) program stream =
       | inr apart ↦ inr (apart, packets_in-other_pcr stream number vbv program (λ e. apart (sym e)))
     ]
 
-pub TakesPcr-items : (program stream : ℕ) (old new : QueueState) → TakesPcr program old new → new.items ≡ old.items
-TakesPcr-items program stream old new takes =
+pub TakesPcr-items : (program now stream : ℕ) (old new : QueueState) → TakesPcr program now old new → new.items ≡ old.items
+TakesPcr-items program now stream old new takes =
     elim (pcr_cases old.kind program stream) as (λ _. new.items ≡ old.items) [
       | inl own ↦ ap (λ (s : QueueState). s.items) (takes.own own.0)
       | inr other ↦ ap (λ (s : QueueState). s.items) (takes.other other.0)
     ]
 
 -- the state's places among these packets don't depend on the work in its buffers
-KeepsPlace-work : (packets : List QueuedPacket) (state : QueueState) (tb mb : ℕ) → KeepsPlace packets state → KeepsPlace packets (record state { tb = tb; mb = mb })
+KeepsPlace-work : (packets : List QueuedPacket) (state : QueueState) (tb mb : ℕ) → KeepsPlace packets state → KeepsPlace packets (record state { tb_empty = tb; mb_empty = mb })
 KeepsPlace-work packets state tb mb keeps = record { within = keeps.within; head = keeps.head; order = keeps.order; oldest = keeps.oldest; held = keeps.held }
 
+-- work comes to a buffer that has some left at a time, or none
+raised : (empty now work waits : ℕ) → empty - now ≡ waits → (max empty now + work) - now ≡ waits + work
+raised empty now work waits e = omega arith
+
 -- a PCR on the stream's PID
-Brings-own_pcr : (table : Table) (choice : List ℕ) (rows : List Row) (program stream : ℕ) (old : QueueState) → packets_in stream old.kind (Reserved (Pcr program)) ≡ 1 → Tracks table choice rows stream old
-    → Brings table choice rows (Reserved (Pcr program)) stream (record old { tb = old.tb + PACKET_BYTES * tb_subticks old.kind })
+Brings-own_pcr : (table : Table) (choice : List ℕ) (rows : List Row) (program stream : ℕ) (old : QueueState)
+    → packets_in stream old.kind (Reserved (Pcr program)) ≡ 1 → Tracks table choice rows stream old
+    → Brings table choice rows (Reserved (Pcr program)) stream (record old { tb_empty = max old.tb_empty (subtick_after table.slot rows) + PACKET_BYTES * tb_subticks old.kind })
 Brings-own_pcr table choice rows program stream old one tracks =
     let brought : PACKET_BYTES * tb_subticks old.kind ≡ PACKET_BYTES * tb_subticks old.kind * packets_in stream old.kind (Reserved (Pcr program)) = rw one (sym (mul-one _)) in
     record {
       place = tracks.place;
       sized = tracks.sized;
       kind = tracks.kind;
-      keeps = KeepsPlace-work (packets_at table choice old.items) old (old.tb + PACKET_BYTES * tb_subticks old.kind) old.mb tracks.keeps;
+      keeps = KeepsPlace-work (packets_at table choice old.items) old (max old.tb_empty (subtick_after table.slot rows) + PACKET_BYTES * tb_subticks old.kind) old.mb_empty tracks.keeps;
       sent = tracks.sent ∙ sym (count-reserved stream (Pcr program) rows);
       gone = tracks.gone;
-      tb = ap (λ n. n + PACKET_BYTES * tb_subticks old.kind) tracks.tb ∙ ap (λ n. tb_work table.slot stream old.kind rows + n) brought;
+      tb = raised old.tb_empty (subtick_after table.slot rows) (PACKET_BYTES * tb_subticks old.kind) _ tracks.tb ∙ ap (λ n. tb_work table.slot stream old.kind rows + n) brought;
       mb = tracks.mb ∙ sym (add-zero _);
     }
 
 -- the PCR of a program
-pub Brings-pcr : (table : Table) (choice : List ℕ) (rows : List Row) (program stream : ℕ) (old new : QueueState) → TakesPcr program old new → Tracks table choice rows stream old
+pub Brings-pcr : (table : Table) (choice : List ℕ) (rows : List Row) (program stream : ℕ) (old new : QueueState)
+    → TakesPcr program (subtick_after table.slot rows) old new → Tracks table choice rows stream old
     → Brings table choice rows (Reserved (Pcr program)) stream new
 Brings-pcr table choice rows program stream old new takes tracks =
     elim (pcr_cases old.kind program stream) as (λ _. Brings table choice rows (Reserved (Pcr program)) stream new) [
@@ -157,11 +163,12 @@ Brings-pcr table choice rows program stream old new takes tracks =
     ]
 
 -- a packet of the stream
-pub Brings-packet : (table : Table) (choice : List ℕ) (rows : List Row) (stream : ℕ) (packet : QueuedPacket) (old new : QueueState) → Sends (queue_of table choice old).packets packet old new
+pub Brings-packet : (table : Table) (choice : List ℕ) (rows : List Row) (stream : ℕ) (packet : QueuedPacket) (old new : QueueState)
+    → Sends (queue_of table choice old).packets packet (subtick_after table.slot rows) old new
     → Tracks table choice rows stream old → Brings table choice rows (Carries stream packet) stream new
 Brings-packet table choice rows stream packet old new sends tracks =
     let row : Row = Carries stream packet in
-    let after : QueueState = record old { tb = old.tb + PACKET_BYTES * tb_subticks old.kind; mb = old.mb + MB_SUBTICKS * packet.payload; sent = old.sent + 1; head = new.head; held = old.held + packet.payload } in
+    let after : QueueState = record old { tb_empty = max old.tb_empty (subtick_after table.slot rows) + PACKET_BYTES * tb_subticks old.kind; mb_empty = max old.mb_empty (subtick_after table.slot rows) + MB_SUBTICKS * packet.payload; sent = old.sent + 1; head = new.head; held = old.held + packet.payload } in
     let one : packets_in stream old.kind (Carries stream packet) ≡ 1 = packets_in-carried stream stream old.kind packet refl in
     let payload : payload_in stream (Carries stream packet) ≡ packet.payload = payload_in-carried stream stream packet refl in
     let brought : PACKET_BYTES * tb_subticks old.kind ≡ PACKET_BYTES * tb_subticks old.kind * packets_in stream old.kind (Carries stream packet) = rw one (sym (mul-one _)) in
@@ -172,24 +179,29 @@ Brings-packet table choice rows stream packet old new sends tracks =
       keeps = subst (λ (s : QueueState). KeepsPlace (packets_at table choice old.items) s) sends.changed sends.keeps;
       sent = ap (λ n. n + 1) tracks.sent ∙ sym (count-carried stream stream packet rows refl);
       gone = tracks.gone;
-      tb = ap (λ n. n + PACKET_BYTES * tb_subticks old.kind) tracks.tb ∙ ap (λ n. tb_work table.slot stream old.kind rows + n) brought;
-      mb = ap (λ n. n + MB_SUBTICKS * packet.payload) tracks.mb ∙ ap (λ n. mb_work table.slot stream rows + MB_SUBTICKS * n) (sym payload);
+      tb = raised old.tb_empty (subtick_after table.slot rows) (PACKET_BYTES * tb_subticks old.kind) _ tracks.tb ∙ ap (λ n. tb_work table.slot stream old.kind rows + n) brought;
+      mb = raised old.mb_empty (subtick_after table.slot rows) (MB_SUBTICKS * packet.payload) _ tracks.mb ∙ ap (λ n. mb_work table.slot stream rows + MB_SUBTICKS * n) (sym payload);
     } in
     subst (λ (s : QueueState). Brings table choice rows (Carries stream packet) stream s) (sym sends.changed) brings
 
--- ---- work is done
-pub Tracks-drain : (table : Table) (choice : List ℕ) (rows : List Row) (row : Row) (stream : ℕ) (old new : QueueState) → Brings table choice rows row stream old
-    → Drains (slot_subticks table.slot) old new → Tracks table choice (rows ++ row ∷ []) stream new
-Tracks-drain table choice rows row stream old new brings drains =
+-- ---- the slot passes
+-- what waits at a time waits at a later one, less the time between
+passed : (empty now slot next waits brought : ℕ) → next ≡ now + slot → empty - now ≡ waits + brought → empty - next ≡ (waits + brought) - slot
+passed empty now slot next waits brought later e = omega arith
+
+-- the state is not touched while a slot passes
+pub Tracks-passed : (table : Table) (choice : List ℕ) (rows : List Row) (row : Row) (stream : ℕ) (state : QueueState) → Brings table choice rows row stream state
+    → Tracks table choice (rows ++ row ∷ []) stream state
+Tracks-passed table choice rows row stream state brings =
     let later : length rows * table.slot ≤ length (rows ++ row ∷ []) * table.slot = rw length_push (mul-le-mul_right table.slot (let e : length rows ≤ length rows + 1 = omega arith in e)) in
-    let after : Tracks table choice (rows ++ row ∷ []) stream (record old { tb = old.tb - slot_subticks table.slot; mb = old.mb - slot_subticks table.slot }) = record {
+    let next : subtick_after table.slot (rows ++ row ∷ []) ≡ subtick_after table.slot rows + slot_subticks table.slot = rw length_push (omega arith) in
+    record {
       place = brings.place;
       sized = brings.sized;
       kind = brings.kind;
-      keeps = KeepsPlace-work (packets_at table choice old.items) old (old.tb - slot_subticks table.slot) (old.mb - slot_subticks table.slot) brings.keeps;
+      keeps = brings.keeps;
       sent = brings.sent;
       gone = λ k packet is got. le_trans (brings.gone k packet is got) later;
-      tb = ap (λ n. n - slot_subticks table.slot) brings.tb ∙ sym (tb_work-push table.slot stream old.kind rows row);
-      mb = ap (λ n. n - slot_subticks table.slot) brings.mb ∙ sym (mb_work-push table.slot stream rows row);
-    } in
-    subst (λ (s : QueueState). Tracks table choice (rows ++ row ∷ []) stream s) (sym drains) after
+      tb = passed state.tb_empty (subtick_after table.slot rows) (slot_subticks table.slot) _ _ _ next brings.tb ∙ sym (tb_work-push table.slot stream state.kind rows row);
+      mb = passed state.mb_empty (subtick_after table.slot rows) (slot_subticks table.slot) _ _ _ next brings.mb ∙ sym (mb_work-push table.slot stream rows row);
+    }

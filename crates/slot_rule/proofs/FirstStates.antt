@@ -24,7 +24,8 @@ all_units_of_front rows p =
     let split : units_in rows ≡ units_in (take p rows) ++ units_in (drop p rows) = ap units_in (sym (take-append-drop p rows)) ∙ flat_map-append (λ (row : ProgramRow). row.units) (take p rows) (drop p rows) in
     omega (arith, ap (λ (units : List CodedUnit). length units) split, length-append (units_in (take p rows)) (units_in (drop p rows)))
 
-pub all_units_more : (rows : List ProgramRow) (p : ℕ) (d : ProgramRow) → p < length rows → length (units_in (take (p + 1) rows)) ≡ length (units_in (take p rows)) + length (get_or rows p d).units
+pub all_units_more : (rows : List ProgramRow) (p : ℕ) (d : ProgramRow) → p < length rows
+    → length (units_in (take (p + 1) rows)) ≡ length (units_in (take p rows)) + length (get_or rows p d).units
 all_units_more rows p d within =
     let row = get_or rows p d in
     let more : units_in (take (p + 1) rows) ≡ units_in (take p rows) ++ (row.units ++ []) =

@@ -3,10 +3,12 @@ pub mod AudioPackets
 pub mod BringLaws
 pub mod FirstStates
 pub mod HeadLaws
+pub mod IdleLaws
 pub mod IdleRows
 pub mod ListSteps
 pub mod ListedLaws
 pub mod MissLaws
+pub mod PeriodLaws
 pub mod Places
 pub mod RuleEnd
 pub mod RuleExamples
@@ -24,11 +26,14 @@ pub mod RuleUnique
 pub mod RuleUnits
 pub mod RuleVideo
 pub mod RuleWork
+pub mod RunLaws
 pub mod SendLaws
 pub mod SentLaws
 pub mod SlotLaws
+pub mod SlotPackets
 pub mod SlotListLaws
 pub mod SmallLaws
 pub mod StateLaws
 pub mod TrackLaws
+pub mod TurnLaws
 pub mod UnitPieces

@@ -1,5 +1,6 @@
 -- What the states after a row tell of misses, said of the rows; and the states before the first slot.
-use Rattle.std.proofs.Common.{◌≡◌, ℕ, ◌+◌, ◌*◌, ◌<◌, ◌≤◌, ◌⊎◌, All, List, [], ◌∷◌, ◌++◌, length, map, slice_get, Some, None, refl, sym, ap, subst, ◌∙◌, inl, inr, zero-le, le_refl, mul-le-mul_left, arith}
+use Rattle.std.proofs.Common.{◌≡◌, ℕ, ◌+◌, ◌-◌, ◌*◌, ◌<◌, ◌≤◌, ◌⊎◌, All, List, [], ◌∷◌, ◌++◌, length, map, slice_get, Some, None, refl, sym, ap, subst, ◌∙◌, inl, inr, zero-le, le_refl, mul-le-mul_left, arith}
+use Rattle.std.proofs.Math.Nat.{zero-sub}
 use Rattle.std.proofs.lemmas.List.{length_push, same_from_push}
 use Rattle.std.proofs.lemmas.Option.{same_Some, slice_get_within}
 use Rattle.version_table.specs.declared.limits.TheConstants.{TIME_SLOTS_MOST}
@@ -8,14 +9,15 @@ use Rattle.version_table.specs.Table.{IsValidTable}
 use Rattle.version_table.specs.Choice.{Fits}
 use Rattle.slot_rule.specs.declared.after.After.{After}
 use Rattle.slot_rule.specs.declared.after.After.TheVariants.{Missed, Waiting}
-use Rattle.slot_rule.specs.declared.constants.TheConstants.{MARGIN_SUBTICKS}
 use Rattle.stream_constants.specs.declared.clock.TheConstants.{SUBTICKS_PER_TICK}
 use Rattle.slot_rule.specs.declared.sent.Miss.{Miss}
 use Rattle.slot_rule.specs.declared.queue_state.QueueState.{QueueState}
+use Rattle.slot_rule.specs.declared.run_state.RunState.{RunState}
 use Rattle.slot_rule.specs.Buffers.{Row, Reserved, Carries, Empty, tb_work}
 use Rattle.slot_rule.specs.Private.Heads.{IsFirstHead, Passes}
 use Rattle.slot_rule.specs.Schedule.{AllSent, IsHead, Misses, NoMiss, SentLate, end_with_margin, mb_or_tb_work, IsFirstMiss, IsSchedule, IsScheduled}
-use Rattle.slot_rule.specs.Private.Slots.{ComesLate, FirstOverdue, HasRun, NoneLate, NoneOverdue, RowStands, TellsAfter, Tracks}
+use Rattle.slot_rule.specs.Private.Runs.{IsFirstRun, IsRun, Reached}
+use Rattle.slot_rule.specs.Private.Slots.{ComesLate, FirstOverdue, HasRun, NoneLate, NoneOverdue, RowStands, TellsAfter, Tracks, subtick_after}
 use Rattle.slot_rule.specs.Private.States.{IsFirstState, queue_of}
 use Rattle.slot_rule.specs.Private.QueueState.{KeepsPlace, mb_or_tb_of_kind, mb_or_tb_of_state}
 use Rattle.slot_rule.specs.Queues.{QueueKind, Video, Audio, QueuedPacket, Queue, queues_of}
@@ -30,6 +32,7 @@ Tracks-first : (table : Table) (choice : List ℕ) (stream : ℕ) (state : Queue
 Tracks-first table choice stream state first =
     let packets = (queue_of table choice state).packets in
     let is = first.state_is in
+    let none : List Row = [] in
     let zero_gone : state.gone ≡ 0 = ap (λ (s : QueueState). s.gone) is in
     let zero_sent : state.sent ≡ 0 = ap (λ (s : QueueState). s.sent) is in
     record {
@@ -39,11 +42,12 @@ Tracks-first table choice stream state first =
       keeps = subst (λ (s : QueueState). KeepsPlace packets s) (sym is) (record { within = zero-le; head = refl; order = le_refl 0; oldest = refl; held = refl });
       sent = zero_sent;
       gone = λ k packet e got. absurd (omega arith);
-      tb = ap (λ (s : QueueState). s.tb) is;
-      mb = ap (λ (s : QueueState). s.mb) is;
+      tb = ap (λ (s : QueueState). s.tb_empty - subtick_after table.slot none) is ∙ zero-sub _;
+      mb = ap (λ (s : QueueState). s.mb_empty - subtick_after table.slot none) is ∙ zero-sub _;
     }
 
-pub HasRun-first : (table : Table) (choice : List ℕ) (states : List QueueState) → map (queue_of table choice) states ≡ queues_of table choice → All (IsFirstState table choice) states
+pub HasRun-first : (table : Table) (choice : List ℕ) (states : List QueueState) → map (queue_of table choice) states ≡ queues_of table choice
+    → All (IsFirstState table choice) states
     → HasRun table choice [] states
 HasRun-first table choice states queues first = record {
   follows = FollowRule-nil table choice;
@@ -53,10 +57,10 @@ HasRun-first table choice states queues first = record {
 
 -- ---- after a row
 mb_or_tb_work-is : (table : Table) (choice : List ℕ) (rows : List Row) (stream : ℕ) (state : QueueState) → Tracks table choice rows stream state
-    → (kind : QueueKind) → state.kind ≡ kind → mb_or_tb_work table.slot stream kind rows ≡ mb_or_tb_of_state state
-mb_or_tb_work-is table choice rows stream state tracks (Video program vbv) e = sym (ap (λ (k : QueueKind). mb_or_tb_of_kind k state.tb state.mb) e ∙ tracks.mb)
+    → (kind : QueueKind) → state.kind ≡ kind → mb_or_tb_work table.slot stream kind rows ≡ mb_or_tb_of_state state (subtick_after table.slot rows)
+mb_or_tb_work-is table choice rows stream state tracks (Video program vbv) e = sym (ap (λ (k : QueueKind). mb_or_tb_of_kind k (state.tb_empty - subtick_after table.slot rows) (state.mb_empty - subtick_after table.slot rows)) e ∙ tracks.mb)
 mb_or_tb_work-is table choice rows stream state tracks Audio e =
-    sym (ap (λ (k : QueueKind). mb_or_tb_of_kind k state.tb state.mb) e ∙ tracks.tb ∙ ap (λ (k : QueueKind). tb_work table.slot stream k rows) e)
+    sym (ap (λ (k : QueueKind). mb_or_tb_of_kind k (state.tb_empty - subtick_after table.slot rows) (state.mb_empty - subtick_after table.slot rows)) e ∙ tracks.tb ∙ ap (λ (k : QueueKind). tb_work table.slot stream k rows) e)
 
 module _ (table : Table) (choice : List ℕ) (rows : List Row) (row : Row) (states : List QueueState) (run : HasRun table choice (rows ++ row ∷ []) states) (next : IsNext table choice rows row) where
   -- the kind of a stream that is said of a head packet is that of its state
@@ -67,7 +71,7 @@ module _ (table : Table) (choice : List ℕ) (rows : List Row) (row : Row) (stat
       same_Some _ _ (sym (stream_there table choice states run.queues stream state there) ∙ head.1) in
       (run.tracks stream state there).kind ∙ ap (λ (s : Queue). s.kind) same
 
-  SentLate-from_states : (stream : ℕ) (packet : QueuedPacket) → ComesLate states (end_with_margin table.slot (rows ++ row ∷ [])) row stream packet
+  SentLate-from_states : (stream : ℕ) (packet : QueuedPacket) → ComesLate states (subtick_after table.slot (rows ++ row ∷ [])) row stream packet
       → SentLate table.slot (queues_of table choice) (rows ++ row ∷ []) stream packet
   SentLate-from_states stream packet late =
       let goes = subst (λ (r : Row). IsNext table choice rows r) late.went next in
@@ -82,7 +86,7 @@ module _ (table : Table) (choice : List ℕ) (rows : List Row) (row : Row) (stat
       }
 
   SentLate-to_states : (stream : ℕ) (packet : QueuedPacket) → SentLate table.slot (queues_of table choice) (rows ++ row ∷ []) stream packet
-      → ComesLate states (end_with_margin table.slot (rows ++ row ∷ [])) row stream packet
+      → ComesLate states (subtick_after table.slot (rows ++ row ∷ [])) row stream packet
   SentLate-to_states stream packet late =
       let found = state_there table choice states run.queues stream (record { kind = late.kind; packets = late.head.0 }) late.head.1 in
       let kind = kind_of_head stream late.kind packet late.before found.0 late.head found.1 in
@@ -96,8 +100,8 @@ module _ (table : Table) (choice : List ℕ) (rows : List Row) (row : Row) (stat
 
   -- a miss that the states tell
   pub Misses-from_states : (stream : ℕ) (packet : QueuedPacket)
-      → ComesLate states (end_with_margin table.slot (rows ++ row ∷ [])) row stream packet
-      ⊎ (NoneLate states (end_with_margin table.slot (rows ++ row ∷ [])) row × FirstOverdue states (end_with_margin table.slot (rows ++ row ∷ [])) stream packet)
+      → ComesLate states (subtick_after table.slot (rows ++ row ∷ [])) row stream packet
+      ⊎ (NoneLate states (subtick_after table.slot (rows ++ row ∷ [])) row × FirstOverdue states (subtick_after table.slot (rows ++ row ∷ [])) stream packet)
       → Misses table.slot (queues_of table choice) (rows ++ row ∷ []) stream packet
   Misses-from_states stream packet (inl late) = inl (SentLate-from_states stream packet late)
   Misses-from_states stream packet (inr (none, (is, late))) = inr (
@@ -109,7 +113,7 @@ module _ (table : Table) (choice : List ℕ) (rows : List Row) (row : Row) (stat
   )
 
   -- where the states tell none, nothing misses
-  pub NoneMisses-from_states : NoneLate states (end_with_margin table.slot (rows ++ row ∷ [])) row → NoneOverdue states (end_with_margin table.slot (rows ++ row ∷ []))
+  pub NoneMisses-from_states : NoneLate states (subtick_after table.slot (rows ++ row ∷ [])) row → NoneOverdue states (subtick_after table.slot (rows ++ row ∷ []))
       → NoneMisses table.slot (queues_of table choice) rows row
   NoneMisses-from_states none_late none_overdue stream packet (inl late) = none_late stream packet (SentLate-to_states stream packet late)
   NoneMisses-from_states none_late none_overdue stream packet (inr over) =
@@ -139,66 +143,64 @@ RowStands-next table choice valid fits rows (Carries stream packet) states queue
     (slice_get_within states stream found.0 found.1, omega (arith, limits.due, limits.gone, mul-le-mul_left TIME_SLOTS_MOST valid.slot_most))
 
 -- ---- a run of slots in which nothing misses
-pub record Reached (table : Table) (choice : List ℕ) (slots : ℕ) (states : List QueueState) : Type 0 where
-  pub rows : List Row
-  pub slots_are : length rows ≡ slots
-  pub run : HasRun table choice rows states
-  pub in_time : NoMiss table.slot (queues_of table choice) rows
+pub Reached-first : (table : Table) (choice : List ℕ) (run : RunState) → IsFirstRun table choice run → Reached table choice 0 run
+Reached-first table choice run first = record {
+  rows = [];
+  slots_are = refl;
+  run = record { states = HasRun-first table choice run.states.items first.queues first.first; turns = first.turns; gone = first.gone };
+  in_time = NoMiss-nil table.slot (queues_of table choice);
+}
 
-pub Reached-first : (table : Table) (choice : List ℕ) (states : List QueueState) → map (queue_of table choice) states ≡ queues_of table choice → All (IsFirstState table choice) states
-    → Reached table choice 0 states
-Reached-first table choice states queues first =
-    record { rows = []; slots_are = refl; run = HasRun-first table choice states queues first; in_time = NoMiss-nil table.slot (queues_of table choice) }
-
-end_with_margin-is : (table : Table) (rows : List Row) (row : Row) (n : ℕ) → length rows ≡ n → end_with_margin table.slot (rows ++ row ∷ []) ≡ SUBTICKS_PER_TICK * ((n + 1) * table.slot) + MARGIN_SUBTICKS
-end_with_margin-is table rows row n slots_are = ap (λ (k : ℕ). SUBTICKS_PER_TICK * (k * table.slot) + MARGIN_SUBTICKS) (length_push rows row ∙ ap (λ k. k + 1) slots_are)
+subtick_after-push : (table : Table) (rows : List Row) (row : Row) (n : ℕ) → length rows ≡ n
+    → subtick_after table.slot (rows ++ row ∷ []) ≡ SUBTICKS_PER_TICK * ((n + 1) * table.slot)
+subtick_after-push table rows row n slots_are = ap (λ (k : ℕ). SUBTICKS_PER_TICK * (k * table.slot)) (length_push rows row ∙ ap (λ k. k + 1) slots_are)
 
 -- what is found after one more slot
-module _ (table : Table) (choice : List ℕ) (valid : IsValidTable table) (fits : Fits table choice) (n : ℕ) (olds news : List QueueState) (row : Row) (reached : Reached table choice n olds) (next : IsNext table choice reached.rows row) (run : HasRun table choice (reached.rows ++ row ∷ []) news) where
-  pub miss_found : (miss : Miss) → TellsAfter news (SUBTICKS_PER_TICK * ((n + 1) * table.slot) + MARGIN_SUBTICKS) row n (Missed miss) → IsFirstMiss table choice miss
+module _ (table : Table) (choice : List ℕ) (valid : IsValidTable table) (fits : Fits table choice) (n : ℕ) (olds news : RunState) (row : Row) (reached : Reached table choice n olds) (next : IsNext table choice reached.rows row) (run : IsRun table choice (reached.rows ++ row ∷ []) news) where
+  pub miss_found : (miss : Miss) → TellsAfter news.states.items (SUBTICKS_PER_TICK * ((n + 1) * table.slot)) row n (Missed miss) → IsFirstMiss table choice miss
   miss_found miss tells =
-      let time : ℕ = SUBTICKS_PER_TICK * ((n + 1) * table.slot) + MARGIN_SUBTICKS in
-      let at : time ≡ end_with_margin table.slot (reached.rows ++ row ∷ []) = sym (end_with_margin-is table reached.rows row n reached.slots_are) in
+      let time : ℕ = SUBTICKS_PER_TICK * ((n + 1) * table.slot) in
+      let at : time ≡ subtick_after table.slot (reached.rows ++ row ∷ []) = sym (subtick_after-push table reached.rows row n reached.slots_are) in
       let packet = tells.0 in
       record {
         earlier = reached.rows;
         last = row;
         packet = packet;
-        follows = run.follows;
+        follows = run.states.follows;
         in_time = reached.in_time;
-        misses = Misses-from_states table choice reached.rows row news run next miss.stream packet
-            (subst (λ (t : ℕ). ComesLate news t row miss.stream packet ⊎ (NoneLate news t row × FirstOverdue news t miss.stream packet)) at tells.2);
+        misses = Misses-from_states table choice reached.rows row news.states.items run.states next miss.stream packet
+            (subst (λ (t : ℕ). ComesLate news.states.items t row miss.stream packet ⊎ (NoneLate news.states.items t row × FirstOverdue news.states.items t miss.stream packet)) at tells.2);
         unit_is = ap (λ (m : Miss). m.unit) tells.1;
         slot_is = ap (λ (m : Miss). m.slot) tells.1 ∙ sym reached.slots_are;
         due_is = ap (λ (m : Miss). m.due) tells.1;
       }
 
-  pub no_miss_found : NoneLate news (SUBTICKS_PER_TICK * ((n + 1) * table.slot) + MARGIN_SUBTICKS) row → NoneOverdue news (SUBTICKS_PER_TICK * ((n + 1) * table.slot) + MARGIN_SUBTICKS)
+  pub no_miss_found : NoneLate news.states.items (SUBTICKS_PER_TICK * ((n + 1) * table.slot)) row → NoneOverdue news.states.items (SUBTICKS_PER_TICK * ((n + 1) * table.slot))
       → NoMiss table.slot (queues_of table choice) (reached.rows ++ row ∷ [])
   no_miss_found none_late none_overdue =
-      let at : SUBTICKS_PER_TICK * ((n + 1) * table.slot) + MARGIN_SUBTICKS ≡ end_with_margin table.slot (reached.rows ++ row ∷ []) = sym (end_with_margin-is table reached.rows row n reached.slots_are) in
+      let at : SUBTICKS_PER_TICK * ((n + 1) * table.slot) ≡ subtick_after table.slot (reached.rows ++ row ∷ []) = sym (subtick_after-push table reached.rows row n reached.slots_are) in
       NoMiss-push table.slot (queues_of table choice) reached.rows row reached.in_time
-      (NoneMisses-from_states table choice reached.rows row news run next (subst (λ (t : ℕ). NoneLate news t row) at none_late) (subst (λ (t : ℕ). NoneOverdue news t) at none_overdue))
+      (NoneMisses-from_states table choice reached.rows row news.states.items run.states next (subst (λ (t : ℕ). NoneLate news.states.items t row) at none_late) (subst (λ (t : ℕ). NoneOverdue news.states.items t) at none_overdue))
 
-  pub schedule_found : TellsAfter news (SUBTICKS_PER_TICK * ((n + 1) * table.slot) + MARGIN_SUBTICKS) row n After.AllSent → IsSchedule table choice (reached.rows ++ row ∷ [])
+  pub schedule_found : TellsAfter news.states.items (SUBTICKS_PER_TICK * ((n + 1) * table.slot)) row n After.AllSent → IsSchedule table choice (reached.rows ++ row ∷ [])
   schedule_found tells = record {
-    follows = run.follows;
-    in_time = no_miss_found tells.0 (NoneOverdue-from_none news (SUBTICKS_PER_TICK * ((n + 1) * table.slot) + MARGIN_SUBTICKS) tells.1);
-    sent = AllSent-from_states table choice reached.rows row news run next tells.1;
+    follows = run.states.follows;
+    in_time = no_miss_found tells.0 (NoneOverdue-from_none news.states.items (SUBTICKS_PER_TICK * ((n + 1) * table.slot)) tells.1);
+    sent = AllSent-from_states table choice reached.rows row news.states.items run.states next tells.1;
   }
 
-  pub Reached-next : TellsAfter news (SUBTICKS_PER_TICK * ((n + 1) * table.slot) + MARGIN_SUBTICKS) row n Waiting → Reached table choice (n + 1) news
+  pub Reached-next : TellsAfter news.states.items (SUBTICKS_PER_TICK * ((n + 1) * table.slot)) row n Waiting → Reached table choice (n + 1) news
   Reached-next tells =
       record { rows = reached.rows ++ row ∷ []; slots_are = length_push reached.rows row ∙ ap (λ k. k + 1) reached.slots_are; run = run; in_time = no_miss_found tells.0 tells.1 }
 
 -- after the last slot in which a packet can be due, all is sent
-pub schedule_at_end : (table : Table) (choice : List ℕ) → IsValidTable table → Fits table choice → (n : ℕ) (states : List QueueState) → Reached table choice n states → TIME_SLOTS_MOST ≤ n
+pub schedule_at_end : (table : Table) (choice : List ℕ) → IsValidTable table → Fits table choice → (n : ℕ) (run : RunState) → Reached table choice n run → TIME_SLOTS_MOST ≤ n
     → IsScheduled table choice
-schedule_at_end table choice valid fits n states reached long = (
+schedule_at_end table choice valid fits n run reached long = (
   reached.rows,
   record {
-    follows = reached.run.follows;
+    follows = reached.run.states.follows;
     in_time = reached.in_time;
-    sent = AllSent-at_end table choice reached.rows valid fits reached.run.follows reached.in_time (omega (arith, reached.slots_are));
+    sent = AllSent-at_end table choice reached.rows valid fits reached.run.states.follows reached.in_time (omega (arith, reached.slots_are));
   },
 )

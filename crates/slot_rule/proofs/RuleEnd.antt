@@ -42,7 +42,8 @@ AllSent-at_end table choice rows valid fits follows none long stream kind packet
     ]
 
 -- an answer that is a schedule's, or a first miss, is the one answer
-pub answer_scheduled : (table : Table) (choice : List ℕ) (result : Option Miss) → MatchOption result (IsScheduled table choice) (IsFirstMiss table choice) → IsNone result ↔ IsScheduled table choice
+pub answer_scheduled : (table : Table) (choice : List ℕ) (result : Option Miss)
+    → MatchOption result (IsScheduled table choice) (IsFirstMiss table choice) → IsNone result ↔ IsScheduled table choice
 answer_scheduled table choice None answer = (λ none. answer, λ scheduled. refl)
 answer_scheduled table choice (Some miss) answer = (λ none. absurd (true≢false none), λ scheduled. absurd (IsScheduled-no_miss table choice miss scheduled answer))
 

@@ -37,10 +37,12 @@ offer_cases offer n s queues m packet (zero, s', e, got, offered) =
     inl (same, subst (λ (t : Queue). offer n t ≡ Some packet) (sym stream) (subst (λ i. offer i s' ≡ Some packet) same offered))
 offer_cases offer n s queues m packet (suc k, s', e, got, offered) = inr (omega arith, (k, s', omega arith, got, offered))
 
-offer_first : (offer : ℕ → Queue → Option QueuedPacket) (n : ℕ) (s : Queue) (queues : List Queue) (packet : QueuedPacket) → offer n s ≡ Some packet → Offers offer n (s ∷ queues) n packet
+offer_first : (offer : ℕ → Queue → Option QueuedPacket) (n : ℕ) (s : Queue) (queues : List Queue) (packet : QueuedPacket) → offer n s ≡ Some packet
+    → Offers offer n (s ∷ queues) n packet
 offer_first offer n s queues packet offered = (0, s, sym (add-zero n), refl, offered)
 
-offer_later : (offer : ℕ → Queue → Option QueuedPacket) (n : ℕ) (s : Queue) (queues : List Queue) (m : ℕ) (packet : QueuedPacket) → Offers offer (n + 1) queues m packet → Offers offer n (s ∷ queues) m packet
+offer_later : (offer : ℕ → Queue → Option QueuedPacket) (n : ℕ) (s : Queue) (queues : List Queue) (m : ℕ) (packet : QueuedPacket)
+    → Offers offer (n + 1) queues m packet → Offers offer n (s ∷ queues) m packet
 offer_later offer n s queues m packet (k, s', e, got, offered) = (suc k, s', omega arith, got, offered)
 
 before_above : (n m : ℕ) (packet packet' : QueuedPacket) → n < m → packet.due ≤ packet'.due → IsBefore n packet m packet'
@@ -51,7 +53,8 @@ due_upto m other packet packet' (inl less) = omega arith
 due_upto m other packet packet' (inr same) = omega arith
 
 -- two offers of one stream are one packet
-offer_same : (offer : ℕ → Queue → Option QueuedPacket) (n : ℕ) (queues : List Queue) (m other : ℕ) (packet packet' : QueuedPacket) → other ≡ m → Offers offer n queues m packet → Offers offer n queues other packet' → packet ≡ packet'
+offer_same : (offer : ℕ → Queue → Option QueuedPacket) (n : ℕ) (queues : List Queue) (m other : ℕ) (packet packet' : QueuedPacket) → other ≡ m
+    → Offers offer n queues m packet → Offers offer n queues other packet' → packet ≡ packet'
 offer_same offer n queues m other packet packet' e (k, s, at, got, offered) (k', s', at', got', offered') =
     let place : k' ≡ k = omega arith in
     let stream : s ≡ s' = same_Some s s' (sym got ∙ subst (λ i. slice_get queues i ≡ Some s') place got') in

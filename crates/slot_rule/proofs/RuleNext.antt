@@ -32,7 +32,8 @@ true-multiplex_permits : (kind : QueueKind) (work : ℕ) → MbPermits kind work
 true-multiplex_permits (Video program vbv) work h = le-leb work (mb_gate vbv) h
 true-multiplex_permits Audio work h = refl
 
-pub is_permitted-true : (slot : ℕ) (rows : List Row) (stream : ℕ) (kind : QueueKind) (packet : QueuedPacket) → is_permitted slot rows stream kind packet ≡ true → IsPermitted slot rows stream kind packet
+pub is_permitted-true : (slot : ℕ) (rows : List Row) (stream : ℕ) (kind : QueueKind) (packet : QueuedPacket)
+    → is_permitted slot rows stream kind packet ≡ true → IsPermitted slot rows stream kind packet
 is_permitted-true slot rows stream kind packet e =
     let a = nat_le (tb_work slot stream kind rows) (tb_gate kind) in
     let b = multiplex_permits kind (mb_work slot stream rows) in
@@ -48,7 +49,8 @@ is_permitted-true slot rows stream kind packet e =
       hold = leb-true packet.gone (length rows * slot + HOLD_TICKS) right.1;
     }
 
-pub true-is_permitted : (slot : ℕ) (rows : List Row) (stream : ℕ) (kind : QueueKind) (packet : QueuedPacket) → IsPermitted slot rows stream kind packet → is_permitted slot rows stream kind packet ≡ true
+pub true-is_permitted : (slot : ℕ) (rows : List Row) (stream : ℕ) (kind : QueueKind) (packet : QueuedPacket)
+    → IsPermitted slot rows stream kind packet → is_permitted slot rows stream kind packet ≡ true
 true-is_permitted slot rows stream kind packet h =
     let a = nat_le (tb_work slot stream kind rows) (tb_gate kind) in
     let b = multiplex_permits kind (mb_work slot stream rows) in
@@ -189,7 +191,8 @@ miss_cases slot programs queues before row None None is e first =
     ])
 
 -- where a packet is overdue, the test finds a miss
-found_cases : (slot : ℕ) (queues : List Queue) (rows : List Row) (late over : Option (ℕ × QueuedPacket)) (stream : ℕ) (packet : QueuedPacket) → Overdue slot queues rows stream packet
+found_cases : (slot : ℕ) (queues : List Queue) (rows : List Row) (late over : Option (ℕ × QueuedPacket)) (stream : ℕ) (packet : QueuedPacket)
+    → Overdue slot queues rows stream packet
     → IsEarliest (head_where (is_overdue slot rows) rows) 0 queues over → (found : ℕ × QueuedPacket) × (option_or late over ≡ Some found)
 found_cases slot queues rows (Some found) over stream packet overdue first = (found, refl)
 found_cases slot queues rows None (Some found) stream packet overdue first = (found, refl)

@@ -75,7 +75,8 @@ video_from-first item piece due left units choice =
           ))
     ]
 
-pub StandsAt-packet : (units : List CodedUnit) (choice : List ℕ) (k : ℕ) (packet : QueuedPacket) → StandsAt units choice k packet → slice_get (packets_from 0 units choice) k ≡ Some packet
+pub StandsAt-packet : (units : List CodedUnit) (choice : List ℕ) (k : ℕ) (packet : QueuedPacket) → StandsAt units choice k packet
+    → slice_get (packets_from 0 units choice) k ≡ Some packet
 StandsAt-packet units choice k packet at =
     let first = video_from-first packet.item packet.piece at.unit.due at.left units choice in
     (drop_next (packets_from 0 units choice) k packet first.0 (at.from_here ∙ first.1 ∙ ap (λ (p : QueuedPacket). p ∷ first.0) (sym at.packet_is))).1
@@ -139,7 +140,8 @@ after_cases units choice k packet sizes at =
           ]))
     ])
 
-stands_at : (units : List CodedUnit) (choice : List ℕ) → HasSizes units choice → (k : ℕ) → k < length (packets_from 0 units choice) → (packet : QueuedPacket) × StandsAt units choice k packet
+stands_at : (units : List CodedUnit) (choice : List ℕ) → HasSizes units choice → (k : ℕ) → k < length (packets_from 0 units choice)
+    → (packet : QueuedPacket) × StandsAt units choice k packet
 stands_at units choice sizes zero within =
     (elim (unit_cases units choice 0 0 sizes refl) as (λ _. (packet : QueuedPacket) × StandsAt units choice 0 packet) [
       | inl first ↦ (first.0, first.2)
@@ -153,7 +155,8 @@ stands_at units choice sizes (suc k) within =
     ])
 
 -- each packet of a video stream stands at its place
-pub StandsAt-from_get : (units : List CodedUnit) (choice : List ℕ) → HasSizes units choice → (k : ℕ) (packet : QueuedPacket) → slice_get (packets_from 0 units choice) k ≡ Some packet → StandsAt units choice k packet
+pub StandsAt-from_get : (units : List CodedUnit) (choice : List ℕ) → HasSizes units choice → (k : ℕ) (packet : QueuedPacket)
+    → slice_get (packets_from 0 units choice) k ≡ Some packet → StandsAt units choice k packet
 StandsAt-from_get units choice sizes k packet got =
     let at = stands_at units choice sizes k (slice_get_within (packets_from 0 units choice) k packet got) in
     subst (λ (p : QueuedPacket). StandsAt units choice k p) (same_Some at.0 packet (sym (StandsAt-packet units choice k at.0 at.1) ∙ got)) at.1
@@ -167,7 +170,8 @@ packets_from-first units choice sizes =
     ])
 
 -- the packet of a video stream after another is the next piece of its unit, or else the first of the next unit
-pub packets_from-after : (units : List CodedUnit) (choice : List ℕ) → HasSizes units choice → (k : ℕ) (packet : QueuedPacket) → slice_get (packets_from 0 units choice) k ≡ Some packet
+pub packets_from-after : (units : List CodedUnit) (choice : List ℕ) → HasSizes units choice → (k : ℕ) (packet : QueuedPacket)
+    → slice_get (packets_from 0 units choice) k ≡ Some packet
     → slice_get (packets_from 0 units choice) (k + 1) ≡ packet_after units choice packet
 packets_from-after units choice sizes k packet got =
     (elim (after_cases units choice k packet sizes (StandsAt-from_get units choice sizes k packet got)) as (λ _. slice_get (packets_from 0 units choice) (k + 1) ≡ packet_after units choice packet) [

@@ -83,7 +83,8 @@ pub record IsValidStream (slot : ℕ) (stream : Queue) : Type 0 where
   pub few : length stream.packets < 2 ^ 32
 
 -- a choice that fits has a version with bytes for each unit
-pub HasSizes-from_fits : (slot : ℕ) (units others : List CodedUnit) (choice : List ℕ) → All (IsValidUnit slot) units → AllZip HasVersion (units ++ others) choice → HasSizes units choice
+pub HasSizes-from_fits : (slot : ℕ) (units others : List CodedUnit) (choice : List ℕ) → All (IsValidUnit slot) units
+    → AllZip HasVersion (units ++ others) choice → HasSizes units choice
 HasSizes-from_fits slot [] others choice valid fits = tt
 HasSizes-from_fits slot (unit ∷ units) others [] valid fits = absurd fits
 HasSizes-from_fits slot (unit ∷ units) others (k ∷ choice) valid fits =
@@ -123,13 +124,15 @@ pub length-audio_of : (packets : List AudioPacket) → length (audio_of packets)
 length-audio_of packets = length-map (enumerate_from 0 packets) audio_packet ∙ length-enumerate_from 0 packets
 
 -- the packet at a place of an audio stream
-pub get_or-audio_of : (packets : List AudioPacket) (i : ℕ) (d : QueuedPacket) (e : AudioPacket) → i < length packets → get_or (audio_of packets).packets i d ≡ audio_packet (i, get_or packets i e)
+pub get_or-audio_of : (packets : List AudioPacket) (i : ℕ) (d : QueuedPacket) (e : AudioPacket) → i < length packets
+    → get_or (audio_of packets).packets i d ≡ audio_packet (i, get_or packets i e)
 get_or-audio_of packets i d e within =
     let fits : i < length (enumerate_from 0 packets) = rw length-enumerate_from within in
     get_or-map audio_packet (enumerate_from 0 packets) i (0, e) d fits
     ∙ ap audio_packet (get_or-enumerate_from 0 packets i (0, e) within) ∙ ap (λ n. audio_packet (n, get_or packets i e)) (zero-add i)
 
-audio_rises : (packets : List AudioPacket) (of_packet : QueuedPacket → ℕ) (of_audio : AudioPacket → ℕ) → ((n : ℕ) (packet : AudioPacket) → of_packet (audio_packet (n, packet)) ≡ of_audio packet)
+audio_rises : (packets : List AudioPacket) (of_packet : QueuedPacket → ℕ) (of_audio : AudioPacket → ℕ)
+    → ((n : ℕ) (packet : AudioPacket) → of_packet (audio_packet (n, packet)) ≡ of_audio packet)
     → IsNonDecreasing (map of_audio packets) → IsNonDecreasingBy of_packet (audio_of packets).packets
 audio_rises packets of_packet of_audio same rises i j d upto within =
     let none : AudioPacket = record { due = 0; gone = 0; bytes = 0 } in
@@ -165,7 +168,8 @@ IsValidStream-audio slot packets valid few = record {
   few = omega (arith, length-audio_of packets);
 }
 
-audios_valid : (slot : ℕ) (audios : List (List AudioPacket)) → All (IsValidAudio slot) audios → length (packets_of audios) < AUDIO_PACKETS_LIMIT → All (IsValidStream slot) (map audio_of audios)
+audios_valid : (slot : ℕ) (audios : List (List AudioPacket)) → All (IsValidAudio slot) audios → length (packets_of audios) < AUDIO_PACKETS_LIMIT
+    → All (IsValidStream slot) (map audio_of audios)
 audios_valid slot [] valid few = All-nil (IsValidStream slot)
 audios_valid slot (packets ∷ audios) valid few =
     let size : length (packets_of (packets ∷ audios)) ≡ length packets + length (packets_of audios) = length-append packets (packets_of audios) in
@@ -190,7 +194,8 @@ queues_from-valid slot program (row ∷ rows) choice valid fits few few_packets 
 pub queues_of-valid : (table : Table) (choice : List ℕ) → IsValidTable table → Fits table choice → All (IsValidStream table.slot) (queues_of table choice)
 queues_of-valid table choice valid fits = queues_from-valid table.slot 0 table.programs choice valid.programs fits valid.units valid.audio_packets
 
-pub IsValidStream-at : (table : Table) (choice : List ℕ) (stream : ℕ) (s : Queue) → IsValidTable table → Fits table choice → slice_get (queues_of table choice) stream ≡ Some s → IsValidStream table.slot s
+pub IsValidStream-at : (table : Table) (choice : List ℕ) (stream : ℕ) (s : Queue) → IsValidTable table → Fits table choice
+    → slice_get (queues_of table choice) stream ≡ Some s → IsValidStream table.slot s
 IsValidStream-at table choice stream s valid fits got =
     let within : stream < length (queues_of table choice) = slice_get_within (queues_of table choice) stream s got in
     subst (λ (x : Queue). IsValidStream table.slot x) (get_or_from_slice_get (queues_of table choice) stream s s got) (queues_of-valid table choice valid fits stream s within)
@@ -214,7 +219,8 @@ IsHead-limited table choice rows stream kind packet valid fits head =
     let n = count_by (is_of stream) rows in
     subst (λ (p : QueuedPacket). IsLimited table.slot p) (get_or_from_slice_get head.0 n packet packet head.2) (valid_stream.each n packet (slice_get_within head.0 n packet head.2))
 
-payload_in-next : (table : Table) (choice : List ℕ) (stream : ℕ) (rows : List Row) (row : Row) → IsValidTable table → Fits table choice → IsNext table choice rows row → payload_in stream row ≤ PAYLOAD_BYTES
+payload_in-next : (table : Table) (choice : List ℕ) (stream : ℕ) (rows : List Row) (row : Row) → IsValidTable table → Fits table choice
+    → IsNext table choice rows row → payload_in stream row ≤ PAYLOAD_BYTES
 payload_in-next table choice stream rows (Reserved sent) valid fits next = zero-le
 payload_in-next table choice stream rows Empty valid fits next = zero-le
 payload_in-next table choice stream rows (Carries s packet) valid fits next =
@@ -222,6 +228,7 @@ payload_in-next table choice stream rows (Carries s packet) valid fits next =
     cond_both (eqb s stream) packet.payload 0 (λ n. n ≤ PAYLOAD_BYTES) (λ e. limited.payload) (λ e. zero-le)
 
 -- the rows carry at most a packet's payload each
-pub FollowRule-payloads : (table : Table) (choice : List ℕ) (stream : ℕ) (rows : List Row) → IsValidTable table → Fits table choice → FollowRule table choice rows → All (λ row. payload_in stream row ≤ PAYLOAD_BYTES) rows
+pub FollowRule-payloads : (table : Table) (choice : List ℕ) (stream : ℕ) (rows : List Row) → IsValidTable table → Fits table choice
+    → FollowRule table choice rows → All (λ row. payload_in stream row ≤ PAYLOAD_BYTES) rows
 FollowRule-payloads table choice stream rows valid fits follows k d within =
     payload_in-next table choice stream (take k rows) (get_or rows k d) valid fits (FollowRule-at table choice rows follows k d within)

@@ -33,8 +33,10 @@ TellsRun table choice (Missed earlier last found) =
     FollowRule table choice (earlier ++ last ∷ []) × NoMiss table.slot (queues_of table choice) earlier
     × Misses table.slot (queues_of table choice) (earlier ++ last ∷ []) found.0 found.1
 
-step_cases : (table : Table) (choice : List ℕ) (slots : ℕ) (rows : List Row) (row : Row) (found : Option (ℕ × QueuedPacket)) → FollowRule table choice rows → NoMiss table.slot (queues_of table choice) rows
+step_cases : (table : Table) (choice : List ℕ) (slots : ℕ) (rows : List Row) (row : Row) (found : Option (ℕ × QueuedPacket))
+    → FollowRule table choice rows → NoMiss table.slot (queues_of table choice) rows
     → IsNext table choice rows row → TellsMiss table.slot (queues_of table choice) rows row found
+    
     → (FollowRule table choice (rows ++ row ∷ []) → NoMiss table.slot (queues_of table choice) (rows ++ row ∷ []) → TellsRun table choice (run table.slot (length table.programs) (queues_of table choice) slots (rows ++ row ∷ [])))
     → TellsRun table choice (elim found [
       | Some found ↦ Missed rows row found
@@ -75,7 +77,8 @@ run_misses table choice (Missed earlier last found) miss tells e =
     subst (λ (m : Miss). IsFirstMiss table choice m) (same_Some _ miss e)
     (record { earlier = earlier; last = last; packet = found.1; follows = tells.0; in_time = tells.1; misses = tells.2; unit_is = refl; slot_is = refl; due_is = refl })
 
-run_clean : (table : Table) (choice : List ℕ) (result : Run) (rows : List Row) → TellsRun table choice result → clean_rows result ≡ Some rows → FollowRule table choice rows × NoMiss table.slot (queues_of table choice) rows
+run_clean : (table : Table) (choice : List ℕ) (result : Run) (rows : List Row) → TellsRun table choice result → clean_rows result ≡ Some rows
+    → FollowRule table choice rows × NoMiss table.slot (queues_of table choice) rows
 run_clean table choice (Clean rows') rows tells e = subst (λ (list : List Row). FollowRule table choice list × NoMiss table.slot (queues_of table choice) list) (same_Some rows' rows e) tells
 run_clean table choice (Missed earlier last found) rows tells e = absurd (none-some rows e)
 
@@ -87,7 +90,8 @@ IsFirstMiss-from_run table choice slots miss e = run_misses table choice (first_
 abbrev pub nothing_left : List Queue → List Row → Bool
 nothing_left queues rows = is_none (first_head (λ n kind packet. true) queues rows)
 
-left_cases : (queues : List Queue) (rows : List Row) (found : Option (ℕ × QueuedPacket)) → IsEarliest (head_where (λ n kind packet. true) rows) 0 queues found → is_none found ≡ true → AllSent queues rows
+left_cases : (queues : List Queue) (rows : List Row) (found : Option (ℕ × QueuedPacket))
+    → IsEarliest (head_where (λ n kind packet. true) rows) 0 queues found → is_none found ≡ true → AllSent queues rows
 left_cases queues rows (Some found) first e = absurd (false≢true e)
 left_cases queues rows None none e = λ stream kind packet head. none stream packet (some_head_where (λ n kind packet. true) queues rows stream kind packet head refl)
 
@@ -95,7 +99,8 @@ pub AllSent-from_test : (queues : List Queue) (rows : List Row) → nothing_left
 AllSent-from_test queues rows e = left_cases queues rows (first_head (λ n kind packet. true) queues rows) (earliest-is (head_where (λ n kind packet. true) rows) 0 queues) e
 
 -- a run over the first slots that comes to no miss, after which all is sent
-pub IsSchedule-from_run : (table : Table) (choice : List ℕ) (slots : ℕ) (rows : List Row) → clean_rows (first_rows table choice slots) ≡ Some rows → nothing_left (queues_of table choice) rows ≡ true
+pub IsSchedule-from_run : (table : Table) (choice : List ℕ) (slots : ℕ) (rows : List Row) → clean_rows (first_rows table choice slots) ≡ Some rows
+    → nothing_left (queues_of table choice) rows ≡ true
     → IsSchedule table choice rows
 IsSchedule-from_run table choice slots rows e left =
     let clean : FollowRule table choice rows × NoMiss table.slot (queues_of table choice) rows = run_clean table choice (first_rows table choice slots) rows (first_rows-is table choice slots) e in

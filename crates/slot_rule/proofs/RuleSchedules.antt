@@ -16,7 +16,8 @@ abbrev pub CarryNone : (stream : ℕ) → List Row → Type 0
 CarryNone stream rows = All (λ row. is_of stream row ≡ false) rows
 
 -- where all is sent, no later row carries a packet
-row_after_all : (table : Table) (choice : List ℕ) (stream : ℕ) (rows more : List Row) (row : Row) → AllSent (queues_of table choice) rows → IsNext table choice (rows ++ more) row → is_of stream row ≡ false
+row_after_all : (table : Table) (choice : List ℕ) (stream : ℕ) (rows more : List Row) (row : Row) → AllSent (queues_of table choice) rows
+    → IsNext table choice (rows ++ more) row → is_of stream row ≡ false
 row_after_all table choice stream rows more (Reserved sent) all_sent next = refl
 row_after_all table choice stream rows more Empty all_sent next = refl
 row_after_all table choice stream rows more (Carries s packet) all_sent next =

@@ -39,7 +39,8 @@ packets_sent-push stream rows row = flat_map-append (packet_of stream) rows (row
 pub count-push : (stream : ℕ) (rows : List Row) (row : Row) → count_by (is_of stream) (rows ++ row ∷ []) ≡ count_by (is_of stream) rows + cond (is_of stream row) 1 0
 count-push stream rows row = sum_by_push (λ r. cond (is_of stream r) 1 0) rows row
 
-pub count-carried : (stream s : ℕ) (packet : QueuedPacket) (rows : List Row) → s ≡ stream → count_by (is_of stream) (rows ++ Carries s packet ∷ []) ≡ count_by (is_of stream) rows + 1
+pub count-carried : (stream s : ℕ) (packet : QueuedPacket) (rows : List Row) → s ≡ stream
+    → count_by (is_of stream) (rows ++ Carries s packet ∷ []) ≡ count_by (is_of stream) rows + 1
 count-carried stream s packet rows e = count-push stream rows (Carries s packet) ∙ ap (λ n. count_by (is_of stream) rows + n) (cond-true (eqb s stream) 1 0 (eq-eqb s stream e))
 
 pub count-reserved : (stream : ℕ) (sent : Sent) (rows : List Row) → count_by (is_of stream) (rows ++ Reserved sent ∷ []) ≡ count_by (is_of stream) rows

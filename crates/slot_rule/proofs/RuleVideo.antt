@@ -157,16 +157,19 @@ packets_from-order item (unit ∷ units) (k ∷ choice) sizes rises =
     let b : IsLater item unit.due (get_or (packets_from (item + 1) units choice) j d) = others j d within' in
     record { place = inl (omega (arith, a.item_is, b.of_item)); due = omega (arith, a.due_is, b.due_after); gone = omega (arith, a.gone_is, b.gone_after) })
 
-pub packets_from-dues : (item : ℕ) (units : List CodedUnit) (choice : List ℕ) → HasSizes units choice → DuesRise units → IsNonDecreasingBy (λ packet. packet.due) (packets_from item units choice)
+pub packets_from-dues : (item : ℕ) (units : List CodedUnit) (choice : List ℕ) → HasSizes units choice → DuesRise units
+    → IsNonDecreasingBy (λ packet. packet.due) (packets_from item units choice)
 packets_from-dues item units choice sizes rises =
     IsNonDecreasingBy-from_pairs (λ packet. packet.due) (packets_from item units choice) (λ i j d before within. (packets_from-order item units choice sizes rises i j d before within).due)
 
-pub packets_from-gones : (item : ℕ) (units : List CodedUnit) (choice : List ℕ) → HasSizes units choice → DuesRise units → IsNonDecreasingBy (λ packet. packet.gone) (packets_from item units choice)
+pub packets_from-gones : (item : ℕ) (units : List CodedUnit) (choice : List ℕ) → HasSizes units choice → DuesRise units
+    → IsNonDecreasingBy (λ packet. packet.gone) (packets_from item units choice)
 packets_from-gones item units choice sizes rises =
     IsNonDecreasingBy-from_pairs (λ packet. packet.gone) (packets_from item units choice) (λ i j d before within. (packets_from-order item units choice sizes rises i j d before within).gone)
 
 -- a video stream has at most so many packets for each unit
-pub length-packets_from : (item : ℕ) (units : List CodedUnit) (choice : List ℕ) → HasSizes units choice → length (packets_from item units choice) ≤ length units * ((VERSION_BYTES_MOST - 1) / PAYLOAD_BYTES + 1)
+pub length-packets_from : (item : ℕ) (units : List CodedUnit) (choice : List ℕ) → HasSizes units choice
+    → length (packets_from item units choice) ≤ length units * ((VERSION_BYTES_MOST - 1) / PAYLOAD_BYTES + 1)
 length-packets_from item [] choice sizes = zero-le
 length-packets_from item (unit ∷ units) [] sizes = absurd sizes
 length-packets_from item (unit ∷ units) (k ∷ choice) sizes =

@@ -93,7 +93,8 @@ tb_work-bound slot stream kind rows =
     rw (← length-map rows f)
     (waiting-bound (slot_subticks slot) (PACKET_BYTES * AUDIO_TB_SUBTICKS) (map f rows) (All-map (λ work. work ≤ PACKET_BYTES * AUDIO_TB_SUBTICKS) f rows (λ k d within. transport_in-le stream kind (get_or rows k d))))
 
-pub mb_work-bound : (slot stream : ℕ) (rows : List Row) → All (λ row. payload_in stream row ≤ PAYLOAD_BYTES) rows → mb_work slot stream rows ≤ length rows * (PAYLOAD_BYTES * MB_SUBTICKS)
+pub mb_work-bound : (slot stream : ℕ) (rows : List Row) → All (λ row. payload_in stream row ≤ PAYLOAD_BYTES) rows
+    → mb_work slot stream rows ≤ length rows * (PAYLOAD_BYTES * MB_SUBTICKS)
 mb_work-bound slot stream rows each =
     let f : Row → ℕ = λ row. MB_SUBTICKS * payload_in stream row in
     rw (← length-map rows f)

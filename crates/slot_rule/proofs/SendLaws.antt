@@ -12,7 +12,8 @@ use Rattle.slot_rule.specs.Private.QueueState.{IsKind, IsNumbered, IsReady, Keep
 use Rattle.slot_rule.specs.Queues.{QueueKind, QueuedPacket}
 use Rattle.slot_rule.proofs.ListSteps.{slice_get-set_same, slice_get-set_other}
 
-pub released_placed : (table : Table) (choice : List ℕ) (start : ℕ) (old new : QueueState) → ReleasesAll table choice start old new → IsPlaced table choice old → IsPlaced table choice new
+pub released_placed : (table : Table) (choice : List ℕ) (start : ℕ) (old new : QueueState) → ReleasesAll table choice start old new
+    → IsPlaced table choice old → IsPlaced table choice new
 released_placed table choice start old new released placed =
     let same : old.items ≡ new.items = sym (ap (λ (s : QueueState). s.items) released.releases.changed) in
     record {
@@ -24,8 +25,8 @@ released_placed table choice start old new released placed =
 pub released_ready : (table : Table) (choice : List ℕ) (start : ℕ) (old new : QueueState) → ReleasesAll table choice start old new → IsReady old → IsReady new
 released_ready table choice start old new released ready =
     let changed = released.releases.changed in
-    let tb : new.tb ≡ old.tb = ap (λ (s : QueueState). s.tb) changed in
-    let mb : new.mb ≡ old.mb = ap (λ (s : QueueState). s.mb) changed in
+    let tb : new.tb_empty ≡ old.tb_empty = ap (λ (s : QueueState). s.tb_empty) changed in
+    let mb : new.mb_empty ≡ old.mb_empty = ap (λ (s : QueueState). s.mb_empty) changed in
     let sent : new.sent ≡ old.sent = ap (λ (s : QueueState). s.sent) changed in
     let fewer : new.held ≤ old.held = released.releases.fewer in
     let kind : old.kind ≡ new.kind = sym (ap (λ (s : QueueState). s.kind) changed) in
@@ -35,42 +36,24 @@ released_ready table choice start old new released ready =
       small = record { tb = omega (arith, small.tb); mb = omega (arith, small.mb); sent = omega (arith, small.sent); held = omega (arith, small.held) };
       kind = subst (λ (k : QueueKind). IsKind k) kind ready.kind;
       payload = λ packet is. ready.payload packet (head ∙ is);
+      gone = λ packet is. ready.gone packet (head ∙ is);
     }
 
 -- what holds of each state goes over a change of each
-pub All-over : (R : QueueState → QueueState → Type 0) (P Q : QueueState → Type 0) (olds news : List QueueState) → ChangesEach R olds news → ((old new : QueueState) → R old new → P old → Q new)
+pub All-over : (R : QueueState → QueueState → Type 0) (P Q : QueueState → Type 0) (olds news : List QueueState) → ChangesEach R olds news
+    → ((old new : QueueState) → R old new → P old → Q new)
     → All P olds → All Q news
 All-over R P Q olds news changes over each k d within =
     let within' : k < length olds = omega (arith, changes.as_many) in
     over (get_or olds k d) (get_or news k d) (changes.each k (get_or olds k d) (get_or news k d) (slice_get-get_or olds k d within') (slice_get-get_or news k d within)) (each k d within')
 
-pub SendsOne-set : (table : Table) (choice : List ℕ) (stream : ℕ) (packet : QueuedPacket) (olds : List QueueState) (d new : QueueState) → stream < length olds
-    → Sends (queue_of table choice (get_or olds stream d)).packets packet (get_or olds stream d) new → SendsOne table choice stream packet olds (set olds stream new)
-SendsOne-set table choice stream packet olds d new within sends = record {
+pub SendsOne-set : (table : Table) (choice : List ℕ) (stream : ℕ) (packet : QueuedPacket) (now : ℕ) (olds : List QueueState) (d new : QueueState) → stream < length olds
+    → Sends (queue_of table choice (get_or olds stream d)).packets packet now (get_or olds stream d) new → SendsOne table choice stream packet now olds (set olds stream new)
+SendsOne-set table choice stream packet now olds d new within sends = record {
   as_many = length-set olds stream new;
   own = λ old new' there there'.
       let old_is : get_or olds stream d ≡ old = get_or_from_slice_get olds stream old d there in
       let new_is : new ≡ new' = same_Some new new' (sym (slice_get-set_same olds stream new within) ∙ there') in
-      subst (λ (n : QueueState). Sends (queue_of table choice old).packets packet old n) new_is (subst (λ (o : QueueState). Sends (queue_of table choice o).packets packet o new) old_is sends);
+      subst (λ (n : QueueState). Sends (queue_of table choice old).packets packet now old n) new_is (subst (λ (o : QueueState). Sends (queue_of table choice o).packets packet now o new) old_is sends);
   others = λ other apart. slice_get-set_other olds stream other new apart;
 }
-
--- the state of the packet that goes first, once packets that are gone are left out
-pub record IsSender (table : Table) (choice : List ℕ) (states : List QueueState) (stream : ℕ) (packet : QueuedPacket) (state : QueueState) : Type 0 where
-  pub within : stream < length states
-  pub placed : IsPlaced table choice state
-  pub ready : IsReady state
-  pub head : state.head ≡ Some packet
-
-pub IsSender-first : (table : Table) (choice : List ℕ) (start : ℕ) (olds news : List QueueState) (stream : ℕ) (packet : QueuedPacket) (d : QueueState)
-    → ChangesEach (ReleasesAll table choice start) olds news → All (IsPlaced table choice) olds → All IsReady olds → IsFirst (PassesAt start) news stream packet
-    → IsSender table choice news stream packet (get_or news stream d)
-IsSender-first table choice start olds news stream packet d changes placed ready is =
-    let R : QueueState → QueueState → Type 0 = ReleasesAll table choice start in
-    let within : stream < length news = slice_get_within news stream is.state is.there in
-    record {
-      within = within;
-      placed = All-over R (IsPlaced table choice) (IsPlaced table choice) olds news changes (released_placed table choice start) placed stream d within;
-      ready = All-over R IsReady IsReady olds news changes (released_ready table choice start) ready stream d within;
-      head = ap (λ (s : QueueState). s.head) (get_or_from_slice_get news stream is.state d is.there) ∙ is.head;
-    }

@@ -100,7 +100,8 @@ later_place first row rows choice stream queue past place =
       ];
     }
 
-queue_place : (first : ℕ) (rows : List ProgramRow) (choice : List ℕ) (stream : ℕ) (queue : Queue) → slice_get (queues_from first rows choice) stream ≡ Some queue → QueuePlace first rows choice stream queue
+queue_place : (first : ℕ) (rows : List ProgramRow) (choice : List ℕ) (stream : ℕ) (queue : Queue)
+    → slice_get (queues_from first rows choice) stream ≡ Some queue → QueuePlace first rows choice stream queue
 queue_place first [] choice stream queue e =
     let none : List Queue = [] in
     absurd (none-some queue (sym (slice_get_past none stream zero-le) ∙ e))
@@ -118,7 +119,8 @@ queue_place first (row ∷ rows) choice stream queue e =
 
 -- ---- what a row names
 module _ (table : Table) (choice : List ℕ) (valid : IsValidTable table) (fits : Fits table choice) where
-  piece_of_table : (program : ℕ) (row : ProgramRow) (stream k : ℕ) (packet : QueuedPacket) → slice_get table.programs program ≡ Some row → stream ≡ video_number table.programs program
+  piece_of_table : (program : ℕ) (row : ProgramRow) (stream k : ℕ) (packet : QueuedPacket) → slice_get table.programs program ≡ Some row
+      → stream ≡ video_number table.programs program
       → slice_get (queues_of table choice) stream ≡ Some (video_of program row (choice_from table.programs program choice))
       → slice_get (video_of program row (choice_from table.programs program choice)).packets k ≡ Some packet → IsPiece table choice stream packet.item packet.piece
   piece_of_table program row stream k packet row_is number queue got =
@@ -129,7 +131,8 @@ module _ (table : Table) (choice : List ℕ) (valid : IsValidTable table) (fits 
       let at = StandsAt-from_get row.units versions sizes k packet got in
       record { program = program; row = row; row_is = row_is; number = number; queue = queue; unit = at.unit; unit_is = at.unit_is; piece_within = omega (arith, at.bytes, at.some_left) }
 
-  audio_packet_of_table : (program : ℕ) (row : ProgramRow) (audio : ℕ) (packets : List AudioPacket) (stream k : ℕ) (packet : QueuedPacket) → slice_get table.programs program ≡ Some row
+  audio_packet_of_table : (program : ℕ) (row : ProgramRow) (audio : ℕ) (packets : List AudioPacket) (stream k : ℕ) (packet : QueuedPacket)
+      → slice_get table.programs program ≡ Some row
       → slice_get row.audios audio ≡ Some packets → stream ≡ video_number table.programs program + 1 + audio → slice_get (queues_of table choice) stream ≡ Some (audio_of packets)
       → slice_get (audio_of packets).packets k ≡ Some packet → IsAudioPacket table choice stream packet.item
   audio_packet_of_table program row audio packets stream k packet row_is packets_are number queue got =
@@ -149,7 +152,8 @@ module _ (table : Table) (choice : List ℕ) (valid : IsValidTable table) (fits 
         | inr past ↦ absurd (none-some packet (sym (audio_of-none packets k past.1) ∙ got))
       ]
 
-  head_of_table : (rows : List Row) (stream : ℕ) (kind : QueueKind) (packet : QueuedPacket) → IsHead (queues_of table choice) rows stream kind packet → IsOfTable table choice (piece_sent kind stream packet)
+  head_of_table : (rows : List Row) (stream : ℕ) (kind : QueueKind) (packet : QueuedPacket) → IsHead (queues_of table choice) rows stream kind packet
+      → IsOfTable table choice (piece_sent kind stream packet)
   head_of_table rows stream kind packet head =
       let queue : Queue = record { kind = kind; packets = head.0 } in
       let place = queue_place 0 table.programs choice stream queue head.1 in

@@ -8,12 +8,12 @@ use Rattle.version_table.specs.Choice.{Fits}
 use Rattle.slot_rule.specs.declared.sent.Sent.{Sent}
 use Rattle.slot_rule.specs.declared.sent.Sent.TheVariants.{Null, Pat, Pmt, Pcr, Video as VideoPiece, Audio as AudioPiece}
 use Rattle.slot_rule.specs.declared.queue_state.QueueState.{QueueState}
-use Rattle.slot_rule.specs.Buffers.{Row, Reserved, Carries, Empty, slot_subticks}
-use Rattle.slot_rule.specs.Private.Slots.{FillsSlot, HasRun, Reserves, SendsOne}
-use Rattle.slot_rule.specs.Private.States.{ChangesEach, Drains, ReleasesAll, TakesPcr, queue_of}
+use Rattle.slot_rule.specs.Buffers.{Row, Reserved, Carries, Empty}
+use Rattle.slot_rule.specs.Private.Slots.{FillsSlot, HasRun, Reserves, SendsOne, subtick_after}
+use Rattle.slot_rule.specs.Private.States.{ChangesEach, ReleasesAll, TakesPcr, queue_of}
 use Rattle.slot_rule.specs.Queues.{QueuedPacket, queues_of}
 use Rattle.slot_rule.specs.Timetable.{reserved}
-use Rattle.slot_rule.proofs.BringLaws.{Brings, Brings-nothing, Brings-pcr, Brings-packet, HasRun-release, Tracks-drain, TakesPcr-items, same_queues, state_before}
+use Rattle.slot_rule.proofs.BringLaws.{Brings, Brings-nothing, Brings-pcr, Brings-packet, HasRun-release, Tracks-passed, TakesPcr-items, same_queues, state_before}
 use Rattle.slot_rule.proofs.RuleRows.{IsNext, FollowRule-push}
 use Rattle.slot_rule.proofs.RuleWork.{packets_in-empty, packets_in-no_pcr, packets_in-other, payload_in-other}
 use Rattle.slot_rule.proofs.TrackLaws.{AllHoldNoneGone, Goes-from_first, NothingGoes-from_none}
@@ -31,18 +31,20 @@ HasBrought-nothing table choice rows sent states run apart = record {
   brings = λ stream state there. Brings-nothing table choice rows (Reserved sent) stream state (run.tracks stream state there) refl (packets_in-no_pcr stream state.kind sent apart) refl;
 }
 
-HasBrought-same : (table : Table) (choice : List ℕ) (rows : List Row) (sent : Sent) (olds news : List QueueState) → HasRun table choice rows olds → ((p : ℕ) → sent ≡ Pcr p → ⊥) → news ≡ olds
+HasBrought-same : (table : Table) (choice : List ℕ) (rows : List Row) (sent : Sent) (olds news : List QueueState) → HasRun table choice rows olds
+    → ((p : ℕ) → sent ≡ Pcr p → ⊥) → news ≡ olds
     → HasBrought table choice rows (Reserved sent) news
 HasBrought-same table choice rows sent olds news run apart same =
     subst (λ (states : List QueueState). HasBrought table choice rows (Reserved sent) states) (sym same) (HasBrought-nothing table choice rows sent olds run apart)
 
 -- a reserved slot
-HasBrought-reserved : (table : Table) (choice : List ℕ) (rows : List Row) (sent : Sent) (olds news : List QueueState) → HasRun table choice rows olds → Reserves sent olds news
+HasBrought-reserved : (table : Table) (choice : List ℕ) (rows : List Row) (sent : Sent) (olds news : List QueueState) → HasRun table choice rows olds
+    → Reserves sent (subtick_after table.slot rows) olds news
     → HasBrought table choice rows (Reserved sent) news
 HasBrought-reserved table choice rows (Pcr program) olds news run reserves = record {
-  queues = same_queues table choice olds news reserves.as_many (λ stream old new there there'. TakesPcr-items program stream old new (reserves.each stream old new there there')) ∙ run.queues;
+  queues = same_queues table choice olds news reserves.as_many (λ stream old new there there'. TakesPcr-items program (subtick_after table.slot rows) stream old new (reserves.each stream old new there there')) ∙ run.queues;
   brings = λ stream new there.
-      let before = state_before (TakesPcr program) olds news stream new reserves there in
+      let before = state_before (TakesPcr program (subtick_after table.slot rows)) olds news stream new reserves there in
       Brings-pcr table choice rows program stream before.0 new before.2 (run.tracks stream before.0 before.1);
 }
 HasBrought-reserved table choice rows Null olds news run reserves = HasBrought-same table choice rows Null olds news run (λ p e. cc e) reserves
@@ -53,7 +55,7 @@ HasBrought-reserved table choice rows (AudioPiece s packet) olds news run reserv
 
 -- a slot in which one stream's packet goes
 HasBrought-packet : (table : Table) (choice : List ℕ) (rows : List Row) (s : ℕ) (packet : QueuedPacket) (olds news : List QueueState) → HasRun table choice rows olds
-    → SendsOne table choice s packet olds news → HasBrought table choice rows (Carries s packet) news
+    → SendsOne table choice s packet (subtick_after table.slot rows) olds news → HasBrought table choice rows (Carries s packet) news
 HasBrought-packet table choice rows s packet olds news run sends = record {
   queues = same_queues table choice olds news sends.as_many
       (λ stream old new there there'. elim (cases_eq stream s) as (λ _. new.items ≡ old.items) [
@@ -91,31 +93,30 @@ free_slot table choice valid fits rows Empty olds news run rest free (none, same
 )
 free_slot table choice valid fits rows (Reserved sent) olds news run rest free fills = absurd fills
 
--- work is done after the row
-HasRun-drained : (table : Table) (choice : List ℕ) (rows : List Row) (row : Row) (olds mids news : List QueueState) → HasRun table choice rows olds → IsNext table choice rows row
-    → HasBrought table choice rows row mids → ChangesEach (Drains (slot_subticks table.slot)) mids news → HasRun table choice (rows ++ row ∷ []) news
-HasRun-drained table choice rows row olds mids news run next brought drains = record {
+-- the slot passes after the row
+HasRun-passed : (table : Table) (choice : List ℕ) (rows : List Row) (row : Row) (olds news : List QueueState) → HasRun table choice rows olds → IsNext table choice rows row
+    → HasBrought table choice rows row news → HasRun table choice (rows ++ row ∷ []) news
+HasRun-passed table choice rows row olds news run next brought = record {
   follows = FollowRule-push table choice rows row run.follows next;
-  queues = same_queues table choice mids news drains.as_many (λ stream old new there there'. ap (λ (state : QueueState). state.items) (drains.each stream old new there there')) ∙ brought.queues;
-  tracks = λ stream new there.
-      let before = state_before (Drains (slot_subticks table.slot)) mids news stream new drains there in
-      Tracks-drain table choice rows row stream before.0 new (brought.brings stream before.0 before.1) before.2;
+  queues = brought.queues;
+  tracks = λ stream new there. Tracks-passed table choice rows row stream new (brought.brings stream new there);
 }
 
 -- a slot that is reserved
-pub reserved_slot-run : (table : Table) (choice : List ℕ) (rows : List Row) (sent : Sent) (row : Row) (olds mids news : List QueueState) → HasRun table choice rows olds
-    → reserved table.slot (length table.programs) (length rows) ≡ Some sent → row ≡ Reserved sent → Reserves sent olds mids → ChangesEach (Drains (slot_subticks table.slot)) mids news
+pub reserved_slot-run : (table : Table) (choice : List ℕ) (rows : List Row) (sent : Sent) (row : Row) (olds news : List QueueState) → HasRun table choice rows olds
+    → reserved table.slot (length table.programs) (length rows) ≡ Some sent → row ≡ Reserved sent → Reserves sent (subtick_after table.slot rows) olds news
     → IsNext table choice rows row × HasRun table choice (rows ++ row ∷ []) news
-reserved_slot-run table choice rows sent row olds mids news run is row_is reserves drains =
+reserved_slot-run table choice rows sent row olds news run is row_is reserves =
     subst (λ (r : Row). IsNext table choice rows r × HasRun table choice (rows ++ r ∷ []) news) (sym row_is)
-    (is, HasRun-drained table choice rows (Reserved sent) olds mids news run is (HasBrought-reserved table choice rows sent olds mids run reserves) drains)
+    (is, HasRun-passed table choice rows (Reserved sent) olds news run is (HasBrought-reserved table choice rows sent olds news run reserves))
 
 -- a slot that is free
-pub free_slot-run : (table : Table) (choice : List ℕ) → IsValidTable table → Fits table choice → (rows : List Row) (row : Row) (olds released mids news : List QueueState)
-    → HasRun table choice rows olds → reserved table.slot (length table.programs) (length rows) ≡ None → ChangesEach (ReleasesAll table choice (length rows * table.slot)) olds released
-    → FillsSlot table choice (length rows * table.slot) row released mids → ChangesEach (Drains (slot_subticks table.slot)) mids news
+pub free_slot-run : (table : Table) (choice : List ℕ) → IsValidTable table → Fits table choice → (rows : List Row) (row : Row) (olds released news : List QueueState)
+    → HasRun table choice rows olds → reserved table.slot (length table.programs) (length rows) ≡ None
+    → ChangesEach (ReleasesAll table choice (length rows * table.slot)) olds released
+    → FillsSlot table choice (length rows * table.slot) row released news
     → IsNext table choice rows row × HasRun table choice (rows ++ row ∷ []) news
-free_slot-run table choice valid fits rows row olds released mids news run free releases fills drains =
+free_slot-run table choice valid fits rows row olds released news run free releases fills =
     let after = HasRun-release table choice rows olds released releases run in
-    let filled = free_slot table choice valid fits rows row released mids after.0 after.1 free fills in
-    (filled.0, HasRun-drained table choice rows row released mids news after.0 filled.0 filled.1 drains)
+    let filled = free_slot table choice valid fits rows row released news after.0 after.1 free fills in
+    (filled.0, HasRun-passed table choice rows row released news after.0 filled.0 filled.1)

@@ -7,7 +7,7 @@ use Rattle.std.proofs.lemmas.List.{get_or_at, length_push, length-take-le, map-a
 use Rattle.std.proofs.lemmas.Option.{same_Some, slice_get_within, slice_get-get_or}
 use Rattle.version_table.specs.declared.table.Table.{Table}
 use Rattle.version_table.specs.Table.{IsValidTable}
-use Rattle.slot_rule.specs.declared.constants.TheConstants.{PERIOD_TICKS}
+use Rattle.slot_rule.specs.Constants.{period_ticks}
 use Rattle.slot_rule.specs.declared.sent.Sent.{Sent}
 use Rattle.slot_rule.specs.declared.slot_list.SlotList.{SlotList}
 use Rattle.slot_rule.specs.declared.queue_state.QueueState.{QueueState}
@@ -25,7 +25,8 @@ use Rattle.slot_rule.proofs.RuleUnique.{FollowRule-longer, FollowRule-unique}
 use Rattle.slot_rule.proofs.TrackLaws.{state_there}
 
 -- ---- what a row shows
-pub kind_at-head : (queues : List Queue) (rows : List Row) (stream : ℕ) (kind : QueueKind) (packet : QueuedPacket) → IsHead queues rows stream kind packet → kind_at queues stream ≡ kind
+pub kind_at-head : (queues : List Queue) (rows : List Row) (stream : ℕ) (kind : QueueKind) (packet : QueuedPacket)
+    → IsHead queues rows stream kind packet → kind_at queues stream ≡ kind
 kind_at-head queues rows stream kind packet head =
     let none : Queue = record { kind = Audio; packets = [] } in
     let within : stream < length queues = slice_get_within queues stream _ head.1 in
@@ -57,7 +58,7 @@ carries_last queues rows Empty left sent =
 
 -- a valid table's period has a slot
 pub some_period : (table : Table) → IsValidTable table → 1 ≤ period table.slot
-some_period table valid = le-div 1 PERIOD_TICKS table.slot (omega (arith, valid.slot_least)) (omega (arith, valid.slot_most))
+some_period table valid = le-div 1 period_ticks table.slot (omega (arith, valid.slot_least)) (omega (arith, valid.slot_most))
 
 -- the period that ends after the last sent slot ends at the count of slots
 pub IsSlotCount-at : (period slots : ℕ) (before : List Row) (row : Row) (more : List Row) → 1 ≤ period → slots ≡ (length before / period + 1) * period
@@ -86,7 +87,8 @@ IsSlotCount-at period slots before row more some whole ends last = record {
     sent_before other passes (inr carries) = passes.greater (length before) row there carries
 
 -- the list that the code fills to the end of the period
-pub IsSlotList-filled : (table : Table) (choice : List ℕ) (before : List Row) (row : Row) (last : ℕ) (rows : List Sent) (list : SlotList) → 1 ≤ period table.slot → length before ≡ last
+pub IsSlotList-filled : (table : Table) (choice : List ℕ) (before : List Row) (row : Row) (last : ℕ) (rows : List Sent) (list : SlotList)
+    → 1 ≤ period table.slot → length before ≡ last
     → IsSchedule table choice (before ++ row ∷ []) → (length before ≡ 0) ⊎ CarriesPacket row → rows ≡ map (sent_of (queues_of table choice)) (before ++ row ∷ [])
     → FillsPeriod table.slot (length table.programs) last rows list → IsSlotList table choice list
 IsSlotList-filled table choice before row last rows list some last_is schedule carries rows_are fills =

@@ -1,10 +1,10 @@
 -- The states after so many slots are placed, ready, and far from the limits of their types.
-use Rattle.std.proofs.Common.{◌≡◌, ℕ, ◌^◌, ◌<◌, ◌≤◌, All, List, length, get_or, slice_get, Some, sym, ap, ◌∙◌, mul-le-mul_left, arith}
+use Rattle.std.proofs.Common.{◌≡◌, ℕ, ◌^◌, ◌<◌, ◌≤◌, All, List, length, get_or, slice_get, Some, sym, ap, ◌∙◌, ◌*◌, le_trans, mul-le-mul_left, mul-le-mul_right, arith}
 use Rattle.std.proofs.lemmas.List.{length-map}
 use Rattle.std.proofs.lemmas.List.Elements.{All-weaker}
 use Rattle.std.proofs.lemmas.List.Sums.{count_by-le-length}
 use Rattle.std.proofs.lemmas.Option.{slice_get-get_or}
-use Rattle.version_table.specs.declared.limits.TheConstants.{TIME_SLOTS_MOST}
+use Rattle.version_table.specs.declared.limits.TheConstants.{SLOT_MOST, TIME_SLOTS_MOST}
 use Rattle.version_table.specs.declared.table.Table.{Table}
 use Rattle.version_table.specs.Table.{IsValidTable}
 use Rattle.version_table.specs.Choice.{Fits}
@@ -44,10 +44,11 @@ module _ (table : Table) (choice : List ℕ) (valid : IsValidTable table) (fits 
       let mb = mb_work-bound table.slot stream rows (FollowRule-payloads table choice stream rows valid fits run.follows) in
       let sent : state.sent ≤ length rows = omega (arith, tracks.sent, count_by-le-length (is_of stream) rows) in
       let payloads : All (λ packet. packet.payload ≤ PAYLOAD_BYTES) packets = All-weaker (IsLimited table.slot) (λ packet. packet.payload ≤ PAYLOAD_BYTES) (λ packet h. h.payload) packets (limited stream state there) in
+      let ends : length rows * table.slot ≤ TIME_SLOTS_MOST * SLOT_MOST = le_trans (mul-le-mul_right table.slot few) (mul-le-mul_left TIME_SLOTS_MOST valid.slot_most) in
       let held = held-le state.gone state.sent PAYLOAD_BYTES packets payloads in
       record {
-        tb = omega (arith, tracks.tb);
-        mb = omega (arith, tracks.mb);
+        tb = omega (arith, tracks.tb, ends);
+        mb = omega (arith, tracks.mb, ends);
         sent = omega arith;
         held = omega (arith, tracks.keeps.held);
       }
@@ -57,6 +58,7 @@ module _ (table : Table) (choice : List ℕ) (valid : IsValidTable table) (fits 
     small = state_small stream state there;
     kind = (run.tracks stream state there).sized;
     payload = λ packet head. (head_limited stream state packet there head).payload;
+    gone = λ packet head. let limits = head_limited stream state packet there head in omega (arith, limits.gone, mul-le-mul_left TIME_SLOTS_MOST valid.slot_most);
   }
 
   state_placed : (stream : ℕ) (state : QueueState) → slice_get states stream ≡ Some state → IsPlaced table choice state

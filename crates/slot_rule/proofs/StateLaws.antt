@@ -10,7 +10,7 @@ use Rattle.slot_rule.proofs.RuleSent.{held-push, held-pop}
 -- the head packet goes
 pub KeepsPlace-send : (packets : List QueuedPacket) (old : QueueState) (packet : QueuedPacket) (next : Option QueuedPacket) (tb mb : ℕ) → KeepsPlace packets old
     → old.head ≡ Some packet → next ≡ slice_get packets (old.sent + 1)
-    → KeepsPlace packets (record old { tb = tb; mb = mb; sent = old.sent + 1; head = next; held = old.held + packet.payload })
+    → KeepsPlace packets (record old { tb_empty = tb; mb_empty = mb; sent = old.sent + 1; head = next; held = old.held + packet.payload })
 KeepsPlace-send packets old packet next tb mb keeps head next_is =
     let got : slice_get packets old.sent ≡ Some packet = sym keeps.head ∙ head in
     let within : old.sent < length packets = slice_get_within packets old.sent packet got in

@@ -62,7 +62,8 @@ module _ (table : Table) (choice : List ℕ) (rows : List Row) (states : List Qu
 
 -- ---- the gates, where no packet that is gone is among the bytes held
 module _ (table : Table) (choice : List ℕ) (valid : IsValidTable table) (fits : Fits table choice) (rows : List Row) (states : List QueueState) (run : HasRun table choice rows states) where
-  pub outstanding_held : (stream : ℕ) (state : QueueState) → slice_get states stream ≡ Some state → HoldsNoneGone (queue_of table choice state).packets (length rows * table.slot) state
+  pub outstanding_held : (stream : ℕ) (state : QueueState) → slice_get states stream ≡ Some state
+      → HoldsNoneGone (queue_of table choice state).packets (length rows * table.slot) state
       → outstanding stream (length rows * table.slot) rows ≡ state.held
   outstanding_held stream state there rest =
       let tracks = run.tracks stream state there in
@@ -122,7 +123,8 @@ module _ (table : Table) (choice : List ℕ) (valid : IsValidTable table) (fits 
         IsPermitted-to_state table choice valid fits rows states run stream found.0 packet found.1 (rest stream found.0 found.1) (subst (λ (k : QueueKind). IsPermitted table.slot rows stream k packet) (sym found.2) permitted),
       )
 
-  pub Goes-from_first : (stream : ℕ) (packet : QueuedPacket) → IsFirst (PassesAt (length rows * table.slot)) states stream packet → Goes table.slot (queues_of table choice) rows stream packet
+  pub Goes-from_first : (stream : ℕ) (packet : QueuedPacket) → IsFirst (PassesAt (length rows * table.slot)) states stream packet
+      → Goes table.slot (queues_of table choice) rows stream packet
   Goes-from_first stream packet is = record {
     kind = is.state.kind;
     head = head_from_state table choice rows states run stream is.state packet is.there is.head;

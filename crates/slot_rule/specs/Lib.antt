@@ -1,4 +1,5 @@
 pub mod Buffers
+pub mod Constants
 pub mod Private
 pub mod Queues
 pub mod Schedule

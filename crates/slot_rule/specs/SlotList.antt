@@ -1,5 +1,5 @@
 -- The schedule as a list of slots: whole periods of the timetable, and in each slot what stands there.
-use Rattle.std.specs.Prelude.{◌≡◌, ℕ, ◌+◌, ◌*◌, ◌<◌, ◌≤◌, List, [], ◌∷◌, length, map, slice_get, slice_index_or, Some, if◌then◌else◌}
+use Rattle.std.specs.Prelude.{◌≡◌, ℕ, ◌+◌, ◌*◌, ◌<◌, ◌≤◌, ◌==◌, Bool, false, List, [], ◌∷◌, length, map, slice_get, slice_index_or, Some, if◌then◌else◌}
 use Rattle.version_table.specs.declared.table.Table.{Table}
 use Rattle.slot_rule.specs.declared.sent.Sent.{Sent}
 use Rattle.slot_rule.specs.declared.sent.Sent.TheVariants.{Null, Video as VideoPiece, Audio as AudioPiece}
@@ -53,3 +53,9 @@ pub record IsSlotList (table : Table) (choice : List ℕ) (list : SlotList) : Ty
 abbrev pub slots_of : (stream slot : ℕ) → List Row → List ℕ
 slots_of stream slot [] = []
 slots_of stream slot (row ∷ rows) = if is_of stream row then slot ∷ slots_of stream (slot + 1) rows else slots_of stream (slot + 1) rows
+
+-- a packet of the queue of this number stands in the slot
+abbrev pub is_sent_of : (stream : ℕ) → Sent → Bool
+is_sent_of stream (VideoPiece s item piece) = s == stream
+is_sent_of stream (AudioPiece s item) = s == stream
+is_sent_of stream _ = false

@@ -1,6 +1,7 @@
 //! Laws of the slot rule, as functions that do nothing.
 
-ghost use Rattle.std.specs.Prelude.{◌≡◌, ℕ, ◌≤◌, List, length, take, slice_get, Some};
+ghost use Rattle.std.specs.Prelude.{◌≡◌, ℕ, ◌≤◌, List, length, map, take, slice_get, Some};
+ghost use Rattle.std.specs.List.{filter};
 ghost use Rattle.version_table.specs.declared.table.Table.{Table};
 ghost use Rattle.slot_rule.specs.declared.sent.Miss.{Miss};
 ghost use Rattle.slot_rule.specs.declared.slot_list.SlotList.{SlotList};
@@ -10,7 +11,8 @@ ghost use Rattle.slot_rule.specs.declared.sent.Sent.{Sent};
 ghost use Rattle.slot_rule.specs.Buffers.{Row};
 ghost use Rattle.slot_rule.specs.Sent.{IsOfTable};
 ghost use Rattle.slot_rule.specs.Schedule.{FollowRule, IsSchedule, IsScheduled, IsFirstMiss};
-ghost use Rattle.slot_rule.specs.SlotList.{IsSlotList, slots_of};
+ghost use Rattle.slot_rule.specs.Queues.{Queue, queues_of};
+ghost use Rattle.slot_rule.specs.SlotList.{IsSlotList, is_sent_of, piece_sent, slots_of};
 
 /// A choice that is scheduled has no first miss.
 pub fn no_miss_where_scheduled()
@@ -44,4 +46,11 @@ pub fn slots_name_the_table()
 /// The packets of a stream stand in the same slots in every schedule of a choice, however many idle slots end it.
 pub fn packets_keep_slots()
     ensures { (table : Table) (choice : List ℕ) (stream : ℕ) (a b : List Row) → IsSchedule table choice a → IsSchedule table choice b → slots_of stream 0 a ≡ slots_of stream 0 b }
+{}
+
+/// The packets of each queue stand in the slots of a schedule in the queue's order, each once.
+pub fn packets_stand_in_order()
+    ensures { (table : Table) (choice : List ℕ) (stream : ℕ) (queue : Queue) (list : SlotList)
+        → slice_get (queues_of table choice) stream ≡ Some queue → IsSlotList table choice list
+        → filter (is_sent_of stream) list.rows ≡ map (piece_sent queue.kind stream) queue.packets }
 {}

@@ -9,24 +9,25 @@
 mod after;
 pub mod constants;
 mod heads;
-mod laws;
+mod idle;
+pub mod laws;
 mod misses;
 mod queue_items;
 mod queue_kind;
 mod queue_state;
 mod queued_packet;
 mod row;
+mod run_state;
 mod schedules;
 mod sent;
 mod slot;
 mod slot_list;
+mod slots;
 mod states;
 mod timetable;
+mod turns;
 
-pub use laws::{
-    first_miss_is_one, no_miss_where_scheduled, packets_keep_slots, schedules_agree,
-    slot_list_is_one, slots_name_the_table,
-};
+pub use laws::{first_miss_is_one, no_miss_where_scheduled};
 pub use misses::first_miss;
 pub use schedules::{ScheduleFault, schedule};
 pub use sent::{Miss, Sent};

@@ -5,9 +5,9 @@ ghost use Rattle.slot_rule.specs.declared.sent.Miss.{Miss};
 ghost use Rattle.slot_rule.specs.Schedule.{IsScheduled, IsFirstMiss};
 
 use crate::after::After;
+use crate::run_state::RunState;
 use crate::sent::Miss;
-use crate::slot::run_slot;
-use crate::states::first_states;
+use crate::slots::run_slots;
 use version_table::limits::TIME_SLOTS_MOST;
 use version_table::{Choice, Table};
 
@@ -18,15 +18,10 @@ pub fn first_miss(table: &Table, choice: &Choice) -> Option<Miss>
     ensures scheduled { IsNone result ↔ IsScheduled table.now choice.now }
     ensures missed { (miss : Miss) → (result ≡ Some miss) ↔ IsFirstMiss table.now choice.now miss }
 {
-    let mut states = first_states(table, choice);
-    let states = states.as_mut_slice();
-    for n in 0..TIME_SLOTS_MOST as u32 {
-        let row = run_slot(table, choice, states, n);
-        match After::slot(states, row, table.slot, n) {
-            After::Missed(miss) => return Some(miss),
-            After::AllSent => return None,
-            After::Waiting => {}
-        }
+    let mut run = RunState::new(table, choice);
+    match run_slots(table, choice, &mut run, 0, TIME_SLOTS_MOST as u32) {
+        After::Missed(miss) => Some(miss),
+        After::AllSent => None,
+        After::Waiting => None,
     }
-    None
 }

@@ -1,4 +1,4 @@
-ghost use Rattle.std.specs.Prelude.{◌≡◌, ◌↔◌, IsTrue};
+ghost use Rattle.std.specs.Prelude.{◌≡◌, ℕ, ◌-◌, ◌<◌, ◌↔◌, IsTrue};
 ghost use Rattle.slot_rule.specs.Buffers.{tb_subticks, tb_gate, eb_or_b_bytes, MbPermits};
 ghost use Rattle.slot_rule.specs.Private.QueueState.{IsKind, HasPcr};
 
@@ -48,6 +48,21 @@ impl QueueKind {
                     * MB_SUBTICKS
             }
             QueueKind::Audio => true,
+        }
+    }
+
+    /// The time before which no packet may go by MB, which is empty at the time `empty`, in subticks.
+    pub fn mb_gate_from(self, empty: u64) -> u64
+        requires { IsKind self }
+        ensures { (now : ℕ) → now < result → MbPermits self (empty - now) → ⊥ }
+    {
+        match self {
+            QueueKind::Video { vbv, .. } => {
+                empty.saturating_sub(
+                    (VIDEO_BYTES - EB_UNIT_BYTES * u64::from(vbv) - MB_SPARE_BYTES) * MB_SUBTICKS,
+                )
+            }
+            QueueKind::Audio => 0,
         }
     }
 

@@ -6,10 +6,10 @@ ghost use Rattle.slot_rule.specs.Schedule.{IsFirstMiss};
 ghost use Rattle.slot_rule.specs.SlotList.{IsSlotList};
 
 use crate::after::After;
+use crate::run_state::RunState;
 use crate::sent::Miss;
 use crate::slot::run_slot;
 use crate::slot_list::SlotList;
-use crate::states::first_states;
 use crate::timetable::Timetable;
 use list_types::{ListOf, OutOfMemory};
 use std::alloc::Global;
@@ -49,13 +49,12 @@ pub fn schedule(alloc: Global, table: &Table, choice: &Choice) -> Result<SlotLis
     ensures missed { result ≢ Err ScheduleFault.OutOfMemory
         → (miss : Miss) → (result ≡ Err (ScheduleFault.Missed miss)) ↔ IsFirstMiss table.now choice.now miss }
 {
-    let mut states = first_states(table, choice);
-    let states = states.as_mut_slice();
+    let mut run = RunState::new(table, choice);
     let mut rows = ListOf::new(alloc);
     for n in 0..TIME_SLOTS_MOST as u32 {
-        let row = run_slot(table, choice, states, n);
-        rows.push(row.sent(states))?;
-        match After::slot(states, row, table.slot, n) {
+        let row = run_slot(table, choice, &mut run, n);
+        rows.push(row.sent(run.states.as_slice()))?;
+        match run.after(row, table.slot, n) {
             After::Missed(miss) => return Err(ScheduleFault::Missed(miss)),
             After::AllSent => return Ok(SlotList::fill(Timetable::of(table), rows, n)?),
             After::Waiting => {}

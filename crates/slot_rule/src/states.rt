@@ -1,11 +1,12 @@
-ghost use Rattle.std.specs.Prelude.{◌≡◌, ◌+◌, ◌<◌, ◌≤◌, [], ◌∷◌, ◌++◌, All, length, map, drop};
+ghost use Rattle.std.specs.Prelude.{◌≡◌, ◌+◌, ◌^◌, ◌<◌, ◌≤◌, [], ◌∷◌, ◌++◌, All, length, map, drop};
 ghost use Rattle.arrayvec.specs.ArrayVec.{array_vec_len};
 ghost use Rattle.stream_constants.specs.declared.main_level.TheConstants.{VBV_MOST};
 ghost use Rattle.version_table.specs.Table.{IsValidTable};
 ghost use Rattle.version_table.specs.Choice.{Fits};
 ghost use Rattle.slot_rule.specs.declared.queue_items.QueueItems.TheVariants.{Units};
+ghost use Rattle.slot_rule.specs.Private.Heads.{NoneGoneBefore};
 ghost use Rattle.slot_rule.specs.Private.QueueItems.{IsPlace, program_at, queue_at};
-ghost use Rattle.slot_rule.specs.Private.States.{ChangesEach, Drains, IsFirstState, IsPlaced, ReleasesAll, TakesPcr, queue_of};
+ghost use Rattle.slot_rule.specs.Private.States.{ChangesEach, IsFirstState, IsPlaced, ReleasesAll, TakesPcr, queue_of};
 ghost use Rattle.slot_rule.specs.Queues.{audio_of, queues_of, video_of};
 ghost use Rattle.slot_rule.specs.Private.QueueState.{IsKind, IsSmall};
 
@@ -103,21 +104,24 @@ pub fn release_all(table: &Table, choice: &Choice, states: &mut [QueueState], st
     }
 }
 
-/// The PCR of a program goes, on the PID of its video.
-pub fn take_pcr(states: &mut [QueueState], program: u8)
-    requires { All IsSmall states.old }
-    ensures { ChangesEach (TakesPcr program) states.old states.new }
+/// The tick before which no payload that is held is gone.
+pub fn first_gone(states: &[QueueState]) -> u64
+    ensures { NoneGoneBefore states.now result }
 {
-    for state in states.iter_mut() {
-        state.take_pcr(program);
+    let mut first = u64::MAX;
+    for state in states {
+        first = first.min(state.first_gone());
     }
+    first
 }
 
-/// A slot passes, in which so many subticks of work are done in each buffer.
-pub fn drain_all(states: &mut [QueueState], subticks: u64)
-    ensures { ChangesEach (Drains subticks) states.old states.new }
+/// The PCR of a program goes, in a slot that begins at `now` subticks, on the PID of its video.
+pub fn take_pcr(states: &mut [QueueState], program: u8, now: u64)
+    requires small { All IsSmall states.old }
+    requires now { now < 2 ^ 60 }
+    ensures { ChangesEach (TakesPcr program now) states.old states.new }
 {
     for state in states.iter_mut() {
-        state.drain(subticks);
+        state.take_pcr(program, now);
     }
 }

@@ -1,6 +1,7 @@
-ghost use Rattle.std.specs.Prelude.{◌≡◌, ◌≤◌, length};
-ghost use Rattle.version_table.specs.declared.limits.TheConstants.{SLOT_LEAST, SLOT_MOST, PROGRAMS_MOST};
+ghost use Rattle.std.specs.Prelude.{◌≡◌, ℕ, ◌<◌, ◌≤◌, None, length};
+ghost use Rattle.version_table.specs.declared.limits.TheConstants.{SLOT_LEAST, SLOT_MOST, PROGRAMS_MOST, TIME_SLOTS_MOST};
 ghost use Rattle.version_table.specs.Table.{IsValidTable};
+ghost use Rattle.slot_rule.specs.Constants.{period_ticks};
 ghost use Rattle.slot_rule.specs.Timetable.{period, reserved};
 
 use crate::constants::PERIOD_TICKS;
@@ -37,6 +38,19 @@ impl Timetable {
         }
     }
 
+    /// The slot in which the timetable begins again after slot `n`; up to it all slots are free where slot `n` is.
+    pub(crate) fn free_until(&self, n: u32) -> u32
+        requires least { SLOT_LEAST ≤ self.now.slot }
+        requires most { self.now.slot ≤ SLOT_MOST }
+        requires slot { n < TIME_SLOTS_MOST }
+        ensures later { n < result }
+        ensures free { (m : ℕ) → n ≤ m → m < result → reserved self.now.slot self.now.programs n ≡ None
+            → reserved self.now.slot self.now.programs m ≡ None }
+    {
+        let period = self.period();
+        (n / period + 1) * period
+    }
+
     /// The timetable of a table.
     pub(crate) fn of(table: &Table) -> Timetable
         requires { IsValidTable table.now }
@@ -55,7 +69,7 @@ impl Timetable {
         requires most { self.now.slot ≤ SLOT_MOST }
         ensures value { result ≡ period self.now.slot }
         ensures some { 1 ≤ result }
-        ensures few { result ≤ PERIOD_TICKS }
+        ensures few { result ≤ period_ticks }
     {
         PERIOD_TICKS / self.slot
     }

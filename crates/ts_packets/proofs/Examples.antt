@@ -3,7 +3,8 @@ use Rattle.std.proofs.Common.{◌≡◌, ℕ, false, List, [], ◌∷◌, ◌++�
 use Rattle.ts_packets.specs.declared.packet_fault.PacketFault.TheVariants.{Sync, ErrorFlag, Scrambled, BadField}
 use Rattle.bit_lists.specs.Fields.{bit, bits}
 use Rattle.ts_packets.specs.Packet.{PacketRecord, refusal, packet_of, written}
-use Rattle.ts_packets.specs.TransportStream.{packets, rest_of, joined_payload}
+use Rattle.ts_packets.specs.Carried.{joined_payload}
+use Rattle.ts_packets.specs.TransportStream.{packets, rest_of}
 
 -- ---- a null packet
 

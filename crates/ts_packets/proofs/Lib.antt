@@ -1,6 +1,7 @@
+pub mod CarriedLemmas
 pub mod Elements
 mod Examples
-pub mod Laws
+pub mod FileLemmas
 pub mod Writing
 pub mod WrittenFields
 pub mod WrittenPackets

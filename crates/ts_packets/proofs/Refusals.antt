@@ -8,32 +8,24 @@ use Rattle.ts_packets.specs.declared.adaptation_field.AdaptationField.{Adaptatio
 use Rattle.ts_packets.specs.declared.packet_fault.PacketFault.{PacketFault}
 use Rattle.ts_packets.specs.declared.packet_fault.PacketFault.TheVariants.{Sync, ErrorFlag, Scrambled, BadField}
 use Rattle.ts_packets.specs.AdaptationField.{field_of, is_too_short}
-use Rattle.ts_packets.specs.Packet.{PacketRecord, sync_byte, packet_identifier, payload_unit_start_indicator, continuity_counter, adaptation_field_control, adaptation_field_length, has_field, field_bytes, is_length_allowed, has_fault, HasFieldAndPayload, IsFieldSound, IsPacket, fields_of, refusal, packet_of}
-use Rattle.ts_packets.proofs.Elements.{adaptation_field_control-is, transport_error_indicator-is, continuity_counter-is, pcr_flag-is, and_15, elements}
+use Rattle.ts_packets.specs.Packet.{PacketRecord, sync_byte, packet_identifier, payload_unit_start_indicator, continuity_counter, adaptation_field_control, adaptation_field_length, has_field, field_bytes, is_length_allowed, has_fault, IsFieldSound, IsPacket, fields_of, refusal, packet_of}
+use Rattle.ts_packets.specs.Private.Packet.{HasFieldAndPayload}
+use Rattle.ts_packets.proofs.Elements.{transport_error_indicator-is, continuity_counter-is, pcr_flag-is, and_15, elements}
 
--- what a sound field keeps is what the test of its length asks for
-allowed : (control size : ℕ) → control < 4 → control ≢ 0 → (control ≡ 2 → size ≡ 183) → (control ≡ 3 → size ≤ 182) → is_length_allowed control size ≡ true
+-- what a field of a given control is asked for
+pub allowed : (control size : ℕ) → control < 4 → control ≢ 0 → (control ≡ 2 → size ≡ 183) → (control ≡ 3 → size ≤ 182) → is_length_allowed control size ≡ true
 allowed control size below used alone beside = grind (arith, nat_tests)
-
-allowed-tells : (control size : ℕ) → is_length_allowed control size ≡ true → (control ≢ 0) × ((control ≡ 2 → size ≡ 183) × (control ≡ 3 → size ≤ 182))
-allowed-tells control size is = grind (arith, nat_tests)
 
 -- a sound field is no fault
 pub sound-passes : (bytes : List ℕ) → IsFieldSound bytes → has_fault bytes BadField ≡ false
-sound-passes bytes sound =
-    let below : adaptation_field_control bytes < 4 = omega (arith, adaptation_field_control-is bytes) in
-    let passes = allowed (adaptation_field_control bytes) (adaptation_field_length bytes) below sound.not_reserved sound.alone sound.with_payload in
-    grind (arith, nat_tests, passes, sound.pcr)
+sound-passes bytes sound = grind (arith, nat_tests, sound.length_is, sound.pcr)
 
 -- where there is no fault the field is sound
 pub passes-sound : (bytes : List ℕ) → has_fault bytes BadField ≡ false → IsFieldSound bytes
 passes-sound bytes passes =
     let parts = or_parts (not (is_length_allowed (adaptation_field_control bytes) (adaptation_field_length bytes))) (is_too_short (field_bytes bytes)) passes in
-    let tells = allowed-tells (adaptation_field_control bytes) (adaptation_field_length bytes) (not-false _ parts.0) in
     record {
-      not_reserved = tells.0;
-      alone = tells.1.0;
-      with_payload = tells.1.1;
+      length_is = not-false _ parts.0;
       pcr = λ flagged. grind (arith, nat_tests, parts.1, flagged);
     }
 

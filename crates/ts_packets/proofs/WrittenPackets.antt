@@ -8,7 +8,7 @@ use Rattle.ts_packets.specs.declared.adaptation_field.AdaptationField.{Adaptatio
 use Rattle.ts_packets.specs.AdaptationField.{field_of, IsPcrInRange, least_length, written_field_bytes, written_field}
 use Rattle.ts_packets.specs.Packet.{PacketRecord, sync_byte, transport_error_indicator, payload_unit_start_indicator, packet_identifier, transport_scrambling_control, adaptation_field_control, adaptation_field_length, continuity_counter, has_field, field_bytes, IsPacket, IsPayloadLength, IsWritable, written, written_header, written_control}
 use Rattle.ts_packets.proofs.Elements.{sync_byte-is, transport_error_indicator-is, payload_unit_start_indicator-is, packet_identifier-is, transport_scrambling_control-is, adaptation_field_control-is, continuity_counter-is, adaptation_field_length-is, pcr_flag-is}
-use Rattle.ts_packets.proofs.Refusals.{same_record}
+use Rattle.ts_packets.proofs.Refusals.{allowed, same_record}
 use Rattle.ts_packets.proofs.Writing.{length-written_field_bytes}
 use Rattle.ts_packets.proofs.WrittenFields.{flag_below, flag_tells, field_of-written, pcr-written}
 
@@ -60,9 +60,7 @@ alone packet pid_fits counter_fits none size =
       error = says.error;
       scrambling = says.scrambling;
       control = record {
-        not_reserved = λ reserved. absurd (omega (arith, control-is, reserved));
-        alone = λ is. absurd (omega (arith, control-is, is));
-        with_payload = λ is. absurd (omega (arith, control-is, is));
+        length_is = allowed (adaptation_field_control bytes) (adaptation_field_length bytes) (omega (arith, adaptation_field_control-is bytes)) (λ reserved. absurd (omega (arith, control-is, reserved))) (λ is. absurd (omega (arith, control-is, is))) (λ is. absurd (omega (arith, control-is, is)));
         pcr = λ flagged. absurd (omega (arith, pcr_flag-is [], rw control-is at flagged));
       };
       fields = same_record (sym says.pid) (sym says.start) (sym says.counter) (rw control-is none) (rw control-is refl);
@@ -88,9 +86,7 @@ beside packet field n pid_fits counter_fits some below room size =
       error = says.error;
       scrambling = says.scrambling;
       control = record {
-        not_reserved = λ reserved. absurd (omega (arith, control-is, reserved));
-        alone = λ is. omega (arith, length-is, size, control-is, is, payload_flag (length packet.payload));
-        with_payload = λ is. omega (arith, length-is, size, control-is, is, payload_flag (length packet.payload));
+        length_is = allowed (adaptation_field_control bytes) (adaptation_field_length bytes) (omega (arith, adaptation_field_control-is bytes)) (λ reserved. absurd (omega (arith, control-is, reserved))) (λ is. omega (arith, length-is, size, control-is, is, payload_flag (length packet.payload))) (λ is. omega (arith, length-is, size, control-is, is, payload_flag (length packet.payload)));
         pcr = λ flagged. omega (arith, ap length field-is, field_size, pcr-written field n room (rw field-is at flagged));
       };
       fields = same_record (sym says.pid) (sym says.start) (sym says.counter)

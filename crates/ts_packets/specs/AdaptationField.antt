@@ -6,15 +6,19 @@ use Rattle.bit_lists.specs.Fields.{bits, flag}
 
 -- ---- its elements, each by its first bit and its number of bits
 
+-- 1 where the clock or the counter may jump
 abbrev pub discontinuity_indicator : List ℕ → ℕ
 discontinuity_indicator bytes = bits bytes 0 1
 
+-- 1 where a PCR stands in the field
 abbrev pub pcr_flag : List ℕ → ℕ
 pcr_flag bytes = bits bytes 3 1
 
+-- the PCR in units of 300 ticks
 abbrev pub program_clock_reference_base : List ℕ → ℕ
 program_clock_reference_base bytes = bits bytes 8 33
 
+-- the ticks of the PCR above its base
 abbrev pub program_clock_reference_extension : List ℕ → ℕ
 program_clock_reference_extension bytes = bits bytes 47 9
 

@@ -1,3 +1,6 @@
 pub mod AdaptationField
+pub mod Carried
 pub mod Packet
+pub mod PidReader
+pub mod Private
 pub mod TransportStream

@@ -1,11 +1,12 @@
 -- A transport packet (ISO/IEC 13818-1, 2.4.3.2 and 2.4.3.3).
-use Rattle.std.specs.Prelude.{◌≡◌, ◌≢◌, ℕ, ◌+◌, ◌-◌, ◌*◌, ◌^◌, ◌<◌, ◌≤◌, ◌==◌, nat_lt, nat_le, Bool, false, not, ◌&&◌, ◌||◌, List, [], ◌∷◌, ◌++◌, length, take, drop, Option, Some, None, is_some, is_none, IfSome, if◌then◌else◌}
+use Rattle.std.specs.Prelude.{◌≡◌, ℕ, ◌+◌, ◌-◌, ◌*◌, ◌^◌, ◌<◌, ◌≤◌, ◌==◌, nat_lt, nat_le, Bool, true, not, ◌&&◌, ◌||◌, List, [], ◌∷◌, ◌++◌, length, take, drop, Option, Some, None, is_some, is_none, IfSome, if◌then◌else◌}
 use Rattle.std.specs.List.{find}
 use Rattle.std.specs.Int.{w32, to_be_bytes}
 use Rattle.ts_packets.specs.declared.adaptation_field.AdaptationField.{AdaptationField}
 use Rattle.ts_packets.specs.declared.packet.Packet.{Packet}
 use Rattle.ts_packets.specs.declared.packet_fault.PacketFault.{PacketFault}
 use Rattle.ts_packets.specs.declared.packet_fault.PacketFault.TheVariants.{Sync, ErrorFlag, Scrambled, BadField}
+use Rattle.stream_constants.specs.declared.packets.TheConstants.{PACKET_BYTES, PAYLOAD_BYTES}
 use Rattle.bit_lists.specs.Fields.{bits, flag}
 use Rattle.ts_packets.specs.AdaptationField.{pcr_flag, field_of, is_too_short, IsPcrInRange, least_length, written_field}
 
@@ -29,12 +30,15 @@ record_of packet = record {
 
 -- ---- its elements, each by its first bit and its number of bits
 
+-- 0x47 before every packet
 abbrev pub sync_byte : List ℕ → ℕ
 sync_byte bytes = bits bytes 0 8
 
+-- 1 for a packet that was received with errors
 abbrev pub transport_error_indicator : List ℕ → ℕ
 transport_error_indicator bytes = bits bytes 8 1
 
+-- 1 where a section or a PES packet begins in the payload
 abbrev pub payload_unit_start_indicator : List ℕ → ℕ
 payload_unit_start_indicator bytes = bits bytes 9 1
 
@@ -42,6 +46,7 @@ payload_unit_start_indicator bytes = bits bytes 9 1
 abbrev pub packet_identifier : List ℕ → ℕ
 packet_identifier bytes = bits bytes 11 13
 
+-- 0 is not scrambled
 abbrev pub transport_scrambling_control : List ℕ → ℕ
 transport_scrambling_control bytes = bits bytes 24 2
 
@@ -49,9 +54,11 @@ transport_scrambling_control bytes = bits bytes 24 2
 abbrev pub adaptation_field_control : List ℕ → ℕ
 adaptation_field_control bytes = bits bytes 26 2
 
+-- rises by 1 modulo 16 with each packet with payload of a PID
 abbrev pub continuity_counter : List ℕ → ℕ
 continuity_counter bytes = bits bytes 28 4
 
+-- the number of bytes behind this element in the field
 abbrev pub adaptation_field_length : List ℕ → ℕ
 adaptation_field_length bytes = bits bytes 32 8
 
@@ -75,17 +82,23 @@ fields_of bytes = record {
   payload = if has_field bytes then drop (5 + adaptation_field_length bytes) bytes else drop 4 bytes;
 }
 
+-- bytes of the longest adaptation field: what the header and the field's length byte leave
+abbrev pub longest_field : ℕ
+longest_field = PAYLOAD_BYTES - 1
+
+-- A field alone is as long as the packet allows, and one beside payload shorter; adaptation_field_control 0 is reserved.
+abbrev pub is_length_allowed : ℕ → ℕ → Bool
+is_length_allowed control size = (control == 1) || ((control == 2) && (size == longest_field)) || ((control == 3) && nat_lt size longest_field)
+
 -- adaptation_field_control and the field's length agree, and there is room for a PCR
 pub record IsFieldSound (bytes : List ℕ) : Type 0 where
-  pub not_reserved : adaptation_field_control bytes ≢ 0
-  pub alone : adaptation_field_control bytes ≡ 2 → adaptation_field_length bytes ≡ 183
-  pub with_payload : adaptation_field_control bytes ≡ 3 → adaptation_field_length bytes ≤ 182
+  pub length_is : is_length_allowed (adaptation_field_control bytes) (adaptation_field_length bytes) ≡ true
   pub pcr : pcr_flag (field_bytes bytes) ≡ 1 → 7 ≤ length (field_bytes bytes)
 
 -- The bytes are a packet, and the record is what is kept of it. What isn't named here may be anything: the priority,
 -- reserved bits, the other flags of the field and what stands behind them.
 pub record IsPacket (packet : PacketRecord) (bytes : List ℕ) : Type 0 where
-  pub size : length bytes ≡ 188
+  pub size : length bytes ≡ PACKET_BYTES
   pub sync : sync_byte bytes ≡ 0x47
   pub error : transport_error_indicator bytes ≡ 0
   pub scrambling : transport_scrambling_control bytes ≡ 0
@@ -94,20 +107,12 @@ pub record IsPacket (packet : PacketRecord) (bytes : List ℕ) : Type 0 where
 
 -- ---- what refuses it
 
--- adaptation_field_control allows a field of this length, or has none
-abbrev pub is_length_allowed : ℕ → ℕ → Bool
-is_length_allowed control size = (control == 1) || ((control == 2) && (size == 183)) || ((control == 3) && nat_le size 182)
-
 -- the bytes have this fault
 abbrev pub has_fault : List ℕ → PacketFault → Bool
 has_fault bytes Sync = not (sync_byte bytes == 0x47)
 has_fault bytes ErrorFlag = transport_error_indicator bytes == 1
 has_fault bytes Scrambled = not (transport_scrambling_control bytes == 0)
 has_fault bytes BadField = not (is_length_allowed (adaptation_field_control bytes) (adaptation_field_length bytes)) || is_too_short (field_bytes bytes)
-
--- nothing is wrong with the field, and these are the field and the payload
-abbrev pub HasFieldAndPayload : List ℕ → Option AdaptationField → List ℕ → Type 0
-HasFieldAndPayload bytes field payload = (has_fault bytes BadField ≡ false) × (field ≡ (fields_of bytes).field) × (payload ≡ (fields_of bytes).payload)
 
 -- the first fault that the bytes have
 abbrev pub refusal : List ℕ → Option PacketFault
@@ -121,8 +126,8 @@ packet_of bytes = if is_none (refusal bytes) then Some (fields_of bytes) else No
 
 -- so much payload fills a packet without a field, or has room beside it
 abbrev pub IsPayloadLength : Option AdaptationField → ℕ → Type 0
-IsPayloadLength None n = n ≡ 184
-IsPayloadLength (Some field) n = n + least_length field ≤ 183
+IsPayloadLength None n = n ≡ PAYLOAD_BYTES
+IsPayloadLength (Some field) n = n + least_length field ≤ longest_field
 
 -- what can be written
 pub record IsWritable (packet : PacketRecord) : Type 0 where
@@ -141,4 +146,4 @@ written_header packet = to_be_bytes w32 (2 ^ 24 * 0x47 + 2 ^ 22 * flag packet.st
 
 -- the one written spelling of a packet
 abbrev pub written : PacketRecord → List ℕ
-written packet = written_header packet ++ written_field packet.field (183 - length packet.payload) ++ packet.payload
+written packet = written_header packet ++ written_field packet.field (longest_field - length packet.payload) ++ packet.payload

@@ -7,12 +7,17 @@
 #![tactic(auto)]
 
 mod adaptation_field;
+pub mod laws;
 mod packet;
 mod packet_fault;
+mod pid_fault;
+mod pid_reader;
 
 pub use adaptation_field::AdaptationField;
-pub use packet::{PACKET_BYTES, Packet, pid_of};
+pub use packet::{Packet, pid_of};
 pub use packet_fault::PacketFault;
+pub use pid_fault::PidFault;
+pub use pid_reader::PidReader;
 
 #[cfg(test)]
 mod tests;

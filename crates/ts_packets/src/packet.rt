@@ -1,20 +1,17 @@
 ghost use Rattle.std.specs.Prelude.{◌≡◌, ◌≢◌, ℕ, true, false, ◌+◌, ◌*◌, ◌^◌, ◌<◌, ◌≤◌, length, IfOk, IfErr, IfSome, IsOkAnd};
 ghost use Rattle.std.specs.Option.{option_map};
 ghost use Rattle.std.specs.Result.{result_ok, result_err};
-ghost use Rattle.ts_packets.specs.Packet.{PacketRecord, record_of, sync_byte, packet_identifier, adaptation_field_control, adaptation_field_length, is_length_allowed, HasFieldAndPayload, IsPacket, refusal, packet_of, IsWritable, written, written_header, has_fault};
+ghost use Rattle.ts_packets.specs.Packet.{PacketRecord, record_of, sync_byte, packet_identifier, adaptation_field_control, adaptation_field_length, is_length_allowed, IsPacket, refusal, packet_of, IsWritable, written, written_header, has_fault};
+ghost use Rattle.ts_packets.specs.Private.Packet.{HasFieldAndPayload};
+ghost use Rattle.ts_packets.specs.Carried.{is_discontinuous, is_repeat};
 ghost use Rattle.ts_packets.specs.declared.packet_fault.PacketFault.TheVariants.{BadField};
 
 use crate::adaptation_field::AdaptationField;
 use crate::packet_fault::PacketFault;
-
-/// Length of a transport packet in bytes.
-pub const PACKET_BYTES: usize = 188;
-
-/// Length of its header in bytes.
-const HEADER_BYTES: usize = 4;
+use stream_constants::packets::{HEADER_BYTES, PACKET_BYTES, PAYLOAD_BYTES};
 
 /// The bytes that the header and an adaptation field's length byte leave.
-const MOST_FIELD_BYTES: usize = 183;
+const MOST_FIELD_BYTES: usize = PAYLOAD_BYTES - 1;
 
 /// The header's first byte.
 const SYNC_BYTE: u8 = 0x47;
@@ -99,6 +96,23 @@ impl<'a> Packet<'a> {
             field.write(&mut into[HEADER_BYTES..payload_at]);
         }
         into[payload_at..].copy_from_slice(self.payload);
+    }
+
+    /// True where the adaptation field has the `discontinuity_indicator`.
+    pub fn is_discontinuous(&self) -> bool
+        ensures { result ≡ is_discontinuous (record_of self.now) }
+    {
+        match self.field {
+            Some(field) => field.discontinuity,
+            None => false,
+        }
+    }
+
+    /// True where counter and payload are those of the packet before.
+    pub fn is_repeat_of(&self, before: &Packet) -> bool
+        ensures { result ≡ is_repeat (record_of self.now) (record_of before.now) }
+    {
+        self.counter == before.counter && self.payload == before.payload
     }
 
     fn header(&self) -> [u8; 4]

@@ -1,8 +1,12 @@
+pub mod Bounds
 pub mod Counts
+pub mod CursorLaws
 pub mod CursorSteps
+pub mod DecoderWalks
 pub mod Examples
 pub mod FaultLaws
 pub mod LateLaws
+pub mod Limits
 pub mod OldLaws
 pub mod OverLaws
 pub mod RisingLaws

@@ -68,7 +68,7 @@ spaced-ends first step zero k d within = absurd (omega arith)
 spaced-ends first step (suc count) zero d within = omega arith
 spaced-ends first step (suc count) (suc k) d within = omega (arith, spaced-ends (first + step) step count k d (omega arith))
 
-length-spaced : (first step count : ℕ) → length (spaced first step count) ≡ count
+pub length-spaced : (first step count : ℕ) → length (spaced first step count) ≡ count
 unfolding spaced
 length-spaced first step zero = refl
 length-spaced first step (suc count) = ap suc (length-spaced (first + step) step count)

@@ -3,10 +3,11 @@
 --     video     --> TB --> MB --> EB --> removed
 --     audio     --> TB --> B ----------> removed
 --     system    --> TB --> main buffer --> leaks
-use Rattle.std.specs.Prelude.{ℕ, ◌-◌, ◌*◌, ◌<◌, List, [], ◌∷◌, ◌++◌, replicate, Bool, false}
+use Rattle.std.specs.Prelude.{ℕ, ◌-◌, ◌*◌, ◌<◌, ◌≤◌, List, [], ◌∷◌, ◌++◌, replicate, Bool, false}
 use Rattle.std.specs.List.{flat_map}
 use Rattle.stream_constants.specs.declared.clock.TheConstants.{SUBTICKS_PER_TICK}
 use Rattle.stream_constants.specs.declared.decoder.TheConstants.{TB_BYTES, VIDEO_TB_SUBTICKS, AUDIO_TB_SUBTICKS, SYSTEM_TB_SUBTICKS, MB_SUBTICKS, EB_UNIT_BYTES, VIDEO_BYTES, AUDIO_BYTES, SYSTEM_BYTES, SYSTEM_SUBTICKS}
+use Rattle.stream_constants.specs.declared.main_level.TheConstants.{VBV_MOST}
 pub use Rattle.tstd_model.specs.declared.decoder_input.BufferKind.{BufferKind}
 pub use Rattle.tstd_model.specs.declared.decoder_input.BufferKind.TheVariants.{Video, Audio, System}
 pub use Rattle.tstd_model.specs.declared.decoder_input.Removal.{Removal}
@@ -26,6 +27,12 @@ bytes_in buffer at = came at buffer.ins - came at buffer.outs
 -- the buffer is over its size at an instant
 abbrev pub IsOverfull : DecoderBuffer → (at : ℕ) → Type 0
 IsOverfull buffer at = buffer.size < bytes_in buffer at
+
+-- a video stream's vbv buffer is one of Main level (13818-2, Table 8-14)
+abbrev pub IsInLevel : BufferKind → Type 0
+IsInLevel (Video vbv) = vbv ≤ VBV_MOST
+IsInLevel Audio = Unit {0}
+IsInLevel System = Unit {0}
 
 -- subticks that a byte takes to leave TB
 abbrev pub tb_subticks : BufferKind → ℕ

@@ -1,5 +1,5 @@
 -- The bytes of the packets that come, in order: what each belongs to, and lists with an entry for each byte.
-use Rattle.std.specs.Prelude.{ℕ, ◌-◌, ◌*◌, List, [], ◌∷◌, ◌++◌, replicate, Bool, true, false, if◌then◌else◌}
+use Rattle.std.specs.Prelude.{ℕ, ◌-◌, ◌*◌, ◌≤◌, List, [], ◌∷◌, ◌++◌, replicate, Bool, true, false, if◌then◌else◌}
 use Rattle.std.specs.List.{flat_map}
 use Rattle.stream_constants.specs.declared.clock.TheConstants.{BYTE_SUBTICKS_PER_TICK}
 use Rattle.stream_constants.specs.declared.packets.TheConstants.{PACKET_BYTES}
@@ -7,6 +7,10 @@ pub use Rattle.tstd_model.specs.declared.decoder_input.Arrival.{Arrival}
 pub use Rattle.tstd_model.specs.declared.decoder_input.PacketPart.{PacketPart}
 pub use Rattle.tstd_model.specs.declared.decoder_input.PacketPart.TheVariants.{Overhead, PesHeader, Data}
 use Rattle.tstd_model.specs.Instants.{spaced}
+
+-- a PES header is within the payload, and the payload within the packet
+abbrev pub HasHeaderWithin : Arrival → Type 0
+HasHeaderWithin arrival = (arrival.header ≤ arrival.payload) × (arrival.payload ≤ PACKET_BYTES)
 
 -- the parts of a packet's bytes
 unfoldable pub parts_of : Arrival → List PacketPart

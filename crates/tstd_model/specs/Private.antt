@@ -1,4 +1,5 @@
 pub mod Cursors
+pub mod Limits
 pub mod Scans
 pub mod Server
 pub mod Walks

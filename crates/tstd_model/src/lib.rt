@@ -2,17 +2,22 @@
 //!
 //! Times are in subticks (1/940 of a tick of 1/27,000,000 s), and every instant is a whole number of them. A byte is in
 //! a buffer from the instant at which it comes until, not including, the instant at which it leaves.
-//! Stands on `stream_constants` and `list_types`.
+//! `first_fault` is exactly that fault. Stands on `stream_constants`.
 #![tactic(auto)]
 
 mod decoder_input;
+mod earliest;
 mod fault;
 mod instants;
+mod leaves;
 mod moves;
 mod packet_bytes;
 mod passing;
 mod removed_bytes;
+mod system_decoder;
 mod tb_bytes;
+mod walks;
 
 pub use decoder_input::{Arrival, BufferKind, PacketPart, Removal};
 pub use fault::TstdFault;
+pub use system_decoder::first_fault;

@@ -1,10 +1,10 @@
 -- The head packet that goes first among those that pass a test.
-use Rattle.std.specs.Prelude.{◌≡◌, ℕ, ◌⊎◌, List, slice_get, nat_lt, if◌then◌else◌, Option, Some, None}
+use Rattle.std.specs.Prelude.{◌≡◌, ℕ, ◌⊎◌, List, slice_get, Option, Some, None}
 use Rattle.slot_rule.specs.declared.heads.Head.{Head}
 use Rattle.slot_rule.specs.declared.queue_state.QueueState.{QueueState}
 use Rattle.slot_rule.specs.Queues.{QueuedPacket}
 use Rattle.slot_rule.specs.Schedule.{IsBefore}
-use Rattle.slot_rule.specs.Private.QueueState.{Permits}
+use Rattle.slot_rule.specs.Private.QueueState.{HoldsUntil, Permits}
 
 -- the packet may go in a slot that begins at a time
 abbrev pub PassesAt : ℕ → QueueState → QueuedPacket → Type 0
@@ -14,10 +14,14 @@ PassesAt start state packet = Permits state packet start
 abbrev pub Passes : QueueState → QueuedPacket → Type 0
 Passes state packet = Unit {0}
 
--- what the stream has to offer: its head packet if that passes
-abbrev pub IsOffer : (QueueState → QueuedPacket → Type 0) → (stream : ℕ) → QueueState → Option Head → Type 0
-IsOffer P stream state None = (packet : QueuedPacket) → state.head ≡ Some packet → P state packet → ⊥
-IsOffer P stream state (Some head) = (head.stream ≡ stream) × (state.head ≡ Some head.packet) × P state head.packet
+-- no packet that a queue holds is gone before a time
+abbrev pub NoneGoneBefore : List QueueState → (time : ℕ) → Type 0
+NoneGoneBefore states time = (stream : ℕ) (state : QueueState) → slice_get states stream ≡ Some state → HoldsUntil time state
+
+-- what the queue has to offer: its head packet if that passes
+abbrev pub IsOffer : (QueueState → QueuedPacket → Type 0) → QueueState → Option QueuedPacket → Type 0
+IsOffer P state None = (packet : QueuedPacket) → state.head ≡ Some packet → P state packet → ⊥
+IsOffer P state (Some packet) = (state.head ≡ Some packet) × P state packet
 
 -- the head packet of the stream passes, and goes before that of each other stream that passes
 pub record IsFirst (P : QueueState → QueuedPacket → Type 0) (states : List QueueState) (stream : ℕ) (packet : QueuedPacket) : Type 0 where
@@ -33,9 +37,3 @@ abbrev pub IsFirstHead : (QueueState → QueuedPacket → Type 0) → List Queue
 IsFirstHead P states None =
     (stream : ℕ) (state : QueueState) (packet : QueuedPacket) → slice_get states stream ≡ Some state → state.head ≡ Some packet → P state packet → ⊥
 IsFirstHead P states (Some head) = IsFirst P states head.stream head.packet
-
--- the one that is due first; the first of the two where they are due at the same time
-abbrev pub earlier_head : Option Head → Option Head → Option Head
-earlier_head first None = first
-earlier_head None (Some head) = Some head
-earlier_head (Some first) (Some head) = if nat_lt head.packet.due first.packet.due then Some head else Some first

@@ -1,8 +1,9 @@
 -- What the rule keeps of a stream between slots, against the stream's packets.
-use Rattle.std.specs.Prelude.{◌≡◌, ℕ, ◌+◌, ◌^◌, ◌<◌, ◌≤◌, List, length, take, drop, sum_by, slice_get, Option, Some}
+use Rattle.std.specs.Prelude.{◌≡◌, ℕ, ◌+◌, ◌-◌, ◌*◌, ◌^◌, ◌<◌, ◌≤◌, List, length, take, drop, sum_by, slice_get, Option, Some}
 use Rattle.stream_constants.specs.declared.packets.TheConstants.{PAYLOAD_BYTES}
 use Rattle.stream_constants.specs.declared.main_level.TheConstants.{VBV_MOST}
 use Rattle.version_table.specs.declared.table.Table.{Table}
+use Rattle.stream_constants.specs.declared.clock.TheConstants.{SUBTICKS_PER_TICK}
 use Rattle.stream_constants.specs.declared.decoder.TheConstants.{HOLD_TICKS}
 use Rattle.slot_rule.specs.declared.queue_items.QueueItems.{QueueItems}
 use Rattle.slot_rule.specs.declared.queue_state.QueueState.{QueueState}
@@ -44,8 +45,8 @@ pub record KeepsPlace (packets : List QueuedPacket) (state : QueueState) : Type 
 
 -- the state's numbers are far below the limits of their types
 pub record IsSmall (state : QueueState) : Type 0 where
-  pub tb : state.tb < 2 ^ 60
-  pub mb : state.mb < 2 ^ 60
+  pub tb : state.tb_empty < 2 ^ 60
+  pub mb : state.mb_empty < 2 ^ 60
   pub sent : state.sent < 2 ^ 30
   pub held : state.held < 2 ^ 60
 
@@ -54,6 +55,7 @@ pub record IsReady (state : QueueState) : Type 0 where
   pub small : IsSmall state
   pub kind : IsKind state.kind
   pub payload : (packet : QueuedPacket) → state.head ≡ Some packet → packet.payload ≤ PAYLOAD_BYTES
+  pub gone : (packet : QueuedPacket) → state.head ≡ Some packet → packet.gone < 2 ^ 50
 
 -- packets that are gone at a time were left out of the bytes held, and nothing else changed
 pub record Releases (packets : List QueuedPacket) (start : ℕ) (old new : QueueState) : Type 0 where
@@ -67,12 +69,21 @@ abbrev pub HoldsNoneGone : (packets : List QueuedPacket) (start : ℕ) → Queue
 HoldsNoneGone packets start state =
     (packet : QueuedPacket) → state.gone < state.sent → slice_get packets state.gone ≡ Some packet → start < packet.gone
 
+-- no packet that is held is gone before a time
+abbrev pub HoldsUntil : (time : ℕ) → QueueState → Type 0
+HoldsUntil time state = (packet : QueuedPacket) → state.gone < state.sent → state.oldest ≡ Some packet → time ≤ packet.gone
+
 -- the packet may go in a slot that begins at a time, by the state's numbers
 pub record Permits (state : QueueState) (packet : QueuedPacket) (start : ℕ) : Type 0 where
-  pub tb : state.tb ≤ tb_gate state.kind
-  pub mb : MbPermits state.kind state.mb
+  pub tb : state.tb_empty - SUBTICKS_PER_TICK * start ≤ tb_gate state.kind
+  pub mb : MbPermits state.kind (state.mb_empty - SUBTICKS_PER_TICK * start)
   pub eb_or_b : state.held + packet.payload ≤ eb_or_b_bytes state.kind
   pub hold : packet.gone ≤ start + HOLD_TICKS
+
+-- the state's head packet may not go before a subtick
+abbrev pub MayGoFrom : (from : ℕ) → QueueState → Type 0
+MayGoFrom from state =
+    (start : ℕ) (packet : QueuedPacket) → SUBTICKS_PER_TICK * start < from → state.head ≡ Some packet → Permits state packet start → ⊥
 
 -- of the work in its two buffers, that which waits for a packet that has come
 abbrev pub mb_or_tb_of_kind : QueueKind → (tb mb : ℕ) → ℕ
@@ -84,8 +95,8 @@ abbrev pub first_state : QueueKind → QueueItems → Option QueuedPacket → Qu
 first_state kind items first = record {
   kind = kind;
   items = items;
-  tb = 0;
-  mb = 0;
+  tb_empty = 0;
+  mb_empty = 0;
   sent = 0;
   head = first;
   gone = 0;
@@ -93,6 +104,6 @@ first_state kind items first = record {
   held = 0;
 }
 
--- the work that waits for a packet of the stream which has come
-abbrev pub mb_or_tb_of_state : QueueState → ℕ
-mb_or_tb_of_state state = mb_or_tb_of_kind state.kind state.tb state.mb
+-- the work that waits at a time for a packet of the stream which has come
+abbrev pub mb_or_tb_of_state : QueueState → (now : ℕ) → ℕ
+mb_or_tb_of_state state now = mb_or_tb_of_kind state.kind (state.tb_empty - now) (state.mb_empty - now)

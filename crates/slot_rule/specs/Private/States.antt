@@ -1,5 +1,5 @@
 -- What a slot changes in the states of all streams.
-use Rattle.std.specs.Prelude.{◌≡◌, ℕ, ◌+◌, ◌-◌, ◌*◌, List, All, length, slice_get, Some}
+use Rattle.std.specs.Prelude.{◌≡◌, ℕ, ◌+◌, ◌*◌, List, All, length, max, slice_get, Some}
 use Rattle.version_table.specs.declared.table.Table.{Table}
 use Rattle.stream_constants.specs.declared.packets.TheConstants.{PACKET_BYTES}
 use Rattle.slot_rule.specs.declared.queue_state.QueueState.{QueueState}
@@ -35,12 +35,7 @@ pub record ReleasesAll (table : Table) (choice : List ℕ) (start : ℕ) (old ne
   pub releases : Releases (packets_at table choice old.items) start old new
   pub rest : HoldsNoneGone (packets_at table choice old.items) start new
 
--- the PCR of a program goes
-pub record TakesPcr (program : ℕ) (old new : QueueState) : Type 0 where
-  pub own : HasPcr old.kind program → new ≡ record old { tb = old.tb + PACKET_BYTES * tb_subticks old.kind }
+-- the PCR of a program goes, in a slot that begins at this subtick
+pub record TakesPcr (program now : ℕ) (old new : QueueState) : Type 0 where
+  pub own : HasPcr old.kind program → new ≡ record old { tb_empty = max old.tb_empty now + PACKET_BYTES * tb_subticks old.kind }
   pub other : (HasPcr old.kind program → ⊥) → new ≡ old
-
--- so many subticks of work are done
-abbrev pub Drains : ℕ → QueueState → QueueState → Type 0
-Drains subticks old new =
-    new ≡ record old { tb = old.tb - subticks; mb = old.mb - subticks }

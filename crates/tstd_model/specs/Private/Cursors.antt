@@ -13,6 +13,11 @@ abbrev pub Gives : {X : Type 0} → Option X → (before after : List X) → Typ
 Gives None before after = (before ≡ []) × (after ≡ [])
 Gives (Some x) before after = before ≡ x ∷ after
 
+-- the first item of a list, or none where there is no item
+abbrev pub IsFirstOf : {X : Type 0} → Option X → List X → Type 0
+IsFirstOf None items = items ≡ []
+IsFirstOf {X} (Some x) items = (later : List X) × (items ≡ x ∷ later)
+
 -- the parts of a packet's bytes that are still to come
 abbrev pub parts_left : PartsLeft → List PacketPart
 parts_left parts = replicate parts.overhead Overhead ++ replicate parts.header PesHeader ++ replicate parts.data Data
@@ -43,6 +48,10 @@ passed subticks before (byte ∷ bytes) =
 -- the instants of bytes
 abbrev pub instants_of : List PacketByte → List ℕ
 instants_of bytes = map (λ byte. byte.at) bytes
+
+-- what bytes belong to
+abbrev pub parts_in : List PacketByte → List PacketPart
+parts_in bytes = map (λ byte. byte.part) bytes
 
 -- the bytes whose part passes a test
 abbrev pub bytes_with : (PacketPart → Bool) → List PacketByte → List PacketByte

@@ -1,7 +1,7 @@
 use Rattle.std.proofs.Common.{◌+◌, drop, sym, ap₂, subst, arith, refl}
 use Rattle.picture_grammar.specs.Refusal.Refusal.{End}
-use Rattle.block_coeffs.specs.DcStanding.{dc_by}
-use Rattle.block_coeffs.specs.Standing.{seen}
+use Rattle.block_coeffs.specs.Private.DcStanding.{dc_by}
+use Rattle.grammar_reading.specs.Window.{seen}
 use Rattle.block_coeffs.proofs.Dcs.{begins-size, bits-fit, dc-cut, dc-found_at}
 use Rattle.block_coeffs.proofs.dc_standing.what_dc.Goals as goal
 

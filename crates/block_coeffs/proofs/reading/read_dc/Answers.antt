@@ -1,24 +1,26 @@
 use Rattle.std.specs.Option.{option_map}
-use Rattle.std.proofs.Common.{◌+◌, ◌≤◌, length, drop, IfSome, sym, ap, subst, ◌∙◌, arith}
+use Rattle.std.proofs.Common.{◌+◌, drop, IfSome, sym, ap, subst, ◌∙◌, arith}
 use Rattle.bit_cursor.specs.BitReader.{bits_left, place}
-use Rattle.block_coeffs.specs.DcStanding.{dc_by}
-use Rattle.block_coeffs.specs.Reading.{ExplainsFrom}
-use Rattle.block_coeffs.proofs.Steps.{shown-told, reads-found, explains-found}
+use Rattle.block_coeffs.specs.Private.DcStanding.{dc_by}
+use Rattle.grammar_reading.specs.Window.{ShowsFront}
+use Rattle.grammar_reading.specs.BitsRead.{ExplainsFrom}
+use Rattle.block_coeffs.specs.BlockFault.{refusal_told}
+use Rattle.block_coeffs.proofs.Blocks.{local-dc_by}
+use Rattle.block_coeffs.proofs.Steps.{held-shown, reads-found, explains-found}
 use Rattle.block_coeffs.proofs.reading.read_dc.Goals as goal
 
-pub skip-requires-clause-shown : goal.skip-requires-clause-shown
-skip-requires-clause-shown g c =
-    subst (λ told. IfSome told (λ bits. c.in-Coefficient.len ≤ length bits)) (sym c.in_ok-window.ensures.left)
-    (shown-told (bits_left c.args.from.now) c.in_ok-window.window c.in-Coefficient.len c.in_ok-window.ensures.shows c.in-Coefficient.ensures.0)
-
-pub returns-in_ok-skip-in-Coefficient-clause-ok : goal.returns-in_ok-skip-in-Coefficient-clause-ok
-returns-in_ok-skip-in-Coefficient-clause-ok g c =
-    reads-found (dc_by c.args.table) _ (bits_left c.args.from.now) _ c.in_ok-window.window c.in-Coefficient.len _ _ c.in_ok-window.ensures.shows
-    c.in-Coefficient.ensures.0 c.in-Coefficient.ensures.1 (c.in_ok-skip-in-Coefficient.ensures.left ∙ ap (λ told. option_map (drop c.in-Coefficient.len) told) c.in_ok-window.ensures.left)
-    (c.in_ok-skip-in-Coefficient.ensures.place ∙ ap (λ n. n + c.in-Coefficient.len) c.in_ok-window.ensures.place)
+pub returns-in-Coefficient-clause-ok : goal.returns-in-Coefficient-clause-ok
+returns-in-Coefficient-clause-ok g c =
+    let window = c.held_window.result in
+    let shows : IfSome (bits_left c.args.from.now) (ShowsFront window) = held-shown (bits_left c.args.from.now) (bits_left c.hold.new.self) c.hold.new.self.held window c.in_ok-hold.ensures.left c.in_ok-hold.ensures.few c.held_window.ensures.shows in
+    reads-found (dc_by c.args.table) (local-dc_by c.args.table) _ (bits_left c.args.from.now) _ window c.in-Coefficient.len _ _ shows
+    c.in-Coefficient.ensures.0 c.in-Coefficient.ensures.1 (c.skip.ensures.left ∙ ap (λ told. option_map (drop c.in-Coefficient.len) told) c.in_ok-hold.ensures.left)
+    (c.skip.ensures.place ∙ ap (λ n. n + c.in-Coefficient.len) c.in_ok-hold.ensures.place)
 
 pub returns-in-Refused-clause-refused : goal.returns-in-Refused-clause-refused
 returns-in-Refused-clause-refused g c =
-    subst (λ fault. IfSome (bits_left c.args.from.now) (λ bits. ExplainsFrom (dc_by c.args.table) fault bits (place c.args.from.now))) (sym c.at.ensures)
-    (explains-found (dc_by c.args.table) c.in-Refused.why (bits_left c.args.from.now) c.in_ok-window.window c.in-Refused.behind (place c.args.from.now) _
-    c.in_ok-window.ensures.shows c.in-Refused.ensures.0 c.in-Refused.ensures.1 (omega arith))
+    let window = c.held_window.result in
+    let shows : IfSome (bits_left c.args.from.now) (ShowsFront window) = held-shown (bits_left c.args.from.now) (bits_left c.hold.new.self) c.hold.new.self.held window c.in_ok-hold.ensures.left c.in_ok-hold.ensures.few c.held_window.ensures.shows in
+    subst (λ fault. IfSome (bits_left c.args.from.now) (λ bits. ExplainsFrom (dc_by c.args.table) (refusal_told fault) bits (place c.args.from.now))) (sym c.at.ensures)
+    (explains-found (dc_by c.args.table) c.in-Refused.why (bits_left c.args.from.now) window c.in-Refused.behind (place c.args.from.now) _
+    shows c.in-Refused.ensures.0 c.in-Refused.ensures.1 (omega arith))

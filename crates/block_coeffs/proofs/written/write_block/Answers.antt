@@ -3,7 +3,7 @@ use Rattle.bit_cursor.specs.BitWriter.{Writes}
 use Rattle.bit_cursor.proofs.Composed.{writes_none, writes_then, writes_exit}
 use Rattle.picture_grammar.specs.Written.{if_any, written_dc, written_coefficients, written_block}
 use Rattle.picture_grammar.specs.Block.{first_place}
-use Rattle.block_coeffs.specs.Writing.{CanFollow}
+use Rattle.block_coeffs.specs.Private.Writing.{CanFollow}
 use Rattle.block_coeffs.proofs.Writing.{writes_as}
 use Rattle.block_coeffs.proofs.Writable.{spelled-dc, spelled-pairs}
 use Rattle.block_coeffs.proofs.written.write_block.Goals as goal

@@ -4,7 +4,8 @@ use Rattle.std.proofs.lemmas.Bool.{eqb-true, eqb-false}
 use Rattle.std.proofs.lemmas.List.{length-map}
 use Rattle.psi_tables.specs.declared.stream.Stream.{Stream}
 use Rattle.psi_tables.specs.Descriptors.{count_dropped}
-use Rattle.psi_tables.specs.Streams.{StreamInfo, IsStreamInfo, IsKeepable, stream_of}
+use Rattle.psi_tables.specs.Streams.{StreamInfo, IsStreamInfo, stream_of}
+use Rattle.psi_tables.specs.Private.Streams.{IsKeepable}
 use Rattle.psi_tables.proofs.Rows.{not_empty, empty, one_row}
 use Rattle.psi_tables.proofs.StreamRows.{HasReadStreams, streams_told, streams_more, next_info, next_info_of, keepable_at, same_pair}
 use Rattle.psi_tables.proofs.streams.read_streams.Goals as goal

@@ -1,5 +1,5 @@
 use Rattle.std.proofs.Common.{ℕ, ◌<◌, ◌≤◌}
-use Rattle.remux_core.specs.Planned.{IsKnown, IsNoWorseThanLevel}
+use Rattle.remux_core.specs.Private.Planned.{IsKnown, IsNoWorseThanLevel}
 use Rattle.remux_core.proofs.planner.try_levels.Given as goal
 
 abbrev pub invariant-loop-k : goal.invariant-loop-k

@@ -2,7 +2,7 @@
 use Rattle.std.proofs.Common.{◌≡◌, true, ◌+◌, ◌≤◌, length, ◌++◌, refl, sym, ap, ◌∙◌, arith, length-append}
 use Rattle.std.proofs.lemmas.Grind.{common_steps}
 use Rattle.psi_tables.specs.Sections.{is_read, section_size}
-use Rattle.psi_tables.specs.SectionFront.{front_bytes}
+use Rattle.psi_tables.specs.Private.SectionFront.{front_bytes}
 use Rattle.psi_tables.proofs.Fronts.{good-size}
 use Rattle.psi_tables.proofs.Bytes.{length-front, header-front, is_read-front, sound-extended, sound-passed, like-passed}
 use Rattle.psi_tables.proofs.Headers.{section_length-below}

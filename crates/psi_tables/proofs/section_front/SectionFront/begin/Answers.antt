@@ -1,6 +1,6 @@
 -- Sections of other tables are passed over up to one that is read, or that isn't whole.
 use Rattle.std.proofs.Common.{sym, ◌∙◌}
-use Rattle.psi_tables.specs.SectionFront.{front_bytes}
+use Rattle.psi_tables.specs.Private.SectionFront.{front_bytes}
 use Rattle.psi_tables.proofs.Steps.{begins-read, begins-passed}
 use Rattle.psi_tables.proofs.section_front.SectionFront.begin.Goals as goal
 

@@ -3,7 +3,7 @@ use Rattle.std.proofs.Common.{◌≡◌, ◌≢◌, ℕ, Bool, false, cond, List
 use Rattle.std.proofs.lemmas.Bool.{ne_eqb, eq-eqb}
 use Rattle.psi_tables.specs.declared.section.SectionFault.TheVariants.{BadCrc}
 use Rattle.psi_tables.specs.Sections.{crc_over}
-use Rattle.psi_tables.specs.SectionFront.{front_bytes, is_bad}
+use Rattle.psi_tables.specs.Private.SectionFront.{front_bytes, is_bad}
 use Rattle.psi_tables.proofs.Bytes.{header-front, is_read-front, kept-front}
 use Rattle.psi_tables.proofs.CrcDivision.{crc_over-is}
 use Rattle.psi_tables.proofs.Fronts.{settled-header, found_at-whole}

@@ -2,7 +2,7 @@
 use Rattle.std.proofs.Common.{◌≢◌, ℕ, ◌<◌, List, length, sym, ap, ◌∙◌, arith}
 use Rattle.std.proofs.lemmas.Bool.{eqb-false}
 use Rattle.psi_tables.specs.Sections.{is_read, found_from}
-use Rattle.psi_tables.specs.SectionFront.{front_bytes, is_settled}
+use Rattle.psi_tables.specs.Private.SectionFront.{front_bytes, is_settled}
 use Rattle.psi_tables.proofs.Bytes.{length-front}
 use Rattle.psi_tables.proofs.Steps.{taken-front, taken-same, taken-passed, passed-over, not-passed-over}
 use Rattle.psi_tables.proofs.section_front.SectionFront.go_on.Goals as goal

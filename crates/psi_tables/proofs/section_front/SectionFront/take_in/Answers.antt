@@ -1,6 +1,6 @@
 -- Bytes of the header are taken, and then as many as are missing.
 use Rattle.std.proofs.Common.{◌≡◌, ℕ, ◌+◌, ◌-◌, [], ◌++◌, length, take, drop, min, ap, ◌∙◌, subst, arith}
-use Rattle.psi_tables.specs.SectionFront.{front_bytes, IsLike}
+use Rattle.psi_tables.specs.Private.SectionFront.{front_bytes, IsLike}
 use Rattle.psi_tables.proofs.Steps.{takes_in, like-none}
 use Rattle.psi_tables.proofs.section_front.SectionFront.take_in.Goals as goal
 

@@ -1,4 +1,4 @@
-use Rattle.std.proofs.Common.{◌≡◌, [], ◌++◌, ap}
+use Rattle.std.proofs.Common.{◌++◌, ap}
 use Rattle.tstd_model.specs.Private.Cursors.{bytes_at, bytes_of_all}
 use Rattle.tstd_model.proofs.packet_bytes.PacketBytes.new.Goals as goal
 

@@ -1,7 +1,6 @@
-use Rattle.std.proofs.Common.{◌≡◌, List, [], ◌∷◌, length, sym, ◌∙◌, arith}
+use Rattle.std.proofs.Common.{◌≡◌, [], ◌∷◌, sym, ◌∙◌, arith}
 use Rattle.std.proofs.lemmas.List.{nil_from_length}
-use Rattle.tstd_model.specs.PacketBytes.{Arrival, PacketPart}
-use Rattle.tstd_model.specs.Private.Cursors.{parts_left, packets_left}
+use Rattle.tstd_model.specs.Private.Cursors.{parts_left}
 use Rattle.tstd_model.proofs.CursorSteps.{packets_left-byte, packets_left-none, packets_left-packet}
 use Rattle.tstd_model.proofs.packet_bytes.PacketBytes.next_byte.Goals as goal
 

@@ -1,4 +1,4 @@
-use Rattle.std.proofs.Common.{◌≡◌, ℕ, ◌+◌, ◌*◌, ◌^◌, ◌≤◌, length}
+use Rattle.std.proofs.Common.{◌≡◌, ◌+◌, ◌*◌, ◌^◌, ◌≤◌, length}
 use Rattle.tstd_model.specs.Private.Cursors.{parts_left, packets_left}
 use Rattle.tstd_model.proofs.packet_bytes.PacketBytes.next_byte.Given as goal
 

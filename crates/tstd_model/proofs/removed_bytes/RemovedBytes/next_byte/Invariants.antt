@@ -1,4 +1,4 @@
-use Rattle.std.proofs.Common.{◌≡◌, ℕ, ◌+◌, ◌*◌, ◌^◌, ◌<◌, ◌≤◌, ◌++◌, length, replicate, All}
+use Rattle.std.proofs.Common.{◌≡◌, ◌+◌, ◌^◌, ◌<◌, ◌≤◌, ◌++◌, length, replicate, All}
 use Rattle.tstd_model.specs.Private.Scans.{taken_from}
 use Rattle.tstd_model.proofs.removed_bytes.RemovedBytes.next_byte.Given as goal
 

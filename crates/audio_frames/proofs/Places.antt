@@ -1,0 +1,27 @@
+-- The first place that passes a test.
+use Rattle.std.proofs.Common.{◌≡◌, ℕ, zero, suc, ◌+◌, ◌<◌, ◌≤◌, Bool, true, false, cond, Some, None, refl, sym, ap, subst, arith, inl, inr}
+use Rattle.std.specs.List.{find, range_with_len}
+use Rattle.std.proofs.lemmas.Bool.{cases_eq}
+
+pub find_place : (test : ℕ → Bool) (n from found : ℕ) → from ≤ found → found < from + n → test found ≡ true → ((at : ℕ) → from ≤ at → at < found → test at ≡ false) → find test (range_with_len from n) ≡ Some found
+find_place test zero from found begun upto is none = absurd (omega arith)
+find_place test (suc n) from found begun upto is none = elim (cases_eq from found) [
+  | inl same ↦ (let here : test from ≡ true = subst (λ (k : ℕ). test k ≡ true) (sym same) is in rw here (ap Some same))
+  | inr apart ↦ (let here : test from ≡ false = none from (omega arith) (omega arith) in rw here
+      (find_place test n (from + 1) found (omega arith) (omega arith) is (λ at b u. none at (omega arith) u)))
+]
+
+pub no_place : (test : ℕ → Bool) (n from : ℕ) → ((at : ℕ) → from ≤ at → at < from + n → test at ≡ false) → find test (range_with_len from n) ≡ None
+no_place test zero from none = refl
+no_place test (suc n) from none =
+    let here : test from ≡ false = none from (omega arith) (omega arith) in
+    rw here (no_place test n (from + 1) (λ at b u. none at (omega arith) (omega arith)))
+
+-- what is found passes, and is one of those looked at
+pub found_passes : (test : ℕ → Bool) (n from found : ℕ) → find test (range_with_len from n) ≡ Some found → (test found ≡ true) × (found < from + n)
+found_passes test zero from found is = absurd (cc)
+found_passes test (suc n) from found is = by_test (test from) refl is (found_passes test n (from + 1) found)
+  where
+    by_test : (here : Bool) → test from ≡ here → cond here (Some from) (find test (range_with_len (from + 1) n)) ≡ Some found → (find test (range_with_len (from + 1) n) ≡ Some found → (test found ≡ true) × (found < (from + 1) + n)) → (test found ≡ true) × (found < from + suc n)
+    by_test true passes is later = (let same : from ≡ found = cc in (subst (λ (k : ℕ). test k ≡ true) same passes, omega arith))
+    by_test false fails is later = (let behind : (test found ≡ true) × (found < (from + 1) + n) = later is in (behind.0, omega (arith, behind.1)))

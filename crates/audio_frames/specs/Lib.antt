@@ -1,0 +1,4 @@
+pub mod FrameHeader
+pub mod Frames
+pub mod Times
+pub mod Private

@@ -1,0 +1,63 @@
+ghost use Rattle.std.specs.Prelude.{◌≡◌, ◌+◌, ◌<◌, ◌≤◌, ◌^◌, length, IfOk, IfErr};
+ghost use Rattle.audio_frames.specs.Frames.{AreAllFrames};
+ghost use Rattle.audio_frames.specs.Times.{AreStarts, AreFramesOf};
+ghost use Rattle.audio_frames.specs.Private.Packets.{IsTimeRefused};
+ghost use Rattle.audio_frames.specs.Private.Places.{AreApart};
+
+use crate::audio_fault::AudioFault;
+use crate::clock::Clock;
+use crate::frame::Frame;
+use crate::frame_header::header_at;
+use crate::pes_start::PesStart;
+use list_types::ListOf;
+use std::alloc::Global;
+
+/// The frames that begin at these places of a payload, with their times. An error is NoAudioTime or TimeOrder.
+pub fn timed_frames(
+    alloc: Global,
+    payload: &[u8],
+    starts: &[PesStart],
+    places: &[u64],
+) -> Result<ListOf<Frame>, AudioFault>
+    requires size { length payload.now < 2 ^ 30 }
+    requires starts { AreStarts (length payload.now) starts.now }
+    requires places { AreAllFrames payload.now places.now }
+    requires apart { AreApart places.now (length payload.now) }
+    requires some { 0 < length places.now }
+    ensures frames { IfOk result (AreFramesOf payload.now starts.now) }
+    ensures refused { IfErr result (IsTimeRefused payload.now starts.now) }
+{
+    let rate = header_at(payload, places[0] as usize).hertz();
+    let Some(mut clock) = Clock::start(rate, starts, places) else {
+        return Err(AudioFault::NoAudioTime(places[0]));
+    };
+    let mut begin = 0;
+    let mut frames = ListOf::new(alloc);
+    for frame in 0..places.len() - 1 {
+        let end = places[frame + 1];
+        let next = clock.next(starts, places, frame);
+        if next.time <= clock.time {
+            return Err(AudioFault::TimeOrder(end));
+        }
+        frames.push(frame_of(begin, end, clock.time))?;
+        begin = end;
+        clock = next;
+    }
+    frames.push(frame_of(begin, payload.len() as u64, clock.time))?;
+    Ok(frames)
+}
+
+/// The frame with the bytes from a place up to another.
+fn frame_of(at: u64, end: u64, time: i64) -> Frame
+    requires order { at ≤ end }
+    requires size { end < 2 ^ 30 }
+    ensures at { result.at ≡ at }
+    ensures end { result.at + result.len ≡ end }
+    ensures time { result.time ≡ time }
+{
+    Frame {
+        at,
+        len: (end - at) as u32,
+        time,
+    }
+}

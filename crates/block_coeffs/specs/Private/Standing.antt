@@ -1,0 +1,28 @@
+-- What is found at the front of a window, where a coefficient or the end of block must stand (ISO/IEC 13818-2, 6.2.6).
+use Rattle.std.specs.Prelude.{◌≤◌, ◌+◌, ◌<◌, ℕ, List, [], drop}
+use Rattle.prefix_codes.specs.declared.table_name.TableName.{TableName}
+use Rattle.syntax_types.specs.declared.block.TheConstants.{BLOCK_PLACES}
+use Rattle.syntax_types.specs.declared.block.RunLevel.{RunLevel}
+use Rattle.picture_grammar.specs.Refusal.Refusal.{NoCode}
+use Rattle.picture_grammar.specs.Grammar.{Grammar, ◌>>=◌, Next}
+use Rattle.picture_grammar.specs.Grammar.Next.{more, last}
+use Rattle.picture_grammar.specs.Element.{element}
+use Rattle.picture_grammar.specs.Block.{CoefficientCode, after_code}
+use Rattle.grammar_reading.specs.declared.window.Window.{Window}
+use Rattle.grammar_reading.specs.Window.{seen, ShowsFront}
+use Rattle.block_coeffs.specs.declared.standing.Standing.{Standing}
+use Rattle.block_coeffs.specs.declared.standing.Standing.TheVariants.{EndOfBlock, Pair, Refused}
+use Rattle.block_coeffs.specs.Private.Why.{rules_at, refusal_of}
+
+-- a coefficient or the end of block at a place, by a table
+abbrev pub coefficient_at : TableName → ℕ → Grammar (Next RunLevel (Unit {0}))
+coefficient_at table place = element (CoefficientCode table) NoCode (rules_at place) >>= after_code
+
+-- what is found there stands there, and a refusal is that of all bits that the window shows
+abbrev pub IsFound : TableName → ℕ → Window → Standing → Type 0
+IsFound table place window (EndOfBlock len) =
+    (len ≤ window.known) × (coefficient_at table place).Spells (last tt) (seen window len) []
+IsFound table place window (Pair run level len) =
+    (len ≤ window.known) × (place + run < BLOCK_PLACES) × (coefficient_at table place).Spells (more (record { run = run; level = level })) (seen window len) []
+IsFound table place window (Refused why behind) =
+    (behind ≤ window.known) × ((bits : List ℕ) → ShowsFront window bits → (coefficient_at table place).Refuses bits (refusal_of why) (drop behind bits))

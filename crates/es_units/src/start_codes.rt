@@ -1,0 +1,75 @@
+ghost use Rattle.std.specs.Prelude.{◌≡◌, ℕ, true, false, ◌+◌, ◌<◌, ◌≤◌, length, Some, None, IfSome, MatchOption};
+ghost use Rattle.es_units.specs.StartCodes.{is_start_code_at, start_code_at, is_slice, is_sequence_header, is_unit_start};
+
+/// Bytes of a start code: its prefix 00 00 01 and its value (13818-2, 6.2.1).
+const START_CODE_BYTES: usize = 4;
+
+/// The value of a sequence header's start code (13818-2, Table 6-1).
+const SEQUENCE_HEADER: u8 = 0xB3;
+
+/// The value of a GOP header's start code.
+const GOP_HEADER: u8 = 0xB8;
+
+/// The value of a picture header's start code.
+const PICTURE_HEADER: u8 = 0x00;
+
+/// The least value of a slice's start code.
+const FIRST_SLICE: u8 = 0x01;
+
+/// The greatest value of a slice's start code.
+const LAST_SLICE: u8 = 0xAF;
+
+/// A start code: where it begins, and its value.
+#[derive(Clone, Copy)]
+pub struct StartCode {
+    pub at: usize,
+    pub value: u8,
+}
+
+impl StartCode {
+    /// True for the start code of a slice.
+    pub fn is_slice(self) -> bool
+        ensures { result ≡ is_slice self.value }
+    {
+        FIRST_SLICE <= self.value && self.value <= LAST_SLICE
+    }
+
+    /// True for the start code of a sequence header.
+    pub fn is_sequence_header(self) -> bool
+        ensures { result ≡ is_sequence_header self.value }
+    {
+        self.value == SEQUENCE_HEADER
+    }
+
+    /// True for the start codes with which a unit may begin.
+    pub fn is_unit_start(self) -> bool
+        ensures { result ≡ is_unit_start self.value }
+    {
+        self.value == SEQUENCE_HEADER || self.value == GOP_HEADER || self.value == PICTURE_HEADER
+    }
+}
+
+/// The first start code at a place or behind it.
+pub fn next_start_code(es: &[u8], from: usize) -> Option<StartCode>
+    requires { from ≤ length es.now }
+    ensures found { IfSome result (λ code. (from ≤ code.at) × (code.at + 3 < length es.now) × (start_code_at es.now code.at ≡ Some code.value)) }
+    ensures first { MatchOption result ((at : ℕ) → from ≤ at → is_start_code_at es.now at ≡ false) (λ code. (at : ℕ) → from ≤ at → at < code.at → is_start_code_at es.now at ≡ false) }
+{
+    let mut at = from;
+    while es.len() - at >= START_CODE_BYTES {
+        let third = es[at + 2];
+        if third > 1 {
+            at += 3;
+        } else if third == 0 {
+            at += 1;
+        } else if es[at] == 0 && es[at + 1] == 0 {
+            return Some(StartCode {
+                at,
+                value: es[at + 3],
+            });
+        } else {
+            at += 3;
+        }
+    }
+    None
+}

@@ -1,0 +1,10 @@
+pub mod Examples
+pub mod FieldLaws
+pub mod Firsts
+pub mod Floats
+pub mod NameLaws
+pub mod Numbers
+pub mod OneAnswer
+pub mod ProgramLaws
+pub mod ReportExamples
+pub mod Stated

@@ -1,0 +1,205 @@
+-- A head is read the same before another first slice.
+use Rattle.std.proofs.Common.{◌≡◌, ◌==◌, ◌||◌, ◌%◌, ℕ, zero, suc, not, nat_eq, List, [], ◌∷◌, ◌++◌, length, Option, Some, None, Bool, true, false, refl, sym, ap, subst, ◌∙◌, inl, inr, arith, append_assoc}
+use Rattle.std.proofs.lemmas.Bool.{cases_Bool, eqb-true, both_ways}
+use Rattle.syntax_types.specs.declared.block.TheConstants.{BLOCK_PLACES}
+use Rattle.syntax_types.specs.declared.picture.PicCoding.{PicCoding}
+use Rattle.syntax_types.specs.declared.picture.SeqState.{SeqState}
+use Rattle.picture_grammar.specs.declared.start_codes.TheConstants.{PICTURE, USER_DATA, SEQUENCE_HEADER, EXTENSION, GROUP}
+use Rattle.picture_grammar.specs.Refusal.Refusal.{BadHeader}
+use Rattle.picture_grammar.specs.Grammar.{Grammar, done, ◌>>=◌, ◌>>◌, optional, when, repeated, many}
+use Rattle.picture_grammar.specs.Element.{Rule, uimsbf, one_flag, rule}
+use Rattle.picture_grammar.specs.Exact.{IsLocal}
+use Rattle.picture_grammar.specs.StartCode.{start_code, StartCodeComes, is_slice}
+use Rattle.picture_grammar.specs.Slice.{extra_information}
+use Rattle.picture_grammar.specs.Headers.{Loaded, is_not_zero, matrix_if_loaded, sequence_header, sequence_extension, group_header, old_f_code, picture_header, picture_coding_extension, quant_matrix_extension}
+use Rattle.picture_grammar.specs.Head.{unread, extension, extension_or_user_data, user_data_only, sequence_headers, sequence_part, group_part, picture_part, head}
+use Rattle.picture_grammar.proofs.LocalLaws.{local-done, local-element, local-bind, local-optional, local-many}
+use Rattle.picture_laws.proofs.StartCodes.{code-taken, code-made}
+use Rattle.picture_laws.proofs.Tails.{AreAlike, IsTail, IsNewTail, alike-behind}
+use Rattle.picture_laws.proofs.Steady.{IsSteady, steady-local, steady-done, steady-bind, steady-then, steady-optional, steady-when, steady-many, steady-zero_bits, steady-start_code, steady-comes, steady-unread}
+
+-- ---- headers don't look ahead
+
+local-then : {A B : Type 0} (first : Grammar A) (next : Grammar B) → IsLocal first → IsLocal next → IsLocal (first >> next)
+local-then first next local then = local-bind first (λ _. next) local (λ _. then)
+
+local-when : {A : Type 0} (test : Bool) (grammar : Grammar A) (absent : A) → IsLocal grammar → IsLocal (when test grammar absent)
+local-when true grammar absent local = local
+local-when false grammar absent local = local-done absent
+
+local-repeated : {A : Type 0} (n : ℕ) (grammar : Grammar A) → IsLocal grammar → IsLocal (repeated n grammar)
+local-repeated zero grammar local = local-done []
+local-repeated (suc n) grammar local = local-bind grammar (λ value. repeated n grammar >>= λ values. done (value ∷ values)) local (λ value. local-bind (repeated n grammar) (λ values. done (value ∷ values)) (local-repeated n grammar local) (λ values. local-done (value ∷ values)))
+
+local-uimsbf : (n : ℕ) (rules : List (Rule ℕ)) → IsLocal (uimsbf n rules)
+local-uimsbf n rules = local-element _ _ rules
+
+local-matrix : IsLocal matrix_if_loaded
+local-matrix =
+    let weight = uimsbf 8 (rule BadHeader is_not_zero ∷ []) in
+    local-bind one_flag (λ load. optional load (repeated BLOCK_PLACES weight)) (local-element _ _ _)
+    (λ load. local-optional load (repeated BLOCK_PLACES weight) (local-repeated BLOCK_PLACES weight (local-uimsbf 8 _)))
+
+local-sequence_header : (before : Option SeqState) → IsLocal (sequence_header before)
+local-sequence_header before =
+    local-bind _ _ (local-element _ _ _)
+    (λ width. local-bind _ _ (local-element _ _ _)
+    (λ height. local-then _ _ (local-element _ _ _)
+    (local-bind _ _ (local-element _ _ _)
+    (λ rate_code. local-then _ _ (local-element _ _ _)
+    (local-then _ _ (local-element _ _ _)
+    (local-bind _ _ (local-element _ _ _)
+    (λ vbv. local-then _ _ (local-element _ _ _)
+    (local-bind _ _ local-matrix
+    (λ intra. local-bind _ _ local-matrix
+    (λ non_intra. local-done _))))))))))
+
+local-sequence_extension : (before : Option SeqState) → IsLocal (sequence_extension before)
+local-sequence_extension before =
+    local-then _ _ (local-element _ _ _)
+    (local-bind _ _ (local-element _ _ _)
+    (λ progressive. local-then _ _ (local-element _ _ _)
+    (local-then _ _ (local-element _ _ _)
+    (local-then _ _ (local-element _ _ _)
+    (local-then _ _ (local-element _ _ _)
+    (local-then _ _ (local-element _ _ _)
+    (local-then _ _ (local-element _ _ _)
+    (local-then _ _ (local-element _ _ _)
+    (local-then _ _ (local-element _ _ _)
+    (local-then _ _ (local-element _ _ _) (local-done progressive)))))))))))
+
+local-group_header : IsLocal group_header
+local-group_header = local-then _ _ (local-element _ _ _) (local-then _ _ (local-element _ _ _) (local-element _ _ _))
+
+local-old_f_code : IsLocal old_f_code
+local-old_f_code = local-then _ _ (local-element _ _ _) (local-element _ _ _)
+
+local-extra : (before : List ℕ) → IsLocal (extra_information before)
+local-extra before = local-bind _ _ (local-element _ _ _) (λ another. local-bind _ _ (local-optional another _ (local-uimsbf 8 [])) (λ byte. local-done _))
+
+local-picture_header : IsLocal picture_header
+local-picture_header =
+    local-then _ _ (local-element _ _ _)
+    (local-bind _ _ (local-element _ _ _)
+    (λ kind. local-bind _ _ (local-element _ _ _)
+    (λ vbv_delay. local-then _ _ (local-optional _ _ local-old_f_code)
+    (local-then _ _ (local-optional _ _ local-old_f_code)
+    (local-then _ _ (local-many _ local-extra) (local-done _))))))
+
+local-picture_coding_extension : (progressive : Bool) (kind vbv_delay : ℕ) → IsLocal (picture_coding_extension progressive kind vbv_delay)
+local-picture_coding_extension progressive kind vbv_delay =
+    local-bind _ _ (local-element _ _ _)
+    (λ forward_horizontal. local-bind _ _ (local-element _ _ _)
+    (λ forward_vertical. local-bind _ _ (local-element _ _ _)
+    (λ backward_horizontal. local-bind _ _ (local-element _ _ _)
+    (λ backward_vertical. local-bind _ _ (local-element _ _ _)
+    (λ dc_precision. local-bind _ _ (local-element _ _ _)
+    (λ structure. local-bind _ _ (local-element _ _ _)
+    (λ top_field_first. local-bind _ _ (local-element _ _ _)
+    (λ frame_pred_frame_dct. local-bind _ _ (local-element _ _ _)
+    (λ concealment. local-bind _ _ (local-element _ _ _)
+    (λ q_scale_type. local-bind _ _ (local-element _ _ _)
+    (λ intra_vlc_format. local-bind _ _ (local-element _ _ _)
+    (λ alternate_scan. local-bind _ _ (local-element _ _ _)
+    (λ repeat_first_field. local-then _ _ (local-element _ _ _)
+    (local-bind _ _ (local-element _ _ _)
+    (λ progressive_frame. local-bind _ _ (local-element _ _ _)
+    (λ composite. local-then _ _ (local-optional _ _ (local-uimsbf 20 [])) (local-done _)))))))))))))))))
+
+local-quant_matrix_extension : IsLocal quant_matrix_extension
+local-quant_matrix_extension =
+    local-bind _ _ local-matrix
+    (λ intra. local-bind _ _ local-matrix
+    (λ non_intra. local-then _ _ (local-element _ _ _) (local-then _ _ (local-element _ _ _) (local-done _))))
+
+-- ---- start codes that aren't those of slices
+
+no_slice : (code byte : ℕ) → is_slice code ≡ false → (byte == code) ≡ true → is_slice byte ≡ true → ⊥
+no_slice code byte other is slice = both_ways (is_slice code) other (ap is_slice (sym (eqb-true byte code is)) ∙ slice)
+
+no_extension : (byte : ℕ) → (byte == EXTENSION || byte == USER_DATA) ≡ true → is_slice byte ≡ true → ⊥
+no_extension byte is slice = elim (cases_Bool (byte == EXTENSION)) [
+  | inl e ↦ no_slice EXTENSION byte refl e slice
+  | inr n ↦ no_slice USER_DATA byte refl (sym (ap (λ (b : Bool). b || byte == USER_DATA) n) ∙ is) slice
+]
+
+-- ---- heads
+
+steady-extension : (identifiers : ℕ → Bool) → IsSteady (extension identifiers)
+steady-extension identifiers =
+    steady-bind _ _ (steady-local _ (local-element _ _ _))
+    (λ identifier. steady-bind _ _ (steady-when _ _ _ (steady-local _ local-quant_matrix_extension))
+    (λ loaded. steady-then _ _ (steady-optional _ _ (steady-zero_bits _)) (steady-then _ _ (steady-optional _ _ steady-unread) (steady-done loaded))))
+
+steady-extension_or_user_data : (start_codes identifiers : ℕ → Bool) (before : List Loaded) → ((byte : ℕ) → start_codes byte ≡ true → is_slice byte ≡ true → ⊥)
+    → IsSteady (extension_or_user_data start_codes identifiers before)
+steady-extension_or_user_data start_codes identifiers before none =
+    steady-comes BadHeader start_codes _ _ none
+    (λ byte. steady-bind _ _ (steady-when _ _ _ (steady-extension identifiers))
+    (λ loaded. steady-then _ _ (steady-optional _ _ steady-unread) (steady-done _)))
+
+steady-extensions : (identifiers : ℕ → Bool) → IsSteady (many (extension_or_user_data (λ byte. byte == EXTENSION || byte == USER_DATA) identifiers))
+steady-extensions identifiers = steady-many _ (λ before. steady-extension_or_user_data _ identifiers before no_extension)
+
+steady-user_data_only : IsSteady user_data_only
+steady-user_data_only = steady-many _ (λ before. steady-extension_or_user_data _ (λ identifier. false) before (λ byte. no_slice USER_DATA byte refl))
+
+steady-sequence_rest : (before : Option SeqState) → IsSteady (sequence_headers before)
+steady-sequence_rest before =
+    steady-then _ _ (steady-start_code _ _)
+    (steady-bind _ _ (steady-local _ (local-sequence_header before))
+    (λ seq. steady-then _ _ (steady-zero_bits _)
+    (steady-then _ _ (steady-start_code _ _)
+    (steady-then _ _ (steady-local _ (local-element _ _ _))
+    (steady-bind _ _ (steady-local _ (local-sequence_extension before))
+    (λ progressive. steady-then _ _ (steady-zero_bits _)
+    (steady-then _ _ (steady-extensions _) (steady-done _))))))))
+
+steady-sequence_part : (before : Option SeqState) → IsSteady (sequence_part before)
+steady-sequence_part None = steady-sequence_rest None
+steady-sequence_part (Some before) = steady-comes BadHeader (λ byte. byte == SEQUENCE_HEADER) _ before (λ byte. no_slice SEQUENCE_HEADER byte refl)
+    (λ byte. steady-bind _ _ (steady-local _ (local-sequence_header (Some before)))
+    (λ seq. steady-then _ _ (steady-zero_bits _)
+    (steady-then _ _ (steady-start_code _ _)
+    (steady-then _ _ (steady-local _ (local-element _ _ _))
+    (steady-bind _ _ (steady-local _ (local-sequence_extension (Some before)))
+    (λ progressive. steady-then _ _ (steady-zero_bits _)
+    (steady-then _ _ (steady-extensions _) (steady-done _))))))))
+
+steady-group_part : IsSteady group_part
+steady-group_part = steady-comes BadHeader (λ byte. byte == GROUP) _ tt (λ byte. no_slice GROUP byte refl)
+    (λ byte. steady-then _ _ (steady-local _ local-group_header)
+    (steady-then _ _ (steady-zero_bits _)
+    (steady-then _ _ steady-user_data_only (steady-done tt))))
+
+steady-picture_part : (seq : SeqState) → IsSteady (picture_part seq)
+steady-picture_part seq =
+    steady-then _ _ (steady-start_code _ _)
+    (steady-bind _ _ (steady-local _ local-picture_header)
+    (λ header. steady-then _ _ (steady-zero_bits _)
+    (steady-then _ _ (steady-start_code _ _)
+    (steady-then _ _ (steady-local _ (local-element _ _ _))
+    (steady-bind _ _ (steady-local _ (local-picture_coding_extension _ _ _))
+    (λ coding. steady-then _ _ (steady-zero_bits _)
+    (steady-bind _ _ (steady-extensions _)
+    (λ loaded. steady-done _))))))))
+
+-- A head is spelled before each first slice with its zero bytes, and before one with none.
+pub head-moved : (before : Option SeqState) (headers : SeqState × PicCoding) (bits rest : List ℕ) → (head before).Spells headers bits rest
+    → IsTail rest × (front : List ℕ) × (bits ≡ front ++ rest) × ((other : List ℕ) → IsNewTail other → length rest % 8 ≡ length other % 8 → (head before).Spells headers (front ++ other) other)
+unfolding head
+head-moved before headers bits rest (seq, m1, s1, (group, m2, s2, (found, m3, s3, (byte, m4, (kept, after, coming), (e, g))))) =
+    let (n, split, fits, is) = code-taken BadHeader is_slice byte m3 after coming in
+    let same : m3 ≡ rest = kept ∙ g in
+    let tail : IsTail rest = record { zeros = n; byte = byte; rest = after; is_byte = fits; starts = is; split = sym same ∙ split } in
+    let (f, p, q) = (steady-bind (sequence_part before) (λ seq. group_part >> picture_part seq) (steady-sequence_part before) (λ seq. steady-then _ _ steady-group_part (steady-picture_part seq))).moved
+    found bits m3 (seq, m1, s1, (group, m2, s2, s3)) in (
+      tail,
+      f,
+      p ∙ ap (λ (x : List ℕ). f ++ x) same,
+      λ other new whole.
+          let alike : AreAlike m3 other = record { front = []; old = rest; new = other; first = same; second = refl; old_tail = tail; new_tail = new; whole = whole } in
+          let (seq', m1', s1', (group', m2', s2', s3')) = q other alike in
+          let comes = subst (λ (b : List ℕ). (start_code BadHeader is_slice).Spells new.byte b new.rest) (sym new.split) (code-made BadHeader is_slice new.byte 0 new.rest new.is_byte new.starts) in
+          (seq', m1', s1', (group', m2', s2', (found, other, s3', (new.byte, other, (refl, new.rest, comes), (e, refl))))),
+    )

@@ -1,0 +1,2 @@
+pub mod SectionFront
+pub mod Streams

@@ -1,0 +1,33 @@
+ghost use Rattle.std.specs.Prelude.{◌≡◌, ◌⊎◌, map};
+ghost use Rattle.std.specs.String.{string_bytes};
+ghost use Rattle.remux_core.specs.declared.status.Status.{Status as AnyStatus};
+ghost use Rattle.remux_core.specs.Command.{IsCommand};
+ghost use Rattle.remux_core.specs.Outcome.{Outcome};
+ghost use Rattle.remux_core.specs.Outside.{shelf_facts, sink_facts};
+ghost use Rattle.remux_core.specs.Status.{code_of};
+
+use crate::sentence::print_sentence;
+use remux_core::run;
+use shelf_io::{Shelf, Sink};
+
+/// Runs a command over any shelf and sink. The exit status is the code of the status that the run ends with; where that
+/// isn't 0, a sentence on standard error says why, and whether it could be printed changes nothing.
+pub fn exit_status<R: Eprint + AllocGlobal, K: Shelf, O: Sink>(
+    rt: &R,
+    words: &[String],
+    shelf: &mut K,
+    out: &mut O,
+) -> u8
+    ensures code { (status : AnyStatus) × (result ≡ code_of status) × Outcome (map string_bytes words.now)
+        (shelf_facts K.files K.counts K.asked K.since_fault shelf.old)
+        (shelf_facts K.files K.counts K.asked K.since_fault shelf.new)
+        (sink_facts O.written O.faults O.since_fault out.old)
+        (sink_facts O.written O.faults O.since_fault out.new)
+        status }
+    ensures usage { result ≡ 2 → IsCommand (map string_bytes words.now) → ⊥ }
+    ensures no_command { (IsCommand (map string_bytes words.now) → ⊥) → (result ≡ 2) ⊎ ((result ≡ 7) ⊎ (result ≡ 10)) }
+{
+    let status = run(rt.alloc(), words, shelf, out);
+    let _ = print_sentence(rt, words, &status);
+    status.code()
+}

@@ -1,0 +1,17 @@
+/// What `--help` prints.
+pub const HELP: &str = "remux: a statistical remultiplexer for MPEG-2 whose promises are proved
+
+  remux plan TABLE CERT   plans the table of pictures in the file TABLE, writes a certificate of the
+                          plan to CERT, and prints one line of JSON
+  remux --help            prints this text
+  remux --version         prints the version
+
+TABLE and CERT name two different files. The exit status is 0 where the work was done, 2 for other
+words, 3 for a refused table, 5 where the smallest choice can't be scheduled, 6 where a file can't be
+read, 7 where one can't be written, 9 where TABLE is missing, and 10 where memory is wanting. For
+each status but 0 a sentence on standard error says what is wrong. docs/FORMATS.md has the table's
+text, the certificate's bytes and the report's keys.
+";
+
+/// What `--version` prints.
+pub const VERSION: &str = "remux 0.1.0\n";

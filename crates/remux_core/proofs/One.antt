@@ -1,0 +1,158 @@
+-- Words say one command, and a command and files call for one status.
+use Rattle.std.proofs.Common.{◌≡◌, ◌⊎◌, ℕ, List, Option, Some, None, refl, sym, subst}
+use Rattle.std.specs.FinMap.{get}
+use Rattle.shelf_io.specs.Files.{Files}
+use Rattle.version_table.specs.declared.table.Table.{Table}
+use Rattle.version_table.specs.Choice.{IsSmallestChoice}
+use Rattle.version_table.specs.Text.{IsRead, TextReading, Holds, RefusedAt, RefusedFor}
+use Rattle.slot_rule.specs.declared.sent.Miss.{Miss}
+use Rattle.slot_rule.specs.Schedule.{IsScheduled, IsFirstMiss}
+use Rattle.remux_core.specs.declared.status.Status.{Status}
+use Rattle.remux_core.specs.declared.status.Status.TheVariants as statuses
+use Rattle.remux_core.specs.declared.status.JobRefusal.{JobRefusal}
+use Rattle.remux_core.specs.declared.status.JobRefusal.TheVariants.{TableSyntax, TableLimit}
+use Rattle.remux_core.specs.Answer.{CallsFor}
+use Rattle.remux_core.specs.Command.{Command, Plan, IsSaid}
+use Rattle.remux_core.specs.Outcome.{WordsCallFor}
+use Rattle.remux_core.specs.PlanCommand.{HoldsTable, IsRefused, PlanCallsFor}
+use Rattle.remux_core.specs.Status.{IsSameRefusal, IsSameStatus}
+
+-- the laws that each text is read in one way, each table has one smallest choice, and a choice is scheduled or has one first miss
+pub record Laws : Type 0 where
+  pub reading : (text : List ℕ) (a b : TextReading) → IsRead text a → IsRead text b → a ≡ b
+  pub smallest : (table : Table) (a b : List ℕ) → IsSmallestChoice table a → IsSmallestChoice table b → a ≡ b
+  pub scheduled : (table : Table) (choice : List ℕ) (miss : Miss) → IsScheduled table choice → IsFirstMiss table choice miss → ⊥
+  pub miss : (table : Table) (choice : List ℕ) (a b : Miss) → IsFirstMiss table choice a → IsFirstMiss table choice b → a ≡ b
+
+-- words say one command
+pub one_command : (words : List (List ℕ)) (a b : Option Command) → IsSaid words a → IsSaid words b → a ≡ b
+one_command words (Some (Plan table certificate)) (Some (Plan other name)) a b = let x = a.words_are in let y = b.words_are in cc
+one_command words (Some a) None said none = absurd (none (a, said))
+one_command words None (Some b) none said = absurd (none (b, said))
+one_command words None None a b = refl
+
+-- a file holds one table
+one_table : Laws → (files : Files) (name : List ℕ) (s t : Table) → HoldsTable files name s → HoldsTable files name t → s ≡ t
+one_table laws files name s t a b =
+    let x = a.held in
+    let y = b.held in
+    let texts : a.text ≡ b.text = cc in
+    let same : Holds s ≡ Holds t = laws.reading b.text (Holds s) (Holds t) (subst (λ (x : List ℕ). IsRead x (Holds s)) texts a.read) b.read in
+    cc
+
+-- the text of a table isn't refused
+no_refusal : Laws → (text : List ℕ) (table : Table) (refusal : JobRefusal) → IsRead text (Holds table) → IsRefused text refusal → ⊥
+no_refusal laws text table (TableSyntax n) read refused =
+    let same : Holds table ≡ RefusedAt n = laws.reading text (Holds table) (RefusedAt n) read refused in
+    cc
+no_refusal laws text table (TableLimit name) read refused =
+    let same : Holds table ≡ RefusedFor refused.0 = laws.reading text (Holds table) (RefusedFor refused.0) read refused.1 in
+    cc
+
+-- a file that holds a table isn't refused
+table_or_refusal : Laws → (files : Files) (name : List ℕ) (table : Table) (refusal : JobRefusal) → HoldsTable files name table
+    → (text : List ℕ) × (get files name ≡ Some text) × IsRefused text refusal → ⊥
+table_or_refusal laws files name table refusal holds (text, held, refused) =
+    let there = holds.held in
+    let texts : holds.text ≡ text = cc in
+    no_refusal laws text table refusal (subst (λ (x : List ℕ). IsRead x (Holds table)) texts holds.read) refused
+
+-- a text has one refusal
+one_refusal : Laws → (text : List ℕ) (a b : JobRefusal) → IsRefused text a → IsRefused text b → IsSameRefusal a b
+one_refusal laws text (TableSyntax n) (TableSyntax m) a b =
+    let same : RefusedAt n ≡ RefusedAt m = laws.reading text (RefusedAt n) (RefusedAt m) a b in
+    cc
+one_refusal laws text (TableSyntax n) (TableLimit name) a b =
+    let same : RefusedAt n ≡ RefusedFor b.0 = laws.reading text (RefusedAt n) (RefusedFor b.0) a b.1 in
+    cc
+one_refusal laws text (TableLimit name) (TableSyntax m) a b =
+    let same : RefusedFor a.0 ≡ RefusedAt m = laws.reading text (RefusedFor a.0) (RefusedAt m) a.1 b in
+    cc
+one_refusal laws text (TableLimit name) (TableLimit other) a b =
+    let same : RefusedFor a.0 ≡ RefusedFor b.0 = laws.reading text (RefusedFor a.0) (RefusedFor b.0) a.1 b.1 in
+    let x = a.2 in
+    let y = b.2 in
+    cc
+
+-- no smallest choice misses, or one has a first miss
+scheduled_or_missed : Laws → (files : Files) (name : List ℕ) (miss : Miss) → PlanCallsFor name files statuses.Ok → PlanCallsFor name files (statuses.Unschedulable miss) → ⊥
+scheduled_or_missed laws files name miss (table, holds, scheduled) (other, choice, has, small, first) =
+    let tables : other ≡ table = one_table laws files name other table has holds in
+    let least : IsSmallestChoice table choice = subst (λ (t : Table). IsSmallestChoice t choice) tables small in
+    laws.scheduled table choice miss (scheduled choice least) (subst (λ (t : Table). IsFirstMiss t choice miss) tables first)
+
+-- the first miss of the smallest choice is one
+one_miss : Laws → (files : Files) (name : List ℕ) (a b : Miss) → PlanCallsFor name files (statuses.Unschedulable a) → PlanCallsFor name files (statuses.Unschedulable b) → a ≡ b
+one_miss laws files name a b (table, choice, holds, small, first) (other, least, has, smallest, missed) =
+    let tables : other ≡ table = one_table laws files name other table has holds in
+    let moved : IsSmallestChoice table least = subst (λ (t : Table). IsSmallestChoice t least) tables smallest in
+    let choices : least ≡ choice = laws.smallest table least choice moved small in
+    let here : IsFirstMiss table least b = subst (λ (t : Table). IsFirstMiss t least b) tables missed in
+    laws.miss table choice a b first (subst (λ (c : List ℕ). IsFirstMiss table c b) choices here)
+
+-- what TABLE holds calls for one status
+plan_calls_for_one : Laws → (files : Files) (name : List ℕ) (s t : Status) → PlanCallsFor name files s → PlanCallsFor name files t → IsSameStatus s t
+plan_calls_for_one laws files name statuses.Ok statuses.Ok a b = refl
+plan_calls_for_one laws files name statuses.Ok (statuses.JobRefused refusal) a b = absurd (table_or_refusal laws files name a.0 refusal a.1 b)
+plan_calls_for_one laws files name statuses.Ok (statuses.Unschedulable miss) a b = absurd (scheduled_or_missed laws files name miss a b)
+plan_calls_for_one laws files name statuses.Ok statuses.Missing a b = let x = a.1.held in cc
+plan_calls_for_one laws files name (statuses.JobRefused refusal) statuses.Ok a b = absurd (table_or_refusal laws files name b.0 refusal b.1 a)
+plan_calls_for_one laws files name (statuses.JobRefused refusal) (statuses.JobRefused other) (text, held, refused) (same, holds, is) =
+    let texts : same ≡ text = cc in
+    one_refusal laws text refusal other refused (subst (λ (x : List ℕ). IsRefused x other) texts is)
+plan_calls_for_one laws files name (statuses.JobRefused refusal) (statuses.Unschedulable miss) a b = absurd (table_or_refusal laws files name b.0 refusal b.2 a)
+plan_calls_for_one laws files name (statuses.JobRefused refusal) statuses.Missing a b = let x = a.1 in cc
+plan_calls_for_one laws files name (statuses.Unschedulable miss) statuses.Ok a b = absurd (scheduled_or_missed laws files name miss b a)
+plan_calls_for_one laws files name (statuses.Unschedulable miss) (statuses.JobRefused refusal) a b = absurd (table_or_refusal laws files name a.0 refusal a.2 b)
+plan_calls_for_one laws files name (statuses.Unschedulable miss) (statuses.Unschedulable other) a b =
+    let same : miss ≡ other = one_miss laws files name miss other a b in
+    cc
+plan_calls_for_one laws files name (statuses.Unschedulable miss) statuses.Missing a b = let x = a.2.held in cc
+plan_calls_for_one laws files name statuses.Missing statuses.Ok a b = let x = b.1.held in cc
+plan_calls_for_one laws files name statuses.Missing (statuses.JobRefused refusal) a b = let x = b.1 in cc
+plan_calls_for_one laws files name statuses.Missing (statuses.Unschedulable miss) a b = let x = b.2.held in cc
+plan_calls_for_one laws files name statuses.Missing statuses.Missing a b = refl
+plan_calls_for_one laws files name statuses.Usage t a b = absurd a
+plan_calls_for_one laws files name statuses.ReadFault t a b = absurd a
+plan_calls_for_one laws files name statuses.WriteFault t a b = absurd a
+plan_calls_for_one laws files name statuses.OutOfMemory t a b = absurd a
+plan_calls_for_one laws files name s statuses.Usage a b = absurd b
+plan_calls_for_one laws files name s statuses.ReadFault a b = absurd b
+plan_calls_for_one laws files name s statuses.WriteFault a b = absurd b
+plan_calls_for_one laws files name s statuses.OutOfMemory a b = absurd b
+
+-- words of no command call for Usage alone
+pub none_calls_for_one : (files : Files) (s : Status) → CallsFor None files s → statuses.Usage ≡ s
+none_calls_for_one files statuses.Usage a = refl
+none_calls_for_one files statuses.Ok a = absurd a
+none_calls_for_one files (statuses.JobRefused refusal) a = absurd a
+none_calls_for_one files (statuses.Unschedulable miss) a = absurd a
+none_calls_for_one files statuses.ReadFault a = absurd a
+none_calls_for_one files statuses.WriteFault a = absurd a
+none_calls_for_one files statuses.Missing a = absurd a
+none_calls_for_one files statuses.OutOfMemory a = absurd a
+
+-- a command and files call for one status
+pub calls_for_one : Laws → (command : Option Command) (files : Files) (s t : Status) → CallsFor command files s → CallsFor command files t → IsSameStatus s t
+calls_for_one laws (Some (Plan table certificate)) files s t a b = plan_calls_for_one laws files table s t a b
+calls_for_one laws None files s t a b =
+    let first : statuses.Usage ≡ s = none_calls_for_one files s a in
+    let second : statuses.Usage ≡ t = none_calls_for_one files t b in
+    subst (λ (x : Status). IsSameStatus x t) first (subst (λ (x : Status). IsSameStatus statuses.Usage x) second refl)
+
+-- words and files call for one status
+pub words_call_for_one : Laws → (words : List (List ℕ)) (files : Files) (s t : Status) → WordsCallFor words files s → WordsCallFor words files t → IsSameStatus s t
+words_call_for_one laws words files s t a b =
+    let same : b.command ≡ a.command = one_command words b.command a.command b.said a.said in
+    calls_for_one laws a.command files s t a.called (subst (λ (c : Option Command). CallsFor c files t) same b.called)
+
+-- a status that is the same as Ok is Ok
+pub is_ok : (s : Status) → IsSameStatus s statuses.Ok → s ≡ statuses.Ok
+is_ok statuses.Ok same = same
+is_ok statuses.Usage same = same
+is_ok (statuses.JobRefused refusal) same = same
+is_ok (statuses.Unschedulable miss) same = same
+is_ok statuses.ReadFault same = same
+is_ok statuses.WriteFault same = same
+is_ok statuses.Missing same = same
+is_ok statuses.OutOfMemory same = same

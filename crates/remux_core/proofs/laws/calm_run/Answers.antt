@@ -1,0 +1,21 @@
+use Rattle.std.proofs.Common.{◌≡◌, ◌⊎◌, List, ℕ, ◌<◌, Some, refl, inl, inr, lit<, arith}
+use Rattle.shelf_io.specs.Counts.{Rose}
+use Rattle.remux_core.specs.declared.status.Status.TheVariants.{Ok}
+use Rattle.remux_core.specs.Command.{Plan}
+use Rattle.remux_core.proofs.One.{is_ok}
+use Rattle.remux_core.proofs.laws.calm_run.Goals as goal
+
+-- a count that is always 0 doesn't rise
+never : Rose 0 0 → ⊥
+never rose = let above : 0 < 0 = rose (lit< tt) in absurd (omega arith)
+
+pub returns-clause-called_for : goal.returns-clause-called_for
+returns-clause-called_for c = λ status calls.
+    c.run.ensures.called_for c.args.shelf.now.files status refl calls (record { faults = never; write_faults = never; out_faults = never })
+
+pub returns-clause-plans : goal.returns-clause-plans
+returns-clause-plans c = λ name certificate table command holds scheduled.
+    elim (returns-clause-called_for c Ok (record { command = Some (Plan name certificate); said = command; called = (table, holds, scheduled) })) [
+      | inl same ↦ inl (is_ok c.run.result same)
+      | inr wanted ↦ inr wanted
+    ]

@@ -1,0 +1,38 @@
+use Rattle.std.proofs.Common.{◌≡◌, List, ℕ, Option, Some, None, refl, map, subst}
+use Rattle.std.specs.String.{string_bytes}
+use Rattle.remux_core.specs.declared.status.Status.TheVariants.{Usage}
+use Rattle.remux_core.specs.Answer.{Decides, AnswerHasCause}
+use Rattle.remux_core.specs.Outside.{OnFiles, shelf_facts}
+use Rattle.remux_core.specs.Private.Parsed.{plan_of}
+use Rattle.remux_core.specs.Report.{usage_report}
+use Rattle.remux_core.proofs.Counted.{counts_same, asks_same, asks_table}
+use Rattle.remux_core.proofs.Ending.{ends_so}
+use Rattle.remux_core.proofs.Told.{on_same}
+use Rattle.remux_core.proofs.top_call.perform.Goals as goal
+
+pub returns-in-None : goal.returns-in-None
+returns-in-None g c =
+    let old = g.K.Shelf.files c.args.shelf.now in
+    let shelf = shelf_facts g.K.Shelf.files g.K.Shelf.counts g.K.Shelf.asked g.K.Shelf.since_fault c.args.shelf.now in
+    record {
+      command = None;
+      said = c.in-None.ensures;
+      decided = on_same old old _ refl (λ held told.
+          ends_so (λ answer. Decides None held answer held) c.end_with.result Usage c.usage_report.result usage_report c.end_with.ensures c.usage_report.ensures (tt, refl) refl);
+      cause = ends_so (AnswerHasCause None shelf shelf) c.end_with.result Usage c.usage_report.result usage_report c.end_with.ensures c.usage_report.ensures refl tt;
+      counts = counts_same (g.K.Shelf.counts c.args.shelf.now);
+      asks = asks_same None (g.K.Shelf.asked c.args.shelf.now);
+    }
+
+pub returns-in-Some : goal.returns-in-Some
+returns-in-Some g c =
+    let files = c.in-Some.files in
+    let asked = g.K.Shelf.asked in
+    record {
+      command = plan_of files;
+      said = c.in-Some.ensures;
+      decided = c.plan_file.ensures.decided;
+      cause = c.plan_file.ensures.cause;
+      counts = c.plan_file.ensures.counts;
+      asks = asks_table files.table.now files.certificate.now (asked c.args.shelf.now) (asked c.plan_file.new.shelf) c.plan_file.ensures.asked;
+    }

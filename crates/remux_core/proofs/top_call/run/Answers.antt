@@ -1,0 +1,59 @@
+use Rattle.std.proofs.Common.{◌≡◌, ◌∙◌, List, ℕ, Option, Some, None, map, take, refl, sym, ap, subst, inl, inr, arith, Err}
+use Rattle.std.specs.String.{string_bytes}
+use Rattle.shelf_io.specs.Sink.{with_bytes, AddsPrefix}
+use Rattle.remux_core.specs.declared.status.Status.TheVariants.{WriteFault, OutOfMemory}
+use Rattle.remux_core.specs.Outside.{shelf_facts, sink_facts}
+use Rattle.remux_core.specs.Private.Ended.{answer_of}
+use Rattle.remux_core.proofs.Answered.{as_called, outcome_of}
+use Rattle.remux_core.proofs.One.{Laws}
+use Rattle.remux_core.proofs.top_call.run.Goals as goal
+
+pub returns-in_default-clause-outcome : goal.returns-in_default-clause-outcome
+returns-in_default-clause-outcome g c =
+    let shelf = shelf_facts g.K.Shelf.files g.K.Shelf.counts g.K.Shelf.asked g.K.Shelf.since_fault in
+    let sink = sink_facts g.O.Sink.written g.O.Sink.faults g.O.Sink.since_fault c.args.out.now in
+    outcome_of (map string_bytes c.args.words.now) (shelf c.args.shelf.now) (shelf c.perform.new.shelf) sink sink None OutOfMemory
+    c.in_default.ensures (refl, refl) (omega arith)
+
+pub returns-in-Ok-clause-outcome : goal.returns-in-Ok-clause-outcome
+returns-in-Ok-clause-outcome g c =
+    let ended = c.in-Some.ended in
+    let shelf = shelf_facts g.K.Shelf.files g.K.Shelf.counts g.K.Shelf.asked g.K.Shelf.since_fault in
+    let sink = sink_facts g.O.Sink.written g.O.Sink.faults g.O.Sink.since_fault in
+    outcome_of (map string_bytes c.args.words.now) (shelf c.args.shelf.now) (shelf c.perform.new.shelf) (sink c.args.out.now) (sink c.put_all.new.sink)
+    (answer_of (Some ended)) ended.status c.in-Some.ensures
+    (inl (record { same_status = refl; whole_line = c.in-Ok.ensures.ok ∙ ap (with_bytes (g.O.Sink.written c.args.out.now)) c.as_bytes.ensures.value }))
+    c.in-Ok.ensures.causes.faults_grow
+
+pub returns-in-Err-Failed-clause-outcome : goal.returns-in-Err-Failed-clause-outcome
+returns-in-Err-Failed-clause-outcome g c =
+    let ended = c.in-Some.ended in
+    let shelf = shelf_facts g.K.Shelf.files g.K.Shelf.counts g.K.Shelf.asked g.K.Shelf.since_fault in
+    let sink = sink_facts g.O.Sink.written g.O.Sink.faults g.O.Sink.since_fault in
+    outcome_of (map string_bytes c.args.words.now) (shelf c.args.shelf.now) (shelf c.perform.new.shelf) (sink c.args.out.now) (sink c.put_all.new.sink)
+    (answer_of (Some ended)) WriteFault c.in-Some.ensures
+    (inr (
+      c.in-Err-Failed.ensures.causes.failed_rose (ap Err c.in-Err-Failed.field-0-is),
+      c.in-Err-Failed.ensures.fault_last,
+      subst (λ (piece : List ℕ). AddsPrefix (g.O.Sink.written c.args.out.now) (g.O.Sink.written c.put_all.new.sink) piece) c.as_bytes.ensures.value c.in-Err-Failed.ensures.err,
+    ))
+    c.in-Err-Failed.ensures.causes.faults_grow
+
+pub returns-in-Err-OutOfMemory-clause-outcome : goal.returns-in-Err-OutOfMemory-clause-outcome
+returns-in-Err-OutOfMemory-clause-outcome g c =
+    let ended = c.in-Some.ended in
+    let shelf = shelf_facts g.K.Shelf.files g.K.Shelf.counts g.K.Shelf.asked g.K.Shelf.since_fault in
+    let sink = sink_facts g.O.Sink.written g.O.Sink.faults g.O.Sink.since_fault in
+    outcome_of (map string_bytes c.args.words.now) (shelf c.args.shelf.now) (shelf c.perform.new.shelf) (sink c.args.out.now) (sink c.put_all.new.sink)
+    (answer_of (Some ended)) OutOfMemory c.in-Some.ensures
+    (inr (subst (λ (piece : List ℕ). AddsPrefix (g.O.Sink.written c.args.out.now) (g.O.Sink.written c.put_all.new.sink) piece) c.as_bytes.ensures.value c.in-Err-OutOfMemory.ensures.err))
+    c.in-Err-OutOfMemory.ensures.causes.faults_grow
+
+pub returns-in-Ok-clause-called_for : goal.returns-in-Ok-clause-called_for
+returns-in-Ok-clause-called_for g c = λ files status told calls none.
+    let ended = c.in-Some.ended in
+    let shelf = shelf_facts g.K.Shelf.files g.K.Shelf.counts g.K.Shelf.asked g.K.Shelf.since_fault in
+    let sink = sink_facts g.O.Sink.written g.O.Sink.faults g.O.Sink.since_fault in
+    let laws : Laws = record { reading = c.one_reading.ensures; smallest = c.smallest_choice_is_one.ensures; scheduled = c.no_miss_where_scheduled.ensures; miss = c.first_miss_is_one.ensures } in
+    as_called laws (map string_bytes c.args.words.now) files (shelf c.args.shelf.now) (shelf c.perform.new.shelf) (sink c.args.out.now) (sink c.put_all.new.sink)
+    ended.status status (returns-in-Ok-clause-outcome g c) told calls none

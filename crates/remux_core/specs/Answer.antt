@@ -1,0 +1,78 @@
+-- What a command answers: by words and files, and by what failed outside.
+use Rattle.std.specs.Prelude.{◌≡◌, ℕ, List, Option, Some, None}
+use Rattle.shelf_io.specs.Counts.{Rose}
+use Rattle.shelf_io.specs.Files.{Files, Lacks}
+use Rattle.remux_core.specs.declared.status.Status.{Status}
+use Rattle.remux_core.specs.declared.status.Status.TheVariants.{Ok, Usage, JobRefused, Unschedulable, ReadFault, WriteFault, Missing, OutOfMemory}
+use Rattle.remux_core.specs.Command.{Command, Plan, IsSaid, Reads, Writes}
+use Rattle.remux_core.specs.Outside.{ShelfFacts}
+use Rattle.remux_core.specs.PlanCommand.{PlanCallsFor, PlanDone, PlanLeaves}
+use Rattle.remux_core.specs.Report.{usage_line, refusal_line, miss_line, read_line, write_line, missing_line}
+
+-- a status, and the line that reports it
+pub record Answer : Type 0 where
+  pub status : Status
+  pub line : List ℕ
+
+-- a command and the files call for this status, whatever the outside does. Words of no command call for Usage.
+abbrev pub CallsFor : Option Command → Files → Status → Type 0
+CallsFor (Some (Plan table certificate)) files status = PlanCallsFor table files status
+CallsFor None files Usage = Unit {0}
+CallsFor None files status = ⊥
+
+-- the work of a command was done, with this line and these files after it
+abbrev pub IsDone : Option Command → Files → (line : List ℕ) → (after : Files) → Type 0
+IsDone (Some (Plan table certificate)) files line after = PlanDone table certificate files line after
+IsDone None files line after = ⊥
+
+-- the files that a command leaves where it is broken off
+abbrev pub Leaves : Option Command → Files → (after : Files) → Type 0
+Leaves (Some (Plan table certificate)) files after = PlanLeaves table certificate files after
+Leaves None files after = after ≡ files
+
+-- What a command with this status and line does to the files. A refusal comes only where it is called for, and leaves them.
+abbrev pub EndsWith : Option Command → Files → Status → (line : List ℕ) → (after : Files) → Type 0
+EndsWith command files Ok line after = IsDone command files line after
+EndsWith command files ReadFault line after = after ≡ files
+EndsWith command files WriteFault line after = Leaves command files after
+EndsWith command files OutOfMemory line after = ⊥
+EndsWith command files status line after = CallsFor command files status × (after ≡ files)
+
+-- what a command does to the files by its answer, or, where memory is wanted before there is one, without
+abbrev pub Decides : Option Command → Files → Option Answer → (after : Files) → Type 0
+Decides command files (Some answer) after = EndsWith command files answer.status answer.line after
+Decides command files None after = Leaves command files after
+
+-- a call of the shelf failed at a file of this kind, none followed it, its cause stands, and the line names the file
+pub record FailsAt (IsAsked : List ℕ → Type 0) (Rises : Type 0) (line_of : List ℕ → List ℕ) (line : List ℕ) (new : ShelfFacts) : Type 0 where
+  pub name : List ℕ
+  pub asked : IsAsked name
+  pub rises : Rises
+  pub last : new.since_fault ≡ 0
+  pub names : line ≡ line_of name
+
+-- a command reads this file
+abbrev pub IsRead : Option Command → (name : List ℕ) → Type 0
+IsRead command name = (limit : ℕ) × Reads command name limit
+
+-- Why a command ends with this status and line, whether the shelf tells its files or not. A fault of the outside comes only
+-- where a count of its own rose; a name is missing only where told files lack it.
+abbrev pub HasCause : Option Command → (old new : ShelfFacts) → Status → (line : List ℕ) → Type 0
+HasCause None old new Usage line = line ≡ usage_line
+HasCause None old new status line = ⊥
+HasCause (Some command) old new Ok line = Unit {0}
+HasCause (Some command) old new Usage line = ⊥
+HasCause (Some command) old new (JobRefused refusal) line = line ≡ refusal_line refusal
+HasCause (Some command) old new (Unschedulable miss) line = line ≡ miss_line miss
+HasCause (Some command) old new ReadFault line =
+    FailsAt (IsRead (Some command)) (Rose old.counts.faults new.counts.faults) read_line line new
+HasCause (Some command) old new WriteFault line =
+    FailsAt (Writes (Some command)) (Rose old.counts.write_faults new.counts.write_faults) write_line line new
+HasCause (Some command) old new Missing line =
+    FailsAt (λ name. IsRead (Some command) name × Lacks old.files name) (Rose old.counts.absences new.counts.absences) missing_line line new
+HasCause (Some command) old new OutOfMemory line = ⊥
+
+-- an answer has its cause; to end without one for want of memory needs none
+abbrev pub AnswerHasCause : Option Command → (old new : ShelfFacts) → Option Answer → Type 0
+AnswerHasCause command old new (Some answer) = HasCause command old new answer.status answer.line
+AnswerHasCause command old new None = Unit {0}

@@ -1,0 +1,56 @@
+-- What `plan TABLE CERT` does.
+use Rattle.std.specs.Prelude.{◌≡◌, ℕ, ◌≤◌, ◌⊎◌, List, length, take, Some, None}
+use Rattle.std.specs.FinMap.{get, insert}
+use Rattle.shelf_io.specs.Files.{Files}
+use Rattle.version_table.specs.declared.table.Table.{Table}
+use Rattle.version_table.specs.declared.fault.Limit.{Limit}
+use Rattle.version_table.specs.Choice.{IsSmallestChoice}
+use Rattle.version_table.specs.Limits.{limit_name}
+use Rattle.version_table.specs.Text.{IsRead, Holds, RefusedAt, RefusedFor}
+use Rattle.slot_rule.specs.Schedule.{IsScheduled, IsFirstMiss}
+use Rattle.remux_core.specs.declared.status.Status.{Status}
+use Rattle.remux_core.specs.declared.status.Status.TheVariants.{Ok, Usage, JobRefused, Unschedulable, ReadFault, WriteFault, Missing, OutOfMemory}
+use Rattle.remux_core.specs.declared.status.JobRefusal.{JobRefusal}
+use Rattle.remux_core.specs.declared.status.JobRefusal.TheVariants.{TableSyntax, TableLimit}
+use Rattle.remux_core.specs.Certificate.{Certificate, certificate_bytes}
+use Rattle.remux_core.specs.Plan.{IsPlan}
+use Rattle.remux_core.specs.Report.{plan_line}
+
+-- a file holds the text of this table
+pub record HoldsTable (files : Files) (name : List ℕ) (table : Table) : Type 0 where
+  pub text : List ℕ
+  pub held : get files name ≡ Some text
+  pub read : IsRead text (Holds table)
+
+-- this is a plan of the table that a file holds
+pub record HasPlan (files : Files) (name : List ℕ) (plan : Certificate) : Type 0 where
+  pub table : Table
+  pub holds : HoldsTable files name table
+  pub is_plan : IsPlan table plan
+
+-- a text is refused so
+abbrev pub IsRefused : List ℕ → JobRefusal → Type 0
+IsRefused text (TableSyntax n) = IsRead text (RefusedAt n)
+IsRefused text (TableLimit name) = (limit : Limit) × IsRead text (RefusedFor limit) × (name.bytes ≡ limit_name limit)
+
+-- what TABLE holds calls for this status
+abbrev pub PlanCallsFor : (table : List ℕ) → Files → Status → Type 0
+PlanCallsFor name files Ok =
+    (table : Table) × HoldsTable files name table × ((choice : List ℕ) → IsSmallestChoice table choice → IsScheduled table choice)
+PlanCallsFor name files (JobRefused refusal) = (text : List ℕ) × (get files name ≡ Some text) × IsRefused text refusal
+PlanCallsFor name files (Unschedulable miss) =
+    (table : Table) × (choice : List ℕ) × HoldsTable files name table × IsSmallestChoice table choice × IsFirstMiss table choice miss
+PlanCallsFor name files Missing = get files name ≡ None
+PlanCallsFor name files status = ⊥
+
+-- CERT holds the certificate of a plan of the table in TABLE, whose values the line prints, and every other file stays
+abbrev pub PlanDone : (table certificate : List ℕ) → Files → (line : List ℕ) → (after : Files) → Type 0
+PlanDone table certificate files line after =
+    (plan : Certificate) × HasPlan files table plan × (line ≡ plan_line plan) × (after ≡ insert files certificate (certificate_bytes plan))
+
+-- files are as they were, or CERT holds a front of the certificate of a plan of the table in TABLE, and every other file stays
+abbrev pub PlanLeaves : (table certificate : List ℕ) → Files → (after : Files) → Type 0
+PlanLeaves table certificate files after =
+    (after ≡ files)
+    ⊎ ((plan : Certificate) × HasPlan files table plan × (k : ℕ) × (k ≤ length (certificate_bytes plan))
+    × (after ≡ insert files certificate (take k (certificate_bytes plan))))

@@ -1,0 +1,5 @@
+-- What private functions and types of the crate stand on.
+pub mod Ended
+pub mod Levels
+pub mod Parsed
+pub mod Planned

@@ -1,0 +1,48 @@
+-- How a command ends before its answer is reported.
+use Rattle.std.specs.Prelude.{◌≡◌, ℕ, ◌+◌, List, Option, Some, None, take}
+use Rattle.std.specs.FinMap.{get}
+use Rattle.std.specs.String.{string_bytes}
+use Rattle.shelf_io.specs.Files.{Files}
+use Rattle.version_table.specs.declared.limits.TheConstants.{TABLE_TEXT_MOST}
+use Rattle.version_table.specs.declared.fault.TableFault.{TableFault}
+use Rattle.version_table.specs.declared.fault.TableFault.TheVariants as faults
+use Rattle.remux_core.specs.declared.ended.Ended.{Ended}
+use Rattle.remux_core.specs.declared.status.Status.TheVariants.{JobRefused}
+use Rattle.remux_core.specs.declared.status.JobRefusal.{JobRefusal}
+use Rattle.remux_core.specs.declared.status.JobRefusal.TheVariants.{TableSyntax, TableLimit}
+use Rattle.remux_core.specs.Answer.{Answer, Decides, AnswerHasCause}
+use Rattle.remux_core.specs.Command.{Command, IsSaid}
+use Rattle.remux_core.specs.Outside.{ShelfFacts, OnFiles}
+use Rattle.remux_core.specs.Promises.{CountsGrow, AsksOnly}
+use Rattle.remux_core.specs.Report.{refusal_line}
+
+-- the answer of a command that ended
+abbrev pub answer_of : Option Ended → Option Answer
+answer_of (Some ended) = Some (record { status = ended.status; line = string_bytes ended.line })
+answer_of None = None
+
+-- the work of a command's words was done, up to the report
+pub record Performs (words : List (List ℕ)) (old new : ShelfFacts) (answer : Option Answer) : Type 0 where
+  pub command : Option Command
+  pub said : IsSaid words command
+  pub decided : OnFiles old.files new.files (λ files after. Decides command files answer after)
+  pub cause : AnswerHasCause command old new answer
+  pub counts : CountsGrow old.counts new.counts
+  pub asks : AsksOnly command old.asked new.asked
+
+-- a file holds a text of which these are the first bytes, up to one past the limit
+pub record HoldsFront (files : Files) (name front : List ℕ) : Type 0 where
+  pub text : List ℕ
+  pub held : get files name ≡ Some text
+  pub front_is : front ≡ take (TABLE_TEXT_MOST + 1) text
+
+-- the refusal of a table fault
+abbrev pub refusal_by : TableFault → Option JobRefusal
+refusal_by (faults.TableSyntax n) = Some (TableSyntax n)
+refusal_by (faults.TableLimit name) = Some (TableLimit name)
+refusal_by faults.OutOfMemory = None
+
+-- a command ends with the status and the line of a refusal
+abbrev pub IsRefusedFor : Option JobRefusal → Ended → Type 0
+IsRefusedFor (Some refusal) ended = (ended.status ≡ JobRefused refusal) × (string_bytes ended.line ≡ refusal_line refusal)
+IsRefusedFor None ended = ⊥

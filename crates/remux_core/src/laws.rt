@@ -1,0 +1,49 @@
+//! Laws of the top call.
+
+ghost use Rattle.std.specs.Prelude.{◌≡◌, ◌⊎◌, List, ℕ, map};
+ghost use Rattle.std.specs.String.{string_bytes};
+ghost use Rattle.shelf_io.specs.Files.{Files};
+ghost use Rattle.version_table.specs.declared.table.Table.{Table};
+ghost use Rattle.version_table.specs.Choice.{IsSmallestChoice};
+ghost use Rattle.slot_rule.specs.Schedule.{IsScheduled};
+ghost use Rattle.remux_core.specs.declared.status.Status.{Status as AnyStatus};
+ghost use Rattle.remux_core.specs.Command.{IsPlanCommand};
+ghost use Rattle.remux_core.specs.Outcome.{WordsCallFor};
+ghost use Rattle.remux_core.specs.PlanCommand.{HoldsTable};
+ghost use Rattle.remux_core.specs.Status.{IsSameStatus};
+
+use crate::status::Status;
+use crate::top_call::run;
+use shelf_io::{CalmShelf, CalmSink};
+use slot_rule::{first_miss_is_one, no_miss_where_scheduled};
+use std::alloc::Global;
+use version_table::{one_reading, smallest_choice_is_one};
+
+/// Words and files call for one status.
+pub fn one_status_is_called_for()
+    ensures { (words : List (List ℕ)) (files : Files) (status other : AnyStatus) → WordsCallFor words files status
+        → WordsCallFor words files other → IsSameStatus status other }
+{
+    one_reading();
+    smallest_choice_is_one();
+    no_miss_where_scheduled();
+    first_miss_is_one();
+}
+
+/// A run over a shelf and a sink that never fail: it ends as its words and files call for, or for want of memory.
+pub fn calm_run(
+    alloc: Global,
+    words: &[String],
+    shelf: &mut CalmShelf,
+    out: &mut CalmSink,
+) -> Status
+    ensures called_for { (status : AnyStatus) → WordsCallFor (map string_bytes words.now) shelf.old.files status
+        → IsSameStatus result status ⊎ (result ≡ Status.OutOfMemory) }
+    // So each table whose smallest choice is scheduled is planned.
+    ensures plans { (name certificate : List ℕ) (table : Table) → IsPlanCommand (map string_bytes words.now) name certificate
+        → HoldsTable shelf.old.files name table
+        → ((choice : List ℕ) → IsSmallestChoice table choice → IsScheduled table choice)
+        → (result ≡ Status.Ok) ⊎ (result ≡ Status.OutOfMemory) }
+{
+    run(alloc, words, shelf, out)
+}

@@ -1,0 +1,152 @@
+//! The command `plan TABLE CERT`: from the file of a table to the certificate of its plan.
+
+ghost use Rattle.std.specs.Prelude.{◌≡◌, ◌+◌, ◌^◌, ◌<◌, length, IfSome};
+ghost use Rattle.shelf_io.specs.Asked.{AsksUpTo, AsksNothing};
+ghost use Rattle.version_table.specs.Table.{IsValidTable};
+ghost use Rattle.remux_core.specs.Answer.{Decides, AnswerHasCause};
+ghost use Rattle.remux_core.specs.Outside.{OnFiles, shelf_facts};
+ghost use Rattle.remux_core.specs.PlanCommand.{HoldsTable, HasPlan};
+ghost use Rattle.remux_core.specs.Private.Ended.{answer_of, HoldsFront, refusal_by, IsRefusedFor};
+ghost use Rattle.remux_core.specs.Private.Parsed.{plan_of};
+ghost use Rattle.remux_core.specs.Private.Planned.{contents_of};
+ghost use Rattle.remux_core.specs.Promises.{CountsGrow};
+
+use crate::certificate::Certificate;
+use crate::command::PlanFiles;
+use crate::ended::{Ended, end_with};
+use crate::planner::{PlanFault, make_plan};
+use crate::report;
+use crate::status::{JobRefusal, Status};
+use shelf_io::{Fault, Shelf, read_file, write_file};
+use std::alloc::Global;
+use version_table::limits::TABLE_TEXT_MOST;
+use version_table::{Table, TableFault, read_table};
+
+/// Does the work of `plan TABLE CERT`; none for want of memory.
+pub fn plan_file<K: Shelf>(alloc: Global, files: &PlanFiles<'_>, shelf: &mut K) -> Option<Ended>
+    ensures decided { OnFiles (K.files shelf.old) (K.files shelf.new) (λ held after. Decides (plan_of files.now) held (answer_of result) after) }
+    ensures cause { AnswerHasCause (plan_of files.now)
+        (shelf_facts K.files K.counts K.asked K.since_fault shelf.old)
+        (shelf_facts K.files K.counts K.asked K.since_fault shelf.new)
+        (answer_of result) }
+    ensures counts { CountsGrow (K.counts shelf.old) (K.counts shelf.new) }
+    ensures asked { AsksUpTo files.now.table.now (TABLE_TEXT_MOST + 1) (K.asked shelf.old) (K.asked shelf.new) }
+{
+    match read_file(alloc, shelf, files.table, TABLE_TEXT_MOST as u64) {
+        Ok(text) => plan_text(alloc, files, text.as_slice(), shelf),
+        Err(Fault::Failed) => end_with(
+            alloc,
+            Status::ReadFault,
+            report::file_report(alloc, "read", Status::ReadFault, files.table),
+        ),
+        Err(Fault::Missing) => end_with(
+            alloc,
+            Status::Missing,
+            report::file_report(alloc, "missing", Status::Missing, files.table),
+        ),
+        Err(Fault::OutOfMemory) => None,
+    }
+}
+
+/// From the first bytes of the table's text on, up to one past its limit.
+fn plan_text<K: Shelf>(
+    alloc: Global,
+    files: &PlanFiles<'_>,
+    text: &[u8],
+    shelf: &mut K,
+) -> Option<Ended>
+    ensures decided { OnFiles (K.files shelf.old) (K.files shelf.new) (λ held after. HoldsFront held files.now.table.now text.now
+        → Decides (plan_of files.now) held (answer_of result) after) }
+    ensures cause { AnswerHasCause (plan_of files.now)
+        (shelf_facts K.files K.counts K.asked K.since_fault shelf.old)
+        (shelf_facts K.files K.counts K.asked K.since_fault shelf.new)
+        (answer_of result) }
+    ensures counts { CountsGrow (K.counts shelf.old) (K.counts shelf.new) }
+    ensures asked { AsksNothing (K.asked shelf.old) (K.asked shelf.new) }
+{
+    match read_table(alloc, text) {
+        Ok(table) => plan_table(alloc, files, &table, shelf),
+        Err(fault) => refuse(alloc, fault),
+    }
+}
+
+/// From the table on.
+fn plan_table<K: Shelf>(
+    alloc: Global,
+    files: &PlanFiles<'_>,
+    table: &Table,
+    shelf: &mut K,
+) -> Option<Ended>
+    requires { IsValidTable table.now }
+    ensures decided { OnFiles (K.files shelf.old) (K.files shelf.new) (λ held after. HoldsTable held files.now.table.now table.now
+        → Decides (plan_of files.now) held (answer_of result) after) }
+    ensures cause { AnswerHasCause (plan_of files.now)
+        (shelf_facts K.files K.counts K.asked K.since_fault shelf.old)
+        (shelf_facts K.files K.counts K.asked K.since_fault shelf.new)
+        (answer_of result) }
+    ensures counts { CountsGrow (K.counts shelf.old) (K.counts shelf.new) }
+    ensures asked { AsksNothing (K.asked shelf.old) (K.asked shelf.new) }
+{
+    match make_plan(alloc, table) {
+        Ok(plan) => write_plan(alloc, files, &plan, shelf),
+        Err(PlanFault::Missed(miss)) => end_with(
+            alloc,
+            Status::Unschedulable(miss),
+            report::miss_report(alloc, miss),
+        ),
+        Err(PlanFault::OutOfMemory) => None,
+    }
+}
+
+/// Writes the certificate of a plan. The report is made first, so that want of memory for it leaves the file as it was.
+fn write_plan<K: Shelf>(
+    alloc: Global,
+    files: &PlanFiles<'_>,
+    plan: &Certificate,
+    shelf: &mut K,
+) -> Option<Ended>
+    requires { length plan.now.choice < 2 ^ 32 }
+    ensures decided { OnFiles (K.files shelf.old) (K.files shelf.new) (λ held after. HasPlan held files.now.table.now (contents_of plan.now)
+        → Decides (plan_of files.now) held (answer_of result) after) }
+    ensures cause { AnswerHasCause (plan_of files.now)
+        (shelf_facts K.files K.counts K.asked K.since_fault shelf.old)
+        (shelf_facts K.files K.counts K.asked K.since_fault shelf.new)
+        (answer_of result) }
+    ensures counts { CountsGrow (K.counts shelf.old) (K.counts shelf.new) }
+    ensures asked { AsksNothing (K.asked shelf.old) (K.asked shelf.new) }
+{
+    let done = end_with(alloc, Status::Ok, report::plan_report(alloc, plan))?;
+    let Ok(bytes) = plan.bytes(alloc) else {
+        return None;
+    };
+    match write_file(shelf, files.certificate, bytes.as_slice()) {
+        Ok(()) => Some(done),
+        Err(Fault::Failed) => end_with(
+            alloc,
+            Status::WriteFault,
+            report::file_report(alloc, "write", Status::WriteFault, files.certificate),
+        ),
+        Err(Fault::OutOfMemory) => None,
+        Err(Fault::Missing) => unreachable!(),
+    }
+}
+
+/// A refused text; none for want of memory.
+fn refuse(alloc: Global, fault: TableFault) -> Option<Ended>
+    ensures { IfSome result (IsRefusedFor (refusal_by fault)) }
+{
+    let refusal = refusal_of(fault)?;
+    let report = report::refusal_report(alloc, &refusal);
+    end_with(alloc, Status::JobRefused(refusal), report)
+}
+
+/// The refusal of a table fault; none for want of memory.
+fn refusal_of(fault: TableFault) -> Option<JobRefusal>
+    ensures { result ≡ refusal_by fault }
+{
+    match fault {
+        TableFault::TableSyntax(line) => Some(JobRefusal::TableSyntax(line)),
+        TableFault::TableLimit(name) => Some(JobRefusal::TableLimit(name)),
+        TableFault::OutOfMemory => None,
+    }
+}

@@ -1,0 +1,77 @@
+ghost use Rattle.std.specs.Prelude.{◌≡◌, ◌⊎◌, map, Some};
+ghost use Rattle.std.specs.String.{string_bytes};
+ghost use Rattle.shelf_io.specs.Files.{Files};
+ghost use Rattle.remux_core.specs.declared.status.Status.{Status as AnyStatus};
+ghost use Rattle.remux_core.specs.Command.{IsCommand};
+ghost use Rattle.remux_core.specs.Outcome.{Outcome, WordsCallFor};
+ghost use Rattle.remux_core.specs.Outside.{shelf_facts, sink_facts};
+ghost use Rattle.remux_core.specs.Private.Ended.{answer_of, Performs};
+ghost use Rattle.remux_core.specs.Promises.{NoneFailed};
+ghost use Rattle.remux_core.specs.Status.{IsSameStatus};
+
+use crate::command::plan_files;
+use crate::ended::{Ended, end_with};
+use crate::plan_command::plan_file;
+use crate::report::usage_report;
+use crate::status::Status;
+use shelf_io::{Fault, Shelf, Sink, put_all};
+use slot_rule::{first_miss_is_one, no_miss_where_scheduled};
+use std::alloc::Global;
+use version_table::{one_reading, smallest_choice_is_one};
+
+/// Runs a command: words, a shelf of files, and a sink for the report line.
+///
+/// The words `plan TABLE CERT` plan the table text in the file TABLE and write the certificate of the plan to CERT.
+/// All other words are a usage fault. One line of JSON goes to `out` for each status but want of memory.
+pub fn run<K: Shelf, O: Sink>(alloc: Global, words: &[String], shelf: &mut K, out: &mut O) -> Status
+    // What the words and files decide, what failed outside, how it is reported, and what every command promises.
+    ensures outcome { Outcome (map string_bytes words.now)
+        (shelf_facts K.files K.counts K.asked K.since_fault shelf.old)
+        (shelf_facts K.files K.counts K.asked K.since_fault shelf.new)
+        (sink_facts O.written O.faults O.since_fault out.old)
+        (sink_facts O.written O.faults O.since_fault out.new)
+        result }
+
+    // Where no call of the outside failed, the status is the one that words and files call for, unless memory was wanted.
+    ensures called_for { (files : Files) (status : AnyStatus) → K.files shelf.old ≡ Some files
+        → WordsCallFor (map string_bytes words.now) files status
+        → NoneFailed
+        (shelf_facts K.files K.counts K.asked K.since_fault shelf.old)
+        (shelf_facts K.files K.counts K.asked K.since_fault shelf.new)
+        (sink_facts O.written O.faults O.since_fault out.old)
+        (sink_facts O.written O.faults O.since_fault out.new)
+        → IsSameStatus result status ⊎ (result ≡ Status.OutOfMemory) }
+
+    // Usage is the words' fault alone, whatever the shelf tells.
+    ensures usage { result ≡ Status.Usage → IsCommand (map string_bytes words.now) → ⊥ }
+    ensures no_command { (IsCommand (map string_bytes words.now) → ⊥)
+        → (result ≡ Status.Usage) ⊎ ((result ≡ Status.WriteFault) ⊎ (result ≡ Status.OutOfMemory)) }
+{
+    // Laws that the clauses stand on: a text has one reading, a table one smallest choice, and a choice is scheduled or has one first miss.
+    one_reading();
+    smallest_choice_is_one();
+    no_miss_where_scheduled();
+    first_miss_is_one();
+    let Some(ended) = perform(alloc, words, shelf) else {
+        return Status::OutOfMemory;
+    };
+    match put_all(out, ended.line.as_bytes()) {
+        Ok(()) => ended.status,
+        Err(Fault::Failed) => Status::WriteFault,
+        Err(Fault::OutOfMemory) => Status::OutOfMemory,
+        Err(Fault::Missing) => unreachable!(),
+    }
+}
+
+/// Does the work of a command; none for want of memory.
+fn perform<K: Shelf>(alloc: Global, words: &[String], shelf: &mut K) -> Option<Ended>
+    ensures { Performs (map string_bytes words.now)
+        (shelf_facts K.files K.counts K.asked K.since_fault shelf.old)
+        (shelf_facts K.files K.counts K.asked K.since_fault shelf.new)
+        (answer_of result) }
+{
+    match plan_files(words) {
+        Some(files) => plan_file(alloc, &files, shelf),
+        None => end_with(alloc, Status::Usage, usage_report(alloc)),
+    }
+}

@@ -1,0 +1,6 @@
+use Rattle.std.proofs.Common.{◌≤◌}
+use Rattle.std.specs.List.{AllAdjacentBelow}
+use Rattle.tstd_lists.proofs.conditions.dues_rise.Given as goal
+
+abbrev pub invariant-loop-i : goal.invariant-loop-i
+invariant-loop-i l = AllAdjacentBelow (λ x y. x.due ≤ y.due) l.removals l.i
