@@ -1,4 +1,4 @@
-use Rattle.std.proofs.Common.{ℕ, ◌<◌, arith}
+use Rattle.std.proofs.Common.{arith}
 use Rattle.remux_core.proofs.LevelChoices.{no_worse_than_all}
 use Rattle.remux_core.proofs.planner.try_levels.Goals as goal
 
