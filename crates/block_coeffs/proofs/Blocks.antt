@@ -1,5 +1,5 @@
 -- A block read as a DC coefficient and a list of coefficients.
-use Rattle.std.proofs.Common.{◌≡◌, ℕ, ◌<◌, ◌==◌, if◌then◌else◌, Bool, true, false, List, [], Option, Some, None, IfSome, IsSomeAnd, IsNone, Result, Ok, Err, OnOk, OnErr, IfErr, MatchResult, sym, ap, subst, ◌∙◌, arith}
+use Rattle.std.proofs.Common.{◌≡◌, ℕ, ◌<◌, ◌==◌, if◌then◌else◌, Bool, true, false, List, Option, Some, None, IfSome, IsSomeAnd, IsNone, Result, Ok, Err, OnOk, OnErr, IfErr, MatchResult, sym, ap, subst, arith}
 use Rattle.std.proofs.lemmas.Bool.{ne_eqb}
 use Rattle.prefix_codes.specs.declared.table_name.TableName.{TableName}
 use Rattle.prefix_codes.specs.declared.table_name.TableName.TheVariants.{CoeffZero, CoeffFirst, CoeffOne}

@@ -31,6 +31,12 @@ use Rattle.block_coeffs.proofs.Steps.{reads-found, explains-found}
 pub none-read : (way : BlockWay) (items : List RunLevel) (bits : Option (List ℕ)) (at : ℕ) → items ≡ [] → ReadsFrom (several (coefficient way)) items bits bits at at
 none-read way items bits at none = subst (λ pairs. ReadsFrom (several (coefficient way)) pairs bits bits at at) (sym none) (reads-none (coefficient way) bits at)
 
+-- ... where the reader stays
+pub none-read_yet : (way : BlockWay) (items : List RunLevel) (bits now : Option (List ℕ)) (at place_now : ℕ) → items ≡ [] → now ≡ bits → place_now ≡ at → ReadsFrom (several (coefficient way)) items bits now at place_now
+none-read_yet way items bits now at place_now none same stays =
+    subst (λ (t : Option (List ℕ)). ReadsFrom (several (coefficient way)) items bits t at place_now) (sym same)
+    (subst (λ n. ReadsFrom (several (coefficient way)) items bits bits at n) (sym stays) (none-read way items bits at none))
+
 pub none-behind : (way : BlockWay) (items : List RunLevel) (index : ℕ) → index ≡ first_place way → index ≤ 64 → items ≡ [] → IsBehind way index items
 none-behind way items index is within none = record {
   is = is ∙ sym (add-zero (first_place way)) ∙ ap (next_place way) (sym none);

@@ -11,7 +11,7 @@ ghost use Rattle.grammar_reading.specs.Window.{ShowsFront};
 ghost use Rattle.grammar_reading.specs.BitsRead.{Advances, AnswersSpelling, BeginsWith, Explains, Reads};
 ghost use Rattle.block_coeffs.specs.BlockFault.{refusal_told};
 
-use crate::coefficient_table::size_table;
+use crate::coefficient_table::{size_table, table_at};
 use crate::dc_standing::{DcStanding, what_dc};
 use crate::fault::BlockFault;
 use crate::standing::{Standing, what_stands, what_stands_whole};
@@ -151,8 +151,10 @@ fn read_from_first<S: Source>(
     ensures missing { IsErrOf result (BlockFault.Outside Fault.Missing) → Rose (absences_of from.old) (absences_of from.new) }
     ensures keeps { KeepsSource from.old from.new }
 {
-    from.hold(WINDOW_BITS)?;
-    match what_stands(TableName::CoeffFirst, 0, held_window(from)) {
+    if !from.hold(WINDOW_BITS)? {
+        return read_last(from, way, 0, into);
+    }
+    match what_stands_whole(TableName::CoeffFirst, 0, whole_window(from)) {
         Standing::EndOfBlock { len } => {
             from.skip(len);
             Ok(())
@@ -204,23 +206,19 @@ fn read_others<S: Source>(
             }
         }
     }
-    read_last(from, way, table, index, into)
+    read_last(from, way, index, into)
 }
 
-/// The same where fewer bits are left than a window has.
+/// The coefficients from a place up to the end of block, where fewer bits are left than a window has.
 #[cold]
 #[inline(never)]
 fn read_last<S: Source>(
     from: &mut BitReader<'_, S>,
     way: BlockWay,
-    table: TableName,
     first: u32,
     into: &mut ArrayVec<RunLevel, BLOCK_PLACES>,
 ) -> Result<(), BlockFault>
-    requires table { table ≡ coefficient_table way 1 }
-    requires coefficients { IsTrue (is_coefficients table) }
-    requires behind { 0 < first }
-    requires place { IsBehind way first into.old.items }
+    requires { IsBehind way first into.old.items }
     ensures ok { ReadsOn way into.old.items into.new.items result from.old from.new }
     ensures refused { RefusesOn way into.old.items result from.old }
     ensures advances { OnErr result (Advances from.old from.new) }
@@ -232,7 +230,7 @@ fn read_last<S: Source>(
     let mut index = first;
     'coefficients: loop {
         from.hold(WINDOW_BITS)?;
-        match what_stands(table, index, held_window(from)) {
+        match what_stands(table_at(way, index), index, held_window(from)) {
             Standing::EndOfBlock { len } => {
                 from.skip(len);
                 return Ok(());

@@ -28,7 +28,6 @@ pub enum Standing {
 }
 
 /// What stands at the front of a window, by a table of coefficients, at a place of the block: one look-up.
-#[inline]
 pub fn what_stands(table: TableName, place: u32, window: Window) -> Standing
     requires table { IsTrue (is_coefficients table) }
     requires place { place ≤ BLOCK_PLACES }
@@ -152,7 +151,7 @@ fn bit_at(window: Window, index: u32) -> bool
     requires { index < WINDOW_BITS }
     ensures { seen window (index + 1) ≡ seen window index ++ flag result ∷ [] }
 {
-    (window.bits >> (WINDOW_BITS - 1 - index)) % 2 == 1
+    ((window.bits << index) >> (WINDOW_BITS - 1)) % 2 == 1
 }
 
 /// A level by its size and its sign.

@@ -1,9 +1,8 @@
 use Rattle.std.specs.Option.{option_map}
-use Rattle.std.proofs.Common.{rules, ℕ, ℤ, w16, SFits, to_z, of_z, ◌≡◌, ◌+◌, ◌<◌, drop, IfSome, sym, ap, subst, ◌∙◌, refl, arith}
+use Rattle.std.proofs.Common.{rules, ℤ, w16, SFits, to_z, of_z, ◌≡◌, ◌+◌, drop, IfSome, sym, ap, subst, ◌∙◌, refl, arith}
 use Rattle.std.proofs.lemmas.Int.{to_z-of_z}
 use Rattle.bit_cursor.specs.BitReader.{bits_left, without_bits, place}
 use Rattle.bit_cursor.proofs.Source.{keeps_then}
-use Rattle.syntax_types.specs.declared.block.RunLevel.{RunLevel}
 use Rattle.picture_grammar.specs.Block.{coefficient_table}
 use Rattle.grammar_reading.specs.Window.{ShowsFront}
 use Rattle.grammar_reading.proofs.BitsRead.{advances-on, advances-none}

@@ -1,4 +1,4 @@
-use Rattle.std.proofs.Common.{◌≡◌, ◌<◌, ◌-◌, ℕ, List, Option}
+use Rattle.std.proofs.Common.{◌<◌, ◌-◌, ℕ, List, Option}
 use Rattle.bit_cursor.specs.BitReader.{bits_left, place, KeepsSource}
 use Rattle.picture_grammar.specs.Block.{coefficient}
 use Rattle.grammar_reading.specs.BitsRead.{AdvancesFrom, ReadsFrom}

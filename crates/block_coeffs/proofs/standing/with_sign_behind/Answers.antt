@@ -1,7 +1,7 @@
 use Rattle.std.proofs.Common.{rules, w16, SFits, to_z, of_z, ◌∙◌, arith}
 use Rattle.std.proofs.lemmas.Int.{to_z-of_z}
 use Rattle.block_coeffs.proofs.Symbols.{coefficients-is}
-use Rattle.block_coeffs.proofs.Pairs.{past-found, unsigned-found, pair-found}
+use Rattle.block_coeffs.proofs.Pairs.{past-found, pair-found}
 use Rattle.block_coeffs.proofs.standing.with_sign_behind.Goals as goal
 
 pub returns-then-place-run : goal.returns-then-place-run
