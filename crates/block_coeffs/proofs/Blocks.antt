@@ -1,6 +1,5 @@
 -- A block read as a DC coefficient and a list of coefficients.
-use Rattle.std.proofs.Common.{◌≡◌, ℕ, ◌<◌, ◌==◌, if◌then◌else◌, Bool, true, false, List, [], Option, Some, None, IfSome, IsSomeAnd, IsNone, Result, Ok, Err, OnOk, OnErr, IfErr, MatchResult, sym, ap, subst, ◌∙◌, add-zero, arith}
-use mir.Val.{bool_byte}
+use Rattle.std.proofs.Common.{◌≡◌, ℕ, ◌<◌, ◌==◌, if◌then◌else◌, Bool, true, false, List, Option, Some, None, IfSome, IsSomeAnd, IsNone, Result, Ok, Err, OnOk, OnErr, IfErr, MatchResult, sym, ap, subst, arith}
 use Rattle.std.proofs.lemmas.Bool.{ne_eqb}
 use Rattle.prefix_codes.specs.declared.table_name.TableName.{TableName}
 use Rattle.prefix_codes.specs.declared.table_name.TableName.TheVariants.{CoeffZero, CoeffFirst, CoeffOne}
@@ -10,7 +9,7 @@ use Rattle.syntax_types.specs.declared.block.Dc.{Dc}
 use Rattle.syntax_types.specs.declared.block.RunLevel.{RunLevel}
 use Rattle.picture_grammar.specs.Grammar.{Grammar, done, ◌>>=◌, optional, many, more_of}
 use Rattle.picture_grammar.specs.Exact.{IsLocal}
-use Rattle.picture_grammar.specs.Block.{dc_table, dc_coefficient, coefficient, coefficient_table, first_place, next_place, block}
+use Rattle.picture_grammar.specs.Block.{dc_table, dc_coefficient, coefficient, coefficient_table, next_place, block}
 use Rattle.picture_grammar.proofs.LocalLaws.{local-dc, local-coefficient, local-bind, local-element, local-done}
 use Rattle.picture_grammar.proofs.PictureLaws.{exact-block}
 use Rattle.grammar_reading.specs.BitsRead.{PlacedRefusal, AdvancesFrom, ReadsFrom, ExplainsFrom}
@@ -21,7 +20,6 @@ use Rattle.block_coeffs.specs.declared.fault.BlockFault.{BlockFault}
 use Rattle.block_coeffs.specs.BlockFault.{refusal_told}
 use Rattle.block_coeffs.specs.Private.DcStanding.{dc_by}
 use Rattle.block_coeffs.specs.Private.Standing.{coefficient_at}
-use Rattle.block_coeffs.proofs.Writing.{as_flag}
 
 -- ---- the DC coefficient
 
@@ -61,11 +59,6 @@ pub later-table : (way : BlockWay) (index : ℕ) → 0 < index → coefficient_t
 later-table way index behind =
     let ne : (index == 0) ≡ false = ne_eqb index 0 (omega arith) in
     ap (λ first. if way.intra then (if way.vlc_one then CoeffOne else CoeffZero) else (if first then CoeffFirst else CoeffZero)) ne
-
--- the place of the first coefficient, behind none
-pub first-index : (way : BlockWay) (items : List RunLevel) (index : ℕ) → index ≡ bool_byte way.intra → items ≡ [] → index ≡ next_place way items
-first-index way items index is none =
-    is ∙ as_flag way.intra ∙ sym (add-zero (first_place way)) ∙ ap (next_place way) (sym none)
 
 -- a coefficient at its place doesn't look ahead
 pub local-at : (way : BlockWay) (before : List RunLevel) (table : TableName) (index : ℕ) → table ≡ coefficient_table way index → index ≡ next_place way before → IsLocal (coefficient_at table index)

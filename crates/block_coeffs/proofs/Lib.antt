@@ -1,4 +1,5 @@
 pub mod Blocks
+pub mod Coefficients
 pub mod Cuts
 pub mod Dcs
 pub mod Escapes

@@ -1,7 +1,10 @@
 -- From what a window shows to what a reader took.
 use Rattle.std.proofs.Common.{◌≡◌, ℕ, ◌+◌, ◌<◌, ◌≤◌, List, [], ◌++◌, length, take, drop, append-nil, Option, Some, None, IfSome, refl, sym, ap, subst, ◌∙◌, arith}
 use Rattle.std.specs.Option.{option_map}
-use Rattle.std.proofs.lemmas.List.{length-take, take-take, take-append-drop}
+use Rattle.std.proofs.lemmas.List.{length-take, take-take, take_all, take-append-drop}
+use Rattle.bit_lists.specs.Bits.{bits_of, front_of}
+use Rattle.bit_lists.proofs.BitLemmas.{length-bits_of}
+use Rattle.bit_cursor.specs.Reading.{IsFront}
 use Rattle.bit_cursor.proofs.Fronts.{told_both}
 use Rattle.picture_grammar.specs.Refusal.{Refusal}
 use Rattle.picture_grammar.specs.Grammar.{Grammar}
@@ -12,7 +15,7 @@ use Rattle.block_coeffs.specs.declared.why.Why.TheVariants as why
 use Rattle.grammar_reading.specs.declared.window.Window.{Window}
 use Rattle.block_coeffs.specs.Private.Why.{refusal_of, fault_at}
 use Rattle.grammar_reading.specs.Window.{seen, ShowsFront}
-use Rattle.grammar_reading.specs.BitsRead.{IsSpelled, ReadsFrom, RefusedAt, ExplainsFrom}
+use Rattle.grammar_reading.specs.BitsRead.{AdvancesFrom, IsSpelled, ReadsFrom, RefusedAt, ExplainsFrom}
 use Rattle.grammar_reading.proofs.BitsRead.{anywhere}
 use Rattle.block_coeffs.specs.BlockFault.{refusal_told}
 use Rattle.grammar_reading.proofs.Fronts.{length-front_of, take-front_of}
@@ -38,6 +41,11 @@ pub held-shown : (told now : Option (List ℕ)) (held : ℕ) (window : Window) �
 held-shown told now held window same few shows =
     told_both told (held < 24) (λ bits. length bits ≡ held) (ShowsFront window) (subst (λ t. IfSome t (λ bits. (held < 24 → length bits ≡ held) → ShowsFront window bits)) same shows) few
 
+-- a whole window of held bits shows what is left
+pub whole-shown : (told : Option (List ℕ)) (number : ℕ) → IfSome told (λ bits. IsFront 24 bits number) → IfSome told (λ bits. take 24 bits ≡ front_of 24 number 24)
+whole-shown None number is = tt
+whole-shown (Some bits) number is = is.front ∙ sym (take_all 24 (bits_of 24 number) (omega (arith, length-bits_of 24 number)))
+
 -- a front that spells a value without looking ahead spells it before all that may follow
 local-spelled : {A : Type 0} {grammar : Grammar A} → IsLocal grammar → (value : A) (front : List ℕ) (after : Option (List ℕ)) → grammar.Spells value front [] → IsSpelled grammar value front after
 local-spelled {grammar = grammar} local value front None s = ([], subst (λ f. grammar.Spells value f []) (sym (append-nil front)) s)
@@ -50,6 +58,16 @@ reads-found grammar local value told after window len place place_after shows le
     let within = window.within in record {
       front = seen window len;
       spelled = local-spelled local value (seen window len) after spelled;
+      left = front-left told window len shows le ∙ ap (option_map (λ rest. seen window len ++ rest)) (sym left);
+      moved = moved ∙ ap (λ n. place + n) (sym (length-front_of 24 window.bits len (omega arith)));
+    }
+
+-- bits that the window shows were passed
+pub advances-found : (told after : Option (List ℕ)) (window : Window) (len place place_after : ℕ) → IfSome told (ShowsFront window) → len ≤ window.known
+    → after ≡ without_bits told len → place_after ≡ place + len → AdvancesFrom told after place place_after
+advances-found told after window len place place_after shows le left moved =
+    let within = window.within in record {
+      front = seen window len;
       left = front-left told window len shows le ∙ ap (option_map (λ rest. seen window len ++ rest)) (sym left);
       moved = moved ∙ ap (λ n. place + n) (sym (length-front_of 24 window.bits len (omega arith)));
     }

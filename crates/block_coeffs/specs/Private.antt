@@ -1,5 +1,6 @@
 pub mod Cut
 pub mod DcStanding
+pub mod Pairs
 pub mod Standing
 pub mod Why
 pub mod Writing

@@ -1,9 +1,11 @@
-ghost use Rattle.std.specs.Prelude.{◌≡◌, ◌≤◌, ◌<◌, ◌+◌, IfOk, IfErr, OnOk, OnErr, IfSome, IsErrOf, IsNone, IsTrue, MatchResult, List, [], ℕ, length};
+ghost use Rattle.std.specs.Prelude.{◌≡◌, ◌≤◌, ◌<◌, ◌+◌, IfOk, IfErr, OnOk, OnErr, IfSome, IsErrOf, IsNone, IsTrue, MatchResult, List, [], ℕ, false, length};
 ghost use Rattle.shelf_io.specs.Counts.{Rose};
 ghost use Rattle.bit_cursor.specs.BitReader.{bits_left, bits_held, place, faults_of, absences_of, KeepsSource};
 ghost use Rattle.syntax_types.specs.declared.block.Block.{Block};
 ghost use Rattle.picture_grammar.specs.Grammar.{many, optional};
-ghost use Rattle.picture_grammar.specs.Block.{block, coefficient, dc_coefficient};
+ghost use Rattle.picture_grammar.specs.Block.{block, coefficient, coefficient_table, dc_coefficient};
+ghost use Rattle.prefix_codes.specs.TableName.{is_coefficients};
+ghost use Rattle.block_coeffs.specs.Private.Pairs.{IsBehind, ReadsOn, RefusesOn};
 ghost use Rattle.block_coeffs.specs.Private.DcStanding.{is_sizes, dc_by};
 ghost use Rattle.grammar_reading.specs.Window.{ShowsFront};
 ghost use Rattle.grammar_reading.specs.BitsRead.{Advances, AnswersSpelling, BeginsWith, Explains, Reads};
@@ -12,7 +14,7 @@ ghost use Rattle.block_coeffs.specs.BlockFault.{refusal_told};
 use crate::coefficient_table::{size_table, table_at};
 use crate::dc_standing::{DcStanding, what_dc};
 use crate::fault::BlockFault;
-use crate::standing::{Standing, what_stands};
+use crate::standing::{Standing, what_stands, what_stands_whole};
 use arrayvec::ArrayVec;
 use bit_cursor::BitReader;
 use grammar_reading::Window;
@@ -106,7 +108,8 @@ fn read_dc<S: Source>(from: &mut BitReader<'_, S>, table: TableName) -> Result<D
     }
 }
 
-/// The coefficients up to the end of block, behind none.
+/// The coefficients up to the end of block, behind none. The table of all but the first one is a constant in each of the
+/// loops that come of this.
 fn read_pairs<S: Source>(
     from: &mut BitReader<'_, S>,
     way: BlockWay,
@@ -121,13 +124,74 @@ fn read_pairs<S: Source>(
     ensures missing { IsErrOf result (BlockFault.Outside Fault.Missing) → Rose (absences_of from.old) (absences_of from.new) }
     ensures keeps { KeepsSource from.old from.new }
 {
-    let mut index = u32::from(way.intra);
-    let mut table = table_at(way, index);
-    let later = table_at(way, 1);
-    'coefficients: loop {
-        from.hold(WINDOW_BITS)?;
-        let window = held_window(from);
-        match what_stands(table, index, window) {
+    if !way.intra {
+        return read_from_first(from, way, into);
+    }
+    if way.vlc_one {
+        read_others(from, way, TableName::CoeffOne, 1, into)
+    } else {
+        read_others(from, way, TableName::CoeffZero, 1, into)
+    }
+}
+
+/// The coefficients of a non-intra block: the first one has a table of its own (7.2.2.1).
+#[inline(always)]
+fn read_from_first<S: Source>(
+    from: &mut BitReader<'_, S>,
+    way: BlockWay,
+    into: &mut ArrayVec<RunLevel, BLOCK_PLACES>,
+) -> Result<(), BlockFault>
+    requires way { way.intra ≡ false }
+    requires none { into.old.items ≡ [] }
+    ensures ok { OnOk result (Reads (many (coefficient way)) (into.new.items, tt) from.old from.new) }
+    ensures refused { IfErr result (λ fault. Explains (many (coefficient way)) from.old (refusal_told fault)) }
+    ensures advances { OnErr result (Advances from.old from.new) }
+
+    ensures failed { IsErrOf result (BlockFault.Outside Fault.Failed) → Rose (faults_of from.old) (faults_of from.new) }
+    ensures missing { IsErrOf result (BlockFault.Outside Fault.Missing) → Rose (absences_of from.old) (absences_of from.new) }
+    ensures keeps { KeepsSource from.old from.new }
+{
+    if !from.hold(WINDOW_BITS)? {
+        return read_last(from, way, 0, into);
+    }
+    match what_stands_whole(TableName::CoeffFirst, 0, whole_window(from)) {
+        Standing::EndOfBlock { len } => {
+            from.skip(len);
+            Ok(())
+        }
+        Standing::Pair { run, level, len } => {
+            from.skip(len);
+            into.push(RunLevel { run, level });
+            read_others(from, way, TableName::CoeffZero, u32::from(run) + 1, into)
+        }
+        Standing::Refused { why, behind } => Err(why.at(from.place() + u64::from(behind))),
+    }
+}
+
+/// The coefficients from a place behind the first one up to the end of block, behind others that were read.
+#[inline(always)]
+fn read_others<S: Source>(
+    from: &mut BitReader<'_, S>,
+    way: BlockWay,
+    table: TableName,
+    first: u32,
+    into: &mut ArrayVec<RunLevel, BLOCK_PLACES>,
+) -> Result<(), BlockFault>
+    requires table { table ≡ coefficient_table way 1 }
+    requires coefficients { IsTrue (is_coefficients table) }
+    requires behind { 0 < first }
+    requires place { IsBehind way first into.old.items }
+    ensures ok { ReadsOn way into.old.items into.new.items result from.old from.new }
+    ensures refused { RefusesOn way into.old.items result from.old }
+    ensures advances { OnErr result (Advances from.old from.new) }
+
+    ensures failed { IsErrOf result (BlockFault.Outside Fault.Failed) → Rose (faults_of from.old) (faults_of from.new) }
+    ensures missing { IsErrOf result (BlockFault.Outside Fault.Missing) → Rose (absences_of from.old) (absences_of from.new) }
+    ensures keeps { KeepsSource from.old from.new }
+{
+    let mut index = first;
+    'coefficients: while from.hold(WINDOW_BITS)? {
+        match what_stands_whole(table, index, whole_window(from)) {
             Standing::EndOfBlock { len } => {
                 from.skip(len);
                 return Ok(());
@@ -136,7 +200,45 @@ fn read_pairs<S: Source>(
                 from.skip(len);
                 into.push(RunLevel { run, level });
                 index += u32::from(run) + 1;
-                table = later;
+            }
+            Standing::Refused { why, behind } => {
+                return Err(why.at(from.place() + u64::from(behind)));
+            }
+        }
+    }
+    read_last(from, way, index, into)
+}
+
+/// The coefficients from a place up to the end of block, where fewer bits are left than a window has.
+#[cold]
+#[inline(never)]
+fn read_last<S: Source>(
+    from: &mut BitReader<'_, S>,
+    way: BlockWay,
+    first: u32,
+    into: &mut ArrayVec<RunLevel, BLOCK_PLACES>,
+) -> Result<(), BlockFault>
+    requires { IsBehind way first into.old.items }
+    ensures ok { ReadsOn way into.old.items into.new.items result from.old from.new }
+    ensures refused { RefusesOn way into.old.items result from.old }
+    ensures advances { OnErr result (Advances from.old from.new) }
+
+    ensures failed { IsErrOf result (BlockFault.Outside Fault.Failed) → Rose (faults_of from.old) (faults_of from.new) }
+    ensures missing { IsErrOf result (BlockFault.Outside Fault.Missing) → Rose (absences_of from.old) (absences_of from.new) }
+    ensures keeps { KeepsSource from.old from.new }
+{
+    let mut index = first;
+    'coefficients: loop {
+        from.hold(WINDOW_BITS)?;
+        match what_stands(table_at(way, index), index, held_window(from)) {
+            Standing::EndOfBlock { len } => {
+                from.skip(len);
+                return Ok(());
+            }
+            Standing::Pair { run, level, len } => {
+                from.skip(len);
+                into.push(RunLevel { run, level });
+                index += u32::from(run) + 1;
             }
             Standing::Refused { why, behind } => {
                 return Err(why.at(from.place() + u64::from(behind)));
@@ -153,4 +255,17 @@ fn held_window<S: Source>(from: &BitReader<'_, S>) -> Window
 {
     let (bits, known) = from.held_window(WINDOW_BITS);
     Window { bits, known }
+}
+
+/// The same where a whole window is held.
+#[inline]
+fn whole_window<S: Source>(from: &BitReader<'_, S>) -> Window
+    requires { WINDOW_BITS ≤ bits_held from.now }
+    ensures shows { IfSome (bits_left from.now) (ShowsFront result) }
+    ensures whole { result.known ≡ WINDOW_BITS }
+{
+    Window {
+        bits: from.held_front(WINDOW_BITS),
+        known: WINDOW_BITS,
+    }
 }

@@ -28,7 +28,6 @@ pub enum Standing {
 }
 
 /// What stands at the front of a window, by a table of coefficients, at a place of the block: one look-up.
-#[inline(always)]
 pub fn what_stands(table: TableName, place: u32, window: Window) -> Standing
     requires table { IsTrue (is_coefficients table) }
     requires place { place ≤ BLOCK_PLACES }
@@ -50,8 +49,31 @@ pub fn what_stands(table: TableName, place: u32, window: Window) -> Standing
     }
 }
 
-/// The coefficient whose code stands there: its run and the size of its level are the symbol's, and its sign follows.
+/// The same where the window is whole: then a code of the table has its sign there.
 #[inline(always)]
+pub fn what_stands_whole(table: TableName, place: u32, window: Window) -> Standing
+    requires table { IsTrue (is_coefficients table) }
+    requires place { place ≤ BLOCK_PLACES }
+    requires whole { window.known ≡ WINDOW_BITS }
+    ensures { IsFound table place window result }
+{
+    let Some((symbol, len)) = find(table, window.bits, WINDOW_BITS) else {
+        return Standing::Refused {
+            why: why_none(table, place, window),
+            behind: 0,
+        };
+    };
+    let len = u32::from(len);
+    if symbol < END_OF_BLOCK {
+        with_sign_behind(place, window, symbol, len)
+    } else if symbol == END_OF_BLOCK {
+        Standing::EndOfBlock { len }
+    } else {
+        escaped(place, window)
+    }
+}
+
+/// The coefficient whose code stands there, or its refusal where the bits end before its sign.
 fn by_table(place: u32, window: Window, symbol: u16, len: u32) -> Standing
     requires place { place ≤ BLOCK_PLACES }
     requires within { len ≤ window.known }
@@ -69,6 +91,24 @@ fn by_table(place: u32, window: Window, symbol: u16, len: u32) -> Standing
         return Standing::Refused {
             why: Why::End,
             behind: len,
+        };
+    }
+    with_sign_behind(place, window, symbol, len)
+}
+
+/// The coefficient whose code stands there: its run and the size of its level are the symbol's, and its sign follows.
+#[inline(always)]
+fn with_sign_behind(place: u32, window: Window, symbol: u16, len: u32) -> Standing
+    requires place { place ≤ BLOCK_PLACES }
+    requires sign { len < window.known }
+    ensures { (table : TableName) → IsTrue (is_coefficients table) → symbol ≢ END_OF_BLOCK → symbol ≢ ESCAPE →
+        Begins table (seen window window.known) symbol len → IsFound table place window result }
+{
+    let run = u32::from(symbol / LEVELS_PER_RUN);
+    if place + run >= BLOCK_PLACES as u32 {
+        return Standing::Refused {
+            why: Why::TooMany,
+            behind: 0,
         };
     }
     let level = with_sign(symbol % LEVELS_PER_RUN, bit_at(window, len));
@@ -111,7 +151,7 @@ fn bit_at(window: Window, index: u32) -> bool
     requires { index < WINDOW_BITS }
     ensures { seen window (index + 1) ≡ seen window index ++ flag result ∷ [] }
 {
-    (window.bits >> (WINDOW_BITS - 1 - index)) % 2 == 1
+    ((window.bits << index) >> (WINDOW_BITS - 1)) % 2 == 1
 }
 
 /// A level by its size and its sign.

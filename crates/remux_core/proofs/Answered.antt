@@ -8,10 +8,9 @@ use Rattle.shelf_io.specs.Files.{Files}
 use Rattle.remux_core.specs.declared.status.Status.{Status}
 use Rattle.remux_core.specs.declared.status.Status.TheVariants as statuses
 use Rattle.remux_core.specs.Answer.{Answer, CallsFor, IsDone, Leaves, EndsWith, Decides, HasCause, AnswerHasCause}
-use Rattle.remux_core.specs.Command.{Command, Plan, IsCommand, IsSaid, Writes}
+use Rattle.remux_core.specs.Command.{Command, Plan, IsCommand, IsSaid}
 use Rattle.remux_core.specs.Outcome.{Outcome, BreaksOff, IsReported, WordsCallFor}
 use Rattle.remux_core.specs.Outside.{ShelfFacts, SinkFacts, OnFiles}
-use Rattle.remux_core.specs.PlanCommand.{PlanDone, PlanLeaves}
 use Rattle.remux_core.specs.Private.Ended.{Performs}
 use Rattle.remux_core.specs.Promises.{OthersStay, NoneFailed}
 use Rattle.remux_core.specs.Status.{IsSameStatus}

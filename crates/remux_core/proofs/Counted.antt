@@ -1,5 +1,5 @@
 -- Counts and causes over several calls.
-use Rattle.std.proofs.Common.{◌≡◌, ◌+◌, ◌≤◌, ◌<◌, ℕ, List, Option, Some, None, max, refl, sym, subst, arith}
+use Rattle.std.proofs.Common.{◌≡◌, ◌+◌, ◌≤◌, ℕ, List, Option, Some, None, max, refl, sym, subst, arith}
 use Rattle.shelf_io.specs.Asked.{AsksUpTo, AsksNothing}
 use Rattle.shelf_io.specs.Causes.{ReadCauses}
 use Rattle.shelf_io.specs.Counts.{Rose, ShelfCounts}
@@ -8,7 +8,7 @@ use Rattle.version_table.specs.declared.limits.TheConstants.{TABLE_TEXT_MOST}
 use Rattle.remux_core.specs.declared.status.Status.{Status}
 use Rattle.remux_core.specs.declared.status.Status.TheVariants as statuses
 use Rattle.remux_core.specs.Answer.{Answer, HasCause, AnswerHasCause, FailsAt}
-use Rattle.remux_core.specs.Command.{Command, Plan, Reads}
+use Rattle.remux_core.specs.Command.{Command, Plan}
 use Rattle.remux_core.specs.Outside.{ShelfFacts}
 use Rattle.remux_core.specs.Promises.{CountsGrow, AsksOnly}
 

@@ -11,9 +11,7 @@ use Rattle.version_table.specs.declared.fault.TableFault.{TableFault}
 use Rattle.version_table.specs.declared.fault.TableFault.TheVariants as faults
 use Rattle.version_table.specs.Text.{IsRead, IsFaultOf, TextReading, Holds, RefusedAt, RefusedFor}
 use Rattle.remux_core.specs.declared.ended.Ended.{Ended}
-use Rattle.remux_core.specs.declared.status.JobRefusal.TheVariants.{TableSyntax, TableLimit}
 use Rattle.remux_core.specs.declared.status.Status.{Status}
-use Rattle.remux_core.specs.declared.status.Status.TheVariants.{JobRefused}
 use Rattle.remux_core.specs.Answer.{Decides, EndsWith, AnswerHasCause, HasCause, Leaves}
 use Rattle.remux_core.specs.Certificate.{Certificate, certificate_bytes}
 use Rattle.remux_core.specs.PlanCommand.{HasPlan}

@@ -4,7 +4,7 @@ use Rattle.std.proofs.lemmas.List.Elements.{All-head, All-tail}
 use Rattle.std.proofs.lemmas.Bool.{cases_lt}
 use Rattle.version_table.specs.declared.table.Unit.{Unit as CodedUnit}
 use Rattle.version_table.specs.declared.table.Table.{Table}
-use Rattle.version_table.specs.Choice.{level_version, level_choice, distortion_of_choice}
+use Rattle.version_table.specs.Choice.{level_version, distortion_of_choice}
 use Rattle.version_table.specs.Table.{units_of}
 use Rattle.slot_rule.specs.Schedule.{IsScheduled}
 use Rattle.remux_core.specs.declared.planner.Known.{Known}

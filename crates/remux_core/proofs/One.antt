@@ -1,5 +1,5 @@
 -- Words say one command, and a command and files call for one status.
-use Rattle.std.proofs.Common.{◌≡◌, ◌⊎◌, ℕ, List, Option, Some, None, refl, sym, subst}
+use Rattle.std.proofs.Common.{◌≡◌, ℕ, List, Option, Some, None, refl, subst}
 use Rattle.std.specs.FinMap.{get}
 use Rattle.shelf_io.specs.Files.{Files}
 use Rattle.version_table.specs.declared.table.Table.{Table}

@@ -4,7 +4,7 @@ use Rattle.shelf_io.specs.Counts.{Rose}
 use Rattle.shelf_io.specs.Files.{Files, Lacks}
 use Rattle.remux_core.specs.declared.status.Status.{Status}
 use Rattle.remux_core.specs.declared.status.Status.TheVariants.{Ok, Usage, JobRefused, Unschedulable, ReadFault, WriteFault, Missing, OutOfMemory}
-use Rattle.remux_core.specs.Command.{Command, Plan, IsSaid, Reads, Writes}
+use Rattle.remux_core.specs.Command.{Command, Plan, Reads, Writes}
 use Rattle.remux_core.specs.Outside.{ShelfFacts}
 use Rattle.remux_core.specs.PlanCommand.{PlanCallsFor, PlanDone, PlanLeaves}
 use Rattle.remux_core.specs.Report.{usage_line, refusal_line, miss_line, read_line, write_line, missing_line}

@@ -9,7 +9,7 @@ use Rattle.version_table.specs.Limits.{limit_name}
 use Rattle.version_table.specs.Text.{IsRead, Holds, RefusedAt, RefusedFor}
 use Rattle.slot_rule.specs.Schedule.{IsScheduled, IsFirstMiss}
 use Rattle.remux_core.specs.declared.status.Status.{Status}
-use Rattle.remux_core.specs.declared.status.Status.TheVariants.{Ok, Usage, JobRefused, Unschedulable, ReadFault, WriteFault, Missing, OutOfMemory}
+use Rattle.remux_core.specs.declared.status.Status.TheVariants.{Ok, JobRefused, Unschedulable, Missing}
 use Rattle.remux_core.specs.declared.status.JobRefusal.{JobRefusal}
 use Rattle.remux_core.specs.declared.status.JobRefusal.TheVariants.{TableSyntax, TableLimit}
 use Rattle.remux_core.specs.Certificate.{Certificate, certificate_bytes}

@@ -14,7 +14,7 @@ use Rattle.syntax_types.specs.declared.picture.Picture.{Picture}
 use Rattle.syntax_types.specs.declared.picture.SeqState.{SeqState}
 use Rattle.syntax_types.specs.declared.slice.Slice.{Slice}
 use Rattle.requantiser.specs.Blocks.{IsCoarserBlock, no_blocks}
-use Rattle.requantiser.specs.Distortion.{distortion_between}
+use Rattle.requantiser.specs.Distortion.{difference_of, distortion_between}
 use Rattle.requantiser.specs.Slices.{IsCoarserSlice}
 use Rattle.requantiser.specs.Private.Walk.{mapped_code, coarsened_slice}
 use Rattle.requantiser.proofs.Blocks.{coarsened_block-is}
@@ -110,7 +110,7 @@ unfolding coarsened_slice number_of
 middle_is_skipped = version_by_walk (coding_of 2) 32 _ _ refl refl
 
 middle_distortion : distortion_between (picture_of (coding_of 2) (slice_of 1 (moved 0 ∷ with_level 0 None 1 ∷ moved 0 ∷ []))) (picture_of (coding_of 2) (slice_of 2 (moved 0 ∷ moved 1 ∷ []))) ≡ 9
-unfolding distortion_between
+unfolding distortion_between difference_of
 middle_distortion = refl
 
 -- the last one stays with the level 1: its coefficient goes from 3 to 6
@@ -119,7 +119,7 @@ unfolding coarsened_slice number_of
 last_stays = version_by_walk (coding_of 2) 32 _ _ refl refl
 
 last_distortion : distortion_between (picture_of (coding_of 2) (slice_of 1 (moved 0 ∷ with_level 0 None 1 ∷ []))) (picture_of (coding_of 2) (slice_of 2 (moved 0 ∷ with_level 0 None 1 ∷ []))) ≡ 9
-unfolding distortion_between
+unfolding distortion_between difference_of
 last_distortion = refl
 
 -- so does the first one, and one that is first and last; of a greater level 1 is left where it would be emptied, at m = 96
@@ -140,7 +140,7 @@ code_comes_in = version_by_walk (coding_of 2) 32 _ _ refl refl
 
 code_distortion : distortion_between (picture_of (coding_of 2) (slice_of 1 (moved 0 ∷ with_level 0 (Some 4) 1 ∷ with_level 0 None 9 ∷ moved 0 ∷ [])))
     (picture_of (coding_of 2) (slice_of 2 (moved 0 ∷ with_level 1 (Some 8) 4 ∷ moved 0 ∷ []))) ≡ 160
-unfolding distortion_between
+unfolding distortion_between difference_of
 code_distortion = refl
 
 -- codes 20 and 25 are both mapped to 31, so the second one falls away

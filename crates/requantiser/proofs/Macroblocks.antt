@@ -1,10 +1,10 @@
 -- What the walk makes of a macroblock is what the version has there, and nothing else is.
-use Rattle.std.proofs.Common.{◌≡◌, ◌≢◌, ℕ, ◌+◌, ◌<◌, pos, Option, Some, None, List, [], ◌∷◌, Bool, true, false, refl, sym, ◌∙◌, ap, ap₂, subst, ◌⊎◌, inl, inr, arith, length, unwrap_or, get_or}
+use Rattle.std.proofs.Common.{◌≡◌, ◌≢◌, ℕ, ◌+◌, ◌<◌, pos, Option, Some, None, List, [], ◌∷◌, Bool, true, false, refl, sym, ◌∙◌, ap, ap₂, subst, ◌⊎◌, inl, inr, arith, length, unwrap_or, get_or, option_map}
 use Rattle.std.specs.Prelude.{◌==◌, ◌&&◌, ◌||◌, not, is_some, slice_index_or, slice_set, find, if◌then◌else◌}
 use Rattle.std.specs.Int.{int_signum}
 use Rattle.std.specs.List.{range_with_len}
 use Rattle.std.proofs.lemmas.Bool.{cases_order, and_parts, and_from, not-true}
-use Rattle.std.proofs.lemmas.List.{same_lists, get_or_default, get_or-replicate}
+use Rattle.std.proofs.lemmas.List.{same_lists, get_or_default, get_or-replicate, get_or-set_same, get_or-set_other}
 use Rattle.std.proofs.lemmas.List.Sums.{AllPass-from_list_all}
 use Rattle.std.proofs.lemmas.List.Elements.{All-get_or}
 use Rattle.std.proofs.lemmas.List.FromFn.{get_or-map-range_with_len, length-map-range_with_len}
@@ -21,9 +21,9 @@ use Rattle.requantiser.specs.Blocks.{IsCoarserBlock, AreCoarserBlocks, KeepsFirs
 use Rattle.requantiser.specs.Levels.{level_at}
 use Rattle.requantiser.specs.Macroblocks.{has_coefficients, is_empty_block, pattern_of, IsEmptiedWithoutMotion, HasBlocks, IsCoarserMacroblock, IsCoarserAt}
 use Rattle.requantiser.specs.Private.Shapes.{BeginsWithLevel, HasShape}
-use Rattle.requantiser.specs.Private.Walk.{mapped_code, coarsened_block, coarsened_blocks, first_of, kept_blocks, is_coded_without_motion, are_empty, with_blocks, coarsened_macroblock}
+use Rattle.requantiser.specs.Private.Walk.{mapped_code, coarsened_block, coarsened_blocks, first_of, kept_blocks, is_coded_without_motion, are_empty, with_blocks, made_blocks, coarsened_macroblock}
 use Rattle.requantiser.proofs.Blocks.{level_from, level_here, level_there, level_before, coarsened_block-is, one_coarser_block}
-use Rattle.requantiser.proofs.Codes.{mapped_code-is, one_mapped}
+use Rattle.requantiser.proofs.MappedCodes.{mapped_code-is, one_mapped}
 use Rattle.requantiser.proofs.Places.{BothOrNone}
 use Rattle.requantiser.proofs.Ranges.{IsFirst, find-some, find-none}
 
@@ -36,11 +36,33 @@ empty_block block no_dc empty = ap₂ (λ d items. let block : Block = record { 
 
 module _ (seq : SeqState) (coding : PicCoding) (kind : Kind) (code mapped : ℕ) where
   -- the walk over the block with this index
-  abbrev one_block : List Block → ℕ → Block
+  abbrev pub one_block : List Block → ℕ → Block
   one_block blocks i = coarsened_block seq coding (block_way coding kind i) code mapped (slice_index_or blocks i no_block)
 
-  get_or-coarsened : (blocks : List Block) (i : ℕ) → i < BLOCKS → get_or (coarsened_blocks seq coding kind code mapped blocks) i no_block ≡ one_block blocks i
+  pub get_or-coarsened : (blocks : List Block) (i : ℕ) → i < BLOCKS → get_or (coarsened_blocks seq coding kind code mapped blocks) i no_block ≡ one_block blocks i
   get_or-coarsened blocks i below = get_or-map-range_with_len (one_block blocks) 0 BLOCKS i i no_block below (omega arith)
+
+  -- blocks that are each what the walk makes are all that it makes
+  pub all_blocks : (blocks made : List Block) → length made ≡ BLOCKS → ((k : ℕ) → k < BLOCKS → get_or made k no_block ≡ one_block blocks k)
+      → made ≡ coarsened_blocks seq coding kind code mapped blocks
+  all_blocks blocks made six each = same_lists made (coarsened_blocks seq coding kind code mapped blocks) (six ∙ sym (length-map-range_with_len (one_block blocks) 0 BLOCKS))
+      (λ k d below. get_or_default made k d no_block below ∙ each k (omega (arith, six)) ∙ sym (get_or-coarsened blocks k (omega (arith, six)))
+      ∙ get_or_default (coarsened_blocks seq coding kind code mapped blocks) k no_block d (omega (arith, six, length-map-range_with_len (one_block blocks) 0 BLOCKS)))
+
+  -- one more block is made
+  pub one_more_block : (blocks before : List Block) (i : ℕ) (block d : Block) → length before ≡ BLOCKS → length blocks ≡ BLOCKS → i < BLOCKS
+      → block ≡ coarsened_block seq coding (block_way coding kind i) code mapped (get_or blocks i d)
+      → ((k : ℕ) → k < i → get_or before k no_block ≡ one_block blocks k)
+      → (k : ℕ) → k < i + 1 → get_or (slice_set before i block) k no_block ≡ one_block blocks k
+  one_more_block blocks before i block d six six' within is each k below = by_place (cases_order k i)
+    where
+      by_place : (k ≡ i) ⊎ ((k < i) ⊎ (i < k)) → get_or (slice_set before i block) k no_block ≡ one_block blocks k
+      by_place (inl here) =
+          ap (λ n. get_or (slice_set before i block) n no_block) here ∙ get_or-set_same before i block no_block (omega (arith, six))
+          ∙ is ∙ ap (coarsened_block seq coding (block_way coding kind i) code mapped) (get_or_default blocks i d no_block (omega (arith, six')))
+          ∙ ap (one_block blocks) (sym here)
+      by_place (inr (inl before_it)) = get_or-set_other before i k block no_block (λ e. absurd (omega arith)) ∙ each k before_it
+      by_place (inr (inr behind)) = absurd (omega arith)
 
   -- the walk over the blocks makes the coarser blocks
   pub coarsened_blocks-are : (blocks : List Block) → length blocks ≡ BLOCKS
@@ -323,3 +345,25 @@ module _ (seq : SeqState) (coding : PicCoding) (m : ℕ) (inner : Bool) (code be
       ap (behind_skipped skipped) (coarser-is seq coding (unwrap_or from.code code) mapped before from a first)
       ∙ ap (λ blocks. with_blocks coding mapped before skipped from blocks) blocks
       ∙ sym (ap (behind_skipped skipped) (coarser-is seq coding (unwrap_or from.code code) mapped before from b again))
+
+-- the walk over a macroblock makes its blocks, then what it says
+pub coarsened_macroblock-made : (seq : SeqState) (coding : PicCoding) (m : ℕ) (inner : Bool) (code mapped before skipped : ℕ) (from : Macroblock) (made : Option (List Block))
+    → mapped ≡ mapped_code coding.q_scale_type m code → made ≡ made_blocks seq coding inner code mapped from
+    → option_map (with_blocks coding mapped before skipped from) made ≡ coarsened_macroblock seq coding m inner code before skipped from
+coarsened_macroblock-made seq coding m inner code mapped before skipped from made is made_is =
+    ap (option_map (with_blocks coding mapped before skipped from)) made_is
+    ∙ ap (λ n. option_map (with_blocks coding n before skipped from) (made_blocks seq coding inner code n from)) is
+    ∙ by_test (is_coded_without_motion from.kind && are_empty blocks) inner refl refl
+  where
+    blocks : List Block
+    blocks = coarsened_blocks seq coding from.kind code (mapped_code coding.q_scale_type m code) from.blocks
+
+    with : List Block → Macroblock
+    with bs = with_blocks coding (mapped_code coding.q_scale_type m code) before skipped from bs
+
+    by_test : (t i : Bool) → t ≡ (is_coded_without_motion from.kind && are_empty blocks) → i ≡ inner
+        → option_map with (elim t [ false ↦ Some blocks | true ↦ elim i [ true ↦ None | false ↦ Some (kept_blocks from) ] ])
+        ≡ (elim t [ false ↦ Some (with blocks) | true ↦ elim i [ true ↦ None | false ↦ Some (with (kept_blocks from)) ] ])
+    by_test false i test is = refl
+    by_test true true test is = refl
+    by_test true false test is = refl

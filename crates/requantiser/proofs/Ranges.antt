@@ -1,5 +1,5 @@
 -- The first number of a range that passes a test.
-use Rattle.std.proofs.Common.{◌≡◌, ℕ, zero, suc, ◌+◌, ◌<◌, ◌≤◌, Some, None, Bool, true, false, sym, ◌∙◌, ap, subst, ◌⊎◌, inl, inr, arith, cond}
+use Rattle.std.proofs.Common.{◌≡◌, ℕ, zero, suc, ◌+◌, ◌<◌, ◌≤◌, Some, None, Bool, true, false, refl, sym, ◌∙◌, ap, subst, ◌⊎◌, inl, inr, arith, cond}
 use Rattle.std.specs.Prelude.{find}
 use Rattle.std.specs.List.{range_with_len}
 use Rattle.std.proofs.lemmas.Bool.{cases_eq, cases_Bool}
@@ -39,3 +39,22 @@ find-none p a (suc n) found i low high = by_test (find-none p (a + 1) n) (cases_
     by_test rest (inr failing) (inl here) = subst (λ x. p x ≡ false) (sym here) failing
     by_test rest (inr failing) (inr there) =
         rest (sym (ap (λ b. cond b (Some a) (find p (range_with_len (a + 1) n))) failing) ∙ found) i (omega arith) (omega arith)
+
+-- the first number that passes is found
+pub find-first : (p : ℕ → Bool) (a n k : ℕ) → IsFirst p a (a + n) k → find p (range_with_len a n) ≡ Some k
+find-first p a zero k first = absurd (omega (arith, first.from, first.below))
+find-first p a (suc n) k first = by_place (find-first p (a + 1) n k) (cases_eq a k)
+  where
+    by_place : (IsFirst p (a + 1) (a + 1 + n) k → find p (range_with_len (a + 1) n) ≡ Some k) → (a ≡ k) ⊎ (a ≡ k → ⊥) → find p (range_with_len a (suc n)) ≡ Some k
+    by_place rest (inl here) =
+        ap (λ b. cond b (Some a) (find p (range_with_len (a + 1) n))) (subst (λ x. p x ≡ true) (sym here) first.passes) ∙ ap (λ x. Some x) here
+    by_place rest (inr there) =
+        ap (λ b. cond b (Some a) (find p (range_with_len (a + 1) n))) (first.none_before a (omega arith) (omega (arith, first.from)))
+        ∙ rest (record { from = omega (arith, first.from); below = omega (arith, first.below); passes = first.passes; none_before = λ i low high. first.none_before i (omega arith) high })
+
+-- nothing is found where none passes
+pub find-nothing : (p : ℕ → Bool) (a n : ℕ) → ((i : ℕ) → a ≤ i → i < a + n → p i ≡ false) → find p (range_with_len a n) ≡ None
+find-nothing p a zero none = refl
+find-nothing p a (suc n) none =
+    ap (λ b. cond b (Some a) (find p (range_with_len (a + 1) n))) (none a (omega arith) (omega arith))
+    ∙ find-nothing p (a + 1) n (λ i low high. none i (omega arith) (omega arith))

@@ -15,7 +15,7 @@ use Rattle.requantiser.specs.Places.{item_at}
 use Rattle.requantiser.specs.Slices.{macroblock_at, end_column, is_inner, code_before, IsCoarserSlice}
 use Rattle.requantiser.specs.Private.Shapes.{HasShape}
 use Rattle.requantiser.specs.Private.Walk.{mapped_code, is_none, is_coded_without_motion, are_empty, with_blocks, kept_blocks, coarsened_blocks, coarsened_macroblock, coarsened_macroblocks, coarsened_slice}
-use Rattle.requantiser.proofs.Codes.{mapped_code-is, one_mapped}
+use Rattle.requantiser.proofs.MappedCodes.{mapped_code-is, one_mapped}
 use Rattle.requantiser.proofs.Macroblocks.{behind_skipped, SameButSkipped, coarsened_macroblock-is, one_coarser_at}
 use Rattle.requantiser.proofs.Places.{item_at-here, item_at-there, item_at-before, BothOrNone, same_items}
 

@@ -1,9 +1,11 @@
 -- How far the coefficients of a picture are from those of another one.
-use Rattle.std.specs.Prelude.{◌*◌, ◌-◌, ◌-ℤ◌, ◌&&◌, ℕ, ℤ, pos, unsigned_abs, nat_le, is_some, find, slice_index_or, Bool}
+use Rattle.std.specs.Prelude.{◌*◌, ◌-◌, ◌-ℤ◌, ◌&&◌, ℕ, ℤ, pos, unsigned_abs, nat_le, is_some, find, slice_index_or, Bool, Option}
 use Rattle.std.specs.Option.{option_map_or}
 use Rattle.std.specs.List.{sum_by, range_with_len}
 use Rattle.syntax_types.specs.declared.block.TheConstants.{BLOCK_PLACES}
 use Rattle.syntax_types.specs.declared.macroblock.TheConstants.{BLOCKS}
+use Rattle.syntax_types.specs.declared.macroblock.Macroblock.{Macroblock}
+use Rattle.syntax_types.specs.declared.picture.PicCoding.{PicCoding}
 use Rattle.syntax_types.specs.declared.picture.Picture.{Picture}
 use Rattle.syntax_types.specs.declared.picture.SeqState.{SeqState}
 use Rattle.syntax_types.specs.declared.slice.Slice.{Slice}
@@ -17,11 +19,16 @@ use Rattle.requantiser.specs.Slices.{macroblock_at, code_at}
 abbrev pub has_address : SeqState → ℕ → Slice → Bool
 has_address seq address slice = nat_le (slice.row * columns seq) address && is_some (macroblock_at slice (address - slice.row * columns seq))
 
+-- the coefficient of a macroblock under the code in force in it, in one of its blocks, at a place of the scan; 0 where
+-- none is coded, and where the macroblock is skipped, which is `None`
+abbrev pub coefficient_of_macroblock : SeqState → PicCoding → ℕ → Option Macroblock → ℕ → ℕ → ℤ
+coefficient_of_macroblock seq coding code macroblock i place = option_map_or
+    (λ m. coefficient_at seq coding (block_way coding m.kind i) code (slice_index_or m.blocks i no_block) place) macroblock (pos 0)
+
 -- the coefficient of a macroblock of a slice at a column, 0 where none is coded
 abbrev pub coefficient_in : Picture → Slice → ℕ → ℕ → ℕ → ℤ
-coefficient_in picture slice column i place = option_map_or
-    (λ m. coefficient_at picture.seq picture.coding (block_way picture.coding m.kind i) (code_at slice column) (slice_index_or m.blocks i no_block) place)
-    (macroblock_at slice column) (pos 0)
+coefficient_in picture slice column i place =
+    coefficient_of_macroblock picture.seq picture.coding (code_at slice column) (macroblock_at slice column) i place
 
 -- the coefficient of a picture at an address, in one of the blocks, at a place of the scan; 0 where none is coded, and
 -- for the DC coefficient of an intra block
@@ -34,8 +41,11 @@ coefficient_of_picture picture address i place = option_map_or
 abbrev pub squared_difference : ℤ → ℤ → ℕ
 squared_difference a b = unsigned_abs (a -ℤ b) * unsigned_abs (a -ℤ b)
 
+-- the sum of the squares of the differences of the coefficients that two macroblocks have by block and place of the scan
+unfoldable pub difference_of : (ℕ → ℕ → ℤ) → (ℕ → ℕ → ℤ) → ℕ
+difference_of f g = sum_by (λ i. sum_by (λ place. squared_difference (f i place) (g i place)) (range_with_len 0 BLOCK_PLACES)) (range_with_len 0 BLOCKS)
+
 -- the sum of the squares of the differences, over all coefficients of the picture but the DC coefficients of intra blocks
 unfoldable pub distortion_between : Picture → Picture → ℕ
-distortion_between from to = sum_by (λ address. sum_by (λ i. sum_by
-    (λ place. squared_difference (coefficient_of_picture from address i place) (coefficient_of_picture to address i place))
-    (range_with_len 0 BLOCK_PLACES)) (range_with_len 0 BLOCKS)) (range_with_len 0 (rows from.seq * columns from.seq))
+distortion_between from to =
+    sum_by (λ address. difference_of (coefficient_of_picture from address) (coefficient_of_picture to address)) (range_with_len 0 (rows from.seq from.coding * columns from.seq))

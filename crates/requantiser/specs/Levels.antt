@@ -9,6 +9,7 @@ use Rattle.syntax_types.specs.declared.block.BlockWay.{BlockWay}
 use Rattle.syntax_types.specs.declared.picture.PicCoding.{PicCoding}
 use Rattle.syntax_types.specs.declared.picture.SeqState.{SeqState}
 use Rattle.picture_grammar.specs.Block.{first_place}
+use Rattle.picture_grammar.specs.Picture.{AreWeights}
 use Rattle.requantiser.specs.Places.{item_at}
 
 -- the level at a place of the scan, 0 where none stands; the DC coefficient of an intra block is none of them
@@ -21,6 +22,11 @@ level_at way block place =
 abbrev pub weight_at : SeqState → PicCoding → Bool → ℕ → ℕ
 weight_at seq coding intra place =
     slice_index (if intra then seq.intra else seq.non_intra) (slice_index (scan_order coding.alternate_scan) place)
+
+-- both matrices of a state have 64 weights, none of them 0 (ISO/IEC 13818-2, 6.3.11)
+pub record HasWeights (seq : SeqState) : Type 0 where
+  pub intra : AreWeights seq.intra
+  pub non_intra : AreWeights seq.non_intra
 
 -- quantiser_scale of a code, by the picture's q_scale_type (ISO/IEC 13818-2, 7.4.2.2)
 abbrev pub scale_of : PicCoding → ℕ → ℕ

@@ -7,3 +7,4 @@ pub mod Places
 pub mod Private
 pub mod Slices
 pub mod Version
+pub mod VersionState

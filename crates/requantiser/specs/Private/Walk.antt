@@ -39,6 +39,14 @@ coarsened_pairs new place waiting (pair ∷ pairs) =
       | false ↦ record { run = waiting + pair.run; level = new (place + pair.run) pair.level } ∷ coarsened_pairs new (place + pair.run + 1) 0 pairs
     ]
 
+-- a coefficient behind so many zeros, unless it is 0
+abbrev pub kept_pair : ℕ → ℤ → List RunLevel
+kept_pair zeros level = elim (unsigned_abs level == 0) [ true ↦ [] | false ↦ record { run = zeros; level = level } ∷ [] ]
+
+-- the zeros that wait behind a level that so many zeros precede
+abbrev pub zeros_behind : ℕ → ℤ → ℕ
+zeros_behind zeros level = elim (unsigned_abs level == 0) [ true ↦ zeros + 1 | false ↦ 0 ]
+
 abbrev pub coarsened_block : SeqState → PicCoding → BlockWay → ℕ → ℕ → Block → Block
 coarsened_block seq coding way code mapped block = record {
   dc = block.dc;
@@ -85,6 +93,15 @@ with_blocks coding mapped before skipped m blocks =
       pattern = pattern;
       blocks = blocks;
     }
+
+-- the blocks that stand in the coarser picture for those of a macroblock, or none where it is skipped
+abbrev pub made_blocks : SeqState → PicCoding → Bool → ℕ → ℕ → Macroblock → Option (List Block)
+made_blocks seq coding inner code mapped from =
+    let blocks = coarsened_blocks seq coding from.kind code mapped from.blocks in
+    elim (is_coded_without_motion from.kind && are_empty blocks) [
+      | false ↦ Some blocks
+      | true ↦ elim inner [ true ↦ None | false ↦ Some (kept_blocks from) ]
+    ]
 
 -- what becomes of a macroblock, where this code is in force in it, and that one before it in the coarser picture, behind
 -- so many skipped ones

@@ -1,7 +1,5 @@
-use Rattle.std.proofs.Common.{rules, w16, SFits, to_z, of_z, ◌∙◌}
-use Rattle.std.proofs.lemmas.Int.{to_z-of_z}
 use Rattle.block_coeffs.proofs.Symbols.{coefficients-is}
-use Rattle.block_coeffs.proofs.Pairs.{past-found, unsigned-found, pair-found}
+use Rattle.block_coeffs.proofs.Pairs.{past-found, unsigned-found}
 use Rattle.block_coeffs.proofs.standing.by_table.Goals as goal
 
 pub returns-then-place-run : goal.returns-then-place-run
@@ -12,11 +10,3 @@ pub returns-then-len-window : goal.returns-then-len-window
 returns-then-len-window c = λ table tests no_end no_escape b.
     unsigned-found (coefficients-is table tests) c.args.place c.args.window c.args.window.within c.args.symbol c.args.len c.from-run.result no_end no_escape b c.from-run.ensures
     c.if-place-run.false c.if-len-window.true
-
-pub returns : goal.returns
-returns c = λ table tests no_end no_escape b.
-    let level = c.with_sign-level.result in
-    let fits : SFits w16 level = search rules in
-    let found = pair-found (coefficients-is table tests) c.args.place c.args.window c.args.window.within c.args.symbol c.args.len c.from-run.result no_end no_escape b c.from-run.ensures
-    c.bit_at.result (to_z w16 (of_z w16 level)) c.if-place-run.false c.if-len-window.false (to_z-of_z w16 level fits ∙ c.with_sign-level.ensures) c.bit_at.ensures in
-    (found.0, found.1, found.2)

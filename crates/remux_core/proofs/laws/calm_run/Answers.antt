@@ -1,4 +1,4 @@
-use Rattle.std.proofs.Common.{◌≡◌, ◌⊎◌, List, ℕ, ◌<◌, Some, refl, inl, inr, lit<, arith}
+use Rattle.std.proofs.Common.{◌<◌, Some, refl, inl, inr, lit<, arith}
 use Rattle.shelf_io.specs.Counts.{Rose}
 use Rattle.remux_core.specs.declared.status.Status.TheVariants.{Ok}
 use Rattle.remux_core.specs.Command.{Plan}

@@ -1,8 +1,8 @@
-use Rattle.std.proofs.Common.{◌+◌, ◌∙◌, List, ℕ, codes, refl, ap, Err}
+use Rattle.std.proofs.Common.{◌+◌, ◌∙◌, codes, refl, ap, Err}
 use Rattle.version_table.specs.declared.limits.TheConstants.{TABLE_TEXT_MOST}
 use Rattle.remux_core.specs.declared.status.Status.TheVariants.{ReadFault, Missing}
 use Rattle.remux_core.specs.Answer.{Decides, AnswerHasCause}
-use Rattle.remux_core.specs.Outside.{OnFiles, shelf_facts}
+use Rattle.remux_core.specs.Outside.{shelf_facts}
 use Rattle.remux_core.specs.Private.Ended.{answer_of, HoldsFront}
 use Rattle.remux_core.specs.Private.Parsed.{plan_of}
 use Rattle.remux_core.specs.Report.{file_report}

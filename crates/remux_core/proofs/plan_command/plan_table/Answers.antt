@@ -1,4 +1,3 @@
-use Rattle.std.proofs.Common.{List, ℕ, refl}
 use Rattle.remux_core.specs.Answer.{Decides}
 use Rattle.remux_core.specs.PlanCommand.{HasPlan, HoldsTable}
 use Rattle.remux_core.specs.Private.Ended.{answer_of}

@@ -1,4 +1,4 @@
-use Rattle.std.proofs.Common.{◌≡◌, List, ℕ, Option, Some, None, codes, refl, ap, subst, IfOk, Err, ◌∙◌}
+use Rattle.std.proofs.Common.{◌≡◌, codes, refl, ap, subst, IfOk, Err, ◌∙◌}
 use Rattle.serde_json.specs.View.{view}
 use Rattle.remux_core.specs.declared.status.Status.TheVariants.{WriteFault}
 use Rattle.remux_core.specs.Answer.{Decides, AnswerHasCause}

@@ -1,8 +1,7 @@
-use Rattle.std.proofs.Common.{◌≡◌, List, ℕ, Option, Some, None, refl, map, subst}
-use Rattle.std.specs.String.{string_bytes}
+use Rattle.std.proofs.Common.{None, refl}
 use Rattle.remux_core.specs.declared.status.Status.TheVariants.{Usage}
 use Rattle.remux_core.specs.Answer.{Decides, AnswerHasCause}
-use Rattle.remux_core.specs.Outside.{OnFiles, shelf_facts}
+use Rattle.remux_core.specs.Outside.{shelf_facts}
 use Rattle.remux_core.specs.Private.Parsed.{plan_of}
 use Rattle.remux_core.specs.Report.{usage_report}
 use Rattle.remux_core.proofs.Counted.{counts_same, asks_same, asks_table}

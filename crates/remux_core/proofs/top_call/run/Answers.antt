@@ -1,4 +1,4 @@
-use Rattle.std.proofs.Common.{◌≡◌, ◌∙◌, List, ℕ, Option, Some, None, map, take, refl, sym, ap, subst, inl, inr, arith, Err}
+use Rattle.std.proofs.Common.{◌∙◌, List, ℕ, Some, None, map, refl, ap, subst, inl, inr, arith, Err}
 use Rattle.std.specs.String.{string_bytes}
 use Rattle.shelf_io.specs.Sink.{with_bytes, AddsPrefix}
 use Rattle.remux_core.specs.declared.status.Status.TheVariants.{WriteFault, OutOfMemory}

@@ -1,0 +1,142 @@
+ghost use Rattle.std.specs.Prelude.{◌≡◌, ◌<◌, ◌≤◌, ◌*◌, ◌^◌, ℕ, pos, unsigned_abs, slice_index_or, Option};
+ghost use Rattle.quant_math.specs.declared.levels.TheConstants.{LEAST_COEFFICIENT};
+ghost use Rattle.quant_math.specs.Levels.{coefficient_of as coefficient_of_level};
+ghost use Rattle.quant_math.specs.Scales.{IsCode};
+ghost use Rattle.picture_grammar.specs.Block.{first_place};
+ghost use Rattle.requantiser.specs.Distortion.{coefficient_of_macroblock, difference_of, squared_difference};
+ghost use Rattle.requantiser.specs.Levels.{HasWeights, coefficient_at, scale_of, weight_at as weight_at_place};
+ghost use Rattle.requantiser.specs.Private.Shapes.{AreCoefficients, FitBlock, IsSide};
+ghost use Rattle.requantiser.specs.Private.Sums.{sum_from};
+
+use crate::block::weight_at;
+use crate::macroblock::block_way;
+use quant_math::{inverse, scale};
+use syntax_types::{BLOCK_PLACES, BLOCKS, Block, BlockWay, Macroblock, PicCoding, SeqState};
+
+/// The coefficients of a block that isn't coded.
+const NO_COEFFICIENTS: [i16; BLOCK_PLACES] = [0; BLOCK_PLACES];
+
+/// A macroblock that isn't skipped, with what its coefficients depend on.
+#[derive(Clone, Copy)]
+pub struct Side<'a> {
+    pub seq: &'a SeqState,
+    pub coding: &'a PicCoding,
+    /// quantiser_scale_code in force in the macroblock.
+    pub code: u8,
+    pub macroblock: &'a Macroblock,
+}
+
+/// The sum of the squares of the differences of two macroblocks' coefficients.
+pub fn difference_of_two(a: Side<'_>, b: Side<'_>) -> u64
+    requires first { IsSide a.seq.now a.code a.macroblock.now }
+    requires second { IsSide b.seq.now b.code b.macroblock.now }
+    ensures value { result ≡ difference_of (coefficient_of_macroblock a.entry.seq.now a.entry.coding.now a.entry.code (Option.Some a.entry.macroblock.now))
+        (coefficient_of_macroblock b.entry.seq.now b.entry.coding.now b.entry.code (Option.Some b.entry.macroblock.now)) }
+    ensures bound { result ≤ 2 ^ 41 }
+{
+    let mut sum = 0;
+    for i in 0..BLOCKS {
+        let first = block_coefficients(a.seq, a.coding, a.code, a.macroblock, i);
+        let second = block_coefficients(b.seq, b.coding, b.code, b.macroblock, i);
+        sum += squared_differences(&first, &second);
+    }
+    sum
+}
+
+/// The sum of the squares of the coefficients of a macroblock, where the other one is skipped.
+pub fn difference_of_one(a: Side<'_>) -> u64
+    requires { IsSide a.seq.now a.code a.macroblock.now }
+    ensures value { result ≡ difference_of (coefficient_of_macroblock a.entry.seq.now a.entry.coding.now a.entry.code (Option.Some a.entry.macroblock.now)) (λ i place. pos 0) }
+    ensures bound { result ≤ 2 ^ 41 }
+{
+    let mut sum = 0;
+    for i in 0..BLOCKS {
+        let coefficients = block_coefficients(a.seq, a.coding, a.code, a.macroblock, i);
+        sum += squared_differences(&coefficients, &NO_COEFFICIENTS);
+    }
+    sum
+}
+
+/// The coefficients of a macroblock in one of its blocks.
+fn block_coefficients(
+    seq: &SeqState,
+    coding: &PicCoding,
+    code: u8,
+    macroblock: &Macroblock,
+    i: usize,
+) -> [i16; BLOCK_PLACES]
+    requires side { IsSide seq.now code macroblock.now }
+    requires block { i < BLOCKS }
+    ensures value { (place : ℕ) → slice_index_or result place (pos 0) ≡ coefficient_of_macroblock seq.now coding.now code (Option.Some macroblock.now) i place }
+    ensures small { AreCoefficients result }
+{
+    let way = block_way(coding, macroblock.kind, i);
+    coefficients_of(seq, coding, way, code, &macroblock.blocks[i])
+}
+
+/// The coefficients of a block at all places of the scan, but the DC coefficient of an intra block (ISO/IEC 13818-2,
+/// 7.4.2).
+fn coefficients_of(
+    seq: &SeqState,
+    coding: &PicCoding,
+    way: BlockWay,
+    code: u8,
+    block: &Block,
+) -> [i16; BLOCK_PLACES]
+    requires weights { HasWeights seq.now }
+    requires code { IsCode code }
+    requires fits { FitBlock (first_place way) block.now.pairs.items }
+    ensures value { (place : ℕ) → slice_index_or result place (pos 0) ≡ coefficient_at seq.now coding.now way code block.now place }
+    ensures small { AreCoefficients result }
+{
+    let mut coefficients = [0; BLOCK_PLACES];
+    let mut place = u8::from(way.intra);
+    for pair in block.pairs.as_slice() {
+        let at = place + pair.run;
+        coefficients[usize::from(at)] = coefficient_of(seq, coding, way, code, at, pair.level);
+        place = at + 1;
+    }
+    coefficients
+}
+
+/// The coefficient of a level at a place of the scan.
+fn coefficient_of(
+    seq: &SeqState,
+    coding: &PicCoding,
+    way: BlockWay,
+    code: u8,
+    place: u8,
+    level: i16,
+) -> i16
+    requires weights { HasWeights seq.now }
+    requires code { IsCode code }
+    requires place { place < BLOCK_PLACES }
+    ensures small { unsigned_abs result ≤ unsigned_abs LEAST_COEFFICIENT }
+    ensures value { result ≡ coefficient_of_level level (weight_at_place seq.now coding.now way.intra place) (scale_of coding.now code) way.intra }
+{
+    let weight = weight_at(seq, coding, way.intra, place);
+    inverse(level, weight, scale(coding.q_scale_type, code), way.intra)
+}
+
+/// The sum of the squares of the differences.
+fn squared_differences(a: &[i16; BLOCK_PLACES], b: &[i16; BLOCK_PLACES]) -> u64
+    requires first { AreCoefficients a.now }
+    requires second { AreCoefficients b.now }
+    ensures value { result ≡ sum_from (λ place. squared_difference (slice_index_or a.now place (pos 0)) (slice_index_or b.now place (pos 0))) 0 BLOCK_PLACES }
+    ensures bound { result ≤ 2 ^ 38 }
+{
+    let mut sum = 0;
+    for place in 0..BLOCK_PLACES {
+        sum += squared(a[place], b[place]);
+    }
+    sum
+}
+
+/// The square of a difference.
+fn squared(a: i16, b: i16) -> u64
+    ensures value { result ≡ squared_difference a b }
+    ensures bound { result ≤ 2 ^ 32 }
+{
+    let difference = u64::from((i32::from(a) - i32::from(b)).unsigned_abs());
+    difference * difference
+}

@@ -1,0 +1,204 @@
+ghost use Rattle.std.specs.Prelude.{◌≡◌, ◌<◌, ◌^◌, ◌+◌, ℕ, Option, true, false, if◌then◌else◌, unwrap_or, IsTrue, ◌↔◌};
+ghost use Rattle.quant_math.specs.Scales.{IsCode, IsMappedCode};
+ghost use Rattle.syntax_types.specs.declared.block.Block.{Block as BlockOf};
+ghost use Rattle.picture_grammar.specs.Macroblock.{block_way as way_of_block, has_dct_type as dct_type_stands, is_coded as is_coded_block, no_block};
+ghost use Rattle.requantiser.specs.Blocks.{no_blocks};
+ghost use Rattle.requantiser.specs.Levels.{HasWeights};
+ghost use Rattle.requantiser.specs.Macroblocks.{pattern_of as pattern_of_blocks};
+ghost use Rattle.requantiser.specs.Private.Shapes.{FitBlock, HasShape, IsMeasured};
+ghost use Rattle.requantiser.specs.Private.Walk.{coarsened_blocks, made_blocks, kept_blocks, first_of, first_coded as first_coded_block, are_empty as are_all_empty, is_coded_without_motion as stands_without_motion, with_blocks};
+
+use crate::block::coarsen_block;
+use crate::codes::Codes;
+use arrayvec::ArrayVec;
+use quant_math::map_code;
+use syntax_types::{
+    BLOCKS, Block, BlockWay, FRAME_PICTURE, Kind, Macroblock, PicCoding, RunLevel, SeqState,
+    VECTORS_MOST, Vector,
+};
+
+/// The blocks of luminance stand before those of chrominance (ISO/IEC 13818-2, 6.1.3.1).
+const LUMINANCE_BLOCKS: usize = 4;
+
+/// Writes the blocks that stand in the coarser picture for those of a macroblock, and says whether it is coded there.
+pub fn make_blocks(
+    seq: &SeqState,
+    coding: &PicCoding,
+    codes: Codes,
+    inner: bool,
+    from: &Macroblock,
+    to: &mut [Block; BLOCKS],
+) -> bool
+    requires weights { HasWeights seq.now }
+    requires shape { HasShape from.now }
+    requires measured { IsMeasured from.now }
+    ensures { (if result then Option.Some to.new else Option.None) ≡ made_blocks seq.now coding.now inner codes.in_force codes.mapped from.now }
+{
+    coarsen_blocks(seq, coding, codes, from, to);
+    if !(is_coded_without_motion(from.kind) && are_empty(to)) {
+        return true;
+    }
+    if inner {
+        return false;
+    }
+    keep_first(from, to);
+    true
+}
+
+/// Writes the blocks of a macroblock under another code.
+fn coarsen_blocks(
+    seq: &SeqState,
+    coding: &PicCoding,
+    codes: Codes,
+    from: &Macroblock,
+    to: &mut [Block; BLOCKS],
+)
+    requires weights { HasWeights seq.now }
+    requires shape { HasShape from.now }
+    requires measured { IsMeasured from.now }
+    ensures { to.new ≡ coarsened_blocks seq.now coding.now from.now.kind codes.in_force codes.mapped from.now.blocks }
+{
+    for i in 0..BLOCKS {
+        let way = block_way(coding, from.kind, i);
+        coarsen_block(seq, coding, way, codes, &from.blocks[i], &mut to[i]);
+    }
+}
+
+pub fn block_way(coding: &PicCoding, kind: Kind, i: usize) -> BlockWay
+    ensures { result ≡ way_of_block coding.now kind i }
+{
+    BlockWay {
+        intra: kind.intra,
+        luma: i < LUMINANCE_BLOCKS,
+        vlc_one: coding.intra_vlc_format,
+    }
+}
+
+/// A macroblock is coded with a pattern and without motion.
+fn is_coded_without_motion(kind: Kind) -> bool
+    ensures { result ≡ stands_without_motion kind }
+{
+    kind.pattern && !kind.intra && !kind.forward && !kind.backward
+}
+
+fn are_empty(blocks: &[Block; BLOCKS]) -> bool
+    ensures { result ≡ are_all_empty blocks.now }
+{
+    blocks.iter().all(|block| block.pairs.is_empty())
+}
+
+/// Of the blocks of a macroblock that are all emptied, the first one that is coded keeps its first coefficient, with a
+/// level of 1.
+fn keep_first(from: &Macroblock, to: &mut [Block; BLOCKS])
+    requires shape { HasShape from.now }
+    requires measured { IsMeasured from.now }
+    requires empty { to.old ≡ no_blocks }
+    ensures { to.new ≡ kept_blocks from.now }
+{
+    let i = first_coded(from);
+    keep_level(&from.blocks[i], &mut to[i]);
+}
+
+/// Writes the first coefficient of a block with a level of 1 into an empty one.
+fn keep_level(from: &Block, to: &mut Block)
+    requires fits { (start : ℕ) × FitBlock start from.now.pairs.items }
+    requires empty { to.old ≡ no_block }
+    ensures { to.new ≡ first_of from.now }
+{
+    if let Some(pair) = from.pairs.as_slice().first() {
+        let level = pair.level.signum();
+        to.pairs.push(RunLevel {
+            run: pair.run,
+            level,
+        });
+    }
+}
+
+/// The index of the first block that is coded.
+fn first_coded(from: &Macroblock) -> usize
+    ensures value { result ≡ first_coded_block from.now }
+    ensures within { result < BLOCKS }
+{
+    for i in 0..BLOCKS {
+        if is_coded(from.kind, from.pattern, i) {
+            return i;
+        }
+    }
+    0
+}
+
+fn is_coded(kind: Kind, pattern: u8, i: usize) -> bool
+    requires { i < BLOCKS }
+    ensures { result ≡ is_coded_block kind pattern i }
+{
+    kind.intra || pattern >> (BLOCKS - 1 - i) & 1 == 1
+}
+
+/// Writes what a macroblock says in the coarser picture besides its blocks, which stand already.
+pub fn write_head(
+    coding: &PicCoding,
+    mapped: u8,
+    before: u8,
+    skipped: u16,
+    from: &Macroblock,
+    to: &mut Macroblock,
+)
+    requires { IsCode mapped }
+    ensures head { to.new ≡ with_blocks coding.now mapped before skipped from.now to.old.blocks }
+    ensures code { (code : ℕ) → to.new.code ≡ Option.Some code → IsCode code }
+{
+    let pattern = if from.kind.intra {
+        0
+    } else {
+        pattern_of(&to.blocks)
+    };
+    let has_coefficients = from.kind.intra || pattern != 0;
+    let code = if has_coefficients && mapped != before {
+        Some(mapped)
+    } else {
+        None
+    };
+    let kind = Kind {
+        quant: code.is_some(),
+        pattern: pattern != 0,
+        ..from.kind
+    };
+    to.skipped_before = skipped;
+    to.kind = kind;
+    to.motion_type = from.motion_type;
+    to.field_dct = has_dct_type(coding, kind) && from.field_dct;
+    to.code = code;
+    copy_vectors(&from.forward, &mut to.forward);
+    copy_vectors(&from.backward, &mut to.backward);
+    to.pattern = pattern;
+}
+
+/// dct_type stands in a frame picture, where there are coefficients and it may vary (ISO/IEC 13818-2, 6.2.5.1).
+fn has_dct_type(coding: &PicCoding, kind: Kind) -> bool
+    ensures { result ≡ dct_type_stands coding.now kind }
+{
+    coding.structure == FRAME_PICTURE
+        && !coding.frame_pred_frame_dct
+        && (kind.intra || kind.pattern)
+}
+
+/// coded_block_pattern: a bit for each block, the first one the most significant (ISO/IEC 13818-2, 6.3.17.4).
+fn pattern_of(blocks: &[Block; BLOCKS]) -> u8
+    ensures value { result ≡ pattern_of_blocks blocks.now }
+    ensures bits { result < 2 ^ BLOCKS }
+{
+    let mut pattern = 0;
+    for block in blocks {
+        pattern = 2 * pattern + u8::from(!block.pairs.is_empty());
+    }
+    pattern
+}
+
+fn copy_vectors(from: &ArrayVec<Vector, VECTORS_MOST>, to: &mut ArrayVec<Vector, VECTORS_MOST>)
+    ensures { to.new.items ≡ from.now.items }
+{
+    to.clear();
+    for vector in from.as_slice() {
+        to.push(*vector);
+    }
+}

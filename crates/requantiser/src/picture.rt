@@ -1,0 +1,46 @@
+ghost use Rattle.std.specs.Prelude.{◌≡◌, ◌≤◌, IfOk, map};
+ghost use Rattle.std.specs.List.{AllByRecursion, AllZip};
+ghost use Rattle.picture_grammar.specs.Picture.{IsLawful};
+ghost use Rattle.picture_grammar.specs.Slice.{columns};
+ghost use Rattle.requantiser.specs.Levels.{HasWeights};
+ghost use Rattle.requantiser.specs.Slices.{IsCoarserSlice};
+ghost use Rattle.requantiser.specs.Private.Shapes.{IsWalkableSlice};
+ghost use Rattle.requantiser.specs.Private.Walk.{coarsened_slice};
+
+use crate::slice::coarsen_slice;
+use std::alloc::Global;
+use syntax_types::{ListOf, OutOfMemory, PicCoding, Picture, SeqState, Slice};
+
+/// The slices of the version of a lawful picture at `m` sixteenths.
+pub fn coarsen_slices(
+    alloc: Global,
+    picture: &Picture,
+    m: u16,
+) -> Result<ListOf<Slice>, OutOfMemory>
+    requires { IsLawful picture.now }
+    ensures { IfOk result (λ slices. AllZip (IsCoarserSlice picture.now.seq picture.now.coding m) picture.now.slices slices) }
+{
+    let slices = picture.slices.as_slice();
+    let made = walk_slices(alloc, &picture.seq, &picture.coding, m, slices)?;
+    Ok(made)
+}
+
+/// The slices of a version, by the walk.
+fn walk_slices(
+    alloc: Global,
+    seq: &SeqState,
+    coding: &PicCoding,
+    m: u16,
+    slices: &[Slice],
+) -> Result<ListOf<Slice>, OutOfMemory>
+    requires weights { HasWeights seq.now }
+    requires few { columns seq.now ≤ u16.MAX }
+    requires walkable { AllByRecursion (IsWalkableSlice (columns seq.now)) slices.now }
+    ensures { IfOk result (λ made. made ≡ map (coarsened_slice seq.now coding.now m) slices.now) }
+{
+    let mut made = ListOf::new(alloc);
+    for slice in slices {
+        made.push(coarsen_slice(alloc, seq, coding, m, slice)?)?;
+    }
+    Ok(made)
+}
