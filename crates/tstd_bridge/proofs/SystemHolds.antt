@@ -25,7 +25,7 @@ use Rattle.tstd_model.proofs.Server.{departures-spaced, came-occupied}
 use Rattle.tstd_bridge.specs.Sections.{sections_in, sections_from}
 use Rattle.tstd_bridge.proofs.SectionPlaces.{next_place, long_period, pat_place, IsPmtPlace, pmt_place}
 use Rattle.tstd_bridge.proofs.SectionRows.{section_of, sections_from-none, sections_from-one}
-use Rattle.tstd_bridge.proofs.SystemLevels.{period_work, KeepsUp, keeps-none, keeps-wrap, keeps-pat, keeps-pmt}
+use Rattle.tstd_bridge.proofs.SystemLevels.{period_work, AreServed, served-none, served-wrap, served-pat, served-pmt}
 use Rattle.tstd_bridge.proofs.SystemSteps.{sections_pass}
 
 -- ---- the period
@@ -50,15 +50,15 @@ is_long slot some short = record {
 }
 
 -- ---- the rows
-abbrev KeepRows : (slot program : ℕ) → List Row → Type 0
-KeepRows slot program rows = KeepsUp slot program (length rows % period slot) (length rows) (sections_from 0 program rows)
+abbrev RowsAreServed : (slot program : ℕ) → List Row → Type 0
+RowsAreServed slot program rows = AreServed slot program (length rows % period slot) (length rows) (sections_from 0 program rows)
 
-rows-nil : (slot program : ℕ) → IsLong slot → KeepRows slot program []
+rows-nil : (slot program : ℕ) → IsLong slot → RowsAreServed slot program []
 unfolding sections_from parts arrives kept departures last_departure
 rows-nil slot program long =
     let e : 0 ≡ 0 * period slot + 0 = omega arith in
     let first : 0 % period slot ≡ 0 = ap (λ m. m % period slot) e ∙ mod-mul-add 0 (period slot) 0 (omega (arith, long.slots)) in
-    let start : KeepsUp slot program 0 0 [] = record {
+    let start : AreServed slot program 0 0 [] = record {
       has = refl;
       tb_start = λ _. omega arith;
       main_start = λ _. omega arith;
@@ -69,36 +69,36 @@ rows-nil slot program long =
       tb_soon = tt;
       main_soon = tt;
     } in
-    subst (λ offset. KeepsUp slot program offset 0 []) (sym first) start
+    subst (λ offset. AreServed slot program offset 0 []) (sym first) start
 
-rows-none : (slot program : ℕ) (rows : List Row) (row : Row) → IsLong slot → sections_in program row ≡ 0 → KeepRows slot program rows → KeepRows slot program (rows ++ row ∷ [])
+rows-none : (slot program : ℕ) (rows : List Row) (row : Row) → IsLong slot → sections_in program row ≡ 0 → RowsAreServed slot program rows → RowsAreServed slot program (rows ++ row ∷ [])
 rows-none slot program rows row long none before =
     let n = length rows in
     let offset = length rows % period slot in
     let arrivals = sections_from 0 program rows in
     rw (sections_from-none program rows row none, length_push rows row)
-    (elim (next_place n (period slot) (omega (arith, long.slots))) as (λ _. KeepsUp slot program ((length rows + 1) % period slot) (length rows + 1) (sections_from 0 program rows)) [
-      | inl next ↦ subst (λ o. KeepsUp slot program o (length rows + 1) (sections_from 0 program rows)) (sym next) (keeps-none slot program offset n arrivals before)
+    (elim (next_place n (period slot) (omega (arith, long.slots))) as (λ _. AreServed slot program ((length rows + 1) % period slot) (length rows + 1) (sections_from 0 program rows)) [
+      | inl next ↦ subst (λ o. AreServed slot program o (length rows + 1) (sections_from 0 program rows)) (sym next) (served-none slot program offset n arrivals before)
       | inr wraps ↦
           (let whole : period_work ≤ (length rows % period slot + 1) * slot_subticks slot = subst (λ p. period_work ≤ p * slot_subticks slot) (sym wraps.1) long.work in
-          subst (λ o. KeepsUp slot program o (length rows + 1) (sections_from 0 program rows)) (sym wraps.0) (keeps-wrap slot program offset n arrivals whole before))
+          subst (λ o. AreServed slot program o (length rows + 1) (sections_from 0 program rows)) (sym wraps.0) (served-wrap slot program offset n arrivals whole before))
     ])
 
 -- a packet of sections comes, not in the last slot of the period
 rows-one : (slot program : ℕ) (rows : List Row) (row : Row) → IsLong slot → sections_in program row ≡ 1 → length rows % period slot ≤ PROGRAMS_MOST
-    → KeepsUp slot program (length rows % period slot + 1) (length rows + 1) (sections_from 0 program rows ++ section_of (length rows) ∷ [])
-    → KeepRows slot program (rows ++ row ∷ [])
+    → AreServed slot program (length rows % period slot + 1) (length rows + 1) (sections_from 0 program rows ++ section_of (length rows) ∷ [])
+    → RowsAreServed slot program (rows ++ row ∷ [])
 rows-one slot program rows row long one low after =
     rw (sections_from-one program rows row one, length_push rows row)
     (elim (next_place (length rows) (period slot) (omega (arith, long.slots)))
-    as (λ _. KeepsUp slot program ((length rows + 1) % period slot) (length rows + 1) (sections_from 0 program rows ++ section_of (length rows) ∷ [])) [
+    as (λ _. AreServed slot program ((length rows + 1) % period slot) (length rows + 1) (sections_from 0 program rows ++ section_of (length rows) ∷ [])) [
       | inl next ↦
-          subst (λ o. KeepsUp slot program o (length rows + 1) (sections_from 0 program rows ++ section_of (length rows) ∷ [])) (sym next) after
+          subst (λ o. AreServed slot program o (length rows + 1) (sections_from 0 program rows ++ section_of (length rows) ∷ [])) (sym next) after
       | inr wraps ↦ absurd (omega (arith, wraps.1, low, long.slots))
     ])
 
 rows-pmt : (table : Table) (choice : List ℕ) (program p : ℕ) (rows : List Row) → IsValidTable table → IsLong table.slot → eqb p program ≡ true → IsPmtPlace (length table.programs) p (length rows % period table.slot)
-    → KeepRows table.slot program rows → KeepRows table.slot program (rows ++ Reserved (Pmt p) ∷ [])
+    → RowsAreServed table.slot program rows → RowsAreServed table.slot program (rows ++ Reserved (Pmt p) ∷ [])
 rows-pmt table choice program p rows valid long same place before =
     let slot = table.slot in
     let offset = length rows % period table.slot in
@@ -108,10 +108,10 @@ rows-pmt table choice program p rows valid long same place before =
     let early : length rows % period table.slot * slot_subticks table.slot ≤ PROGRAMS_MOST * slot_subticks table.slot =
     mul-le offset (slot_subticks slot) PROGRAMS_MOST (slot_subticks slot) low (le_refl (slot_subticks slot)) in
     rows-one slot program rows (Reserved (Pmt p)) long (cond-true (eqb p program) 1 0 same) low
-    (keeps-pmt slot program offset (length rows) (sections_from 0 program rows) valid.slot_most at early before)
+    (served-pmt slot program offset (length rows) (sections_from 0 program rows) valid.slot_most at early before)
 
 rows-row : (table : Table) (choice : List ℕ) (program : ℕ) (rows : List Row) (row : Row) → IsValidTable table → IsLong table.slot → IsNext table choice rows row
-    → KeepRows table.slot program rows → KeepRows table.slot program (rows ++ row ∷ [])
+    → RowsAreServed table.slot program rows → RowsAreServed table.slot program (rows ++ row ∷ [])
 rows-row table choice program rows Empty valid long next before = rows-none table.slot program rows Empty long refl before
 rows-row table choice program rows (Carries s packet) valid long next before = rows-none table.slot program rows (Carries s packet) long refl before
 rows-row table choice program rows (Reserved Null) valid long next before = rows-none table.slot program rows (Reserved Null) long refl before
@@ -121,17 +121,17 @@ rows-row table choice program rows (Reserved (AudioPiece a b)) valid long next b
 rows-row table choice program rows (Reserved Pat) valid long next before =
     let first : length rows % period table.slot ≡ 0 = pat_place (length table.programs) (length rows % period table.slot) next in
     rows-one table.slot program rows (Reserved Pat) long refl (omega (arith, first))
-    (keeps-pat table.slot program (length rows % period table.slot) (length rows) (sections_from 0 program rows) valid.slot_most first before)
+    (served-pat table.slot program (length rows % period table.slot) (length rows) (sections_from 0 program rows) valid.slot_most first before)
 rows-row table choice program rows (Reserved (Pmt p)) valid long next before =
-    elim (cases_Bool (eqb p program)) as (λ _. KeepRows table.slot program (rows ++ Reserved (Pmt p) ∷ [])) [
+    elim (cases_Bool (eqb p program)) as (λ _. RowsAreServed table.slot program (rows ++ Reserved (Pmt p) ∷ [])) [
       | inl same ↦ rows-pmt table choice program p rows valid long same (pmt_place (length table.programs) (length rows % period table.slot) p next) before
       | inr other ↦ rows-none table.slot program rows (Reserved (Pmt p)) long (cond-false (eqb p program) 1 0 other) before
     ]
 
-keep_rows : (table : Table) (choice : List ℕ) (program : ℕ) (rows : List Row) → IsValidTable table → FollowRule table choice rows → KeepRows table.slot program rows
-keep_rows table choice program rows valid =
+rows_served : (table : Table) (choice : List ℕ) (program : ℕ) (rows : List Row) → IsValidTable table → FollowRule table choice rows → RowsAreServed table.slot program rows
+rows_served table choice program rows valid =
     let long : IsLong table.slot = is_long table.slot (omega (arith, valid.slot_least)) valid.slot_most in
-    by_push (λ rows. FollowRule table choice rows → KeepRows table.slot program rows) (λ follows. rows-nil table.slot program long)
+    by_push (λ rows. FollowRule table choice rows → RowsAreServed table.slot program rows) (λ follows. rows-nil table.slot program long)
     (λ rows row before follows.
     rows-row table choice program rows row valid long (FollowRule-last table choice rows row follows) (before (FollowRule-front table choice rows (row ∷ []) follows)))
     rows
@@ -143,9 +143,9 @@ unfolding leave_tb
 sections_tb_holds table choice program rows at valid follows over =
     let ts = SYSTEM_TB_SUBTICKS in
     let come = arrives table.slot (sections_from 0 program rows) in
-    let keeps : KeepRows table.slot program rows = keep_rows table choice program rows valid follows in
+    let served : RowsAreServed table.slot program rows = rows_served table choice program rows valid follows in
     let held : came at come ≤ TB_BYTES + came at (departures ts 0 come) =
-    came-occupied ts 0 TB_BYTES (TB_BYTES * ts) at come (departures ts 0 come) refl keeps.tb_soon (departures-spaced ts 0 come) in
+    came-occupied ts 0 TB_BYTES (TB_BYTES * ts) at come (departures ts 0 come) refl served.tb_soon (departures-spaced ts 0 come) in
     let over' : TB_BYTES < came at come - came at (departures ts 0 come) = over in
     omega (arith, held, over')
 
@@ -155,8 +155,8 @@ unfolding payload_passes leave_tb
 sections_main_holds table choice program rows at valid follows over =
     let q = SYSTEM_SUBTICKS in
     let pass = sections_pass table.slot (sections_from 0 program rows) in
-    let keeps : KeepRows table.slot program rows = keep_rows table choice program rows valid follows in
+    let served : RowsAreServed table.slot program rows = rows_served table choice program rows valid follows in
     let held : came at pass ≤ SYSTEM_BYTES + came at (departures q 0 pass) =
-    came-occupied q 0 SYSTEM_BYTES (SYSTEM_BYTES * q) at pass (departures q 0 pass) refl keeps.main_soon (departures-spaced q 0 pass) in
+    came-occupied q 0 SYSTEM_BYTES (SYSTEM_BYTES * q) at pass (departures q 0 pass) refl served.main_soon (departures-spaced q 0 pass) in
     let over' : SYSTEM_BYTES < came at pass - came at (departures q 0 pass) = over in
     omega (arith, held, over')

@@ -14,7 +14,7 @@ period_work = packet_work + 2 * payload_work
 
 -- after n slots, of which so many are of the period that goes on: free at the start, behind by a packet until the program's
 -- PMT, and never behind by more than two
-pub record KeepsUp (slot program offset n : ℕ) (arrivals : List Arrival) : Type 0 where
+pub record AreServed (slot program offset n : ℕ) (arrivals : List Arrival) : Type 0 where
   pub has : HaveParts slot arrivals
   pub tb_start : offset ≡ 0 → tb_free_of slot arrivals ≤ n * slot_subticks slot
   pub main_start : offset ≡ 0 → main_free_of slot arrivals ≤ n * slot_subticks slot
@@ -25,8 +25,8 @@ pub record KeepsUp (slot program offset n : ℕ) (arrivals : List Arrival) : Typ
   pub tb_soon : TbSoon slot arrivals
   pub main_soon : MainSoon slot arrivals
 
-pub keeps-none : (slot program offset n : ℕ) (arrivals : List Arrival) → KeepsUp slot program offset n arrivals → KeepsUp slot program (offset + 1) (n + 1) arrivals
-keeps-none slot program offset n arrivals before = record {
+pub served-none : (slot program offset n : ℕ) (arrivals : List Arrival) → AreServed slot program offset n arrivals → AreServed slot program (offset + 1) (n + 1) arrivals
+served-none slot program offset n arrivals before = record {
   has = before.has;
   tb_start = λ none. absurd (omega (arith, none));
   main_start = λ none. absurd (omega (arith, none));
@@ -39,9 +39,9 @@ keeps-none slot program offset n arrivals before = record {
 }
 
 -- the next period begins
-pub keeps-wrap : (slot program offset n : ℕ) (arrivals : List Arrival) → period_work ≤ (offset + 1) * slot_subticks slot
-    → KeepsUp slot program offset n arrivals → KeepsUp slot program 0 (n + 1) arrivals
-keeps-wrap slot program offset n arrivals long before =
+pub served-wrap : (slot program offset n : ℕ) (arrivals : List Arrival) → period_work ≤ (offset + 1) * slot_subticks slot
+    → AreServed slot program offset n arrivals → AreServed slot program 0 (n + 1) arrivals
+served-wrap slot program offset n arrivals long before =
     let tb : tb_free_of slot arrivals ≤ (n + 1) * slot_subticks slot = omega (arith, before.tb_end, long) in
     let main : main_free_of slot arrivals ≤ (n + 1) * slot_subticks slot = omega (arith, before.main_end, long) in
     record {
@@ -57,9 +57,9 @@ keeps-wrap slot program offset n arrivals long before =
     }
 
 -- the PAT comes
-pub keeps-pat : (slot program offset n : ℕ) (arrivals : List Arrival) → slot ≤ SLOT_MOST → offset ≡ 0 → KeepsUp slot program offset n arrivals
-    → KeepsUp slot program (offset + 1) (n + 1) (arrivals ++ section_of n ∷ [])
-keeps-pat slot program offset n arrivals short first before =
+pub served-pat : (slot program offset n : ℕ) (arrivals : List Arrival) → slot ≤ SLOT_MOST → offset ≡ 0 → AreServed slot program offset n arrivals
+    → AreServed slot program (offset + 1) (n + 1) (arrivals ++ section_of n ∷ [])
+served-pat slot program offset n arrivals short first before =
     let quick : byte_subticks slot ≤ SYSTEM_TB_SUBTICKS = omega (arith, short) in
     let tb_most : tb_free_of slot arrivals ≤ n * slot_subticks slot = before.tb_start first in
     let main_most : main_free_of slot arrivals ≤ n * slot_subticks slot = before.main_start first in
@@ -80,9 +80,9 @@ keeps-pat slot program offset n arrivals short first before =
     }
 
 -- the program's PMT comes
-pub keeps-pmt : (slot program offset n : ℕ) (arrivals : List Arrival) → slot ≤ SLOT_MOST → offset ≡ program + 1 → offset * slot_subticks slot ≤ PROGRAMS_MOST * slot_subticks slot
-    → KeepsUp slot program offset n arrivals → KeepsUp slot program (offset + 1) (n + 1) (arrivals ++ section_of n ∷ [])
-keeps-pmt slot program offset n arrivals short place early before =
+pub served-pmt : (slot program offset n : ℕ) (arrivals : List Arrival) → slot ≤ SLOT_MOST → offset ≡ program + 1 → offset * slot_subticks slot ≤ PROGRAMS_MOST * slot_subticks slot
+    → AreServed slot program offset n arrivals → AreServed slot program (offset + 1) (n + 1) (arrivals ++ section_of n ∷ [])
+served-pmt slot program offset n arrivals short place early before =
     let quick : byte_subticks slot ≤ SYSTEM_TB_SUBTICKS = omega (arith, short) in
     let low : offset ≤ program + 1 = omega (arith, place) in
     let tb_most : tb_free_of slot arrivals + offset * slot_subticks slot ≤ n * slot_subticks slot + packet_work = before.tb_middle low in
