@@ -4,6 +4,9 @@ pub mod Made
 pub mod MappedCodes
 pub mod PairSteps
 pub mod Coefficients
+pub mod CursorSteps
+pub mod Cursors
+pub mod Differences
 pub mod Examples
 pub mod Macroblocks
 pub mod Patterns

@@ -31,10 +31,10 @@ abbrev pub code_from : ℕ → ℕ → List Macroblock → ℕ → ℕ
 code_from code start [] column = code
 code_from code start (m ∷ ms) column = if nat_le column (start + gap_of m) then code else code_from (unwrap_or m.code code) (start + gap_of m + 1) ms column
 
-code_from-up_to : (code start : ℕ) (m : Macroblock) (ms : List Macroblock) (column : ℕ) → column ≤ start + gap_of m → code_from code start (m ∷ ms) column ≡ code
+pub code_from-up_to : (code start : ℕ) (m : Macroblock) (ms : List Macroblock) (column : ℕ) → column ≤ start + gap_of m → code_from code start (m ∷ ms) column ≡ code
 code_from-up_to code start m ms column within = rw (le-leb column (start + gap_of m) within) refl
 
-code_from-behind : (code start : ℕ) (m : Macroblock) (ms : List Macroblock) (column : ℕ) → start + gap_of m < column
+pub code_from-behind : (code start : ℕ) (m : Macroblock) (ms : List Macroblock) (column : ℕ) → start + gap_of m < column
     → code_from code start (m ∷ ms) column ≡ code_from (unwrap_or m.code code) (start + gap_of m + 1) ms column
 code_from-behind code start m ms column behind = rw (lt-leb column (start + gap_of m) behind) refl
 

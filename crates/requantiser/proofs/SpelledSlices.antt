@@ -17,6 +17,7 @@ use Rattle.syntax_types.specs.declared.slice.Slice.{Slice}
 use Rattle.picture_grammar.specs.Grammar.{SpellsList, Next}
 use Rattle.picture_grammar.specs.Grammar.Next.{more, last}
 use Rattle.picture_grammar.specs.Macroblock.{address_code, address_increment, most_increment, escape_increment, macroblock}
+use Rattle.picture_grammar.specs.Picture.{first_column}
 use Rattle.picture_grammar.specs.Slice.{columns, columns_left, next_macroblock, slice}
 use Rattle.requantiser.specs.Private.Shapes.{IsWalkable, AreWalkable, IsWalkableSlice}
 use Rattle.requantiser.proofs.MacroblockSteps.{span_of}
@@ -111,6 +112,11 @@ module _ (seq : SeqState) (coding : PicCoding) where
         within = subst (λ (xs : List Macroblock). sum_by span_of xs ≤ columns seq) (append_assoc before (m ∷ []) ms) others.within;
       }
 
+  -- a slice has a macroblock
+  has_macroblock : (ms : List Macroblock) (bits rest : List ℕ) → SpellsList (next_macroblock seq coding) [] ms tt bits rest → first_column ms < sum_by span_of ms
+  has_macroblock [] bits rest (v, n, s, (e, f)) = absurd (let clash : last tt ≡ more v = e in cc)
+  has_macroblock (m ∷ ms) bits rest s = omega (arith, sum_by-cons span_of m ms)
+
   pub spelled_slice-walkable : (row : ℕ) (v : Slice) (bits rest : List ℕ) → (slice seq coding row).Spells v bits rest → IsWalkableSlice (columns seq) v
   unfolding slice
   spelled_slice-walkable row v bits rest (code, m1, s1, (info, m2, s2, (ms, m3, s3, (e, f)))) =
@@ -119,4 +125,5 @@ module _ (seq : SeqState) (coding : PicCoding) where
         code = is_code code bits m1 s1;
         macroblocks = all.walkable;
         within = all.within;
+        some = has_macroblock ms.0 m2 m3 s3;
       })

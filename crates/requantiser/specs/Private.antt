@@ -1,3 +1,4 @@
+pub mod Cursor
 pub mod Shapes
 pub mod Sums
 pub mod Walk

@@ -3,13 +3,17 @@
 
 mod block;
 mod codes;
+mod comparison;
+mod cursor;
 mod difference;
+
 mod macroblock;
 mod picture;
 mod slice;
 mod step;
 mod version_state;
 
+pub use comparison::distortion;
 pub use picture::coarsen_slices;
 pub use step::{Coarsened, coarsen_macroblock};
 pub use version_state::VersionState;

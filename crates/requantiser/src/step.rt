@@ -107,7 +107,7 @@ pub fn step(
 }
 
 /// The code in force behind one that may be written.
-fn code_in_force(written: Option<u8>, before: u8) -> u8
+pub fn code_in_force(written: Option<u8>, before: u8) -> u8
     requires written { (code : ℕ) → written ≡ Option.Some code → IsCode code }
     requires before { IsCode before }
     ensures value { result ≡ unwrap_or written before }

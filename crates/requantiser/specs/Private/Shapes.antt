@@ -12,6 +12,7 @@ use Rattle.syntax_types.specs.declared.picture.SeqState.{SeqState}
 use Rattle.syntax_types.specs.declared.slice.Slice.{Slice}
 use Rattle.picture_grammar.specs.declared.escape.TheConstants.{LEVEL_BITS}
 use Rattle.picture_grammar.specs.Macroblock.{is_coded, no_block}
+use Rattle.picture_grammar.specs.Picture.{first_column}
 use Rattle.requantiser.specs.Levels.{HasWeights}
 use Rattle.requantiser.specs.Slices.{end_column}
 
@@ -52,6 +53,7 @@ pub record IsWalkableSlice (columns : ℕ) (slice : Slice) : Type 0 where
   pub code : IsCode slice.code
   pub macroblocks : AreWalkable slice.macroblocks
   pub within : end_column slice ≤ columns
+  pub some : first_column slice.macroblocks < end_column slice
 
 -- the numbers are coefficients of a block, as inverse quantisation gives them
 abbrev pub AreCoefficients : List ℤ → Type 0

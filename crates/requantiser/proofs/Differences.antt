@@ -1,0 +1,54 @@
+-- Sums of squared differences.
+use Rattle.std.proofs.Common.{◌≡◌, ℕ, ℤ, pos, negsuc, zero, suc, ◌+◌, ◌*◌, ◌^◌, ◌≤◌, refl, sym, ◌∙◌, ap₂, arith}
+use Rattle.std.specs.Prelude.{◌-ℤ◌, unsigned_abs}
+use Rattle.std.proofs.Math.Nat.{mul-le}
+use Rattle.syntax_types.specs.declared.picture.Picture.{Picture}
+use Rattle.picture_grammar.specs.Picture.{rows, IsLawful}
+use Rattle.picture_grammar.specs.Slice.{columns}
+use Rattle.requantiser.specs.Distortion.{squared_difference, difference_of, coefficient_of_picture, distortion_between}
+use Rattle.requantiser.specs.Private.Sums.{sum_from}
+use Rattle.requantiser.proofs.SpelledHeads.{columns-few}
+use Rattle.requantiser.proofs.SpelledPictures.{lawful-walkable}
+use Rattle.requantiser.proofs.Sums.{block_difference, difference_of-blocks, sum_from-same}
+
+-- the difference to 0, either way
+from_zero : (z : ℤ) → unsigned_abs (pos 0 -ℤ z) ≡ unsigned_abs (z -ℤ pos 0)
+from_zero (pos zero) = refl
+from_zero (pos (suc n)) = omega arith
+from_zero (negsuc n) = omega arith
+
+pub difference_of-same : (f g h k : ℕ → ℕ → ℤ) → ((i place : ℕ) → f i place ≡ h i place) → ((i place : ℕ) → g i place ≡ k i place) → difference_of f g ≡ difference_of h k
+difference_of-same f g h k first second =
+    sym (difference_of-blocks f g)
+    ∙ sum_from-same (block_difference f g) (block_difference h k) 0 6 (λ i low high.
+    sum_from-same (λ place. squared_difference (f i place) (g i place)) (λ place. squared_difference (h i place) (k i place)) 0 64
+    (λ place low high. ap₂ squared_difference (first i place) (second i place)))
+    ∙ difference_of-blocks h k
+
+pub difference_of-flip : (f : ℕ → ℕ → ℤ) → difference_of (λ i place. pos 0) f ≡ difference_of f (λ i place. pos 0)
+difference_of-flip f =
+    sym (difference_of-blocks (λ i place. pos 0) f)
+    ∙ sum_from-same (block_difference (λ i place. pos 0) f) (block_difference f (λ i place. pos 0)) 0 6 (λ i low high.
+    sum_from-same (λ place. squared_difference (pos 0) (f i place)) (λ place. squared_difference (f i place) (pos 0)) 0 64
+    (λ place low high. ap₂ (λ a b. a * b) (from_zero (f i place)) (from_zero (f i place))))
+    ∙ difference_of-blocks f (λ i place. pos 0)
+
+pub difference_of-none : 0 ≡ difference_of (λ i place. pos 0) (λ i place. pos 0)
+unfolding difference_of
+difference_of-none = refl
+
+-- the difference of two pictures at an address
+abbrev pub difference_at : Picture → Picture → ℕ → ℕ
+difference_at from to address = difference_of (coefficient_of_picture from address) (coefficient_of_picture to address)
+
+pub distortion-is : (from to : Picture) → sum_from (difference_at from to) 0 (rows from.seq from.coding * columns from.seq) ≡ distortion_between from to
+unfolding (sum_from, distortion_between)
+distortion-is from to = refl
+
+-- a lawful picture has not so many macroblocks
+pub grid_few : (picture : Picture) (height : ℕ) → IsLawful picture → height ≤ 4098 → height ≡ rows picture.seq picture.coding → rows picture.seq picture.coding * columns picture.seq ≤ 2 ^ 19
+grid_few picture height lawful few is =
+    let high : rows picture.seq picture.coding ≤ 4098 = omega (arith, few, is) in
+    let all : rows picture.seq picture.coding * columns picture.seq ≤ 491760 =
+    mul-le (rows picture.seq picture.coding) (columns picture.seq) 4098 120 high (columns-few picture.seq (lawful-walkable picture lawful).usable) in
+    omega (arith, all)
