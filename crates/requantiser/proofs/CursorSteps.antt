@@ -11,12 +11,10 @@ use Rattle.syntax_types.specs.declared.slice.Slice.{Slice}
 use Rattle.picture_grammar.specs.Picture.{first_column, rows, IsLawful}
 use Rattle.picture_grammar.specs.Slice.{columns}
 use Rattle.requantiser.specs.Distortion.{has_address, coefficient_in, coefficient_of_macroblock, coefficient_of_picture}
-use Rattle.requantiser.specs.Slices.{end_column}
 use Rattle.requantiser.specs.Private.Cursor.{AtAddress, at_slice, nothing, at_slices, at_rest, AreInOrder, IsAhead, StandsAt}
 use Rattle.requantiser.specs.Private.Shapes.{IsSide}
 use Rattle.requantiser.proofs.Cursors.{open_slice, order_rises, here_is, later_is, skipped_is, in_order}
 use Rattle.requantiser.proofs.MacroblockSteps.{span_of}
-use Rattle.requantiser.proofs.Slices.{gap_of}
 use Rattle.requantiser.proofs.SpelledPictures.{lawful-walkable}
 
 module _ (picture : Picture) where
@@ -71,17 +69,19 @@ module _ (picture : Picture) where
       let at : start + 0 ≡ s.row * columns picture.seq + first_column s.macroblocks = stands.order.0 in
       let some : first_column s.macroblocks < sum_by span_of s.macroblocks = stands.order.1 in
       let here : address ≡ start = stands.ahead in
-      let place : address ≡ s.row * columns picture.seq + first_column s.macroblocks = omega (arith, at, here) in
-      (record {
-        few = stands.few;
-        weights = stands.weights;
-        code_is = stands.later.0.code;
-        walkable = stands.later.0.macroblocks;
-        later = stands.later.1;
-        order = stands.order.2;
-        ahead = ahead_in address (s.row * columns picture.seq) s.macroblocks some place;
-        same = λ b from. stands.same b from ∙ open_slice picture.seq s ss b (omega (arith, from, place));
-      }, has_some s.macroblocks some)
+      let place : address ≡ s.row * columns picture.seq + first_column s.macroblocks = omega (arith, at, here) in (
+        record {
+          few = stands.few;
+          weights = stands.weights;
+          code_is = stands.later.0.code;
+          walkable = stands.later.0.macroblocks;
+          later = stands.later.1;
+          order = stands.order.2;
+          ahead = ahead_in address (s.row * columns picture.seq) s.macroblocks some place;
+          same = λ b from. stands.same b from ∙ open_slice picture.seq s ss b (omega (arith, from, place));
+        },
+        has_some s.macroblocks some,
+      )
 
   -- ---- the next macroblock
 

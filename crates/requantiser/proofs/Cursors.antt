@@ -1,12 +1,11 @@
 -- What a walk over addresses has before it.
 use Rattle.std.proofs.Common.{◌≡◌, ℕ, zero, suc, ◌+◌, ◌-◌, ◌*◌, ◌<◌, ◌≤◌, Option, Some, None, List, [], ◌∷◌, ◌++◌, Bool, true, false, refl, sym, ◌∙◌, ap, ap₂, subst, ◌⊎◌, inl, inr, arith, unwrap_or}
-use Rattle.std.specs.Prelude.{◌&&◌, nat_le, find, is_some, option_and_then, if◌then◌else◌}
+use Rattle.std.specs.Prelude.{◌&&◌, nat_le, find, is_some, option_and_then}
 use Rattle.std.specs.Option.{option_map_or}
 use Rattle.std.specs.List.{AllByRecursion, sum_by, flat_map, range_with_len}
-use Rattle.std.proofs.lemmas.Bool.{cases_order, cases_eq, cases_lt, le-leb, lt-leb}
+use Rattle.std.proofs.lemmas.Bool.{cases_eq, cases_lt, le-leb, lt-leb}
 use Rattle.std.proofs.lemmas.List.Concat.{flat_map-cons}
 use Rattle.std.proofs.lemmas.List.Sums.{sum_by-cons}
-use Rattle.quant_math.specs.Scales.{IsCode}
 use Rattle.syntax_types.specs.declared.macroblock.Macroblock.{Macroblock}
 use Rattle.syntax_types.specs.declared.picture.SeqState.{SeqState}
 use Rattle.syntax_types.specs.declared.slice.Slice.{Slice}
@@ -14,10 +13,9 @@ use Rattle.picture_grammar.specs.Picture.{first_column, addresses}
 use Rattle.picture_grammar.specs.Slice.{columns}
 use Rattle.requantiser.specs.Distortion.{has_address}
 use Rattle.requantiser.specs.Places.{item_at}
-use Rattle.requantiser.specs.Slices.{macroblock_at, code_at, code_before, end_column}
-use Rattle.requantiser.specs.Private.Cursor.{AtAddress, at_slice, nothing, at_slices, code_before_place, or_slices, at_rest, AreInOrder, IsAhead, StandsAt}
-use Rattle.requantiser.specs.Private.Shapes.{AreWalkable, IsWalkableSlice}
-use Rattle.requantiser.proofs.MacroblockSteps.{span_of}
+use Rattle.requantiser.specs.Slices.{macroblock_at, code_before, end_column}
+use Rattle.requantiser.specs.Private.Cursor.{AtAddress, at_slice, nothing, at_slices, code_before_place, or_slices, at_rest, AreInOrder}
+use Rattle.requantiser.specs.Private.Shapes.{IsWalkableSlice}
 use Rattle.requantiser.proofs.Places.{item_at-here, item_at-there, item_at-before}
 use Rattle.requantiser.proofs.Slices.{gap_of, code_from, code_before-is, code_from-up_to, code_from-behind}
 

@@ -1,7 +1,9 @@
 -- Sums of squared differences.
-use Rattle.std.proofs.Common.{◌≡◌, ℕ, ℤ, pos, negsuc, zero, suc, ◌+◌, ◌*◌, ◌^◌, ◌≤◌, refl, sym, ◌∙◌, ap₂, arith}
+use Rattle.std.proofs.Common.{◌≡◌, ℕ, ℤ, pos, negsuc, ◌*ℤ◌, ◌*◌, ◌^◌, ◌≤◌, refl, sym, ◌∙◌, ap, ap₂, arith}
 use Rattle.std.specs.Prelude.{◌-ℤ◌, unsigned_abs}
-use Rattle.std.proofs.Math.Nat.{mul-le}
+use Rattle.std.proofs.Math.Nat.{one-mul}
+use Rattle.std.proofs.lemmas.Int.{ints, unsigned_abs-mul}
+use Rattle.std.proofs.lemmas.Nat.{mul-le}
 use Rattle.syntax_types.specs.declared.picture.Picture.{Picture}
 use Rattle.picture_grammar.specs.Picture.{rows, IsLawful}
 use Rattle.picture_grammar.specs.Slice.{columns}
@@ -13,9 +15,10 @@ use Rattle.requantiser.proofs.Sums.{block_difference, difference_of-blocks, sum_
 
 -- the difference to 0, either way
 from_zero : (z : ℤ) → unsigned_abs (pos 0 -ℤ z) ≡ unsigned_abs (z -ℤ pos 0)
-from_zero (pos zero) = refl
-from_zero (pos (suc n)) = omega arith
-from_zero (negsuc n) = omega arith
+from_zero z =
+    let turned : pos 0 -ℤ z ≡ negsuc 0 *ℤ (z -ℤ pos 0) = omega (arith, ints) in
+    let one : unsigned_abs (negsuc 0) * unsigned_abs (z -ℤ pos 0) ≡ unsigned_abs (z -ℤ pos 0) = one-mul (unsigned_abs (z -ℤ pos 0)) in
+    ap unsigned_abs turned ∙ unsigned_abs-mul (negsuc 0) (z -ℤ pos 0) ∙ one
 
 pub difference_of-same : (f g h k : ℕ → ℕ → ℤ) → ((i place : ℕ) → f i place ≡ h i place) → ((i place : ℕ) → g i place ≡ k i place) → difference_of f g ≡ difference_of h k
 difference_of-same f g h k first second =
@@ -42,7 +45,7 @@ abbrev pub difference_at : Picture → Picture → ℕ → ℕ
 difference_at from to address = difference_of (coefficient_of_picture from address) (coefficient_of_picture to address)
 
 pub distortion-is : (from to : Picture) → sum_from (difference_at from to) 0 (rows from.seq from.coding * columns from.seq) ≡ distortion_between from to
-unfolding (sum_from, distortion_between)
+unfolding sum_from distortion_between
 distortion-is from to = refl
 
 -- a lawful picture has not so many macroblocks

@@ -6,7 +6,6 @@ mod codes;
 mod comparison;
 mod cursor;
 mod difference;
-
 mod macroblock;
 mod picture;
 mod slice;

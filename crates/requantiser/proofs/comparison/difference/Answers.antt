@@ -1,4 +1,4 @@
-use Rattle.std.proofs.Common.{◌≡◌, ℕ, ℤ, Option, Some, Bor, sym, ◌∙◌, ap₂}
+use Rattle.std.proofs.Common.{Option, Some, Bor, sym, ◌∙◌, ap₂}
 use Rattle.std.specs.Option.{option_map}
 use Rattle.syntax_types.specs.declared.macroblock.Macroblock.{Macroblock}
 use Rattle.requantiser.specs.Distortion.{coefficient_of_macroblock, difference_of}

@@ -1,5 +1,4 @@
-use Rattle.std.proofs.Common.{◌≡◌, ℕ, Some, ◌+◌, ◌<◌, ◌≤◌, List, ◌∷◌, sym, subst, arith, ap, ◌∙◌, rules, unwrap_or}
-use Rattle.quant_math.specs.Scales.{IsCode}
+use Rattle.std.proofs.Common.{◌≡◌, ◌+◌, ◌<◌, ◌≤◌, List, ◌∷◌, sym, subst, arith}
 use Rattle.syntax_types.specs.declared.macroblock.Macroblock.{Macroblock}
 use Rattle.requantiser.specs.Private.Cursor.{StandsAt}
 use Rattle.requantiser.proofs.CursorSteps.{place_bound, skipped_stands, skipped_value, found_stands, found_value, found_side}
