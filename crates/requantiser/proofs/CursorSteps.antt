@@ -11,7 +11,7 @@ use Rattle.syntax_types.specs.declared.slice.Slice.{Slice}
 use Rattle.picture_grammar.specs.Picture.{first_column, rows, IsLawful}
 use Rattle.picture_grammar.specs.Slice.{columns}
 use Rattle.requantiser.specs.Distortion.{has_address, coefficient_in, coefficient_of_macroblock, coefficient_of_picture}
-use Rattle.requantiser.specs.Private.Cursor.{AtAddress, at_slice, nothing, at_slices, at_rest, AreInOrder, IsAhead, StandsAt}
+use Rattle.requantiser.specs.Private.Cursor.{AtAddress, at_slice, no_macroblock, at_slices, at_rest, AreInOrder, IsAhead, StandsAt}
 use Rattle.requantiser.specs.Private.Shapes.{IsSide}
 use Rattle.requantiser.proofs.Cursors.{open_slice, order_rises, here_is, later_is, skipped_is, in_order}
 use Rattle.requantiser.proofs.MacroblockSteps.{span_of}
@@ -31,7 +31,7 @@ module _ (picture : Picture) where
   coefficient_is address i place = by_slice (find (has_address picture.seq address) picture.slices)
     where
       by_slice : (o : Option Slice) → option_map_or (λ slice. coefficient_in picture slice (address - slice.row * columns picture.seq) i place) o (pos 0)
-          ≡ coefficient_there (option_map_or (at_slice picture.seq address) o nothing) i place
+          ≡ coefficient_there (option_map_or (at_slice picture.seq address) o no_macroblock) i place
       by_slice None = refl
       by_slice (Some s) = refl
 

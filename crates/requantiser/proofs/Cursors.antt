@@ -14,7 +14,7 @@ use Rattle.picture_grammar.specs.Slice.{columns}
 use Rattle.requantiser.specs.Distortion.{has_address}
 use Rattle.requantiser.specs.Places.{item_at}
 use Rattle.requantiser.specs.Slices.{macroblock_at, code_before, end_column}
-use Rattle.requantiser.specs.Private.Cursor.{AtAddress, at_slice, nothing, at_slices, code_before_place, or_slices, at_rest, AreInOrder}
+use Rattle.requantiser.specs.Private.Cursor.{AtAddress, at_slice, no_macroblock, at_slices, code_before_place, or_slices, at_rest, AreInOrder}
 use Rattle.requantiser.specs.Private.Shapes.{IsWalkableSlice}
 use Rattle.requantiser.proofs.Places.{item_at-here, item_at-there, item_at-before}
 use Rattle.requantiser.proofs.Slices.{gap_of, code_from, code_before-is, code_from-up_to, code_from-behind}
@@ -95,20 +95,20 @@ module _ (seq : SeqState) where
 
       by_item : (o : Option Macroblock) → o ≡ macroblock_at s column → at_slices seq (s ∷ ss) address ≡ or_slices seq ss address (code_before_place s.code base s.macroblocks address) o
       by_item (Some m) is =
-          found_here (has_address seq address) (at_slice seq address) s ss nothing (ap₂ (λ a b. a && b) (le-leb base address from) (ap is_some (sym is)))
+          found_here (has_address seq address) (at_slice seq address) s ss no_macroblock (ap₂ (λ a b. a && b) (le-leb base address from) (ap is_some (sym is)))
           ∙ ap₂ (λ (n : ℕ) (o : Option Macroblock). let x : AtAddress = record { code = n; macroblock = o } in x)
           (ap₂ (λ (o : Option Macroblock) (n : ℕ). unwrap_or (option_and_then (λ m. m.code) o) n) (sym is) code) (sym is)
-      by_item None is = found_later (has_address seq address) (at_slice seq address) s ss nothing (and_false (nat_le base address) (is_some (macroblock_at s column)) (ap is_some (sym is)))
+      by_item None is = found_later (has_address seq address) (at_slice seq address) s ss no_macroblock (and_false (nat_le base address) (is_some (macroblock_at s column)) (ap is_some (sym is)))
 
   none_before : (ms : List Macroblock) (column : ℕ) → column < first_column ms → item_at gap_of 0 ms column ≡ None
   none_before [] column below = refl
   none_before (m ∷ ms) column below = item_at-there gap_of 0 column m ms (λ e. absurd (omega (arith, e, below))) ∙ item_at-before gap_of (0 + gap_of m + 1) column ms (omega (arith, below))
 
   -- slices have nothing before their first address
-  pub nothing_before : (ss : List Slice) (from end address : ℕ) → AreInOrder (columns seq) from end ss → address < from → at_slices seq ss address ≡ nothing
+  pub nothing_before : (ss : List Slice) (from end address : ℕ) → AreInOrder (columns seq) from end ss → address < from → at_slices seq ss address ≡ no_macroblock
   nothing_before [] from end address order below = refl
   nothing_before (s ∷ ss) from end address (starts, some, others) below =
-      found_later (has_address seq address) (at_slice seq address) s ss nothing (by_row (cases_lt address (s.row * columns seq)))
+      found_later (has_address seq address) (at_slice seq address) s ss no_macroblock (by_row (cases_lt address (s.row * columns seq)))
       ∙ nothing_before ss (s.row * columns seq + end_column s) end address others (omega (arith, starts, some, below))
     where
       by_row : (address < s.row * columns seq) ⊎ (s.row * columns seq ≤ address) → has_address seq address s ≡ false
@@ -136,7 +136,7 @@ module _ (seq : SeqState) where
   -- a skipped one
   pub skipped_is : (code start address end : ℕ) (m : Macroblock) (ms : List Macroblock) (ss : List Slice)
       → AreInOrder (columns seq) (start + sum_by (λ m. m.skipped_before + 1) (m ∷ ms)) end ss → address < start + gap_of m
-      → at_rest seq code start (m ∷ ms) ss address ≡ nothing
+      → at_rest seq code start (m ∷ ms) ss address ≡ no_macroblock
   skipped_is code start address end m ms ss order below =
       ap₂ (or_slices seq ss address) (up_to code start m ms address (omega (arith, below)))
       (item_at-there gap_of start address m ms (λ e. absurd (omega (arith, e, below))) ∙ item_at-before gap_of (start + gap_of m + 1) address ms (omega (arith, below)))

@@ -28,12 +28,13 @@ at_slice seq address slice = record {
   macroblock = macroblock_at slice (address - slice.row * columns seq);
 }
 
-abbrev pub nothing : AtAddress
-nothing = record { code = 1; macroblock = None }
+-- what stands where a macroblock is skipped; its code counts for no_macroblock
+abbrev pub no_macroblock : AtAddress
+no_macroblock = record { code = 1; macroblock = None }
 
 -- what these slices have at an address
 abbrev pub at_slices : SeqState → List Slice → ℕ → AtAddress
-at_slices seq slices address = option_map_or (at_slice seq address) (find (has_address seq address) slices) nothing
+at_slices seq slices address = option_map_or (at_slice seq address) (find (has_address seq address) slices) no_macroblock
 
 -- the code in force before a place
 abbrev pub code_before_place : ℕ → ℕ → List Macroblock → ℕ → ℕ
@@ -41,6 +42,7 @@ code_before_place code start [] place = code
 code_before_place code start (m ∷ ms) place =
     if nat_le place (start + m.skipped_before) then code else code_before_place (unwrap_or m.code code) (start + m.skipped_before + 1) ms place
 
+-- the macroblock that was found, else what these slices have
 abbrev pub or_slices : SeqState → List Slice → ℕ → ℕ → Option Macroblock → AtAddress
 or_slices seq slices address code (Some m) = record { code = unwrap_or m.code code; macroblock = Some m }
 or_slices seq slices address code None = at_slices seq slices address
