@@ -13,16 +13,21 @@ fn packet(fourth: u8, byte: u8) -> [u8; PACKET_BYTES] {
 #[test]
 fn repeats_and_refused_packets_are_left_out(rt: HostRuntime) -> Result<(), Fail> {
     let mut file = [0u8; 4 * PACKET_BYTES + 3];
-    file[..188].copy_from_slice(&packet(0x13, 0xAA));
-    file[188..376].copy_from_slice(&packet(0x94, 0xCC));
-    file[376..564].copy_from_slice(&packet(0x13, 0xAA));
-    file[564..752].copy_from_slice(&packet(0x14, 0xBB));
+    let (first, behind) = file.split_at_mut(PACKET_BYTES);
+    let (second, behind) = behind.split_at_mut(PACKET_BYTES);
+    let (third, fourth) = behind.split_at_mut(PACKET_BYTES);
+    first.copy_from_slice(&packet(0x13, 0xAA));
+    second.copy_from_slice(&packet(0x94, 0xCC));
+    third.copy_from_slice(&packet(0x13, 0xAA));
+    fourth[..PACKET_BYTES].copy_from_slice(&packet(0x14, 0xBB));
     let mut source = Payloads::new(&file, 256);
     assert_eq!(rt; source.take_byte()?, Some(0xAA));
-    let mut payload = [0u8; 400];
-    assert_eq!(rt; take_full(&mut source, &mut payload)?, 367);
-    assert_eq!(rt; payload[..183], [0xAA; 183]);
-    assert_eq!(rt; payload[183..367], [0xBB; 184]);
+    let mut payload = [0u8; 183];
+    assert_eq!(rt; take_full(&mut source, &mut payload)?, 183);
+    assert_eq!(rt; payload, [0xAA; 183]);
+    let mut payload = [0u8; 184];
+    assert_eq!(rt; take_full(&mut source, &mut payload)?, 184);
+    assert_eq!(rt; payload, [0xBB; 184]);
     assert_eq!(rt; source.take_byte()?, None);
     Ok(())
 }
