@@ -1,12 +1,13 @@
 //! Numbers and flags with no rule, as elements of a grammar.
 ghost use Rattle.std.specs.Prelude.{◌≡◌, ◌^◌, ◌<◌, ◌≤◌, Some, [], IfOk, OnErr, IsErrOf};
-ghost use Rattle.bit_cursor.specs.BitReader.{bits_left, place, KeepsSource};
+ghost use Rattle.shelf_io.specs.Counts.{Rose};
+ghost use Rattle.bit_cursor.specs.BitReader.{bits_left, place, faults_of, absences_of, KeepsSource};
 ghost use Rattle.picture_grammar.specs.Element.{uimsbf, one_flag};
 ghost use Rattle.picture_grammar.specs.Refusal.Refusal.{End};
 ghost use Rattle.grammar_reading.specs.BitsRead.{PlacedRefusal, Reads, Explains};
 
 use bit_cursor::{BitFault, BitReader};
-use shelf_io::Source;
+use shelf_io::{Fault, Source};
 
 /// The next n bits as a number (uimsbf), n at most 32. End says that the bits end within it.
 pub fn read_number<S: Source>(reader: &mut BitReader<S>, n: u32) -> Result<u32, BitFault>
@@ -16,6 +17,8 @@ pub fn read_number<S: Source>(reader: &mut BitReader<S>, n: u32) -> Result<u32, 
     ensures end { IsErrOf result BitFault.End → Explains (uimsbf n []) reader.old (Some (record { refusal = End; at = place reader.old })) }
     ensures kept { OnErr result (bits_left reader.new ≡ bits_left reader.old) }
     ensures kept_place { OnErr result (place reader.new ≡ place reader.old) }
+    ensures failed { IsErrOf result (BitFault.Outside Fault.Failed) → Rose (faults_of reader.old) (faults_of reader.new) }
+    ensures missing { IsErrOf result (BitFault.Outside Fault.Missing) → Rose (absences_of reader.old) (absences_of reader.new) }
     ensures keeps { KeepsSource reader.old reader.new }
 {
     reader.bits(n)
@@ -27,6 +30,8 @@ pub fn read_flag<S: Source>(reader: &mut BitReader<S>) -> Result<bool, BitFault>
     ensures end { IsErrOf result BitFault.End → Explains one_flag reader.old (Some (record { refusal = End; at = place reader.old })) }
     ensures kept { OnErr result (bits_left reader.new ≡ bits_left reader.old) }
     ensures kept_place { OnErr result (place reader.new ≡ place reader.old) }
+    ensures failed { IsErrOf result (BitFault.Outside Fault.Failed) → Rose (faults_of reader.old) (faults_of reader.new) }
+    ensures missing { IsErrOf result (BitFault.Outside Fault.Missing) → Rose (absences_of reader.old) (absences_of reader.new) }
     ensures keeps { KeepsSource reader.old reader.new }
 {
     let bit = reader.bits(1)?;

@@ -4,10 +4,11 @@ use Rattle.shelf_io.specs.Counts.{Rose}
 use Rattle.shelf_io.specs.Files.{Files, Lacks}
 use Rattle.remux_core.specs.declared.status.Status.{Status}
 use Rattle.remux_core.specs.declared.status.Status.TheVariants.{Ok, Usage, JobRefused, Unschedulable, ReadFault, WriteFault, Missing, OutOfMemory}
+use Rattle.remux_core.specs.Certificate.{Certificate}
 use Rattle.remux_core.specs.Command.{Command, Plan, Reads, Writes}
 use Rattle.remux_core.specs.Outside.{ShelfFacts}
 use Rattle.remux_core.specs.PlanCommand.{PlanCallsFor, PlanDone, PlanLeaves}
-use Rattle.remux_core.specs.Report.{usage_line, refusal_line, miss_line, read_line, write_line, missing_line}
+use Rattle.remux_core.specs.Report.{plan_line, usage_line, refusal_line, miss_line, read_line, write_line, missing_line}
 
 -- a status, and the line that reports it
 pub record Answer : Type 0 where
@@ -55,12 +56,16 @@ pub record FailsAt (IsAsked : List ℕ → Type 0) (Rises : Type 0) (line_of : L
 abbrev pub IsRead : Option Command → (name : List ℕ) → Type 0
 IsRead command name = (limit : ℕ) × Reads command name limit
 
+-- the line of a command whose work was done
+abbrev pub IsDoneLine : Command → (line : List ℕ) → Type 0
+IsDoneLine (Plan table certificate) line = (plan : Certificate) × (line ≡ plan_line plan)
+
 -- Why a command ends with this status and line, whether the shelf tells its files or not. A fault of the outside comes only
 -- where a count of its own rose; a name is missing only where told files lack it.
 abbrev pub HasCause : Option Command → (old new : ShelfFacts) → Status → (line : List ℕ) → Type 0
 HasCause None old new Usage line = line ≡ usage_line
 HasCause None old new status line = ⊥
-HasCause (Some command) old new Ok line = Unit {0}
+HasCause (Some command) old new Ok line = IsDoneLine command line
 HasCause (Some command) old new Usage line = ⊥
 HasCause (Some command) old new (JobRefused refusal) line = line ≡ refusal_line refusal
 HasCause (Some command) old new (Unschedulable miss) line = line ≡ miss_line miss

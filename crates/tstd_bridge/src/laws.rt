@@ -114,6 +114,6 @@ pub fn sections_are_clean()
 {}
 
 /// No decoder has a fault under a schedule: a scheduled choice is clean.
-pub fn prove_clean()
+pub fn schedules_are_clean()
     ensures { (table : Table) (choice : List ℕ) (rows : List Row) → IsValidTable table → Fits table choice → IsSchedule table choice rows → AreClean table choice rows }
 {}

@@ -4,4 +4,7 @@
 //! Laws only, as functions that do nothing. Stands on `slot_rule` and `tstd_model`.
 #![tactic(auto)]
 
+mod clean;
 pub mod laws;
+
+pub use clean::prove_clean;

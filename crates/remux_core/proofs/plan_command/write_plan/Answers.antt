@@ -1,6 +1,7 @@
-use Rattle.std.proofs.Common.{◌≡◌, codes, refl, ap, subst, IfOk, Err, ◌∙◌}
+use Rattle.std.proofs.Common.{◌≡◌, codes, refl, ap, subst, IfOk, Some, Err, ◌∙◌}
 use Rattle.serde_json.specs.View.{view}
 use Rattle.remux_core.specs.declared.status.Status.TheVariants.{WriteFault}
+use Rattle.remux_core.specs.declared.status.Status.TheVariants as statuses
 use Rattle.remux_core.specs.Answer.{Decides, AnswerHasCause}
 use Rattle.remux_core.specs.Certificate.{certificate_bytes}
 use Rattle.remux_core.specs.Outside.{OnFiles, shelf_facts}
@@ -46,3 +47,11 @@ returns-in-Err-Failed-clause-cause g c =
     c.end_with-in-Err-Failed.result WriteFault c.file_report.result (file_report (codes "write") WriteFault files.certificate.now)
     c.end_with-in-Err-Failed.ensures c.file_report.ensures
     (record { name = files.certificate.now; asked = refl; rises = c.in-Err-Failed.ensures.causes.failed_rose (ap Err c.in-Err-Failed.field-0-is); last = c.in-Err-Failed.ensures.fault_last; names = refl }) tt
+
+pub returns-in-Ok-write_file-clause-cause : goal.returns-in-Ok-write_file-clause-cause
+returns-in-Ok-write_file-clause-cause g c =
+    let old = shelf_facts g.K.Shelf.files g.K.Shelf.counts g.K.Shelf.asked g.K.Shelf.since_fault c.args.shelf.now in
+    let new = shelf_facts g.K.Shelf.files g.K.Shelf.counts g.K.Shelf.asked g.K.Shelf.since_fault c.write_file.new.shelf in
+    ends_so (AnswerHasCause (plan_of c.args.files.now) old new)
+    (Some c.in_ok-done.done) statuses.Ok c.plan_report.result (plan_report (contents_of c.args.plan.now))
+    c.in_ok-done.ensures c.plan_report.ensures (contents_of c.args.plan.now, refl) tt
