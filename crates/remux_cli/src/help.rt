@@ -9,8 +9,8 @@ pub const HELP: &str = "remux: a statistical remultiplexer for MPEG-2 whose prom
 TABLE and CERT name two different files. The exit status is 0 where the work was done, 2 for other
 words, 3 for a refused table, 5 where the smallest choice can't be scheduled, 6 where a file can't be
 read, 7 where one can't be written, 9 where TABLE is missing, and 10 where memory is wanting. For
-each status but 0 a sentence on standard error says what is wrong. docs/FORMATS.md has the table's
-text, the certificate's bytes and the report's keys.
+each status but 0 a sentence on standard error says what is wrong. docs/TABLE.md has the table's text,
+docs/CERTIFICATE.md the certificate's bytes, docs/JOB.md and docs/FORMATS.md the report's keys.
 ";
 
 /// What `--version` prints.

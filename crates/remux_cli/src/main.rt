@@ -2,7 +2,7 @@
 //!
 //! All that it promises stands on `remux_core`'s `run`: the exit status is the code of the status that `run` ends with. For
 //! each status but 0 a sentence on standard error says what is wrong and what to do. `--help` and `--version`, each as the
-//! only word, are answered here. Stands on `remux_core` and `shelf_io`.
+//! only word, are answered here. Stands on `remux_core`, `shelf_io` and `version_table`.
 #![tactic(auto)]
 
 mod exit;

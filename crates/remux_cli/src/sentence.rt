@@ -1,5 +1,6 @@
 use remux_core::{JobRefusal, Status};
 use std::io;
+use version_table::TableFault;
 
 /// Prints on standard error what is wrong, and what is allowed; nothing where the work was done.
 pub fn print_sentence<R: Eprint>(rt: &R, words: &[String], status: &Status) -> io::Result<()> {
@@ -30,41 +31,13 @@ pub fn print_sentence<R: Eprint>(rt: &R, words: &[String], status: &Status) -> i
     }
 }
 
-/// Prints why a table is refused.
+/// Prints why a table is refused, in the words of its fault.
 fn print_refusal<R: Eprint>(rt: &R, table: &str, refusal: &JobRefusal) -> io::Result<()> {
-    match refusal {
-        JobRefusal::TableSyntax(line) => eprintln!(rt;
-            "remux: {table}: line {line} isn't one that a table has there, or lacks its line end; docs/FORMATS.md shows the \
-             table's text"
-        ),
-        JobRefusal::TableLimit(name) => {
-            let name = name.as_str();
-            let allowed = allowed(name);
-            eprintln!(rt; "remux: {table}: `{name}` breaks its limit; allowed is {allowed}")
-        }
-    }
-}
-
-/// What is allowed of a number of a table, by the name of its limit.
-fn allowed(limit: &str) -> &'static str {
-    match limit {
-        "slot" => "1016 to 40000 ticks",
-        "nodes" => "1 to 1048576",
-        "evaluations" => "0 to 1048576",
-        "programs" => "8 programs at most",
-        "vbv" => "1 to 112 units of 2048 bytes",
-        "due" =>
-            "at most 4194304 slots, above the unit's before it, and not below the audio packet's before it",
-        "gone" =>
-            "at most 4194304 slots, not below its due time, and not below the packet's before it",
-        "bytes" =>
-            "1 to 4194304 in a version, 1 to 184 in a packet, and 67108864 in a table's text",
-        "distortion" => "below 281474976710656",
-        "audios" => "8 audio streams a program at most",
-        "units" => "32768 units at most",
-        "packets" => "1048576 audio packets at most",
-        _ => "what docs/FORMATS.md says",
-    }
+    let fault = match refusal {
+        JobRefusal::TableSyntax(line) => TableFault::TableSyntax(*line),
+        JobRefusal::TableLimit(name) => TableFault::TableLimit(*name),
+    };
+    eprintln!(rt; "remux: {table}: {fault}")
 }
 
 /// A word of the command; none is empty.

@@ -3,7 +3,6 @@ use Rattle.std.proofs.Common.{◌≡◌, ℕ, ◌+◌, ◌≤◌, List, length, 
 use Rattle.std.proofs.lemmas.List.{length-take, take_all}
 use Rattle.std.specs.Option.{IsSomeAnd}
 use Rattle.std.specs.FinMap.{get}
-use Rattle.std.specs.String.{string_bytes}
 use Rattle.shelf_io.specs.Files.{Files}
 use Rattle.shelf_io.specs.WholeFile.{HoldsPrefix}
 use Rattle.version_table.specs.declared.limits.TheConstants.{TABLE_TEXT_MOST}
@@ -57,10 +56,10 @@ pub refused_ends : (table certificate : List ℕ) (held : Files) (front : List �
     → HoldsFront held table front → IsFaultOf front fault → IfSome result (IsRefusedFor (refusal_by fault)) → Decides (Some (Plan table certificate)) held (answer_of result) held
 refused_ends table certificate held front None fault holds is so = inl refl
 refused_ends table certificate held front (Some ended) (faults.TableSyntax n) holds is so =
-    subst (λ (s : Status). EndsWith (Some (Plan table certificate)) held s (string_bytes ended.line) held) (sym so.0)
+    subst (λ (s : Status). EndsWith (Some (Plan table certificate)) held s ended.line.items held) (sym so.0)
     ((holds.text, holds.held, read_whole holds.text front (RefusedAt n) holds.front_is is), refl)
 refused_ends table certificate held front (Some ended) (faults.TableLimit name) holds is so =
-    subst (λ (s : Status). EndsWith (Some (Plan table certificate)) held s (string_bytes ended.line) held) (sym so.0)
+    subst (λ (s : Status). EndsWith (Some (Plan table certificate)) held s ended.line.items held) (sym so.0)
     ((holds.text, holds.held, (is.0, read_whole holds.text front (RefusedFor is.0) holds.front_is is.1, is.2)), refl)
 refused_ends table certificate held front (Some ended) faults.OutOfMemory holds is so = absurd so
 
@@ -69,9 +68,9 @@ pub refused_cause : (command : Command) (old new : ShelfFacts) (result : Option 
     → IfSome result (IsRefusedFor (refusal_by fault)) → AnswerHasCause (Some command) old new (answer_of result)
 refused_cause command old new None fault so = tt
 refused_cause command old new (Some ended) (faults.TableSyntax n) so =
-    subst (λ (s : Status). HasCause (Some command) old new s (string_bytes ended.line)) (sym so.0) so.1
+    subst (λ (s : Status). HasCause (Some command) old new s ended.line.items) (sym so.0) so.1
 refused_cause command old new (Some ended) (faults.TableLimit name) so =
-    subst (λ (s : Status). HasCause (Some command) old new s (string_bytes ended.line)) (sym so.0) so.1
+    subst (λ (s : Status). HasCause (Some command) old new s ended.line.items) (sym so.0) so.1
 refused_cause command old new (Some ended) faults.OutOfMemory so = absurd so
 
 -- a front of the certificate of a plan is what `plan` may leave

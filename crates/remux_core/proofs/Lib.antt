@@ -1,8 +1,8 @@
 mod Answered
 mod Counted
 mod Ending
-mod Floats
 mod Held
 mod LevelChoices
+mod LineStatus
 mod One
 mod Told

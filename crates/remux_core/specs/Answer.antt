@@ -2,13 +2,15 @@
 use Rattle.std.specs.Prelude.{◌≡◌, ℕ, List, Option, Some, None}
 use Rattle.shelf_io.specs.Counts.{Rose}
 use Rattle.shelf_io.specs.Files.{Files, Lacks}
+use Rattle.job_report.specs.Report.{report_line}
+use Rattle.job_report.specs.declared.report.Report.TheVariants as reports
 use Rattle.remux_core.specs.declared.status.Status.{Status}
 use Rattle.remux_core.specs.declared.status.Status.TheVariants.{Ok, Usage, JobRefused, Unschedulable, ReadFault, WriteFault, Missing, OutOfMemory}
 use Rattle.remux_core.specs.Certificate.{Certificate}
 use Rattle.remux_core.specs.Command.{Command, Plan, Reads, Writes}
 use Rattle.remux_core.specs.Outside.{ShelfFacts}
 use Rattle.remux_core.specs.PlanCommand.{PlanCallsFor, PlanDone, PlanLeaves}
-use Rattle.remux_core.specs.Report.{plan_line, usage_line, refusal_line, miss_line, read_line, write_line, missing_line}
+use Rattle.remux_core.specs.Report.{plan_report, refusal_report, miss_report}
 
 -- a status, and the line that reports it
 pub record Answer : Type 0 where
@@ -58,23 +60,24 @@ IsRead command name = (limit : ℕ) × Reads command name limit
 
 -- the line of a command whose work was done
 abbrev pub IsDoneLine : Command → (line : List ℕ) → Type 0
-IsDoneLine (Plan table certificate) line = (plan : Certificate) × (line ≡ plan_line plan)
+IsDoneLine (Plan table certificate) line = (plan : Certificate) × (line ≡ report_line (plan_report plan))
 
 -- Why a command ends with this status and line, whether the shelf tells its files or not. A fault of the outside comes only
 -- where a count of its own rose; a name is missing only where told files lack it.
 abbrev pub HasCause : Option Command → (old new : ShelfFacts) → Status → (line : List ℕ) → Type 0
-HasCause None old new Usage line = line ≡ usage_line
+HasCause None old new Usage line = line ≡ report_line reports.Usage
 HasCause None old new status line = ⊥
 HasCause (Some command) old new Ok line = IsDoneLine command line
 HasCause (Some command) old new Usage line = ⊥
-HasCause (Some command) old new (JobRefused refusal) line = line ≡ refusal_line refusal
-HasCause (Some command) old new (Unschedulable miss) line = line ≡ miss_line miss
+HasCause (Some command) old new (JobRefused refusal) line = line ≡ report_line (refusal_report refusal)
+HasCause (Some command) old new (Unschedulable miss) line = line ≡ report_line (miss_report miss)
 HasCause (Some command) old new ReadFault line =
-    FailsAt (IsRead (Some command)) (Rose old.counts.faults new.counts.faults) read_line line new
+    FailsAt (IsRead (Some command)) (Rose old.counts.faults new.counts.faults) (λ name. report_line (reports.ReadFault name)) line new
 HasCause (Some command) old new WriteFault line =
-    FailsAt (Writes (Some command)) (Rose old.counts.write_faults new.counts.write_faults) write_line line new
+    FailsAt (Writes (Some command)) (Rose old.counts.write_faults new.counts.write_faults) (λ name. report_line (reports.WriteFault name)) line new
 HasCause (Some command) old new Missing line =
-    FailsAt (λ name. IsRead (Some command) name × Lacks old.files name) (Rose old.counts.absences new.counts.absences) missing_line line new
+    FailsAt (λ name. IsRead (Some command) name × Lacks old.files name) (Rose old.counts.absences new.counts.absences)
+    (λ name. report_line (reports.Missing name)) line new
 HasCause (Some command) old new OutOfMemory line = ⊥
 
 -- an answer has its cause; to end without one for want of memory needs none

@@ -1,6 +1,7 @@
 -- What `plan TABLE CERT` does.
 use Rattle.std.specs.Prelude.{◌≡◌, ℕ, ◌≤◌, ◌⊎◌, List, length, take, Some, None}
 use Rattle.std.specs.FinMap.{get, insert}
+use Rattle.job_report.specs.Report.{report_line}
 use Rattle.shelf_io.specs.Files.{Files}
 use Rattle.version_table.specs.declared.table.Table.{Table}
 use Rattle.version_table.specs.declared.fault.Limit.{Limit}
@@ -14,7 +15,7 @@ use Rattle.remux_core.specs.declared.status.JobRefusal.{JobRefusal}
 use Rattle.remux_core.specs.declared.status.JobRefusal.TheVariants.{TableSyntax, TableLimit}
 use Rattle.remux_core.specs.Certificate.{Certificate, certificate_bytes}
 use Rattle.remux_core.specs.Plan.{IsPlan}
-use Rattle.remux_core.specs.Report.{plan_line}
+use Rattle.remux_core.specs.Report.{plan_report}
 
 -- a file holds the text of this table
 pub record HoldsTable (files : Files) (name : List ℕ) (table : Table) : Type 0 where
@@ -46,7 +47,8 @@ PlanCallsFor name files status = ⊥
 -- CERT holds the certificate of a plan of the table in TABLE, whose values the line prints, and every other file stays
 abbrev pub PlanDone : (table certificate : List ℕ) → Files → (line : List ℕ) → (after : Files) → Type 0
 PlanDone table certificate files line after =
-    (plan : Certificate) × HasPlan files table plan × (line ≡ plan_line plan) × (after ≡ insert files certificate (certificate_bytes plan))
+    (plan : Certificate) × HasPlan files table plan × (line ≡ report_line (plan_report plan))
+    × (after ≡ insert files certificate (certificate_bytes plan))
 
 -- files are as they were, or CERT holds a front of the certificate of a plan of the table in TABLE, and every other file stays
 abbrev pub PlanLeaves : (table certificate : List ℕ) → Files → (after : Files) → Type 0

@@ -1,11 +1,14 @@
 -- The statuses, with the exit status of each.
-use Rattle.std.specs.Prelude.{◌≡◌, ℕ}
+use Rattle.std.specs.Prelude.{◌≡◌, ℕ, List, Some, codes}
+use Rattle.serde_json.specs.Find.{get}
+use Rattle.job_report.specs.Report.{number_of, report_object, report_line}
+use Rattle.job_report.specs.declared.report.Report.{Report}
 use Rattle.remux_core.specs.declared.status.Status.{Status}
 use Rattle.remux_core.specs.declared.status.Status.TheVariants.{Ok, Usage, JobRefused, Unschedulable, ReadFault, WriteFault, Missing, OutOfMemory}
 use Rattle.remux_core.specs.declared.status.JobRefusal.{JobRefusal}
 use Rattle.remux_core.specs.declared.status.JobRefusal.TheVariants.{TableSyntax, TableLimit}
 
--- the exit status, which a report line prints too
+-- the exit status
 abbrev pub code_of : Status → ℕ
 code_of Ok = 0
 code_of Usage = 2
@@ -26,3 +29,9 @@ IsSameRefusal first second = ⊥
 abbrev pub IsSameStatus : Status → Status → Type 0
 IsSameStatus (JobRefused refusal) (JobRefused other) = IsSameRefusal refusal other
 IsSameStatus first second = first ≡ second
+
+-- a line reports this status: it is that of a report that has the status's code under its key `status`
+pub record TellsStatus (status : Status) (line : List ℕ) : Type 0 where
+  pub report : Report
+  pub line_is : line ≡ report_line report
+  pub told : get (codes "status") (report_object report) ≡ Some (number_of (code_of status))

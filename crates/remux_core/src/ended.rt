@@ -1,27 +1,57 @@
-ghost use Rattle.std.specs.Prelude.{◌≡◌, false, IfSome, IsOkAnd};
-ghost use Rattle.std.specs.Result.{ForOk};
-ghost use Rattle.std.specs.String.{string_bytes};
-ghost use Rattle.serde_json.specs.View.{view};
-ghost use Rattle.serde_json.specs.Written.{has_float};
-ghost use Rattle.remux_core.specs.Report.{line};
+ghost use Rattle.std.specs.Prelude.{◌≡◌, IfSome, IfOk};
+ghost use Rattle.job_report.specs.declared.report.Report.TheVariants as reports;
+ghost use Rattle.remux_core.specs.declared.status.Status.TheVariants as statuses;
+ghost use Rattle.remux_core.specs.Private.Ended.{EndsBy};
 
-use crate::report::line_of;
 use crate::status::Status;
-use serde_json::Value;
-use std::alloc::{AllocError, Global};
+use job_report::{Report, Text, report_text};
+use list_types::OutOfMemory;
+use std::alloc::Global;
 
 /// How a command ended, and the line that says it.
 #[derive(Drop)]
 pub struct Ended {
     pub status: Status,
-    pub line: String,
+    pub line: Vec<u8>,
 }
 
 /// A status with its report line; none for want of memory.
-pub fn end_with(alloc: Global, status: Status, report: Result<Value, AllocError>) -> Option<Ended>
-    requires { ForOk report (λ value. has_float (view value) ≡ false) }
-    ensures { IfSome result (λ ended. (ended.status ≡ status) × IsOkAnd report (λ value. string_bytes ended.line ≡ line (view value))) }
+pub fn end_with(alloc: Global, status: Status, report: &Report) -> Option<Ended>
+    ensures { IfSome result (EndsBy status report.now) }
 {
-    let line = line_of(alloc, &report.ok()?).ok()?;
+    let line = report_text(alloc, report).ok()?;
     Some(Ended { status, line })
+}
+
+/// A file that can't be read; none for want of memory.
+pub fn end_unread(alloc: Global, name: &str) -> Option<Ended>
+    ensures { IfSome result (EndsBy statuses.ReadFault (reports.ReadFault name.now)) }
+{
+    let name = text_of(alloc, name).ok()?;
+    end_with(alloc, Status::ReadFault, &Report::ReadFault { name })
+}
+
+/// A file that can't be written; none for want of memory.
+pub fn end_unwritten(alloc: Global, name: &str) -> Option<Ended>
+    ensures { IfSome result (EndsBy statuses.WriteFault (reports.WriteFault name.now)) }
+{
+    let name = text_of(alloc, name).ok()?;
+    end_with(alloc, Status::WriteFault, &Report::WriteFault { name })
+}
+
+/// A file that isn't there; none for want of memory.
+pub fn end_missing(alloc: Global, name: &str) -> Option<Ended>
+    ensures { IfSome result (EndsBy statuses.Missing (reports.Missing name.now)) }
+{
+    let name = text_of(alloc, name).ok()?;
+    end_with(alloc, Status::Missing, &Report::Missing { name })
+}
+
+/// A name as a text of its own. Fails only for want of memory.
+fn text_of(alloc: Global, name: &str) -> Result<Text, OutOfMemory>
+    ensures { IfOk result (λ text. text ≡ name.now) }
+{
+    let mut text = Text::new(alloc);
+    text.push_str(name)?;
+    Ok(text)
 }

@@ -1,16 +1,18 @@
 //! Laws of the top call.
 
-ghost use Rattle.std.specs.Prelude.{◌≡◌, ◌⊎◌, List, ℕ, map};
+ghost use Rattle.std.specs.Prelude.{◌≡◌, ◌⊎◌, List, ℕ, Option, map};
 ghost use Rattle.std.specs.String.{string_bytes};
 ghost use Rattle.shelf_io.specs.Files.{Files};
 ghost use Rattle.version_table.specs.declared.table.Table.{Table};
 ghost use Rattle.version_table.specs.Choice.{IsSmallestChoice};
 ghost use Rattle.slot_rule.specs.Schedule.{IsScheduled};
 ghost use Rattle.remux_core.specs.declared.status.Status.{Status as AnyStatus};
-ghost use Rattle.remux_core.specs.Command.{IsPlanCommand};
+ghost use Rattle.remux_core.specs.Answer.{HasCause};
+ghost use Rattle.remux_core.specs.Command.{IsPlanCommand, Command as AnyCommand};
 ghost use Rattle.remux_core.specs.Outcome.{WordsCallFor};
+ghost use Rattle.remux_core.specs.Outside.{ShelfFacts};
 ghost use Rattle.remux_core.specs.PlanCommand.{HoldsTable};
-ghost use Rattle.remux_core.specs.Status.{IsSameStatus};
+ghost use Rattle.remux_core.specs.Status.{IsSameStatus, TellsStatus};
 
 use crate::status::Status;
 use crate::top_call::run;
@@ -29,6 +31,12 @@ pub fn one_status_is_called_for()
     no_miss_where_scheduled();
     first_miss_is_one();
 }
+
+/// The line of each status but that of work that was done tells the exit status.
+pub fn lines_tell_their_status()
+    ensures { (command : Option AnyCommand) (old new : ShelfFacts) (status : AnyStatus) (line : List ℕ) → HasCause command old new status line
+        → (status ≡ Status.Ok → ⊥) → TellsStatus status line }
+{}
 
 /// A run over a shelf and a sink that never fail: it ends as its words and files call for, or for want of memory.
 pub fn calm_run(

@@ -13,9 +13,9 @@ ghost use Rattle.remux_core.specs.Promises.{CountsGrow};
 
 use crate::certificate::Certificate;
 use crate::command::PlanFiles;
-use crate::ended::{Ended, end_with};
+use crate::ended::{Ended, end_missing, end_unread, end_unwritten, end_with};
 use crate::planner::{PlanFault, make_plan};
-use crate::report;
+use crate::report::{miss_report, plan_report, refusal_report};
 use crate::status::{JobRefusal, Status};
 use shelf_io::{Fault, Shelf, read_file, write_file};
 use std::alloc::Global;
@@ -34,16 +34,8 @@ pub fn plan_file<K: Shelf>(alloc: Global, files: &PlanFiles<'_>, shelf: &mut K) 
 {
     match read_file(alloc, shelf, files.table, TABLE_TEXT_MOST as u64) {
         Ok(text) => plan_text(alloc, files, text.as_slice(), shelf),
-        Err(Fault::Failed) => end_with(
-            alloc,
-            Status::ReadFault,
-            report::file_report(alloc, "read", Status::ReadFault, files.table),
-        ),
-        Err(Fault::Missing) => end_with(
-            alloc,
-            Status::Missing,
-            report::file_report(alloc, "missing", Status::Missing, files.table),
-        ),
+        Err(Fault::Failed) => end_unread(alloc, files.table),
+        Err(Fault::Missing) => end_missing(alloc, files.table),
         Err(Fault::OutOfMemory) => None,
     }
 }
@@ -88,12 +80,10 @@ fn plan_table<K: Shelf>(
     ensures asked { AsksNothing (K.asked shelf.old) (K.asked shelf.new) }
 {
     match make_plan(alloc, table) {
-        Ok(plan) => write_plan(alloc, files, &plan, shelf),
-        Err(PlanFault::Missed(miss)) => end_with(
-            alloc,
-            Status::Unschedulable(miss),
-            report::miss_report(alloc, miss),
-        ),
+        Ok(plan) => write_plan(alloc, files, plan, shelf),
+        Err(PlanFault::Missed(miss)) => {
+            end_with(alloc, Status::Unschedulable(miss), &miss_report(miss))
+        }
         Err(PlanFault::OutOfMemory) => None,
     }
 }
@@ -102,11 +92,11 @@ fn plan_table<K: Shelf>(
 fn write_plan<K: Shelf>(
     alloc: Global,
     files: &PlanFiles<'_>,
-    plan: &Certificate,
+    plan: Certificate,
     shelf: &mut K,
 ) -> Option<Ended>
-    requires { length plan.now.choice < 2 ^ 32 }
-    ensures decided { OnFiles (K.files shelf.old) (K.files shelf.new) (λ held after. HasPlan held files.now.table.now (contents_of plan.now)
+    requires { length plan.choice < 2 ^ 32 }
+    ensures decided { OnFiles (K.files shelf.old) (K.files shelf.new) (λ held after. HasPlan held files.now.table.now (contents_of plan)
         → Decides (plan_of files.now) held (answer_of result) after) }
     ensures cause { AnswerHasCause (plan_of files.now)
         (shelf_facts K.files K.counts K.asked K.since_fault shelf.old)
@@ -115,17 +105,13 @@ fn write_plan<K: Shelf>(
     ensures counts { CountsGrow (K.counts shelf.old) (K.counts shelf.new) }
     ensures asked { AsksNothing (K.asked shelf.old) (K.asked shelf.new) }
 {
-    let done = end_with(alloc, Status::Ok, report::plan_report(alloc, plan))?;
     let Ok(bytes) = plan.bytes(alloc) else {
         return None;
     };
+    let done = end_with(alloc, Status::Ok, &plan_report(plan))?;
     match write_file(shelf, files.certificate, bytes.as_slice()) {
         Ok(()) => Some(done),
-        Err(Fault::Failed) => end_with(
-            alloc,
-            Status::WriteFault,
-            report::file_report(alloc, "write", Status::WriteFault, files.certificate),
-        ),
+        Err(Fault::Failed) => end_unwritten(alloc, files.certificate),
         Err(Fault::OutOfMemory) => None,
         Err(Fault::Missing) => unreachable!(),
     }
@@ -136,8 +122,7 @@ fn refuse(alloc: Global, fault: TableFault) -> Option<Ended>
     ensures { IfSome result (IsRefusedFor (refusal_by fault)) }
 {
     let refusal = refusal_of(fault)?;
-    let report = report::refusal_report(alloc, &refusal);
-    end_with(alloc, Status::JobRefused(refusal), report)
+    end_with(alloc, Status::JobRefused(refusal), &refusal_report(refusal))
 }
 
 /// The refusal of a table fault; none for want of memory.

@@ -12,8 +12,8 @@ ghost use Rattle.remux_core.specs.Status.{IsSameStatus};
 use crate::command::plan_files;
 use crate::ended::{Ended, end_with};
 use crate::plan_command::plan_file;
-use crate::report::usage_report;
 use crate::status::Status;
+use job_report::Report;
 use shelf_io::{Fault, Shelf, Sink, put_all};
 use slot_rule::{first_miss_is_one, no_miss_where_scheduled};
 use std::alloc::Global;
@@ -55,7 +55,7 @@ pub fn run<K: Shelf, O: Sink>(alloc: Global, words: &[String], shelf: &mut K, ou
     let Some(ended) = perform(alloc, words, shelf) else {
         return Status::OutOfMemory;
     };
-    match put_all(out, ended.line.as_bytes()) {
+    match put_all(out, ended.line.as_slice()) {
         Ok(()) => ended.status,
         Err(Fault::Failed) => Status::WriteFault,
         Err(Fault::OutOfMemory) => Status::OutOfMemory,
@@ -72,6 +72,6 @@ fn perform<K: Shelf>(alloc: Global, words: &[String], shelf: &mut K) -> Option<E
 {
     match plan_files(words) {
         Some(files) => plan_file(alloc, &files, shelf),
-        None => end_with(alloc, Status::Usage, usage_report(alloc)),
+        None => end_with(alloc, Status::Usage, &Report::Usage),
     }
 }

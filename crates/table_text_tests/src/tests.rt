@@ -214,6 +214,54 @@ fn a_text_has_no_more_packets_or_bytes_than_it_may(rt: HostRuntime) -> Result<()
 }
 
 #[test]
+fn a_refusal_tells_what_is_allowed(rt: HostRuntime) -> Result<(), Fail> {
+    for (lines, want) in [
+        (
+            "remux table 1|",
+            "table: line 2 is no line that a table has there, or lacks its line end (docs/TABLE.md)",
+        ),
+        (
+            "remux table 1|slot 1015|nodes 1|evaluations 0|",
+            "table: slot breaks its limit; allowed: 1016 to 40000 ticks",
+        ),
+        (
+            "remux table 1|slot 1080|nodes 0|evaluations 0|",
+            "table: nodes breaks its limit; allowed: 1 to 1048576",
+        ),
+        (
+            "remux table 1|slot 1080|nodes 1|evaluations 0|program 113|",
+            "table: vbv breaks its limit; allowed: 1 to 112 units of 2048 bytes",
+        ),
+        (
+            "remux table 1|slot 1080|nodes 1|evaluations 0|program 112|unit 9 184:0|unit 9 184:0|",
+            "table: due breaks its limit; allowed: at most 4194304 slots, above that of the unit before it, and not below that of the packet before it",
+        ),
+        (
+            "remux table 1|slot 1080|nodes 1|evaluations 0|program 112|unit 9 0:0|",
+            "table: bytes breaks its limit; allowed: 1 to 4194304 in a version, 1 to 184 in a packet, and at most 67108864 in the text",
+        ),
+        (
+            "remux table 1|slot 1080|nodes 1|evaluations 0|program 112|unit 9 1:281474976710656|",
+            "table: distortion breaks its limit; allowed: below 281474976710656",
+        ),
+        (
+            "remux table 1|slot 1080|nodes 1|evaluations 0|program 112|audio|audio|audio|audio|audio|audio|audio|audio|audio|",
+            "table: audios breaks its limit; allowed: at most 8 audio streams in a program",
+        ),
+    ] {
+        let text = text_of(rt.alloc(), lines)?;
+        match read_table(rt.alloc(), text.as_slice()) {
+            Ok(_table) => assert_eq!(rt; "a table", want),
+            Err(fault) => {
+                let words = format!(in rt.alloc(); "{fault}")?;
+                assert_eq!(rt; words.as_str(), want);
+            }
+        }
+    }
+    Ok(())
+}
+
+#[test]
 fn a_table_has_what_its_text_says(rt: HostRuntime) -> Result<(), Fail> {
     let alloc = rt.alloc();
     let text = behind_head(

@@ -2,6 +2,7 @@ ghost use Rattle.std.specs.Prelude.{◌≡◌, ◌≤◌, length};
 ghost use Rattle.version_table.specs.Limits.{limit_name};
 ghost use Rattle.version_table.specs.Private.Reader.{IsLimitFault};
 
+use crate::wording::Allowed;
 use arrayvec::ArrayString;
 use list_types::OutOfMemory;
 use thiserror::Error;
@@ -51,10 +52,10 @@ impl Limit {
 pub enum TableFault {
     /// No table has this line there, counted from 1. A missing last line end counts for its line, and a line that is
     /// still owed at the end of the text is named too.
-    #[error("table syntax in line {0}")]
+    #[error("table: line {0} is no line that a table has there, or lacks its line end (docs/TABLE.md)")]
     TableSyntax(u64),
     /// The text has the form of a table, and this is the name of the first limit that it breaks.
-    #[error("table limit: {0}")]
+    #[error("table: {name} breaks its limit; allowed: {allowed}", name = .0, allowed = Allowed::of(.0))]
     TableLimit(ArrayString<32>),
     /// Memory was wanted and not there.
     #[error("out of memory")]

@@ -17,6 +17,7 @@ mod read;
 mod reading;
 mod table;
 mod text_laws;
+mod wording;
 mod write;
 
 pub use choice_laws::{

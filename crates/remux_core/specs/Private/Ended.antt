@@ -1,12 +1,14 @@
 -- How a command ends before its answer is reported.
 use Rattle.std.specs.Prelude.{◌≡◌, ℕ, ◌+◌, List, Option, Some, None, take}
 use Rattle.std.specs.FinMap.{get}
-use Rattle.std.specs.String.{string_bytes}
+use Rattle.job_report.specs.Report.{report_line}
+use Rattle.job_report.specs.declared.report.Report.{Report}
 use Rattle.shelf_io.specs.Files.{Files}
 use Rattle.version_table.specs.declared.limits.TheConstants.{TABLE_TEXT_MOST}
 use Rattle.version_table.specs.declared.fault.TableFault.{TableFault}
 use Rattle.version_table.specs.declared.fault.TableFault.TheVariants as faults
 use Rattle.remux_core.specs.declared.ended.Ended.{Ended}
+use Rattle.remux_core.specs.declared.status.Status.{Status}
 use Rattle.remux_core.specs.declared.status.Status.TheVariants.{JobRefused}
 use Rattle.remux_core.specs.declared.status.JobRefusal.{JobRefusal}
 use Rattle.remux_core.specs.declared.status.JobRefusal.TheVariants.{TableSyntax, TableLimit}
@@ -14,12 +16,16 @@ use Rattle.remux_core.specs.Answer.{Answer, Decides, AnswerHasCause}
 use Rattle.remux_core.specs.Command.{Command, IsSaid}
 use Rattle.remux_core.specs.Outside.{ShelfFacts, OnFiles}
 use Rattle.remux_core.specs.Promises.{CountsGrow, AsksOnly}
-use Rattle.remux_core.specs.Report.{refusal_line}
+use Rattle.remux_core.specs.Report.{refusal_report}
 
 -- the answer of a command that ended
 abbrev pub answer_of : Option Ended → Option Answer
-answer_of (Some ended) = Some (record { status = ended.status; line = string_bytes ended.line })
+answer_of (Some ended) = Some (record { status = ended.status; line = ended.line.items })
 answer_of None = None
+
+-- a command ends with this status and the line of this report
+abbrev pub EndsBy : Status → Report → Ended → Type 0
+EndsBy status report ended = (ended.status ≡ status) × (ended.line.items ≡ report_line report)
 
 -- the work of a command's words was done, up to the report
 pub record Performs (words : List (List ℕ)) (old new : ShelfFacts) (answer : Option Answer) : Type 0 where
@@ -42,7 +48,7 @@ refusal_by (faults.TableSyntax n) = Some (TableSyntax n)
 refusal_by (faults.TableLimit name) = Some (TableLimit name)
 refusal_by faults.OutOfMemory = None
 
--- a command ends with the status and the line of a refusal
+-- a command ends with a refusal
 abbrev pub IsRefusedFor : Option JobRefusal → Ended → Type 0
-IsRefusedFor (Some refusal) ended = (ended.status ≡ JobRefused refusal) × (string_bytes ended.line ≡ refusal_line refusal)
+IsRefusedFor (Some refusal) ended = EndsBy (JobRefused refusal) (refusal_report refusal) ended
 IsRefusedFor None ended = ⊥

@@ -1,11 +1,11 @@
-use Rattle.std.proofs.Common.{◌+◌, ◌∙◌, codes, refl, ap, Err}
+use Rattle.std.proofs.Common.{◌+◌, ◌∙◌, refl, ap, Err}
+use Rattle.job_report.specs.declared.report.Report.TheVariants as reports
 use Rattle.version_table.specs.declared.limits.TheConstants.{TABLE_TEXT_MOST}
 use Rattle.remux_core.specs.declared.status.Status.TheVariants.{ReadFault, Missing}
 use Rattle.remux_core.specs.Answer.{Decides, AnswerHasCause}
 use Rattle.remux_core.specs.Outside.{shelf_facts}
 use Rattle.remux_core.specs.Private.Ended.{answer_of, HoldsFront}
 use Rattle.remux_core.specs.Private.Parsed.{plan_of}
-use Rattle.remux_core.specs.Report.{file_report}
 use Rattle.remux_core.proofs.Counted.{answer_later, read_grows}
 use Rattle.remux_core.proofs.Ending.{ends_so}
 use Rattle.remux_core.proofs.Held.{held_text}
@@ -39,8 +39,7 @@ returns-in-Err-Failed-clause-cause g c =
     let old = shelf_facts g.K.Shelf.files g.K.Shelf.counts g.K.Shelf.asked g.K.Shelf.since_fault c.args.shelf.now in
     let new = shelf_facts g.K.Shelf.files g.K.Shelf.counts g.K.Shelf.asked g.K.Shelf.since_fault c.read_file.new.shelf in
     ends_so (AnswerHasCause (plan_of files) old new)
-    c.end_with.result ReadFault c.file_report.result (file_report (codes "read") ReadFault files.table.now)
-    c.end_with.ensures c.file_report.ensures
+    c.end_unread.result ReadFault (reports.ReadFault files.table.now) (reports.ReadFault files.table.now) c.end_unread.ensures refl
     (record { name = files.table.now; asked = (TABLE_TEXT_MOST, (refl, refl)); rises = c.in-Err-Failed.ensures.causes.failed_rose (ap Err c.in-Err-Failed.field-0-is); last = c.in-Err-Failed.ensures.failed_last (ap Err c.in-Err-Failed.field-0-is); names = refl }) tt
 
 pub returns-in-Err-Missing-clause-cause : goal.returns-in-Err-Missing-clause-cause
@@ -49,8 +48,7 @@ returns-in-Err-Missing-clause-cause g c =
     let old = shelf_facts g.K.Shelf.files g.K.Shelf.counts g.K.Shelf.asked g.K.Shelf.since_fault c.args.shelf.now in
     let new = shelf_facts g.K.Shelf.files g.K.Shelf.counts g.K.Shelf.asked g.K.Shelf.since_fault c.read_file.new.shelf in
     ends_so (AnswerHasCause (plan_of files) old new)
-    c.end_with-in-Err-Missing.result Missing c.file_report-in-Err-Missing.result (file_report (codes "missing") Missing files.table.now)
-    c.end_with-in-Err-Missing.ensures c.file_report-in-Err-Missing.ensures
+    c.end_missing.result Missing (reports.Missing files.table.now) (reports.Missing files.table.now) c.end_missing.ensures refl
     (record {
       name = files.table.now;
       asked = ((TABLE_TEXT_MOST, (refl, refl)), c.in-Err-Missing.ensures.lacking (ap Err c.in-Err-Missing.field-0-is));

@@ -1,5 +1,5 @@
-use Rattle.std.proofs.Common.{◌≡◌, codes, refl, ap, subst, IfOk, Some, Err, ◌∙◌}
-use Rattle.serde_json.specs.View.{view}
+use Rattle.std.proofs.Common.{◌≡◌, refl, ap, Some, Err, ◌∙◌}
+use Rattle.job_report.specs.declared.report.Report.TheVariants as reports
 use Rattle.remux_core.specs.declared.status.Status.TheVariants.{WriteFault}
 use Rattle.remux_core.specs.declared.status.Status.TheVariants as statuses
 use Rattle.remux_core.specs.Answer.{Decides, AnswerHasCause}
@@ -8,35 +8,27 @@ use Rattle.remux_core.specs.Outside.{OnFiles, shelf_facts}
 use Rattle.remux_core.specs.PlanCommand.{HasPlan}
 use Rattle.remux_core.specs.Private.Parsed.{plan_of}
 use Rattle.remux_core.specs.Private.Planned.{contents_of}
-use Rattle.remux_core.specs.Report.{plan_report, file_report}
+use Rattle.remux_core.specs.Report.{plan_report}
 use Rattle.remux_core.proofs.Ending.{ends_so}
-use Rattle.remux_core.proofs.Floats.{plan_without_float}
 use Rattle.remux_core.proofs.Held.{part_written}
 use Rattle.remux_core.proofs.plan_command.write_plan.Goals as goal
-
-pub end_with-requires : goal.end_with-requires
-end_with-requires g c = λ value e.
-    let is : view value ≡ plan_report (contents_of c.args.plan.now) =
-    subst (λ r. IfOk r (λ v. view v ≡ plan_report (contents_of c.args.plan.now))) e c.plan_report.ensures in
-    rw is (plan_without_float (contents_of c.args.plan.now))
 
 pub returns-in-Err-OutOfMemory-clause-decided : goal.returns-in-Err-OutOfMemory-clause-decided
 returns-in-Err-OutOfMemory-clause-decided g c =
     let files = c.args.files.now in
-    let bytes : c.as_slice.result.now ≡ certificate_bytes (contents_of c.args.plan.now) = c.as_slice.ensures.value ∙ c.in-Ok.ensures in
-    part_written (g.K.Shelf.files c.args.shelf.now) (g.K.Shelf.files c.write_file.new.shelf) files.table.now files.certificate.now (contents_of c.args.plan.now)
+    let bytes : c.as_slice.result.now ≡ certificate_bytes (contents_of c.args.plan) = c.as_slice.ensures.value ∙ c.in-Ok.ensures in
+    part_written (g.K.Shelf.files c.args.shelf.now) (g.K.Shelf.files c.write_file.new.shelf) files.table.now files.certificate.now (contents_of c.args.plan)
     c.as_slice.result.now bytes c.in-Err-OutOfMemory.ensures.err
 
 pub returns-in-Err-Failed-clause-decided : goal.returns-in-Err-Failed-clause-decided
 returns-in-Err-Failed-clause-decided g c =
     let files = c.args.files.now in
-    let bytes : c.as_slice.result.now ≡ certificate_bytes (contents_of c.args.plan.now) = c.as_slice.ensures.value ∙ c.in-Ok.ensures in
+    let bytes : c.as_slice.result.now ≡ certificate_bytes (contents_of c.args.plan) = c.as_slice.ensures.value ∙ c.in-Ok.ensures in
     let old = g.K.Shelf.files c.args.shelf.now in
     let new = g.K.Shelf.files c.write_file.new.shelf in
-    let part = part_written old new files.table.now files.certificate.now (contents_of c.args.plan.now) c.as_slice.result.now bytes c.in-Err-Failed.ensures.err in
-    ends_so (λ answer. OnFiles old new (λ held after. HasPlan held files.table.now (contents_of c.args.plan.now) → Decides (plan_of files) held answer after))
-    c.end_with-in-Err-Failed.result WriteFault c.file_report.result (file_report (codes "write") WriteFault files.certificate.now)
-    c.end_with-in-Err-Failed.ensures c.file_report.ensures part part
+    let part = part_written old new files.table.now files.certificate.now (contents_of c.args.plan) c.as_slice.result.now bytes c.in-Err-Failed.ensures.err in
+    ends_so (λ answer. OnFiles old new (λ held after. HasPlan held files.table.now (contents_of c.args.plan) → Decides (plan_of files) held answer after))
+    c.end_unwritten.result WriteFault (reports.WriteFault files.certificate.now) (reports.WriteFault files.certificate.now) c.end_unwritten.ensures refl part part
 
 pub returns-in-Err-Failed-clause-cause : goal.returns-in-Err-Failed-clause-cause
 returns-in-Err-Failed-clause-cause g c =
@@ -44,8 +36,7 @@ returns-in-Err-Failed-clause-cause g c =
     let old = shelf_facts g.K.Shelf.files g.K.Shelf.counts g.K.Shelf.asked g.K.Shelf.since_fault c.args.shelf.now in
     let new = shelf_facts g.K.Shelf.files g.K.Shelf.counts g.K.Shelf.asked g.K.Shelf.since_fault c.write_file.new.shelf in
     ends_so (AnswerHasCause (plan_of files) old new)
-    c.end_with-in-Err-Failed.result WriteFault c.file_report.result (file_report (codes "write") WriteFault files.certificate.now)
-    c.end_with-in-Err-Failed.ensures c.file_report.ensures
+    c.end_unwritten.result WriteFault (reports.WriteFault files.certificate.now) (reports.WriteFault files.certificate.now) c.end_unwritten.ensures refl
     (record { name = files.certificate.now; asked = refl; rises = c.in-Err-Failed.ensures.causes.failed_rose (ap Err c.in-Err-Failed.field-0-is); last = c.in-Err-Failed.ensures.fault_last; names = refl }) tt
 
 pub returns-in-Ok-write_file-clause-cause : goal.returns-in-Ok-write_file-clause-cause
@@ -53,5 +44,5 @@ returns-in-Ok-write_file-clause-cause g c =
     let old = shelf_facts g.K.Shelf.files g.K.Shelf.counts g.K.Shelf.asked g.K.Shelf.since_fault c.args.shelf.now in
     let new = shelf_facts g.K.Shelf.files g.K.Shelf.counts g.K.Shelf.asked g.K.Shelf.since_fault c.write_file.new.shelf in
     ends_so (AnswerHasCause (plan_of c.args.files.now) old new)
-    (Some c.in_ok-done.done) statuses.Ok c.plan_report.result (plan_report (contents_of c.args.plan.now))
-    c.in_ok-done.ensures c.plan_report.ensures (contents_of c.args.plan.now, refl) tt
+    (Some c.in_ok-done.done) statuses.Ok c.plan_report.result (plan_report (contents_of c.args.plan))
+    c.in_ok-done.ensures c.plan_report.ensures (contents_of c.args.plan, refl) tt

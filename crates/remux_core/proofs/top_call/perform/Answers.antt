@@ -1,9 +1,9 @@
 use Rattle.std.proofs.Common.{None, refl}
+use Rattle.job_report.specs.declared.report.Report.TheVariants as reports
 use Rattle.remux_core.specs.declared.status.Status.TheVariants.{Usage}
 use Rattle.remux_core.specs.Answer.{Decides, AnswerHasCause}
 use Rattle.remux_core.specs.Outside.{shelf_facts}
 use Rattle.remux_core.specs.Private.Parsed.{plan_of}
-use Rattle.remux_core.specs.Report.{usage_report}
 use Rattle.remux_core.proofs.Counted.{counts_same, asks_same, asks_table}
 use Rattle.remux_core.proofs.Ending.{ends_so}
 use Rattle.remux_core.proofs.Told.{on_same}
@@ -17,8 +17,8 @@ returns-in-None g c =
       command = None;
       said = c.in-None.ensures;
       decided = on_same old old _ refl (λ held told.
-          ends_so (λ answer. Decides None held answer held) c.end_with.result Usage c.usage_report.result usage_report c.end_with.ensures c.usage_report.ensures (tt, refl) refl);
-      cause = ends_so (AnswerHasCause None shelf shelf) c.end_with.result Usage c.usage_report.result usage_report c.end_with.ensures c.usage_report.ensures refl tt;
+          ends_so (λ answer. Decides None held answer held) c.end_with.result Usage reports.Usage reports.Usage c.end_with.ensures refl (tt, refl) refl);
+      cause = ends_so (AnswerHasCause None shelf shelf) c.end_with.result Usage reports.Usage reports.Usage c.end_with.ensures refl refl tt;
       counts = counts_same (g.K.Shelf.counts c.args.shelf.now);
       asks = asks_same None (g.K.Shelf.asked c.args.shelf.now);
     }

@@ -22,7 +22,7 @@ returns-in-Ok-clause-outcome g c =
     let sink = sink_facts g.O.Sink.written g.O.Sink.faults g.O.Sink.since_fault in
     outcome_of (map string_bytes c.args.words.now) (shelf c.args.shelf.now) (shelf c.perform.new.shelf) (sink c.args.out.now) (sink c.put_all.new.sink)
     (answer_of (Some ended)) ended.status c.in-Some.ensures
-    (inl (record { same_status = refl; whole_line = c.in-Ok.ensures.ok ∙ ap (with_bytes (g.O.Sink.written c.args.out.now)) c.as_bytes.ensures.value }))
+    (inl (record { same_status = refl; whole_line = c.in-Ok.ensures.ok ∙ ap (with_bytes (g.O.Sink.written c.args.out.now)) c.as_slice.ensures.value }))
     c.in-Ok.ensures.causes.faults_grow
 
 pub returns-in-Err-Failed-clause-outcome : goal.returns-in-Err-Failed-clause-outcome
@@ -35,7 +35,7 @@ returns-in-Err-Failed-clause-outcome g c =
     (inr (
       c.in-Err-Failed.ensures.causes.failed_rose (ap Err c.in-Err-Failed.field-0-is),
       c.in-Err-Failed.ensures.fault_last,
-      subst (λ (piece : List ℕ). AddsPrefix (g.O.Sink.written c.args.out.now) (g.O.Sink.written c.put_all.new.sink) piece) c.as_bytes.ensures.value c.in-Err-Failed.ensures.err,
+      subst (λ (piece : List ℕ). AddsPrefix (g.O.Sink.written c.args.out.now) (g.O.Sink.written c.put_all.new.sink) piece) c.as_slice.ensures.value c.in-Err-Failed.ensures.err,
     ))
     c.in-Err-Failed.ensures.causes.faults_grow
 
@@ -46,7 +46,7 @@ returns-in-Err-OutOfMemory-clause-outcome g c =
     let sink = sink_facts g.O.Sink.written g.O.Sink.faults g.O.Sink.since_fault in
     outcome_of (map string_bytes c.args.words.now) (shelf c.args.shelf.now) (shelf c.perform.new.shelf) (sink c.args.out.now) (sink c.put_all.new.sink)
     (answer_of (Some ended)) OutOfMemory c.in-Some.ensures
-    (inr (subst (λ (piece : List ℕ). AddsPrefix (g.O.Sink.written c.args.out.now) (g.O.Sink.written c.put_all.new.sink) piece) c.as_bytes.ensures.value c.in-Err-OutOfMemory.ensures.err))
+    (inr (subst (λ (piece : List ℕ). AddsPrefix (g.O.Sink.written c.args.out.now) (g.O.Sink.written c.put_all.new.sink) piece) c.as_slice.ensures.value c.in-Err-OutOfMemory.ensures.err))
     c.in-Err-OutOfMemory.ensures.causes.faults_grow
 
 pub returns-in-Ok-clause-called_for : goal.returns-in-Ok-clause-called_for
