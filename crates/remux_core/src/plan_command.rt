@@ -122,7 +122,8 @@ fn refuse(alloc: Global, fault: TableFault) -> Option<Ended>
     ensures { IfSome result (IsRefusedFor (refusal_by fault)) }
 {
     let refusal = refusal_of(fault)?;
-    end_with(alloc, Status::JobRefused(refusal), &refusal_report(refusal))
+    let report = refusal_report(&refusal);
+    end_with(alloc, Status::JobRefused(refusal), &report)
 }
 
 /// The refusal of a table fault; none for want of memory.

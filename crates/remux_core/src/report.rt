@@ -23,12 +23,12 @@ pub fn plan_report(plan: Certificate) -> Report
 }
 
 /// A table text that is refused.
-pub fn refusal_report(refusal: JobRefusal) -> Report
-    ensures { result ≡ spec.refusal_report refusal }
+pub fn refusal_report(refusal: &JobRefusal) -> Report
+    ensures { result ≡ spec.refusal_report refusal.now }
 {
     match refusal {
-        JobRefusal::TableSyntax(line) => Report::TableSyntax { line },
-        JobRefusal::TableLimit(name) => Report::TableLimit { name },
+        JobRefusal::TableSyntax(line) => Report::TableSyntax { line: *line },
+        JobRefusal::TableLimit(name) => Report::TableLimit { name: *name },
     }
 }
 
