@@ -134,13 +134,17 @@ module _ (head f1 f2 : List ℕ) (are : AreBytes head) (w1 : length f1 % 8 ≡ 0
             (next-within n at found.code value r1 within e1 l1 first other) e1 e2 on1.1 on2.1
       ]
 
+-- a head has its vbv_delay in one place
+pub one-place : (head f d b g e c : List ℕ) → HasDelay head f d b → HasDelay head g e c → (f ≡ g) × (d ≡ e) × (b ≡ c)
+one-place head f d b g e c h k =
+    let w = delay-walk head f d b h in
+    let v = delay-walk head g e c k in
+    let rests = same-rest head h.following k.following h.bytes h.whole k.whole (length head) 0 w.codes v.codes w.rest v.rest (omega arith) (omega arith) w.enough v.enough w.leads v.leads in
+    let place : length f ≡ length g = omega (arith, w.size, v.size, rests) in
+    one-parting f d b g e c place (h.delay_bits ∙ sym k.delay_bits) (sym h.parts ∙ k.parts)
+
 -- no other head is the same one without its vbv_delay
 pub one-without : (from a b : List ℕ) → IsHeadWithoutDelay from a → IsHeadWithoutDelay from b → a ≡ b
 one-without from a b p q =
-    let are = p.source.bytes in
-    let w = delay-walk from p.front p.delay p.back p.source in
-    let v = delay-walk from q.front q.delay q.back q.source in
-    let rests = same-rest from p.source.following q.source.following are p.source.whole q.source.whole (length from) 0 w.codes v.codes w.rest v.rest (omega arith) (omega arith) w.enough v.enough w.leads v.leads in
-    let place : length p.front ≡ length q.front = omega (arith, w.size, v.size, rests) in
-    let (f, d, r) = one-parting p.front p.delay p.back q.front q.delay q.back place (p.source.delay_bits ∙ sym q.source.delay_bits) (sym p.source.parts ∙ q.source.parts) in
+    let (f, d, r) = one-place from p.front p.delay p.back q.front q.delay q.back p.source q.source in
     bit_list-same a b p.bytes q.bytes (p.without ∙ ap₂ (λ (x y : List ℕ). x ++ bits_of DELAY_BITS NO_DELAY ++ y) f r ∙ sym q.without)

@@ -5,3 +5,4 @@ pub mod Bytes
 pub mod WalkSteps
 pub mod Ones
 pub mod DelayPlaces
+pub mod ReadHeads
