@@ -148,5 +148,5 @@ found-at head following at byte behind are within whole longer f =
           omega (arith, length-append after following, length-append (bits_of_byte (get_or head (place + 3) 0)) (bit_list (drop (place + 4) head)), length-bit_list (drop (place + 4) head), whole) in
           let le = f.first (bit_list (take k (drop at head))) (after ++ following) all aligned in
           omega (arith, le, length-bit_list (take k (drop at head)), length-take k (drop at head), eights, back)
-      );
+          );
     }

@@ -6,3 +6,4 @@ pub mod WalkSteps
 pub mod Ones
 pub mod DelayPlaces
 pub mod ReadHeads
+pub mod Examples

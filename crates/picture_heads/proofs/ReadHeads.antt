@@ -70,9 +70,92 @@ exact-behind_header seq header =
 extension-delay : (progressive : Bool) (kind delay other : ℕ) (coding : PicCoding) (bits rest : List ℕ) → (picture_coding_extension progressive kind delay).Spells coding bits rest
     → (picture_coding_extension progressive kind other).Spells (record coding { vbv_delay = other }) bits rest
 extension-delay progressive kind delay other coding bits rest
-    (a1, m1, s1, (a2, m2, s2, (a3, m3, s3, (a4, m4, s4, (a5, m5, s5, (a6, m6, s6, (a7, m7, s7, (a8, m8, s8, (a9, m9, s9, (a10, m10, s10, (a11, m11, s11, (a12, m12, s12, (a13, m13, s13, (a14, m14, s14, (a15, m15, s15, (a16, m16, s16, (a17, m17, s17, (e, f)))))))))))))))))) =
-    (a1, m1, s1, (a2, m2, s2, (a3, m3, s3, (a4, m4, s4, (a5, m5, s5, (a6, m6, s6, (a7, m7, s7, (a8, m8, s8, (a9, m9, s9, (a10, m10, s10, (a11, m11, s11, (a12, m12, s12, (a13, m13, s13, (a14, m14, s14, (a15, m15, s15, (a16, m16, s16, (a17, m17, s17,
-    (ap (λ (c : PicCoding). let again : PicCoding = record c { vbv_delay = other } in again) e, f))))))))))))))))))
+    (a1, m1, s1, (a2, m2, s2, (a3, m3, s3, (a4, m4, s4, (a5, m5, s5, (a6, m6, s6, (a7, m7, s7, (a8, m8, s8, (a9, m9, s9, (a10, m10, s10, (a11, m11, s11, (a12, m12, s12, (a13, m13, s13, (a14, m14, s14, (a15, m15, s15, (a16, m16, s16, (a17, m17, s17, (e, f)))))))))))))))))) = (
+      a1,
+      m1,
+      s1,
+      (
+        a2,
+        m2,
+        s2,
+        (
+          a3,
+          m3,
+          s3,
+          (
+            a4,
+            m4,
+            s4,
+            (
+              a5,
+              m5,
+              s5,
+              (
+                a6,
+                m6,
+                s6,
+                (
+                  a7,
+                  m7,
+                  s7,
+                  (
+                    a8,
+                    m8,
+                    s8,
+                    (
+                      a9,
+                      m9,
+                      s9,
+                      (
+                        a10,
+                        m10,
+                        s10,
+                        (
+                          a11,
+                          m11,
+                          s11,
+                          (
+                            a12,
+                            m12,
+                            s12,
+                            (
+                              a13,
+                              m13,
+                              s13,
+                              (
+                                a14,
+                                m14,
+                                s14,
+                                (
+                                  a15,
+                                  m15,
+                                  s15,
+                                  (
+                                    a16,
+                                    m16,
+                                    s16,
+                                    (
+                                      a17,
+                                      m17,
+                                      s17,
+                                      (ap (λ (c : PicCoding). let again : PicCoding = record c { vbv_delay = other } in again) e, f),
+                                    ),
+                                  ),
+                                ),
+                              ),
+                            ),
+                          ),
+                        ),
+                      ),
+                    ),
+                  ),
+                ),
+              ),
+            ),
+          ),
+        ),
+      ),
+    )
 
 is_picture : ℕ → Bool
 is_picture byte = byte == PICTURE
@@ -134,12 +217,32 @@ pub record IsParted (before : Option SeqState) (seq : SeqState) (coding : PicCod
 
 pub head-parted : (before : Option SeqState) (seq : SeqState) (coding : PicCoding) (bits rest : List ℕ) → (head before).Spells (seq, coding) bits rest → IsParted before seq coding bits rest
 unfolding head
-head-parted before seq coding bits rest
-    (seq0, m1, s1, (group, m2, s2, (found, m3,
-    (b1, n1, t1, (header, n2,
-    (temporal, p1, (c10, coded10, pass10, split10), (kind, p2, (c3, coded3, pass3, split3), (delay, p3, (c16, coded16, pass16, split16), (o1, p4, u4, (o2, p5, u5, (extra, p6, u6, (e2, f2))))))),
-    (z1, n3, t3, (b2, n4, t4, (id, n5, t5, (cod, n6, t6, (z2, n7, t7, (loaded, n8, t8, (e3, f3))))))))),
-    (byte, m4, (kept, after, coming), (e, g))))) =
+head-parted before seq coding bits rest (
+  seq0,
+  m1,
+  s1,
+  (
+    group,
+    m2,
+    s2,
+    (
+      found,
+      m3,
+      (
+        b1,
+        n1,
+        t1,
+        (
+          header,
+          n2,
+          (temporal, p1, (c10, coded10, pass10, split10), (kind, p2, (c3, coded3, pass3, split3), (delay, p3, (c16, coded16, pass16, split16), (o1, p4, u4, (o2, p5, u5, (extra, p6, u6, (e2, f2))))))),
+          (z1, n3, t3, (b2, n4, t4, (id, n5, t5, (cod, n6, t6, (z2, n7, t7, (loaded, n8, t8, (e3, f3))))))),
+        ),
+      ),
+      (byte, m4, (kept, after, coming), (e, g)),
+    ),
+  ),
+) =
     let d : List ℕ = bits_of DELAY_BITS NO_DELAY in
     let new : List ℕ = c10 ++ (c3 ++ (d ++ p3)) in
     let size16 : length c16 ≡ 16 = ap length coded16.1 ∙ length-bits_of 16 delay in
@@ -166,12 +269,32 @@ head-parted before seq coding bits rest
       delay_bits = size16;
       place = subst (λ (x : List ℕ). (before_vbv_delay before).Spells kind bits x) (split16 ∙ ap (λ (x : List ℕ). c16 ++ x) p3_is)
           (seq0, m1, s1, (group, m2, s2, (b1, n1, t1, (temporal, p1, (c10, coded10, pass10, split10), (c3, coded3, refl, split3)))));
-      again = subst (λ (x : List ℕ). (head before).Spells (seq, without_delay coding) x rest) (regroup f (start_code_bits b1) c10 c3 (d ++ p3) ∙ ap (λ (x : List ℕ). front ++ (d ++ x)) p3_is)
-          (seq0, now, s1', (group, other, s2', ((fold with_loaded seq0 loaded.0, without_delay cod), m3,
-          (b1, new, t1', ((kind, NO_DELAY), n2,
-          (temporal, c3 ++ (d ++ p3), (c10, coded10, pass10, refl), (kind, d ++ p3, (c3, coded3, pass3, refl), (NO_DELAY, p3, (d, (omega arith, refl), refl, refl), (o1, p4, u4, (o2, p5, u5, (extra, p6, u6, (refl, f2))))))),
-          (z1, n3, t3, (b2, n4, t4, (id, n5, t5, (without_delay cod, n6, extension-delay seq0.progressive kind delay NO_DELAY cod n5 n6 extension, (z2, n7, t7, (loaded, n8, t8, (refl, f3))))))))),
-          (byte, m4, (kept, after, coming), (ap (λ (p : SeqState × PicCoding). (p.0, without_delay p.1)) said, g)))));
+      again = subst (λ (x : List ℕ). (head before).Spells (seq, without_delay coding) x rest) (regroup f (start_code_bits b1) c10 c3 (d ++ p3) ∙ ap (λ (x : List ℕ). front ++ (d ++ x)) p3_is) (
+        seq0,
+        now,
+        s1',
+        (
+          group,
+          other,
+          s2',
+          (
+            (fold with_loaded seq0 loaded.0, without_delay cod),
+            m3,
+            (
+              b1,
+              new,
+              t1',
+              (
+                (kind, NO_DELAY),
+                n2,
+                (temporal, c3 ++ (d ++ p3), (c10, coded10, pass10, refl), (kind, d ++ p3, (c3, coded3, pass3, refl), (NO_DELAY, p3, (d, (omega arith, refl), refl, refl), (o1, p4, u4, (o2, p5, u5, (extra, p6, u6, (refl, f2))))))),
+                (z1, n3, t3, (b2, n4, t4, (id, n5, t5, (without_delay cod, n6, extension-delay seq0.progressive kind delay NO_DELAY cod n5 n6 extension, (z2, n7, t7, (loaded, n8, t8, (refl, f3))))))),
+              ),
+            ),
+            (byte, m4, (kept, after, coming), (ap (λ (p : SeqState × PicCoding). (p.0, without_delay p.1)) said, g)),
+          ),
+        ),
+      );
     }
 
 parted-has : (before : Option SeqState) (seq : SeqState) (coding : PicCoding) (bytes rest : List ℕ) (p : IsParted before seq coding (bit_list bytes ++ rest) rest) → AreBytes bytes → length rest % 8 ≡ 0

@@ -85,24 +85,26 @@ module _ (head following : List ℕ) (are : AreBytes head) (whole : length follo
   walk-on (suc n) at code value next rest within enough (byte, behind, later, f, goes, l) first no_picture group other =
       let shorter = leads-longer n later rest l in
       let longer : length following ≤ length behind = omega (arith, enough, goes-longer byte behind later goes, shorter) in
-      let (same, lt, e) = same-code at code value byte behind first (found-at head following at byte behind are within whole longer f) in
-      (n, subst (λ (x : List ℕ). LeadsIn n x rest) (elim goes.goes [
-        | inl (none, is) ↦ is ∙ e ∙ ap (λ (k : ℕ). bit_list (drop k head) ++ following) (sym (other (λ g. none (sym same ∙ g))))
-        | inr (is, header, split, size) ↦
-            let count : length (bit_list (drop (code + 4) head) ++ following) ≡ 8 * (length head - (code + 4)) + length following =
-            length-append (bit_list (drop (code + 4) head)) following ∙ omega (arith, length-bit_list (drop (code + 4) head), length-drop (code + 4) head) in
-            let both : length behind ≡ 32 + length later = ap length split ∙ length-append header later ∙ omega (arith, size) in
-            let fits : code + 8 ≤ length head = omega (arith, count, both, ap length e, shorter, enough, lt) in
-            let cut : bit_list (drop (code + 4) head) ≡ bit_list (take 4 (drop (code + 4) head)) ++ bit_list (drop (code + 4 + 4) head) =
-            bit_list-take 4 (drop (code + 4) head) ∙ ap (λ (x : List ℕ). bit_list (take 4 (drop (code + 4) head)) ++ bit_list x) (drop-drop 4 (code + 4) head) in
-            let eights : length header ≡ length (bit_list (take 4 (drop (code + 4) head))) =
-            size ∙ sym (length-bit_list (take 4 (drop (code + 4) head)) ∙ omega (arith, length-take 4 (drop (code + 4) head), length-drop (code + 4) head, fits)) in
-            let parts : header ++ later ≡ bit_list (take 4 (drop (code + 4) head)) ++ (bit_list (drop (code + 4 + 4) head) ++ following) =
-            sym split ∙ e ∙ ap (λ (x : List ℕ). x ++ following) cut ∙ append_assoc (bit_list (take 4 (drop (code + 4) head))) (bit_list (drop (code + 4 + 4) head)) following in
-            let place : code + 4 + 4 ≡ next = omega (arith, group (same ∙ is) fits) in
-            (same_parts header (bit_list (take 4 (drop (code + 4) head))) later (bit_list (drop (code + 4 + 4) head) ++ following) eights parts).1
-            ∙ ap (λ (k : ℕ). bit_list (drop k head) ++ following) place
-      ]) l)
+      let (same, lt, e) = same-code at code value byte behind first (found-at head following at byte behind are within whole longer f) in (
+        n,
+        subst (λ (x : List ℕ). LeadsIn n x rest) (elim goes.goes [
+          | inl (none, is) ↦ is ∙ e ∙ ap (λ (k : ℕ). bit_list (drop k head) ++ following) (sym (other (λ g. none (sym same ∙ g))))
+          | inr (is, header, split, size) ↦
+              let count : length (bit_list (drop (code + 4) head) ++ following) ≡ 8 * (length head - (code + 4)) + length following =
+              length-append (bit_list (drop (code + 4) head)) following ∙ omega (arith, length-bit_list (drop (code + 4) head), length-drop (code + 4) head) in
+              let both : length behind ≡ 32 + length later = ap length split ∙ length-append header later ∙ omega (arith, size) in
+              let fits : code + 8 ≤ length head = omega (arith, count, both, ap length e, shorter, enough, lt) in
+              let cut : bit_list (drop (code + 4) head) ≡ bit_list (take 4 (drop (code + 4) head)) ++ bit_list (drop (code + 4 + 4) head) =
+              bit_list-take 4 (drop (code + 4) head) ∙ ap (λ (x : List ℕ). bit_list (take 4 (drop (code + 4) head)) ++ bit_list x) (drop-drop 4 (code + 4) head) in
+              let eights : length header ≡ length (bit_list (take 4 (drop (code + 4) head))) =
+              size ∙ sym (length-bit_list (take 4 (drop (code + 4) head)) ∙ omega (arith, length-take 4 (drop (code + 4) head), length-drop (code + 4) head, fits)) in
+              let parts : header ++ later ≡ bit_list (take 4 (drop (code + 4) head)) ++ (bit_list (drop (code + 4 + 4) head) ++ following) =
+              sym split ∙ e ∙ ap (λ (x : List ℕ). x ++ following) cut ∙ append_assoc (bit_list (take 4 (drop (code + 4) head))) (bit_list (drop (code + 4 + 4) head)) following in
+              let place : code + 4 + 4 ≡ next = omega (arith, group (same ∙ is) fits) in
+              (same_parts header (bit_list (take 4 (drop (code + 4) head))) later (bit_list (drop (code + 4 + 4) head) ++ following) eights parts).1
+              ∙ ap (λ (k : ℕ). bit_list (drop k head) ++ following) place
+        ]) l,
+      )
 
   -- and the next place is one of the head
   pub walk-within : (n : ℕ) (at code value next : ℕ) (rest : List ℕ) → at ≤ length head → 32 + length following ≤ length rest → LeadsIn n (bit_list (drop at head) ++ following) rest

@@ -33,11 +33,7 @@ pub fn coarsen(alloc: Global, picture: &Picture, m: u16) -> Result<Picture, OutO
 }
 
 /// The slices of the version of a lawful picture at `m` sixteenths.
-fn coarsen_slices(
-    alloc: Global,
-    picture: &Picture,
-    m: u16,
-) -> Result<ListOf<Slice>, OutOfMemory>
+fn coarsen_slices(alloc: Global, picture: &Picture, m: u16) -> Result<ListOf<Slice>, OutOfMemory>
     requires { IsLawful picture.now }
     ensures { IfOk result (λ slices. AllZip (IsCoarserSlice picture.now.seq picture.now.coding m) picture.now.slices slices) }
 {
