@@ -176,7 +176,7 @@ module _ (seq : SeqState) (coding : PicCoding) where
   list_some [] sequence_end bits rest (byte, m, code, (s, m', t, (e, f))) = absurd (let e' : last sequence_end ≡ more s = e in cc)
   list_some (v ∷ vs) sequence_end bits rest s = omega arith
 
-  first_tail : (slices : List Slice) (sequence_end : Bool) → 0 < length slices → AllByRecursion IsSpellableSlice slices → IsNewTail (flat_map written_whole slices ++ end_code sequence_end)
+  first_tail : (slices : List Slice) (sequence_end : Bool) → 0 < length slices → AllByRecursion IsSpellableSlice slices → IsNewTail is_slice (flat_map written_whole slices ++ end_code sequence_end)
   first_tail [] sequence_end some all = absurd (omega arith)
   first_tail (s ∷ ss) sequence_end some all =
       let rest = flat_map written_whole ss ++ end_code sequence_end in

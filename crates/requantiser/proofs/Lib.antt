@@ -19,3 +19,4 @@ pub mod Sums
 pub mod SpelledHeads
 pub mod SpelledPictures
 pub mod SpelledSlices
+pub mod Versions

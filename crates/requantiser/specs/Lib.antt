@@ -1,6 +1,5 @@
 pub mod Blocks
 pub mod Distortion
-pub mod Heads
 pub mod Levels
 pub mod Macroblocks
 pub mod Places

@@ -2,8 +2,8 @@
 use Rattle.std.specs.Prelude.{◌≡◌, ℕ}
 use Rattle.std.specs.List.{AllZip}
 use Rattle.syntax_types.specs.declared.picture.Picture.{Picture}
-use Rattle.requantiser.specs.declared.TheConstants.{NO_DELAY}
-use Rattle.requantiser.specs.Heads.{IsHeadWithoutDelay}
+use Rattle.picture_heads.specs.declared.TheConstants.{NO_DELAY}
+use Rattle.picture_heads.specs.Heads.{IsHeadWithoutDelay}
 use Rattle.requantiser.specs.Slices.{IsCoarserSlice}
 
 -- A picture, and the same one quantised m sixteenths as coarsely. What is in force and how it is coded is the same but

@@ -4,19 +4,36 @@ ghost use Rattle.picture_grammar.specs.Picture.{IsLawful};
 ghost use Rattle.picture_grammar.specs.Slice.{columns};
 ghost use Rattle.requantiser.specs.Levels.{HasWeights};
 ghost use Rattle.requantiser.specs.Slices.{IsCoarserSlice};
+ghost use Rattle.requantiser.specs.Version.{IsVersion};
 ghost use Rattle.requantiser.specs.Private.Shapes.{IsWalkableSlice};
 ghost use Rattle.requantiser.specs.Private.Walk.{coarsened_slice};
 
 use crate::slice::coarsen_slice;
+use picture_heads::{NO_DELAY, without_delay};
 use std::alloc::Global;
 use syntax_types::{ListOf, OutOfMemory, PicCoding, Picture, SeqState, Slice};
 
+/// The version of a lawful picture at `m` sixteenths.
+pub fn coarsen(alloc: Global, picture: &Picture, m: u16) -> Result<Picture, OutOfMemory>
+    requires { IsLawful picture.now }
+    ensures version { IfOk result (λ made. IsVersion m picture.now made) }
+{
+    let head = without_delay(alloc, picture.head.as_slice())?;
+    let slices = coarsen_slices(alloc, picture, m)?;
+    Ok(Picture {
+        seq: picture.seq,
+        coding: PicCoding {
+            vbv_delay: NO_DELAY,
+            ..picture.coding
+        },
+        head,
+        slices,
+        sequence_end: picture.sequence_end,
+    })
+}
+
 /// The slices of the version of a lawful picture at `m` sixteenths.
-pub fn coarsen_slices(
-    alloc: Global,
-    picture: &Picture,
-    m: u16,
-) -> Result<ListOf<Slice>, OutOfMemory>
+fn coarsen_slices(alloc: Global, picture: &Picture, m: u16) -> Result<ListOf<Slice>, OutOfMemory>
     requires { IsLawful picture.now }
     ensures { IfOk result (λ slices. AllZip (IsCoarserSlice picture.now.seq picture.now.coding m) picture.now.slices slices) }
 {

@@ -1,0 +1,2 @@
+pub mod StartCodes
+pub mod Walk
