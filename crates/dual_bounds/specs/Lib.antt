@@ -1,0 +1,4 @@
+pub mod Bounds
+pub mod Fixed
+pub mod Room
+pub mod Values
