@@ -1,3 +1,6 @@
 pub mod Carried
+pub mod Charges
+pub mod Duality
 pub mod Examples
 pub mod Ranges
+pub mod UnitPackets
