@@ -1,16 +1,14 @@
 -- The audio packets of a window, counted by where due times pass its ends.
-use Rattle.std.proofs.Common.{◌≡◌, ℕ, zero, suc, ◌+◌, ◌-◌, ◌^◌, ◌<◌, ◌≤◌, Bool, true, false, cond, leb, nat_le, ◌&&◌, List, [], ◌∷◌, ◌++◌, length, map, get_or, drop, All, sum_by, refl, sym, ap, ◌∙◌, inl, inr, arith}
+use Rattle.std.proofs.Common.{◌≡◌, ℕ, zero, suc, ◌+◌, ◌-◌, ◌<◌, ◌≤◌, Bool, true, false, cond, nat_le, List, [], ◌∷◌, ◌++◌, length, map, get_or, drop, sum_by, refl, sym, ap, ◌∙◌, arith}
 use Rattle.std.specs.List.{count_by, flat_map}
-use Rattle.std.specs.List.Sorted.{IsNonDecreasing}
-use Rattle.std.proofs.lemmas.Bool.{cases_lt, le-leb, lt-leb, and_left, and_right, and_from}
-use Rattle.std.proofs.lemmas.List.{drop_more, drop_all, get_or-map, length-append, length-map}
-use Rattle.std.proofs.lemmas.List.Concat.{flat_map-append, length-flat_map}
-use Rattle.std.proofs.lemmas.List.Elements.{All-head, All-tail}
+use Rattle.std.proofs.lemmas.Bool.{le-leb, lt-leb, and_left, and_right, and_from}
+use Rattle.std.proofs.lemmas.List.{drop_more, get_or-map, length-map}
+use Rattle.std.proofs.lemmas.List.Concat.{length-flat_map}
 use Rattle.std.proofs.lemmas.List.Sums.{sum_by-cons, sum_by-append, count_by-le-length, get_or-le-sum_by}
 use Rattle.version_table.specs.declared.table.AudioPacket.{AudioPacket}
 use Rattle.version_table.specs.declared.table.ProgramRow.{ProgramRow}
 use Rattle.version_table.specs.declared.table.Table.{Table}
-use Rattle.version_table.specs.Table.{IsValidAudio, IsValidTable, audio_packets_of}
+use Rattle.version_table.specs.Table.{IsValidAudio, audio_packets_of}
 use Rattle.dual_bounds.specs.Private.Counts.{DuesStay, SplitsBefore, SplitsBy, audio_within}
 use Rattle.dual_bounds.specs.Room.{audio_due, is_within}
 
@@ -22,16 +20,28 @@ count_places : {X : Type 0} (test : X → Bool) (xs : List X) (low high : ℕ)
 count_places test [] low high inside early late fits = omega arith
 count_places test (x ∷ xs) low zero inside early late fits =
     let own : cond (test x) 1 0 ≡ 0 = ap {B = ℕ} (λ b. cond b 1 0) (late 0 x (omega arith) (omega arith)) in
-    omega (arith, sum_by-cons (λ y. cond (test y) 1 0) x xs, count_places test xs low zero
-    (λ k d within from before. absurd (omega arith)) (λ k d within before. late (suc k) d (omega arith) (omega arith)) (λ k d within from. late (suc k) d (omega arith) (omega arith)) (omega arith))
+    omega (
+      arith,
+      sum_by-cons (λ y. cond (test y) 1 0) x xs,
+      count_places test xs low zero
+          (λ k d within from before. absurd (omega arith)) (λ k d within before. late (suc k) d (omega arith) (omega arith)) (λ k d within from. late (suc k) d (omega arith) (omega arith)) (omega arith),
+    )
 count_places test (x ∷ xs) zero (suc high) inside early late fits =
     let own : cond (test x) 1 0 ≡ 1 = ap {B = ℕ} (λ b. cond b 1 0) (inside 0 x (omega arith) (omega arith) (omega arith)) in
-    omega (arith, sum_by-cons (λ y. cond (test y) 1 0) x xs, count_places test xs zero high
-    (λ k d within from before. inside (suc k) d (omega arith) (omega arith) (omega arith)) (λ k d within before. absurd (omega arith)) (λ k d within from. late (suc k) d (omega arith) (omega arith)) (omega arith))
+    omega (
+      arith,
+      sum_by-cons (λ y. cond (test y) 1 0) x xs,
+      count_places test xs zero high
+          (λ k d within from before. inside (suc k) d (omega arith) (omega arith) (omega arith)) (λ k d within before. absurd (omega arith)) (λ k d within from. late (suc k) d (omega arith) (omega arith)) (omega arith),
+    )
 count_places test (x ∷ xs) (suc low) (suc high) inside early late fits =
     let own : cond (test x) 1 0 ≡ 0 = ap {B = ℕ} (λ b. cond b 1 0) (early 0 x (omega arith) (omega arith)) in
-    omega (arith, sum_by-cons (λ y. cond (test y) 1 0) x xs, count_places test xs low high
-    (λ k d within from before. inside (suc k) d (omega arith) (omega arith) (omega arith)) (λ k d within before. early (suc k) d (omega arith) (omega arith)) (λ k d within from. late (suc k) d (omega arith) (omega arith)) (omega arith))
+    omega (
+      arith,
+      sum_by-cons (λ y. cond (test y) 1 0) x xs,
+      count_places test xs low high
+          (λ k d within from before. inside (suc k) d (omega arith) (omega arith) (omega arith)) (λ k d within before. early (suc k) d (omega arith) (omega arith)) (λ k d within from. late (suc k) d (omega arith) (omega arith)) (omega arith),
+    )
 
 pub audio_within-is : (from due : ℕ) (packets : List AudioPacket) (before by : ℕ) → SplitsBefore from packets before → SplitsBy due packets by → audio_within from due packets ≡ by - before
 unfolding audio_within

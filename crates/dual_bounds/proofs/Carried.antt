@@ -1,24 +1,21 @@
 -- The packets of a scheduled choice that are due in a window stand in slots that serve it.
-use Rattle.std.proofs.Common.{◌≡◌, ℕ, zero, suc, ◌+◌, ◌-◌, ◌*◌, ◌/◌, ◌<◌, ◌≤◌, Bool, true, false, cond, eqb, leb, nat_le, ◌&&◌, List, [], ◌∷◌, ◌++◌, length, take, count_by, sum_by, slice_get, Some, None, is_none, refl, sym, ap, subst, ◌∙◌, inl, inr, arith}
-use Rattle.std.specs.List.{range_with_len}
-use Rattle.std.proofs.lemmas.Bool.{cases_lt, cases_eq, cases_Bool, and_parts, and_from, leb-true, le-leb, lt-leb, eq-eqb, false≢true}
+use Rattle.std.proofs.Common.{◌≡◌, ℕ, suc, ◌+◌, ◌*◌, ◌/◌, ◌<◌, ◌≤◌, Bool, true, false, cond, nat_le, ◌&&◌, List, [], ◌∷◌, ◌++◌, length, count_by, sum_by, slice_get, Some, None, is_none, refl, sym, ap, ◌∙◌, inl, inr, arith}
+use Rattle.std.proofs.lemmas.Bool.{cases_lt, cases_eq, and_parts, and_from, leb-true, le-leb, lt-leb, false≢true}
 use Rattle.std.proofs.lemmas.Nat.{le-div}
 use Rattle.std.proofs.lemmas.List.{length_push, take_all}
 use Rattle.std.proofs.lemmas.List.Sums.{sum_by-cons, sum_by-append, sum_by_push}
 use Rattle.std.proofs.lemmas.Option.{slice_get_cases}
 use Rattle.stream_constants.specs.declared.clock.TheConstants.{SUBTICKS_PER_TICK}
 use Rattle.stream_constants.specs.declared.decoder.TheConstants.{HOLD_TICKS}
-use Rattle.version_table.specs.declared.limits.TheConstants.{SLOT_LEAST}
 use Rattle.version_table.specs.declared.table.Table.{Table}
 use Rattle.version_table.specs.Table.{IsValidTable}
 use Rattle.version_table.specs.Choice.{Fits}
-use Rattle.slot_rule.specs.declared.queue_kind.QueueKind.{QueueKind}
 use Rattle.slot_rule.specs.declared.queued_packet.QueuedPacket.{QueuedPacket}
 use Rattle.slot_rule.specs.declared.row.Row.{Row}
 use Rattle.slot_rule.specs.declared.row.Row.TheVariants.{Reserved, Carries, Empty}
 use Rattle.slot_rule.specs.Buffers.{is_of}
 use Rattle.slot_rule.specs.Queues.{Queue, queues_of}
-use Rattle.slot_rule.specs.Schedule.{AllSent, FollowRule, IsSchedule, NoMiss, SentLate, end_with_margin, mb_or_tb_work}
+use Rattle.slot_rule.specs.Schedule.{AllSent, FollowRule, IsSchedule, NoMiss, end_with_margin, mb_or_tb_work}
 use Rattle.slot_rule.specs.Timetable.{reserved}
 use Rattle.slot_rule.proofs.RuleFronts.{AtEach-front, by_push}
 use Rattle.slot_rule.proofs.RuleQueues.{IsLimited, IsHead-limited}
@@ -134,10 +131,10 @@ row_parts from due first (Carries stream packet) =
       | inl same ↦
           rw (packet_of-carried first stream packet same, lt-leb (first + 1) stream (omega arith), le-leb first stream (omega arith)) (omega arith)
       | inr apart ↦ rw (packet_of-other first stream packet apart)
-        (elim (cases_lt stream first) as (λ _. 0 + cond (due_from from due (first + 1) (Carries stream packet)) 1 0 ≤ cond (due_from from due first (Carries stream packet)) 1 0) [
-          | inl below ↦ rw (lt-leb (first + 1) stream (omega arith)) (omega arith)
-          | inr above ↦ rw (le-leb (first + 1) stream (omega arith), le-leb first stream (omega arith)) (omega arith)
-        ])
+          (elim (cases_lt stream first) as (λ _. 0 + cond (due_from from due (first + 1) (Carries stream packet)) 1 0 ≤ cond (due_from from due first (Carries stream packet)) 1 0) [
+            | inl below ↦ rw (lt-leb (first + 1) stream (omega arith)) (omega arith)
+            | inr above ↦ rw (le-leb (first + 1) stream (omega arith), le-leb first stream (omega arith)) (omega arith)
+          ])
     ]
 
 rows_parts : (from due first : ℕ) (rows : List Row) → due_in from due (packets_sent first rows) + count_by (due_from from due (first + 1)) rows ≤ count_by (due_from from due first) rows
@@ -207,7 +204,7 @@ due_fit table choice rows valid fits schedule from due =
     omega (
       arith,
       queues_carried from due 0 rows (queues_of table choice)
-      (λ i queue got. (let same : i ≡ 0 + i = omega arith in all_sent table choice rows schedule.follows schedule.sent i queue got ∙ ap (λ n. packets_sent n rows) same)),
+          (λ i queue got. (let same : i ≡ 0 + i = omega arith in all_sent table choice rows schedule.follows schedule.sent i queue got ∙ ap (λ n. packets_sent n rows) same)),
       from_zero from due rows,
       carried_fit table choice valid fits from due rows schedule.follows schedule.in_time,
     )

@@ -1,20 +1,17 @@
 -- What a choice costs where packets are charged: its distortion, and the charges window by window.
-use Rattle.std.proofs.Common.{◌≡◌, ℕ, zero, suc, ◌+◌, ◌-◌, ◌*◌, ◌<◌, ◌≤◌, Bool, true, false, cond, List, [], ◌∷◌, length, map, get_or, fold, min, sum, sum_by, Option, Some, None, refl, sym, ap, ap₂, subst, ◌∙◌, inl, inr, mul-add, mul-zero, mul_comm, negsuc, mul-le-mul_left, add_assoc, arith, ℤ, pos, ◌+ℤ◌, ◌-ℤ◌, ◌*ℤ◌, ◌≤ℤ◌}
+use Rattle.std.proofs.Common.{◌≡◌, ℕ, zero, suc, ◌+◌, ◌-◌, ◌*◌, ◌<◌, ◌≤◌, Bool, true, false, cond, List, [], ◌∷◌, length, map, take, get_or, fold, min, sum, sum_by, Option, Some, None, refl, ap, ◌∙◌, mul-add, mul-zero, mul_comm, negsuc, mul-le-mul_left, arith, ℤ, pos, ◌+ℤ◌, ◌-ℤ◌, ◌*ℤ◌, ◌≤ℤ◌}
 use lib.IntN.{pos-*ℤ-pos}
 use Rattle.std.specs.List.{AllZip, zip}
-use Rattle.std.specs.Int.{div_ceil}
-use Rattle.std.proofs.lemmas.Bool.{cases_Bool}
 use Rattle.std.proofs.lemmas.Int.{ints}
-use Rattle.std.proofs.lemmas.List.{get_or-map, length-map}
-use Rattle.std.proofs.lemmas.List.Sums.{sum_by-cons}
-use Rattle.version_table.specs.declared.table.Version.{Version}
+use Rattle.std.proofs.lemmas.List.{get_or-map, length-map, map_more}
+use Rattle.std.proofs.lemmas.List.Sums.{fold_push, sum_by-cons}
 use Rattle.version_table.specs.declared.table.Unit.{Unit as CodedUnit}
 use Rattle.version_table.specs.declared.table.Table.{Table}
 use Rattle.version_table.specs.Choice.{HasVersion, version_at, chosen_distortions, least}
 use Rattle.dual_bounds.specs.declared.constants.TheConstants.{DISTORTION_PARTS}
 use Rattle.dual_bounds.specs.declared.windows.Window.{Window}
 use Rattle.dual_bounds.specs.Bounds.{bound_of_value}
-use Rattle.dual_bounds.specs.Fixed.{allowed, Takes}
+use Rattle.dual_bounds.specs.Fixed.{Takes}
 use Rattle.dual_bounds.specs.Room.{is_within, free_slots, audio_due, room}
 use Rattle.dual_bounds.specs.Values.{charge, cost, least_cost, least_costs, packets_of, price, worth}
 use Rattle.dual_bounds.proofs.UnitPackets.{Chosen, packets_due}
@@ -109,6 +106,18 @@ fold-from a (n ∷ numbers) =
     let first : fold ◌+ℤ◌ (a +ℤ n) numbers ≡ (a +ℤ n) +ℤ fold ◌+ℤ◌ (pos 0) numbers = fold-from (a +ℤ n) numbers in
     let second : fold ◌+ℤ◌ (pos 0 +ℤ n) numbers ≡ (pos 0 +ℤ n) +ℤ fold ◌+ℤ◌ (pos 0) numbers = fold-from (pos 0 +ℤ n) numbers in
     omega (arith, ints)
+
+pub worth_none : (table : Table) → worth table [] ≡ pos 0
+unfolding worth
+worth_none table = refl
+
+-- the windows up to a place, and one more
+pub worth_next : (table : Table) (windows : List Window) (i : ℕ) (d : Window) → i < length windows
+    → worth table (take (i + 1) windows) ≡ worth table (take i windows) +ℤ pos (get_or windows i d).lambda *ℤ room table (get_or windows i d).from (get_or windows i d).due
+unfolding worth
+worth_next table windows i d within =
+    let each : Window → ℤ = λ w. pos w.lambda *ℤ room table w.from w.due in
+    ap (fold ◌+ℤ◌ (pos 0)) (map_more each windows i d within) ∙ fold_push ◌+ℤ◌ (pos 0) (map each (take i windows)) (each (get_or windows i d))
 
 pub worth-more : (table : Table) (window : Window) (windows : List Window)
     → worth table (window ∷ windows) ≡ pos window.lambda *ℤ room table window.from window.due +ℤ worth table windows

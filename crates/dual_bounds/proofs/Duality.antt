@@ -1,21 +1,19 @@
 -- Weak duality: no scheduled choice has less distortion than the bound of some windows' value.
-use Rattle.std.proofs.Common.{◌≡◌, ℕ, ◌+◌, ◌*◌, ◌≤◌, List, sum, sum_by, Option, ℤ, pos, ◌-ℤ◌, ◌≤ℤ◌, arith}
+use Rattle.std.proofs.Common.{ℕ, ◌+◌, ◌*◌, ◌≤◌, List, sum, sum_by, Option, pos, ◌≤ℤ◌, arith}
 use Rattle.std.specs.List.{zip}
 use Rattle.std.proofs.lemmas.Int.{ints}
 use Rattle.version_table.specs.declared.table.Table.{Table}
 use Rattle.version_table.specs.Choice.{Fits, chosen_distortions, distortion_of_choice}
 use Rattle.version_table.specs.Table.{IsValidTable, units_of}
-use Rattle.slot_rule.specs.Queues.{queues_of}
 use Rattle.slot_rule.specs.Schedule.{IsScheduled}
 use Rattle.dual_bounds.specs.declared.constants.TheConstants.{DISTORTION_PARTS}
 use Rattle.dual_bounds.specs.declared.windows.Window.{Window}
 use Rattle.dual_bounds.specs.Bounds.{IsBound, bound_of_value}
 use Rattle.dual_bounds.specs.Fixed.{TakesFixed}
-use Rattle.dual_bounds.specs.Room.{audio_due, free_slots}
 use Rattle.dual_bounds.specs.Values.{least_costs, value_of_windows, worth}
-use Rattle.dual_bounds.proofs.Carried.{due_fit, due_in_queues}
+use Rattle.dual_bounds.proofs.Carried.{due_fit}
 use Rattle.dual_bounds.proofs.Charges.{bound-le, charged, charged-le-worth, least_costs-le}
-use Rattle.dual_bounds.proofs.UnitPackets.{packets_due, units_due}
+use Rattle.dual_bounds.proofs.UnitPackets.{units_due}
 
 pub value-le : (table : Table) (fixed : List (Option ℕ)) (windows : List Window) (choice : List ℕ) → IsValidTable table → Fits table choice → TakesFixed fixed choice
     → IsScheduled table choice → value_of_windows table fixed windows ≤ℤ pos (DISTORTION_PARTS * distortion_of_choice table choice)

@@ -1,7 +1,5 @@
 -- The worked examples, computed from the definitions.
-use Rattle.std.proofs.Common.{◌≡◌, ℕ, ◌≤◌, List, [], ◌∷◌, Option, Some, None, ℤ, pos, negsuc, refl}
-use Rattle.std.specs.List.{count_by, range_with_len}
-use Rattle.std.specs.Int.{div_ceil}
+use Rattle.std.proofs.Common.{◌≡◌, ℕ, List, [], ◌∷◌, Option, Some, None, pos, negsuc, refl}
 use Rattle.version_table.specs.declared.table.AudioPacket.{AudioPacket}
 use Rattle.version_table.specs.declared.table.Unit.{Unit as CodedUnit}
 use Rattle.version_table.specs.declared.table.Version.{Version}
@@ -9,7 +7,6 @@ use Rattle.version_table.specs.declared.table.ProgramRow.{ProgramRow}
 use Rattle.version_table.specs.declared.table.Table.{Table}
 use Rattle.version_table.specs.Table.{units_of}
 use Rattle.dual_bounds.specs.declared.windows.Multiplier.{Multiplier}
-use Rattle.dual_bounds.specs.declared.windows.Window.{Window}
 use Rattle.dual_bounds.specs.Room.{serves, free_slots, audio_due, room, slot_capacity}
 use Rattle.dual_bounds.specs.Values.{price, least_cost, least_costs, worth, value_of_windows, value_of_multipliers}
 use Rattle.dual_bounds.specs.Bounds.{bound_of_value}
@@ -80,7 +77,7 @@ fixed_alone = refl
 -- ---- three units, due at 27,200, 43,200 and 47,200
 abbrev three_units : Table
 three_units = silent 4000 (
-  unit 27200 (version 552 0 ∷ version 368 10 ∷ []) ∷ unit 43200 (version 552 0 ∷ version 368 4 ∷ []) ∷ unit 47200 (version 552 0 ∷ version 368 4 ∷ []) ∷ [])
+    unit 27200 (version 552 0 ∷ version 368 10 ∷ []) ∷ unit 43200 (version 552 0 ∷ version 368 4 ∷ []) ∷ unit 47200 (version 552 0 ∷ version 368 4 ∷ []) ∷ [])
 
 abbrev free : List (Option ℕ)
 free = None ∷ None ∷ None ∷ []

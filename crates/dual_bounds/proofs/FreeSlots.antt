@@ -1,16 +1,13 @@
 -- The free slots of a window, counted by periods of the timetable.
-use Rattle.std.proofs.Common.{◌≡◌, ℕ, zero, suc, ◌+◌, ◌-◌, ◌*◌, ◌/◌, ◌%◌, ◌^◌, ◌<◌, ◌≤◌, Bool, true, false, not, cond, eqb, leb, ltb, nat_le, ◌&&◌, List, length, min, Option, Some, None, is_none, if◌then◌else◌, refl, sym, ap, subst, ◌∙◌, inl, inr, mul-le-mul_right, suc-mul, add-zero, div-add-mod', mul_comm, zero-mul, arith}
-use Rattle.std.specs.List.{count_by, range_with_len}
+use Rattle.std.proofs.Common.{◌≡◌, ℕ, zero, suc, ◌+◌, ◌-◌, ◌*◌, ◌/◌, ◌%◌, ◌^◌, ◌<◌, ◌≤◌, Bool, true, false, cond, eqb, leb, ltb, nat_le, ◌&&◌, length, min, Option, Some, None, is_none, if◌then◌else◌, refl, sym, ap, ◌∙◌, inl, inr, mul-le-mul_right, suc-mul, add-zero, div-add-mod', mul_comm, zero-mul, arith}
+use Rattle.std.specs.List.{range_with_len}
 use Rattle.std.specs.Int.{div_ceil}
-use Rattle.std.proofs.Math.Nat.{div-add-mod}
 use Rattle.std.proofs.lemmas.Bool.{cases_lt, cases_eq, cond-true, cond-false, ne_eqb, eq-eqb, le-leb, lt-leb, lt-ltb, le-ltb, and_left, and_right}
 use Rattle.std.proofs.lemmas.Nat.{le-div, mod-mul-add, mod_below, div_below}
 use Rattle.std.proofs.lemmas.List.Sums.{count_by-le-length}
 use Rattle.std.proofs.lemmas.List.FromFn.{length-range_with_len}
 use Rattle.stream_constants.specs.declared.decoder.TheConstants.{HOLD_TICKS}
 use Rattle.version_table.specs.declared.table.Table.{Table}
-use Rattle.version_table.specs.Table.{IsValidTable}
-use Rattle.slot_rule.specs.Constants.{period_ticks}
 use Rattle.slot_rule.specs.Timetable.{period, reserved, reserved_at}
 use Rattle.slot_rule.specs.declared.sent.Sent.{Sent}
 use Rattle.slot_rule.specs.declared.sent.Sent.TheVariants.{Pat, Pmt, Pcr}
@@ -162,8 +159,10 @@ free_slots-is table from due some =
     always : (b : Bool) → ((b && true) && true) ≡ b
     always true = refl
     always false = refl
+
     y_some : (k s : ℕ) → 1 ≤ s → 1 ≤ (k + 1) * s
     y_some k s some' = (let more : 1 * s ≤ (k + 1) * s = mul-le-mul_right s (omega arith) in omega arith)
+
     floor_le : (x s : ℕ) → x / s * s ≤ x
     floor_le x s = (let whole : x / s * s + x % s ≡ x = div-add-mod' x s in omega arith)
 

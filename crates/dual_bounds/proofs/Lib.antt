@@ -4,5 +4,6 @@ pub mod Charges
 pub mod Duality
 pub mod Examples
 pub mod FreeSlots
+pub mod LeastCosts
 pub mod Ranges
 pub mod UnitPackets

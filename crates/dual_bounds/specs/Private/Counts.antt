@@ -1,5 +1,5 @@
 -- Counts that the room of a window is made of.
-use Rattle.std.specs.Prelude.{ℕ, ◌+◌, ◌<◌, ◌≤◌, List, length, count_by, is_none, slice_index_or}
+use Rattle.std.specs.Prelude.{ℕ, ◌<◌, ◌≤◌, List, length, count_by, is_none, slice_index_or}
 use Rattle.std.specs.List.{range_with_len}
 use Rattle.version_table.specs.declared.table.AudioPacket.{AudioPacket}
 use Rattle.version_table.specs.declared.table.Table.{Table}

@@ -1,10 +1,10 @@
-use Rattle.std.proofs.Common.{◌≡◌, ℕ, ◌+◌, ◌<◌, ◌≤◌, List, [], length, sym, ap, subst, ◌∙◌, arith}
+use Rattle.std.proofs.Common.{◌≡◌, List, sym, ap, subst, ◌∙◌, arith}
 use Rattle.std.specs.List.{flat_map}
 use Rattle.std.proofs.lemmas.List.{drop_all}
 use Rattle.version_table.specs.declared.table.AudioPacket.{AudioPacket}
 use Rattle.version_table.specs.Table.{IsValidAudio}
 use Rattle.dual_bounds.specs.Private.Counts.{audio_within}
-use Rattle.dual_bounds.proofs.AudioDue.{DuesStay-from_valid, audio_within-le, audio_within-nil, streams-more, streams_from}
+use Rattle.dual_bounds.proofs.AudioDue.{DuesStay-from_valid, audio_within-le, audio_within-nil, streams-more}
 use Rattle.dual_bounds.proofs.room.packets_due_of.Goals as goal
 
 pub packets_within-total-requires : goal.packets_within-total-requires

@@ -1,4 +1,4 @@
-use Rattle.std.proofs.Common.{sym, arith}
+use Rattle.std.proofs.Common.{arith}
 use Rattle.dual_bounds.proofs.AudioDue.{audio_within-is}
 use Rattle.dual_bounds.proofs.room.packets_within.Goals as goal
 

@@ -1,4 +1,4 @@
-use Rattle.std.proofs.Common.{◌≡◌, ℕ, ◌-◌, ◌/◌, ap, ap₂, ◌∙◌, arith}
+use Rattle.std.proofs.Common.{◌≡◌, ◌-◌, ◌/◌, ap, ap₂, ◌∙◌, arith}
 use Rattle.std.specs.Int.{div_ceil}
 use Rattle.stream_constants.specs.declared.decoder.TheConstants.{HOLD_TICKS}
 use Rattle.dual_bounds.specs.declared.constants.TheConstants.{MARGIN_TICKS}

@@ -1,4 +1,4 @@
-use Rattle.std.proofs.Common.{◌≡◌, ℕ, ◌+◌, ◌-◌, ◌*◌, ◌/◌, ◌≤◌, length, ap, arith}
+use Rattle.std.proofs.Common.{◌≡◌, ◌+◌, ◌-◌, ◌*◌, ◌/◌, ◌≤◌, length, ap, arith}
 use Rattle.std.proofs.lemmas.Nat.{le-div}
 use Rattle.slot_rule.specs.Timetable.{period}
 use Rattle.dual_bounds.proofs.FreeSlots.{free_below-is}
