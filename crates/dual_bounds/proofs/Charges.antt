@@ -32,7 +32,7 @@ least-le (n ∷ numbers) zero lt = fold-min-le-start n numbers
 least-le (n ∷ numbers) (suc k) lt = fold-min-le n numbers k (omega arith)
 
 -- ---- a unit costs at least its least cost
-least_cost-le : (windows : List Window) (unit : CodedUnit) (fixed : Option ℕ) (k : ℕ) → HasVersion unit k → Takes fixed k
+pub least_cost-le : (windows : List Window) (unit : CodedUnit) (fixed : Option ℕ) (k : ℕ) → HasVersion unit k → Takes fixed k
     → least_cost windows unit fixed ≤ cost (price windows unit.due) (version_at unit k)
 unfolding least_cost
 least_cost-le windows unit None k has takes =

@@ -7,3 +7,4 @@ pub mod FreeSlots
 pub mod LeastCosts
 pub mod Ranges
 pub mod UnitPackets
+pub mod ValueLaws

@@ -1,5 +1,5 @@
 -- Versions that are fixed, and the choices that take them.
-use Rattle.std.specs.Prelude.{◌≡◌, ℕ, List, [], ◌∷◌, Option, Some, None}
+use Rattle.std.specs.Prelude.{◌≡◌, ℕ, List, [], ◌∷◌, All, Option, Some, None}
 use Rattle.std.specs.List.{AllZip}
 use Rattle.version_table.specs.declared.table.Version.{Version}
 use Rattle.version_table.specs.declared.table.Unit.{Unit as CodedUnit}
@@ -29,3 +29,12 @@ Takes (Some fixed) k = fixed ≡ k
 -- a choice takes each version that is fixed
 abbrev pub TakesFixed : List (Option ℕ) → List ℕ → Type 0
 TakesFixed fixed choice = AllZip Takes fixed choice
+
+-- nothing is fixed
+abbrev pub FixesNone : List (Option ℕ) → Type 0
+FixesNone fixed = All (λ entry. entry ≡ None) fixed
+
+-- where a version was fixed it still is
+abbrev pub KeepsFixed : (before after : Option ℕ) → Type 0
+KeepsFixed None after = Unit {0}
+KeepsFixed (Some k) after = Some k ≡ after
