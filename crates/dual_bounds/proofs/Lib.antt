@@ -3,6 +3,7 @@ pub mod Carried
 pub mod Charges
 pub mod Duality
 pub mod Examples
+pub mod FixedNone
 pub mod FreeSlots
 pub mod LeastCosts
 pub mod Ranges

@@ -1,5 +1,5 @@
 -- Laws of values and bounds: more versions fixed, windows in another order, none at all, and a branch.
-use Rattle.std.proofs.Common.{◌≡◌, ◌↔◌, ℕ, zero, suc, ◌+◌, ◌*◌, ◌<◌, ◌≤◌, Bool, true, false, cond, List, [], ◌∷◌, ◌++◌, length, map, get_or, set, fold, min, sum, sum_by, All, Option, Some, None, slice_get, refl, sym, ap, subst, ◌∙◌, mul-zero, arith, ℤ, pos, negsuc, ◌+ℤ◌, ◌-ℤ◌, ◌*ℤ◌, ◌≤ℤ◌, inl, inr}
+use Rattle.std.proofs.Common.{◌≡◌, ◌↔◌, ℕ, zero, suc, ◌*◌, ◌<◌, ◌≤◌, List, [], ◌∷◌, ◌++◌, length, map, get_or, set, fold, min, sum_by, Option, Some, None, slice_get, refl, ap, subst, ◌∙◌, mul-zero, arith, ℤ, pos, negsuc, ◌*ℤ◌, ◌≤ℤ◌, inl, inr}
 use lib.IntN.{zero-*ℤ}
 use Rattle.std.specs.List.{AllZip, zip}
 use Rattle.std.proofs.lemmas.Bool.{cases_Bool}
@@ -10,12 +10,12 @@ use Rattle.std.proofs.lemmas.Option.{none-some, same_Some}
 use Rattle.version_table.specs.declared.table.Version.{Version}
 use Rattle.version_table.specs.declared.table.Unit.{Unit as CodedUnit}
 use Rattle.version_table.specs.declared.table.Table.{Table}
-use Rattle.version_table.specs.Choice.{HasVersion, version_at, least, least_distortion, least_distortions}
+use Rattle.version_table.specs.Choice.{HasVersion, least, least_distortion, least_distortions}
 use Rattle.version_table.specs.Table.{units_of}
 use Rattle.dual_bounds.specs.declared.constants.TheConstants.{DISTORTION_PARTS}
 use Rattle.dual_bounds.specs.declared.windows.Window.{Window}
 use Rattle.dual_bounds.specs.Bounds.{IsBound, bound_of_value}
-use Rattle.dual_bounds.specs.Fixed.{allowed, FixesNone, FixesVersions, KeepsFixed, NamesVersion, Takes, TakesFixed}
+use Rattle.dual_bounds.specs.Fixed.{allowed, FixesNone, FixesVersions, KeepsFixed, NamesVersion, TakesFixed}
 use Rattle.dual_bounds.specs.Room.{is_within, room}
 use Rattle.dual_bounds.specs.Values.{charge, cost, least_cost, least_costs, packets_of, price, value_of_windows, worth}
 use Rattle.dual_bounds.proofs.Charges.{bound-le, least_cost-le, worth-more}

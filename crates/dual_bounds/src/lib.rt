@@ -15,7 +15,10 @@ mod values;
 mod windows;
 
 pub use bounds::bound_of;
-pub use fixed::Fixed;
+pub use fixed::{Fixed, nothing_fixed};
 pub use room::{capacity, window_capacity};
 pub use values::{dual_value, window_value};
 pub use windows::{Multiplier, Multipliers, Window, Windows};
+
+#[cfg(test)]
+mod tests;
