@@ -1,0 +1,11 @@
+pub mod AudioDue
+pub mod Carried
+pub mod Charges
+pub mod Duality
+pub mod Examples
+pub mod FixedNone
+pub mod FreeSlots
+pub mod LeastCosts
+pub mod Ranges
+pub mod UnitPackets
+pub mod ValueLaws

@@ -1,0 +1,5 @@
+pub mod Bounds
+pub mod Fixed
+pub mod Private
+pub mod Room
+pub mod Values

@@ -1,0 +1,28 @@
+use crate::constants::WINDOWS_MOST;
+use arrayvec::ArrayVec;
+
+/// A price on each packet that is due by a time: a window from time 0 on.
+#[derive(Clone, Copy, Debug, Default, PartialEq)]
+pub struct Multiplier {
+    /// The time, in ticks.
+    pub due: u64,
+    /// The price of a packet, in 1/256 of a distortion.
+    pub lambda: u64,
+}
+
+/// A price on each packet that is due in a window of time.
+#[derive(Clone, Copy, Debug, Default, PartialEq)]
+pub struct Window {
+    /// The first due time in the window, in ticks.
+    pub from: u64,
+    /// The last due time in the window, in ticks.
+    pub due: u64,
+    /// The price of a packet, in 1/256 of a distortion.
+    pub lambda: u64,
+}
+
+/// The multipliers of one bound.
+pub type Multipliers = ArrayVec<Multiplier, WINDOWS_MOST>;
+
+/// The windows of one bound.
+pub type Windows = ArrayVec<Window, WINDOWS_MOST>;
