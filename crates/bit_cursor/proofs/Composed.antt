@@ -7,6 +7,7 @@ use Rattle.shelf_io.specs.declared.fault.Fault.{Fault}
 use Rattle.shelf_io.specs.Counts.{Rose}
 use Rattle.shelf_io.specs.Sink.{Told, with_bytes}
 use Rattle.shelf_io.proofs.Written.{with_bytes-twice}
+use Rattle.shelf_io.proofs.Counted.{rose_later}
 use Rattle.bit_lists.specs.Fields.{bit_list}
 use Rattle.bit_lists.proofs.ByteLemmas.{bit_list-append, length-bit_list, AreBytes-append}
 use Rattle.bit_lists.proofs.PrefixLemmas.{IsPrefix-append, IsPrefix-behind, IsPrefix-through}
@@ -67,12 +68,6 @@ gets_whole {put} a b =
     }
 
 -- ---- how calls end
-
-rose_later : (a b c : ℕ) → a ≤ b → b ≤ c → Rose b c → Rose a c
-rose_later a b c first then rose small = elim (cases_lt b (2 ^ 64 - 1)) [
-  | inl below ↦ let more : b < c = rose below in omega arith
-  | inr full ↦ omega arith
-]
 
 module _ {K : Type 0} {written : K → Told} {faults : K → ℕ} {keeps : K → K → Type 0} where
   -- nothing was put

@@ -30,16 +30,12 @@ use Rattle.picture_grammar.specs.Block.{dc_coefficient, Coefficient, Coefficient
 use Rattle.picture_grammar.specs.Block.Coefficient.{end_of_block, run_size, escape}
 use Rattle.picture_grammar.specs.Macroblock.{block_way, is_coded, no_block, quantiser_scale_code, macroblock}
 use Rattle.picture_grammar.proofs.Codes.{coefficient_code-listed}
+use Rattle.picture_grammar.proofs.WrittenBlock.{unsigned_abs-signed, next_place-push}
 use Rattle.requantiser.specs.VersionState.{IsSpelledMacroblock}
 use Rattle.requantiser.specs.Private.Shapes.{BeginsWithLevel, FitBlock, IsWalkable}
 use Rattle.requantiser.proofs.Ranges.{IsFirst, find-some}
 
 -- ---- a coefficient
-
-unsigned_abs-signed : (size : ℕ) (negative : Bool) → unsigned_abs (signed size negative) ≡ size
-unsigned_abs-signed size false = refl
-unsigned_abs-signed zero true = refl
-unsigned_abs-signed (suc n) true = refl
 
 -- a level of an escape is neither 0 nor too large
 escape_size : (n : ℕ) → n < 2 ^ 12 → not (n == 0) ≡ true → not (n == 2 ^ 11) ≡ true → (0 < unsigned_abs (escape_level n)) × (unsigned_abs (escape_level n) < 2 ^ 11)
@@ -95,10 +91,6 @@ module _ (way : BlockWay) (before : List RunLevel) where
     by_code (escape run level) m s (e, f) = absurd (let e' : last tt ≡ more (record { run = run; level = escape_level level }) = e in cc)
 
 -- ---- the coefficients of a block
-
-next_place-push : (way : BlockWay) (before : List RunLevel) (pair : RunLevel) → next_place way (before ++ pair ∷ []) ≡ next_place way before + pair.run + 1
-next_place-push way before pair =
-    ap (λ n. (if way.intra then 1 else 0) + n) (sum_by-append (λ (p : RunLevel). p.run + 1) before (pair ∷ [])) ∙ omega arith
 
 pairs_fit : (way : BlockWay) (before pairs : List RunLevel) (bits rest : List ℕ) → SpellsList (coefficient way) before pairs tt bits rest → FitBlock (next_place way before) pairs
 pairs_fit way before [] bits rest s = tt
