@@ -98,7 +98,7 @@ pairs_fit way before (pair ∷ pairs) bits rest (middle, s, t) =
     let here : Stands way before pair = coefficient_stands way before pair bits middle s in (
       here.within,
       here.small,
-      subst (λ n. FitBlock n pairs) (next_place-push way before pair) (pairs_fit way (before ++ pair ∷ []) pairs middle rest t),
+      subst (λ n. FitBlock n pairs) (next_place-push way before pair ∙ omega arith) (pairs_fit way (before ++ pair ∷ []) pairs middle rest t),
     )
 
 no_end_first : (code : List ℕ) → code_in CoeffFirst END_OF_BLOCK ≡ Some code → ⊥
