@@ -1,7 +1,5 @@
 -- The elements of a header, by the bytes that hold them.
 use Rattle.std.proofs.Common.{◌≡◌, ℕ, ◌+◌, ◌*◌, ◌/◌, ◌%◌, List, get_or, refl, arith}
-use Rattle.std.specs.Prelude.{bit_and}
-use Rattle.std.proofs.lemmas.Nat.Bits.{and_high}
 use Rattle.bit_lists.proofs.FieldLemmas.{bits-byte, bits-add}
 use Rattle.bit_lists.proofs.MaskLemmas.{and_192, and_48}
 use Rattle.pes_units.specs.PesHeader.{packet_start_code_prefix, stream_id, pes_packet_length, fixed_bits, pes_scrambling_control}

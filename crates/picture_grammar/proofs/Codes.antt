@@ -1,12 +1,11 @@
 -- No code of an element begins another one of it.
-use Rattle.std.proofs.Common.{◌≡◌, ℕ, zero, suc, ℤ, pos, negsuc, unsigned_abs, ◌+◌, ◌*◌, ◌^◌, ◌<◌, ◌≤◌, ◌⊎◌, ◌&&◌, List, [], ◌∷◌, ◌++◌, length, take, get_or, Option, Some, None, cond, append_assoc, Bool, true, false, nat_lt, refl, sym, ap, ap₂, subst, ◌∙◌, inl, inr, arith}
-use Rattle.std.proofs.Math.Nat.{mod-eq_of_lt}
+use Rattle.std.proofs.Common.{◌≡◌, ℕ, zero, suc, ℤ, pos, negsuc, unsigned_abs, ◌+◌, ◌*◌, ◌^◌, ◌<◌, ◌≤◌, ◌⊎◌, ◌&&◌, List, [], ◌∷◌, ◌++◌, length, get_or, Option, Some, None, cond, append_assoc, Bool, true, false, nat_lt, refl, sym, ap, ap₂, subst, ◌∙◌, inl, inr, arith}
 use Rattle.std.proofs.lemmas.Bool.{and_parts, ltb-true}
 use Rattle.std.proofs.lemmas.Option.{none-some}
 use Rattle.std.proofs.lemmas.List.{length-append, append_cancel_left}
 use Rattle.bit_lists.specs.Bits.{IsPrefix, bits_of}
 use Rattle.bit_lists.specs.Fields.{flag}
-use Rattle.bit_lists.proofs.BitLemmas.{length-bits_of, bits_of-same, bits_of-one}
+use Rattle.bit_lists.proofs.BitLemmas.{length-bits_of, bits_of-one}
 use Rattle.bit_lists.proofs.PrefixLemmas.{IsPrefix-append, IsPrefix-whole, IsPrefix-either, IsPrefix-self, IsPrefix-through, same_front}
 use Rattle.bit_lists.proofs.FieldLemmas.{flag-same}
 use Rattle.prefix_codes.specs.declared.symbol.TheConstants.{END_OF_BLOCK, ESCAPE, RUNS, LEVELS_PER_RUN}

@@ -1,6 +1,5 @@
 -- What a grammar says of all bits, as a function: the value that they begin with and the rest, or the refusal.
 use Rattle.std.proofs.Common.{ℕ, ◌<◌, List, [], ◌∷◌, ◌++◌}
-use Rattle.std.specs.List.{AllByRecursion}
 use Rattle.bit_lists.proofs.NumberLemmas.{AreBits}
 use Rattle.picture_grammar.specs.Refusal.{Refusal}
 use Rattle.picture_grammar.specs.Grammar.{Grammar}

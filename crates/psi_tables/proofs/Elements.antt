@@ -1,7 +1,5 @@
 -- The elements of sections, by the bytes that hold them.
 use Rattle.std.proofs.Common.{◌≡◌, ℕ, ◌+◌, ◌*◌, ◌%◌, List, get_or, refl, arith}
-use Rattle.std.specs.Prelude.{bit_and}
-use Rattle.std.proofs.lemmas.Nat.{and_mask}
 use Rattle.bit_lists.specs.Fields.{bits}
 use Rattle.bit_lists.proofs.FieldLemmas.{bits-byte, bits-add}
 use Rattle.bit_lists.proofs.MaskLemmas.{and_1, and_15, and_31}

@@ -2,7 +2,7 @@
 use Rattle.std.proofs.Common.{◌≡◌, ◌+◌, ◌≤◌, ℕ, List, Option, Some, None, max, refl, sym, subst, arith}
 use Rattle.shelf_io.specs.Asked.{AsksUpTo, AsksNothing}
 use Rattle.shelf_io.specs.Causes.{ReadCauses}
-use Rattle.shelf_io.specs.Counts.{Rose, ShelfCounts}
+use Rattle.shelf_io.specs.Counts.{ShelfCounts}
 use Rattle.shelf_io.specs.Files.{Files, Lacks}
 use Rattle.shelf_io.proofs.Counted.{rose_later}
 use Rattle.version_table.specs.declared.limits.TheConstants.{TABLE_TEXT_MOST}

@@ -1,8 +1,5 @@
 -- The elements of a packet, by the bytes that hold them.
 use Rattle.std.proofs.Common.{◌≡◌, ℕ, ◌+◌, ◌*◌, ◌/◌, ◌%◌, ◌^◌, List, get_or, refl, arith}
-use Rattle.std.specs.Prelude.{bit_and}
-use Rattle.std.proofs.lemmas.Nat.{and_mask}
-use Rattle.std.proofs.lemmas.Nat.Bits.{and_pow, and_high}
 use Rattle.ts_packets.specs.AdaptationField.{discontinuity_indicator, pcr_flag, program_clock_reference_base, program_clock_reference_extension}
 use Rattle.ts_packets.specs.Packet.{sync_byte, transport_error_indicator, payload_unit_start_indicator, packet_identifier, transport_scrambling_control, adaptation_field_control, continuity_counter, adaptation_field_length}
 use Rattle.bit_lists.proofs.FieldLemmas.{bits-byte, bits-add}

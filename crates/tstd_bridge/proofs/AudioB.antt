@@ -34,12 +34,11 @@ use Rattle.tstd_model.specs.Private.Server.{Spaced, EachWithin}
 use Rattle.tstd_model.proofs.Counts.{came-within}
 use Rattle.tstd_model.proofs.RisingLaws.{kept-rises, length-spaced}
 use Rattle.tstd_model.proofs.Server.{departures-append, length-departures}
-use Rattle.tstd_model.proofs.CursorLaws.{length-parts_of}
 use Rattle.tstd_bridge.specs.Arrivals.{Headers, header_in, arrivals_from}
 use Rattle.tstd_bridge.specs.Removals.{AreWithin, gone_of_each, IsAllowed}
 use Rattle.tstd_bridge.proofs.ArrivalRows.{arrival_of, arrivals_from-none, arrivals_from-one, arrives-push, bytes_come}
 use Rattle.tstd_bridge.proofs.Gone.{gones, gones-push, gone_of_each-append, gones-late, gate-step}
-use Rattle.tstd_bridge.proofs.KeptBytes.{came-append, departures-from, kept-append, length-kept_packet, parts-push}
+use Rattle.tstd_bridge.proofs.KeptBytes.{came-append, departures-from, kept-append, length-kept_packet, length-packet_parts, parts-push}
 use Rattle.tstd_bridge.proofs.TbWork.{tb_free}
 
 -- ---- the payload that goes on from TB
@@ -95,7 +94,7 @@ has_parts-one slot stream kind headers rows row one fits has =
       has,
       length-append (parts arrivals) (parts_of arrival),
       length-append come own,
-      length-parts_of arrival fits,
+      length-packet_parts arrival fits,
       length-spaced first (byte_subticks slot) PACKET_BYTES,
     ))
 

@@ -75,6 +75,13 @@ length-kept_packet arrival xs fits =
     let rest = replicate arrival.header PesHeader ++ replicate (arrival.payload - arrival.header) Data in
     rw (parts_of-is arrival) (omega (arith, length-kept_behind (PACKET_BYTES - arrival.payload) rest xs, payload_parts arrival fits))
 
+pub length-packet_parts : (arrival : Arrival) → HasHeaderWithin arrival → length (parts_of arrival) ≡ PACKET_BYTES
+length-packet_parts arrival fits =
+    let front = replicate (PACKET_BYTES - arrival.payload) Overhead in
+    let rest = replicate arrival.header PesHeader ++ replicate (arrival.payload - arrival.header) Data in
+    rw (parts_of-is arrival)
+    (omega (arith, length-append front rest, length-replicate (PACKET_BYTES - arrival.payload) Overhead, payload_parts arrival fits, fits.1))
+
 pub parts-push : (arrivals : List Arrival) (arrival : Arrival) → parts (arrivals ++ arrival ∷ []) ≡ parts arrivals ++ parts_of arrival
 unfolding parts
 parts-push arrivals arrival = flat_map-append parts_of arrivals (arrival ∷ []) ∙ ap (λ more. parts arrivals ++ more) (append-nil (parts_of arrival))

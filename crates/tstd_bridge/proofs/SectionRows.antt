@@ -8,11 +8,10 @@ use Rattle.tstd_model.specs.PacketBytes.{HasHeaderWithin, byte_subticks, parts_o
 use Rattle.tstd_model.specs.Private.Server.{last_departure}
 use Rattle.tstd_model.proofs.RisingLaws.{length-spaced}
 use Rattle.tstd_model.proofs.Server.{departures-append, length-departures}
-use Rattle.tstd_model.proofs.CursorLaws.{length-parts_of}
 use Rattle.tstd_bridge.specs.Sections.{sections_in, sections_from}
 use Rattle.tstd_bridge.proofs.ArrivalRows.{arrives-push}
 use Rattle.tstd_bridge.proofs.AudioB.{passes_of}
-use Rattle.tstd_bridge.proofs.KeptBytes.{kept-append, parts-push}
+use Rattle.tstd_bridge.proofs.KeptBytes.{kept-append, length-packet_parts, parts-push}
 
 -- a packet of sections
 abbrev pub section_of : (n : ℕ) → Arrival
@@ -77,6 +76,6 @@ have_parts-push slot arrivals arrival fits has =
       has,
       length-append (parts arrivals) (parts_of arrival),
       length-append come own,
-      length-parts_of arrival fits,
+      length-packet_parts arrival fits,
       length-spaced first (byte_subticks slot) PACKET_BYTES,
     ))

@@ -1,8 +1,5 @@
 -- A take of a source over bytes in memory always answers Ok.
-use Rattle.std.proofs.Common.{◌≡◌, ◌≤◌, ◌+◌, ◌-◌, ◌^◌, min, ℕ, List, [], ◌∷◌, Option, Some, cond, is_some, slice_get, Result, Ok, Err, IfOk, OnErr, IsOkAnd, length, drop, subst, ap, refl, arith, length-drop}
-use Rattle.shelf_io.specs.declared.fault.Fault.{Fault}
-use Rattle.shelf_io.specs.Buffer.{CopiesFront}
-use Rattle.shelf_io.specs.Source.{Takes}
+use Rattle.std.proofs.Common.{◌≡◌, ◌≤◌, ◌+◌, ◌-◌, ◌^◌, [], ◌∷◌, arith}
 use Rattle.shelf_io.proofs.Infallible.{if_ok, on_err, never_err, takes, takes_byte}
 use Rattle.shelf_io.proofs.slice_source.SliceSourceSource.TheImpl.Goals as goal
 
