@@ -4,9 +4,10 @@ use Rattle.std.specs.Prelude.{slice_index}
 use Rattle.std.proofs.lemmas.List.{get_or-map}
 use Rattle.std.proofs.lemmas.Int.{ints}
 use Rattle.std.proofs.lemmas.Bool.{lt-ltb}
+use Rattle.stream_constants.specs.declared.clock.TheConstants.{TICKS_PER_TIME_UNIT}
 use Rattle.audio_frames.specs.declared.clock.Clock.{Clock}
 use Rattle.audio_frames.specs.declared.pes_start.PesStart.{PesStart}
-use Rattle.audio_frames.specs.Times.{ticks_per_unit, frame_ticks, given_time}
+use Rattle.audio_frames.specs.Times.{frame_ticks, given_time}
 use Rattle.audio_frames.specs.Private.Packets.{start_of, time_of, time_between, IsCountUpTo, IsLastGiven, IsClockAt}
 use Rattle.audio_frames.proofs.Given.{given_is, first_given}
 use Rattle.audio_frames.proofs.Timed.{given_kept, given_here}
@@ -20,7 +21,7 @@ pub record IsClockOf (clock : Clock) (packets : ℕ) (given : ℤ) (ago : ℕ) :
   pub given_is : clock.given ≡ given
   pub ago_is : clock.ago ≡ ago
   pub rate : 16000 ≤ clock.rate
-  pub time : clock.time ≡ (pos ticks_per_unit *ℤ clock.given) +ℤ pos (frame_ticks clock.rate clock.ago)
+  pub time : clock.time ≡ (pos TICKS_PER_TIME_UNIT *ℤ clock.given) +ℤ pos (frame_ticks clock.rate clock.ago)
   pub low : neg_ℤ (pos (2 ^ 54)) ≤ℤ given
   pub high : given ≤ℤ pos (2 ^ 54)
 

@@ -3,6 +3,7 @@ use Rattle.std.proofs.Common.{◌≡◌, ℕ, ◌+◌, ◌*◌, ◌/◌, ◌%◌
 use Rattle.std.specs.Prelude.{bit_and}
 use Rattle.std.proofs.lemmas.Nat.Bits.{and_high}
 use Rattle.bit_lists.proofs.FieldLemmas.{bits-byte, bits-add}
+use Rattle.bit_lists.proofs.MaskLemmas.{and_1}
 use Rattle.audio_frames.specs.FrameHeader.{syncword, id, layer, bit_rate_index, sampling_index, padding_bit}
 
 pub syncword-is : (bytes : List ℕ) → syncword bytes ≡ get_or bytes 0 0 % 256 * 16 + get_or bytes 1 0 / 16 % 16
@@ -27,9 +28,6 @@ padding_bit-is bytes = bits-byte bytes 22 1 2 6 1 refl refl
 
 pub and_3 : (n : ℕ) → bit_and n 3 ≡ n % 4
 and_3 n = omega (arith, and_high n 2 0)
-
-pub and_1 : (n : ℕ) → bit_and n 1 ≡ n % 2
-and_1 n = omega (arith, and_high n 1 0)
 
 -- what the code looks at, and what it finds
 pub ruleset elements = (syncword-is, id-is, layer-is, bit_rate_index-is, sampling_index-is, padding_bit-is, and_3, and_1)

@@ -1,15 +1,6 @@
 -- The first place that passes a test.
-use Rattle.std.proofs.Common.{◌≡◌, ℕ, zero, suc, ◌+◌, ◌<◌, ◌≤◌, Bool, true, false, cond, Some, None, refl, sym, ap, subst, arith, inl, inr}
+use Rattle.std.proofs.Common.{◌≡◌, ℕ, zero, suc, ◌+◌, ◌<◌, ◌≤◌, Bool, true, false, cond, Some, None, refl, subst, arith}
 use Rattle.std.specs.List.{find, range_with_len}
-use Rattle.std.proofs.lemmas.Bool.{cases_eq}
-
-pub find_place : (test : ℕ → Bool) (n from found : ℕ) → from ≤ found → found < from + n → test found ≡ true → ((at : ℕ) → from ≤ at → at < found → test at ≡ false) → find test (range_with_len from n) ≡ Some found
-find_place test zero from found begun upto is none = absurd (omega arith)
-find_place test (suc n) from found begun upto is none = elim (cases_eq from found) [
-  | inl same ↦ (let here : test from ≡ true = subst (λ (k : ℕ). test k ≡ true) (sym same) is in rw here (ap Some same))
-  | inr apart ↦ (let here : test from ≡ false = none from (omega arith) (omega arith) in rw here
-      (find_place test n (from + 1) found (omega arith) (omega arith) is (λ at b u. none at (omega arith) u)))
-]
 
 pub no_place : (test : ℕ → Bool) (n from : ℕ) → ((at : ℕ) → from ≤ at → at < from + n → test at ≡ false) → find test (range_with_len from n) ≡ None
 no_place test zero from none = refl

@@ -5,11 +5,12 @@ use Rattle.std.proofs.Math.ListN.{get_or-append, drop_of_length-le}
 use Rattle.std.proofs.lemmas.List.{get_or-append-add, length-map, map-append}
 use Rattle.std.proofs.Math.Seq.{drop-cons}
 use Rattle.std.proofs.lemmas.Bool.{cases_lt}
+use Rattle.stream_constants.specs.declared.clock.TheConstants.{TICKS_PER_TIME_UNIT}
 use Rattle.audio_frames.specs.Frames.{AreAllFrames}
 use Rattle.audio_frames.specs.declared.clock.Clock.{Clock}
 use Rattle.audio_frames.specs.declared.frame.Frame.{Frame}
 use Rattle.audio_frames.specs.declared.pes_start.PesStart.{PesStart}
-use Rattle.audio_frames.specs.Times.{ticks_per_unit, frame_ticks, given_time, IsTimeOf, time_at, AreTimes, AreRising, IsOutOfOrder, AreFramesOf, rate_of, spans}
+use Rattle.audio_frames.specs.Times.{frame_ticks, given_time, IsTimeOf, time_at, AreTimes, AreRising, IsOutOfOrder, AreFramesOf, rate_of, spans}
 use Rattle.audio_frames.specs.Private.Packets.{IsLastGiven, IsClockAt}
 
 time_last : (times : List ℤ) (t : ℤ) (k : ℕ) → k ≡ length times → time_at (times ++ t ∷ []) k ≡ t
@@ -43,7 +44,7 @@ given_here starts places k given is =
       none_since = λ j from upto. absurd (omega arith);
     }
 
-pub time_is : (starts : List PesStart) (places : List ℕ) (rate k : ℕ) (given : ℤ) (ago : ℕ) (time : ℤ) → IsLastGiven starts places k given ago → time ≡ (pos ticks_per_unit *ℤ given) +ℤ pos (frame_ticks rate ago) → IsTimeOf starts places rate k time
+pub time_is : (starts : List PesStart) (places : List ℕ) (rate k : ℕ) (given : ℤ) (ago : ℕ) (time : ℤ) → IsLastGiven starts places k given ago → time ≡ (pos TICKS_PER_TIME_UNIT *ℤ given) +ℤ pos (frame_ticks rate ago) → IsTimeOf starts places rate k time
 time_is starts places rate k given ago time last is =
     let count : ago ≡ k - (k - ago) = omega (arith, last.up_to) in
     record {
@@ -52,7 +53,7 @@ time_is starts places rate k given ago time last is =
       up_to = omega arith;
       is_given = last.is_given;
       none_since = last.none_since;
-      is = is ∙ ap (λ (n : ℕ). (pos ticks_per_unit *ℤ given) +ℤ pos (frame_ticks rate n)) count;
+      is = is ∙ ap (λ (n : ℕ). (pos TICKS_PER_TIME_UNIT *ℤ given) +ℤ pos (frame_ticks rate n)) count;
     }
 
 pub times_more : (starts : List PesStart) (places : List ℕ) (rate : ℕ) (times : List ℤ) (k : ℕ) (t : ℤ) → AreTimes starts places rate times → k ≡ length times → IsTimeOf starts places rate k t → AreTimes starts places rate (times ++ t ∷ [])
@@ -105,7 +106,7 @@ spans_first begin place size j places frame within place_is at end =
 -- a clock's time is the frame's
 pub clock_time : (starts : List PesStart) (places : List ℕ) (rate j : ℕ) (clock : Clock) → IsClockAt starts places j clock → clock.rate ≡ rate → IsTimeOf starts places rate j clock.time
 clock_time starts places rate j clock at same =
-    time_is starts places rate j clock.given clock.ago clock.time at.last (at.time ∙ ap (λ (r : ℕ). (pos ticks_per_unit *ℤ clock.given) +ℤ pos (frame_ticks r clock.ago)) same)
+    time_is starts places rate j clock.given clock.ago clock.time at.last (at.time ∙ ap (λ (r : ℕ). (pos TICKS_PER_TIME_UNIT *ℤ clock.given) +ℤ pos (frame_ticks r clock.ago)) same)
 
 pub timed_more : (size rate : ℕ) (starts : List PesStart) (places : List ℕ) (j : ℕ) (clock next : Clock) (begin place : ℕ) (frames : List Frame) (frame : Frame) → TimedUpTo size rate starts places j clock begin frames → IsClockAt starts places (j + 1) next → next.rate ≡ clock.rate → j + 1 < length places → place ≡ slice_index places (j + 1) → clock.time <ℤ next.time → frame.at ≡ begin → frame.at + frame.len ≡ place → frame.time ≡ clock.time → TimedUpTo size rate starts places (j + 1) next place (frames ++ frame ∷ [])
 timed_more size rate starts places j clock next begin place frames frame before here same within place_is later at end is =

@@ -2,6 +2,8 @@
 use Rattle.std.specs.Prelude.{◌≡◌, ℕ, ◌+◌, ◌-◌, ◌*◌, ◌/◌, ◌^◌, ◌<◌, ◌≤◌, ◌==◌, nat_lt, nat_le, Bool, true, false, ◌||◌, ◌⊎◌, List, [], ◌∷◌, length, drop, map, filter, slice_index, slice_index_or, All, Option, Some, None, IfSome, option_and_then, if◌then◌else◌, ℤ, pos, neg_ℤ, ◌+ℤ◌, ◌*ℤ◌, ◌≤ℤ◌, ◌<ℤ◌}
 use Rattle.std.specs.List.{last_or}
 use Rattle.std.specs.List.Sorted.{IsStrictlyIncreasing}
+use Rattle.audio_frames.specs.declared.clock.TheConstants.{FRAME_SAMPLES}
+use Rattle.stream_constants.specs.declared.clock.TheConstants.{TICKS_PER_SECOND, TICKS_PER_TIME_UNIT}
 use Rattle.audio_frames.specs.declared.audio_fault.AudioFault.{AudioFault}
 use Rattle.audio_frames.specs.declared.audio_fault.AudioFault.TheVariants.{NotLayer2, AudioSync, NoAudioTime, TimeOrder, OutOfMemory}
 use Rattle.audio_frames.specs.declared.frame.Frame.{Frame}
@@ -21,13 +23,9 @@ pub record AreStarts (size : ℕ) (starts : List PesStart) : Type 0 where
 
 -- ---- the time of each frame
 
--- ticks in a unit of a PTS: 27,000,000 over 90,000
-abbrev pub ticks_per_unit : ℕ
-ticks_per_unit = 300
-
--- ticks of so many frames of 1,152 samples, rounded down
+-- ticks of so many frames, rounded down
 abbrev pub frame_ticks : ℕ → ℕ → ℕ
-frame_ticks rate count = count * (1152 * 27000000) / rate
+frame_ticks rate count = count * (FRAME_SAMPLES * TICKS_PER_SECOND) / rate
 
 -- the PES packet with the byte at a place: the last one whose payload begins there or before
 abbrev pub packet_of : List PesStart → ℕ → Option PesStart
@@ -50,7 +48,7 @@ pub record IsTimeOf (starts : List PesStart) (places : List ℕ) (rate k : ℕ) 
   pub up_to : last ≤ k
   pub is_given : given_time starts places last ≡ Some given
   pub none_since : (j : ℕ) → last < j → j ≤ k → given_time starts places j ≡ None
-  pub is : time ≡ (pos ticks_per_unit *ℤ given) +ℤ pos (frame_ticks rate (k - last))
+  pub is : time ≡ (pos TICKS_PER_TIME_UNIT *ℤ given) +ℤ pos (frame_ticks rate (k - last))
 
 -- the k-th of some times
 abbrev pub time_at : List ℤ → ℕ → ℤ

@@ -4,12 +4,16 @@ ghost use Rattle.audio_frames.specs.Times.{frame_ticks, given_time};
 ghost use Rattle.audio_frames.specs.Private.Packets.{IsClockAt, IsCountUpTo, start_of, time_between};
 
 use crate::pes_start::PesStart;
+use stream_constants::clock::{TICKS_PER_SECOND, TICKS_PER_TIME_UNIT};
 
-/// Ticks of 1/27,000,000 s in a unit of 1/90,000 s.
-const TICKS_PER_UNIT: i64 = 300;
+/// Samples of a frame (ISO/IEC 11172-3, 2.4.2.1: Layer II).
+pub const FRAME_SAMPLES: u64 = 1_152;
 
-/// Ticks of a frame of 1,152 samples, times its samples per second.
-const FRAME_TICKS: u64 = 1_152 * 27_000_000;
+/// Ticks of a frame, times its samples per second.
+const FRAME_TICKS: u64 = FRAME_SAMPLES * TICKS_PER_SECOND;
+
+/// Ticks in a unit of a PTS.
+const TICKS_PER_UNIT: i64 = TICKS_PER_TIME_UNIT as i64;
 
 /// What gives each frame its time, at one of them.
 #[derive(Clone, Copy)]
@@ -78,7 +82,7 @@ impl Clock {
         ensures packets { result.packets ≡ packets }
         ensures given { result.given ≡ given }
         ensures ago { result.ago ≡ ago }
-        ensures time { result.time ≡ (pos 300 *ℤ result.given) +ℤ pos (frame_ticks result.rate result.ago) }
+        ensures time { result.time ≡ (pos TICKS_PER_TIME_UNIT *ℤ result.given) +ℤ pos (frame_ticks result.rate result.ago) }
     {
         Clock {
             rate,
@@ -125,7 +129,7 @@ fn time_after(given: i64, ago: u64, rate: u32) -> i64
     requires high { given ≤ℤ pos (2 ^ 54) }
     requires ago { ago < 2 ^ 28 }
     requires rate { 16000 ≤ rate }
-    ensures { result ≡ (pos 300 *ℤ given) +ℤ pos (frame_ticks rate ago) }
+    ensures { result ≡ (pos TICKS_PER_TIME_UNIT *ℤ given) +ℤ pos (frame_ticks rate ago) }
 {
     TICKS_PER_UNIT * given + ticks_of(rate, ago) as i64
 }

@@ -7,7 +7,7 @@ use Rattle.std.proofs.lemmas.Nat.{pow_pos, shl_below}
 use Rattle.bit_lists.specs.Bits.{bits_of, number_of}
 use Rattle.bit_lists.specs.Fields.{bit_list}
 use Rattle.bit_lists.proofs.BitLemmas.{length-bits_of, take-bits_of, number_of-bits_of, bits_of-mod}
-use Rattle.bit_cursor.specs.Reading.{IsFront, Shows}
+use Rattle.bit_cursor.specs.Shown.{IsFirstNumber, IsWindow}
 use Rattle.bit_cursor.proofs.Words.{bits_of-shifted, number_of-front}
 use Rattle.bit_cursor.proofs.Left.{told_bits}
 
@@ -17,7 +17,7 @@ held_front n m w rest =
     let long : n ≤ length (bits_of (n + m) w) = omega (arith, length-bits_of (n + m) w) in
     take-append-le n (bits_of (n + m) w) rest long ∙ take-bits_of n m w ∙ sym (bits_of-mod n (w / 2 ^ m))
 
-front_is : (n m w : ℕ) (rest : List ℕ) → IsFront n (bits_of (n + m) w ++ rest) (w / 2 ^ m % 2 ^ n)
+front_is : (n m w : ℕ) (rest : List ℕ) → IsFirstNumber n (bits_of (n + m) w ++ rest) (w / 2 ^ m % 2 ^ n)
 front_is n m w rest = record {
   enough = omega (arith, length-append (bits_of (n + m) w) rest, length-bits_of (n + m) w);
   value = sym (number_of-front n m w rest);
@@ -25,7 +25,7 @@ front_is n m w rest = record {
 }
 
 -- a number in the first bits shows them
-front_shows : (n number : ℕ) (bits : List ℕ) → IsFront n bits number → Shows n bits number n
+front_shows : (n number : ℕ) (bits : List ℕ) → IsFirstNumber n bits number → IsWindow n bits number n
 front_shows n number bits is = record {
   known = omega (arith, is.enough);
   window = is.value ∙ ap number_of (sym (take-append-le n bits (replicate n 0) is.enough));
@@ -33,7 +33,7 @@ front_shows n number bits is = record {
 }
 
 -- fewer bits are left than are shown
-few_show : (h m w : ℕ) → Shows (h + m) (bits_of h w) ((w % 2 ^ h) * 2 ^ m) h
+few_show : (h m w : ℕ) → IsWindow (h + m) (bits_of h w) ((w % 2 ^ h) * 2 ^ m) h
 few_show h m w =
     let bits = bits_of h w in
     let window = (w % 2 ^ h) * 2 ^ m in
@@ -51,26 +51,26 @@ few_show h m w =
 
 -- ---- where the source tells
 
-pub told_front : (told bits : Option (List ℕ)) (h n w : ℕ) → n ≤ h → told_bits told h w ≡ bits → IfSome bits (λ bs. IsFront n bs (w / 2 ^ (h - n) % 2 ^ n))
-told_front None bits h n w le is = subst (λ o. IfSome o (λ bs. IsFront n bs (w / 2 ^ (h - n) % 2 ^ n))) is tt
+pub told_front : (told bits : Option (List ℕ)) (h n w : ℕ) → n ≤ h → told_bits told h w ≡ bits → IfSome bits (λ bs. IsFirstNumber n bs (w / 2 ^ (h - n) % 2 ^ n))
+told_front None bits h n w le is = subst (λ o. IfSome o (λ bs. IsFirstNumber n bs (w / 2 ^ (h - n) % 2 ^ n))) is tt
 told_front (Some bytes) bits h n w le is =
     let whole : n + (h - n) ≡ h = omega arith in
-    subst (λ o. IfSome o (λ bs. IsFront n bs (w / 2 ^ (h - n) % 2 ^ n))) is
-    (subst (λ k. IsFront n (bits_of k w ++ bit_list bytes) (w / 2 ^ (h - n) % 2 ^ n)) whole (front_is n (h - n) w (bit_list bytes)))
+    subst (λ o. IfSome o (λ bs. IsFirstNumber n bs (w / 2 ^ (h - n) % 2 ^ n))) is
+    (subst (λ k. IsFirstNumber n (bits_of k w ++ bit_list bytes) (w / 2 ^ (h - n) % 2 ^ n)) whole (front_is n (h - n) w (bit_list bytes)))
 
-pub told_whole : (told : Option (List ℕ)) (P : List ℕ → Type 0) (n number : ℕ) → IfSome told (λ bits. IsFront n bits number) → IfSome told (λ bits. P bits → Shows n bits number n)
+pub told_whole : (told : Option (List ℕ)) (P : List ℕ → Type 0) (n number : ℕ) → IfSome told (λ bits. IsFirstNumber n bits number) → IfSome told (λ bits. P bits → IsWindow n bits number n)
 told_whole None P n number is = tt
 told_whole (Some bits) P n number is = λ any. front_shows n number bits is
 
 -- the held bits are all that are left
-pub told_few : (told : Option (List ℕ)) (h n w : ℕ) → h < n → IfSome (told_bits told h w) (λ bits. length bits ≡ h → Shows n bits ((w % 2 ^ h) * 2 ^ (n - h)) h)
+pub told_few : (told : Option (List ℕ)) (h n w : ℕ) → h < n → IfSome (told_bits told h w) (λ bits. length bits ≡ h → IsWindow n bits ((w % 2 ^ h) * 2 ^ (n - h)) h)
 told_few None h n w lt = tt
 told_few (Some bytes) h n w lt = λ size.
     let whole : h + (n - h) ≡ n = omega arith in
     let none : length (bit_list bytes) ≡ 0 = omega (arith, length-append (bits_of h w) (bit_list bytes), length-bits_of h w) in
     let held : bits_of h w ++ bit_list bytes ≡ bits_of h w = ap (λ r. bits_of h w ++ r) (nil_from_length (bit_list bytes) none) ∙ append-nil (bits_of h w) in
-    subst (λ bs. Shows n bs ((w % 2 ^ h) * 2 ^ (n - h)) h) (sym held)
-    (subst (λ k. Shows k (bits_of h w) ((w % 2 ^ h) * 2 ^ (n - h)) h) whole (few_show h (n - h) w))
+    subst (λ bs. IsWindow n bs ((w % 2 ^ h) * 2 ^ (n - h)) h) (sym held)
+    (subst (λ k. IsWindow k (bits_of h w) ((w % 2 ^ h) * 2 ^ (n - h)) h) whole (few_show h (n - h) w))
 
 -- what follows from a fact follows where that fact does
 pub told_where : (told : Option (List ℕ)) (F : Type 0) (A B : List ℕ → Type 0) → F → IfSome told (λ bits. A bits → B bits) → IfSome told (λ bits. (F → A bits) → B bits)

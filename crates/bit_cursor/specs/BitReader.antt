@@ -6,7 +6,7 @@ use Rattle.shelf_io.specs.declared.source.Source.{Ghosts}
 use Rattle.shelf_io.specs.Source.{Takes}
 use Rattle.bit_lists.specs.Bits.{bits_of}
 use Rattle.bit_lists.specs.Fields.{bit_list}
-use Rattle.bit_cursor.specs.Reading.{bytes_beyond}
+use Rattle.bit_cursor.specs.Shown.{bytes_beyond}
 use Rattle.bit_cursor.specs.declared.bit_reader.BitReader.{BitReader}
 
 -- the source that it borrows

@@ -1,4 +1,4 @@
 pub mod BitReader
 pub mod BitWriter
 pub mod Private
-pub mod Reading
+pub mod Shown

@@ -1,6 +1,6 @@
 ghost use Rattle.std.specs.Prelude.{◌≡◌, ◌+◌, ◌-◌, ◌*◌, ◌%◌, ◌^◌, ◌<◌, ◌≤◌, ◌↔◌, length, min, IfOk, OnErr, IfSome, IsErrOf, IsTrue};
 ghost use Rattle.shelf_io.specs.Counts.{Rose};
-ghost use Rattle.bit_cursor.specs.Reading.{IsFront, Shows, bytes_beyond, byte_aligned};
+ghost use Rattle.bit_cursor.specs.Shown.{IsFirstNumber, IsWindow, bytes_beyond, byte_aligned};
 
 use crate::fault::BitFault;
 use shelf_io::{Fault, Source};
@@ -46,7 +46,7 @@ impl<'a, S: Source> BitReader<'a, S> {
     #[inline]
     pub fn bits(&mut self, n: u32) -> Result<u32, BitFault>
         requires { n ≤ 32 }
-        ensures value { IfOk result (λ value. IfSome (bits_left self.old) (λ bits. IsFront n bits value)) }
+        ensures value { IfOk result (λ value. IfSome (bits_left self.old) (λ bits. IsFirstNumber n bits value)) }
         ensures below { IfOk result (λ value. value < 2 ^ n) }
         ensures left { IfOk result (λ _. bits_left self.new ≡ without_bits (bits_left self.old) n) }
         ensures place { IfOk result (λ _. place self.new ≡ place self.old + n) }
@@ -75,7 +75,7 @@ impl<'a, S: Source> BitReader<'a, S> {
     #[inline]
     pub fn peek(&mut self, n: u32) -> Result<(u32, u32), Fault>
         requires { n ≤ 24 }
-        ensures window { IfOk result (λ seen. IfSome (bits_left self.old) (λ bits. Shows n bits seen.0 seen.1)) }
+        ensures window { IfOk result (λ seen. IfSome (bits_left self.old) (λ bits. IsWindow n bits seen.0 seen.1)) }
         ensures known { IfOk result (λ seen. seen.1 ≤ n) }
         ensures held { IfOk result (λ seen. seen.1 ≤ bits_held self.new) }
         ensures below { IfOk result (λ seen. seen.0 < 2 ^ n) }
@@ -120,7 +120,7 @@ impl<'a, S: Source> BitReader<'a, S> {
     pub fn held_front(&self, n: u32) -> u32
         requires width { n ≤ 32 }
         requires held { n ≤ bits_held self.now }
-        ensures value { IfSome (bits_left self.now) (λ bits. IsFront n bits result) }
+        ensures value { IfSome (bits_left self.now) (λ bits. IsFirstNumber n bits result) }
         ensures below { result < 2 ^ n }
     {
         lowest(self.word >> (self.held - n), n)
@@ -131,7 +131,7 @@ impl<'a, S: Source> BitReader<'a, S> {
     #[inline]
     pub fn held_window(&self, n: u32) -> (u32, u32)
         requires { n ≤ 24 }
-        ensures window { IfSome (bits_left self.now) (λ bits. (bits_held self.now < n → length bits ≡ bits_held self.now) → Shows n bits result.0 result.1) }
+        ensures window { IfSome (bits_left self.now) (λ bits. (bits_held self.now < n → length bits ≡ bits_held self.now) → IsWindow n bits result.0 result.1) }
         ensures known { result.1 ≡ min n (bits_held self.now) }
         ensures below { result.0 < 2 ^ n }
         ensures unknown { result.0 % 2 ^ (n - result.1) ≡ 0 }
@@ -181,7 +181,7 @@ impl<'a, S: Source> BitReader<'a, S> {
     fn short_window(&self, n: u32) -> (u32, u32)
         requires short { bits_held self.now < n }
         requires width { n ≤ 24 }
-        ensures window { IfSome (bits_left self.now) (λ bits. length bits ≡ bits_held self.now → Shows n bits result.0 result.1) }
+        ensures window { IfSome (bits_left self.now) (λ bits. length bits ≡ bits_held self.now → IsWindow n bits result.0 result.1) }
         ensures known { result.1 ≡ bits_held self.now }
         ensures below { result.0 < 2 ^ n }
         ensures unknown { result.0 % 2 ^ (n - result.1) ≡ 0 }

@@ -1,7 +1,7 @@
 ghost use Rattle.std.specs.Prelude.{◌≡◌, IfOk, IfSome};
 ghost use Rattle.shelf_io.specs.Source.{Takes};
 ghost use Rattle.bit_lists.specs.Fields.{bit_list};
-ghost use Rattle.bit_cursor.specs.Reading.{IsFront};
+ghost use Rattle.bit_cursor.specs.Shown.{IsFirstNumber};
 
 use super::*;
 use shelf_io::{Fault, MemShelf, Reading, SliceSource, Source};
@@ -41,7 +41,7 @@ impl<'a> Source for Slow<'a> {
 
 // The first byte, and the source with what follows it.
 fn first_byte<S: Source>(source: &mut S) -> Result<u32, BitFault>
-    ensures value { IfOk result (λ value. IfSome (S.left source.old) (λ bytes. IsFront 8 (bit_list bytes) value)) }
+    ensures value { IfOk result (λ value. IfSome (S.left source.old) (λ bytes. IsFirstNumber 8 (bit_list bytes) value)) }
     ensures taken { IfOk result (λ _. Takes (S.left source.old) (S.left source.new) (S.most source.old) (S.most source.new) 1) }
 {
     let mut reader = BitReader::new(source);

@@ -1,10 +1,11 @@
 -- The number that a list of bits spells, by its parts.
-use Rattle.std.proofs.Common.{◌≡◌, ℕ, zero, suc, ◌+◌, ◌*◌, ◌^◌, ◌%◌, ◌<◌, ◌≤◌, List, [], ◌∷◌, ◌++◌, length, take, drop, replicate, refl, sym, ap, ◌∙◌, arith, length-append, pow-suc, lit<}
+use Rattle.std.proofs.Common.{◌≡◌, ℕ, zero, suc, ◌+◌, ◌*◌, ◌^◌, ◌%◌, ◌<◌, ◌≤◌, List, [], ◌∷◌, ◌++◌, length, take, drop, replicate, refl, sym, ap, ap₂, ◌∙◌, arith, length-append, pow-suc, lit<}
 use Rattle.std.specs.List.{AllByRecursion}
 use Rattle.std.proofs.Math.Nat.{mul_assoc}
 use Rattle.std.proofs.lemmas.Nat.{pow-add}
-use Rattle.bit_lists.specs.Bits.{number_of}
+use Rattle.bit_lists.specs.Bits.{bits_of, number_of}
 use Rattle.bit_lists.specs.Fields.{bit_list, bits_of_byte}
+use Rattle.bit_lists.proofs.JoinedLemmas.{bits_of-put}
 
 -- ---- bits, as numbers below 2
 
@@ -64,3 +65,26 @@ number_of-below (bit ∷ bits) are =
 pub number_of-byte : (byte : ℕ) → number_of (bits_of_byte byte) ≡ byte % 256
 unfolding number_of
 number_of-byte byte = omega arith
+
+-- ---- bits and the number that they spell
+
+pub AreBits-bits_of : (n value : ℕ) → AreBits (bits_of n value)
+unfolding bits_of
+AreBits-bits_of zero value = tt
+AreBits-bits_of (suc n) value = (omega arith, AreBits-bits_of n value)
+
+pub bits_of-bit : (bit : ℕ) → bit < 2 → bits_of 1 bit ≡ bit ∷ []
+unfolding bits_of
+bits_of-bit zero lt = refl
+bits_of-bit (suc zero) lt = refl
+bits_of-bit (suc (suc n)) lt = absurd (omega (arith, lt))
+
+-- bits are those of the number that they spell
+pub bits_of-number_of : (bits : List ℕ) → AreBits bits → bits_of (length bits) (number_of bits) ≡ bits
+unfolding number_of bits_of
+bits_of-number_of [] are = refl
+bits_of-number_of (bit ∷ bits) are =
+    let count : suc (length bits) ≡ 1 + length bits = omega arith in
+    ap (λ (n : ℕ). bits_of n (bit * 2 ^ length bits + number_of bits)) count
+    ∙ bits_of-put 1 (length bits) bit (number_of bits) (number_of-below bits are.1)
+    ∙ ap₂ (λ (a b : List ℕ). a ++ b) (bits_of-bit bit are.0) (bits_of-number_of bits are.1)

@@ -54,6 +54,11 @@ IsPrefix-without (x ∷ front) c d begins =
     let rest : IsPrefix (front ++ c) (front ++ d) = cc in
     IsPrefix-without front c d rest
 
+-- where two lists begin with as many bits, these are the same
+pub same_front : (a b x y : List ℕ) → length a ≡ length b → a ++ x ≡ b ++ y → a ≡ b
+same_front a b x y lengths e =
+    sym (IsPrefix-append a x) ∙ ap₂ (λ (n : ℕ) (bits : List ℕ). take n bits) lengths e ∙ IsPrefix-append b y
+
 -- ---- bytes
 
 pub bits_of_byte-same : (x y : ℕ) → x < 2 ^ 8 → y < 2 ^ 8 → bits_of_byte x ≡ bits_of_byte y → x ≡ y

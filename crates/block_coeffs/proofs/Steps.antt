@@ -4,7 +4,7 @@ use Rattle.std.specs.Option.{option_map}
 use Rattle.std.proofs.lemmas.List.{length-take, take-take, take_all, take-append-drop}
 use Rattle.bit_lists.specs.Bits.{bits_of, front_of}
 use Rattle.bit_lists.proofs.BitLemmas.{length-bits_of}
-use Rattle.bit_cursor.specs.Reading.{IsFront}
+use Rattle.bit_cursor.specs.Shown.{IsFirstNumber}
 use Rattle.bit_cursor.proofs.Fronts.{told_both}
 use Rattle.picture_grammar.specs.Refusal.{Refusal}
 use Rattle.picture_grammar.specs.Grammar.{Grammar}
@@ -42,7 +42,7 @@ held-shown told now held window same few shows =
     told_both told (held < 24) (λ bits. length bits ≡ held) (ShowsFront window) (subst (λ t. IfSome t (λ bits. (held < 24 → length bits ≡ held) → ShowsFront window bits)) same shows) few
 
 -- a whole window of held bits shows what is left
-pub whole-shown : (told : Option (List ℕ)) (number : ℕ) → IfSome told (λ bits. IsFront 24 bits number) → IfSome told (λ bits. take 24 bits ≡ front_of 24 number 24)
+pub whole-shown : (told : Option (List ℕ)) (number : ℕ) → IfSome told (λ bits. IsFirstNumber 24 bits number) → IfSome told (λ bits. take 24 bits ≡ front_of 24 number 24)
 whole-shown None number is = tt
 whole-shown (Some bits) number is = is.front ∙ sym (take_all 24 (bits_of 24 number) (omega (arith, length-bits_of 24 number)))
 

@@ -1,7 +1,6 @@
 -- Blocks that some bits spell can be written.
-use Rattle.std.proofs.Common.{◌≡◌, ℕ, zero, suc, unsigned_abs, ◌+◌, ◌-◌, ◌^◌, ◌<◌, ◌≤◌, ◌&&◌, ◌==◌, List, [], ◌∷◌, ◌++◌, Option, Some, Bool, true, false, not, nat_lt, if◌then◌else◌, refl, sym, ap, subst, ◌∙◌, inl, inr, add-zero, arith}
+use Rattle.std.proofs.Common.{◌≡◌, ℕ, suc, unsigned_abs, ◌+◌, ◌-◌, ◌^◌, ◌<◌, ◌≤◌, ◌&&◌, ◌==◌, List, [], ◌∷◌, ◌++◌, Option, Some, Bool, true, false, not, nat_lt, if◌then◌else◌, refl, sym, ap, subst, ◌∙◌, inl, inr, add-zero, arith}
 use Rattle.std.proofs.lemmas.Bool.{and_parts, cases_lt, lt-ltb, le-ltb, ltb-true, eq-eqb, cases_eq}
-use Rattle.std.proofs.lemmas.List.Sums.{sum_by-append}
 use Rattle.std.proofs.lemmas.Option.{none-some, same_Some}
 use Rattle.prefix_codes.specs.declared.table_name.TableName.TheVariants.{DcLuma, DcChroma}
 use Rattle.prefix_codes.specs.TableName.{code_in}
@@ -18,6 +17,7 @@ use Rattle.picture_grammar.specs.Element.{rule, element}
 use Rattle.picture_grammar.specs.Block.{dc_table, dc_coefficient, Coefficient, CoefficientCode, after_code, is_level, signed, escape_level, is_within, next_place, coefficient_table, coefficient, block, first_place}
 use Rattle.picture_grammar.specs.Block.Coefficient.{end_of_block, run_size, escape}
 use Rattle.picture_grammar.proofs.Codes.{coefficient_code-listed}
+use Rattle.picture_grammar.proofs.WrittenBlock.{unsigned_abs-signed, next_place-push}
 use Rattle.block_coeffs.specs.Private.Writing.{CanStand, CanFollow}
 
 -- ---- the DC coefficient
@@ -51,11 +51,6 @@ spelled-dc way b dc bits rest (found, m, s, (pairs, m', t, (e, f))) is =
 
 -- ---- the other coefficients
 
-unsigned_abs-signed : (size : ℕ) (negative : Bool) → unsigned_abs (signed size negative) ≡ size
-unsigned_abs-signed size false = refl
-unsigned_abs-signed zero true = refl
-unsigned_abs-signed (suc n) true = refl
-
 unsigned_abs-escape : (n : ℕ) → n < 2 ^ 12 → not (n == 2 ^ 11) ≡ true → unsigned_abs (escape_level n) < 2 ^ 11
 unsigned_abs-escape n lt allowed = elim (cases_lt n 2048) [
   | inl small ↦ rw (lt-ltb n 2048 small) small
@@ -87,10 +82,6 @@ module _ (way : BlockWay) (before : List RunLevel) where
         let within = ltb-true (next_place way before + run) 64 tests.0 in
         let allowed = and_parts (not (level == 0)) (not (level == 2 ^ 11)) (and_parts (is_level (escape run level)) true tests.1).0 in
         subst Stands (sym same) (record { run = run_fits; level = unsigned_abs-escape level level_fits allowed.1 }, within)
-
-next_place-push : (way : BlockWay) (before : List RunLevel) (pair : RunLevel) → next_place way (before ++ pair ∷ []) ≡ next_place way before + (pair.run + 1)
-next_place-push way before pair =
-    ap (λ n. (if way.intra then 1 else 0) + n) (sum_by-append (λ (p : RunLevel). p.run + 1) before (pair ∷ [])) ∙ omega arith
 
 pairs_follow : (way : BlockWay) (before pairs : List RunLevel) (bits rest : List ℕ) → SpellsList (coefficient way) before pairs tt bits rest → CanFollow (next_place way before) pairs
 pairs_follow way before [] bits rest s = tt

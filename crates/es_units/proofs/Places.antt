@@ -1,7 +1,7 @@
 -- What tests find among places in order.
-use Rattle.std.proofs.Common.{◌≡◌, ℕ, zero, suc, ◌+◌, ◌-◌, ◌<◌, ◌≤◌, Bool, true, false, List, [], ◌∷◌, ◌++◌, filter, Some, None, refl, sym, ap, subst, ◌∙◌, arith, inl, inr}
+use Rattle.std.proofs.Common.{◌≡◌, ℕ, zero, suc, ◌+◌, ◌-◌, ◌<◌, ◌≤◌, Bool, true, false, List, [], ◌∷◌, ◌++◌, filter, Some, None, refl, ap, ◌∙◌, arith}
 use Rattle.std.specs.List.{find, range_with_len}
-use Rattle.std.proofs.lemmas.Bool.{cases_eq}
+use Rattle.list_types.proofs.Search.{find_range}
 use Rattle.es_units.specs.Units.{places}
 
 range_more : (from n : ℕ) → range_with_len from (suc n) ≡ range_with_len from n ++ (from + n) ∷ []
@@ -41,14 +41,6 @@ filter_from test from to end begun le none =
 
 pub filter_none : (test : ℕ → Bool) (from end : ℕ) → from ≤ end → ((at : ℕ) → from ≤ at → test at ≡ false) → filter test (places from end) ≡ []
 filter_none test from end le none = filter_from test from end end le (omega arith) (λ at begun upto. none at begun) ∙ ap (filter test) (places_none end)
-
-find_range : (test : ℕ → Bool) (n from found : ℕ) → from ≤ found → found < from + n → test found ≡ true → ((at : ℕ) → from ≤ at → at < found → test at ≡ false) → find test (range_with_len from n) ≡ Some found
-find_range test zero from found begun upto is none = absurd (omega arith)
-find_range test (suc n) from found begun upto is none = elim (cases_eq from found) [
-  | inl same ↦ (let here : test from ≡ true = subst (λ (k : ℕ). test k ≡ true) (sym same) is in rw here (ap Some same))
-  | inr apart ↦ (let here : test from ≡ false = none from (omega arith) (omega arith) in rw here
-      (find_range test n (from + 1) found (omega arith) (omega arith) is (λ at b u. none at (omega arith) u)))
-]
 
 -- the first place that passes
 pub find_place : (test : ℕ → Bool) (end found : ℕ) → found < end → test found ≡ true → ((at : ℕ) → at < found → test at ≡ false) → find test (places 0 end) ≡ Some found

@@ -1,6 +1,7 @@
 -- Start codes of a video stream (ISO/IEC 13818-2, 6.2.1).
 use Rattle.std.specs.Prelude.{ℕ, ◌+◌, ◌==◌, nat_lt, nat_le, Bool, false, ◌&&◌, ◌||◌, List, length, slice_index, Option, Some, None, if◌then◌else◌}
 use Rattle.std.specs.Option.{option_map_or}
+use Rattle.stream_constants.specs.declared.start_codes.TheConstants.{PICTURE, FIRST_SLICE, LAST_SLICE, SEQUENCE_HEADER, GROUP}
 
 -- the bytes 00 00 01 and a value behind them stand at the place
 abbrev pub is_start_code_at : List ℕ → ℕ → Bool
@@ -13,15 +14,15 @@ start_code_at es at = if is_start_code_at es at then Some (slice_index es (at + 
 
 -- values of slices (Table 6-1: slice_start_code)
 abbrev pub is_slice : ℕ → Bool
-is_slice value = nat_le 0x01 value && nat_le value 0xAF
+is_slice value = nat_le FIRST_SLICE value && nat_le value LAST_SLICE
 
 -- the value of a sequence header (Table 6-1: sequence_header_code)
 abbrev pub is_sequence_header : ℕ → Bool
-is_sequence_header value = value == 0xB3
+is_sequence_header value = value == SEQUENCE_HEADER
 
 -- values that a unit may begin with: sequence header, GOP header, picture header (Table 6-1)
 abbrev pub is_unit_start : ℕ → Bool
-is_unit_start value = is_sequence_header value || ((value == 0xB8) || (value == 0x00))
+is_unit_start value = is_sequence_header value || ((value == GROUP) || (value == PICTURE))
 
 -- a start code with such a value stands at the place
 abbrev pub has_code : (ℕ → Bool) → List ℕ → ℕ → Bool

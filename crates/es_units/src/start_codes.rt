@@ -1,23 +1,10 @@
 ghost use Rattle.std.specs.Prelude.{◌≡◌, ℕ, true, false, ◌+◌, ◌<◌, ◌≤◌, length, Some, None, IfSome, MatchOption};
 ghost use Rattle.es_units.specs.StartCodes.{is_start_code_at, start_code_at, is_slice, is_sequence_header, is_unit_start};
 
+use stream_constants::start_codes::{FIRST_SLICE, GROUP, LAST_SLICE, PICTURE, SEQUENCE_HEADER};
+
 /// Bytes of a start code: its prefix 00 00 01 and its value (13818-2, 6.2.1).
 const START_CODE_BYTES: usize = 4;
-
-/// The value of a sequence header's start code (13818-2, Table 6-1).
-const SEQUENCE_HEADER: u8 = 0xB3;
-
-/// The value of a GOP header's start code.
-const GOP_HEADER: u8 = 0xB8;
-
-/// The value of a picture header's start code.
-const PICTURE_HEADER: u8 = 0x00;
-
-/// The least value of a slice's start code.
-const FIRST_SLICE: u8 = 0x01;
-
-/// The greatest value of a slice's start code.
-const LAST_SLICE: u8 = 0xAF;
 
 /// A start code: where it begins, and its value.
 #[derive(Clone, Copy)]
@@ -45,7 +32,7 @@ impl StartCode {
     pub fn is_unit_start(self) -> bool
         ensures { result ≡ is_unit_start self.value }
     {
-        self.value == SEQUENCE_HEADER || self.value == GOP_HEADER || self.value == PICTURE_HEADER
+        self.value == SEQUENCE_HEADER || self.value == GROUP || self.value == PICTURE
     }
 }
 

@@ -6,10 +6,9 @@ use Rattle.shelf_io.specs.declared.source.Source.{Ghosts}
 use Rattle.bit_lists.specs.Bits.{IsPrefix, bits_of, number_of}
 use Rattle.bit_lists.specs.Fields.{bit_list, flag}
 use Rattle.bit_lists.proofs.BitLemmas.{length-bits_of}
-use Rattle.bit_lists.proofs.JoinedLemmas.{bits_of-put}
-use Rattle.bit_lists.proofs.NumberLemmas.{AreBits, AreBits-append, AreBits-zeros, AreBits-bit_list, number_of-below}
+use Rattle.bit_lists.proofs.NumberLemmas.{AreBits, AreBits-append, AreBits-zeros, AreBits-bit_list, number_of-below, bits_of-number_of, AreBits-bits_of}
 use Rattle.bit_lists.proofs.PrefixLemmas.{IsPrefix-append}
-use Rattle.bit_cursor.specs.Reading.{IsFront}
+use Rattle.bit_cursor.specs.Shown.{IsFirstNumber}
 use Rattle.bit_cursor.specs.BitReader.{source_of, bits_held, held_bits, bits_left, without_bits}
 use Rattle.bit_cursor.specs.declared.bit_reader.BitReader.{BitReader}
 use Rattle.picture_grammar.specs.Refusal.{Refusal}
@@ -66,23 +65,23 @@ code-cut Codes kind rules value code bits place short coded passing begun = reco
 -- ---- numbers of n bits (uimsbf)
 
 -- the bits left behind a number
-number-left : (n value : ℕ) (told : Option (List ℕ)) → IfSome told (λ bits. IsFront n bits value) → told ≡ option_map (λ rest. bits_of n value ++ rest) (without_bits told n)
+number-left : (n value : ℕ) (told : Option (List ℕ)) → IfSome told (λ bits. IsFirstNumber n bits value) → told ≡ option_map (λ rest. bits_of n value ++ rest) (without_bits told n)
 number-left n value None front = refl
 number-left n value (Some bits) front = ap Some (sym (take-append-drop n bits) ∙ ap (λ (x : List ℕ). x ++ drop n bits) front.front)
 
 module _ (n value : ℕ) (told after : Option (List ℕ)) (place place_after : ℕ) where
   -- what `bits` gives is a number of the grammar, where it passes the rules
-  pub reads-number : (rules : List (Rule ℕ)) → IfSome told (λ bits. IsFront n bits value) → value < 2 ^ n → after ≡ without_bits told n → place_after ≡ place + n → passes rules value ≡ true
+  pub reads-number : (rules : List (Rule ℕ)) → IfSome told (λ bits. IsFirstNumber n bits value) → value < 2 ^ n → after ≡ without_bits told n → place_after ≡ place + n → passes rules value ≡ true
       → ReadsFrom (uimsbf n rules) value told after place place_after
   reads-number rules front below left moved passing =
       reads-code (λ number code. (number < 2 ^ n) × (code ≡ bits_of n number)) End rules value (bits_of n value) (below, refl) told after place place_after passing
       (number-left n value told front ∙ ap (option_map (λ rest. bits_of n value ++ rest)) (sym left)) (moved ∙ ap (λ (k : ℕ). place + k) (sym (length-bits_of n value)))
 
-number-first : (n value : ℕ) (bits : List ℕ) → IsFront n bits value → IsPrefix (bits_of n value) bits
+number-first : (n value : ℕ) (bits : List ℕ) → IsFirstNumber n bits value → IsPrefix (bits_of n value) bits
 number-first n value bits front = ap (λ (k : ℕ). take k bits) (length-bits_of n value) ∙ front.front
 
 -- a number that breaks a rule, where the reader says so at the number's place
-pub explains-rule : (n value : ℕ) (told : Option (List ℕ)) (place : ℕ) (before after : List (Rule ℕ)) (broken : Rule ℕ) → IfSome told (λ bits. IsFront n bits value) → value < 2 ^ n
+pub explains-rule : (n value : ℕ) (told : Option (List ℕ)) (place : ℕ) (before after : List (Rule ℕ)) (broken : Rule ℕ) → IfSome told (λ bits. IsFirstNumber n bits value) → value < 2 ^ n
     → passes before value ≡ true → broken.test value ≡ false
     → IfSome told (λ bits. ExplainsFrom (uimsbf n (before ++ broken ∷ after)) (Some (record { refusal = broken.refusal; at = place })) bits place)
 explains-rule n value None place before after broken front below passing fails = tt
@@ -110,14 +109,14 @@ bit-flag value false e = subst (λ (v : ℕ). bits_of 1 v ≡ 0 ∷ []) e refl
 
 module _ (value : ℕ) (told after : Option (List ℕ)) (place place_after : ℕ) where
   -- what `bits(1)` gives is a flag of the grammar
-  pub reads-flag : (rules : List (Rule Bool)) (is_set : Bool) → flag is_set ≡ value → IfSome told (λ bits. IsFront 1 bits value) → after ≡ without_bits told 1 → place_after ≡ place + 1 → passes rules is_set ≡ true
+  pub reads-flag : (rules : List (Rule Bool)) (is_set : Bool) → flag is_set ≡ value → IfSome told (λ bits. IsFirstNumber 1 bits value) → after ≡ without_bits told 1 → place_after ≡ place + 1 → passes rules is_set ≡ true
       → ReadsFrom (flag_where rules) is_set told after place place_after
   reads-flag rules is_set is front left moved passing =
       reads-code FlagCode End rules is_set (flag is_set ∷ []) refl told after place place_after passing
       (number-left 1 value told front ∙ ap₂ (λ (x : List ℕ) (o : Option (List ℕ)). option_map (λ rest. x ++ rest) o) (bit-flag value is_set is) (sym left)) moved
 
 -- a flag that breaks a rule
-pub explains-flag_rule : (value : ℕ) (told : Option (List ℕ)) (place : ℕ) (before after : List (Rule Bool)) (broken : Rule Bool) (is_set : Bool) → flag is_set ≡ value → IfSome told (λ bits. IsFront 1 bits value)
+pub explains-flag_rule : (value : ℕ) (told : Option (List ℕ)) (place : ℕ) (before after : List (Rule Bool)) (broken : Rule Bool) (is_set : Bool) → flag is_set ≡ value → IfSome told (λ bits. IsFirstNumber 1 bits value)
     → passes before is_set ≡ true → broken.test is_set ≡ false
     → IfSome told (λ bits. ExplainsFrom (flag_where (before ++ broken ∷ after)) (Some (record { refusal = broken.refusal; at = place })) bits place)
 explains-flag_rule value None place before after broken is_set is front passing fails = tt
@@ -146,22 +145,6 @@ explains-marker_cut (Some bits) place refusal short =
 
 -- ---- numbers with no rule
 
-single : (bit : ℕ) → bit < 2 → bits_of 1 bit ≡ bit ∷ []
-unfolding bits_of
-single zero lt = refl
-single (suc zero) lt = refl
-single (suc (suc n)) lt = absurd (omega (arith, lt))
-
--- bits are those of the number that they spell
-bits_of-number_of : (bits : List ℕ) → AreBits bits → bits_of (length bits) (number_of bits) ≡ bits
-unfolding number_of bits_of
-bits_of-number_of [] are = refl
-bits_of-number_of (bit ∷ bits) are =
-    let count : suc (length bits) ≡ 1 + length bits = omega arith in
-    ap (λ (n : ℕ). bits_of n (bit * 2 ^ length bits + number_of bits)) count
-    ∙ bits_of-put 1 (length bits) bit (number_of bits) (number_of-below bits are.1)
-    ∙ ap₂ (λ (a b : List ℕ). a ++ b) (single bit are.0) (bits_of-number_of bits are.1)
-
 -- bits begin some number of so many bits, filled up with zeros
 completed : (n : ℕ) (bits : List ℕ) → AreBits bits → length bits ≤ n → (number : ℕ) × (number < 2 ^ n) × IsPrefix bits (bits_of n number)
 completed n bits are le =
@@ -182,26 +165,21 @@ explains-number_end n (Some bits) place short are =
     let (number, below, begun) = completed n bits are (omega arith) in
     explains-cut n (Some bits) place [] short (number, below, refl, begun)
 
-held-bits : (n word : ℕ) → AreBits (bits_of n word)
-unfolding bits_of
-held-bits zero word = tt
-held-bits (suc n) word = (omega arith, held-bits n word)
-
 -- what a reader has left are bits
 pub left-bits : {S : Type 0} {g : Ghosts S} (reader : BitReader S g) → IfSome (bits_left reader) AreBits
 left-bits {S} {g} reader = by_bytes (g.left (source_of reader).now) where
   by_bytes : (told : Option (List ℕ)) → IfSome (option_map (λ bytes. held_bits reader ++ bit_list bytes) told) AreBits
   by_bytes None = tt
-  by_bytes (Some bytes) = AreBits-append (held_bits reader) (bit_list bytes) (held-bits (bits_held reader) _) (AreBits-bit_list bytes)
+  by_bytes (Some bytes) = AreBits-append (held_bits reader) (bit_list bytes) (AreBits-bits_of (bits_held reader) _) (AreBits-bit_list bytes)
 
 -- a number that a reader gives, where it gives one
-pub reads-answer : {E : Type 0} (result : Result ℕ E) (n : ℕ) (told after : Option (List ℕ)) (place place_after : ℕ) → IfOk result (λ value. IfSome told (λ bits. IsFront n bits value)) → IfOk result (λ value. value < 2 ^ n)
+pub reads-answer : {E : Type 0} (result : Result ℕ E) (n : ℕ) (told after : Option (List ℕ)) (place place_after : ℕ) → IfOk result (λ value. IfSome told (λ bits. IsFirstNumber n bits value)) → IfOk result (λ value. value < 2 ^ n)
     → IfOk result (λ _. after ≡ without_bits told n) → IfOk result (λ _. place_after ≡ place + n) → IfOk result (λ number. ReadsFrom (uimsbf n []) number told after place place_after)
 reads-answer (Ok value) n told after place place_after front below left moved = reads-number n value told after place place_after [] front below left moved refl
 reads-answer (Err fault) n told after place place_after front below left moved = tt
 
 -- a bit that a reader gives, as a flag
-pub reads-bit : (value : ℕ) (told after : Option (List ℕ)) (place place_after : ℕ) → IfSome told (λ bits. IsFront 1 bits value) → value < 2 ^ 1 → after ≡ without_bits told 1 → place_after ≡ place + 1
+pub reads-bit : (value : ℕ) (told after : Option (List ℕ)) (place place_after : ℕ) → IfSome told (λ bits. IsFirstNumber 1 bits value) → value < 2 ^ 1 → after ≡ without_bits told 1 → place_after ≡ place + 1
     → ReadsFrom one_flag (value == 1) told after place place_after
 reads-bit value told after place place_after front below left moved = reads-flag value told after place place_after [] (value == 1) (of_bit value below) front left moved refl where
   of_bit : (value : ℕ) → value < 2 → flag (value == 1) ≡ value

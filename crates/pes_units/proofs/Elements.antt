@@ -1,8 +1,7 @@
 -- The elements of a header, by the bytes that hold them.
 use Rattle.std.proofs.Common.{◌≡◌, ℕ, ◌+◌, ◌*◌, ◌/◌, ◌%◌, List, get_or, refl, arith}
-use Rattle.std.specs.Prelude.{bit_and}
-use Rattle.std.proofs.lemmas.Nat.Bits.{and_high}
 use Rattle.bit_lists.proofs.FieldLemmas.{bits-byte, bits-add}
+use Rattle.bit_lists.proofs.MaskLemmas.{and_192, and_48}
 use Rattle.pes_units.specs.PesHeader.{packet_start_code_prefix, stream_id, pes_packet_length, fixed_bits, pes_scrambling_control}
 use Rattle.pes_units.specs.Times.{pts_dts_flags, pes_header_data_length}
 
@@ -29,12 +28,6 @@ pub pes_header_data_length-is : (bytes : List ℕ) → pes_header_data_length by
 pes_header_data_length-is bytes = omega (arith, bits-byte bytes 64 8 8 0 0 refl refl)
 
 -- ---- masks of the code
-
-pub and_192 : (n : ℕ) → bit_and n 192 ≡ n / 64 % 4 * 64
-and_192 n = and_high n 2 6
-
-pub and_48 : (n : ℕ) → bit_and n 48 ≡ n / 16 % 4 * 16
-and_48 n = and_high n 2 4
 
 -- what the code looks at, and what it finds
 pub ruleset elements = (packet_start_code_prefix-is, stream_id-is, pes_packet_length-is, fixed_bits-is, pes_scrambling_control-is, pts_dts_flags-is, pes_header_data_length-is, and_192, and_48)

@@ -1,13 +1,13 @@
 -- No code of an element begins another one of it.
-use Rattle.std.proofs.Common.{◌≡◌, ℕ, zero, suc, ℤ, pos, negsuc, unsigned_abs, ◌+◌, ◌*◌, ◌^◌, ◌<◌, ◌≤◌, ◌⊎◌, ◌&&◌, List, [], ◌∷◌, ◌++◌, length, take, get_or, Option, Some, None, cond, append_assoc, Bool, true, false, nat_lt, refl, sym, ap, ap₂, subst, ◌∙◌, inl, inr, arith}
-use Rattle.std.proofs.Math.Nat.{mod-eq_of_lt}
+use Rattle.std.proofs.Common.{◌≡◌, ℕ, zero, suc, ℤ, pos, negsuc, unsigned_abs, ◌+◌, ◌*◌, ◌^◌, ◌<◌, ◌≤◌, ◌⊎◌, ◌&&◌, List, [], ◌∷◌, ◌++◌, length, get_or, Option, Some, None, cond, append_assoc, Bool, true, false, nat_lt, refl, sym, ap, ap₂, subst, ◌∙◌, inl, inr, arith}
 use Rattle.std.proofs.lemmas.Bool.{and_parts, ltb-true}
 use Rattle.std.proofs.lemmas.Option.{none-some}
 use Rattle.std.proofs.lemmas.List.{length-append, append_cancel_left}
 use Rattle.bit_lists.specs.Bits.{IsPrefix, bits_of}
 use Rattle.bit_lists.specs.Fields.{flag}
-use Rattle.bit_lists.proofs.BitLemmas.{length-bits_of, bits_of-same}
-use Rattle.bit_lists.proofs.PrefixLemmas.{IsPrefix-append, IsPrefix-whole, IsPrefix-either, IsPrefix-self, IsPrefix-through}
+use Rattle.bit_lists.proofs.BitLemmas.{length-bits_of, bits_of-one}
+use Rattle.bit_lists.proofs.PrefixLemmas.{IsPrefix-append, IsPrefix-whole, IsPrefix-either, IsPrefix-self, IsPrefix-through, same_front}
+use Rattle.bit_lists.proofs.FieldLemmas.{flag-same}
 use Rattle.prefix_codes.specs.declared.symbol.TheConstants.{END_OF_BLOCK, ESCAPE, RUNS, LEVELS_PER_RUN}
 use Rattle.prefix_codes.specs.declared.table_name.TableName.{TableName}
 use Rattle.prefix_codes.specs.TableName.{code_in, coefficient_code}
@@ -29,20 +29,11 @@ free-table table v w c d p q begins =
 
 -- ---- numbers and flags
 
-bits_of-one : (n v w : ℕ) → v < 2 ^ n → w < 2 ^ n → bits_of n v ≡ bits_of n w → v ≡ w
-bits_of-one n v w lt lt' same = sym (mod-eq_of_lt lt) ∙ bits_of-same n v w same ∙ mod-eq_of_lt lt'
-
 pub free-number : (n : ℕ) → IsPrefixFree (λ (number : ℕ) (code : List ℕ). (number < 2 ^ n) × (code ≡ bits_of n number))
 free-number n v w c d (lt, p) (lt', q) begins =
     let lengths : length c ≡ length d = ap length p ∙ length-bits_of n v ∙ sym (length-bits_of n w) ∙ sym (ap length q) in
     let same : c ≡ d = IsPrefix-whole c d lengths begins in
     (bits_of-one n v w lt lt' (sym p ∙ same ∙ q), same)
-
-pub flag-same : (a b : Bool) → flag a ≡ flag b → a ≡ b
-flag-same true true e = refl
-flag-same true false e = absurd (let e' : 1 ≡ 0 = e in omega arith)
-flag-same false true e = absurd (let e' : 0 ≡ 1 = e in omega arith)
-flag-same false false e = refl
 
 flag-le : (a : Bool) → flag a ≤ 1
 flag-le true = omega arith
@@ -169,10 +160,6 @@ length-fields front run level =
     length-append front (bits_of 6 run ++ bits_of 12 level)
     ∙ ap (λ n. length front + n) (length-append (bits_of 6 run) (bits_of 12 level) ∙ ap₂ (λ a b. a + b) (length-bits_of 6 run) (length-bits_of 12 level))
 
--- where two lists begin with as many bits, these are the same
-first_fields : (a b x y : List ℕ) → length a ≡ length b → a ++ x ≡ b ++ y → a ≡ b
-first_fields a b x y lengths e = sym (IsPrefix-append a x) ∙ ap₂ (λ n bits. take n bits) lengths e ∙ IsPrefix-append b y
-
 coefficient-same : (table : TableName) (v w : Coefficient) (c d : List ℕ) → CoefficientCode table v c → CoefficientCode table w d → IsPrefix c d → symbol_of v ≡ symbol_of w → (v ≡ w) × (c ≡ d)
 unfolding symbol_of
 coefficient-same table end_of_block end_of_block c d p q begins e = (refl, (let both : Some c ≡ Some d = sym p ∙ q in cc))
@@ -198,7 +185,7 @@ coefficient-same table (escape run level) (escape run' level') c d (front, liste
     let fields : bits_of 6 run ++ bits_of 12 level ≡ bits_of 6 run' ++ bits_of 12 level' =
     append_cancel_left front (bits_of 6 run ++ bits_of 12 level) (bits_of 6 run' ++ bits_of 12 level') (sym p' ∙ same ∙ q') in
     let runs : bits_of 6 run ≡ bits_of 6 run' =
-    first_fields (bits_of 6 run) (bits_of 6 run') (bits_of 12 level) (bits_of 12 level') (length-bits_of 6 run ∙ sym (length-bits_of 6 run')) fields in
+    same_front (bits_of 6 run) (bits_of 6 run') (bits_of 12 level) (bits_of 12 level') (length-bits_of 6 run ∙ sym (length-bits_of 6 run')) fields in
     let levels : bits_of 12 level ≡ bits_of 12 level' =
     append_cancel_left (bits_of 6 run) (bits_of 12 level) (bits_of 12 level') (fields ∙ ap (λ x. x ++ bits_of 12 level') (sym runs)) in
     (ap₂ escape (bits_of-one 6 run run' r r' runs) (bits_of-one 12 level level' l l' levels), same)

@@ -1,7 +1,7 @@
 -- Start codes, and the zero bits and bytes before them (ISO/IEC 13818-2, 5.2.1, 5.2.3 and 6.2.1).
 use Rattle.std.specs.Prelude.{◌≡◌, ◌<◌, ◌*◌, ◌%◌, ◌^◌, ◌==◌, ◌&&◌, ℕ, nat_le, List, [], ◌∷◌, ◌++◌, length, replicate, Bool, true, false}
 use Rattle.bit_lists.specs.Bits.{IsPrefix, bits_of}
-use Rattle.picture_grammar.specs.declared.start_codes.TheConstants.{PREFIX_BITS, FIRST_SLICE, LAST_SLICE}
+use Rattle.stream_constants.specs.declared.start_codes.TheConstants.{PREFIX_BITS, FIRST_SLICE, LAST_SLICE}
 use Rattle.picture_grammar.specs.Refusal.{Refusal}
 use Rattle.picture_grammar.specs.Refusal.Refusal.{BadHeader}
 use Rattle.picture_grammar.specs.Grammar.{Grammar, done, ◌>>=◌, ◌>>◌, if_next, at_bits, many}

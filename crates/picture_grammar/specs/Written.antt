@@ -21,7 +21,7 @@ use Rattle.syntax_types.specs.declared.picture.Picture.{Picture}
 use Rattle.syntax_types.specs.declared.slice.Slice.{Slice}
 use Rattle.syntax_types.specs.declared.slice.SliceInfo.{SliceInfo}
 use Rattle.picture_grammar.specs.declared.escape.TheConstants.{RUN_BITS, LEVEL_BITS}
-use Rattle.picture_grammar.specs.declared.start_codes.TheConstants.{FIRST_SLICE, SEQUENCE_END}
+use Rattle.stream_constants.specs.declared.start_codes.TheConstants.{FIRST_SLICE, SEQUENCE_END}
 use Rattle.picture_grammar.specs.Block.{dc_table, coefficient_table, first_place}
 use Rattle.picture_grammar.specs.Motion.{has_residual, dmvector_code}
 use Rattle.picture_grammar.specs.Macroblock.{escape_increment, type_table, type_symbol, has_motion_type, has_dct_type, has_concealment, f_codes, is_coded, block_way, no_block}

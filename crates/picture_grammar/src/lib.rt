@@ -10,4 +10,3 @@
 pub mod escape;
 pub mod laws;
 pub mod limits;
-pub mod start_codes;

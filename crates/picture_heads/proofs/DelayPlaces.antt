@@ -6,7 +6,7 @@ use Rattle.bit_lists.specs.Bits.{bits_of}
 use Rattle.bit_lists.specs.Fields.{AreBytes, bit_list}
 use Rattle.bit_lists.proofs.ByteLemmas.{length-bit_list}
 use Rattle.bit_lists.proofs.PrefixLemmas.{bit_list-same}
-use Rattle.picture_grammar.specs.declared.start_codes.TheConstants.{PICTURE, GROUP}
+use Rattle.stream_constants.specs.declared.start_codes.TheConstants.{PICTURE, GROUP}
 use Rattle.picture_heads.specs.declared.TheConstants.{DELAY_BITS, NO_DELAY}
 use Rattle.picture_heads.specs.Heads.{HasDelay, IsHeadWithoutDelay}
 use Rattle.picture_heads.specs.Private.StartCodes.{is_start_code_at}

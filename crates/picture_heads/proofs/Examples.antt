@@ -6,7 +6,7 @@ use Rattle.bit_lists.specs.Bits.{bits_of}
 use Rattle.bit_lists.specs.Fields.{AreBytes, bit_list}
 use Rattle.quant_math.specs.Matrices.{default_weights}
 use Rattle.syntax_types.specs.declared.picture.SeqState.{SeqState}
-use Rattle.picture_grammar.specs.declared.start_codes.TheConstants.{PICTURE}
+use Rattle.stream_constants.specs.declared.start_codes.TheConstants.{PICTURE}
 use Rattle.picture_grammar.specs.Refusal.Refusal.{BadHeader}
 use Rattle.picture_grammar.specs.StartCode.{start_code}
 use Rattle.picture_laws.proofs.Answers.{IsDecided}

@@ -7,7 +7,7 @@ use Rattle.bit_lists.proofs.BitLemmas.{length-bits_of}
 use Rattle.bit_lists.proofs.JoinedLemmas.{bits_of-zero}
 use Rattle.bit_lists.proofs.PrefixLemmas.{IsPrefix-append}
 use Rattle.syntax_types.specs.declared.picture.SeqState.{SeqState}
-use Rattle.picture_grammar.specs.declared.start_codes.TheConstants.{PICTURE, USER_DATA, SEQUENCE_HEADER, EXTENSION, GROUP, SEQUENCE_DISPLAY, QUANT_MATRIX}
+use Rattle.stream_constants.specs.declared.start_codes.TheConstants.{PICTURE, USER_DATA, SEQUENCE_HEADER, EXTENSION, GROUP, SEQUENCE_DISPLAY, QUANT_MATRIX}
 use Rattle.picture_grammar.specs.Refusal.{Refusal}
 use Rattle.picture_grammar.specs.Refusal.Refusal.{BadHeader, NotMpeg2}
 use Rattle.picture_grammar.specs.Grammar.{Grammar, done, ◌>>=◌, ◌>>◌, optional, when, if_next, many, SpellsList, Next, one_more}

@@ -8,7 +8,7 @@ use Rattle.bit_lists.proofs.BitLemmas.{length-bits_of}
 use Rattle.syntax_types.specs.declared.picture.PicCoding.{PicCoding}
 use Rattle.syntax_types.specs.declared.picture.SeqState.{SeqState}
 use Rattle.syntax_types.specs.declared.picture.TheConstants.{P_PICTURE, B_PICTURE}
-use Rattle.picture_grammar.specs.declared.start_codes.TheConstants.{PICTURE, EXTENSION, QUANT_MATRIX, COPYRIGHT, PICTURE_DISPLAY, PICTURE_CODING}
+use Rattle.stream_constants.specs.declared.start_codes.TheConstants.{PICTURE, EXTENSION, QUANT_MATRIX, COPYRIGHT, PICTURE_DISPLAY, PICTURE_CODING}
 use Rattle.picture_grammar.specs.Refusal.Refusal.{BadHeader, NotMpeg2}
 use Rattle.picture_grammar.specs.Grammar.{Grammar, done, ◌>>=◌, ◌>>◌, optional, many, with_bytes}
 use Rattle.picture_grammar.specs.Element.{uimsbf, rule}

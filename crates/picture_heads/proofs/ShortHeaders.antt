@@ -5,7 +5,7 @@ use Rattle.bit_lists.specs.Bits.{bits_of}
 use Rattle.syntax_types.specs.declared.picture.SeqState.{SeqState}
 use Rattle.stream_constants.specs.declared.main_level.TheConstants.{VBV_MOST}
 use Rattle.picture_grammar.specs.declared.limits.TheConstants.{WIDTH_LEAST, WIDTH_MOST, HEIGHT_LEAST, HEIGHT_MOST, RATE_CODE_MOST, MAIN_AT_MAIN, CHROMA_420}
-use Rattle.picture_grammar.specs.declared.start_codes.TheConstants.{SEQUENCE_EXTENSION}
+use Rattle.stream_constants.specs.declared.start_codes.TheConstants.{SEQUENCE_EXTENSION}
 use Rattle.picture_grammar.specs.Refusal.Refusal.{BadHeader, NotMpeg2}
 use Rattle.picture_grammar.specs.Grammar.{optional, repeated, ◌>>=◌, ◌>>◌}
 use Rattle.picture_grammar.specs.Element.{Rule, passes, uimsbf, flag_where, rule}

@@ -3,7 +3,7 @@ ghost use Rattle.bit_lists.specs.Fields.{AreBytes, bit_list};
 ghost use Rattle.picture_heads.specs.Private.StartCodes.{is_start_code_at};
 ghost use Rattle.picture_heads.specs.Private.Walk.{LeadsIn};
 
-use picture_grammar::start_codes::{GROUP, PICTURE};
+use stream_constants::start_codes::{GROUP, PICTURE};
 
 /// Bytes of a start code, 00 00 01 and one more (ISO/IEC 13818-2, 6.2.1).
 const START_CODE_BYTES: usize = 4;

@@ -1,12 +1,8 @@
 -- What a grammar says of all bits, as a function: the value that they begin with and the rest, or the refusal.
 use Rattle.std.proofs.Common.{ℕ, ◌<◌, List, [], ◌∷◌, ◌++◌}
-use Rattle.std.specs.List.{AllByRecursion}
+use Rattle.bit_lists.proofs.NumberLemmas.{AreBits}
 use Rattle.picture_grammar.specs.Refusal.{Refusal}
 use Rattle.picture_grammar.specs.Grammar.{Grammar}
-
--- bits, as numbers below 2
-abbrev pub AreBits : List ℕ → Type 0
-AreBits bits = AllByRecursion (λ bit. bit < 2) bits
 
 pub AreBits-behind : (front rest : List ℕ) → AreBits (front ++ rest) → AreBits rest
 AreBits-behind [] rest are = are

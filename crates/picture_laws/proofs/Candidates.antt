@@ -4,10 +4,11 @@ use Rattle.std.proofs.lemmas.Bool.{and_parts, and_from, eqb-true, both_ways}
 use Rattle.std.proofs.lemmas.List.Folds.{list_all-append}
 use Rattle.bit_lists.specs.Bits.{IsPrefix}
 use Rattle.bit_lists.proofs.PrefixLemmas.{IsPrefix-split}
+use Rattle.bit_lists.proofs.NumberLemmas.{AreBits}
 use Rattle.picture_grammar.specs.Refusal.{Refusal}
 use Rattle.picture_grammar.specs.Refusal.Refusal.{End}
 use Rattle.picture_grammar.specs.Element.{Rule, passes, MayStand, element}
-use Rattle.picture_laws.proofs.Answers.{AreBits, AreBits-behind, Answer, IsRight}
+use Rattle.picture_laws.proofs.Answers.{AreBits-behind, Answer, IsRight}
 use Rattle.picture_laws.proofs.Answers.Answer.{found, refused}
 
 -- ---- members of a list

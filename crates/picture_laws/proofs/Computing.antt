@@ -2,10 +2,11 @@
 use Rattle.std.proofs.Common.{◌≡◌, ◌&&◌, nat_lt, List, [], ◌∷◌, Bool, true, ℕ}
 use Rattle.std.proofs.lemmas.Bool.{and_parts, ltb-true}
 use Rattle.bit_lists.specs.Bits.{bits_of, number_of}
+use Rattle.bit_lists.proofs.NumberLemmas.{AreBits}
 use Rattle.picture_grammar.specs.Written.{written_block}
 use Rattle.prefix_codes.proofs.Computing.{tables}
 use Rattle.picture_grammar.specs.Grammar.{Grammar}
-use Rattle.picture_laws.proofs.Answers.{AreBits, IsRight, IsDecided}
+use Rattle.picture_laws.proofs.Answers.{IsRight, IsDecided}
 use Rattle.picture_laws.proofs.DecidedPictures.{decided-block, decided-macroblock, decided-slice}
 
 abbrev pub all_bits : List ℕ → Bool

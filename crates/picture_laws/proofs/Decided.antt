@@ -1,9 +1,10 @@
 -- Each way to put grammars together decides all bits where its parts do.
 use Rattle.std.proofs.Common.{◌≡◌, ℕ, zero, suc, ◌<◌, ◌≤◌, List, [], ◌∷◌, ◌++◌, length, Some, None, Bool, true, false, refl, inl, inr, arith}
+use Rattle.bit_lists.proofs.NumberLemmas.{AreBits}
 use Rattle.picture_grammar.specs.Refusal.Refusal.{End}
 use Rattle.picture_grammar.specs.Grammar.{Grammar, done, ◌>>=◌, ◌>>◌, optional, when, if_next, at_bits, ahead, repeated, each, many, one_more, SpellsList, RefusesAfter, Next}
 use Rattle.picture_grammar.specs.Grammar.Next.{more, last}
-use Rattle.picture_laws.proofs.Answers.{AreBits, Answer, IsRight, IsDecided}
+use Rattle.picture_laws.proofs.Answers.{Answer, IsRight, IsDecided}
 use Rattle.picture_laws.proofs.Answers.Answer.{found, refused}
 
 -- ---- one thing behind another

@@ -5,6 +5,7 @@ use Rattle.std.proofs.lemmas.Nat.{pow_pos}
 use Rattle.std.proofs.Math.Nat.{mod-lt, div-add-mod, mul_comm}
 use Rattle.bit_lists.specs.Bits.{bits_of}
 use Rattle.bit_lists.proofs.JoinedLemmas.{bits_of-put}
+use Rattle.bit_lists.proofs.NumberLemmas.{AreBits}
 use Rattle.prefix_codes.specs.declared.symbol.TheConstants.{END_OF_BLOCK, ESCAPE, RUNS, LEVELS_PER_RUN}
 use Rattle.prefix_codes.specs.declared.table_name.TableName.{TableName}
 use Rattle.prefix_codes.specs.Entry.{Entry}
@@ -14,7 +15,7 @@ use Rattle.picture_grammar.specs.Element.{Rule, element}
 use Rattle.picture_grammar.specs.Block.{Coefficient, CoefficientCode}
 use Rattle.picture_grammar.specs.Block.Coefficient.{end_of_block, run_size, escape}
 use Rattle.picture_grammar.proofs.Codes.{coefficient_code-listed}
-use Rattle.picture_laws.proofs.Answers.{AreBits, IsDecided}
+use Rattle.picture_laws.proofs.Answers.{IsDecided}
 use Rattle.picture_laws.proofs.Candidates.{In, kept, kept-in, in-kept, agree, agree-true, agree-from, Agrees, AreCandidates}
 use Rattle.picture_laws.proofs.Numbers.{numbers_behind, are-behind, in-map, map-in}
 use Rattle.picture_laws.proofs.DecidedElements.{decided-by, in-table, table-in}

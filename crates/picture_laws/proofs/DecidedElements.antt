@@ -3,6 +3,7 @@ use Rattle.std.proofs.Common.{◌≡◌, ℕ, zero, suc, ℤ, pos, negsuc, unsig
 use Rattle.std.proofs.lemmas.Bool.{eqb-true}
 use Rattle.bit_lists.specs.Bits.{bits_of}
 use Rattle.bit_lists.specs.Fields.{flag}
+use Rattle.bit_lists.proofs.NumberLemmas.{AreBits}
 use Rattle.prefix_codes.specs.Entry.{Entry}
 use Rattle.prefix_codes.specs.declared.symbol.TheConstants.{QUANT, FORWARD, BACKWARD, PATTERN, INTRA}
 use Rattle.prefix_codes.specs.declared.table_name.TableName.{TableName}
@@ -14,7 +15,7 @@ use Rattle.syntax_types.specs.declared.macroblock.Kind.{Kind}
 use Rattle.picture_grammar.specs.Motion.{dmvector_code, dmvector}
 use Rattle.picture_grammar.specs.Macroblock.{type_symbol}
 use Rattle.picture_grammar.specs.Element.{Rule, element, vlclbf, uimsbf, flag_where}
-use Rattle.picture_laws.proofs.Answers.{AreBits, IsDecided}
+use Rattle.picture_laws.proofs.Answers.{IsDecided}
 use Rattle.picture_laws.proofs.Candidates.{In, kept, kept-in, in-kept, agree, agree-true, agree-from, Agrees, AreCandidates, by_candidates, right-candidates}
 use Rattle.picture_laws.proofs.Numbers.{numbers_behind, are-behind, in-map, map-in}
 

@@ -3,11 +3,12 @@ use Rattle.std.proofs.Common.{◌≡◌, ◌==◌, ℕ, ◌+◌, ◌-◌, ◌*�
 use Rattle.std.proofs.lemmas.List.{length-append}
 use Rattle.bit_lists.proofs.BitLemmas.{length-bits_of}
 use Rattle.bit_lists.proofs.PrefixLemmas.{IsPrefix-append}
+use Rattle.bit_lists.proofs.NumberLemmas.{AreBits-take, AreBits}
 use Rattle.syntax_types.specs.declared.picture.PicCoding.{PicCoding}
 use Rattle.syntax_types.specs.declared.picture.Picture.{Picture}
 use Rattle.syntax_types.specs.declared.picture.SeqState.{SeqState}
 use Rattle.syntax_types.specs.declared.slice.Slice.{Slice}
-use Rattle.picture_grammar.specs.declared.start_codes.TheConstants.{QUANT_MATRIX}
+use Rattle.stream_constants.specs.declared.start_codes.TheConstants.{QUANT_MATRIX}
 use Rattle.picture_grammar.specs.Exact.{EndsWith}
 use Rattle.picture_grammar.specs.Refusal.Refusal.{BadHeader}
 use Rattle.picture_grammar.specs.Grammar.{Grammar, done, ◌>>=◌, ◌>>◌, optional, many, with_bytes}
@@ -16,14 +17,13 @@ use Rattle.picture_grammar.specs.Headers.{Loaded}
 use Rattle.picture_grammar.specs.Head.{unread, extension, extension_or_user_data, sequence_headers, sequence_part, group_part, picture_part, head}
 use Rattle.picture_grammar.specs.Picture.{whole_slice, later_slice, next_slice, picture_unit}
 use Rattle.picture_grammar.proofs.HeaderLaws.{exact-head}
-use Rattle.picture_laws.proofs.Answers.{AreBits, Answer, IsRight, IsDecided}
+use Rattle.picture_laws.proofs.Answers.{Answer, IsRight, IsDecided}
 use Rattle.picture_laws.proofs.Answers.Answer.{found, refused}
 use Rattle.picture_laws.proofs.Decided.{next_answer, right-bind, decided-done, decided-bind, decided-then, decided-optional, decided-if_next, decided-many}
 use Rattle.picture_laws.proofs.DecidedPictures.{decided-slice}
 use Rattle.picture_laws.proofs.DecidedHeads.{decided-zero_bits, decided-start_code, decided-only_zero_bytes, decided-head}
 use Rattle.picture_laws.proofs.TakesHeads.{takes-slices}
 use Rattle.picture_laws.proofs.Tested.{tested-zero}
-use Rattle.picture_laws.proofs.Numbers.{AreBits-take}
 use Rattle.picture_laws.proofs.WholeBytes.{KeepsWhole, EndsWhole, keeps-done, keeps-ends, keeps-bind, ends-bind, ends-behind, keeps-optional, keeps-when, keeps-if_next, keeps-ahead, keeps-many, keeps-uimsbf, ends-zero_bits, keeps-start_code, bytes_of, bytes_of-right}
 
 -- ---- a head ends at a whole byte

@@ -1,6 +1,7 @@
 -- Worked examples of heads and units, computed from the definitions.
 use Rattle.std.proofs.Common.{◌≡◌, ℕ, None, List, [], ◌∷◌, ◌++◌, length, replicate, refl, ap, true, false, inr, arith}
 use Rattle.bit_lists.specs.Fields.{bit_list}
+use Rattle.bit_lists.proofs.NumberLemmas.{AreBits-bit_list}
 use Rattle.quant_math.specs.Matrices.{default_weights}
 use Rattle.syntax_types.specs.declared.macroblock.Macroblock.{Macroblock}
 use Rattle.syntax_types.specs.declared.picture.PicCoding.{PicCoding}
@@ -13,7 +14,6 @@ use Rattle.picture_grammar.specs.Written.{written_macroblock, written_slice, wri
 use Rattle.picture_laws.proofs.Computing.{said, answers}
 use Rattle.picture_laws.proofs.DecidedHeads.{decided-head}
 use Rattle.picture_laws.proofs.DecidedUnits.{right-unit}
-use Rattle.picture_laws.proofs.Totality.{AreBits-bytes}
 use Rattle.picture_laws.proofs.ExampleValues.{flat, intra_kind}
 
 -- ---- parts: a sequence header of 16 columns and a height below 256, its extension, an I-picture, and one slice
@@ -135,7 +135,7 @@ picture height = record {
 
 unit-spelled : SpellsPicture None (picture 16) (unit_bytes 16)
 unfolding answers decided-head
-unit-spelled = (right-unit None (bit_list (unit_bytes 16)) (AreBits-bytes (unit_bytes 16)) refl).0
+unit-spelled = (right-unit None (bit_list (unit_bytes 16)) (AreBits-bit_list (unit_bytes 16)) refl).0
 
 unit-covered : IsCovered (picture 16)
 unit-covered = refl
@@ -149,13 +149,13 @@ unit-with_zeros : SpellsPicture None (picture 16) (head_bytes 16 ++ 0x00 ∷ [] 
 unfolding answers decided-head
 unit-with_zeros =
     (right-unit None (bit_list (head_bytes 16 ++ 0x00 ∷ [] ++ slice_bytes ++ 0x00 ∷ 0x00 ∷ [] ++ sequence_end_bytes ++ 0x00 ∷ []))
-    (AreBits-bytes (head_bytes 16 ++ 0x00 ∷ [] ++ slice_bytes ++ 0x00 ∷ 0x00 ∷ [] ++ sequence_end_bytes ++ 0x00 ∷ [])) refl).0
+    (AreBits-bit_list (head_bytes 16 ++ 0x00 ∷ [] ++ slice_bytes ++ 0x00 ∷ 0x00 ∷ [] ++ sequence_end_bytes ++ 0x00 ∷ [])) refl).0
 
 -- ---- of 32 rows one macroblock row is missing
 
 unit-uncovered : RefusesPicture None (unit_bytes 32) Uncovered 0
 unfolding answers decided-head
-unit-uncovered = inr (picture 32, (right-unit None (bit_list (unit_bytes 32)) (AreBits-bytes (unit_bytes 32)) refl).0, not_covered, refl, refl) where
+unit-uncovered = inr (picture 32, (right-unit None (bit_list (unit_bytes 32)) (AreBits-bit_list (unit_bytes 32)) refl).0, not_covered, refl, refl) where
   not_covered : IsCovered (picture 32) → ⊥
   not_covered c = let d = ap length c in omega arith
 

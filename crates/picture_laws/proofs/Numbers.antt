@@ -1,5 +1,5 @@
 -- The numbers of so many bits whose bits agree with some bits.
-use Rattle.std.proofs.Common.{◌≡◌, ℕ, zero, suc, ◌+◌, ◌-◌, ◌*◌, ◌/◌, ◌%◌, ◌^◌, ◌<◌, ◌≤◌, nat_le, List, [], ◌∷◌, ◌++◌, length, take, drop, map, Bool, true, false, refl, sym, ap, ap₂, subst, ◌∙◌, inl, inr, arith, zero-add, pow-suc}
+use Rattle.std.proofs.Common.{◌≡◌, ℕ, zero, suc, ◌+◌, ◌-◌, ◌*◌, ◌/◌, ◌%◌, ◌^◌, ◌<◌, ◌≤◌, nat_le, List, [], ◌∷◌, ◌++◌, length, take, drop, map, Bool, true, false, refl, sym, ap, subst, ◌∙◌, inl, inr, arith, zero-add}
 use Rattle.std.specs.List.{range_with_len}
 use Rattle.std.proofs.Math.Nat.{mod-eq_of_lt, mod-lt, div-add-mod, mul-le-mul_right, div-lt_iff_lt-mul, mul_comm}
 use Rattle.std.proofs.lemmas.Bool.{leb-true, leb-false, both_ways}
@@ -8,42 +8,11 @@ use Rattle.std.proofs.lemmas.Nat.{pow_pos, pow-add}
 use Rattle.bit_lists.specs.Bits.{IsPrefix, bits_of, number_of}
 use Rattle.bit_lists.proofs.BitLemmas.{length-bits_of, take-bits_of, number_of-bits_of}
 use Rattle.bit_lists.proofs.JoinedLemmas.{bits_of-put}
-use Rattle.bit_lists.proofs.PrefixLemmas.{IsPrefix-append, IsPrefix-split, IsPrefix-whole, IsPrefix-either, IsPrefix-through}
-use Rattle.picture_laws.proofs.Answers.{AreBits}
+use Rattle.bit_lists.proofs.PrefixLemmas.{IsPrefix-append, IsPrefix-split, IsPrefix-whole, IsPrefix-either, IsPrefix-through, IsPrefix-without, IsPrefix-behind}
+use Rattle.bit_lists.proofs.NumberLemmas.{number_of-below, AreBits-take, AreBits-drop, AreBits, bits_of-number_of}
 use Rattle.picture_laws.proofs.Candidates.{In, Agrees, begins, begins-true, begins-from}
 
 -- ---- bits and their number
-
-at_most : (bit worth : ℕ) → bit < 2 → bit * worth ≤ worth
-at_most zero worth low = omega arith
-at_most (suc zero) worth low = omega arith
-at_most (suc (suc n)) worth low = absurd (omega (arith, low))
-
-pub number_of-below : (bits : List ℕ) → AreBits bits → number_of bits < 2 ^ length bits
-unfolding number_of
-number_of-below [] are = omega arith
-number_of-below (bit ∷ bits) are =
-    omega (arith, at_most bit (2 ^ length bits) are.0, number_of-below bits are.1, pow-suc 2 (length bits))
-
-bits_of-one : (bit : ℕ) → bit < 2 → bits_of 1 bit ≡ bit ∷ []
-unfolding bits_of
-bits_of-one zero lt = refl
-bits_of-one (suc zero) lt = refl
-bits_of-one (suc (suc n)) lt = absurd (omega (arith, lt))
-
-pub bits_of-number_of : (bits : List ℕ) → AreBits bits → bits_of (length bits) (number_of bits) ≡ bits
-unfolding number_of bits_of
-bits_of-number_of [] are = refl
-bits_of-number_of (bit ∷ bits) are =
-    let count : suc (length bits) ≡ 1 + length bits = omega arith in
-    ap (λ n. bits_of n (bit * 2 ^ length bits + number_of bits)) count
-    ∙ bits_of-put 1 (length bits) bit (number_of bits) (number_of-below bits are.1)
-    ∙ ap₂ (λ a b. a ++ b) (bits_of-one bit are.0) (bits_of-number_of bits are.1)
-
-pub AreBits-take : (n : ℕ) (bits : List ℕ) → AreBits bits → AreBits (take n bits)
-AreBits-take zero bits are = tt
-AreBits-take (suc n) [] are = tt
-AreBits-take (suc n) (bit ∷ bits) are = (are.0, AreBits-take n bits are.1)
 
 -- ---- ranges
 
@@ -173,20 +142,6 @@ numbers_behind front n bits = elim (begins front bits) [
   | false ↦ elim (begins bits front) [ true ↦ range_with_len 0 (2 ^ n) | false ↦ [] ]
 ]
 
--- what agrees behind a common front
-IsPrefix-behind : (front c d : List ℕ) → IsPrefix (front ++ c) (front ++ d) → IsPrefix c d
-IsPrefix-behind [] c d p = p
-IsPrefix-behind (x ∷ front) c d p = let rest : IsPrefix (front ++ c) (front ++ d) = cc in IsPrefix-behind front c d rest
-
-IsPrefix-before : (front c d : List ℕ) → IsPrefix c d → IsPrefix (front ++ c) (front ++ d)
-IsPrefix-before [] c d p = p
-IsPrefix-before (x ∷ front) c d p = let rest : IsPrefix (front ++ c) (front ++ d) = IsPrefix-before front c d p in cc
-
-pub AreBits-drop : (n : ℕ) (bits : List ℕ) → AreBits bits → AreBits (drop n bits)
-AreBits-drop zero bits are = are
-AreBits-drop (suc n) [] are = tt
-AreBits-drop (suc n) (bit ∷ bits) are = AreBits-drop n bits are.1
-
 module _ (front : List ℕ) (n : ℕ) (bits : List ℕ) (are : AreBits bits) where
   abbrev AreBehind : List ℕ → Type 0
   AreBehind numbers =
@@ -204,12 +159,12 @@ module _ (front : List ℕ) (n : ℕ) (bits : List ℕ) (are : AreBits bits) whe
     lemmas = are-numbers n rest (AreBits-drop (length front) bits are)
 
     out : (c : List ℕ) → Agrees c rest → Agrees (front ++ c) bits
-    out c (inl q) = inl (subst (IsPrefix (front ++ c)) (sym split) (IsPrefix-before front c rest q))
-    out c (inr q) = inr (subst (λ b. IsPrefix b (front ++ c)) (sym split) (IsPrefix-before front rest c q))
+    out c (inl q) = inl (subst (IsPrefix (front ++ c)) (sym split) (IsPrefix-behind front c rest q))
+    out c (inr q) = inr (subst (λ b. IsPrefix b (front ++ c)) (sym split) (IsPrefix-behind front rest c q))
 
     back : (c : List ℕ) → Agrees (front ++ c) bits → Agrees c rest
-    back c (inl q) = inl (IsPrefix-behind front c rest (subst (IsPrefix (front ++ c)) split q))
-    back c (inr q) = inr (IsPrefix-behind front rest c (subst (λ b. IsPrefix b (front ++ c)) split q))
+    back c (inl q) = inl (IsPrefix-without front c rest (subst (IsPrefix (front ++ c)) split q))
+    back c (inr q) = inr (IsPrefix-without front rest c (subst (λ b. IsPrefix b (front ++ c)) split q))
 
     sound : (k : ℕ) → In k (numbers_at n rest) → (k < 2 ^ n) × Agrees (front ++ bits_of n k) bits
     sound k i = let h = lemmas.0 k i in (h.0, out (bits_of n k) h.1)

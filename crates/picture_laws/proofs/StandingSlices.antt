@@ -1,14 +1,14 @@
 -- Each slice stands in its unit.
 use Rattle.std.proofs.Common.{◌≡◌, ◌⊎◌, ◌==◌, ◌||◌, ◌+◌, ◌-◌, ◌*◌, ◌%◌, ◌<◌, ◌≤◌, ℕ, List, [], ◌∷◌, ◌++◌, length, replicate, Option, Bool, true, false, refl, sym, ap, ap₂, subst, ◌∙◌, inl, inr, arith, append_assoc, append-nil}
 use Rattle.std.proofs.lemmas.Bool.{cases_lt}
-use Rattle.std.proofs.lemmas.List.{length-append, length-replicate}
+use Rattle.std.proofs.lemmas.List.{length-append, length-replicate, nil_from_length}
 use Rattle.bit_lists.specs.Fields.{bit_list}
 use Rattle.bit_lists.proofs.ByteLemmas.{length-bit_list}
 use Rattle.syntax_types.specs.declared.picture.PicCoding.{PicCoding}
 use Rattle.syntax_types.specs.declared.picture.Picture.{Picture}
 use Rattle.syntax_types.specs.declared.picture.SeqState.{SeqState}
 use Rattle.syntax_types.specs.declared.slice.Slice.{Slice}
-use Rattle.picture_grammar.specs.declared.start_codes.TheConstants.{SEQUENCE_END}
+use Rattle.stream_constants.specs.declared.start_codes.TheConstants.{SEQUENCE_END}
 use Rattle.picture_grammar.specs.Refusal.Refusal.{BadHeader}
 use Rattle.picture_grammar.specs.Grammar.{optional, SpellsList}
 use Rattle.picture_grammar.specs.Grammar.Next.{more, last}
@@ -20,7 +20,6 @@ use Rattle.picture_grammar.proofs.HeaderLaws.{exact-next_slice}
 use Rattle.picture_laws.specs.SliceStands.{SliceStands}
 use Rattle.picture_laws.proofs.WholeBytes.{ends-zero_bits}
 use Rattle.picture_laws.proofs.StartCodes.{code-taken, parted}
-use Rattle.picture_laws.proofs.Tails.{none_before}
 use Rattle.picture_laws.proofs.WrittenSlice.{macroblocks-of_slice}
 use Rattle.picture_laws.proofs.WrittenPicture.{code_bounds, code_other}
 use Rattle.picture_laws.proofs.Codings.{coding-of_unit}
@@ -122,7 +121,7 @@ module _ (seq : SeqState) (coding : PicCoding) where
         ⊎ ((m : List ℕ) × (opening ≡ before ++ m) × (start_code_prefix ++ after ≡ m ++ (stands.inner ++ stands.rest))) → length (opening ++ stands.inner) ≤ length before
     behind le (inl (m, p, q)) = inside m p q
     behind le (inr (m, p, q)) =
-        let empty = none_before m (omega (arith, le, ap length p, length-append before m)) in
+        let empty = nil_from_length m (omega (arith, le, ap length p, length-append before m)) in
         inside [] (sym (append-nil before) ∙ ap (λ (x : List ℕ). before ++ x) (sym empty) ∙ sym p ∙ sym (append-nil opening)) (sym (q ∙ ap (λ (x : List ℕ). x ++ (stands.inner ++ stands.rest)) empty))
 
 pub slices-stand : (before : Option SeqState) (picture : Picture) (bytes : List ℕ) (earlier later : List Slice) (s : Slice) → SpellsPicture before picture bytes → picture.slices ≡ earlier ++ s ∷ later

@@ -3,7 +3,7 @@ use Rattle.std.proofs.Common.{◌≡◌, ◌==◌, ◌||◌, ◌%◌, ℕ, List,
 use Rattle.std.proofs.lemmas.Bool.{cases_Bool, eqb-true, both_ways}
 use Rattle.syntax_types.specs.declared.picture.PicCoding.{PicCoding}
 use Rattle.syntax_types.specs.declared.picture.SeqState.{SeqState}
-use Rattle.picture_grammar.specs.declared.start_codes.TheConstants.{USER_DATA, SEQUENCE_HEADER, EXTENSION, GROUP}
+use Rattle.stream_constants.specs.declared.start_codes.TheConstants.{USER_DATA, SEQUENCE_HEADER, EXTENSION, GROUP}
 use Rattle.picture_grammar.specs.Refusal.Refusal.{BadHeader}
 use Rattle.picture_grammar.specs.Grammar.{◌>>◌, many}
 use Rattle.picture_grammar.specs.StartCode.{start_code, is_slice}

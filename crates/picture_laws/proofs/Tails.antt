@@ -1,9 +1,9 @@
 -- Start codes before one of certain start codes, as that of the first slice, where another one of these stands there.
-use Rattle.std.proofs.Common.{◌≡◌, ◌⊎◌, ℕ, zero, suc, ◌+◌, ◌*◌, ◌%◌, ◌^◌, ◌<◌, ◌≤◌, List, [], ◌∷◌, ◌++◌, length, replicate, take, Bool, true, refl, sym, ap, ap₂, subst, ◌∙◌, inl, inr, arith, append_assoc, append-nil}
-use Rattle.std.proofs.lemmas.List.{length-append, append_cancel_left}
+use Rattle.std.proofs.Common.{◌≡◌, ◌⊎◌, ℕ, zero, suc, ◌+◌, ◌*◌, ◌%◌, ◌^◌, ◌<◌, ◌≤◌, List, [], ◌∷◌, ◌++◌, length, replicate, Bool, true, refl, sym, ap, ap₂, subst, ◌∙◌, inl, inr, arith, append_assoc, append-nil}
+use Rattle.std.proofs.lemmas.List.{length-append, append_cancel_left, nil_from_length}
 use Rattle.bit_lists.specs.Bits.{IsPrefix, bits_of}
 use Rattle.bit_lists.proofs.BitLemmas.{length-bits_of, bits_of-one}
-use Rattle.bit_lists.proofs.PrefixLemmas.{IsPrefix-append, IsPrefix-split}
+use Rattle.bit_lists.proofs.PrefixLemmas.{IsPrefix-append, IsPrefix-split, same_front}
 use Rattle.picture_grammar.specs.StartCode.{start_code_prefix, start_code_bits, StartCodeComes}
 use Rattle.picture_laws.proofs.Tested.{prefix-zeros}
 use Rattle.picture_laws.proofs.StartCodes.{zeros_before, zeros_before-one, opened-zeros, parted, end-one, end-zeros}
@@ -72,21 +72,13 @@ zero-parts (suc n) [] le = absurd (omega arith)
 zero-parts (suc n) (zero ∷ bits) le = let (rest, e) = zero-parts n bits (omega arith) in (rest, ap (λ (x : List ℕ). 0 ∷ x) e)
 zero-parts (suc n) (suc m ∷ bits) le = absurd (omega arith)
 
--- where two lists begin with as many bits, these are the same
-first_fields : (a b x y : List ℕ) → length a ≡ length b → a ++ x ≡ b ++ y → a ≡ b
-first_fields a b x y lengths e = sym (IsPrefix-append a x) ∙ ap₂ (λ (n : ℕ) (bits : List ℕ). take n bits) lengths e ∙ IsPrefix-append b y
-
 one_byte : (b c : ℕ) (x y : List ℕ) → b < 2 ^ 8 → c < 2 ^ 8 → start_code_bits b ++ x ≡ start_code_bits c ++ y → b ≡ c
 one_byte b c x y lt lt' e =
     let fields = append_cancel_left start_code_prefix (bits_of 8 b ++ x) (bits_of 8 c ++ y) (sym (append_assoc start_code_prefix (bits_of 8 b) x) ∙ e ∙ append_assoc start_code_prefix (bits_of 8 c) y) in
-    bits_of-one 8 b c lt lt' (first_fields (bits_of 8 b) (bits_of 8 c) x y (length-bits_of 8 b ∙ sym (length-bits_of 8 c)) fields)
+    bits_of-one 8 b c lt lt' (same_front (bits_of 8 b) (bits_of 8 c) x y (length-bits_of 8 b ∙ sym (length-bits_of 8 c)) fields)
 
 pub suffix-one : (front end : List ℕ) → start_code_prefix ≡ front ++ end → (end ≡ []) ⊎ ((k : ℕ) × (end ≡ replicate k 0 ++ 1 ∷ []) × (k + length front ≡ 23))
 suffix-one front end e = end-one 23 front end (sym e ∙ prefix-zeros)
-
-pub none_before : (front : List ℕ) → length front ≡ 0 → front ≡ []
-none_before [] e = refl
-none_before (x ∷ xs) e = absurd (omega arith)
 
 -- bits that begin with zeros and a one
 pub led : (k : ℕ) (end rest bits : List ℕ) → end ≡ replicate k 0 ++ 1 ∷ [] → bits ≡ end ++ rest → zeros_before bits ≡ k
@@ -116,7 +108,7 @@ module _ (is_last : ℕ → Bool) (old new : List ℕ) (old_tail : IsTail is_las
     by_parts {x} (inl (m, e, g)) = elim (suffix-one f m e) [
       | inl none ↦ whole-prefix f new (sym (append-nil f) ∙ ap (λ (y : List ℕ). f ++ y) (sym none) ∙ sym e)
       | inr (k, is, count) ↦
-          let empty = none_before f (omega (arith, led k m x old is g, zeros-old is_last old old_tail, count)) in
+          let empty = nil_from_length f (omega (arith, led k m x old is g, zeros-old is_last old old_tail, count)) in
           subst (λ (y : List ℕ). IsPrefix start_code_prefix (y ++ new)) (sym empty)
           (subst (IsPrefix start_code_prefix) (sym (new_tail.split ∙ append_assoc start_code_prefix (bits_of 8 new_tail.byte) new_tail.rest)) (IsPrefix-append start_code_prefix (bits_of 8 new_tail.byte ++ new_tail.rest)))
     ]
@@ -155,7 +147,7 @@ module _ (is_last : ℕ → Bool) (old new : List ℕ) (old_tail : IsTail is_las
             finish c n m e g h (omega (arith, ap length byte, length-bits_of 8 c.byte))
         | inr (j, is, count) ↦
             let split : new ≡ k ++ (bits_of 8 c.byte ++ c.rest) = h ∙ ap (λ (x : List ℕ). x ++ c.rest) q ∙ append_assoc k (bits_of 8 c.byte) c.rest in
-            let empty = none_before n (omega (arith, led j k (bits_of 8 c.byte ++ c.rest) new is split, zeros-new is_last new new_tail, count)) in
+            let empty = nil_from_length n (omega (arith, led j k (bits_of 8 c.byte ++ c.rest) new is split, zeros-new is_last new new_tail, count)) in
             let all : new ≡ start_code_bits c.byte ++ c.rest = h ∙ ap (λ (x : List ℕ). x ++ c.rest) (sym (g ∙ ap (λ (x : List ℕ). x ++ m) empty)) in
             absurd (last-absurd c.byte c.rest c.is_byte c.is_one all)
       ]
@@ -167,7 +159,7 @@ module _ (is_last : ℕ → Bool) (old new : List ℕ) (old_tail : IsTail is_las
           let zeros = end-zeros (8 * c.zeros) f n e in
           let split : new ≡ replicate (length n) 0 ++ (start_code_bits c.byte ++ c.rest) =
           h ∙ ap (λ (x : List ℕ). x ++ c.rest) g ∙ append_assoc n (start_code_bits c.byte) c.rest ∙ ap (λ (x : List ℕ). x ++ (start_code_bits c.byte ++ c.rest)) zeros in
-          let empty = none_before n (omega (arith, ap zeros_before split ∙ opened-zeros (length n) c.byte c.rest, zeros-new is_last new new_tail)) in
+          let empty = nil_from_length n (omega (arith, ap zeros_before split ∙ opened-zeros (length n) c.byte c.rest, zeros-new is_last new new_tail)) in
           absurd (last-absurd c.byte c.rest c.is_byte c.is_one (split ∙ ap (λ (x : List ℕ). replicate (length x) 0 ++ (start_code_bits c.byte ++ c.rest)) empty))
 
       by_parts : ((m : List ℕ) × (replicate (8 * c.zeros) 0 ++ start_code_bits c.byte ≡ f ++ m) × (new ≡ m ++ c.rest))

@@ -6,7 +6,7 @@ use Rattle.bit_lists.proofs.BitLemmas.{length-bits_of}
 use Rattle.syntax_types.specs.declared.picture.PicCoding.{PicCoding}
 use Rattle.syntax_types.specs.declared.picture.SeqState.{SeqState}
 use Rattle.syntax_types.specs.declared.slice.Slice.{Slice}
-use Rattle.picture_grammar.specs.declared.start_codes.TheConstants.{EXTENSION, USER_DATA}
+use Rattle.stream_constants.specs.declared.start_codes.TheConstants.{EXTENSION, USER_DATA}
 use Rattle.picture_grammar.specs.Refusal.{Refusal}
 use Rattle.picture_grammar.specs.Refusal.Refusal.{BadHeader}
 use Rattle.picture_grammar.specs.Grammar.{Grammar, done, ◌>>=◌, ◌>>◌, optional, when, if_next, Next, one_more}

@@ -6,11 +6,10 @@ use Rattle.std.proofs.Math.Nat.{mod-eq_of_lt}
 use Rattle.bit_lists.specs.Bits.{IsPrefix, bits_of, number_of}
 use Rattle.bit_lists.proofs.BitLemmas.{length-bits_of, number_of-bits_of}
 use Rattle.bit_lists.proofs.PrefixLemmas.{IsPrefix-append, IsPrefix-split}
+use Rattle.bit_lists.proofs.NumberLemmas.{number_of-below, AreBits-take, AreBits-drop, AreBits, bits_of-number_of}
 use Rattle.picture_grammar.specs.StartCode.{start_code_prefix, start_code_bits, StartCodeComes}
 use Rattle.picture_grammar.specs.Slice.{ClosesSlice}
-use Rattle.picture_laws.proofs.Answers.{AreBits}
 use Rattle.picture_laws.proofs.Candidates.{begins, begins-true, begins-from}
-use Rattle.picture_laws.proofs.Numbers.{number_of-below, bits_of-number_of, AreBits-take, AreBits-drop}
 use Rattle.picture_laws.proofs.Decided.{IsTested}
 
 -- ---- a fixed front, and zero bits

@@ -4,12 +4,14 @@ use Rattle.std.proofs.lemmas.Bool.{and_parts, and_from, eqb-true, both_ways}
 use Rattle.std.proofs.lemmas.List.{length-append}
 use Rattle.std.specs.List.{flat_map, range_with_len}
 use Rattle.bit_lists.specs.Bits.{IsPrefix}
-use Rattle.bit_lists.specs.Fields.{bit_list, bits_of_byte}
+use Rattle.bit_lists.specs.Fields.{bit_list}
+use Rattle.bit_lists.proofs.ByteLemmas.{length-bit_list}
+use Rattle.bit_lists.proofs.NumberLemmas.{AreBits-bit_list}
 use Rattle.syntax_types.specs.declared.picture.PicCoding.{PicCoding}
 use Rattle.syntax_types.specs.declared.picture.Picture.{Picture}
 use Rattle.syntax_types.specs.declared.picture.SeqState.{SeqState}
 use Rattle.syntax_types.specs.declared.slice.Slice.{Slice}
-use Rattle.picture_grammar.specs.declared.start_codes.TheConstants.{SEQUENCE_END}
+use Rattle.stream_constants.specs.declared.start_codes.TheConstants.{SEQUENCE_END}
 use Rattle.picture_grammar.specs.Refusal.{Refusal}
 use Rattle.picture_grammar.specs.Refusal.Refusal.{BadHeader, Uncovered}
 use Rattle.picture_grammar.specs.Grammar.{Grammar, done, ◌>>=◌, ◌>>◌, optional, if_next, SpellsList, Next}
@@ -18,21 +20,11 @@ use Rattle.picture_grammar.specs.StartCode.{start_code_prefix, start_code, zero_
 use Rattle.picture_grammar.specs.Picture.{later_slice, slice_or_end, next_slice, whole_slice, picture_unit, rows, addresses, IsCovered, SpellsPicture, RefusesPicture}
 use Rattle.picture_grammar.specs.Slice.{columns}
 use Rattle.picture_grammar.proofs.HeaderLaws.{exact-picture_unit}
-use Rattle.picture_laws.proofs.Answers.{AreBits, Answer, IsRight}
+use Rattle.picture_laws.proofs.Answers.{Answer, IsRight}
 use Rattle.picture_laws.proofs.Answers.Answer.{found, refused}
 use Rattle.picture_laws.proofs.DecidedUnits.{unit_answer, right-unit}
 
 -- ---- bits of bytes
-
-pub AreBits-bytes : (bytes : List ℕ) → AreBits (bit_list bytes)
-AreBits-bytes [] = tt
-AreBits-bytes (byte ∷ bytes) =
-    let low : (n : ℕ) → n % 2 < 2 = λ n. omega arith in
-    (low _, (low _, (low _, (low _, (low _, (low _, (low _, (low _, AreBits-bytes bytes))))))))
-
-pub whole-bytes : (bytes : List ℕ) → length (bit_list bytes) ≡ 8 * length bytes
-whole-bytes [] = refl
-whole-bytes (byte ∷ bytes) = omega (arith, length-append (bits_of_byte byte) (bit_list bytes), whole-bytes bytes)
 
 -- ---- what spells a unit leaves nothing
 
@@ -130,7 +122,7 @@ module _ (before : Option SeqState) (bytes : List ℕ) where
 
   pub spelled-or-refused : IsSpelled ⊎ HasRefusal
   spelled-or-refused =
-      by_answer (unit_answer before (bit_list bytes)) (right-unit before (bit_list bytes) (AreBits-bytes bytes) (let w = whole-bytes bytes in omega arith))
+      by_answer (unit_answer before (bit_list bytes)) (right-unit before (bit_list bytes) (AreBits-bit_list bytes) (let w = length-bit_list bytes in omega arith))
 
   -- ---- and never in two ways
 

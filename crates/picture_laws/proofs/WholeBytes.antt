@@ -5,13 +5,12 @@ use Rattle.bit_lists.specs.Bits.{bits_of, number_of}
 use Rattle.bit_lists.specs.Fields.{AreBytes, bit_list}
 use Rattle.bit_lists.proofs.BitLemmas.{length-bits_of}
 use Rattle.bit_lists.proofs.JoinedLemmas.{bits_of-byte}
+use Rattle.bit_lists.proofs.NumberLemmas.{number_of-below, AreBits-take, AreBits-drop, AreBits, bits_of-number_of}
 use Rattle.picture_grammar.specs.Refusal.{Refusal}
 use Rattle.picture_grammar.specs.Grammar.{Grammar, done, ◌>>=◌, optional, when, if_next, ahead, many, SpellsList, Next}
 use Rattle.picture_grammar.specs.Grammar.Next.{more, last}
 use Rattle.picture_grammar.specs.Element.{Rule, uimsbf}
 use Rattle.picture_grammar.specs.StartCode.{zero_bits, zero_bytes, start_code}
-use Rattle.picture_laws.proofs.Answers.{AreBits}
-use Rattle.picture_laws.proofs.Numbers.{number_of-below, bits_of-number_of, AreBits-take, AreBits-drop}
 
 -- from whole bytes on, whole bytes are left
 pub record KeepsWhole {A : Type 0} (grammar : Grammar A) : Type 0 where

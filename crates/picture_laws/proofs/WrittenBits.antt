@@ -8,7 +8,7 @@ use Rattle.bit_lists.specs.Bits.{bits_of}
 use Rattle.bit_lists.specs.Fields.{bit_list, flag}
 use Rattle.bit_lists.proofs.FieldLemmas.{flag_below}
 use Rattle.bit_lists.proofs.ByteLemmas.{length-bit_list}
-use Rattle.bit_lists.proofs.NumberLemmas.{AreBits, AreBits-append, AreBits-zeros, AreBits-bit_list}
+use Rattle.bit_lists.proofs.NumberLemmas.{AreBits, AreBits-append, AreBits-zeros, AreBits-bit_list, AreBits-bits_of}
 use Rattle.prefix_codes.specs.declared.symbol.TheConstants.{ADDRESS_ESCAPE, ESCAPE}
 use Rattle.prefix_codes.specs.declared.table_name.TableName.{TableName}
 use Rattle.prefix_codes.specs.declared.table_name.TableName.TheVariants.{Address, TypeI, TypeP, TypeB, Pattern, Motion, DcLuma, DcChroma, CoeffZero, CoeffFirst, CoeffOne}
@@ -27,7 +27,7 @@ use Rattle.syntax_types.specs.declared.picture.PicCoding.{PicCoding}
 use Rattle.syntax_types.specs.declared.picture.Picture.{Picture}
 use Rattle.syntax_types.specs.declared.slice.Slice.{Slice}
 use Rattle.syntax_types.specs.declared.slice.SliceInfo.{SliceInfo}
-use Rattle.picture_grammar.specs.declared.start_codes.TheConstants.{FIRST_SLICE, SEQUENCE_END}
+use Rattle.stream_constants.specs.declared.start_codes.TheConstants.{FIRST_SLICE, SEQUENCE_END}
 use Rattle.picture_grammar.specs.StartCode.{start_code_prefix, start_code_bits}
 use Rattle.picture_grammar.specs.Block.{dc_table, coefficient_table, first_place}
 use Rattle.picture_grammar.specs.Motion.{has_residual, dmvector_code}
@@ -37,11 +37,6 @@ use Rattle.picture_grammar.proofs.Codes.{coefficient_code-listed}
 use Rattle.picture_laws.proofs.WholeBytes.{bytes_of, bytes_of-right}
 
 -- ---- pieces
-
-bits-bits_of : (n v : ℕ) → AreBits (bits_of n v)
-unfolding bits_of
-bits-bits_of zero v = tt
-bits-bits_of (suc n) v = (omega arith, bits-bits_of n v)
 
 bits-if : (test : Bool) (bits : List ℕ) → AreBits bits → AreBits (if test then bits else [])
 bits-if true bits are = are
@@ -93,11 +88,11 @@ bits-code_for table symbol = by_code (code_in table symbol) refl where
 -- ---- blocks
 
 bits-dc : (way : BlockWay) (dc : Dc) → AreBits (written_dc way dc)
-bits-dc way dc = AreBits-append (code_for (dc_table way.luma) dc.size) (bits_of dc.size dc.bits) (bits-code_for _ _) (bits-bits_of dc.size dc.bits)
+bits-dc way dc = AreBits-append (code_for (dc_table way.luma) dc.size) (bits_of dc.size dc.bits) (bits-code_for _ _) (AreBits-bits_of dc.size dc.bits)
 
 bits-escape : (table : TableName) (pair : RunLevel) → AreBits (written_escape table pair)
 bits-escape table pair = AreBits-append (code_for table ESCAPE ++ bits_of 6 pair.run) (bits_of 12 (level_bits pair.level))
-    (AreBits-append (code_for table ESCAPE) (bits_of 6 pair.run) (bits-code_for table ESCAPE) (bits-bits_of 6 pair.run)) (bits-bits_of 12 (level_bits pair.level))
+    (AreBits-append (code_for table ESCAPE) (bits_of 6 pair.run) (bits-code_for table ESCAPE) (AreBits-bits_of 6 pair.run)) (AreBits-bits_of 12 (level_bits pair.level))
 
 bits-coefficient : (table : TableName) (pair : RunLevel) → AreBits (written_coefficient table pair)
 bits-coefficient table pair = by_code (coefficient_code table pair.run (unsigned_abs pair.level)) refl where
@@ -132,7 +127,7 @@ bits-part f_code code residual =
     let size = unsigned_abs code in
     let sign = if size == 0 then [] else flag (int_lt code (pos 0)) ∷ [] in
     AreBits-append (code_for Motion size ++ sign) (if has_residual f_code size then bits_of (f_code - 1) residual else [])
-    (AreBits-append (code_for Motion size) sign (bits-code_for Motion size) (bits-sign (size == 0) _)) (bits-if (has_residual f_code size) (bits_of (f_code - 1) residual) (bits-bits_of _ residual))
+    (AreBits-append (code_for Motion size) sign (bits-code_for Motion size) (bits-sign (size == 0) _)) (bits-if (has_residual f_code size) (bits_of (f_code - 1) residual) (AreBits-bits_of _ residual))
 
 bits-dmvector : (value : ℤ) → AreBits (dmvector_code value)
 bits-dmvector (pos zero) = (omega arith, tt)
@@ -157,8 +152,8 @@ bits-ten a b c d e f g h i j pa pb pc pd pe pf pg ph pi pj =
 bits-macroblock : (coding : PicCoding) (m : Macroblock) → AreBits (written_macroblock coding m)
 unfolding written_macroblock
 bits-macroblock coding m = bits-ten _ _ _ _ _ _ _ _ _ _ (bits-increment (m.skipped_before + 1)) (bits-code_for (type_table coding) (type_symbol m.kind))
-    (bits-if (has_motion_type coding m.kind) (bits_of 2 m.motion_type) (bits-bits_of 2 m.motion_type)) (bits-if (has_dct_type coding m.kind) (flag m.field_dct ∷ []) (bits-flag m.field_dct))
-    (bits-any (bits_of 5) m.code (bits-bits_of 5)) (bits-flat (written_vector (f_codes coding 0)) m.forward.items (bits-vector (f_codes coding 0))) (bits-flat (written_vector (f_codes coding 1)) m.backward.items (bits-vector (f_codes coding 1)))
+    (bits-if (has_motion_type coding m.kind) (bits_of 2 m.motion_type) (AreBits-bits_of 2 m.motion_type)) (bits-if (has_dct_type coding m.kind) (flag m.field_dct ∷ []) (bits-flag m.field_dct))
+    (bits-any (bits_of 5) m.code (AreBits-bits_of 5)) (bits-flat (written_vector (f_codes coding 0)) m.forward.items (bits-vector (f_codes coding 0))) (bits-flat (written_vector (f_codes coding 1)) m.backward.items (bits-vector (f_codes coding 1)))
     (bits-if (has_concealment coding m.kind) (1 ∷ []) (omega arith, tt)) (bits-if m.kind.pattern (code_for Pattern m.pattern) (bits-code_for Pattern m.pattern))
     (bits-flat (written_coded_block coding m) (range_with_len 0 BLOCKS) (λ i. bits-if (is_coded m.kind m.pattern i) (written_block (block_way coding m.kind i) (slice_index_or m.blocks i no_block)) (bits-block _ _)))
 
@@ -169,17 +164,17 @@ bits-info None = (omega arith, tt)
 bits-info (Some info) =
     let bytes = flat_map (λ (byte : ℕ). 1 ∷ bits_of 8 byte) info.bytes in
     AreBits-append ((1 ∷ flag info.intra_slice ∷ bits_of 7 info.reserved) ++ bytes) (0 ∷ [])
-    (AreBits-append (1 ∷ flag info.intra_slice ∷ bits_of 7 info.reserved) bytes (omega arith, (flag_below info.intra_slice, bits-bits_of 7 info.reserved))
-    (bits-flat (λ (byte : ℕ). 1 ∷ bits_of 8 byte) info.bytes (λ byte. (omega arith, bits-bits_of 8 byte)))) (omega arith, tt)
+    (AreBits-append (1 ∷ flag info.intra_slice ∷ bits_of 7 info.reserved) bytes (omega arith, (flag_below info.intra_slice, AreBits-bits_of 7 info.reserved))
+    (bits-flat (λ (byte : ℕ). 1 ∷ bits_of 8 byte) info.bytes (λ byte. (omega arith, AreBits-bits_of 8 byte)))) (omega arith, tt)
 
 bits-slice : (coding : PicCoding) (s : Slice) → AreBits (written_slice coding s)
 unfolding written_slice
 bits-slice coding s =
     AreBits-append (bits_of 5 s.code ++ written_slice_info s.info) (flat_map (written_macroblock coding) s.macroblocks)
-    (AreBits-append (bits_of 5 s.code) (written_slice_info s.info) (bits-bits_of 5 s.code) (bits-info s.info)) (bits-flat (written_macroblock coding) s.macroblocks (bits-macroblock coding))
+    (AreBits-append (bits_of 5 s.code) (written_slice_info s.info) (AreBits-bits_of 5 s.code) (bits-info s.info)) (bits-flat (written_macroblock coding) s.macroblocks (bits-macroblock coding))
 
 bits-start_code : (byte : ℕ) → AreBits (start_code_bits byte)
-bits-start_code byte = AreBits-append start_code_prefix (bits_of 8 byte) (bits-bits_of 24 1) (bits-bits_of 8 byte)
+bits-start_code byte = AreBits-append start_code_prefix (bits_of 8 byte) (AreBits-bits_of 24 1) (AreBits-bits_of 8 byte)
 
 abbrev whole_of : PicCoding → Slice → List ℕ
 whole_of coding s = to_whole_bytes (start_code_bits (s.row + FIRST_SLICE) ++ written_slice coding s)

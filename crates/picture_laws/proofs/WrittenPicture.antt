@@ -13,7 +13,7 @@ use Rattle.syntax_types.specs.declared.picture.PicCoding.{PicCoding}
 use Rattle.syntax_types.specs.declared.picture.Picture.{Picture}
 use Rattle.syntax_types.specs.declared.picture.SeqState.{SeqState}
 use Rattle.syntax_types.specs.declared.slice.Slice.{Slice}
-use Rattle.picture_grammar.specs.declared.start_codes.TheConstants.{SEQUENCE_END}
+use Rattle.stream_constants.specs.declared.start_codes.TheConstants.{SEQUENCE_END}
 use Rattle.picture_grammar.specs.Refusal.Refusal.{BadHeader}
 use Rattle.picture_grammar.specs.Grammar.{optional, SpellsList}
 use Rattle.picture_grammar.specs.Grammar.Next.{more, last}

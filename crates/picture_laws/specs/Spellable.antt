@@ -16,7 +16,7 @@ use Rattle.prefix_codes.specs.declared.table_name.TableName.TheVariants.{Pattern
 use Rattle.picture_grammar.specs.Refusal.Refusal.{BadPattern}
 use Rattle.picture_grammar.specs.Grammar.{Grammar, optional, when, with_bytes}
 use Rattle.picture_grammar.specs.Element.{vlclbf}
-use Rattle.picture_grammar.specs.declared.start_codes.TheConstants.{FIRST_SLICE}
+use Rattle.stream_constants.specs.declared.start_codes.TheConstants.{FIRST_SLICE}
 use Rattle.picture_grammar.specs.declared.escape.TheConstants.{LEVEL_BITS}
 use Rattle.picture_grammar.specs.Block.{dc_coefficient, next_place}
 use Rattle.picture_grammar.specs.Motion.{motion_vectors}

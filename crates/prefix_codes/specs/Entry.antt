@@ -12,6 +12,7 @@ Entry = ℕ × List ℕ
 abbrev pub printed_bits : String → List ℕ
 printed_bits text = map (λ c. c - 48) (filter (λ c. not (c == 32)) (codes text))
 
+-- an entry, its code as the standard prints it
 abbrev pub entry : ℕ → String → Entry
 entry symbol text = (symbol, printed_bits text)
 
@@ -19,5 +20,6 @@ entry symbol text = (symbol, printed_bits text)
 abbrev pub coefficient_symbol : ℕ → ℕ → ℕ
 coefficient_symbol run level = LEVELS_PER_RUN * run + level
 
+-- the entry of a run of zeros and the size of a level (Tables B-14 and B-15)
 abbrev pub coefficient : ℕ → ℕ → String → Entry
 coefficient run level text = entry (coefficient_symbol run level) text

@@ -1,31 +1,23 @@
 -- A long division leaves the remainder of Annex A.
 use Rattle.std.proofs.Common.{◌≡◌, ℕ, zero, suc, ◌+◌, ◌-◌, ◌*◌, ◌%◌, ◌^◌, ◌<◌, ◌≤◌, Bool, true, false, cond, List, [], ◌∷◌, ◌++◌, map, take, drop, replicate, refl, sym, ap, ap₂, ◌∙◌, subst, append_assoc, arith, ⊎_elim, lit<, zero-add}
-use Rattle.std.specs.List.{AllByRecursion}
 use Rattle.std.specs.Int.Bits.{bit_xor}
 use Rattle.std.proofs.lemmas.Bool.{cases_lt, lt-ltb, le-ltb}
 use Rattle.std.proofs.lemmas.Nat.{xor_block, xor_comm, xor_lt}
 use Rattle.std.proofs.lemmas.List.{append-nil}
 use Rattle.bit_lists.specs.Bits.{number_of}
 use Rattle.bit_lists.specs.Fields.{bit_list}
+use Rattle.bit_lists.proofs.NumberLemmas.{number_of-append, AreBits-zeros, AreBits}
 use Rattle.psi_tables.specs.Crc.{crc_polynomial, multiple, inverted, IsRemainder, IsCrcOf}
 use Rattle.psi_tables.specs.Sections.{brought_down, remainder_on, crc_over}
-use Rattle.psi_tables.proofs.Dividends.{number_of-append}
 use Rattle.psi_tables.proofs.Multiples.{multiple-append, multiple-shifted, one_remainder}
 use Rattle.psi_tables.proofs.Xor.{xor_shared}
 
 -- ---- the bits that are divided
 
-abbrev AreBits : List ℕ → Type 0
-AreBits bits = AllByRecursion (λ bit. bit < 2) bits
-
 AreBits-inverted : (n : ℕ) (bits : List ℕ) → AreBits bits → AreBits (map (λ bit. 1 - bit) (take n bits) ++ drop n bits)
 AreBits-inverted zero bits are = are
 AreBits-inverted (suc n) [] are = tt
 AreBits-inverted (suc n) (bit ∷ bits) are = (omega arith, AreBits-inverted n bits are.1)
-
-AreBits-zeros : (n : ℕ) → AreBits (replicate n 0)
-AreBits-zeros zero = tt
-AreBits-zeros (suc n) = (lit< tt, AreBits-zeros n)
 
 AreBits-bytes : (bytes : List ℕ) → AreBits (bit_list bytes ++ replicate 32 0)
 AreBits-bytes [] = AreBits-zeros 32

@@ -1,44 +1,17 @@
 -- The number that is divided for the CRC of bytes.
-use Rattle.std.proofs.Common.{◌≡◌, ℕ, zero, suc, ◌+◌, ◌-◌, ◌*◌, ◌^◌, ◌%◌, ◌<◌, ◌≤◌, List, [], ◌∷◌, ◌++◌, length, map, take, drop, replicate, refl, sym, ap, ap₂, subst, ◌∙◌, arith, length-append, add-zero, pow-suc, length-take, length-drop, lit<}
-use Rattle.std.specs.List.{AllByRecursion}
+use Rattle.std.proofs.Common.{◌≡◌, ℕ, zero, suc, ◌+◌, ◌-◌, ◌*◌, ◌^◌, ◌%◌, ◌<◌, ◌≤◌, List, [], ◌∷◌, ◌++◌, length, map, take, drop, replicate, refl, sym, ap, ap₂, subst, ◌∙◌, arith, length-append, add-zero, pow-suc, length-take, length-drop}
 use Rattle.std.specs.Int.Bits.{bit_xor, xor_shifted, xor_zero_r}
-use Rattle.std.proofs.Math.Nat.{mul_assoc}
 use Rattle.std.proofs.lemmas.List.{length-replicate, length-map, take-append-drop, append-nil}
 use Rattle.std.proofs.lemmas.Grind.{flat_map-append}
 use Rattle.std.proofs.lemmas.Nat.{xor_block, pow_pos, pow-add}
 use Rattle.bit_lists.specs.Bits.{number_of}
 use Rattle.bit_lists.specs.Fields.{bit_list, bits_of_byte}
+use Rattle.bit_lists.proofs.NumberLemmas.{number_of-append, number_of-zeros, number_of-below, AreBits-take, AreBits-drop, AreBits-append, AreBits-zeros, number_of-byte, AreBits-bit_list, AreBits}
+use Rattle.bit_lists.proofs.ByteLemmas.{length-bit_list}
 use Rattle.psi_tables.specs.Crc.{inverted}
 use Rattle.psi_tables.proofs.Xor.{xor_swap, xor_shl}
 
 -- ---- numbers of bits
-
-abbrev AreBits : List ℕ → Type 0
-AreBits bits = AllByRecursion (λ bit. bit < 2) bits
-
-pub number_of-append : (xs ys : List ℕ) → number_of (xs ++ ys) ≡ number_of xs * 2 ^ length ys + number_of ys
-unfolding number_of
-number_of-append [] ys = omega arith
-number_of-append (x ∷ xs) ys =
-    let worth : x * 2 ^ length (xs ++ ys) ≡ x * 2 ^ length xs * 2 ^ length ys =
-    ap (λ (n : ℕ). x * 2 ^ n) (length-append xs ys) ∙ ap (λ (p : ℕ). x * p) (pow-add 2 (length xs) (length ys)) ∙ sym (mul_assoc x (2 ^ length xs) (2 ^ length ys)) in
-    omega (arith, worth, number_of-append xs ys)
-
-pub number_of-zeros : (n : ℕ) → number_of (replicate n 0) ≡ 0
-unfolding number_of
-number_of-zeros zero = refl
-number_of-zeros (suc n) = omega (arith, number_of-zeros n)
-
-at_most : (bit worth : ℕ) → bit < 2 → bit * worth ≤ worth
-at_most zero worth low = omega arith
-at_most (suc zero) worth low = omega arith
-at_most (suc (suc n)) worth low = absurd (omega (arith, low))
-
-pub number_of-below : (bits : List ℕ) → AreBits bits → number_of bits < 2 ^ length bits
-unfolding number_of
-number_of-below [] are = omega arith
-number_of-below (bit ∷ bits) are =
-    omega (arith, at_most bit (2 ^ length bits) are.0, number_of-below bits are.1, pow-suc 2 (length bits))
 
 flipped : (bit : ℕ) → bit < 2 → 1 - bit ≡ bit_xor bit 1
 flipped zero low = refl
@@ -55,24 +28,6 @@ number_of-inverted (bit ∷ bits) are =
     ap₂ (λ (x y : ℕ). x + y) (ap₂ (λ (x n : ℕ). x * 2 ^ n) (flipped bit are.0) (length-map bits (λ bit. 1 - bit))) (number_of-inverted bits are.1)
     ∙ sym (xor_block (length bits) bit 1 (number_of bits) (2 ^ length bits - 1) (number_of-below bits are.1) low)
     ∙ ap (bit_xor (number_of (bit ∷ bits))) (sym ones)
-
-AreBits-take : (n : ℕ) (bits : List ℕ) → AreBits bits → AreBits (take n bits)
-AreBits-take zero bits are = tt
-AreBits-take (suc n) [] are = tt
-AreBits-take (suc n) (bit ∷ bits) are = (are.0, AreBits-take n bits are.1)
-
-AreBits-drop : (n : ℕ) (bits : List ℕ) → AreBits bits → AreBits (drop n bits)
-AreBits-drop zero bits are = are
-AreBits-drop (suc n) [] are = tt
-AreBits-drop (suc n) (bit ∷ bits) are = AreBits-drop n bits are.1
-
-AreBits-append : (xs ys : List ℕ) → AreBits xs → AreBits ys → AreBits (xs ++ ys)
-AreBits-append [] ys first second = second
-AreBits-append (x ∷ xs) ys first second = (first.0, AreBits-append xs ys first.1 second)
-
-AreBits-zeros : (n : ℕ) → AreBits (replicate n 0)
-AreBits-zeros zero = tt
-AreBits-zeros (suc n) = (lit< tt, AreBits-zeros n)
 
 -- the first 32 bits inverted, as a sum with 32 ones in their places
 pub number_of-first_inverted : (bits : List ℕ) → AreBits bits → 32 ≤ length bits → number_of (inverted bits) ≡ bit_xor (number_of bits) (0xFFFFFFFF * 2 ^ (length bits - 32))
@@ -99,20 +54,6 @@ number_of-first_inverted bits are long =
 abbrev pub value : List ℕ → ℕ
 value bytes = number_of (bit_list bytes)
 
-pub length-bit_list : (bytes : List ℕ) → length (bit_list bytes) ≡ 8 * length bytes
-length-bit_list [] = refl
-length-bit_list (byte ∷ bytes) = omega (arith, length-bit_list bytes)
-
-bit_list-are : (bytes : List ℕ) → AreBits (bit_list bytes)
-bit_list-are [] = tt
-bit_list-are (byte ∷ bytes) =
-    let low : (n : ℕ) → n % 2 < 2 = λ n. omega arith in
-    (low _, (low _, (low _, (low _, (low _, (low _, (low _, (low _, bit_list-are bytes))))))))
-
-number_of-byte : (byte : ℕ) → number_of (bits_of_byte byte) ≡ byte % 256
-unfolding number_of
-number_of-byte byte = omega arith
-
 pub value-append : (xs ys : List ℕ) → value (xs ++ ys) ≡ value xs * 2 ^ (8 * length ys) + value ys
 value-append xs ys =
     ap number_of (flat_map-append bits_of_byte xs ys) ∙ number_of-append (bit_list xs) (bit_list ys)
@@ -122,7 +63,7 @@ pub value-byte : (byte : ℕ) → value (byte ∷ []) ≡ byte % 256
 value-byte byte = ap number_of (append-nil (bits_of_byte byte)) ∙ number_of-byte byte
 
 pub value-below : (bytes : List ℕ) → value bytes < 2 ^ (8 * length bytes)
-value-below bytes = subst (λ (n : ℕ). value bytes < 2 ^ n) (length-bit_list bytes) (number_of-below (bit_list bytes) (bit_list-are bytes))
+value-below bytes = subst (λ (n : ℕ). value bytes < 2 ^ n) (length-bit_list bytes) (number_of-below (bit_list bytes) (AreBits-bit_list bytes))
 
 -- a byte and 32 zero bits
 pub number_of-byte_shifted : (byte : ℕ) → byte < 256 → number_of (bits_of_byte byte ++ replicate 32 0) ≡ byte * 2 ^ 32
@@ -143,7 +84,7 @@ dividend-is bytes =
     let size : length bits ≡ 8 * length bytes + 32 = omega (arith, length-append (bit_list bytes) zeros, length-bit_list bytes, length-replicate {A = ℕ} 32 0) in
     let number : number_of bits ≡ value bytes * 2 ^ 32 = omega (arith, number_of-append (bit_list bytes) zeros, number_of-zeros 32) in
     let place : length bits - 32 ≡ 8 * length bytes = omega (arith, size) in
-    number_of-first_inverted bits (AreBits-append (bit_list bytes) zeros (bit_list-are bytes) (AreBits-zeros 32)) (omega (arith, size))
+    number_of-first_inverted bits (AreBits-append (bit_list bytes) zeros (AreBits-bit_list bytes) (AreBits-zeros 32)) (omega (arith, size))
     ∙ ap₂ (λ (x k : ℕ). bit_xor x (0xFFFFFFFF * 2 ^ k)) number place
 
 -- with one more byte
@@ -168,7 +109,7 @@ whole_dividend bytes = number_of (inverted (bit_list bytes))
 
 pub whole_dividend-is : (bytes : List ℕ) → 4 ≤ length bytes → whole_dividend bytes ≡ bit_xor (value bytes) (0xFFFFFFFF * 2 ^ (8 * length bytes - 32))
 whole_dividend-is bytes long =
-    number_of-first_inverted (bit_list bytes) (bit_list-are bytes) (omega (arith, length-bit_list bytes))
+    number_of-first_inverted (bit_list bytes) (AreBits-bit_list bytes) (omega (arith, length-bit_list bytes))
     ∙ ap (λ (k : ℕ). bit_xor (value bytes) (0xFFFFFFFF * 2 ^ (k - 32))) (length-bit_list bytes)
 
 -- the two differ by 32 zero bits

@@ -1,9 +1,8 @@
 -- The elements of sections, by the bytes that hold them.
 use Rattle.std.proofs.Common.{◌≡◌, ℕ, ◌+◌, ◌*◌, ◌%◌, List, get_or, refl, arith}
-use Rattle.std.specs.Prelude.{bit_and}
-use Rattle.std.proofs.lemmas.Nat.{and_mask}
 use Rattle.bit_lists.specs.Fields.{bits}
 use Rattle.bit_lists.proofs.FieldLemmas.{bits-byte, bits-add}
+use Rattle.bit_lists.proofs.MaskLemmas.{and_1, and_15, and_31}
 use Rattle.psi_tables.specs.Section.{table_id, section_length, table_id_extension, current_next_indicator}
 use Rattle.psi_tables.specs.Descriptors.{descriptor_tag, descriptor_length}
 use Rattle.psi_tables.specs.Streams.{ES_info_length}
@@ -56,15 +55,6 @@ pub program_info_length-is : (bytes : List ℕ) → program_info_length bytes �
 program_info_length-is bytes = omega (arith, bits-add bytes 20 4 8, bits-byte bytes 20 4 2 4 0 refl refl, bits-byte bytes 24 8 3 0 0 refl refl)
 
 -- ---- masks of the code
-
-pub and_1 : (n : ℕ) → bit_and n 1 ≡ n % 2
-and_1 n = and_mask n 1
-
-pub and_15 : (n : ℕ) → bit_and n 15 ≡ n % 16
-and_15 n = and_mask n 4
-
-pub and_31 : (n : ℕ) → bit_and n 31 ≡ n % 32
-and_31 n = and_mask n 5
 
 -- what the code looks at, and what it finds
 pub ruleset elements = (table_id-is, section_length-is, table_id_extension-is, current_next_indicator-is, program_number-is, program_map_PID-is, descriptor_tag-is, descriptor_length-is, elementary_PID-is, ES_info_length-is, PCR_PID-is, program_info_length-is, and_1, and_15, and_31)

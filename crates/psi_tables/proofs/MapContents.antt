@@ -4,6 +4,7 @@ use Rattle.std.specs.Prelude.{bit_and}
 use Rattle.std.specs.List.{sum_by}
 use Rattle.std.proofs.lemmas.List.{length-map, get_or-map, get_or-take, drop-drop}
 use Rattle.std.proofs.lemmas.List.Elements.{All-map, All-same}
+use Rattle.bit_lists.proofs.MaskLemmas.{and_15, and_31}
 use Rattle.psi_tables.specs.declared.stream.Stream.{Stream}
 use Rattle.psi_tables.specs.declared.program_map.ProgramMap.{ProgramMap}
 use Rattle.psi_tables.specs.Section.{IsRow}
@@ -11,7 +12,7 @@ use Rattle.psi_tables.specs.Descriptors.{IsDescriptor, count_dropped}
 use Rattle.psi_tables.specs.Streams.{StreamInfo, IsStreamInfo, stream_of}
 use Rattle.psi_tables.specs.Private.Streams.{IsKeepable}
 use Rattle.psi_tables.specs.Pmt.{PCR_PID, program_info_length, IsMapContent, HasRoom}
-use Rattle.psi_tables.proofs.Elements.{PCR_PID-is, program_info_length-is, and_15, and_31}
+use Rattle.psi_tables.proofs.Elements.{PCR_PID-is, program_info_length-is}
 use Rattle.psi_tables.proofs.Rows.{same_row}
 use Rattle.psi_tables.proofs.DescriptorRows.{descriptors_told}
 use Rattle.psi_tables.proofs.StreamRows.{streams_told}

@@ -6,9 +6,10 @@ use Rattle.std.specs.Option.{option_map}
 use Rattle.std.proofs.lemmas.Bool.{ne_eqb, eq-eqb}
 use Rattle.std.proofs.lemmas.List.{get_or-take, get_or-drop, take-append-drop, nil_from_length}
 use Rattle.bit_lists.specs.Fields.{bits}
+use Rattle.bit_lists.proofs.MaskLemmas.{and_31}
 use Rattle.psi_tables.specs.Section.{IsCurrent, IsWhole, IsRow, content}
 use Rattle.psi_tables.specs.Pat.{IsProgram, IsPat}
-use Rattle.psi_tables.proofs.Elements.{program_number-is, program_map_PID-is, and_31}
+use Rattle.psi_tables.proofs.Elements.{program_number-is, program_map_PID-is}
 use Rattle.psi_tables.proofs.Rows.{IsTold, IsUnderWay, IsRow-first, under_way_none, under_way_more, under_way_rest}
 
 pub programs_told : IsTold IsProgram

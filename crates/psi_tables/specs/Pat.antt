@@ -3,6 +3,7 @@ use Rattle.std.specs.Prelude.{◌≡◌, ℕ, ◌+◌, ◌*◌, ◌==◌, List, 
 use Rattle.std.specs.List.{find, flat_map}
 use Rattle.std.specs.Option.{option_map}
 use Rattle.std.specs.Int.{w16, to_be_bytes}
+use Rattle.psi_tables.specs.declared.section.TheConstants.{SECTION_LENGTH_LEAST}
 use Rattle.bit_lists.specs.Fields.{bits}
 use Rattle.psi_tables.specs.Section.{IsCurrent, IsWhole, IsRow, content, written_header, written_pid}
 
@@ -28,4 +29,4 @@ written_program program = to_be_bytes w16 program.0 ++ written_pid program.1
 
 -- a written PAT section before its CRC
 abbrev pub written_pat : ℕ → List (ℕ × ℕ) → List ℕ
-written_pat stream_id programs = written_header 0 (9 + 4 * length programs) stream_id ++ flat_map written_program programs
+written_pat stream_id programs = written_header 0 (SECTION_LENGTH_LEAST + 4 * length programs) stream_id ++ flat_map written_program programs

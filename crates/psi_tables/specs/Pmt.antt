@@ -2,7 +2,7 @@
 use Rattle.std.specs.Prelude.{◌≡◌, ℕ, ◌+◌, ◌^◌, ◌<◌, ◌≤◌, List, ◌++◌, length, take, drop, map, All}
 use Rattle.std.specs.List.{flat_map, sum_by}
 use Rattle.bit_lists.specs.Fields.{bits}
-use Rattle.psi_tables.specs.declared.stream.TheConstants.{DESCRIPTOR_BYTES}
+use Rattle.psi_tables.specs.declared.stream.TheConstants.{DESCRIPTOR_BYTES, STREAMS_MOST}
 use Rattle.psi_tables.specs.declared.program_map.ProgramMap.{ProgramMap}
 use Rattle.psi_tables.specs.Section.{table_id_extension, IsCurrent, IsWhole, IsRow, content, written_header, written_pid, written_length}
 use Rattle.psi_tables.specs.Descriptors.{IsDescriptor, count_dropped}
@@ -36,7 +36,7 @@ pub record IsPmt (program : ProgramMap) (bytes : List ℕ) : Type 0 where
 
 -- no more streams, and no more descriptor bytes of a stream, than are kept
 pub record HasRoom (program : ProgramMap) : Type 0 where
-  pub streams : length program.streams.items ≤ 64
+  pub streams : length program.streams.items ≤ STREAMS_MOST
   pub descriptors : All (λ stream. length stream.descriptors.items ≤ DESCRIPTOR_BYTES) program.streams.items
 
 -- ---- how it is written

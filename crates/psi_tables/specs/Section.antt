@@ -1,6 +1,7 @@
 -- What PAT and PMT sections have in common (ISO/IEC 13818-1, 2.4.4.3 and 2.4.4.8).
 use Rattle.std.specs.Prelude.{◌≡◌, ℕ, ◌+◌, ◌-◌, ◌≤◌, List, [], ◌∷◌, ◌++◌, length, take, drop}
 use Rattle.std.specs.Int.{w16, w32, to_be_bytes}
+use Rattle.psi_tables.specs.declared.section.TheConstants.{SECTION_LENGTH_LEAST}
 use Rattle.bit_lists.specs.Fields.{bits}
 use Rattle.psi_tables.specs.Crc.{IsCrcOf}
 
@@ -32,7 +33,7 @@ pub record IsCurrent (table : ℕ) (bytes : List ℕ) : Type 0 where
 -- section_length counts the bytes behind it, the last five of the header and four of the CRC among them
 pub record IsWhole (bytes : List ℕ) : Type 0 where
   pub size : length bytes ≡ 3 + section_length bytes
-  pub room : 9 ≤ section_length bytes
+  pub room : SECTION_LENGTH_LEAST ≤ section_length bytes
 
 -- the bytes between the header's eight and the CRC's four
 abbrev pub content : List ℕ → List ℕ

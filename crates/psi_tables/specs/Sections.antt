@@ -1,6 +1,7 @@
 -- The sections in the payloads of one PID (ISO/IEC 13818-1, 2.4.4), as a list for any list of payloads.
 use Rattle.std.specs.Prelude.{◌≡◌, ℕ, zero, suc, ◌+◌, ◌-◌, ◌*◌, ◌^◌, ◌==◌, nat_lt, nat_le, bit_xor, Bool, false, not, ◌||◌, List, [], ◌∷◌, ◌++◌, length, take, drop, replicate, slice_index, Result, Ok, Err, is_err, if◌then◌else◌}
 use Rattle.std.specs.List.{list_any}
+use Rattle.psi_tables.specs.declared.section.TheConstants.{SECTION_LENGTH_LEAST, SECTION_LENGTH_MOST}
 use Rattle.bit_lists.specs.Fields.{bit_list}
 use Rattle.payload_lists.specs.Payload.{Payload, is_start}
 use Rattle.psi_tables.specs.declared.section.SectionFault.{SectionFault}
@@ -51,7 +52,7 @@ is_read bytes = (table_id bytes == 0) || (table_id bytes == 2)
 
 -- less than the rest of the header and the CRC, or more than a PAT or a PMT section may have
 abbrev pub has_bad_length : List ℕ → Bool
-has_bad_length bytes = nat_lt (section_length bytes) 9 || nat_lt 1021 (section_length bytes)
+has_bad_length bytes = nat_lt (section_length bytes) SECTION_LENGTH_LEAST || nat_lt SECTION_LENGTH_MOST (section_length bytes)
 
 -- its length in bytes
 abbrev pub section_size : List ℕ → ℕ

@@ -21,6 +21,12 @@ pub(crate) const CRC_BYTES: usize = 4;
 /// The bytes that `section_length` doesn't count, itself the last of them.
 pub(crate) const UNCOUNTED_BYTES: usize = 3;
 
+/// The least `section_length` of a PAT or PMT section: the rest of its header, and its CRC.
+pub const SECTION_LENGTH_LEAST: usize = HEADER_BYTES - UNCOUNTED_BYTES + CRC_BYTES;
+
+/// The greatest `section_length` of a PAT or PMT section (ISO/IEC 13818-1, 2.4.4.3 and 2.4.4.8).
+pub const SECTION_LENGTH_MOST: usize = SECTION_BYTES - UNCOUNTED_BYTES;
+
 /// The table id of PAT sections.
 pub(crate) const PAT_TABLE: u8 = 0;
 

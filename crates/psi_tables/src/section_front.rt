@@ -4,16 +4,13 @@ ghost use Rattle.psi_tables.specs.Sections.{length_end, is_read, has_bad_length,
 ghost use Rattle.psi_tables.specs.Private.SectionFront.{front_bytes, is_settled, is_bad, missing_bytes, IsSound, IsHeld, IsLike, TakesIn, GoesOn, ReadsOn};
 
 use crate::crc::crc32;
-use crate::section::{LENGTH_HIGH, PAT_TABLE, PMT_TABLE, Section, SectionFault, UNCOUNTED_BYTES};
+use crate::section::{
+    LENGTH_HIGH, PAT_TABLE, PMT_TABLE, SECTION_LENGTH_LEAST, SECTION_LENGTH_MOST, Section,
+    SectionFault, UNCOUNTED_BYTES,
+};
 
 /// The byte that stands behind the last section of a payload.
 const STUFFING_BYTE: u8 = 0xFF;
-
-/// The least `section_length` of a PAT or PMT section: the rest of its header, and its CRC.
-const LEAST_LENGTH: usize = 9;
-
-/// The greatest `section_length` of a PAT or PMT section.
-const GREATEST_LENGTH: usize = 1021;
 
 /// The bytes of a section so far.
 #[derive(Drop)]
@@ -222,7 +219,7 @@ fn has_bad_length(section: &[u8]) -> bool
     ensures { result ≡ has_bad_length section.now }
 {
     let length = section_length(section);
-    length < LEAST_LENGTH || GREATEST_LENGTH < length
+    length < SECTION_LENGTH_LEAST || SECTION_LENGTH_MOST < length
 }
 
 /// `section_length`.

@@ -2,8 +2,9 @@
 use Rattle.std.proofs.Common.{◌≡◌, ◌+◌, ◌≤◌, ℕ, List, Option, Some, None, max, refl, sym, subst, arith}
 use Rattle.shelf_io.specs.Asked.{AsksUpTo, AsksNothing}
 use Rattle.shelf_io.specs.Causes.{ReadCauses}
-use Rattle.shelf_io.specs.Counts.{Rose, ShelfCounts}
+use Rattle.shelf_io.specs.Counts.{ShelfCounts}
 use Rattle.shelf_io.specs.Files.{Files, Lacks}
+use Rattle.shelf_io.proofs.Counted.{rose_later}
 use Rattle.version_table.specs.declared.limits.TheConstants.{TABLE_TEXT_MOST}
 use Rattle.remux_core.specs.declared.status.Status.{Status}
 use Rattle.remux_core.specs.declared.status.Status.TheVariants as statuses
@@ -11,10 +12,6 @@ use Rattle.remux_core.specs.Answer.{Answer, HasCause, AnswerHasCause, FailsAt}
 use Rattle.remux_core.specs.Command.{Command, Plan}
 use Rattle.remux_core.specs.Outside.{ShelfFacts}
 use Rattle.remux_core.specs.Promises.{CountsGrow, AsksOnly}
-
--- a count that rose in a later call rose over both
-rose_later : (old middle new : ℕ) → old ≤ middle → middle ≤ new → Rose middle new → Rose old new
-rose_later old middle new before after rose = λ below. grind (arith, rose)
 
 -- a fault of a later call is one of both
 fails_later : (A B : List ℕ → Type 0) (C D : Type 0) (line_of : List ℕ → List ℕ) (line : List ℕ) (new : ShelfFacts)

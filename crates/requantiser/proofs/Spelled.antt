@@ -5,7 +5,6 @@ use Rattle.std.specs.Int.{bit_at}
 use Rattle.std.specs.List.{range_with_len}
 use Rattle.std.proofs.lemmas.Bool.{and_parts, cases_lt, lt-ltb, le-ltb, ltb-true, eq-eqb, cases_eq, eqb-false, not-true}
 use Rattle.std.proofs.lemmas.List.FromFn.{get_or-range_with_len, length-range_with_len}
-use Rattle.std.proofs.lemmas.List.Sums.{sum_by-append}
 use Rattle.std.proofs.lemmas.Option.{none-some, same_Some}
 use Rattle.prefix_codes.specs.declared.symbol.TheConstants.{END_OF_BLOCK}
 use Rattle.prefix_codes.specs.declared.table_name.TableName.TheVariants.{Pattern, CoeffFirst}
@@ -30,16 +29,12 @@ use Rattle.picture_grammar.specs.Block.{dc_coefficient, Coefficient, Coefficient
 use Rattle.picture_grammar.specs.Block.Coefficient.{end_of_block, run_size, escape}
 use Rattle.picture_grammar.specs.Macroblock.{block_way, is_coded, no_block, quantiser_scale_code, macroblock}
 use Rattle.picture_grammar.proofs.Codes.{coefficient_code-listed}
+use Rattle.picture_grammar.proofs.WrittenBlock.{unsigned_abs-signed, next_place-push}
 use Rattle.requantiser.specs.VersionState.{IsSpelledMacroblock}
 use Rattle.requantiser.specs.Private.Shapes.{BeginsWithLevel, FitBlock, IsWalkable}
 use Rattle.requantiser.proofs.Ranges.{IsFirst, find-some}
 
 -- ---- a coefficient
-
-unsigned_abs-signed : (size : ℕ) (negative : Bool) → unsigned_abs (signed size negative) ≡ size
-unsigned_abs-signed size false = refl
-unsigned_abs-signed zero true = refl
-unsigned_abs-signed (suc n) true = refl
 
 -- a level of an escape is neither 0 nor too large
 escape_size : (n : ℕ) → n < 2 ^ 12 → not (n == 0) ≡ true → not (n == 2 ^ 11) ≡ true → (0 < unsigned_abs (escape_level n)) × (unsigned_abs (escape_level n) < 2 ^ 11)
@@ -96,17 +91,13 @@ module _ (way : BlockWay) (before : List RunLevel) where
 
 -- ---- the coefficients of a block
 
-next_place-push : (way : BlockWay) (before : List RunLevel) (pair : RunLevel) → next_place way (before ++ pair ∷ []) ≡ next_place way before + pair.run + 1
-next_place-push way before pair =
-    ap (λ n. (if way.intra then 1 else 0) + n) (sum_by-append (λ (p : RunLevel). p.run + 1) before (pair ∷ [])) ∙ omega arith
-
 pairs_fit : (way : BlockWay) (before pairs : List RunLevel) (bits rest : List ℕ) → SpellsList (coefficient way) before pairs tt bits rest → FitBlock (next_place way before) pairs
 pairs_fit way before [] bits rest s = tt
 pairs_fit way before (pair ∷ pairs) bits rest (middle, s, t) =
     let here : Stands way before pair = coefficient_stands way before pair bits middle s in (
       here.within,
       here.small,
-      subst (λ n. FitBlock n pairs) (next_place-push way before pair) (pairs_fit way (before ++ pair ∷ []) pairs middle rest t),
+      subst (λ n. FitBlock n pairs) (next_place-push way before pair ∙ omega arith) (pairs_fit way (before ++ pair ∷ []) pairs middle rest t),
     )
 
 no_end_first : (code : List ℕ) → code_in CoeffFirst END_OF_BLOCK ≡ Some code → ⊥

@@ -11,7 +11,7 @@ use Rattle.quant_math.specs.Scans.{zigzag_scan}
 use Rattle.syntax_types.specs.declared.picture.PicCoding.{PicCoding}
 use Rattle.syntax_types.specs.declared.picture.SeqState.{SeqState}
 use Rattle.picture_grammar.specs.declared.limits.TheConstants.{WIDTH_LEAST, WIDTH_MOST}
-use Rattle.picture_grammar.specs.declared.start_codes.TheConstants.{EXTENSION, QUANT_MATRIX}
+use Rattle.stream_constants.specs.declared.start_codes.TheConstants.{EXTENSION, QUANT_MATRIX}
 use Rattle.picture_grammar.specs.Refusal.Refusal.{BadHeader}
 use Rattle.picture_grammar.specs.Element.{uimsbf, rule}
 use Rattle.picture_grammar.specs.Grammar.{SpellsList, optional, when, repeated}

@@ -1,7 +1,8 @@
-pub mod Held
-pub mod Written
-pub mod Whole
-pub mod OneFile
-pub mod Taken
-pub mod Started
 pub mod Counted
+pub mod Held
+pub mod Infallible
+pub mod OneFile
+pub mod Started
+pub mod Taken
+pub mod Whole
+pub mod Written

@@ -4,6 +4,11 @@ use crate::packets::PACKET_BYTES;
 /// Ticks in a second (system_clock_frequency).
 pub const TICKS_PER_SECOND: u64 = 27_000_000;
 
+/// Ticks in a unit of 1/90,000 s, in which a PTS, a DTS and the base of a PCR count (2.4.2.2).
+pub const TICKS_PER_TIME_UNIT: u64 = 300;
+
+const _: () = prove!(90_000 * TICKS_PER_TIME_UNIT == TICKS_PER_SECOND);
+
 /// Subticks in a tick. A slot of a whole number of ticks is a whole number of subticks for each of its 188 bytes, and
 /// so is each byte's time at each rate of the decoder.
 pub const SUBTICKS_PER_TICK: u64 = 940;

@@ -8,3 +8,4 @@ pub mod clock;
 pub mod decoder;
 pub mod main_level;
 pub mod packets;
+pub mod start_codes;

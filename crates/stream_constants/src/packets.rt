@@ -3,6 +3,9 @@
 /// Bytes of a transport packet.
 pub const PACKET_BYTES: usize = 188;
 
+/// The byte that each packet begins with (sync_byte, 2.4.3.3).
+pub const SYNC_BYTE: u8 = 0x47;
+
 /// Bytes of a transport packet's header.
 pub const HEADER_BYTES: usize = 4;
 

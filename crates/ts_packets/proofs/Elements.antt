@@ -1,11 +1,9 @@
 -- The elements of a packet, by the bytes that hold them.
 use Rattle.std.proofs.Common.{◌≡◌, ℕ, ◌+◌, ◌*◌, ◌/◌, ◌%◌, ◌^◌, List, get_or, refl, arith}
-use Rattle.std.specs.Prelude.{bit_and}
-use Rattle.std.proofs.lemmas.Nat.{and_mask}
-use Rattle.std.proofs.lemmas.Nat.Bits.{and_pow, and_high}
 use Rattle.ts_packets.specs.AdaptationField.{discontinuity_indicator, pcr_flag, program_clock_reference_base, program_clock_reference_extension}
 use Rattle.ts_packets.specs.Packet.{sync_byte, transport_error_indicator, payload_unit_start_indicator, packet_identifier, transport_scrambling_control, adaptation_field_control, continuity_counter, adaptation_field_length}
 use Rattle.bit_lists.proofs.FieldLemmas.{bits-byte, bits-add}
+use Rattle.bit_lists.proofs.MaskLemmas.{and_128, and_192, and_64, and_32, and_16, and_511, and_15, and_31}
 
 -- ---- of the header
 
@@ -59,30 +57,6 @@ pub program_clock_reference_extension-is : (bytes : List ℕ) → program_clock_
 program_clock_reference_extension-is bytes = omega (arith, bits-add bytes 47 1 8, bits-byte bytes 47 1 5 7 0 refl refl, bits-byte bytes 48 8 6 0 0 refl refl)
 
 -- ---- masks of the code
-
-pub and_128 : (n : ℕ) → bit_and n 128 ≡ n / 128 % 2 * 128
-and_128 n = and_pow n 7
-
-pub and_64 : (n : ℕ) → bit_and n 64 ≡ n / 64 % 2 * 64
-and_64 n = and_pow n 6
-
-pub and_32 : (n : ℕ) → bit_and n 32 ≡ n / 32 % 2 * 32
-and_32 n = and_pow n 5
-
-pub and_16 : (n : ℕ) → bit_and n 16 ≡ n / 16 % 2 * 16
-and_16 n = and_pow n 4
-
-pub and_192 : (n : ℕ) → bit_and n 192 ≡ n / 64 % 4 * 64
-and_192 n = and_high n 2 6
-
-pub and_31 : (n : ℕ) → bit_and n 31 ≡ n % 32
-and_31 n = and_mask n 5
-
-pub and_15 : (n : ℕ) → bit_and n 15 ≡ n % 16
-and_15 n = and_mask n 4
-
-pub and_511 : (n : ℕ) → bit_and n 511 ≡ n % 512
-and_511 n = and_mask n 9
 
 -- what the code looks at, and what it finds
 pub ruleset elements = (sync_byte-is, transport_error_indicator-is, payload_unit_start_indicator-is, packet_identifier-is, transport_scrambling_control-is, adaptation_field_control-is, continuity_counter-is, adaptation_field_length-is, discontinuity_indicator-is, pcr_flag-is, program_clock_reference_base-is, program_clock_reference_extension-is, and_128, and_64, and_32, and_16, and_192, and_31, and_15, and_511)

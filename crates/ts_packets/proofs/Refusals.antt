@@ -4,13 +4,14 @@ use Rattle.std.proofs.lemmas.Bool.{or_parts, not-false, eqb-true, eqb-false}
 use Rattle.std.proofs.lemmas.Bool.Decides.{nat_tests}
 use Rattle.std.specs.Prelude.{is_none, nat_eq, ◌==◌, bit_and}
 use Rattle.std.specs.List.{find}
+use Rattle.bit_lists.proofs.MaskLemmas.{and_15}
 use Rattle.ts_packets.specs.declared.adaptation_field.AdaptationField.{AdaptationField}
 use Rattle.ts_packets.specs.declared.packet_fault.PacketFault.{PacketFault}
 use Rattle.ts_packets.specs.declared.packet_fault.PacketFault.TheVariants.{Sync, ErrorFlag, Scrambled, BadField}
 use Rattle.ts_packets.specs.AdaptationField.{field_of, is_too_short}
 use Rattle.ts_packets.specs.Packet.{PacketRecord, sync_byte, packet_identifier, payload_unit_start_indicator, continuity_counter, adaptation_field_control, adaptation_field_length, has_field, field_bytes, is_length_allowed, has_fault, IsFieldSound, IsPacket, fields_of, refusal, packet_of}
 use Rattle.ts_packets.specs.Private.Packet.{HasFieldAndPayload}
-use Rattle.ts_packets.proofs.Elements.{transport_error_indicator-is, continuity_counter-is, pcr_flag-is, and_15, elements}
+use Rattle.ts_packets.proofs.Elements.{transport_error_indicator-is, continuity_counter-is, pcr_flag-is, elements}
 
 -- what a field of a given control is asked for
 pub allowed : (control size : ℕ) → control < 4 → control ≢ 0 → (control ≡ 2 → size ≡ 183) → (control ≡ 3 → size ≤ 182) → is_length_allowed control size ≡ true

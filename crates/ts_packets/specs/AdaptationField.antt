@@ -1,6 +1,7 @@
 -- The adaptation field (ISO/IEC 13818-1, 2.4.3.4 and 2.4.3.5), as the bytes behind its length byte.
 use Rattle.std.specs.Prelude.{ℕ, zero, suc, ◌+◌, ◌-◌, ◌*◌, ◌/◌, ◌%◌, ◌^◌, ◌<◌, ◌==◌, nat_lt, Bool, ◌&&◌, List, [], ◌∷◌, ◌++◌, length, drop, replicate, Option, Some, None, is_some, IfSome, if◌then◌else◌}
 use Rattle.std.specs.Int.{w64, to_be_bytes}
+use Rattle.stream_constants.specs.declared.clock.TheConstants.{TICKS_PER_TIME_UNIT}
 use Rattle.ts_packets.specs.declared.adaptation_field.AdaptationField.{AdaptationField}
 use Rattle.bit_lists.specs.Fields.{bits, flag}
 
@@ -26,7 +27,7 @@ program_clock_reference_extension bytes = bits bytes 47 9
 
 -- the PCR in ticks of 1/27,000,000 s
 abbrev pub ticks_of : List ℕ → ℕ
-ticks_of bytes = program_clock_reference_base bytes * 300 + program_clock_reference_extension bytes
+ticks_of bytes = program_clock_reference_base bytes * TICKS_PER_TIME_UNIT + program_clock_reference_extension bytes
 
 -- what the bytes say; where there are none, no flag is set
 abbrev pub field_of : List ℕ → AdaptationField
@@ -44,7 +45,7 @@ is_too_short bytes = (pcr_flag bytes == 1) && nat_lt (length bytes) 7
 -- 33 bits of base, six reserved ones and 9 bits of extension
 abbrev pub written_pcr : Option ℕ → List ℕ
 written_pcr None = []
-written_pcr (Some ticks) = drop 2 (to_be_bytes w64 (2 ^ 15 * (ticks / 300) + 2 ^ 9 * 63 + ticks % 300))
+written_pcr (Some ticks) = drop 2 (to_be_bytes w64 (2 ^ 15 * (ticks / TICKS_PER_TIME_UNIT) + 2 ^ 9 * 63 + ticks % TICKS_PER_TIME_UNIT))
 
 -- the two flags in their places; the others are 0
 abbrev pub written_flags : AdaptationField → ℕ
@@ -62,7 +63,7 @@ written_field (Some field) n = n ∷ written_field_bytes field n
 
 -- what can be written: ticks below the modulus of a base of 33 bits
 abbrev pub IsPcrInRange : AdaptationField → Type 0
-IsPcrInRange field = IfSome field.pcr (λ ticks. ticks < 300 * 2 ^ 33)
+IsPcrInRange field = IfSome field.pcr (λ ticks. ticks < TICKS_PER_TIME_UNIT * 2 ^ 33)
 
 -- the fewest bytes that have room for its flags and its PCR; without either no byte is needed
 abbrev pub least_length : AdaptationField → ℕ

@@ -6,7 +6,7 @@ use Rattle.ts_packets.specs.declared.adaptation_field.AdaptationField.{Adaptatio
 use Rattle.ts_packets.specs.declared.packet.Packet.{Packet}
 use Rattle.ts_packets.specs.declared.packet_fault.PacketFault.{PacketFault}
 use Rattle.ts_packets.specs.declared.packet_fault.PacketFault.TheVariants.{Sync, ErrorFlag, Scrambled, BadField}
-use Rattle.stream_constants.specs.declared.packets.TheConstants.{PACKET_BYTES, PAYLOAD_BYTES}
+use Rattle.stream_constants.specs.declared.packets.TheConstants.{PACKET_BYTES, PAYLOAD_BYTES, SYNC_BYTE}
 use Rattle.bit_lists.specs.Fields.{bits, flag}
 use Rattle.ts_packets.specs.AdaptationField.{pcr_flag, field_of, is_too_short, IsPcrInRange, least_length, written_field}
 
@@ -30,7 +30,7 @@ record_of packet = record {
 
 -- ---- its elements, each by its first bit and its number of bits
 
--- 0x47 before every packet
+-- SYNC_BYTE before every packet
 abbrev pub sync_byte : List ℕ → ℕ
 sync_byte bytes = bits bytes 0 8
 
@@ -99,7 +99,7 @@ pub record IsFieldSound (bytes : List ℕ) : Type 0 where
 -- reserved bits, the other flags of the field and what stands behind them.
 pub record IsPacket (packet : PacketRecord) (bytes : List ℕ) : Type 0 where
   pub size : length bytes ≡ PACKET_BYTES
-  pub sync : sync_byte bytes ≡ 0x47
+  pub sync : sync_byte bytes ≡ SYNC_BYTE
   pub error : transport_error_indicator bytes ≡ 0
   pub scrambling : transport_scrambling_control bytes ≡ 0
   pub control : IsFieldSound bytes
@@ -109,7 +109,7 @@ pub record IsPacket (packet : PacketRecord) (bytes : List ℕ) : Type 0 where
 
 -- the bytes have this fault
 abbrev pub has_fault : List ℕ → PacketFault → Bool
-has_fault bytes Sync = not (sync_byte bytes == 0x47)
+has_fault bytes Sync = not (sync_byte bytes == SYNC_BYTE)
 has_fault bytes ErrorFlag = transport_error_indicator bytes == 1
 has_fault bytes Scrambled = not (transport_scrambling_control bytes == 0)
 has_fault bytes BadField = not (is_length_allowed (adaptation_field_control bytes) (adaptation_field_length bytes)) || is_too_short (field_bytes bytes)
@@ -142,7 +142,7 @@ written_control packet = 2 * flag (is_some packet.field) + flag (nat_lt 0 (lengt
 
 -- sync byte, start, PID, control and counter in their places; error, priority and scrambling are 0
 abbrev pub written_header : PacketRecord → List ℕ
-written_header packet = to_be_bytes w32 (2 ^ 24 * 0x47 + 2 ^ 22 * flag packet.start + 2 ^ 8 * packet.pid + 2 ^ 4 * written_control packet + packet.counter)
+written_header packet = to_be_bytes w32 (2 ^ 24 * SYNC_BYTE + 2 ^ 22 * flag packet.start + 2 ^ 8 * packet.pid + 2 ^ 4 * written_control packet + packet.counter)
 
 -- the one written spelling of a packet
 abbrev pub written : PacketRecord → List ℕ

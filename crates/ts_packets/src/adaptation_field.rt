@@ -1,6 +1,8 @@
 ghost use Rattle.std.specs.Prelude.{◌≡◌, ◌*◌, ◌^◌, ◌-◌, ◌<◌, ◌≤◌, length, if◌then◌else◌};
 ghost use Rattle.ts_packets.specs.AdaptationField.{field_of, is_too_short, ticks_of, written_flags, written_pcr, written_field, IsPcrInRange, least_length};
 
+use stream_constants::clock::TICKS_PER_TIME_UNIT;
+
 /// `discontinuity_indicator` in the flags.
 const DISCONTINUITY_INDICATOR: u8 = 1 << 7;
 
@@ -18,9 +20,6 @@ const RESERVED: u64 = 0x3F << 9;
 
 /// `program_clock_reference_extension` in a PCR.
 const EXTENSION: u64 = 0x1FF;
-
-/// Ticks of 1/27,000,000 s in one of the base, which counts 1/90,000 s.
-const TICKS_PER_BASE: u64 = 300;
 
 const STUFFING_BYTE: u8 = 0xFF;
 
@@ -95,14 +94,14 @@ fn read_pcr(bytes: &[u8]) -> u64
     let word = u64::from_be_bytes([
         0, 0, bytes[1], bytes[2], bytes[3], bytes[4], bytes[5], bytes[6],
     ]);
-    (word >> BASE_SHIFT) * TICKS_PER_BASE + (word & EXTENSION)
+    (word >> BASE_SHIFT) * TICKS_PER_TIME_UNIT + (word & EXTENSION)
 }
 
 fn pcr_bytes(ticks: u64) -> [u8; 6]
-    requires { ticks < 300 * 2 ^ 33 }
+    requires { ticks < TICKS_PER_TIME_UNIT * 2 ^ 33 }
     ensures { result ≡ written_pcr (Some ticks) }
 {
-    let word = (ticks / TICKS_PER_BASE) << BASE_SHIFT | RESERVED | ticks % TICKS_PER_BASE;
+    let word = (ticks / TICKS_PER_TIME_UNIT) << BASE_SHIFT | RESERVED | ticks % TICKS_PER_TIME_UNIT;
     let [_, _, a, b, c, d, e, f] = word.to_be_bytes();
     [a, b, c, d, e, f]
 }

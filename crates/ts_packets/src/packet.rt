@@ -8,13 +8,10 @@ ghost use Rattle.ts_packets.specs.declared.packet_fault.PacketFault.TheVariants.
 
 use crate::adaptation_field::AdaptationField;
 use crate::packet_fault::PacketFault;
-use stream_constants::packets::{HEADER_BYTES, PACKET_BYTES, PAYLOAD_BYTES};
+use stream_constants::packets::{HEADER_BYTES, PACKET_BYTES, PAYLOAD_BYTES, SYNC_BYTE};
 
 /// The bytes that the header and an adaptation field's length byte leave.
 const MOST_FIELD_BYTES: usize = PAYLOAD_BYTES - 1;
-
-/// The header's first byte.
-const SYNC_BYTE: u8 = 0x47;
 
 /// `transport_error_indicator` in the header's second byte.
 const ERROR_INDICATOR: u8 = 1 << 7;
@@ -138,8 +135,8 @@ impl<'a> Packet<'a> {
 /// The PID of a packet, of which nothing but the sync byte is looked at. The error is Sync, where it isn't 0x47.
 #[tactic(auto, using(crate::proofs::Elements::elements))]
 pub fn pid_of(bytes: &[u8; PACKET_BYTES]) -> Result<u16, PacketFault>
-    ensures pid { IfOk result (λ pid. (sync_byte bytes.now ≡ 0x47) × (pid ≡ packet_identifier bytes.now)) }
-    ensures sync { IfErr result (λ fault. (fault ≡ PacketFault.Sync) × (sync_byte bytes.now ≢ 0x47)) }
+    ensures pid { IfOk result (λ pid. (sync_byte bytes.now ≡ SYNC_BYTE) × (pid ≡ packet_identifier bytes.now)) }
+    ensures sync { IfErr result (λ fault. (fault ≡ PacketFault.Sync) × (sync_byte bytes.now ≢ SYNC_BYTE)) }
 {
     if bytes[0] != SYNC_BYTE {
         return Err(PacketFault::Sync);

@@ -2,6 +2,7 @@
 use Rattle.std.proofs.Common.{◌≡◌, ℕ, ◌+◌, ◌-◌, ◌*◌, ◌/◌, ◌<◌, ◌≤◌, eqb, eq-eqb, List, [], ◌∷◌, ◌++◌, length, max, count_by, slice_get, Some, refl, sym, ap, subst₂, ◌∙◌, inl, inr, append-nil, arith}
 use Rattle.std.proofs.lemmas.Bool.{cases_Bool, eqb-true, eqb-false, cond-true}
 use Rattle.std.proofs.lemmas.Option.{same_Some}
+use Rattle.std.proofs.lemmas.List.{nil_from_length}
 use Rattle.stream_constants.specs.declared.main_level.TheConstants.{VBV_MOST}
 use Rattle.stream_constants.specs.declared.packets.TheConstants.{PACKET_BYTES, PAYLOAD_BYTES}
 use Rattle.stream_constants.specs.declared.decoder.TheConstants.{VIDEO_TB_SUBTICKS, MB_SUBTICKS, VIDEO_BYTES}
@@ -54,10 +55,6 @@ departures-late s l start work delay [] rise busy small = tt
 departures-late s l start work delay (come ∷ comes) rise busy small =
     (omega (arith, rise.0), departures-late s (max come l + s) come (work + s) delay comes rise.1 (omega (arith, rise.0)) (omega arith))
 
-empty_from : (xs : List ℕ) → length xs ≡ 0 → xs ≡ []
-empty_from [] none = refl
-empty_from (x ∷ xs) none = absurd (omega (arith, none))
-
 abbrev PassesSoon : (slot stream program vbv : ℕ) → Headers → List Row → Type 0
 PassesSoon slot stream program vbv headers rows =
     EachWithin (mb_taken vbv * MB_SUBTICKS) (departures MB_SUBTICKS 0 (passes slot stream (Video program vbv) headers rows)) (passes slot stream (Video program vbv) headers rows)
@@ -85,7 +82,7 @@ soon-pcr : (slot stream program vbv : ℕ) (headers : Headers) (rows : List Row)
     → PassesSoon slot stream program vbv headers rows → PassesSoon slot stream program vbv headers (rows ++ row ∷ [])
 soon-pcr slot stream program vbv headers rows row one none fits has before =
     let own = packet_passes slot stream (Video program vbv) headers rows row in
-    let empty : own ≡ [] = empty_from own (own_size slot stream program vbv headers rows row fits ∙ none) in
+    let empty : own ≡ [] = nil_from_length own (own_size slot stream program vbv headers rows row fits ∙ none) in
     let same : passes slot stream (Video program vbv) headers (rows ++ row ∷ []) ≡ passes slot stream (Video program vbv) headers rows =
     passes-one slot stream (Video program vbv) headers rows row one has ∙ ap (λ more. passes slot stream (Video program vbv) headers rows ++ more) empty ∙ append-nil (passes slot stream (Video program vbv) headers rows) in
     rw same before

@@ -1,5 +1,6 @@
 -- The data of a video that comes into MB, and when MB would pass it on if EB always had room.
-use Rattle.std.proofs.Common.{◌≡◌, ℕ, ◌+◌, ◌-◌, ◌*◌, ◌≤◌, List, [], ◌∷◌, ◌++◌, length, max, refl, sym, ap, ◌∙◌, append-nil, arith}
+use Rattle.std.proofs.Common.{◌≡◌, ℕ, ◌+◌, ◌-◌, ◌*◌, ◌≤◌, List, [], ◌∷◌, ◌++◌, length, max, sym, ap, ◌∙◌, append-nil, arith}
+use Rattle.std.proofs.lemmas.List.{nil_from_length}
 use Rattle.stream_constants.specs.declared.packets.TheConstants.{PACKET_BYTES}
 use Rattle.stream_constants.specs.declared.decoder.TheConstants.{VIDEO_TB_SUBTICKS, MB_SUBTICKS}
 use Rattle.slot_rule.specs.declared.queue_kind.QueueKind.TheVariants.{Video}
@@ -108,10 +109,6 @@ packet_moves-rise slot stream program vbv headers rows row =
     departures-low MB_SUBTICKS (moves_free slot stream program vbv headers rows) (PACKET_BYTES * length rows * byte_subticks slot) (packet_data slot stream program vbv headers rows row)
     (packet_data-rises slot stream program vbv headers rows row)
 
-empty_from : (xs : List ℕ) → length xs ≡ 0 → xs ≡ []
-empty_from [] none = refl
-empty_from (x ∷ xs) none = absurd (omega (arith, none))
-
 pub data_goes-pcr : (slot stream program vbv : ℕ) (headers : Headers) (rows : List Row) (row : Row) → packets_in stream (Video program vbv) row ≡ 1 → HasParts slot stream (Video program vbv) headers rows
     → HasHeaderWithin (arrival_of stream (length rows) headers row) → payload_in stream row ≡ 0
     → data_goes slot stream program vbv headers (rows ++ row ∷ []) ≡ data_goes slot stream program vbv headers rows
@@ -119,5 +116,5 @@ data_goes-pcr slot stream program vbv headers rows row one has fits none =
     let own = packet_data slot stream program vbv headers rows row in
     let none' : length own ≡ 0 = omega (arith, length-packet_data slot stream program vbv headers rows row fits, none) in
     data_goes-one slot stream program vbv headers rows row one has
-    ∙ ap (λ more. data_goes slot stream program vbv headers rows ++ more) (empty_from (packet_data slot stream program vbv headers rows row) none')
+    ∙ ap (λ more. data_goes slot stream program vbv headers rows ++ more) (nil_from_length (packet_data slot stream program vbv headers rows row) none')
     ∙ append-nil (data_goes slot stream program vbv headers rows)

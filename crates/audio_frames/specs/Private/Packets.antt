@@ -1,10 +1,11 @@
 -- How far the packets are passed, frame by frame, and what is kept of the last given time.
 use Rattle.std.specs.Prelude.{◌≡◌, ℕ, ◌-◌, ◌<◌, ◌≤◌, List, length, map, slice_index, slice_index_or, nat_lt, if◌then◌else◌, Option, Some, None, ◌^◌, ℤ, pos, neg_ℤ, ◌+ℤ◌, ◌*ℤ◌, ◌≤ℤ◌}
+use Rattle.stream_constants.specs.declared.clock.TheConstants.{TICKS_PER_TIME_UNIT}
 use Rattle.audio_frames.specs.declared.audio_fault.AudioFault.{AudioFault}
 use Rattle.audio_frames.specs.declared.audio_fault.AudioFault.TheVariants.{NotLayer2, AudioSync, NoAudioTime, TimeOrder, OutOfMemory}
 use Rattle.audio_frames.specs.declared.clock.Clock.{Clock}
 use Rattle.audio_frames.specs.declared.pes_start.PesStart.{PesStart}
-use Rattle.audio_frames.specs.Times.{ticks_per_unit, frame_ticks, given_time, IsUntimed, IsOutOfOrder}
+use Rattle.audio_frames.specs.Times.{frame_ticks, given_time, IsUntimed, IsOutOfOrder}
 
 -- the place where the payload of a packet begins
 abbrev pub start_of : List PesStart → ℕ → ℕ
@@ -38,7 +39,7 @@ pub record IsClockAt (starts : List PesStart) (places : List ℕ) (j : ℕ) (clo
   pub low : neg_ℤ (pos (2 ^ 54)) ≤ℤ clock.given
   pub high : clock.given ≤ℤ pos (2 ^ 54)
   pub rate : 16000 ≤ clock.rate
-  pub time : clock.time ≡ (pos ticks_per_unit *ℤ clock.given) +ℤ pos (frame_ticks clock.rate clock.ago)
+  pub time : clock.time ≡ (pos TICKS_PER_TIME_UNIT *ℤ clock.given) +ℤ pos (frame_ticks clock.rate clock.ago)
 
 -- what refuses frames for their times
 abbrev pub IsTimeRefused : List ℕ → List PesStart → AudioFault → Type 0

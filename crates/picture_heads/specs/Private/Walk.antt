@@ -1,6 +1,6 @@
 -- The walk over a head from one start code to the next.
 use Rattle.std.specs.Prelude.{◌≡◌, ◌≢◌, ◌⊎◌, ◌+◌, ◌%◌, ◌*◌, ◌^◌, ◌<◌, ◌≤◌, ℕ, zero, suc, List, ◌++◌, length, slice_index, slice_set, bit_or}
-use Rattle.picture_grammar.specs.declared.start_codes.TheConstants.{PICTURE, GROUP}
+use Rattle.stream_constants.specs.declared.start_codes.TheConstants.{PICTURE, GROUP}
 use Rattle.picture_grammar.specs.StartCode.{start_code_prefix, start_code_bits}
 use Rattle.picture_heads.specs.declared.place.TheConstants.{GROUP_BYTES}
 

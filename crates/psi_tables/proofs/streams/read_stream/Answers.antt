@@ -1,10 +1,11 @@
 use Rattle.std.proofs.Common.{◌≡◌, List, ℕ, get_or, refl, sym, ap, subst, arith}
 use Rattle.bit_lists.specs.Fields.{bits}
+use Rattle.bit_lists.proofs.MaskLemmas.{and_31}
 use Rattle.arrayvec.specs.ArrayVec.{ArrayVec}
 use Rattle.std.proofs.lemmas.List.{take_rest}
 use Rattle.psi_tables.specs.Section.{IsRow}
 use Rattle.psi_tables.specs.Descriptors.{IsDescriptor, kept_bytes, count_dropped}
-use Rattle.psi_tables.proofs.Elements.{and_31, descriptor_tag-is, elementary_PID-is}
+use Rattle.psi_tables.proofs.Elements.{descriptor_tag-is, elementary_PID-is}
 use Rattle.psi_tables.proofs.StreamRows.{same_pair, stream_is}
 use Rattle.psi_tables.proofs.streams.read_stream.Goals as goal
 

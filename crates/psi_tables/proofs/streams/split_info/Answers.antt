@@ -1,7 +1,7 @@
 use Rattle.std.proofs.Common.{◌≡◌, ◌+◌, ◌++◌, List, ℕ, length, get_or, subst, sym, ap₂, ◌∙◌, arith}
 use Rattle.std.proofs.lemmas.List.{take-append-drop}
+use Rattle.bit_lists.proofs.MaskLemmas.{and_15}
 use Rattle.psi_tables.specs.Streams.{ES_info_length}
-use Rattle.psi_tables.proofs.Elements.{and_15}
 use Rattle.psi_tables.proofs.StreamRows.{info_fits, is_info}
 use Rattle.psi_tables.proofs.streams.split_info.Goals as goal
 

@@ -1,9 +1,10 @@
 use Rattle.std.proofs.Common.{◌≡◌, ◌+◌, ◌-◌, ℕ, List, true, false, take, drop, length-drop, get_or, sym, ap, ◌∙◌, arith}
 use Rattle.std.proofs.lemmas.Bool.{le-leb, lt-leb}
 use Rattle.std.proofs.lemmas.List.{take_all}
+use Rattle.bit_lists.proofs.MaskLemmas.{and_32}
 use Rattle.ts_packets.specs.AdaptationField.{field_of, is_too_short}
 use Rattle.ts_packets.specs.Packet.{adaptation_field_control, adaptation_field_length, has_field}
-use Rattle.ts_packets.proofs.Elements.{adaptation_field_control-is, adaptation_field_length-is, and_32}
+use Rattle.ts_packets.proofs.Elements.{adaptation_field_control-is, adaptation_field_length-is}
 use Rattle.ts_packets.proofs.Refusals.{payload_alone, field_first, field_found}
 use Rattle.ts_packets.proofs.packet.field_and_payload.Goals as goal
 

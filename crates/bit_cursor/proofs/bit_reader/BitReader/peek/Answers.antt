@@ -1,5 +1,5 @@
 use Rattle.std.proofs.Common.{◌≡◌, ◌<◌, IfSome, length, subst}
-use Rattle.bit_cursor.specs.Reading.{Shows}
+use Rattle.bit_cursor.specs.Shown.{IsWindow}
 use Rattle.bit_cursor.specs.BitReader.{bits_left}
 use Rattle.bit_cursor.proofs.Fronts.{told_both}
 use Rattle.bit_cursor.proofs.bit_reader.BitReader.peek.Goals as goal
@@ -9,5 +9,5 @@ returns-clause-window g c =
     let n = c.args.n in
     let s = c.hold.new.self in
     let shown = c.held_window.result in
-    told_both (bits_left c.args.self.now) (s.held < n) (λ bits. length bits ≡ s.held) (λ bits. Shows n bits shown.0 shown.1)
-    (subst (λ told. IfSome told (λ bits. (s.held < n → length bits ≡ s.held) → Shows n bits shown.0 shown.1)) c.in_ok-hold.ensures.left c.held_window.ensures.window) c.in_ok-hold.ensures.few
+    told_both (bits_left c.args.self.now) (s.held < n) (λ bits. length bits ≡ s.held) (λ bits. IsWindow n bits shown.0 shown.1)
+    (subst (λ told. IfSome told (λ bits. (s.held < n → length bits ≡ s.held) → IsWindow n bits shown.0 shown.1)) c.in_ok-hold.ensures.left c.held_window.ensures.window) c.in_ok-hold.ensures.few

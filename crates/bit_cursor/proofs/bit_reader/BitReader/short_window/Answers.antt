@@ -1,5 +1,5 @@
 use Rattle.std.proofs.Common.{◌≡◌, ◌≤◌, ◌-◌, ◌*◌, ◌%◌, ◌^◌, ◌∙◌, length, IfSome, sym, ap, subst, arith}
-use Rattle.bit_cursor.specs.Reading.{Shows}
+use Rattle.bit_cursor.specs.Shown.{IsWindow}
 use Rattle.bit_cursor.specs.BitReader.{bits_left}
 use Rattle.bit_cursor.proofs.Words.{window_of, window_below, window_zeros}
 use Rattle.bit_cursor.proofs.Fronts.{told_few}
@@ -11,7 +11,7 @@ returns-clause-window g c =
     let n = c.args.n in
     let value : c.lowest.result * 2 ^ (n - s.held) % 2 ^ 32 ≡ (s.word % 2 ^ s.held) * 2 ^ (n - s.held) =
     ap (λ x. x * 2 ^ (n - s.held) % 2 ^ 32) c.lowest.ensures ∙ window_of s.word s.held n (omega arith) (omega arith) in
-    subst (λ v. IfSome (bits_left s) (λ bits. length bits ≡ s.held → Shows n bits v s.held)) (sym value) (told_few (g.S.Source.left s.source.now) s.held n s.word c.requires.short)
+    subst (λ v. IfSome (bits_left s) (λ bits. length bits ≡ s.held → IsWindow n bits v s.held)) (sym value) (told_few (g.S.Source.left s.source.now) s.held n s.word c.requires.short)
 
 pub returns-clause-below : goal.returns-clause-below
 returns-clause-below g c =

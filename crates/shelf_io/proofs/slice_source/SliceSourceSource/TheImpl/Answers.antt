@@ -1,30 +1,7 @@
--- A take that always answers Ok meets what a source promises.
-use Rattle.std.proofs.Common.{◌≡◌, ◌≤◌, ◌+◌, ◌-◌, ◌^◌, min, ℕ, List, [], ◌∷◌, Option, Some, cond, is_some, slice_get, Result, Ok, Err, IfOk, OnErr, IsOkAnd, length, drop, subst, ap, refl, arith, length-drop}
-use Rattle.shelf_io.specs.declared.fault.Fault.{Fault}
-use Rattle.shelf_io.specs.Buffer.{CopiesFront}
-use Rattle.shelf_io.specs.Source.{Takes}
+-- A take of a source over bytes in memory always answers Ok.
+use Rattle.std.proofs.Common.{◌≡◌, ◌≤◌, ◌+◌, ◌-◌, ◌^◌, [], ◌∷◌, arith}
+use Rattle.shelf_io.proofs.Infallible.{if_ok, on_err, never_err, takes, takes_byte}
 use Rattle.shelf_io.proofs.slice_source.SliceSourceSource.TheImpl.Goals as goal
-
-if_ok : {T : Type 0} (r : Result T Fault) (P : T → Type 0) → IsOkAnd r P → IfOk r P
-if_ok (Ok n) P h = h
-if_ok (Err e) P h = absurd h
-
-on_err : {T : Type 0} (r : Result T Fault) (P : T → Type 0) (Q : Type 0) → IsOkAnd r P → OnErr r Q
-on_err (Ok n) P Q h = tt
-on_err (Err e) P Q h = absurd h
-
-never_err : {T : Type 0} (r : Result T Fault) (e : Fault) (P : T → Type 0) → IsOkAnd r P → r ≡ Err e → ⊥
-never_err r e P h is = subst (λ x. IsOkAnd x P) is h
-
-takes : (r : Result ℕ Fault) (old new before after : List ℕ) → length old ≤ 2 ^ 60 → IsOkAnd r (CopiesFront old before after) → IsOkAnd r (λ n. new ≡ drop n old) → IfOk r (Takes (Some old) (Some new) (min (length old) (2 ^ 60)) (min (length new) (2 ^ 60)))
-takes (Ok n) old new before after fits fills rest = record {
-  rest = ap Some rest;
-  fewer = simp (rest, length-drop) (fewer fits fills.within);
-}
-  where
-    fewer : length old ≤ 2 ^ 60 → n ≤ length old → min (length old - n) (2 ^ 60) + n ≡ min (length old) (2 ^ 60)
-    fewer fits within = omega arith
-takes (Err e) old new before after fits fills rest = absurd fills
 
 pub take-tells : goal.take-tells
 take-tells g c = record {
@@ -42,14 +19,6 @@ take-tells g c = record {
   };
   keeps = tt;
 }
-
-one_byte : (old : List ℕ) → length old ≤ 2 ^ 60 → Takes (Some old) (Some (drop 1 old)) (min (length old) (2 ^ 60)) (min (length (drop 1 old)) (2 ^ 60)) (cond (is_some (slice_get old 0)) 1 0)
-one_byte [] fits = record { rest = refl; fewer = omega arith }
-one_byte (byte ∷ bytes) fits = record { rest = refl; fewer = omega arith }
-
-takes_byte : (r : Result (Option ℕ) Fault) (old new : List ℕ) → length old ≤ 2 ^ 60 → IsOkAnd r (λ byte. byte ≡ slice_get old 0) → new ≡ drop 1 old → IfOk r (λ byte. Takes (Some old) (Some new) (min (length old) (2 ^ 60)) (min (length new) (2 ^ 60)) (cond (is_some byte) 1 0))
-takes_byte (Ok byte) old new fits first rest = rw (first, rest) (one_byte old fits)
-takes_byte (Err e) old new fits first rest = absurd first
 
 pub take_byte-tells : goal.take_byte-tells
 take_byte-tells g c = record {

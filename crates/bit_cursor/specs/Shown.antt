@@ -7,13 +7,13 @@ abbrev pub zero_filled : ℕ → List ℕ → List ℕ
 zero_filled n bits = take n (bits ++ replicate n 0)
 
 -- a number is the one in the first n bits
-pub record IsFront (n : ℕ) (bits : List ℕ) (number : ℕ) : Type 0 where
+pub record IsFirstNumber (n : ℕ) (bits : List ℕ) (number : ℕ) : Type 0 where
   pub enough : n ≤ length bits
   pub value : number ≡ number_of (take n bits)
   pub front : take n bits ≡ bits_of n number
 
 -- a window of n bits shows the first bits of a list, so many as there are, and then zero bits
-pub record Shows (n : ℕ) (bits : List ℕ) (shown count : ℕ) : Type 0 where
+pub record IsWindow (n : ℕ) (bits : List ℕ) (shown count : ℕ) : Type 0 where
   pub known : count ≡ min n (length bits)
   pub window : shown ≡ number_of (zero_filled n bits)
   pub front : front_of n shown count ≡ take n bits
