@@ -26,8 +26,3 @@ pub use program_map::ProgramMap;
 pub use section::{SECTION_BYTES, Section, SectionFault};
 pub use section_builder::SectionBuilder;
 pub use stream::{DESCRIPTOR_BYTES, STREAMS_MOST, Stream};
-
-#[cfg(test)]
-mod section_tests;
-#[cfg(test)]
-mod tests;

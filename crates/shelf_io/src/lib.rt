@@ -45,6 +45,3 @@ pub use source::{SOURCE_BYTES_MOST, Source, take_full};
 pub use vec_sink::VecSink;
 pub use whole_file::{read_file, write_file};
 pub use writing::Writing;
-
-#[cfg(test)]
-mod tests;

@@ -6,7 +6,7 @@ ghost use Rattle.psi_tables.specs.Sections.{sections_of, GivesInTurn};
 ghost use Rattle.std.specs.Borrow.{Bor};
 ghost use Rattle.psi_tables.specs.SectionBuilder.{found_of};
 
-use crate::{Section, SectionBuilder, SectionFault};
+use psi_tables::{Section, SectionBuilder, SectionFault};
 use std::alloc::{AllocError, Global};
 use std::test::Fail;
 

@@ -3,7 +3,7 @@ use Rattle.std.specs.Borrow.{Bor}
 use Rattle.payload_lists.specs.Payload.{Payload}
 use Rattle.psi_tables.specs.Sections.{sections_of, GivesInTurn}
 use Rattle.psi_tables.specs.SectionBuilder.{found_of}
-use Rattle.psi_tables.proofs.section_tests.read_all.Given as goal
+use Rattle.psi_tables_tests.proofs.section_tests.read_all.Given as goal
 
 abbrev fed_as : Bool × Bor (List ℕ) → Payload
 fed_as fed = record { start = fed.0; bytes = fed.1.now }

@@ -4,7 +4,7 @@ use Rattle.std.proofs.lemmas.List.Elements.{All-cons, All-nil}
 use Rattle.psi_tables.specs.Section.{IsRow}
 use Rattle.psi_tables.specs.Descriptors.{IsDescriptor, is_tag_kept, is_kept, descriptor_tag}
 use Rattle.psi_tables.proofs.Elements.{descriptor_tag-is, descriptor_length-is}
-use Rattle.psi_tables.proofs.tests.stream_of.Goals as goal
+use Rattle.psi_tables_tests.proofs.tests.stream_of.Goals as goal
 
 pub returns : goal.returns
 returns c =

@@ -4,8 +4,11 @@ ghost use Rattle.psi_tables.specs.Pat.{map_pid};
 ghost use Rattle.psi_tables.specs.Streams.{IsStreamWritable};
 ghost use Rattle.psi_tables.specs.Pmt.{IsWritable, without_dropped};
 
-use super::*;
 use arrayvec::{ArrayVec, CapacityError};
+use psi_tables::{
+    ProgramMap, Section, SectionFault, Stream, crc32, is_pat, read_pat, read_pmt, write_pat,
+    write_pmt,
+};
 use std::test::Fail;
 
 /// The section of stream 1 with program 1, its map on PID 0x100.

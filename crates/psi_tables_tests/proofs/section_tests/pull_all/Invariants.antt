@@ -2,7 +2,7 @@ use Rattle.std.proofs.Common.{List, length, map}
 use Rattle.payload_lists.specs.Payload.{Payload}
 use Rattle.psi_tables.specs.Sections.{sections_of, GivesInTurn}
 use Rattle.psi_tables.specs.SectionBuilder.{found_of}
-use Rattle.psi_tables.proofs.section_tests.pull_all.Given as goal
+use Rattle.psi_tables_tests.proofs.section_tests.pull_all.Given as goal
 
 abbrev pub invariant-loop-next : goal.invariant-loop-next
 invariant-loop-next l =

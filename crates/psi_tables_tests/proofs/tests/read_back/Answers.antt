@@ -3,7 +3,7 @@ use Rattle.std.specs.Prelude.{IfOk}
 use Rattle.psi_tables.specs.declared.program_map.ProgramMap.{ProgramMap}
 use Rattle.psi_tables.specs.declared.section.SectionFault.{SectionFault}
 use Rattle.psi_tables.specs.Pmt.{without_dropped}
-use Rattle.psi_tables.proofs.tests.read_back.Goals as goal
+use Rattle.psi_tables_tests.proofs.tests.read_back.Goals as goal
 
 pub returns : goal.returns
 returns c =

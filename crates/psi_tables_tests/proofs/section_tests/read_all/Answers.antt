@@ -6,7 +6,7 @@ use Rattle.payload_lists.specs.Payload.{Payload}
 use Rattle.psi_tables.specs.Sections.{sections_of}
 use Rattle.psi_tables.specs.SectionBuilder.{found_of}
 use Rattle.psi_tables.proofs.Turns.{turn-all}
-use Rattle.psi_tables.proofs.section_tests.read_all.Goals as goal
+use Rattle.psi_tables_tests.proofs.section_tests.read_all.Goals as goal
 
 abbrev fed_as : Bool × Bor (List ℕ) → Payload
 fed_as fed = record { start = fed.0; bytes = fed.1.now }

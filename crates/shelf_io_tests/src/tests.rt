@@ -2,7 +2,10 @@ ghost use Rattle.std.specs.Prelude.{◌≡◌, OnOk, codes, if◌then◌else◌}
 ghost use Rattle.std.specs.Str.{bytes_eq};
 ghost use Rattle.shelf_io.specs.Sink.{with_bytes};
 
-use super::*;
+use shelf_io::{
+    CalmShelf, CalmSink, CountSink, Fault, FileShelf, MemShelf, MemSink, OutSink, Reading, Shelf,
+    Sink, SliceSource, Source, VecSink, Writing, put_all, read_file, take_full, write_file,
+};
 use std::fmt::Display;
 use std::test::Fail;
 use std::{env, fs, io, process};
