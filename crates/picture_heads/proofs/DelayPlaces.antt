@@ -1,5 +1,5 @@
 -- vbv_delay stands in one place of a head.
-use Rattle.std.proofs.Common.{◌≡◌, ◌≢◌, ◌⊎◌, ◌+◌, ◌-◌, ◌*◌, ◌%◌, ◌<◌, ◌≤◌, ℕ, zero, suc, nat_eq, List, ◌++◌, length, drop, get_or, Bool, true, false, if◌then◌else◌, refl, sym, ap, ap₂, subst, ◌∙◌, inl, inr, arith, append_assoc, eq-eqb}
+use Rattle.std.proofs.Common.{◌≡◌, ◌≢◌, ◌⊎◌, ◌+◌, ◌-◌, ◌*◌, ◌/◌, ◌%◌, ◌<◌, ◌≤◌, ℕ, zero, suc, nat_eq, List, ◌++◌, length, drop, get_or, Bool, true, false, if◌then◌else◌, refl, sym, ap, ap₂, subst, ◌∙◌, inl, inr, arith, append_assoc, eq-eqb}
 use Rattle.std.proofs.lemmas.Bool.{cases_Bool, eqb-true, eqb-false}
 use Rattle.std.proofs.lemmas.List.{length-append}
 use Rattle.bit_lists.specs.Bits.{bits_of}
@@ -14,7 +14,7 @@ use Rattle.picture_heads.specs.Private.Walk.{IsFirstCode, LeadsIn, with_ones}
 use Rattle.picture_heads.proofs.Bytes.{same_parts, IsFound}
 use Rattle.picture_heads.proofs.LeadingCodes.{head-leads}
 use Rattle.picture_heads.proofs.Ones.{IsSet, set_at}
-use Rattle.picture_heads.proofs.WalkSteps.{IsFirstAt, found-in, walk-here, walk-on, walk-within}
+use Rattle.picture_heads.proofs.WalkSteps.{IsFirstAt, leads-longer, found-in, walk-here, walk-on, walk-within}
 
 leads-whole : (n : ℕ) (bits rest : List ℕ) → LeadsIn n bits rest → length rest % 8 ≡ 0
 leads-whole zero bits rest f = f.whole
@@ -69,6 +69,19 @@ set-without head front delay back h at lt size =
       bytes = s.bytes;
       without = s.set ∙ ap₂ (λ (x y : List ℕ). x ++ bits_of DELAY_BITS NO_DELAY ++ y) (sym p) (sym r);
     }
+
+-- there is such a head
+pub has-without : (head front delay back : List ℕ) → HasDelay head front delay back → (without : List ℕ) × IsHeadWithoutDelay head without
+has-without head front delay back h =
+    let w = delay-walk head front delay back h in
+    let at : ℕ = (length front - 13) / 8 in
+    let all : length (bit_list head ++ h.following) ≡ 8 * length head + length h.following =
+    length-append (bit_list head) h.following ∙ omega (arith, length-bit_list head) in
+    let longer = leads-longer w.codes (bit_list head ++ h.following) w.rest w.leads in
+    let whole = leads-whole w.codes (bit_list head ++ h.following) w.rest w.leads in (
+      with_ones head at,
+      set-without head front delay back h at (omega (arith, w.size, w.enough, all, longer, whole, h.whole)) (omega (arith, w.size, w.enough, all, longer, whole, h.whole)),
+    )
 
 -- ---- two ways to read a head
 

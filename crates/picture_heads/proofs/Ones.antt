@@ -62,7 +62,7 @@ low_ones = refl
 high_ones : list_all (λ x. nat_eq (bit_or x 0b11111000) (248 + x % 8)) (range_with_len 0 256) ≡ true
 high_ones = refl
 
-all_at : (p : ℕ → Bool) (n from x : ℕ) → from ≤ x → x < from + n → list_all p (range_with_len from n) ≡ true → p x ≡ true
+pub all_at : (p : ℕ → Bool) (n from x : ℕ) → from ≤ x → x < from + n → list_all p (range_with_len from n) ≡ true → p x ≡ true
 all_at p zero from x le lt all = absurd (omega (arith, le, lt))
 all_at p (suc n) from x le lt all =
     let parts = and_parts (p from) (list_all p (range_with_len (from + 1) n)) all in

@@ -22,7 +22,7 @@ goes-longer byte behind later goes = elim goes.goes [
   | inr (is, header, split, size) ↦ omega (arith, ap length split, length-append header later)
 ]
 
-leads-longer : (n : ℕ) (bits rest : List ℕ) → LeadsIn n bits rest → length rest ≤ length bits
+pub leads-longer : (n : ℕ) (bits rest : List ℕ) → LeadsIn n bits rest → length rest ≤ length bits
 leads-longer zero bits rest f = first-longer bits PICTURE rest f
 leads-longer (suc n) bits rest (byte, behind, later, f, goes, l) = omega (arith, first-longer bits byte behind f, goes-longer byte behind later goes, leads-longer n later rest l)
 

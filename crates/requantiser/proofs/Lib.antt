@@ -20,3 +20,8 @@ pub mod SpelledHeads
 pub mod SpelledPictures
 pub mod SpelledSlices
 pub mod Versions
+pub mod SpellableElements
+pub mod SpellableBlocks
+pub mod SpellableMacroblocks
+pub mod SpellableSlices
+pub mod LawfulVersions

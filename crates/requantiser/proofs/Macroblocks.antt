@@ -31,7 +31,7 @@ empty_items : (items : List RunLevel) → elim items [ [] ↦ true | pair ∷ pa
 empty_items [] empty = refl
 empty_items (pair ∷ pairs) empty = absurd (cc)
 
-empty_block : (block : Block) → block.dc ≡ None → is_empty_block block ≡ true → block ≡ no_block
+pub empty_block : (block : Block) → block.dc ≡ None → is_empty_block block ≡ true → block ≡ no_block
 empty_block block no_dc empty = ap₂ (λ d items. let block : Block = record { dc = d; pairs = record { items = items } } in block) no_dc (empty_items block.pairs.items empty)
 
 module _ (seq : SeqState) (coding : PicCoding) (kind : Kind) (code mapped : ℕ) where

@@ -120,7 +120,7 @@ module _ (seq : SeqState) (coding : PicCoding) (m : ℕ) where
   nothing inner code before from to f t = at_same inner inner code code before before None from None to refl refl refl (sym f) (sym t) tt
 
   -- a macroblock of the coarser picture stands behind the skipped ones and those that were skipped before
-  gap-walk : (inner : Bool) (code before skipped : ℕ) (from to : Macroblock) → coarsened_macroblock seq coding m inner code before skipped from ≡ Some to → to.skipped_before ≡ skipped
+  pub gap-walk : (inner : Bool) (code before skipped : ℕ) (from to : Macroblock) → coarsened_macroblock seq coding m inner code before skipped from ≡ Some to → to.skipped_before ≡ skipped
   gap-walk inner code before skipped from to made = by_test (is_coded_without_motion from.kind && are_empty (coarsened_blocks seq coding from.kind code (mapped_code coding.q_scale_type m code) from.blocks)) inner made
     where
       by_test : (t i : Bool) → elim t [
@@ -132,13 +132,13 @@ module _ (seq : SeqState) (coding : PicCoding) (m : ℕ) where
       by_test true false made = ap skipped_of (sym made)
 
   -- the walk skips a macroblock, or makes one
-  walk-skips : (first : Bool) (code before skipped : ℕ) (from : Macroblock) (later : List Macroblock)
+  pub walk-skips : (first : Bool) (code before skipped : ℕ) (from : Macroblock) (later : List Macroblock)
       → coarsened_macroblock seq coding m (not first && not (is_none later)) (unwrap_or from.code code) before (skipped + from.skipped_before) from ≡ None
       → coarsened_macroblocks seq coding m first code before skipped (from ∷ later)
       ≡ coarsened_macroblocks seq coding m false (unwrap_or from.code code) before (skipped + (from.skipped_before + 1)) later
   walk-skips first code before skipped from later made = rw (made, coarsened_macroblocks) refl
 
-  walk-makes : (first : Bool) (code before skipped : ℕ) (from to : Macroblock) (later : List Macroblock)
+  pub walk-makes : (first : Bool) (code before skipped : ℕ) (from to : Macroblock) (later : List Macroblock)
       → coarsened_macroblock seq coding m (not first && not (is_none later)) (unwrap_or from.code code) before (skipped + from.skipped_before) from ≡ Some to
       → coarsened_macroblocks seq coding m first code before skipped (from ∷ later)
       ≡ to ∷ coarsened_macroblocks seq coding m false (unwrap_or from.code code) (unwrap_or to.code before) 0 later

@@ -49,10 +49,10 @@ increments most n before [] bits rest (symbol, m, (code, listed, passing, split)
 increments most n before (x ∷ escapes) bits rest (middle, s, t) =
     subst (λ (xs : List (Unit {0})). IsIncrement most (escape_increment * length xs + n)) (append_assoc before (x ∷ []) escapes) (increments most n (before ++ x ∷ []) escapes middle rest t)
 
-increment_is : (most increment : ℕ) (bits rest : List ℕ) → (address_increment most).Spells increment bits rest → IsIncrement most increment
+pub increment_is : (most increment : ℕ) (bits rest : List ℕ) → (address_increment most).Spells increment bits rest → IsIncrement most increment
 increment_is most increment bits rest (codes, m, s, (e, f)) = subst (IsIncrement most) (sym e) (increments most codes.1 [] codes.0 bits m s)
 
-most_within : (coding : PicCoding) (first : Bool) (columns_left : ℕ) → most_increment coding first columns_left ≤ columns_left
+pub most_within : (coding : PicCoding) (first : Bool) (columns_left : ℕ) → most_increment coding first columns_left ≤ columns_left
 most_within coding first columns_left = by_test (coding.kind == I_PICTURE && not first)
   where
     by_test : (b : Bool) → (if b then min 1 columns_left else columns_left) ≤ columns_left

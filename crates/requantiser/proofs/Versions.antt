@@ -22,7 +22,7 @@ lawful-delay picture lawful =
     let is = slices-of_picture lawful.before picture (bit_list lawful.bytes) [] (omega (arith, length-bit_list lawful.bytes)) lawful.spelled in
     head-has lawful.before picture.seq picture.coding picture.head is.rest is.head is.whole
 
-one_list : (seq : SeqState) (coding : PicCoding) (m : ℕ) (from a b : List Slice) → AllZip (IsCoarserSlice seq coding m) from a → AllZip (IsCoarserSlice seq coding m) from b → a ≡ b
+pub one_list : (seq : SeqState) (coding : PicCoding) (m : ℕ) (from a b : List Slice) → AllZip (IsCoarserSlice seq coding m) from a → AllZip (IsCoarserSlice seq coding m) from b → a ≡ b
 one_list seq coding m [] [] [] p q = refl
 one_list seq coding m [] (a ∷ xs) b p q = absurd p
 one_list seq coding m [] [] (b ∷ bs) p q = absurd q

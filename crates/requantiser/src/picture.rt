@@ -17,6 +17,7 @@ use syntax_types::{ListOf, OutOfMemory, PicCoding, Picture, SeqState, Slice};
 pub fn coarsen(alloc: Global, picture: &Picture, m: u16) -> Result<Picture, OutOfMemory>
     requires { IsLawful picture.now }
     ensures version { IfOk result (λ made. IsVersion m picture.now made) }
+    ensures lawful { IfOk result (λ made. IsLawful made) }
 {
     let head = without_delay(alloc, picture.head.as_slice())?;
     let slices = coarsen_slices(alloc, picture, m)?;
