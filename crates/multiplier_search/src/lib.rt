@@ -7,3 +7,6 @@ mod lambda;
 mod single;
 
 pub use single::best_single;
+
+#[cfg(test)]
+mod tests;

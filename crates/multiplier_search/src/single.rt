@@ -19,7 +19,8 @@ pub fn best_single(table: &Table, fixed: &Fixed) -> Result<Multipliers, OutOfMem
 {
     let mut best = None;
     for program in table.programs.as_slice() {
-        best = first_of(table, fixed, best, best_of_units(table, fixed, program.units.as_slice()));
+        let own = best_of_units(table, fixed, program.units.as_slice());
+        best = first_of(table, fixed, best, own);
     }
     let mut found = Multipliers::new();
     if let Some(multiplier) = best {
@@ -32,7 +33,8 @@ pub fn best_single(table: &Table, fixed: &Fixed) -> Result<Multipliers, OutOfMem
 fn best_of_units(table: &Table, fixed: &Fixed, units: &[Unit]) -> Option<Multiplier>
     requires valid { IsValidTable table.now }
     requires fixed { FixesVersions table.now fixed.now }
-    ensures { IsBestOf table.now fixed.now (dues_of units.now) result }
+    ensures lambda { IfSome result (λ multiplier. multiplier.lambda ≤ LAMBDA_MOST) }
+    ensures best { IsBestOf table.now fixed.now (dues_of units.now) result }
 {
     let mut best = None;
     for unit in units {
