@@ -165,10 +165,3 @@ free_slots-is table from due some =
 
     floor_le : (x s : ℕ) → x / s * s ≤ x
     floor_le x s = (let whole : x / s * s + x % s ≡ x = div-add-mod' x s in omega arith)
-
--- ---- bounds
-pub slots_few : (slot due : ℕ) → 1016 ≤ slot → due < 2 ^ 64 → (due - MARGIN_TICKS) / slot < 2 ^ 62
-slots_few slot due least fits =
-    let size : 1016 * 2 ^ 62 ≤ slot * 2 ^ 62 = mul-le-mul_right (2 ^ 62) least in
-    let turned : slot * 2 ^ 62 ≡ 2 ^ 62 * slot = mul_comm slot (2 ^ 62) in
-    div_below (due - MARGIN_TICKS) slot (2 ^ 62) (omega arith) (omega arith)

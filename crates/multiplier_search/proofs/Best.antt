@@ -1,0 +1,80 @@
+-- The first best of several multipliers.
+use Rattle.std.proofs.Common.{◌≡◌, ℕ, ◌<◌, ◌≤◌, ◌⊎◌, List, [], ◌∷◌, ◌++◌, get_or, Option, refl, sym, subst, ◌∙◌, inl, inr, arith, ℤ, ◌≤ℤ◌, ◌<ℤ◌}
+use Rattle.std.specs.List.{Contains}
+use Rattle.std.proofs.lemmas.Bool.{cases_lt}
+use Rattle.std.proofs.lemmas.Int.{by_lt_z, ints}
+use Rattle.std.proofs.lemmas.List.Elements.{Contains-append_left, Contains-append_right, Contains-append_cases}
+use Rattle.version_table.specs.declared.table.Table.{Table}
+use Rattle.dual_bounds.specs.declared.constants.TheConstants.{LAMBDA_MOST}
+use Rattle.dual_bounds.specs.declared.windows.Multiplier.{Multiplier}
+use Rattle.multiplier_search.specs.Private.Lambda.{BetterOf, EndsRise, RisesTo, value_at}
+use Rattle.multiplier_search.specs.Single.{IsFirstBest, IsNoWorse, value_alone}
+use Rattle.multiplier_search.proofs.Concave.{less_below, no_greater_behind}
+
+pub no_worse_twice : (table : Table) (fixed : List (Option ℕ)) (a b c : Multiplier) → IsNoWorse table fixed a b → IsNoWorse table fixed b c → IsNoWorse table fixed a c
+no_worse_twice table fixed a b c (inl more) (inl more') = inl (omega (arith, ints))
+no_worse_twice table fixed a b c (inl more) (inr same) = inl (subst (λ (z : ℤ). z <ℤ value_alone table fixed a) (sym same.0) more)
+no_worse_twice table fixed a b c (inr same) (inl more) = inl (subst (λ (z : ℤ). value_alone table fixed c <ℤ z) same.0 more)
+no_worse_twice table fixed a b c (inr same) (inr same') = inr (same'.0 ∙ same.0, order same.1 same'.1)
+  where
+    order : (a.due < b.due) ⊎ ((a.due ≡ b.due) × (a.lambda ≤ b.lambda)) → (b.due < c.due) ⊎ ((b.due ≡ c.due) × (b.lambda ≤ c.lambda))
+        → (a.due < c.due) ⊎ ((a.due ≡ c.due) × (a.lambda ≤ c.lambda))
+    order (inl less) (inl less') = inl (omega arith)
+    order (inl less) (inr like) = inl (omega (arith, like.0))
+    order (inr like) (inl less) = inl (omega (arith, like.0))
+    order (inr like) (inr like') = inr (like.0 ∙ like'.0, omega (arith, like.1, like'.1))
+
+-- one of two lists' first best that is no worse than the other is the first best of both lists
+best_left : (table : Table) (fixed : List (Option ℕ)) (dues more : List ℕ) (a b : Multiplier) → IsFirstBest table fixed dues a → IsFirstBest table fixed more b → IsNoWorse table fixed a b
+    → IsFirstBest table fixed (dues ++ more) a
+best_left table fixed dues more a b best best' no_worse = record {
+  candidate = record { due = Contains-append_left dues more a.due best.candidate.due; lambda = best.candidate.lambda };
+  first = λ other is. elim (Contains-append_cases dues more other.due is.due) as (λ _. IsNoWorse table fixed a other) [
+    | inl here ↦ best.first other (record { due = here; lambda = is.lambda })
+    | inr there ↦ no_worse_twice table fixed a b other no_worse (best'.first other (record { due = there; lambda = is.lambda }))
+  ];
+}
+
+best_right : (table : Table) (fixed : List (Option ℕ)) (dues more : List ℕ) (a b : Multiplier) → IsFirstBest table fixed dues a → IsFirstBest table fixed more b → IsNoWorse table fixed b a
+    → IsFirstBest table fixed (dues ++ more) b
+best_right table fixed dues more a b best best' no_worse = record {
+  candidate = record { due = Contains-append_right dues more b.due best'.candidate.due; lambda = best'.candidate.lambda };
+  first = λ other is. elim (Contains-append_cases dues more other.due is.due) as (λ _. IsNoWorse table fixed b other) [
+    | inl here ↦ no_worse_twice table fixed b a other no_worse (best.first other (record { due = here; lambda = is.lambda }))
+    | inr there ↦ best'.first other (record { due = there; lambda = is.lambda })
+  ];
+}
+
+pub best_of_both : (table : Table) (fixed : List (Option ℕ)) (dues more : List ℕ) (a b better : Multiplier) → IsFirstBest table fixed dues a → IsFirstBest table fixed more b
+    → BetterOf table fixed a b better → IsFirstBest table fixed (dues ++ more) better
+best_of_both table fixed dues more a b better best best' (inl first) =
+    subst (λ (m : Multiplier). IsFirstBest table fixed (dues ++ more) m) (sym first.0) (best_left table fixed dues more a b best best' first.1)
+best_of_both table fixed dues more a b better best best' (inr second) =
+    subst (λ (m : Multiplier). IsFirstBest table fixed (dues ++ more) m) (sym second.0) (best_right table fixed dues more a b best best' second.1)
+
+-- ---- at one due time
+Contains-one : (x y : ℕ) → Contains (x ∷ []) y → x ≡ y
+Contains-one x y (k, within, is) =
+    let first : k ≡ 0 = omega arith in
+    let there : get_or (x ∷ []) 0 y ≡ y = subst (λ n. get_or (x ∷ []) n y ≡ y) first is in
+    there
+
+beside : (table : Table) (fixed : List (Option ℕ)) (due lambda : ℕ) → RisesTo table fixed due lambda → EndsRise table fixed due lambda → (k : ℕ) → k ≤ LAMBDA_MOST
+    → IsNoWorse table fixed (record { due = due; lambda = lambda }) (record { due = due; lambda = k })
+beside table fixed due lambda rises ends k limit =
+    elim (cases_lt k lambda) as (λ _. IsNoWorse table fixed (record { due = due; lambda = lambda }) (record { due = due; lambda = k })) [
+      | inl below ↦ inl (less_below table fixed due lambda k rises below)
+      | inr from ↦
+          (let most : value_at table fixed due k ≤ℤ value_at table fixed due lambda = no_greater_behind table fixed due lambda k ends from limit in
+          by_lt_z (value_at table fixed due k) (value_at table fixed due lambda) (λ less. inl less)
+          (λ least. (let same : value_at table fixed due k ≡ value_at table fixed due lambda = omega (arith, ints) in inr (same, inr (refl, from)))))
+    ]
+
+pub best_at_due : (table : Table) (fixed : List (Option ℕ)) (due lambda : ℕ) → lambda ≤ LAMBDA_MOST → RisesTo table fixed due lambda → EndsRise table fixed due lambda
+    → IsFirstBest table fixed (due ∷ []) (record { due = due; lambda = lambda })
+best_at_due table fixed due lambda most rises ends = record {
+  candidate = record { due = (0, omega arith, refl); lambda = most };
+  first = λ other is. (let same : due ≡ other.due = Contains-one due other.due is.due in
+      subst (λ d. IsNoWorse table fixed (record { due = due; lambda = lambda }) (record { due = d; lambda = other.lambda })) same
+      (beside table fixed due lambda rises ends other.lambda is.lambda));
+}

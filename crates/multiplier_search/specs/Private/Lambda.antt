@@ -1,0 +1,30 @@
+-- The values at one due time, over the lambdas.
+use Rattle.std.specs.Prelude.{◌≡◌, ℕ, ◌+◌, ◌<◌, ◌⊎◌, List, [], Option, MatchOption, ℤ, ◌<ℤ◌, ◌≤ℤ◌}
+use Rattle.version_table.specs.declared.table.Table.{Table}
+use Rattle.dual_bounds.specs.declared.constants.TheConstants.{LAMBDA_MOST}
+use Rattle.dual_bounds.specs.declared.windows.Multiplier.{Multiplier}
+use Rattle.multiplier_search.specs.Single.{IsFirstBest, IsNoWorse, value_alone}
+
+-- the value of the multiplier at a due time with this lambda
+abbrev pub value_at : Table → List (Option ℕ) → (due lambda : ℕ) → ℤ
+value_at table fixed due lambda = value_alone table fixed (record { due = due; lambda = lambda })
+
+-- values rise with each lambda below this one
+abbrev pub RisesTo : Table → List (Option ℕ) → (due lambda : ℕ) → Type 0
+RisesTo table fixed due lambda = (k : ℕ) → k < lambda → value_at table fixed due k <ℤ value_at table fixed due (k + 1)
+
+-- this is the greatest lambda, or the value at the next one is no greater
+abbrev pub EndsRise : Table → List (Option ℕ) → (due lambda : ℕ) → Type 0
+EndsRise table fixed due lambda = (lambda ≡ LAMBDA_MOST) ⊎ (value_at table fixed due (lambda + 1) ≤ℤ value_at table fixed due lambda)
+
+-- the first best of these units' due times; none where there is none
+abbrev pub IsBestOf : Table → List (Option ℕ) → List ℕ → Option Multiplier → Type 0
+IsBestOf table fixed dues best = MatchOption best (dues ≡ []) (IsFirstBest table fixed dues)
+
+-- a multiplier is due earlier than another, or at the same time with a lesser lambda
+abbrev pub GoesFirst : Multiplier → (other : Multiplier) → Type 0
+GoesFirst a b = (a.due < b.due) ⊎ ((a.due ≡ b.due) × (a.lambda < b.lambda))
+
+-- the one of two multipliers that is no worse than the other
+abbrev pub BetterOf : Table → List (Option ℕ) → (a b better : Multiplier) → Type 0
+BetterOf table fixed a b better = ((better ≡ a) × IsNoWorse table fixed a b) ⊎ ((better ≡ b) × IsNoWorse table fixed b a)

@@ -1,0 +1,58 @@
+use crate::best_single;
+use dual_bounds::{Multiplier, nothing_fixed};
+use std::alloc::Global;
+use std::process::Abort;
+use std::test::Fail;
+use version_table::read_table;
+
+/// Asserts that the first best multiplier of a table's text is this one, or that there is none.
+fn assert_best(
+    rt: &impl Abort,
+    alloc: Global,
+    text: &[u8],
+    best: Option<Multiplier>,
+) -> Result<(), Fail> {
+    let table = read_table(alloc, text)?;
+    let fixed = nothing_fixed(alloc, &table)?;
+    let found = best_single(&table, &fixed)?;
+    assert_eq!(rt; found.as_slice().first().copied(), best);
+    Ok(())
+}
+
+#[test]
+fn of_three_units_the_first_bounds_most(rt: HostRuntime) -> Result<(), Fail> {
+    let text =
+        b"remux table 1\nslot 4000\nnodes 1\nevaluations 0\nprogram 112\nunit 27200 552:0 368:10\nunit 43200 552:0 368:4\nunit 47200 552:0 368:4\n";
+    let best = Multiplier {
+        due: 27_200,
+        lambda: 2_560,
+    };
+    assert_best(&rt, rt.alloc(), text, Some(best))
+}
+
+#[test]
+fn of_equal_values_the_least_due_time_and_lambda_are_taken(rt: HostRuntime) -> Result<(), Fail> {
+    let text =
+        b"remux table 1\nslot 40000\nnodes 1\nevaluations 0\nprogram 112\nunit 54000000 115000:0 92000:10\nprogram 112\nunit 53000000 184:0\n";
+    let best = Multiplier {
+        due: 53_000_000,
+        lambda: 0,
+    };
+    assert_best(&rt, rt.alloc(), text, Some(best))
+}
+
+#[test]
+fn without_room_the_greatest_lambda_is_taken(rt: HostRuntime) -> Result<(), Fail> {
+    let text = b"remux table 1\nslot 4000\nnodes 1\nevaluations 0\nprogram 112\nunit 20000 184:0\n";
+    let best = Multiplier {
+        due: 20_000,
+        lambda: 1_099_511_627_776,
+    };
+    assert_best(&rt, rt.alloc(), text, Some(best))
+}
+
+#[test]
+fn without_units_there_is_none(rt: HostRuntime) -> Result<(), Fail> {
+    let text = b"remux table 1\nslot 4000\nnodes 1\nevaluations 0\nprogram 112\n";
+    assert_best(&rt, rt.alloc(), text, None)
+}
