@@ -1,12 +1,9 @@
 -- Worked examples of what is written, computed from the definitions. Whole slices stand beside the laws of the grammar.
-use Rattle.std.proofs.Common.{◌≡◌, ◌++◌, ℕ, pos, negsuc, Some, None, List, [], ◌∷◌, replicate, true, false, refl}
+use Rattle.std.proofs.Common.{◌≡◌, ◌++◌, pos, negsuc, Some, None, [], ◌∷◌, replicate, true, false, refl}
 use Rattle.syntax_types.specs.declared.block.BlockWay.{BlockWay}
-use Rattle.syntax_types.specs.declared.block.Dc.{Dc}
-use Rattle.syntax_types.specs.declared.block.RunLevel.{RunLevel}
 use Rattle.syntax_types.specs.declared.macroblock.Macroblock.{Macroblock}
-use Rattle.syntax_types.specs.declared.macroblock.Vector.{Vector}
 use Rattle.syntax_types.specs.declared.picture.PicCoding.{PicCoding}
-use Rattle.prefix_codes.specs.declared.table_name.TableName.TheVariants.{Address, TypeI, TypeP, TypeB, Pattern, CoeffZero, CoeffFirst, CoeffOne}
+use Rattle.prefix_codes.specs.declared.table_name.TableName.TheVariants.{TypeI, TypeP, TypeB, Pattern, CoeffZero, CoeffFirst, CoeffOne}
 use Rattle.prefix_codes.specs.Entry.{printed_bits}
 use Rattle.picture_grammar.specs.Written.{code_for, written_increment, written_coefficient, written_dc, written_vector, written_macroblock}
 use Rattle.picture_laws.proofs.Computing.{answers}

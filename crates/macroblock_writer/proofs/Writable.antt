@@ -1,15 +1,14 @@
 -- Macroblocks that some bits spell can be written.
-use Rattle.std.proofs.Common.{◌≡◌, ℕ, zero, suc, ◌+◌, ◌-◌, ◌^◌, ◌<◌, ◌≤◌, ◌==◌, ◌&&◌, List, [], ◌∷◌, ◌++◌, Option, Some, None, IfSome, Bool, true, false, not, slice_index, slice_index_or, if◌then◌else◌, refl, sym, ap, subst, ◌∙◌, inl, inr, arith}
+use Rattle.std.proofs.Common.{◌≡◌, ℕ, zero, suc, ◌-◌, ◌^◌, ◌<◌, ◌==◌, List, [], ◌∷◌, Option, IfSome, Bool, true, false, not, slice_index, slice_index_or, sym, ap, subst, inl, inr, arith}
 use Rattle.std.specs.List.{AllByRecursion}
 use Rattle.std.proofs.lemmas.Bool.{cases_Bool}
 use Rattle.std.proofs.lemmas.Nat.{pow_pos}
 use Rattle.syntax_types.specs.declared.block.Block.{Block}
 use Rattle.syntax_types.specs.declared.block.BlockWay.{BlockWay}
-use Rattle.syntax_types.specs.declared.macroblock.TheConstants.{BLOCKS}
 use Rattle.syntax_types.specs.declared.macroblock.Macroblock.{Macroblock}
 use Rattle.syntax_types.specs.declared.macroblock.Vector.{Vector}
 use Rattle.syntax_types.specs.declared.picture.PicCoding.{PicCoding}
-use Rattle.picture_grammar.specs.Grammar.{Grammar, optional, when, repeated}
+use Rattle.picture_grammar.specs.Grammar.{optional, when, repeated}
 use Rattle.picture_grammar.specs.Refusal.Refusal.{BadType}
 use Rattle.picture_grammar.specs.Element.{Rule, rule, uimsbf}
 use Rattle.picture_grammar.specs.Block.{block}

@@ -1,5 +1,5 @@
 -- Slices that some bits spell can be written.
-use Rattle.std.proofs.Common.{◌≡◌, ℕ, ◌<◌, ◌^◌, List, [], ◌∷◌, ◌++◌, Option, Some, None, IfSome, Bool, true, false, refl, sym, ap, subst, ◌∙◌}
+use Rattle.std.proofs.Common.{◌≡◌, ℕ, ◌<◌, ◌^◌, List, [], ◌∷◌, ◌++◌, Option, IfSome, Bool, true, false, refl, sym, ap, subst}
 use Rattle.std.specs.List.{AllByRecursion}
 use Rattle.syntax_types.specs.declared.macroblock.Macroblock.{Macroblock}
 use Rattle.syntax_types.specs.declared.picture.PicCoding.{PicCoding}
@@ -8,7 +8,7 @@ use Rattle.syntax_types.specs.declared.slice.Slice.{Slice}
 use Rattle.syntax_types.specs.declared.slice.SliceInfo.{SliceInfo}
 use Rattle.picture_grammar.specs.Grammar.{optional}
 use Rattle.picture_grammar.specs.Macroblock.{quantiser_scale_code}
-use Rattle.picture_grammar.specs.Slice.{slice_extension, slice_info, slice, ClosesSlice}
+use Rattle.picture_grammar.specs.Slice.{slice_extension, slice, ClosesSlice}
 use Rattle.picture_grammar.specs.Written.{written_slice}
 use Rattle.picture_laws.specs.Spellable.{IsSpellable, HasSpellableMacroblocks}
 use Rattle.picture_laws.proofs.WrittenSlice.{macroblocks-of_slice, slice-written}

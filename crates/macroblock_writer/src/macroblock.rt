@@ -10,8 +10,8 @@ ghost use Rattle.macroblock_writer.specs.Private.Writing.{CanBeWritten, written_
 
 use crate::increment::write_increment;
 use crate::modes::{
-    has_concealment, has_dct_type, has_motion_type, is_coded, put_flag_where, put_where, type_symbol,
-    type_table, write_code_where,
+    has_concealment, has_dct_type, has_motion_type, is_coded, put_flag_where, put_where,
+    type_symbol, type_table, write_code_where,
 };
 use crate::vectors::write_vectors;
 use bit_cursor::BitWriter;

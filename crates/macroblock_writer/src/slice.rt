@@ -46,10 +46,7 @@ fn write_header_and_macroblocks<K: Sink>(
 }
 
 // The flag of the extension, and what stands behind it where it is set.
-fn write_info<K: Sink>(
-    to: &mut BitWriter<'_, K>,
-    info: &Option<SliceInfo>,
-) -> Result<(), Fault>
+fn write_info<K: Sink>(to: &mut BitWriter<'_, K>, info: &Option<SliceInfo>) -> Result<(), Fault>
     requires goes { is_stopped to.old ≡ false }
     requires reserved { IfSome info.now (λ info. info.reserved < 2 ^ 7) }
     ensures { Writes K.written K.faults K.keeps to.old to.new result (written_slice_info info.now) }

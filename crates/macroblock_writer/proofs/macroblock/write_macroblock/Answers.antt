@@ -1,4 +1,3 @@
-use Rattle.std.proofs.Common.{◌++◌}
 use Rattle.picture_laws.proofs.WrittenMacroblock.{anywhere-macroblock, parts-of_macroblock}
 use Rattle.macroblock_writer.proofs.Writable.{spelled_can_be_written}
 use Rattle.macroblock_writer.proofs.macroblock.write_macroblock.Goals as goal

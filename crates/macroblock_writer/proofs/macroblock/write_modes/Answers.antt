@@ -1,4 +1,4 @@
-use Rattle.std.proofs.Common.{Bool, ℕ, List, [], ◌∷◌, ◌++◌, ap, ap₂, if◌then◌else◌}
+use Rattle.std.proofs.Common.{Bool, ℕ, List, [], ◌∷◌, ap, ap₂, if◌then◌else◌}
 use Rattle.bit_lists.specs.Bits.{bits_of}
 use Rattle.bit_lists.specs.Fields.{flag}
 use Rattle.bit_cursor.proofs.Composed.{writes_then, writes_exit}

@@ -1,4 +1,4 @@
-use Rattle.std.proofs.Common.{Bool, ℕ, List, [], ◌∷◌, ◌++◌, ap, ap₂, sym, subst, if◌then◌else◌}
+use Rattle.std.proofs.Common.{Bool, ℕ, List, [], ◌∷◌, ap, sym, subst, if◌then◌else◌}
 use Rattle.std.specs.List.{flat_map, AllByRecursion}
 use Rattle.bit_cursor.proofs.Composed.{writes_then, writes_exit}
 use Rattle.block_coeffs.proofs.Writing.{writes_as}

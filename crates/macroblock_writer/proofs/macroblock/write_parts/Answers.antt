@@ -23,7 +23,7 @@ ten a b c d e f g h i j =
 -- in groups, and part for part
 grouped : (coding : PicCoding) (m : Macroblock) (n : ℕ) → n ≡ m.skipped_before → written_increment (n + 1) ++ written_modes coding m ++ written_motion coding m ++ written_coefficients coding m ≡ written_macroblock coding m
 unfolding written_macroblock
-grouped coding m n is = ap (λ (k : ℕ). written_increment (k + 1) ++ written_modes coding m ++ written_motion coding m ++ written_coefficients coding m) is 
+grouped coding m n is = ap (λ (k : ℕ). written_increment (k + 1) ++ written_modes coding m ++ written_motion coding m ++ written_coefficients coding m) is
     ∙ ten (written_increment (m.skipped_before + 1)) (code_for (type_table coding) (type_symbol m.kind)) (if has_motion_type coding m.kind then bits_of 2 m.motion_type else [])
     (if has_dct_type coding m.kind then flag m.field_dct ∷ [] else []) (if_any (bits_of 5) m.code) (flat_map (written_vector (f_codes coding 0)) m.forward.items)
     (flat_map (written_vector (f_codes coding 1)) m.backward.items) (if has_concealment coding m.kind then 1 ∷ [] else []) (if m.kind.pattern then code_for Pattern m.pattern else [])

@@ -1,4 +1,4 @@
-use Rattle.std.proofs.Common.{◌≡◌, ◌+◌, ◌*◌, ◌%◌, ◌^◌, ◌<◌, ◌≤◌, ℕ, Bool, true, false, List, [], ◌∷◌, ◌++◌, refl, ap, ap₂, sym, ◌∙◌, append_assoc, arith}
+use Rattle.std.proofs.Common.{◌≡◌, ◌+◌, ◌*◌, ◌%◌, ◌^◌, ◌<◌, ◌≤◌, ℕ, Bool, true, false, List, [], ◌∷◌, ◌++◌, refl, ap, ◌∙◌, arith}
 use mir.Val.{bool_byte}
 use Rattle.std.specs.List.{flat_map}
 use Rattle.bit_lists.specs.Bits.{bits_of}
@@ -7,7 +7,7 @@ use Rattle.bit_lists.proofs.JoinedLemmas.{bits_of-put}
 use Rattle.bit_cursor.proofs.Composed.{writes_then, writes_exit}
 use Rattle.block_coeffs.proofs.Writing.{writes_as, as_flag}
 use Rattle.syntax_types.specs.declared.slice.SliceInfo.{SliceInfo}
-use Rattle.macroblock_writer.specs.Private.Writing.{written_byte, written_extension}
+use Rattle.macroblock_writer.specs.Private.Writing.{written_byte}
 use Rattle.macroblock_writer.proofs.Writing.{writes_beyond}
 use Rattle.macroblock_writer.proofs.slice.write_extension.Goals as goal
 

@@ -1,4 +1,4 @@
-use Rattle.std.proofs.Common.{ℕ, ◌<◌, ◌^◌, ◌++◌, ap, sym, subst}
+use Rattle.std.proofs.Common.{ℕ, ◌<◌, ◌^◌, ap, sym, subst}
 use Rattle.std.specs.List.{flat_map, AllByRecursion}
 use Rattle.bit_lists.specs.Bits.{bits_of}
 use Rattle.bit_cursor.proofs.Composed.{writes_then, writes_exit}

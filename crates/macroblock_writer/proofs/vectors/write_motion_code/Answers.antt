@@ -1,4 +1,4 @@
-use Rattle.std.proofs.Common.{◌≡◌, ◌≢◌, ◌+◌, ◌-◌, ◌<◌, ◌^◌, ◌==◌, ℕ, ℤ, pos, w8, to_z, of_z, SFits, rules, List, [], ◌∷◌, ◌++◌, Bool, true, false, ◌&&◌, not, if◌then◌else◌, unsigned_abs, int_lt, nat_eq, refl, ap, ap₂, sym, ◌∙◌, inl, inr, arith}
+use Rattle.std.proofs.Common.{◌≡◌, ◌-◌, ◌==◌, ℕ, ℤ, pos, w8, to_z, of_z, SFits, rules, List, [], ◌∷◌, ◌++◌, Bool, ◌&&◌, not, if◌then◌else◌, unsigned_abs, int_lt, nat_eq, ap, ap₂, sym, ◌∙◌, inl, inr}
 use mir.Val.{bool_byte}
 use Rattle.std.proofs.lemmas.Int.{to_z-of_z}
 use Rattle.std.proofs.lemmas.Bool.{cases_Bool, eqb-true, ne_eqb}
@@ -8,7 +8,7 @@ use Rattle.bit_cursor.proofs.Composed.{writes_then, writes_exit}
 use Rattle.block_coeffs.proofs.Writing.{writes_as, as_flag, sign_bit}
 use Rattle.prefix_codes.specs.declared.table_name.TableName.TheVariants.{Motion}
 use Rattle.picture_grammar.specs.Motion.{has_residual}
-use Rattle.picture_grammar.specs.Written.{code_for, written_part}
+use Rattle.picture_grammar.specs.Written.{code_for}
 use Rattle.macroblock_writer.proofs.Writing.{writes_beyond}
 use Rattle.macroblock_writer.proofs.vectors.write_motion_code.Goals as goal
 

@@ -1,4 +1,4 @@
-use Rattle.std.proofs.Common.{◌≡◌, ◌++◌, ℕ, List, ℤ, pos, w8, to_z, of_z, SFits, rules, slice_index, slice_index_or, ap, ap₂, sym, ◌∙◌}
+use Rattle.std.proofs.Common.{◌++◌, ℕ, List, ℤ, pos, w8, SFits, rules, slice_index, slice_index_or, ap, ap₂, sym, ◌∙◌}
 use Rattle.std.proofs.lemmas.Int.{to_z-of_z}
 use Rattle.bit_cursor.proofs.Composed.{writes_then, writes_exit}
 use Rattle.block_coeffs.proofs.Writing.{writes_as}

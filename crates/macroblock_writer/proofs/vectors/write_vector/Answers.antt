@@ -1,6 +1,4 @@
-use Rattle.std.proofs.Common.{refl}
 use Rattle.bit_cursor.proofs.Composed.{writes_then, writes_exit}
-use Rattle.block_coeffs.proofs.Writing.{writes_as}
 use Rattle.picture_grammar.specs.Written.{written_vector_part}
 use Rattle.macroblock_writer.proofs.Writing.{writes_beyond}
 use Rattle.macroblock_writer.proofs.vectors.write_vector.Goals as goal

@@ -1,11 +1,11 @@
-use Rattle.std.proofs.Common.{◌≡◌, ◌+◌, ◌<◌, ◌≤◌, ℕ, List, [], ◌++◌, None, drop, length, refl, arith}
+use Rattle.std.proofs.Common.{◌+◌, ◌<◌, [], None, drop, length, refl, arith}
 use Rattle.std.specs.List.{flat_map}
 use Rattle.bit_cursor.proofs.Composed.{writes_none, writes_then, writes_exit}
 use Rattle.block_coeffs.proofs.Writing.{writes_as}
 use Rattle.syntax_types.specs.declared.macroblock.Vector.{Vector}
 use Rattle.picture_grammar.specs.Written.{written_vector}
 use Rattle.macroblock_writer.specs.Private.Writing.{CanStand}
-use Rattle.macroblock_writer.proofs.Writing.{one_more, none_more, this_one, other_ones}
+use Rattle.macroblock_writer.proofs.Writing.{one_more, other_ones}
 use Rattle.macroblock_writer.proofs.vectors.write_vectors.Goals as goal
 
 -- what stands past the end of the vectors
