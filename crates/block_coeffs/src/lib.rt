@@ -3,7 +3,7 @@
 //! `read_block` reads a block from a `BitReader`: it answers the block that the bits spell, or the kind and the place of
 //! their refusal, each exactly where the grammar of `picture_grammar` has it. Each coefficient is one look-up on one
 //! window of bits. `read_block_into` reads into a block that is lent. `write_block` puts a block's written spelling into
-//! a `BitWriter`, which is read back as that block. No call takes memory. Stands on `bit_cursor`,
+//! a `BitWriter`, which is read back as that block, and `write_code` the code of one symbol. No call takes memory. Stands on `bit_cursor`,
 //! `prefix_codes`, `syntax_types`, `picture_grammar` and `grammar_reading`.
 #![tactic(auto)]
 
@@ -19,7 +19,7 @@ mod written_codes;
 
 pub use fault::BlockFault;
 pub use reading::{read_block, read_block_into};
-pub use written::write_block;
+pub use written::{write_block, write_code};
 
 #[cfg(test)]
 mod tests;

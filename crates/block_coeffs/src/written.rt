@@ -40,12 +40,15 @@ fn write_dc<K: Sink>(to: &mut BitWriter<'_, K>, way: BlockWay, dc: Dc) -> Result
     to.put_bits(u32::from(dc.bits), u32::from(dc.size))
 }
 
-fn write_code<K: Sink>(
+/// Writes the code of a symbol that the table has (ISO/IEC 13818-2, 5.1, vlclbf), and nothing where it has none. A fault is
+/// the sink's own, and stops the writer.
+#[inline]
+pub fn write_code<K: Sink>(
     to: &mut BitWriter<'_, K>,
     table: TableName,
     symbol: u16,
 ) -> Result<(), Fault>
-    requires { is_stopped to.old ≡ false }
+    requires goes { is_stopped to.old ≡ false }
     ensures { Writes K.written K.faults K.keeps to.old to.new result (bits_for table symbol) }
 {
     let code = code_for(table, symbol);

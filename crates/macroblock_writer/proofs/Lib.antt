@@ -1,0 +1,4 @@
+pub mod Examples
+pub mod Writable
+pub mod WritableSlices
+pub mod Writing

@@ -1,0 +1,16 @@
+//! Macroblocks and slices are written (ISO/IEC 13818-2, 6.2.4 and 6.2.5).
+//!
+//! `write_macroblock` and `write_slice` put the written spelling of a part into a `BitWriter`, for each part that some bits
+//! spell by the grammar of `picture_grammar`: the tables' code wherever there is one, and nothing else. What is written is
+//! read as that part again. No call takes memory. Stands on `block_coeffs`, `bit_cursor`, `prefix_codes`, `syntax_types`
+//! and `picture_grammar`, with the laws of `picture_laws`.
+#![tactic(auto)]
+
+mod increment;
+mod macroblock;
+mod modes;
+mod slice;
+mod vectors;
+
+pub use macroblock::write_macroblock;
+pub use slice::write_slice;

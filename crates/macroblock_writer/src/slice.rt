@@ -1,0 +1,96 @@
+ghost use Rattle.std.specs.Prelude.{◌≡◌, ◌<◌, ◌^◌, ℕ, List, ◌++◌, false, IfSome};
+ghost use Rattle.std.specs.List.{flat_map, AllByRecursion};
+ghost use Rattle.bit_cursor.specs.BitWriter.{is_stopped, Writes};
+ghost use Rattle.picture_grammar.specs.Picture.{IsCoding};
+ghost use Rattle.picture_grammar.specs.Slice.{ClosesSlice, slice as slice_grammar};
+ghost use Rattle.picture_grammar.specs.Written.{written_macroblock, written_slice_info, written_slice};
+ghost use Rattle.picture_laws.specs.Spellable.{IsSpellable};
+ghost use Rattle.macroblock_writer.specs.Private.Writing.{CanBeWritten, SliceFits, written_byte, written_extension};
+
+use crate::macroblock::write_parts;
+use bit_cursor::BitWriter;
+use shelf_io::{Fault, Sink};
+use syntax_types::{Macroblock, PicCoding, SeqState, Slice, SliceInfo};
+
+/// Writes a slice that some bits spell in this picture (ISO/IEC 13818-2, 6.2.4), from behind its start code to the end of
+/// its last macroblock. A fault is the sink's own, and stops the writer.
+pub fn write_slice<K: Sink>(
+    to: &mut BitWriter<'_, K>,
+    seq: &SeqState,
+    coding: &PicCoding,
+    slice: &Slice,
+) -> Result<(), Fault>
+    requires goes { is_stopped to.old ≡ false }
+    requires coding { IsCoding coding.now }
+    requires spelled { (row : ℕ) × IsSpellable (slice_grammar seq.now coding.now row) slice.now }
+    ensures writes { Writes K.written K.faults K.keeps to.old to.new result (written_slice coding.now slice.now) }
+    ensures read_back { (row : ℕ) (following : List ℕ) → IsSpellable (slice_grammar seq.now coding.now row) slice.now → ClosesSlice following →
+        (slice_grammar seq.now coding.now row).Spells slice.now (written_slice coding.now slice.now ++ following) following }
+{
+    write_header_and_macroblocks(to, coding, slice)
+}
+
+fn write_header_and_macroblocks<K: Sink>(
+    to: &mut BitWriter<'_, K>,
+    coding: &PicCoding,
+    slice: &Slice,
+) -> Result<(), Fault>
+    requires goes { is_stopped to.old ≡ false }
+    requires coding { IsCoding coding.now }
+    requires fits { SliceFits coding.now slice.now }
+    ensures { Writes K.written K.faults K.keeps to.old to.new result (written_slice coding.now slice.now) }
+{
+    to.put_bits(u32::from(slice.code), 5)?;
+    write_info(to, &slice.info)?;
+    write_macroblocks(to, coding, slice.macroblocks.as_slice())
+}
+
+// The flag of the extension, and what stands behind it where it is set.
+fn write_info<K: Sink>(to: &mut BitWriter<'_, K>, info: &Option<SliceInfo>) -> Result<(), Fault>
+    requires goes { is_stopped to.old ≡ false }
+    requires reserved { IfSome info.now (λ info. info.reserved < 2 ^ 7) }
+    ensures { Writes K.written K.faults K.keeps to.old to.new result (written_slice_info info.now) }
+{
+    match info {
+        Some(info) => write_extension(to, info),
+        None => to.put_bits(0, 1),
+    }
+}
+
+// The flag, intra_slice and the reserved bits in one number, each byte of extra information behind a bit 1, and the bit 0.
+fn write_extension<K: Sink>(to: &mut BitWriter<'_, K>, info: &SliceInfo) -> Result<(), Fault>
+    requires goes { is_stopped to.old ≡ false }
+    requires reserved { info.now.reserved < 2 ^ 7 }
+    ensures { Writes K.written K.faults K.keeps to.old to.new result (written_extension info.now) }
+{
+    let flags = 2 + u32::from(info.intra_slice);
+    to.put_bits((flags << 7) + u32::from(info.reserved), 9)?;
+    write_information(to, info.bytes.as_slice())?;
+    to.put_bits(0, 1)
+}
+
+fn write_information<K: Sink>(to: &mut BitWriter<'_, K>, bytes: &[u8]) -> Result<(), Fault>
+    requires goes { is_stopped to.old ≡ false }
+    ensures { Writes K.written K.faults K.keeps to.old to.new result (flat_map written_byte bytes.now) }
+{
+    for byte in bytes {
+        to.put_bits((1 << 8) + u32::from(*byte), 9)?;
+    }
+    Ok(())
+}
+
+fn write_macroblocks<K: Sink>(
+    to: &mut BitWriter<'_, K>,
+    coding: &PicCoding,
+    macroblocks: &[Macroblock],
+) -> Result<(), Fault>
+    requires goes { is_stopped to.old ≡ false }
+    requires coding { IsCoding coding.now }
+    requires fit { AllByRecursion (CanBeWritten coding.now) macroblocks.now }
+    ensures { Writes K.written K.faults K.keeps to.old to.new result (flat_map (written_macroblock coding.now) macroblocks.now) }
+{
+    for macroblock in macroblocks {
+        write_parts(to, coding, macroblock)?;
+    }
+    Ok(())
+}
