@@ -1,0 +1,5 @@
+pub mod Addresses
+pub mod Codes
+pub mod Courses
+pub mod Lists
+pub mod Vectors
