@@ -1,7 +1,7 @@
 -- The address of a macroblock (ISO/IEC 13818-2, 6.3.17), and its type.
-use Rattle.std.proofs.Common.{◌≡◌, ◌==◌, ◌⊎◌, ◌+◌, ◌-◌, ◌*◌, ◌/◌, ◌%◌, ◌<◌, ◌≤◌, nat_eq, nat_le, ℕ, List, [], ◌∷◌, ◌++◌, length, Some, Ok, Err, Bool, true, false, if◌then◌else◌, refl, sym, ap, subst, ◌∙◌, inl, inr, arith}
+use Rattle.std.proofs.Common.{◌≡◌, ◌==◌, ◌+◌, ◌*◌, ◌<◌, nat_eq, nat_le, ℕ, List, [], ◌∷◌, ◌++◌, length, Some, Ok, Err, Bool, true, false, if◌then◌else◌, refl, sym, ap, subst, ◌∙◌, inl, inr, arith}
 use Rattle.std.specs.List.{list_all}
-use Rattle.std.proofs.lemmas.Bool.{cases_Bool, eqb-true, eq-eqb, ne_eqb, leb-true, leb-false, le-leb, lt-leb, and_parts}
+use Rattle.std.proofs.lemmas.Bool.{cases_Bool, eqb-true, ne_eqb, leb-true, leb-false, le-leb, lt-leb}
 use Rattle.std.proofs.lemmas.List.{length-append}
 use Rattle.shelf_io.specs.declared.source.Source.{Ghosts}
 use Rattle.bit_cursor.specs.declared.bit_reader.BitReader.{BitReader}
@@ -11,15 +11,13 @@ use Rattle.prefix_codes.specs.declared.table_name.TableName.TheVariants.{Address
 use Rattle.prefix_codes.specs.TableName.{entries, code_in}
 use Rattle.prefix_codes.proofs.Computing.{tables}
 use Rattle.prefix_codes.proofs.TableLemmas.{code_in-passes}
-use Rattle.syntax_types.specs.declared.macroblock.Kind.{Kind}
 use Rattle.syntax_types.specs.declared.picture.TheConstants.{I_PICTURE, P_PICTURE}
 use Rattle.syntax_types.specs.declared.picture.PicCoding.{PicCoding}
 use Rattle.picture_grammar.specs.Refusal.{Refusal}
 use Rattle.picture_grammar.specs.Refusal.Refusal.{BadAddress, BadType}
-use Rattle.picture_grammar.specs.Grammar.{Grammar, done, ◌>>=◌, many, Next}
+use Rattle.picture_grammar.specs.Grammar.{Grammar, done, many, Next}
 use Rattle.picture_grammar.specs.Grammar.Next.{more, last}
 use Rattle.picture_grammar.specs.Element.{Rule, rule, vlclbf}
-use Rattle.picture_grammar.specs.Exact.{IsLocal}
 use Rattle.picture_grammar.specs.Macroblock.{address_code, address_increment, macroblock_type, type_table, type_symbol}
 use Rattle.picture_grammar.proofs.LocalLaws.{local-bind, local-element, local-done}
 use Rattle.grammar_reading.specs.Symbol.{symbol_up_to}
@@ -27,7 +25,7 @@ use Rattle.grammar_reading.specs.Several.{several}
 use Rattle.grammar_reading.proofs.BitsRead.{StandsBefore, stands-before}
 use Rattle.grammar_reading.proofs.Several.{local-several}
 use Rattle.macroblock_reader.specs.declared.fault.SliceFault.{SliceFault}
-use Rattle.macroblock_reader.specs.Private.Answers.{Answers, answer_as, Listed}
+use Rattle.macroblock_reader.specs.Private.Answers.{Answers, Listed}
 use Rattle.macroblock_reader.specs.Private.Parts.{kind_by}
 use Rattle.macroblock_reader.proofs.Codes.{any-refuses, of-answer}
 use Rattle.macroblock_reader.proofs.Courses.{answers-as, answers-first}

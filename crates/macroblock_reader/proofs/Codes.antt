@@ -1,22 +1,20 @@
 -- Numbers, flags and codes of tables, as a reader of bits and windows gives them.
-use Rattle.std.proofs.Common.{◌≡◌, ◌==◌, ◌&&◌, ◌⊎◌, ◌+◌, ◌-◌, ◌*◌, ◌^◌, ◌<◌, ◌≤◌, nat_le, ℕ, zero, suc, ℤ, pos, negsuc, List, [], ◌∷◌, ◌++◌, length, replicate, take, drop, Option, Some, None, IfSome, Result, Ok, Err, Bool, true, false, not, refl, sym, ap, ap₂, subst, ◌∙◌, inl, inr, arith}
-use Rattle.std.specs.Option.{option_map}
+use Rattle.std.proofs.Common.{◌≡◌, ◌==◌, ◌+◌, ◌-◌, ◌*◌, ◌^◌, ◌<◌, ◌≤◌, nat_le, ℕ, List, [], ◌∷◌, ◌++◌, length, replicate, Option, Some, None, IfSome, Ok, Err, true, not, refl, sym, ap, subst, ◌∙◌, inl, inr, arith}
 use Rattle.std.specs.List.{list_all}
-use Rattle.std.proofs.lemmas.Bool.{and_from, and_parts, ne_eqb, eqb-true, leb-true, le-leb}
+use Rattle.std.proofs.lemmas.Bool.{and_from, and_parts, ne_eqb, leb-true}
 use Rattle.std.proofs.lemmas.List.{length-append, length-replicate}
 use Rattle.std.proofs.lemmas.Nat.{pow-add}
 use Rattle.shelf_io.specs.declared.source.Source.{Ghosts}
 use Rattle.shelf_io.specs.declared.fault.Fault.TheVariants.{Failed, Missing}
 use Rattle.shelf_io.specs.Counts.{Rose}
 use Rattle.bit_lists.specs.Bits.{IsPrefix, bits_of, number_of}
-use Rattle.bit_lists.specs.Fields.{flag}
 use Rattle.bit_lists.proofs.JoinedLemmas.{bits_of-put}
 use Rattle.bit_lists.proofs.NumberLemmas.{AreBits, AreBits-append, AreBits-zeros, number_of-below}
 use Rattle.bit_lists.proofs.PrefixLemmas.{IsPrefix-append, IsPrefix-through}
 use Rattle.picture_laws.proofs.Numbers.{bits_of-number_of}
 use Rattle.prefix_codes.specs.Entry.{Entry}
 use Rattle.prefix_codes.specs.declared.table_name.TableName.{TableName}
-use Rattle.prefix_codes.specs.declared.table_name.TableName.TheVariants.{Address, TypeI, TypeP, TypeB, Pattern, Motion}
+use Rattle.prefix_codes.specs.declared.table_name.TableName.TheVariants.{Pattern, Motion}
 use Rattle.prefix_codes.specs.TableName.{entries, code_in}
 use Rattle.prefix_codes.proofs.Computing.{tables}
 use Rattle.prefix_codes.proofs.TableLemmas.{code_in-passes}
@@ -27,16 +25,13 @@ use Rattle.bit_cursor.specs.Reading.{IsFront}
 use Rattle.bit_cursor.specs.BitReader.{bits_left, without_bits, place, faults_of, absences_of, KeepsSource}
 use Rattle.picture_grammar.specs.Refusal.{Refusal}
 use Rattle.picture_grammar.specs.Refusal.Refusal.{BadType, End}
-use Rattle.picture_grammar.specs.Grammar.{Grammar, optional}
-use Rattle.picture_grammar.specs.Element.{Rule, rule, passes, MayStand, Stands, Breaks, IsRefused, uimsbf, vlclbf, marker_bit}
+use Rattle.picture_grammar.specs.Grammar.{Grammar}
+use Rattle.picture_grammar.specs.Element.{Rule, rule, passes, MayStand, uimsbf, vlclbf}
 use Rattle.grammar_reading.specs.declared.window.Window.{Window}
-use Rattle.grammar_reading.specs.Window.{seen, ShowsFront}
+use Rattle.grammar_reading.specs.Window.{ShowsFront}
 use Rattle.grammar_reading.specs.Symbol.{symbol_up_to}
-use Rattle.grammar_reading.specs.BitsRead.{PlacedRefusal, AdvancesFrom, IsSpelled, ExplainsFrom, Explains, Advances}
-use Rattle.grammar_reading.proofs.ReadElements.{reads-number, explains-rule, explains-cut, explains-marker_cut}
-use Rattle.block_coeffs.proofs.Steps.{reads-found}
-use Rattle.picture_grammar.proofs.LocalLaws.{local-element}
-use Rattle.macroblock_reader.specs.declared.fault.SliceFault.{SliceFault}
+use Rattle.grammar_reading.specs.BitsRead.{IsSpelled, ExplainsFrom, Explains, Advances}
+use Rattle.grammar_reading.proofs.ReadElements.{reads-number, explains-rule, explains-cut}
 use Rattle.macroblock_reader.specs.declared.fault.SliceFault.TheVariants as fault
 use Rattle.macroblock_reader.specs.declared.why.Why.{Why}
 use Rattle.macroblock_reader.specs.declared.why.Why.TheVariants as why
@@ -85,10 +80,10 @@ not_zero-completed n front some are short =
       omega arith,
       and_from (not (number == 0)) true (ap not (ne_eqb number 0 (omega arith))) refl,
       subst (IsPrefix front) (sym put) (IsPrefix-through front filled (bits_of (n - 1) high ++ bits_of 1 1) (IsPrefix-append front zeros)
-      (subst (λ x. IsPrefix x (bits_of (n - 1) high ++ bits_of 1 1)) whole (IsPrefix-append (bits_of (n - 1) high) (bits_of 1 1)))),
+          (subst (λ x. IsPrefix x (bits_of (n - 1) high ++ bits_of 1 1)) whole (IsPrefix-append (bits_of (n - 1) high) (bits_of 1 1)))),
     ) where
-  pow-more : (k : ℕ) → 2 ^ (k + 1) ≡ 2 ^ k * 2
-  pow-more k = pow-add 2 k 1
+      pow-more : (k : ℕ) → 2 ^ (k + 1) ≡ 2 ^ k * 2
+      pow-more k = pow-add 2 k 1
 
 pub explains-not_zero_cut : (n : ℕ) (told : Option (List ℕ)) (at : ℕ) → 0 < n → IfSome told AreBits → IfSome told (λ bits. length bits < n)
     → IfSome told (λ bits. ExplainsFrom (uimsbf n (rule BadType (λ k. not (k == 0)) ∷ [])) (Some (record { refusal = End; at = at })) bits at)

@@ -1,5 +1,5 @@
 -- Answers of readers put together, as the parts of a grammar are.
-use Rattle.std.proofs.Common.{◌≡◌, ℕ, ◌+◌, ◌-◌, ◌^◌, ◌<◌, ◌≤◌, nat_lt, List, [], ◌++◌, length, Option, Some, None, IfSome, IfOk, IfErr, IsErrOf, Result, Ok, Err, Bool, true, if◌then◌else◌, refl, sym, ap, subst, ◌∙◌, inl, inr, arith, append_assoc}
+use Rattle.std.proofs.Common.{◌≡◌, ℕ, ◌+◌, ◌-◌, ◌^◌, ◌≤◌, nat_lt, List, [], ◌++◌, length, Option, Some, None, IfSome, IsErrOf, Result, Ok, Err, Bool, true, if◌then◌else◌, refl, sym, ap, subst, ◌∙◌, inl, inr, arith, append_assoc}
 use Rattle.std.specs.Option.{option_map}
 use Rattle.std.proofs.lemmas.Bool.{cases_Bool, ltb-true, ltb-false}
 use Rattle.std.proofs.lemmas.List.{length-append}
@@ -12,8 +12,8 @@ use Rattle.bit_cursor.proofs.Source.{keeps_then}
 use Rattle.picture_grammar.specs.Refusal.{Refusal}
 use Rattle.picture_grammar.specs.Grammar.{Grammar, done, ◌>>=◌, optional}
 use Rattle.picture_grammar.specs.Exact.{IsLocal}
-use Rattle.grammar_reading.specs.BitsRead.{PlacedRefusal, AdvancesFrom, IsSpelled, ReadsFrom, RefusedAt, ExplainsFrom, Reads, Explains, Advances}
-use Rattle.grammar_reading.proofs.BitsRead.{anywhere, advances-on, advances-none, reads-advances, reads-some, explains-first}
+use Rattle.grammar_reading.specs.BitsRead.{PlacedRefusal, AdvancesFrom, IsSpelled, ExplainsFrom, Reads, Explains, Advances}
+use Rattle.grammar_reading.proofs.BitsRead.{anywhere, advances-on, advances-none, reads-advances, explains-first}
 use Rattle.macroblock_reader.specs.declared.fault.SliceFault.{SliceFault}
 use Rattle.macroblock_reader.specs.declared.fault.SliceFault.TheVariants.{Outside, OutOfMemory}
 use Rattle.macroblock_reader.specs.SliceFault.{refusal_told}

@@ -3,3 +3,5 @@ pub mod Codes
 pub mod Courses
 pub mod Lists
 pub mod Vectors
+pub mod Sixes
+pub mod Macroblocks

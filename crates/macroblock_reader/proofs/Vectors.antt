@@ -1,7 +1,7 @@
 -- Motion vectors (ISO/IEC 13818-2, 6.2.5.2).
-use Rattle.std.proofs.Common.{◌≡◌, ◌==◌, ◌⊎◌, ◌+◌, ◌-◌, ◌^◌, ◌%◌, ◌<◌, ◌≤◌, ℕ, zero, suc, ℤ, pos, negsuc, unsigned_abs, min, not, List, [], ◌∷◌, ◌++◌, length, head, take, drop, Option, Some, None, IfSome, Result, Ok, Err, Bool, true, false, if◌then◌else◌, slice_index, refl, sym, ap, subst, ◌∙◌, inl, inr, arith}
+use Rattle.std.proofs.Common.{◌≡◌, ◌==◌, ◌⊎◌, ◌+◌, ◌-◌, ◌^◌, ◌%◌, ◌<◌, ◌≤◌, ℕ, zero, suc, ℤ, pos, negsuc, unsigned_abs, not, List, [], ◌∷◌, ◌++◌, length, take, drop, Option, Some, None, IfSome, Result, Ok, Err, Bool, true, false, if◌then◌else◌, slice_index, refl, sym, ap, subst, ◌∙◌, inl, inr, arith}
 use Rattle.std.specs.Option.{option_map}
-use Rattle.std.proofs.lemmas.List.{length-take, take-append-drop, take_all, take-take}
+use Rattle.std.proofs.lemmas.List.{take-append-drop, take_all, take-take}
 use Rattle.shelf_io.specs.declared.source.Source.{Ghosts}
 use Rattle.bit_lists.specs.Bits.{IsPrefix, bits_of, front_of}
 use Rattle.bit_cursor.specs.declared.bit_reader.BitReader.{BitReader}
@@ -11,30 +11,34 @@ use Rattle.prefix_codes.specs.declared.table_name.TableName.TheVariants.{Motion}
 use Rattle.syntax_types.specs.declared.macroblock.Vector.{Vector}
 use Rattle.picture_grammar.specs.Refusal.Refusal.{NoCode, End}
 use Rattle.picture_grammar.specs.Grammar.{Grammar, done, ◌>>=◌, optional, when, repeated}
-use Rattle.picture_grammar.specs.Element.{MayStand, Stands, element, vlclbf, uimsbf, one_flag}
+use Rattle.picture_grammar.specs.Element.{vlclbf, uimsbf, one_flag}
 use Rattle.picture_grammar.specs.Exact.{IsLocal}
 use Rattle.picture_grammar.specs.Block.{signed}
-use Rattle.picture_grammar.specs.Motion.{MotionFormat, Part, dmvector, dmvector_code, has_residual, vector_part, motion_vector, motion_vectors}
+use Rattle.picture_grammar.specs.Motion.{MotionFormat, Part, dmvector, dmvector_code, has_residual, vector_part, motion_vector}
 use Rattle.picture_grammar.proofs.LocalLaws.{local-bind, local-element, local-done, local-optional}
-use Rattle.picture_laws.proofs.LocalHeaders.{local-when}
+use Rattle.picture_laws.proofs.LocalHeaders.{local-when, local-uimsbf}
 use Rattle.grammar_reading.specs.BitsRead.{ExplainsFrom}
 use Rattle.grammar_reading.proofs.ReadElements.{reads-code}
 use Rattle.macroblock_reader.specs.declared.fault.SliceFault.{SliceFault}
 use Rattle.macroblock_reader.specs.declared.fault.SliceFault.TheVariants as fault
 use Rattle.macroblock_reader.specs.Private.Answers.{Answers, answer_as, Course}
-use Rattle.macroblock_reader.proofs.Courses.{advances-kept, answers-read, answers-told, answers-as, answers-first, course-start, course-on, course-err, course-end, course-last}
+use Rattle.macroblock_reader.proofs.Courses.{advances-kept, answers-read, answers-told, answers-as, answers-first, course-start, course-on, course-last}
 
 -- ---- dmvector
 
 abbrev DmvectorCode : ℤ → List ℕ → Type 0
 DmvectorCode value code = (unsigned_abs value ≤ 1) × (code ≡ dmvector_code value)
 
+abbrev lead : List ℕ → ℕ
+lead [] = 0
+lead (bit ∷ bits) = bit
+
 -- no bit, or one that isn't 0, is within a code
 not-whole : (bits : List ℕ) → (bits ≡ []) ⊎ (bits ≡ 1 ∷ []) → (value : ℤ) → IsPrefix (dmvector_code value) bits → ⊥
 not-whole bits (inl e) (pos zero) p = let q = ap length (subst (IsPrefix (0 ∷ [])) e p) in omega (arith, q)
 not-whole bits (inl e) (pos (suc n)) p = let q = ap length (subst (IsPrefix (1 ∷ 0 ∷ [])) e p) in omega (arith, q)
 not-whole bits (inl e) (negsuc n) p = let q = ap length (subst (IsPrefix (1 ∷ 1 ∷ [])) e p) in omega (arith, q)
-not-whole bits (inr e) (pos zero) p = let q = ap head (subst (IsPrefix (0 ∷ [])) e p) in omega (arith, q)
+not-whole bits (inr e) (pos zero) p = let q = ap lead (subst (IsPrefix (0 ∷ [])) e p) in omega (arith, q)
 not-whole bits (inr e) (pos (suc n)) p = let q = ap length (subst (IsPrefix (1 ∷ 0 ∷ [])) e p) in omega (arith, q)
 not-whole bits (inr e) (negsuc n) p = let q = ap length (subst (IsPrefix (1 ∷ 1 ∷ [])) e p) in omega (arith, q)
 
@@ -121,10 +125,10 @@ module _ (f_code : ℕ) (dual : Bool) where
   part_1 size = when (not (size == 0)) one_flag false >>= part_2 size
 
 pub local-residual : (f_code size : ℕ) → IsLocal (when (has_residual f_code size) (uimsbf (f_code - 1) []) 0)
-local-residual f_code size = local-when _ _ _ (local-element _ _ _)
+local-residual f_code size = local-when (has_residual f_code size) (uimsbf (f_code - 1) []) 0 (local-uimsbf (f_code - 1) [])
 
 pub local-sign : (size : ℕ) → IsLocal (when (not (size == 0)) one_flag false)
-local-sign size = local-when _ _ _ (local-element _ _ _)
+local-sign size = local-when (not (size == 0)) one_flag false (local-element _ _ _)
 
 pub local-difference : (dual : Bool) → IsLocal (when dual dmvector (pos 0))
 local-difference dual = local-when dual dmvector (pos 0) (local-element _ _ _)
@@ -166,6 +170,9 @@ local-vector codes format =
 
 -- ---- one or two of them
 
+local-one : {A : Type 0} (grammar : Grammar A) → IsLocal grammar → IsLocal (repeated 1 grammar)
+local-one grammar local = local-bind grammar (λ v. done [] >>= λ values. done (v ∷ values)) local (λ v. local-bind (done []) (λ values. done (v ∷ values)) (local-done _) (λ values. local-done _))
+
 module _ {A S : Type 0} {g : Ghosts S} (grammar : Grammar A) (old : BitReader S g) where
   pub one-read : {M : Type 0} (two : Bool) (value : A) (new : BitReader S g) → two ≡ false → Answers M grammar (Ok value) old new → Answers M (repeated (if two then 2 else 1) grammar) (Ok (value ∷ [])) old new
   one-read {M} two value new e a =
@@ -183,10 +190,7 @@ module _ {A S : Type 0} {g : Ghosts S} (grammar : Grammar A) (old : BitReader S 
       let second = answers-as grammar (repeated 1 grammar) (λ v. v ∷ []) middle new (λ v bits rest s. (v, rest, s, ([], rest, (refl, refl), (refl, refl)))) (λ bits left refusal r. inl r) result b in
       subst (λ (t : Bool). Answers M (repeated (if t then 2 else 1) grammar) (answer_as (λ other. value ∷ other ∷ []) result) old new) (sym e)
       (by_result keeps_on local result c second) where
-    by_result : (keeps_on : (x y z : S) → g.keeps x y → g.keeps y z → g.keeps x z) → IsLocal grammar → (result : Result A SliceFault) → Course (repeated 2 grammar) (repeated 1 grammar >>= λ values. done (value ∷ values)) old middle
-        → Answers M (repeated 1 grammar) (answer_as (λ v. v ∷ []) result) middle new → Answers M (repeated 2 grammar) (answer_as (λ other. value ∷ other ∷ []) result) old new
-    by_result keeps_on local (Ok other) c s = course-last keeps_on (repeated 1 grammar) (λ values. value ∷ values) (local-one local) (Ok (other ∷ [])) c s
-    by_result keeps_on local (Err refused) c s = course-last keeps_on (repeated 1 grammar) (λ values. value ∷ values) (local-one local) (Err refused) c s
-
-    local-one : IsLocal grammar → IsLocal (repeated 1 grammar)
-    local-one local = local-bind grammar (λ v. done [] >>= λ values. done (v ∷ values)) local (λ v. local-bind (done []) (λ values. done (v ∷ values)) (local-done _) (λ values. local-done _))
+        by_result : (keeps_on : (x y z : S) → g.keeps x y → g.keeps y z → g.keeps x z) → IsLocal grammar → (result : Result A SliceFault) → Course (repeated 2 grammar) (repeated 1 grammar >>= λ values. done (value ∷ values)) old middle
+            → Answers M (repeated 1 grammar) (answer_as (λ v. v ∷ []) result) middle new → Answers M (repeated 2 grammar) (answer_as (λ other. value ∷ other ∷ []) result) old new
+        by_result keeps_on local (Ok other) c s = course-last keeps_on (repeated 1 grammar) (λ values. value ∷ values) (local-one grammar local) (Ok (other ∷ [])) c s
+        by_result keeps_on local (Err refused) c s = course-last keeps_on (repeated 1 grammar) (λ values. value ∷ values) (local-one grammar local) (Err refused) c s

@@ -2,6 +2,8 @@
 use Rattle.std.specs.Prelude.{Option, Some, None}
 use Rattle.picture_grammar.specs.Refusal.{Refusal}
 use Rattle.grammar_reading.specs.BitsRead.{PlacedRefusal}
+use Rattle.block_coeffs.specs.declared.fault.BlockFault.{BlockFault}
+use Rattle.block_coeffs.specs.declared.fault.BlockFault.TheVariants as block
 use Rattle.macroblock_reader.specs.declared.fault.SliceFault.{SliceFault}
 use Rattle.macroblock_reader.specs.declared.fault.SliceFault.TheVariants.{NoCode, TooMany, BadEscape, BadType, BadAddress, BadPattern, End, Outside, OutOfMemory}
 
@@ -16,3 +18,11 @@ refusal_told (BadPattern at) = Some (record { refusal = Refusal.BadPattern; at =
 refusal_told (End at) = Some (record { refusal = Refusal.End; at = at })
 refusal_told (Outside fault) = None
 refusal_told OutOfMemory = None
+
+-- the same fault of a block, said of its macroblock
+abbrev pub fault_of_block : BlockFault → SliceFault
+fault_of_block (block.NoCode at) = NoCode at
+fault_of_block (block.TooMany at) = TooMany at
+fault_of_block (block.BadEscape at) = BadEscape at
+fault_of_block (block.End at) = End at
+fault_of_block (block.Outside outside) = Outside outside

@@ -16,10 +16,7 @@ use syntax_types::{I_PICTURE, PicCoding};
 const ESCAPE_INCREMENT: u16 = 33;
 
 /// How far the address rises, at most so far.
-pub fn read_increment<S: Source>(
-    from: &mut BitReader<'_, S>,
-    most: u16,
-) -> Result<u16, SliceFault>
+pub fn read_increment<S: Source>(from: &mut BitReader<'_, S>, most: u16) -> Result<u16, SliceFault>
     ensures answers { Answers ⊥ (address_increment most) result from.old from.new }
     ensures some { IfOk result (λ increment. 0 < increment) }
     ensures within { IfOk result (λ increment. increment ≤ most) }

@@ -49,7 +49,7 @@ impl From<Fault> for SliceFault {
 
 impl From<BlockFault> for SliceFault {
     ghost use Rattle.std.specs.Prelude.{◌≡◌};
-    ghost use Rattle.macroblock_reader.specs.Private.Why.{fault_of_block};
+    ghost use Rattle.macroblock_reader.specs.SliceFault.{fault_of_block};
 
     ghost from_gives = { λ fault slice_fault. slice_fault ≡ fault_of_block fault };
 

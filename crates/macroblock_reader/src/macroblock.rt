@@ -15,7 +15,7 @@ use crate::fault::SliceFault;
 use crate::modes::{
     has_concealment, has_dct_type, has_forward, read_kind, read_motion_type, read_pattern_where,
 };
-use crate::motion::{read_vectors_where, vector_format};
+use crate::motion::{BACKWARD_CODES, FORWARD_CODES, codes_of, read_vectors_where, vector_format};
 use arrayvec::ArrayVec;
 use bit_cursor::BitReader;
 use shelf_io::{Fault, Source};
@@ -91,8 +91,16 @@ fn read_parts<S: Source>(
     let format = vector_format(coding, motion_type);
     let concealed = has_concealment(coding, kind);
     let forward = has_forward(coding, kind);
-    read_vectors_where(from, forward, coding.f_code[0], format, &mut into.forward)?;
-    read_vectors_where(from, kind.backward, coding.f_code[1], format, &mut into.backward)?;
+    let forward_codes = codes_of(coding, FORWARD_CODES);
+    let backward_codes = codes_of(coding, BACKWARD_CODES);
+    read_vectors_where(from, forward, forward_codes, format, &mut into.forward)?;
+    read_vectors_where(
+        from,
+        kind.backward,
+        backward_codes,
+        format,
+        &mut into.backward,
+    )?;
     read_marker_where(from, concealed)?;
     let pattern = read_pattern_where(from, kind.pattern)?;
     read_blocks(from, coding, kind, pattern, &mut into.blocks)?;

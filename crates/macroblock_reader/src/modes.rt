@@ -15,7 +15,9 @@ use bit_cursor::BitReader;
 use prefix_codes::TableName;
 use prefix_codes::symbol::{BACKWARD, FORWARD, INTRA, PATTERN, QUANT};
 use shelf_io::Source;
-use syntax_types::{FIELD_BASED, FRAME_BASED, FRAME_PICTURE, I_PICTURE, Kind, P_PICTURE, PicCoding};
+use syntax_types::{
+    FIELD_BASED, FRAME_BASED, FRAME_PICTURE, I_PICTURE, Kind, P_PICTURE, PicCoding,
+};
 
 /// The greatest symbol of Tables B-2 to B-4.
 const TYPE_MOST: u16 = 31;

@@ -6,7 +6,8 @@ ghost use Rattle.picture_grammar.specs.Grammar.{optional, when};
 ghost use Rattle.picture_grammar.specs.Element.{uimsbf, one_flag, vlclbf};
 ghost use Rattle.picture_grammar.specs.Block.{signed as signed_size};
 ghost use Rattle.picture_grammar.specs.Motion.{dmvector, has_residual as residual_stands, vector_part, motion_vector, motion_vectors};
-ghost use Rattle.picture_grammar.specs.Macroblock.{motion_format as format_by_type};
+ghost use Rattle.picture_grammar.specs.Macroblock.{f_codes, motion_format as format_by_type};
+ghost use Rattle.picture_grammar.specs.Picture.{IsCoding};
 ghost use Rattle.macroblock_reader.specs.Private.Answers.{Answers, answer_as};
 ghost use Rattle.macroblock_reader.specs.Private.Parts.{part_of, format_of, differences_by};
 
@@ -25,6 +26,23 @@ const SIZE_MOST: u16 = 16;
 
 /// The most bits of dmvector (Table B-11).
 const DMVECTOR_BITS: u32 = 2;
+
+/// The place of the forward f_codes.
+pub const FORWARD_CODES: usize = 0;
+
+/// The place of the backward f_codes.
+pub const BACKWARD_CODES: usize = 1;
+
+/// The f_codes of a direction.
+pub fn codes_of(coding: &PicCoding, direction: usize) -> [u8; 2]
+    requires coding { IsCoding coding.now }
+    requires direction { direction < 2 }
+    ensures value { result ≡ f_codes coding.now direction }
+    ensures horizontal { slice_index result 0 < 2 ^ 4 }
+    ensures vertical { slice_index result 1 < 2 ^ 4 }
+{
+    coding.f_code[direction]
+}
 
 /// How the vectors of a direction are coded (Tables 6-17 and 6-18).
 #[derive(Clone, Copy)]
@@ -214,10 +232,7 @@ fn has_residual(f_code: u8, size: u8) -> bool
 }
 
 /// dmvector, where it stands, and 0 elsewhere.
-fn read_difference<S: Source>(
-    from: &mut BitReader<'_, S>,
-    dual: bool,
-) -> Result<i8, SliceFault>
+fn read_difference<S: Source>(from: &mut BitReader<'_, S>, dual: bool) -> Result<i8, SliceFault>
     ensures { Answers ⊥ (when dual dmvector (pos 0)) result from.old from.new }
 {
     if dual { read_dmvector(from) } else { Ok(0) }

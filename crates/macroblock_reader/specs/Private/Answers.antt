@@ -1,5 +1,5 @@
 -- The whole answer of a reader, and how far a grammar was read.
-use Rattle.std.specs.Prelude.{◌≡◌, ◌+◌, ◌≤◌, ℕ, List, ◌++◌, length, Option, Some, Result, Ok, Err, IfOk, IfErr, IsErrOf}
+use Rattle.std.specs.Prelude.{◌≡◌, ◌+◌, ℕ, List, ◌++◌, length, Result, Ok, Err, IfOk, IfErr, IsErrOf}
 use Rattle.std.specs.Option.{option_map}
 use Rattle.shelf_io.specs.declared.source.Source.{Ghosts}
 use Rattle.shelf_io.specs.declared.fault.Fault.TheVariants.{Failed, Missing}

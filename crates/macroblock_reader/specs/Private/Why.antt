@@ -2,8 +2,6 @@
 use Rattle.std.specs.Prelude.{ℕ}
 use Rattle.bit_cursor.specs.declared.fault.BitFault.{BitFault}
 use Rattle.bit_cursor.specs.declared.fault.BitFault.TheVariants as bits
-use Rattle.block_coeffs.specs.declared.fault.BlockFault.{BlockFault}
-use Rattle.block_coeffs.specs.declared.fault.BlockFault.TheVariants as block
 use Rattle.picture_grammar.specs.Refusal.{Refusal}
 use Rattle.macroblock_reader.specs.declared.fault.SliceFault.{SliceFault}
 use Rattle.macroblock_reader.specs.declared.fault.SliceFault.TheVariants as fault
@@ -30,11 +28,3 @@ fault_at why.End at = fault.End at
 abbrev pub fault_of_bits : BitFault → ℕ → SliceFault
 fault_of_bits bits.End at = fault.End at
 fault_of_bits (bits.Outside outside) at = fault.Outside outside
-
--- the fault of a reader of blocks
-abbrev pub fault_of_block : BlockFault → SliceFault
-fault_of_block (block.NoCode at) = fault.NoCode at
-fault_of_block (block.TooMany at) = fault.TooMany at
-fault_of_block (block.BadEscape at) = fault.BadEscape at
-fault_of_block (block.End at) = fault.End at
-fault_of_block (block.Outside outside) = fault.Outside outside

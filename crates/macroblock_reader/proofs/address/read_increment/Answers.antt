@@ -1,4 +1,4 @@
-use Rattle.std.proofs.Common.{rules, ◌≡◌, ◌+◌, ◌≤◌, ◌<◌, [], ◌∷◌, ◌++◌, length, Ok, Err, arith, refl}
+use Rattle.std.proofs.Common.{rules, [], ◌∷◌, ◌++◌, arith}
 use Rattle.std.proofs.lemmas.List.{length-append}
 use Rattle.std.proofs.lemmas.Result.{err_from_is_err_and}
 use Rattle.prefix_codes.specs.declared.table_name.TableName.TheVariants.{Address}

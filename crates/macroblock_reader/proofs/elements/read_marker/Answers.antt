@@ -1,4 +1,4 @@
-use Rattle.std.proofs.Common.{◌≡◌, ◌∙◌, refl, sym, ap, subst, Err}
+use Rattle.std.proofs.Common.{◌∙◌, refl, sym, ap, subst, Err}
 use Rattle.bit_cursor.specs.BitReader.{bits_left, place}
 use Rattle.picture_grammar.specs.Refusal.Refusal.{BadType}
 use Rattle.picture_grammar.specs.Element.{marker_bit}

@@ -1,4 +1,4 @@
-use Rattle.std.proofs.Common.{◌≡◌, ◌==◌, ◌∙◌, not, [], ◌∷◌, refl, sym, ap, subst, Err}
+use Rattle.std.proofs.Common.{◌==◌, ◌∙◌, not, [], ◌∷◌, sym, ap, subst, Err}
 use Rattle.bit_cursor.specs.BitReader.{bits_left, place}
 use Rattle.picture_grammar.specs.Refusal.Refusal.{BadType}
 use Rattle.picture_grammar.specs.Element.{uimsbf, rule}

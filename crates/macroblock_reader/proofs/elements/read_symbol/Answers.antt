@@ -1,8 +1,6 @@
 use Rattle.std.specs.Option.{option_map}
-use Rattle.std.proofs.Common.{rules, ◌≡◌, ◌+◌, drop, IfSome, sym, ap, subst, ◌∙◌, refl, Err}
+use Rattle.std.proofs.Common.{rules, ◌+◌, drop, IfSome, sym, ap, subst, ◌∙◌, Err}
 use Rattle.bit_cursor.specs.BitReader.{bits_left, place, KeepsSource}
-use Rattle.bit_cursor.proofs.Source.{keeps_then}
-use Rattle.picture_grammar.specs.Refusal.Refusal.{End}
 use Rattle.picture_grammar.proofs.LocalLaws.{local-element}
 use Rattle.grammar_reading.specs.Window.{ShowsFront}
 use Rattle.grammar_reading.specs.Symbol.{symbol_up_to}

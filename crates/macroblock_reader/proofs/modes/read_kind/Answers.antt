@@ -1,4 +1,4 @@
-use Rattle.std.proofs.Common.{Ok, Err, sym, ap, subst}
+use Rattle.std.proofs.Common.{Ok, Err, sym, subst}
 use Rattle.std.proofs.lemmas.Result.{err_from_is_err_and}
 use Rattle.picture_grammar.specs.Refusal.Refusal.{BadType}
 use Rattle.picture_grammar.specs.Macroblock.{macroblock_type, type_table}
