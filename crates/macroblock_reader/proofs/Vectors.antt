@@ -5,7 +5,7 @@ use Rattle.std.proofs.lemmas.List.{take-append-drop, take_all, take-take}
 use Rattle.shelf_io.specs.declared.source.Source.{Ghosts}
 use Rattle.bit_lists.specs.Bits.{IsPrefix, bits_of, front_of}
 use Rattle.bit_cursor.specs.declared.bit_reader.BitReader.{BitReader}
-use Rattle.bit_cursor.specs.Reading.{Shows}
+use Rattle.bit_cursor.specs.Shown.{IsWindow}
 use Rattle.bit_cursor.specs.BitReader.{bits_left, without_bits, place, KeepsSource}
 use Rattle.prefix_codes.specs.declared.table_name.TableName.TheVariants.{Motion}
 use Rattle.syntax_types.specs.declared.macroblock.Vector.{Vector}
@@ -68,8 +68,8 @@ empty : (bits : List ℕ) → length bits ≡ 0 → bits ≡ []
 empty [] e = refl
 empty (bit ∷ bits) e = absurd (omega (arith, e))
 
-module _ {S : Type 0} {g : Ghosts S} (shown known : ℕ) (old : BitReader S g) (shows : IfSome (bits_left old) (λ bits. Shows 2 bits shown known)) (below : shown < 4) (unknown : shown % 2 ^ (2 - known) ≡ 0) where
-  cut-at : (told : Option (List ℕ)) (at : ℕ) → IfSome told (λ bits. Shows 2 bits shown known) → (known ≡ 0) ⊎ ((known ≡ 1) × (2 ≤ shown)) → IfSome told (λ bits. ExplainsFrom dmvector (Some (record { refusal = End; at = at })) bits at)
+module _ {S : Type 0} {g : Ghosts S} (shown known : ℕ) (old : BitReader S g) (shows : IfSome (bits_left old) (λ bits. IsWindow 2 bits shown known)) (below : shown < 4) (unknown : shown % 2 ^ (2 - known) ≡ 0) where
+  cut-at : (told : Option (List ℕ)) (at : ℕ) → IfSome told (λ bits. IsWindow 2 bits shown known) → (known ≡ 0) ⊎ ((known ≡ 1) × (2 ≤ shown)) → IfSome told (λ bits. ExplainsFrom dmvector (Some (record { refusal = End; at = at })) bits at)
   cut-at None at s few = tt
   cut-at (Some bits) at s few = record { front = []; left = bits; split = refl; refused = dmvector-cut bits (few-bits few); moved = omega arith } where
     few-bits : (known ≡ 0) ⊎ ((known ≡ 1) × (2 ≤ shown)) → (bits ≡ []) ⊎ (bits ≡ 1 ∷ [])
@@ -85,7 +85,7 @@ module _ {S : Type 0} {g : Ghosts S} (shown known : ℕ) (old : BitReader S g) (
       subst (λ p. Answers ⊥ dmvector (Err (fault.End p)) old new) (sym is)
       (answers-told dmvector (fault.End (place old)) _ old new refl (cut-at (bits_left old) (place old) shows few) (advances-kept (bits_left old) (bits_left new) (place old) (place new) left moved) keeps)
 
-  front-at : (told : Option (List ℕ)) (n : ℕ) (code : List ℕ) → IfSome told (λ bits. Shows 2 bits shown known) → n ≤ known → known ≤ 2 → take n (bits_of 2 shown) ≡ code → told ≡ option_map (λ rest. code ++ rest) (without_bits told n)
+  front-at : (told : Option (List ℕ)) (n : ℕ) (code : List ℕ) → IfSome told (λ bits. IsWindow 2 bits shown known) → n ≤ known → known ≤ 2 → take n (bits_of 2 shown) ≡ code → told ≡ option_map (λ rest. code ++ rest) (without_bits told n)
   front-at None n code s le few is = refl
   front-at (Some bits) n code s le few is =
       let front : take n bits ≡ code = sym (take-take n 2 bits (omega arith)) ∙ ap (take n) (sym s.front) ∙ take-take n known (bits_of 2 shown) le ∙ is in

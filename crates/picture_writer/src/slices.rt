@@ -7,8 +7,8 @@ ghost use Rattle.picture_writer.specs.Private.Slices.{CanBeWritten, written_end,
 
 use bit_cursor::BitWriter;
 use macroblock_writer::write_slice;
-use picture_grammar::start_codes::{FIRST_SLICE, SEQUENCE_END};
 use shelf_io::{Fault, Sink};
+use stream_constants::start_codes::{FIRST_SLICE, SEQUENCE_END};
 use syntax_types::{PicCoding, SeqState, Slice};
 
 /// Writes slices, each behind its start code and up to a whole byte.

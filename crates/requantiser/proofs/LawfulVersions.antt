@@ -9,7 +9,7 @@ use Rattle.syntax_types.specs.declared.picture.PicCoding.{PicCoding}
 use Rattle.syntax_types.specs.declared.picture.Picture.{Picture}
 use Rattle.syntax_types.specs.declared.picture.SeqState.{SeqState}
 use Rattle.syntax_types.specs.declared.slice.Slice.{Slice}
-use Rattle.picture_grammar.specs.declared.start_codes.TheConstants.{FIRST_SLICE}
+use Rattle.stream_constants.specs.declared.start_codes.TheConstants.{FIRST_SLICE}
 use Rattle.picture_grammar.specs.Grammar.{with_bytes}
 use Rattle.picture_grammar.specs.Head.{head}
 use Rattle.picture_grammar.specs.Picture.{IsLawful, IsCovered, addresses, rows}

@@ -3,7 +3,7 @@ use Rattle.std.specs.Prelude.{◌≡◌, ◌+◌, ◌<◌, ◌^◌, ℕ, Bool, L
 use Rattle.syntax_types.specs.declared.picture.PicCoding.{PicCoding}
 use Rattle.syntax_types.specs.declared.picture.SeqState.{SeqState}
 use Rattle.syntax_types.specs.declared.slice.Slice.{Slice}
-use Rattle.picture_grammar.specs.declared.start_codes.TheConstants.{FIRST_SLICE, SEQUENCE_END}
+use Rattle.stream_constants.specs.declared.start_codes.TheConstants.{FIRST_SLICE, SEQUENCE_END}
 use Rattle.picture_grammar.specs.Slice.{slice}
 use Rattle.picture_grammar.specs.StartCode.{start_code_bits}
 use Rattle.picture_grammar.specs.Written.{to_whole_bytes, written_slice}
