@@ -10,6 +10,7 @@ pub mod ListedLaws
 pub mod MissLaws
 pub mod PeriodLaws
 pub mod Places
+pub mod Resume
 pub mod RuleEnd
 pub mod RuleExamples
 pub mod RuleFirst
@@ -27,6 +28,7 @@ pub mod RuleUnits
 pub mod RuleVideo
 pub mod RuleWork
 pub mod RunLaws
+pub mod SameHeads
 pub mod SendLaws
 pub mod SentLaws
 pub mod SlotLaws
