@@ -1,6 +1,9 @@
 pub mod AfterLaws
 pub mod AudioPackets
 pub mod BringLaws
+pub mod CheckpointLaws
+pub mod FrontPackets
+pub mod KeptRunLaws
 pub mod FirstStates
 pub mod HeadLaws
 pub mod IdleLaws

@@ -1,5 +1,5 @@
 -- What the states after a row tell of misses, said of the rows; and the states before the first slot.
-use Rattle.std.proofs.Common.{◌≡◌, ℕ, ◌+◌, ◌-◌, ◌*◌, ◌<◌, ◌≤◌, ◌⊎◌, Bool, false, cond, All, List, [], ◌∷◌, ◌++◌, length, map, count_by, slice_get, Some, None, refl, sym, ap, subst, ◌∙◌, inl, inr, zero-le, le_refl, add-zero, mul-le-mul_left, arith}
+use Rattle.std.proofs.Common.{◌≡◌, ℕ, ◌+◌, ◌-◌, ◌*◌, ◌<◌, ◌≤◌, ◌⊎◌, Bool, false, cond, All, List, [], ◌∷◌, ◌++◌, length, map, count_by, slice_get, Some, None, refl, sym, ap, subst, ◌∙◌, inl, inr, zero-le, le_refl, mul-le-mul_left, arith}
 use Rattle.std.proofs.Math.Nat.{zero-sub}
 use Rattle.std.proofs.lemmas.List.{length_push, same_from_push}
 use Rattle.std.proofs.lemmas.List.Sums.{sum_by-append}
@@ -133,8 +133,9 @@ module _ (table : Table) (choice : List ℕ) (rows : List Row) (row : Row) (stat
 carries_cases : (queues : List Queue) (rows : List Row) (row : Row) (stream : ℕ) (kind : QueueKind) (packet : QueuedPacket) → is_of stream row ≡ false
     → IsHead queues rows stream kind packet → AllSent queues (rows ++ row ∷ []) → ⊥
 carries_cases queues rows row stream kind packet other head sent =
-    let same : count_by (is_of stream) (rows ++ row ∷ []) ≡ count_by (is_of stream) rows =
-    sum_by-append (λ r. cond (is_of stream r) 1 0) rows (row ∷ []) ∙ ap (λ (b : Bool). count_by (is_of stream) rows + (cond b 1 0 + 0)) other ∙ add-zero _ in
+    let own : count_by (is_of stream) (row ∷ []) ≡ count_by {X = Row} (λ _. false) (row ∷ []) = ap (λ (b : Bool). count_by {X = Row} (λ _. b) (row ∷ [])) other in
+    let sums = sum_by-append (λ r. cond (is_of stream r) 1 0) rows (row ∷ []) in
+    let same : count_by (is_of stream) (rows ++ row ∷ []) ≡ count_by (is_of stream) rows = omega (arith, own, sums) in
     sent stream kind packet (head.0, head.1, ap (λ k. slice_get head.0 k) same ∙ head.2)
 
 pub carries_last : (table : Table) (choice : List ℕ) (rows : List Row) (row : Row) (states : List QueueState) → HasRun table choice rows states

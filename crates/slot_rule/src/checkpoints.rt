@@ -1,4 +1,4 @@
-ghost use Rattle.std.specs.Prelude.{◌≡◌, ℕ, ◌+◌, ◌<◌, ◌≤◌, [], ◌∷◌, ◌++◌, Some, length, slice_get, vec_len, vec_capacity};
+ghost use Rattle.std.specs.Prelude.{◌≡◌, ℕ, ◌+◌, ◌<◌, ◌≤◌, ◌⊎◌, [], ◌∷◌, ◌++◌, Some, length, slice_get, vec_len, vec_capacity};
 ghost use Rattle.version_table.specs.Table.{IsValidTable};
 ghost use Rattle.version_table.specs.Choice.{Fits};
 ghost use Rattle.slot_rule.specs.declared.run_state.RunState.{RunState};
@@ -7,7 +7,8 @@ ghost use Rattle.slot_rule.specs.Private.Checkpoints.{AreCheckpoints, AreWithin,
 ghost use Rattle.slot_rule.specs.Private.Runs.{IsFirstRun};
 
 use crate::after::After;
-use crate::fronts::{Front, are_within};
+use crate::fronts::{Front, are_within, fronts_of};
+use crate::heads::due_head;
 use crate::run_state::RunState;
 use crate::sent::Miss;
 use crate::slots::run_slots;
@@ -18,8 +19,34 @@ pub const SLOTS_APART: u32 = 4_096;
 /// Checkpoints of a run, at most: no packet is due in a slot after 1,024 times as many.
 pub const CHECKPOINTS_MOST: usize = 1_024;
 
+/// Leaves those checkpoints of one choice that stand under another one too, from the first on; `first` is what is kept
+/// before the first slot under the other.
+pub fn keep_same(
+    table: &Table,
+    old: &[u8],
+    new: &Choice,
+    first: &RunState,
+    checkpoints: &mut Vec<RunState>,
+)
+    requires valid { IsValidTable table.now }
+    requires fits { Fits table.now new.now }
+    requires fitted { (checkpoints.old.items ≡ []) ⊎ Fits table.now old.now }
+    requires first { IsFirstRun table.now new.now first.now }
+    requires are { AreCheckpoints table.now old.now checkpoints.old.items }
+    ensures are { AreCheckpoints table.now new.now checkpoints.new.items }
+    ensures fewer { vec_len checkpoints.new ≤ vec_len checkpoints.old }
+    ensures room { vec_capacity checkpoints.new ≡ vec_capacity checkpoints.old }
+{
+    if checkpoints.is_empty() {
+        return;
+    }
+    let fronts = fronts_of(table, old, new.as_slice(), first.states.as_slice());
+    let right = still_right(checkpoints.as_slice(), fronts.as_slice());
+    checkpoints.truncate(right);
+}
+
 /// How many of the checkpoints, from the first on, stand under another choice, where the queues have these fronts.
-pub fn still_right(checkpoints: &[RunState], fronts: &[Front]) -> usize
+fn still_right(checkpoints: &[RunState], fronts: &[Front]) -> usize
     ensures within { result ≤ length checkpoints.now }
     ensures right { (k : ℕ) (run : RunState) → k < result → slice_get checkpoints.now k ≡ Some run → AreWithin fronts.now run.states.items }
 {
@@ -51,13 +78,16 @@ pub fn run_on(
     ensures are { AreCheckpoints table.now choice.now checkpoints.new.items }
     ensures counts { CountsCheckpoints table.now choice.now (length checkpoints.new.items) }
 {
-    if checkpoints.is_empty() {
-        if first.turns.is_empty() {
-            return None;
-        }
-        keep(checkpoints, first);
+    if !checkpoints.is_empty() {
+        return run_from_last(table, choice, checkpoints);
     }
-    run_from_last(table, choice, checkpoints)
+    match due_head(first.states.as_slice(), first.turns.as_slice()) {
+        None => None,
+        Some(_) => {
+            keep(checkpoints, first);
+            run_from_last(table, choice, checkpoints)
+        }
+    }
 }
 
 /// Runs a choice from its last checkpoint on, and adds the checkpoints that it comes to.

@@ -5,8 +5,7 @@ ghost use Rattle.slot_rule.specs.declared.sent.Miss.{Miss};
 ghost use Rattle.slot_rule.specs.Schedule.{IsFirstMiss, IsScheduled};
 ghost use Rattle.slot_rule.specs.SlotRun.{IsCheckpointCount, IsKeptWork, slots_apart, streams_of};
 
-use crate::checkpoints::{CHECKPOINTS_MOST, SLOTS_APART, run_on, still_right};
-use crate::fronts::fronts_of;
+use crate::checkpoints::{CHECKPOINTS_MOST, SLOTS_APART, keep_same, run_on};
 use crate::run_state::RunState;
 use crate::sent::Miss;
 use list_types::OutOfMemory;
@@ -64,16 +63,13 @@ impl<'a> SlotRun<'a> {
     {
         let table = self.table;
         let first = RunState::new(table, choice);
-        if self.has_run {
-            let fronts = fronts_of(
-                table,
-                self.choice.as_slice(),
-                choice.as_slice(),
-                first.states.as_slice(),
-            );
-            let right = still_right(self.checkpoints.as_slice(), fronts.as_slice());
-            self.checkpoints.truncate(right);
-        }
+        keep_same(
+            table,
+            self.choice.as_slice(),
+            choice,
+            &first,
+            &mut self.checkpoints,
+        );
         keep_choice(&mut self.choice, choice);
         self.has_run = true;
         run_on(table, choice, first, &mut self.checkpoints)

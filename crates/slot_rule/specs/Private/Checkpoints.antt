@@ -1,5 +1,5 @@
 -- What is kept at checkpoints, and what of it stands under another choice.
-use Rattle.std.specs.Prelude.{◌≡◌, ℕ, ◌+◌, ◌*◌, ◌<◌, ◌≤◌, List, length, take, drop, slice_get, Option, Some, None, true, ◌⊎◌}
+use Rattle.std.specs.Prelude.{◌≡◌, ℕ, ◌+◌, ◌*◌, ◌<◌, ◌≤◌, List, length, take, drop, slice_get, Option, Some, MatchOption, true, ◌⊎◌}
 use Rattle.version_table.specs.declared.table.Table.{Table}
 use Rattle.slot_rule.specs.declared.sent.Miss.{Miss}
 use Rattle.slot_rule.specs.declared.fronts.Front.{Front}
@@ -24,8 +24,7 @@ AreCheckpoints table choice checkpoints = (k : ℕ) (run : RunState) → slice_g
 
 -- the answer of a run
 abbrev pub TellsMiss : Table → List ℕ → Option Miss → Type 0
-TellsMiss table choice None = IsScheduled table choice
-TellsMiss table choice (Some miss) = IsFirstMiss table choice miss
+TellsMiss table choice result = MatchOption result (IsScheduled table choice) (IsFirstMiss table choice)
 
 -- the units of a front have the same versions under both choices; it is whole where it has all units of its queue
 abbrev pub IsFrontOf : Table → (choice choice' : List ℕ) → QueueItems → (same : ℕ) → Type 0

@@ -20,5 +20,5 @@ pub record KeepsRun (run : Inside) : Type 0 where
   pub few : length run.checkpoints.items ≤ CHECKPOINTS_MOST
   pub fresh : run.has_run ≡ false → run.checkpoints.items ≡ []
   pub fits : run.has_run ≡ true → Fits run.table.now run.choice.items
-  pub are : run.has_run ≡ true → AreCheckpoints run.table.now run.choice.items run.checkpoints.items
+  pub are : AreCheckpoints run.table.now run.choice.items run.checkpoints.items
   pub counts : run.has_run ≡ true → CountsCheckpoints run.table.now run.choice.items (length run.checkpoints.items)
