@@ -40,9 +40,12 @@ module _ (table : Table) (old new : List ℕ) (first : RunState) (fronts : List 
       → (front : Front) × (before : QueueState) × (slice_get fronts stream ≡ Some front) × (slice_get first.states.items stream ≡ Some before)
   front_at stream state there =
       let here = slice_get_within run.states.items stream state there in
-      let d : Front = record { items = state.items; same = 0; is_whole = false } in
-      (get_or fronts stream d, get_or first.states.items stream state,
-        slice_get-get_or fronts stream d (omega (arith, here, within.one_each)), slice_get-get_or first.states.items stream state (omega (arith, here, within.one_each, are.one_each)))
+      let d : Front = record { items = state.items; same = 0; is_whole = false } in (
+        get_or fronts stream d,
+        get_or first.states.items stream state,
+        slice_get-get_or fronts stream d (omega (arith, here, within.one_each)),
+        slice_get-get_or first.states.items stream state (omega (arith, here, within.one_each, are.one_each)),
+      )
 
   same_places : (stream : ℕ) (before state : QueueState) → slice_get first.states.items stream ≡ Some before → slice_get run.states.items stream ≡ Some state → state.items ≡ before.items
   same_places stream before state there there' =

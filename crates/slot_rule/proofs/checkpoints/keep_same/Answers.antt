@@ -31,7 +31,7 @@ returns-clause-are c =
     subst (λ (list : List QueueState). AreFronts table old new list fronts) c.as_slice-2.ensures.value
     (subst (λ (list : List ℕ). AreFronts table old list c.as_slice-2.result.now fronts) c.as_slice.ensures c.fronts_of-fronts.ensures) in
     λ k run there.
-        let at = take_there c.still_right-right.result c.args.checkpoints.now.items k run (ap (λ (list : List RunState). slice_get list k) (sym c.truncate.ensures.items) ∙ there) in
-        let within : AreWithin c.fronts_of-fronts.result.items run.states.items = subst (λ (list : List Front). AreWithin list run.states.items) c.as_slice-4.ensures.value
-        (c.still_right-right.ensures.right k run at.0 (ap (λ (list : List RunState). slice_get list k) c.as_slice-3.ensures.value ∙ at.1)) in
-        IsCheckpoint-under table old new c.args.first.now fronts c.requires.first are (slots_apart * k) run within (c.requires.are k run at.1)
+    let at = take_there c.still_right-right.result c.args.checkpoints.now.items k run (ap (λ (list : List RunState). slice_get list k) (sym c.truncate.ensures.items) ∙ there) in
+    let within : AreWithin c.fronts_of-fronts.result.items run.states.items = subst (λ (list : List Front). AreWithin list run.states.items) c.as_slice-4.ensures.value
+    (c.still_right-right.ensures.right k run at.0 (ap (λ (list : List RunState). slice_get list k) c.as_slice-3.ensures.value ∙ at.1)) in
+    IsCheckpoint-under table old new c.args.first.now fronts c.requires.first are (slots_apart * k) run within (c.requires.are k run at.1)

@@ -36,8 +36,7 @@ returns-clause-none c count is =
     let size = ap (λ (list : List RunState). length list) c.as_slice.ensures.value in
     let size' = ap (λ (list : List QueueState). length list) c.as_slice-2.ensures.value in
     let within = l.3.0 in
-    let within' = c.in_ok-state.ensures.lookup.3.0 in
-    (
+    let within' = c.in_ok-state.ensures.lookup.3.0 in (
       (λ never. absurd (true≢false never)),
       (λ past. absurd (elim past as (λ _. ⊥) [
         | inl few ↦ (let e : ⊥ = omega (arith, many, size, within, few) in e)
