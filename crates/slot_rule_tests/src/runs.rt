@@ -29,7 +29,7 @@ fn assert_run(
     let mut other = SlotRun::new(alloc, table)?;
     assert_eq!(rt; other.run(&choice), miss);
     assert_eq!(rt; run.checkpoints(), other.checkpoints());
-    for checkpoint in 0..other.checkpoints() + 1 {
+    for checkpoint in 0..=other.checkpoints() {
         for stream in 0..4 {
             assert_eq!(rt;
                 run.work(checkpoint, stream),
