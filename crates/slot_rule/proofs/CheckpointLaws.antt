@@ -7,19 +7,17 @@ use Rattle.version_table.specs.declared.limits.TheConstants.{TIME_SLOTS_MOST}
 use Rattle.version_table.specs.declared.table.Table.{Table}
 use Rattle.version_table.specs.Table.{IsValidTable}
 use Rattle.version_table.specs.Choice.{Fits}
-use Rattle.slot_rule.specs.declared.checkpoints.TheConstants.{CHECKPOINTS_MOST}
 use Rattle.slot_rule.specs.declared.queue_state.QueueState.{QueueState}
 use Rattle.slot_rule.specs.declared.run_state.RunState.{RunState}
 use Rattle.slot_rule.specs.declared.states.TheConstants.{STREAMS_MOST}
 use Rattle.slot_rule.specs.declared.sent.Miss.{Miss}
 use Rattle.slot_rule.specs.declared.turns.Turn.{Turn}
-use Rattle.slot_rule.specs.Buffers.{Row}
-use Rattle.slot_rule.specs.Queues.{QueueKind, QueuedPacket, Queue, queues_of}
-use Rattle.slot_rule.specs.Schedule.{AllSent, IsFirstMiss, IsHead, IsSchedule, IsScheduled}
-use Rattle.slot_rule.specs.SlotRun.{CountsCheckpoints, HasNoPacket, IsLastCarried, slots_apart}
+use Rattle.slot_rule.specs.Queues.{QueuedPacket, Queue, queues_of}
+use Rattle.slot_rule.specs.Schedule.{AllSent, IsFirstMiss, IsScheduled}
+use Rattle.slot_rule.specs.SlotRun.{CountsCheckpoints, IsLastCarried, slots_apart}
 use Rattle.slot_rule.specs.Private.Checkpoints.{AreCheckpoints, IsCheckpoint}
 use Rattle.slot_rule.specs.Private.Heads.{IsFirst, IsFirstHead, NoneGoneBefore, Passes}
-use Rattle.slot_rule.specs.Private.Runs.{EndsWithin, IsFirstRun, IsRun, Reached, Waits}
+use Rattle.slot_rule.specs.Private.Runs.{EndsWithin, IsFirstRun, Reached, Waits}
 use Rattle.slot_rule.specs.Private.Slots.{HasRun}
 use Rattle.slot_rule.specs.Private.States.{queue_of}
 use Rattle.slot_rule.specs.Private.Turns.{AreTurns}

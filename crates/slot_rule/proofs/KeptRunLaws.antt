@@ -1,8 +1,8 @@
 -- A kept run under another choice, the number of its checkpoints, and the work that they tell.
-use Rattle.std.proofs.Common.{◌≡◌, ℕ, suc, ◌+◌, ◌-◌, ◌*◌, ◌/◌, ◌<◌, ◌≤◌, ◌⊎◌, Bool, true, false, All, List, [], ◌∷◌, ◌++◌, length, map, get_or, take, drop, count_by, slice_get, Option, Some, None, if◌then◌else◌, refl, sym, ap, ap₂, subst, ◌∙◌, inl, inr, zero-le, arith}
+use Rattle.std.proofs.Common.{◌≡◌, ℕ, ◌+◌, ◌-◌, ◌*◌, ◌/◌, ◌<◌, ◌≤◌, Bool, true, false, List, [], ◌∷◌, ◌++◌, length, map, get_or, take, drop, count_by, slice_get, Some, None, if◌then◌else◌, refl, sym, ap, ap₂, subst, ◌∙◌, inl, inr, zero-le, arith}
 use Rattle.std.proofs.lemmas.Bool.{cases_lt}
 use Rattle.std.proofs.lemmas.List.{length-map, length-take-le, take_more, same_from_push}
-use Rattle.std.proofs.lemmas.Option.{none-some, same_Some, slice_get_cases, slice_get_past, slice_get_within, slice_get-get_or, get_or_from_slice_get}
+use Rattle.std.proofs.lemmas.Option.{none-some, slice_get_past, slice_get_within, slice_get-get_or, get_or_from_slice_get}
 use Rattle.version_table.specs.declared.table.Table.{Table}
 use Rattle.stream_constants.specs.declared.clock.TheConstants.{SUBTICKS_PER_TICK}
 use Rattle.slot_rule.specs.declared.fronts.Front.{Front}
@@ -13,22 +13,22 @@ use Rattle.slot_rule.specs.declared.sent.Miss.{Miss}
 use Rattle.slot_rule.specs.declared.slot_run.SlotRun.TheInside.{Inside}
 use Rattle.slot_rule.specs.Buffers.{Row, Reserved, Carries, Empty, is_of, mb_work, tb_work}
 use Rattle.slot_rule.specs.Queues.{QueueKind, Video, Audio, QueuedPacket, Queue, queues_of}
-use Rattle.slot_rule.specs.Schedule.{IsFirstMiss, IsHead, IsSchedule, Misses, NoMiss}
+use Rattle.slot_rule.specs.Schedule.{IsHead, IsSchedule, Misses}
 use Rattle.slot_rule.specs.SlotList.{CarriesPacket}
 use Rattle.slot_rule.specs.SlotRun.{CountsCheckpoints, CountsKept, HasNoPacket, IsCheckpointCount, IsKeptWork, IsLastCarried, IsLastSlot, IsWorkAt, slots_apart, streams_of, work_of}
-use Rattle.slot_rule.specs.Private.Checkpoints.{AreCheckpoints, AreFronts, AreWithin, IsCheckpoint}
+use Rattle.slot_rule.specs.Private.Checkpoints.{AreFronts, AreWithin, IsCheckpoint}
 use Rattle.slot_rule.specs.Private.QueueItems.{IsPlace}
 use Rattle.slot_rule.specs.Private.QueueState.{work_of_kind, work_of_state}
 use Rattle.slot_rule.specs.Private.Runs.{IsFirstRun, Reached}
 use Rattle.slot_rule.specs.Private.SlotRun.{KeepsRun, kept_run}
-use Rattle.slot_rule.specs.Private.Slots.{HasRun, subtick_after}
+use Rattle.slot_rule.specs.Private.Slots.{subtick_after}
 use Rattle.slot_rule.specs.Private.States.{IsFirstState, queue_of}
 use Rattle.slot_rule.proofs.BringLaws.{same_queues}
 use Rattle.slot_rule.proofs.FrontPackets.{SameSoFar-within}
 use Rattle.slot_rule.proofs.Places.{All-at_place}
 use Rattle.slot_rule.proofs.Resume.{HasRun-same, SameSoFar, heads_same}
 use Rattle.slot_rule.proofs.RuleQueues.{length-queues_from}
-use Rattle.slot_rule.proofs.RuleRows.{FollowRule-at, FollowRule-last, FollowRule-take, IsNext}
+use Rattle.slot_rule.proofs.RuleRows.{FollowRule-at, FollowRule-take, IsNext}
 use Rattle.slot_rule.proofs.RuleUnique.{FollowRule-longer, FollowRule-unique, IsFirstMiss-same, IsHead-before, IsScheduled-no_miss}
 use Rattle.slot_rule.proofs.SameHeads.{NoMiss-same}
 use Rattle.slot_rule.proofs.TrackLaws.{stream_there}

@@ -1,5 +1,5 @@
 -- A run of the slot rule that is kept: how far it came, and the work that waits in the buffers at each checkpoint.
-use Rattle.std.specs.Prelude.{◌≡◌, ℕ, suc, ◌+◌, ◌*◌, ◌/◌, ◌≤◌, ◌⊎◌, All, List, [], length, sum_by, slice_get, Option, Some, None}
+use Rattle.std.specs.Prelude.{◌≡◌, ℕ, suc, ◌+◌, ◌/◌, ◌≤◌, ◌⊎◌, All, List, [], length, sum_by, slice_get, Option, Some, None}
 use Rattle.version_table.specs.declared.table.Table.{Table}
 use Rattle.slot_rule.specs.declared.sent.Miss.{Miss}
 use Rattle.slot_rule.specs.Queues.{QueueKind, Video, Audio, Queue, queues_of}

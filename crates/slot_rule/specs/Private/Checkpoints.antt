@@ -1,5 +1,5 @@
 -- What is kept at checkpoints, and what of it stands under another choice.
-use Rattle.std.specs.Prelude.{◌≡◌, ℕ, ◌+◌, ◌*◌, ◌<◌, ◌≤◌, List, length, take, drop, slice_get, Option, Some, MatchOption, true, ◌⊎◌}
+use Rattle.std.specs.Prelude.{◌≡◌, ℕ, ◌*◌, ◌<◌, ◌≤◌, List, length, take, drop, slice_get, Option, Some, MatchOption, true, ◌⊎◌}
 use Rattle.version_table.specs.declared.table.Table.{Table}
 use Rattle.slot_rule.specs.declared.sent.Miss.{Miss}
 use Rattle.slot_rule.specs.declared.fronts.Front.{Front}
@@ -9,7 +9,7 @@ use Rattle.slot_rule.specs.declared.queue_state.QueueState.{QueueState}
 use Rattle.slot_rule.specs.declared.run_state.RunState.{RunState}
 use Rattle.slot_rule.specs.Queues.{QueuedPacket}
 use Rattle.slot_rule.specs.Schedule.{IsFirstMiss, IsScheduled}
-use Rattle.slot_rule.specs.SlotRun.{slots_apart, CountsCheckpoints}
+use Rattle.slot_rule.specs.SlotRun.{slots_apart}
 use Rattle.slot_rule.specs.Private.QueueItems.{program_at}
 use Rattle.slot_rule.specs.Private.Runs.{Reached, Waits}
 

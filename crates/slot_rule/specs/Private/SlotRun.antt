@@ -1,6 +1,5 @@
 -- What a kept run keeps, and which of it stands under another choice.
-use Rattle.std.specs.Prelude.{◌≡◌, ℕ, ◌+◌, ◌*◌, ◌<◌, ◌≤◌, Bool, true, false, List, [], length, slice_get, Some, vec_capacity, Option, None, if◌then◌else◌}
-use Rattle.version_table.specs.declared.table.Table.{Table}
+use Rattle.std.specs.Prelude.{◌≡◌, ◌≤◌, true, false, [], length, Some, vec_capacity, None, if◌then◌else◌}
 use Rattle.version_table.specs.Table.{IsValidTable, units_of}
 use Rattle.version_table.specs.Choice.{Fits}
 use Rattle.slot_rule.specs.declared.checkpoints.TheConstants.{CHECKPOINTS_MOST}

@@ -1,4 +1,4 @@
-use Rattle.std.proofs.Common.{◌≡◌, ℕ, ◌*◌, ◌<◌, List, [], length, vec_len, slice_get, Some, sym, ap, subst, ◌∙◌, inl, inr, arith}
+use Rattle.std.proofs.Common.{◌≡◌, ℕ, ◌*◌, List, length, vec_len, slice_get, sym, ap, subst, ◌∙◌, inl, inr, arith}
 use Rattle.std.proofs.lemmas.Bool.{eqb-false}
 use Rattle.std.proofs.lemmas.Slice.Zip.{AllZip-long}
 use Rattle.version_table.specs.Choice.{HasVersion}
@@ -7,7 +7,7 @@ use Rattle.slot_rule.specs.declared.fronts.Front.{Front}
 use Rattle.slot_rule.specs.declared.queue_state.QueueState.{QueueState}
 use Rattle.slot_rule.specs.declared.run_state.RunState.{RunState}
 use Rattle.slot_rule.specs.SlotRun.{slots_apart}
-use Rattle.slot_rule.specs.Private.Checkpoints.{AreFronts, AreWithin, IsCheckpoint}
+use Rattle.slot_rule.specs.Private.Checkpoints.{AreFronts, AreWithin}
 use Rattle.slot_rule.proofs.CheckpointLaws.{take_there}
 use Rattle.slot_rule.proofs.KeptRunLaws.{IsCheckpoint-under}
 use Rattle.slot_rule.proofs.checkpoints.keep_same.Goals as goal

@@ -1,4 +1,4 @@
-use Rattle.std.proofs.Common.{◌≡◌, ℕ, ◌+◌, ◌-◌, ◌*◌, ◌<◌, ◌≤◌, List, length, get_or, vec_capacity, vec_len, slice_get, Some, sym, ap, subst, ◌∙◌, arith}
+use Rattle.std.proofs.Common.{◌≡◌, ◌-◌, ◌*◌, ◌<◌, List, length, get_or, vec_len, Some, sym, ap, subst, ◌∙◌, arith}
 use Rattle.std.proofs.lemmas.Option.{slice_get-get_or}
 use Rattle.version_table.specs.declared.limits.TheConstants.{TIME_SLOTS_MOST}
 use Rattle.slot_rule.specs.declared.checkpoints.TheConstants.{CHECKPOINTS_MOST}

@@ -1,4 +1,4 @@
-use Rattle.std.proofs.Common.{◌≡◌, ℕ, ◌+◌, ◌-◌, ◌*◌, ◌≤◌, length, vec_capacity, vec_len}
+use Rattle.std.proofs.Common.{◌-◌, ◌*◌, ◌≤◌, vec_capacity, vec_len}
 use Rattle.slot_rule.specs.declared.checkpoints.TheConstants.{CHECKPOINTS_MOST}
 use Rattle.slot_rule.specs.SlotRun.{slots_apart}
 use Rattle.slot_rule.specs.Private.Checkpoints.{AreCheckpoints, IsCheckpoint}

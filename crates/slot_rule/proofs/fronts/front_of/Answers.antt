@@ -1,8 +1,8 @@
-use Rattle.std.proofs.Common.{◌≡◌, ◌+◌, ◌-◌, ◌≤◌, length, take, drop, subst, ap, sym, length-drop, arith}
+use Rattle.std.proofs.Common.{◌-◌, length, drop, subst, ap, length-drop, arith}
 use Rattle.std.proofs.lemmas.List.{length-take-le}
 use Rattle.version_table.specs.declared.table.ProgramRow.{ProgramRow}
 use Rattle.slot_rule.specs.declared.queue_items.QueueItems.{QueueItems}
-use Rattle.slot_rule.specs.Private.QueueItems.{HasSizes, IsPlace, program_at}
+use Rattle.slot_rule.specs.Private.QueueItems.{IsPlace, program_at}
 use Rattle.slot_rule.proofs.RuleVideo.{HasSizes-long}
 use Rattle.slot_rule.proofs.fronts.front_of.Goals as goal
 

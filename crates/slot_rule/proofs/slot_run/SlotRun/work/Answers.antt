@@ -1,5 +1,4 @@
-use Rattle.std.proofs.Common.{◌≡◌, ℕ, ◌*◌, ◌≤◌, List, length, IsNone, refl, sym, ap, ap₂, subst, ◌∙◌, inl, inr, true≢false, arith}
-use Rattle.version_table.specs.declared.table.Table.{Table}
+use Rattle.std.proofs.Common.{◌≡◌, ℕ, ◌*◌, List, length, IsNone, refl, sym, ap, ap₂, subst, ◌∙◌, inl, inr, true≢false, arith}
 use Rattle.stream_constants.specs.declared.clock.TheConstants.{SUBTICKS_PER_TICK}
 use Rattle.slot_rule.specs.declared.queue_state.QueueState.{QueueState}
 use Rattle.slot_rule.specs.declared.run_state.RunState.{RunState}
