@@ -66,11 +66,13 @@ same_before (suc same) item (unit ∷ units) (v ∷ choice) (v' ∷ choice') e n
     let later = packets_from (item + 1) units choice in
     let later' = packets_from (item + 1) units choice' in
     subst (λ w. slice_get (packets_from item (unit ∷ units) (w ∷ choice')) k ≡ slice_get (packets_from item (unit ∷ units) (v ∷ choice)) k) first
-    (elim (cases_lt k (length (unit_packets item unit.due (version_at unit v).bytes))) as (λ _. slice_get (packets_from item (unit ∷ units) (v ∷ choice')) k ≡ slice_get (packets_from item (unit ∷ units) (v ∷ choice)) k) [
+    (elim (cases_lt k (length (unit_packets item unit.due (version_at unit v).bytes))) as
+    (λ _. slice_get (packets_from item (unit ∷ units) (v ∷ choice')) k ≡ slice_get (packets_from item (unit ∷ units) (v ∷ choice)) k) [
       | inl here ↦ slice_get-append_left own later' k here ∙ sym (slice_get-append_left own later k here)
       | inr past ↦
           slice_get-append_right own later' k past
-          ∙ same_before same (item + 1) units choice choice' rest (n - length own) packet (sym (slice_get-append_right own later n (omega arith)) ∙ there) (omega (arith, before)) (k - length own) (omega arith)
+          ∙ same_before same (item + 1) units choice choice' rest (n - length own) packet
+          (sym (slice_get-append_right own later n (omega arith)) ∙ there) (omega (arith, before)) (k - length own) (omega arith)
           ∙ sym (slice_get-append_right own later k past)
     ])
 
@@ -95,7 +97,8 @@ module _ (table : Table) (choice choice' : List ℕ) (state : QueueState) where
 
   head_same : (items : QueueItems) (same n : ℕ) (packet : QueuedPacket) → IsFrontOf table choice choice' items same → slice_get (packets_at table choice items) n ≡ Some packet → packet.item < same
       → (k : ℕ) → k ≤ n → slice_get (packets_at table choice' items) k ≡ slice_get (packets_at table choice items) k
-  head_same (Units program first) same n packet is there before k upto = same_before same 0 (program_at table program).units (drop first choice) (drop first choice') is n packet there (subst (λ m. packet.item < m) (sym (zero-add same)) before) k upto
+  head_same (Units program first) same n packet is there before k upto = same_before same 0 (program_at table program).units
+      (drop first choice) (drop first choice') is n packet there (subst (λ m. packet.item < m) (sym (zero-add same)) before) k upto
   head_same (Packets program audio) same n packet is there before k upto = refl
 
   pub SameSoFar-within : (front : Front) → state.items ≡ front.items → IsFrontOf table choice choice' front.items front.same → (front.is_whole ≡ true → IsWholeOf table front.items front.same)

@@ -34,7 +34,8 @@ use Rattle.slot_rule.proofs.SameHeads.{NoMiss-same}
 use Rattle.slot_rule.proofs.TrackLaws.{stream_there}
 
 -- ---- under another choice
-module _ (table : Table) (old new : List ℕ) (first : RunState) (fronts : List Front) (first_is : IsFirstRun table new first) (are : AreFronts table old new first.states.items fronts) (slots : ℕ) (run : RunState) (within : AreWithin fronts run.states.items) (is : IsCheckpoint table old slots run) where
+module _ (table : Table) (old new : List ℕ) (first : RunState) (fronts : List Front) (first_is : IsFirstRun table new first)
+    (are : AreFronts table old new first.states.items fronts) (slots : ℕ) (run : RunState) (within : AreWithin fronts run.states.items) (is : IsCheckpoint table old slots run) where
   -- the front of the queue of this number, and the queue's state before the first slot
   front_at : (stream : ℕ) (state : QueueState) → slice_get run.states.items stream ≡ Some state
       → (front : Front) × (before : QueueState) × (slice_get fronts stream ≡ Some front) × (slice_get first.states.items stream ≡ Some before)
@@ -106,7 +107,8 @@ last_carried-le table choice rows rows' n m schedule schedule' last last' =
           let d = last'.row in
           let more = take_more rows m d within in
           let more' = take_more rows' m d within' in
-          let same : take (m + 1) rows ≡ take (m + 1) rows' = FollowRule-unique table choice (take (m + 1) rows) (take (m + 1) rows') (FollowRule-take table choice (m + 1) rows schedule.follows) (FollowRule-take table choice (m + 1) rows' schedule'.follows)
+          let same : take (m + 1) rows ≡ take (m + 1) rows' = FollowRule-unique table choice (take (m + 1) rows) (take (m + 1) rows')
+          (FollowRule-take table choice (m + 1) rows schedule.follows) (FollowRule-take table choice (m + 1) rows' schedule'.follows)
           (length-take-le (m + 1) rows (omega arith) ∙ sym (length-take-le (m + 1) rows' (omega arith))) in
           let rows_same : get_or rows m last'.row ≡ get_or rows' m last'.row = (same_from_push (take m rows) (take m rows') (get_or rows m d) (get_or rows' m d) (sym more ∙ same ∙ more')).1 in
           let is : get_or rows m last'.row ≡ last'.row = rows_same ∙ get_or_from_slice_get rows' m last'.row last'.row last'.there in
@@ -115,7 +117,8 @@ last_carried-le table choice rows rows' n m schedule schedule' last last' =
           (let front = take m rows' in
           let longer = FollowRule-longer table choice rows front schedule.follows (FollowRule-take table choice m rows' schedule'.follows) (omega (arith, long')) in
           let is : get_or rows' m last'.row ≡ last'.row = get_or_from_slice_get rows' m last'.row last'.row last'.there in
-          let next : IsNext table choice (take m rows') last'.row = subst (λ (r : Row). IsNext table choice (take m rows') r) is (FollowRule-at table choice rows' schedule'.follows m last'.row within') in
+          let next : IsNext table choice (take m rows') last'.row = subst (λ (r : Row). IsNext table choice (take m rows') r) is
+          (FollowRule-at table choice rows' schedule'.follows m last'.row within') in
           let head = carried_head table choice front last'.row next last'.carries in
           let earlier = IsHead-before (queues_of table choice) rows (drop (length rows) front) head.0 head.1 head.2
           (subst (λ (list : List Row). IsHead (queues_of table choice) list head.0 head.1 head.2) longer head.3) in
@@ -132,7 +135,8 @@ IsLastSlot-one table choice n m (inr a) (inr b) =
     omega arith
 
 -- a table that has no packet has no last slot
-no_head : (table : Table) (choice : List ℕ) (rows : List Row) (stream : ℕ) (kind : QueueKind) (packet : QueuedPacket) → HasNoPacket table choice → IsHead (queues_of table choice) rows stream kind packet → ⊥
+no_head : (table : Table) (choice : List ℕ) (rows : List Row) (stream : ℕ) (kind : QueueKind)
+    (packet : QueuedPacket) → HasNoPacket table choice → IsHead (queues_of table choice) rows stream kind packet → ⊥
 no_head table choice rows stream kind packet none head =
     let empty = All-at_place (λ (queue : Queue). queue.packets ≡ []) (queues_of table choice) none stream (record { kind = kind; packets = head.0 }) head.1 in
     none-some packet (sym (ap (λ (list : List QueuedPacket). slice_get list (count_by (is_of stream) rows)) empty ∙ slice_get_past [] (count_by (is_of stream) rows) zero-le) ∙ head.2)

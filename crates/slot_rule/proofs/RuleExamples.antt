@@ -164,7 +164,8 @@ unit_checkpoints count is = CountsCheckpoints-one just_in_time (0 ∷ []) count 
 
 -- and so where it misses in slot 22
 pub miss_checkpoints : (count : ℕ) → CountsCheckpoints (table_of (one_unit 36935 1840 ∷ [])) (0 ∷ []) count → count ≡ 1
-miss_checkpoints count is = CountsCheckpoints-one (table_of (one_unit 36935 1840 ∷ [])) (0 ∷ []) count 1 is (inr (22, inl (record { stream = 0; unit = 0; slot = 22; due = 36935 }, unit_misses, refl), refl))
+miss_checkpoints count is = CountsCheckpoints-one (table_of (one_unit 36935 1840 ∷ [])) (0 ∷ []) count 1 is
+    (inr (22, inl (record { stream = 0; unit = 0; slot = 22; due = 36935 }, unit_misses, refl), refl))
 
 -- where no table has a packet, none
 pub empty_checkpoints : (count : ℕ) → CountsCheckpoints (table_of []) [] count → count ≡ 0

@@ -19,7 +19,8 @@ loop-miss-init c =
       some = c.requires.some;
       few = c.requires.few;
       are = c.requires.are;
-      last = IsCheckpoint-copy c.args.table.now c.args.choice.now (slots_apart * (vec_len c.args.checkpoints.now - 1)) c.index.result.now c.copy-run.result c.copy-run.ensures.states c.copy-run.ensures.turns c.copy-run.ensures.gone
+      last = IsCheckpoint-copy c.args.table.now c.args.choice.now (slots_apart * (vec_len c.args.checkpoints.now - 1))
+          c.index.result.now c.copy-run.result c.copy-run.ensures.states c.copy-run.ensures.turns c.copy-run.ensures.gone
           (c.requires.are (vec_len c.args.checkpoints.now - 1) c.index.result.now
           (slice_get-get_or checkpoints (vec_len c.args.checkpoints.now - 1) last within ∙ ap (λ n. Some (get_or checkpoints n last)) (sym at) ∙ sym (ap Some c.index.ensures)));
     }
@@ -37,13 +38,15 @@ returns-in-AllSent-clause-counts c =
 pub keep-requires : goal.keep-requires
 keep-requires c =
     let before : slots_apart * c.len-in-loop-miss.result < TIME_SLOTS_MOST =
-    Waits-before_end c.args.table.now c.args.choice.now (slots_apart * c.len-in-loop-miss.result) c.run_slots.new.run c.requires.valid c.requires.fits c.in-Waiting.ensures.0 (c.in-Waiting.ensures.1 c.loop-miss.invariant.last.waits) in
+    Waits-before_end c.args.table.now c.args.choice.now (slots_apart * c.len-in-loop-miss.result) c.run_slots.new.run
+    c.requires.valid c.requires.fits c.in-Waiting.ensures.0 (c.in-Waiting.ensures.1 c.loop-miss.invariant.last.waits) in
     record { room = omega (arith, before, c.len-in-loop-miss.ensures, c.loop-miss.invariant.room, c.requires.room) }
 
 pub loop-miss-smaller : goal.loop-miss-smaller
 loop-miss-smaller c =
     let before : slots_apart * c.len-in-loop-miss.result < TIME_SLOTS_MOST =
-    Waits-before_end c.args.table.now c.args.choice.now (slots_apart * c.len-in-loop-miss.result) c.run_slots.new.run c.requires.valid c.requires.fits c.in-Waiting.ensures.0 (c.in-Waiting.ensures.1 c.loop-miss.invariant.last.waits) in
+    Waits-before_end c.args.table.now c.args.choice.now (slots_apart * c.len-in-loop-miss.result) c.run_slots.new.run
+    c.requires.valid c.requires.fits c.in-Waiting.ensures.0 (c.in-Waiting.ensures.1 c.loop-miss.invariant.last.waits) in
     let fewer : CHECKPOINTS_MOST - vec_len c.keep.new.checkpoints < CHECKPOINTS_MOST - vec_len c.loop-miss.checkpoints = omega (arith, before, c.len-in-loop-miss.ensures, c.keep.ensures.longer) in
     fewer
 

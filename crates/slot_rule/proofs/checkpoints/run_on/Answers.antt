@@ -30,4 +30,5 @@ returns-in-None-clause-counts c =
     let zero : vec_len c.args.checkpoints.now ≡ 0 = eqb-true (vec_len c.args.checkpoints.now) 0 (sym c.is_empty.ensures ∙ c.if-not-is_empty.false) in
     let none : length c.args.checkpoints.now.items ≡ 0 = omega (arith, zero, c.args.checkpoints.now.ok.0) in
     subst (λ n. CountsCheckpoints c.args.table.now c.args.choice.now n) (sym none)
-    (CountsCheckpoints-empty c.args.table.now c.args.choice.now c.args.first c.requires.first (subst (λ (list : List QueueState). IsFirstHead Passes list None) c.as_slice.ensures.value c.in-None.ensures))
+    (CountsCheckpoints-empty c.args.table.now c.args.choice.now c.args.first c.requires.first
+    (subst (λ (list : List QueueState). IsFirstHead Passes list None) c.as_slice.ensures.value c.in-None.ensures))

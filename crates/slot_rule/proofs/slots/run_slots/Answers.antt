@@ -35,7 +35,8 @@ returns-in-Missed c =
     let reached = c.loop-n.invariant.reached in
     let step = c.run_slot-row.ensures reached.rows reached.slots_are reached.run in
     let slot : c.in-Missed.miss.slot ≡ c.loop-n.n = ap (λ (miss : Miss). miss.slot) c.in-Missed.ensures.1 in (
-      miss_found c.args.table.now c.args.choice.now c.requires.valid c.requires.fits c.loop-n.n c.loop-n.run c.run_slot-row.new.run c.run_slot-row.result reached step.0 step.1 c.in-Missed.miss c.in-Missed.ensures,
+      miss_found c.args.table.now c.args.choice.now c.requires.valid c.requires.fits c.loop-n.n c.loop-n.run
+          c.run_slot-row.new.run c.run_slot-row.result reached step.0 step.1 c.in-Missed.miss c.in-Missed.ensures,
       omega (arith, c.loop-n.invariant.from),
       omega (arith, c.loop-n-test.true),
     )
@@ -44,7 +45,8 @@ pub returns-in-AllSent : goal.returns-in-AllSent
 returns-in-AllSent c =
     let reached = c.loop-n.invariant.reached in
     let step = c.run_slot-row.ensures reached.rows reached.slots_are reached.run in
-    let schedule = schedule_found c.args.table.now c.args.choice.now c.requires.valid c.requires.fits c.loop-n.n c.loop-n.run c.run_slot-row.new.run c.run_slot-row.result reached step.0 step.1 c.in-AllSent.ensures in
+    let schedule = schedule_found c.args.table.now c.args.choice.now c.requires.valid c.requires.fits c.loop-n.n
+    c.loop-n.run c.run_slot-row.new.run c.run_slot-row.result reached step.0 step.1 c.in-AllSent.ensures in
     record {
       rows = reached.rows;
       last = c.run_slot-row.result;
@@ -108,7 +110,8 @@ loop-n-preserved c =
     record {
       from = omega (arith, c.loop-n.invariant.from);
       upto = omega (arith, c.loop-n-test.true);
-      reached = Reached-next c.args.table.now c.args.choice.now c.requires.valid c.requires.fits c.loop-n.n c.loop-n.run c.run_slot-row.new.run c.run_slot-row.result reached step.0 step.1 c.in-Waiting.ensures;
+      reached = Reached-next c.args.table.now c.args.choice.now c.requires.valid c.requires.fits c.loop-n.n
+          c.loop-n.run c.run_slot-row.new.run c.run_slot-row.result reached step.0 step.1 c.in-Waiting.ensures;
       waits = λ waits. c.in-Waiting.ensures.2;
     }
 

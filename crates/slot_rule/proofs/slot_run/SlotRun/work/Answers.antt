@@ -19,7 +19,8 @@ pub returns-in_err-state-clause-none : goal.returns-in_err-state-clause-none
 returns-in_err-state-clause-none c count is =
     let l = c.in_ok-checkpoint.ensures.lookup in
     let there = slice_get_read_as c.as_slice.result.now c.self.inside.checkpoints.items c.args.k c.in_ok-checkpoint.checkpoint.now c.as_slice.ensures.value l.3.0 l.1 in
-    let streams = streams_are c.self.inside.table.now c.self.inside.choice.items (slots_apart * c.args.k) c.in_ok-checkpoint.checkpoint.now (c.self.invariant.are c.args.k c.in_ok-checkpoint.checkpoint.now there).reached in
+    let streams = streams_are c.self.inside.table.now c.self.inside.choice.items (slots_apart * c.args.k)
+    c.in_ok-checkpoint.checkpoint.now (c.self.invariant.are c.args.k c.in_ok-checkpoint.checkpoint.now there).reached in
     let same : streams_of c.self.inside.table.now ≡ streams_of c.args.self.now.table = ap (λ (run : KeptRun). streams_of run.table) c.self.view_is in
     let size = ap (λ (list : List QueueState). length list) c.as_slice-2.ensures.value in
     let past = c.in_err-state.ensures.lookup.3 in
@@ -30,7 +31,8 @@ returns-clause-none c count is =
     let many = count_is c.self.inside count c.self.invariant (subst (λ (run : KeptRun). IsCheckpointCount run count) (sym c.self.view_is) is) in
     let l = c.in_ok-checkpoint.ensures.lookup in
     let there = slice_get_read_as c.as_slice.result.now c.self.inside.checkpoints.items c.args.k c.in_ok-checkpoint.checkpoint.now c.as_slice.ensures.value l.3.0 l.1 in
-    let streams = streams_are c.self.inside.table.now c.self.inside.choice.items (slots_apart * c.args.k) c.in_ok-checkpoint.checkpoint.now (c.self.invariant.are c.args.k c.in_ok-checkpoint.checkpoint.now there).reached in
+    let streams = streams_are c.self.inside.table.now c.self.inside.choice.items (slots_apart * c.args.k)
+    c.in_ok-checkpoint.checkpoint.now (c.self.invariant.are c.args.k c.in_ok-checkpoint.checkpoint.now there).reached in
     let same : streams_of c.self.inside.table.now ≡ streams_of c.args.self.now.table = ap (λ (run : KeptRun). streams_of run.table) c.self.view_is in
     let size = ap (λ (list : List RunState). length list) c.as_slice.ensures.value in
     let size' = ap (λ (list : List QueueState). length list) c.as_slice-2.ensures.value in
@@ -57,5 +59,6 @@ returns-clause-some c =
     let work : c.work_at.result ≡ work_of_state c.in_ok-state.state.now (SUBTICKS_PER_TICK * (slots_apart * c.args.k * c.self.inside.table.now.slot)) =
     c.work_at.ensures ∙ ap (λ n. work_of_state c.in_ok-state.state.now n) time in
     subst (λ (w : ℕ × ℕ). IsKeptWork c.args.self.now (slots_apart * k) stream w) (sym work)
-    (subst (λ (run : KeptRun). IsKeptWork run (slots_apart * k) stream (work_of_state c.in_ok-state.state.now (SUBTICKS_PER_TICK * (slots_apart * c.args.k * c.self.inside.table.now.slot)))) c.self.view_is
+    (subst (λ (run : KeptRun). IsKeptWork run (slots_apart * k) stream (work_of_state c.in_ok-state.state.now (SUBTICKS_PER_TICK * (slots_apart * c.args.k * c.self.inside.table.now.slot))))
+    c.self.view_is
     (IsKeptWork-state c.self.inside k stream c.in_ok-checkpoint.checkpoint.now c.in_ok-state.state.now c.self.invariant there at))
