@@ -1,6 +1,9 @@
 pub mod AfterLaws
 pub mod AudioPackets
 pub mod BringLaws
+pub mod CheckpointLaws
+pub mod FrontPackets
+pub mod KeptRunLaws
 pub mod FirstStates
 pub mod HeadLaws
 pub mod IdleLaws
@@ -10,6 +13,7 @@ pub mod ListedLaws
 pub mod MissLaws
 pub mod PeriodLaws
 pub mod Places
+pub mod Resume
 pub mod RuleEnd
 pub mod RuleExamples
 pub mod RuleFirst
@@ -27,6 +31,7 @@ pub mod RuleUnits
 pub mod RuleVideo
 pub mod RuleWork
 pub mod RunLaws
+pub mod SameHeads
 pub mod SendLaws
 pub mod SentLaws
 pub mod SlotLaws

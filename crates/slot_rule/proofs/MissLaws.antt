@@ -1,7 +1,8 @@
 -- What the states after a row tell of misses, said of the rows; and the states before the first slot.
-use Rattle.std.proofs.Common.{◌≡◌, ℕ, ◌+◌, ◌-◌, ◌*◌, ◌<◌, ◌≤◌, ◌⊎◌, All, List, [], ◌∷◌, ◌++◌, length, map, slice_get, Some, None, refl, sym, ap, subst, ◌∙◌, inl, inr, zero-le, le_refl, mul-le-mul_left, arith}
+use Rattle.std.proofs.Common.{◌≡◌, ℕ, ◌+◌, ◌-◌, ◌*◌, ◌<◌, ◌≤◌, ◌⊎◌, Bool, false, cond, All, List, [], ◌∷◌, ◌++◌, length, map, count_by, slice_get, Some, None, refl, sym, ap, subst, ◌∙◌, inl, inr, zero-le, le_refl, mul-le-mul_left, arith}
 use Rattle.std.proofs.Math.Nat.{zero-sub}
 use Rattle.std.proofs.lemmas.List.{length_push, same_from_push}
+use Rattle.std.proofs.lemmas.List.Sums.{sum_by-append}
 use Rattle.std.proofs.lemmas.Option.{same_Some, slice_get_within}
 use Rattle.version_table.specs.declared.limits.TheConstants.{TIME_SLOTS_MOST}
 use Rattle.version_table.specs.declared.table.Table.{Table}
@@ -13,9 +14,10 @@ use Rattle.stream_constants.specs.declared.clock.TheConstants.{SUBTICKS_PER_TICK
 use Rattle.slot_rule.specs.declared.sent.Miss.{Miss}
 use Rattle.slot_rule.specs.declared.queue_state.QueueState.{QueueState}
 use Rattle.slot_rule.specs.declared.run_state.RunState.{RunState}
-use Rattle.slot_rule.specs.Buffers.{Row, Reserved, Carries, Empty, tb_work}
-use Rattle.slot_rule.specs.Private.Heads.{IsFirstHead, Passes}
+use Rattle.slot_rule.specs.Buffers.{Row, Reserved, Carries, Empty, is_of, tb_work}
+use Rattle.slot_rule.specs.Private.Heads.{IsFirst, IsFirstHead, Passes}
 use Rattle.slot_rule.specs.Schedule.{AllSent, IsHead, Misses, NoMiss, SentLate, end_with_margin, mb_or_tb_work, IsFirstMiss, IsSchedule, IsScheduled}
+use Rattle.slot_rule.specs.SlotList.{CarriesPacket}
 use Rattle.slot_rule.specs.Private.Runs.{IsFirstRun, IsRun, Reached}
 use Rattle.slot_rule.specs.Private.Slots.{ComesLate, FirstOverdue, HasRun, NoneLate, NoneOverdue, RowStands, TellsAfter, Tracks, subtick_after}
 use Rattle.slot_rule.specs.Private.States.{IsFirstState, queue_of}
@@ -126,6 +128,23 @@ module _ (table : Table) (choice : List ℕ) (rows : List Row) (row : Row) (stat
   AllSent-from_states none stream kind packet head =
       let found = state_from_head table choice (rows ++ row ∷ []) states run stream kind packet head in
       none stream found.0 packet found.1 found.3 tt
+
+-- the last packet stands in the row with which all is sent
+carries_cases : (queues : List Queue) (rows : List Row) (row : Row) (stream : ℕ) (kind : QueueKind) (packet : QueuedPacket) → is_of stream row ≡ false
+    → IsHead queues rows stream kind packet → AllSent queues (rows ++ row ∷ []) → ⊥
+carries_cases queues rows row stream kind packet other head sent =
+    let own : count_by (is_of stream) (row ∷ []) ≡ count_by {X = Row} (λ _. false) (row ∷ []) = ap (λ (b : Bool). count_by {X = Row} (λ _. b) (row ∷ [])) other in
+    let sums = sum_by-append (λ r. cond (is_of stream r) 1 0) rows (row ∷ []) in
+    let same : count_by (is_of stream) (rows ++ row ∷ []) ≡ count_by (is_of stream) rows = omega (arith, own, sums) in
+    sent stream kind packet (head.0, head.1, ap (λ k. slice_get head.0 k) same ∙ head.2)
+
+pub carries_last : (table : Table) (choice : List ℕ) (rows : List Row) (row : Row) (states : List QueueState) → HasRun table choice rows states
+    → (stream : ℕ) (packet : QueuedPacket) → IsFirst Passes states stream packet → AllSent (queues_of table choice) (rows ++ row ∷ []) → CarriesPacket row
+carries_last table choice rows (Carries s p) states run stream packet is sent = tt
+carries_last table choice rows Empty states run stream packet is sent =
+    absurd (carries_cases (queues_of table choice) rows Empty stream is.state.kind packet refl (head_from_state table choice rows states run stream is.state packet is.there is.head) sent)
+carries_last table choice rows (Reserved reserved) states run stream packet is sent =
+    absurd (carries_cases (queues_of table choice) rows (Reserved reserved) stream is.state.kind packet refl (head_from_state table choice rows states run stream is.state packet is.there is.head) sent)
 
 -- where no stream has a head packet, none is overdue
 pub NoneOverdue-from_none : (states : List QueueState) (time : ℕ) → IsFirstHead Passes states None → NoneOverdue states time

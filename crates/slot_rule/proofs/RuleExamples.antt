@@ -1,17 +1,22 @@
 -- The worked examples, computed from the definitions.
-use Rattle.std.proofs.Common.{◌≡◌, ℕ, ◌*◌, ◌≤◌, ◌⊎◌, take, get_or, length, map, List, [], ◌∷◌, ◌++◌, refl, ◌∙◌, inl, inr, lit≤, arith}
+use Rattle.std.proofs.Common.{◌≡◌, ℕ, ◌+◌, ◌*◌, ◌/◌, ◌≤◌, ◌⊎◌, take, get_or, length, map, List, [], ◌∷◌, ◌++◌, refl, ◌∙◌, inl, inr, lit≤, arith}
+use Rattle.std.proofs.lemmas.List.Elements.{All-nil}
+use Rattle.std.proofs.lemmas.Option.{slice_get_within}
 use Rattle.version_table.specs.declared.table.AudioPacket.{AudioPacket}
 use Rattle.version_table.specs.declared.table.ProgramRow.{ProgramRow}
 use Rattle.version_table.specs.declared.table.Table.{Table}
 use Rattle.stream_constants.specs.declared.decoder.TheConstants.{AUDIO_TB_SUBTICKS}
 use Rattle.slot_rule.specs.declared.sent.Sent.TheVariants.{Null, Pat, Pmt, Pcr, Video as VideoPiece, Audio as AudioPiece}
 use Rattle.slot_rule.specs.declared.slot_list.SlotList.{SlotList}
-use Rattle.slot_rule.specs.Queues.{Audio, queues_of}
+use Rattle.slot_rule.specs.Queues.{Audio, Queue, queues_of, video_of}
 use Rattle.slot_rule.specs.Buffers.{Row, Reserved, Empty, tb_work}
 use Rattle.slot_rule.specs.Private.IdleSlots.{FillsPeriod, idle_slots}
 use Rattle.slot_rule.specs.Timetable.{period}
 use Rattle.slot_rule.specs.Schedule.{IsSchedule, IsScheduled, IsFirstMiss}
 use Rattle.slot_rule.specs.SlotList.{CarriesPacket, IsSlotList, sent_of, slots_of}
+use Rattle.slot_rule.specs.SlotRun.{CountsCheckpoints, IsLastSlot, IsWorkAt, slots_apart}
+use Rattle.slot_rule.proofs.KeptRunLaws.{CountsCheckpoints-one}
+use Rattle.slot_rule.proofs.RuleRows.{FollowRule-nil, FollowRule-take}
 use Rattle.slot_rule.proofs.RuleRun.{Run, Clean, Missed, first_rows, IsSchedule-from_run, IsFirstMiss-from_run}
 use Rattle.slot_rule.proofs.RuleSchedules.{slots_of-same}
 use Rattle.slot_rule.proofs.SlotListLaws.{IsSlotList-filled, IsSlotList-same}
@@ -140,3 +145,50 @@ pub no_packets : (idle : ℕ) → idle ≡ 999 → (list : SlotList) → IsSlotL
 no_packets idle e list is =
     the_list (table_of []) [] [] (Reserved Pat) 0 _ list (lit≤ tt) refl (IsSchedule-from_run (table_of []) [] 1 (Reserved Pat ∷ []) refl refl) (inl refl)
     (record { whole = refl; idle = idle; ends = omega arith; rows_are = refl }) is
+
+-- ---- kept runs
+-- the run of the unit ends in slot 22
+unit_ends : IsLastSlot just_in_time (0 ∷ []) 22
+unit_ends =
+    let rows = rows_in (first_rows just_in_time (0 ∷ []) 23) in
+    let many : length (rows_in (first_rows just_in_time (0 ∷ []) 23)) ≡ 23 = refl in
+    inr (
+      rows,
+      unit_schedule,
+      record { row = get_or rows 22 Empty; there = refl; carries = tt; last = λ m later there carries. omega (arith, slice_get_within rows m later there, many) },
+    )
+
+-- so it has one checkpoint
+pub unit_checkpoints : (count : ℕ) → CountsCheckpoints just_in_time (0 ∷ []) count → count ≡ 1
+unit_checkpoints count is = CountsCheckpoints-one just_in_time (0 ∷ []) count 1 is (inr (22, unit_ends, refl))
+
+-- and so where it misses in slot 22
+pub miss_checkpoints : (count : ℕ) → CountsCheckpoints (table_of (one_unit 36935 1840 ∷ [])) (0 ∷ []) count → count ≡ 1
+miss_checkpoints count is = CountsCheckpoints-one (table_of (one_unit 36935 1840 ∷ [])) (0 ∷ []) count 1 is
+    (inr (22, inl (record { stream = 0; unit = 0; slot = 22; due = 36935 }, unit_misses, refl), refl))
+
+-- where no table has a packet, none
+pub empty_checkpoints : (count : ℕ) → CountsCheckpoints (table_of []) [] count → count ≡ 0
+empty_checkpoints count is = CountsCheckpoints-one (table_of []) [] count 0 is (inl (All-nil (λ (queue : Queue). queue.packets ≡ []), refl))
+
+-- a run that ends in slot 4,095 has one, and one that ends in the next slot two
+pub checkpoints_at_4095 : (4095 / slots_apart + 1 ≡ 1) × (4096 / slots_apart + 1 ≡ 2)
+checkpoints_at_4095 = (refl, refl)
+
+-- before the first slot no work waits
+pub unit_work_first : IsWorkAt just_in_time (0 ∷ []) 0 0 (0, 0)
+unit_work_first = record { rows = []; many = refl; follows = FollowRule-nil just_in_time (0 ∷ []); queue = video_of 0 (one_unit 36936 1840) (0 ∷ []); queue_is = refl; work_is = refl }
+
+-- where slot 4 begins, the PCR of slot 2 and the packet of slot 3 have come, 376 bytes of 11,280 subticks, and two slots of
+-- 1,015,200 have drained them; one has drained the payload of 184 bytes of 13,536
+pub unit_work_later : IsWorkAt just_in_time (0 ∷ []) 4 0 (2210880, 1475424)
+unit_work_later =
+    let rows = rows_in (first_rows just_in_time (0 ∷ []) 23) in
+    record {
+      rows = take 4 rows;
+      many = refl;
+      follows = FollowRule-take just_in_time (0 ∷ []) 4 rows unit_schedule.follows;
+      queue = video_of 0 (one_unit 36936 1840) (0 ∷ []);
+      queue_is = refl;
+      work_is = refl;
+    }

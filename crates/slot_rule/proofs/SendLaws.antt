@@ -1,10 +1,9 @@
 -- What stays of the states once packets that are gone are left out, and what the send of one packet changes.
-use Rattle.std.proofs.Common.{◌≡◌, ℕ, ◌<◌, ◌≤◌, All, List, length, get_or, set, Some, sym, ap, subst, ◌∙◌, length-set, arith}
-use Rattle.std.proofs.lemmas.Option.{same_Some, slice_get-get_or, slice_get_within, get_or_from_slice_get}
+use Rattle.std.proofs.Common.{◌≡◌, ℕ, ◌<◌, ◌≤◌, All, List, length, get_or, set, sym, ap, subst, ◌∙◌, length-set, arith}
+use Rattle.std.proofs.lemmas.Option.{same_Some, slice_get-get_or, get_or_from_slice_get}
 use Rattle.version_table.specs.declared.table.Table.{Table}
 use Rattle.slot_rule.specs.declared.queue_items.QueueItems.{QueueItems}
 use Rattle.slot_rule.specs.declared.queue_state.QueueState.{QueueState}
-use Rattle.slot_rule.specs.Private.Heads.{IsFirst, PassesAt}
 use Rattle.slot_rule.specs.Private.Slots.{Sends, SendsOne}
 use Rattle.slot_rule.specs.Private.QueueItems.{IsPlace}
 use Rattle.slot_rule.specs.Private.States.{ChangesEach, IsPlaced, ReleasesAll, queue_of}

@@ -5,4 +5,5 @@ pub mod Queues
 pub mod Schedule
 pub mod Sent
 pub mod SlotList
+pub mod SlotRun
 pub mod Timetable

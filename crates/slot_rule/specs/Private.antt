@@ -1,8 +1,10 @@
+pub mod Checkpoints
 pub mod Heads
 pub mod IdleSlots
 pub mod QueueItems
 pub mod QueueState
 pub mod Runs
+pub mod SlotRun
 pub mod Slots
 pub mod States
 pub mod Turns

@@ -7,7 +7,9 @@
 #![tactic(auto)]
 
 mod after;
+mod checkpoints;
 pub mod constants;
+mod fronts;
 mod heads;
 mod idle;
 pub mod laws;
@@ -22,6 +24,7 @@ mod schedules;
 mod sent;
 mod slot;
 mod slot_list;
+mod slot_run;
 mod slots;
 mod states;
 mod timetable;
@@ -29,7 +32,11 @@ mod turns;
 
 pub use laws::{first_miss_is_one, no_miss_where_scheduled};
 pub use misses::first_miss;
+pub use queue_kind::QueueKind;
+pub use queued_packet::QueuedPacket;
+pub use row::Row;
 pub use schedules::{ScheduleFault, schedule};
 pub use sent::{Miss, Sent};
 pub use slot_list::SlotList;
+pub use slot_run::SlotRun;
 pub use timetable::Timetable;

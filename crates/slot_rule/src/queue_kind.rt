@@ -18,7 +18,7 @@ pub enum QueueKind {
 
 impl QueueKind {
     /// Subticks that a byte takes to leave the transport buffer.
-    pub fn tb_subticks(self) -> u64
+    pub(crate) fn tb_subticks(self) -> u64
         ensures { result ≡ tb_subticks self }
     {
         match self {
@@ -28,7 +28,7 @@ impl QueueKind {
     }
 
     /// The work that may wait in the transport buffer where a packet goes.
-    pub fn tb_gate(self) -> u64
+    pub(crate) fn tb_gate(self) -> u64
         ensures { result ≡ tb_gate self }
     {
         match self {
@@ -38,7 +38,7 @@ impl QueueKind {
     }
 
     /// Whether a packet may go where so much work waits in the multiplexing buffer; an audio stream has none.
-    pub fn permits_mb(self, work: u64) -> bool
+    pub(crate) fn permits_mb(self, work: u64) -> bool
         requires { IsKind self }
         ensures { IsTrue result ↔ MbPermits self work }
     {
@@ -52,7 +52,7 @@ impl QueueKind {
     }
 
     /// The time before which no packet may go by MB, which is empty at the time `empty`, in subticks.
-    pub fn mb_gate_from(self, empty: u64) -> u64
+    pub(crate) fn mb_gate_from(self, empty: u64) -> u64
         requires { IsKind self }
         ensures { (now : ℕ) → now < result → MbPermits self (empty - now) → ⊥ }
     {
@@ -67,7 +67,7 @@ impl QueueKind {
     }
 
     /// Bytes of the buffer from which units or frames are removed.
-    pub fn eb_or_b_bytes(self) -> u64
+    pub(crate) fn eb_or_b_bytes(self) -> u64
         ensures { result ≡ eb_or_b_bytes self }
     {
         match self {
@@ -77,7 +77,7 @@ impl QueueKind {
     }
 
     /// Whether the PCR of a program goes on the stream's PID.
-    pub fn has_pcr(self, number: u8) -> bool
+    pub(crate) fn has_pcr(self, number: u8) -> bool
         ensures { IsTrue result ↔ HasPcr self number }
     {
         match self {

@@ -5,7 +5,7 @@ ghost use Rattle.slot_rule.specs.Buffers.{tb_subticks};
 ghost use Rattle.slot_rule.specs.Private.Heads.{IsOffer, PassesAt};
 ghost use Rattle.slot_rule.specs.Private.QueueItems.{IsPlace};
 ghost use Rattle.slot_rule.specs.Private.States.{TakesPcr};
-ghost use Rattle.slot_rule.specs.Private.QueueState.{HoldsNoneGone, HoldsUntil, IsKind, IsNumbered, IsReady, IsSmall, MayGoFrom, KeepsPlace, Permits, Releases, first_state, packets_at, mb_or_tb_of_state};
+ghost use Rattle.slot_rule.specs.Private.QueueState.{HoldsNoneGone, HoldsUntil, IsKind, IsNumbered, IsReady, IsSmall, MayGoFrom, KeepsPlace, Permits, Releases, first_state, packets_at, mb_or_tb_of_state, work_of_state};
 
 use crate::queue_items::QueueItems;
 use crate::queue_kind::QueueKind;
@@ -180,6 +180,17 @@ impl QueueState {
         match self.oldest {
             Some(packet) if self.gone < self.sent => packet.gone,
             _ => u64::MAX,
+        }
+    }
+
+    /// The work that waits in TB and MB at `now`, in subticks; audio has no MB.
+    pub fn work_at(&self, now: u64) -> (u64, u64)
+        ensures { result ≡ work_of_state self.now now }
+    {
+        let tb = self.tb_empty.saturating_sub(now);
+        match self.kind {
+            QueueKind::Video { .. } => (tb, self.mb_empty.saturating_sub(now)),
+            QueueKind::Audio => (tb, 0),
         }
     }
 

@@ -22,7 +22,7 @@ impl QueuedPacket {
     ghost use Rattle.slot_rule.specs.SlotList.{piece_sent};
 
     /// The packet, as what stands in a slot, where its stream has this number and kind.
-    pub fn sent(self, stream: u32, kind: QueueKind) -> Sent
+    pub(crate) fn sent(self, stream: u32, kind: QueueKind) -> Sent
         ensures { result ≡ piece_sent kind stream self }
     {
         match kind {

@@ -19,7 +19,7 @@ impl Row {
     ghost use Rattle.slot_rule.specs.Private.Slots.{RowStands, IsWhatStands};
 
     /// What stands in the slot, where the streams have these states.
-    pub fn sent(self, states: &[QueueState]) -> Sent
+    pub(crate) fn sent(self, states: &[QueueState]) -> Sent
         requires few { length states.now < 2 ^ 32 }
         requires stands { RowStands states.now self }
         ensures { IsWhatStands states.now self result }

@@ -48,6 +48,27 @@ impl RunState {
         }
     }
 
+    /// The same again.
+    pub fn copy(&self) -> RunState
+        ensures states { result.states.items ≡ self.now.states.items }
+        ensures turns { result.turns.items ≡ self.now.turns.items }
+        ensures gone { result.first_gone ≡ self.now.first_gone }
+    {
+        let mut states = States::new();
+        let Ok(()) = states.try_extend_from_slice(self.states.as_slice()) else {
+            unreachable!();
+        };
+        let mut turns = Turns::new();
+        let Ok(()) = turns.try_extend_from_slice(self.turns.as_slice()) else {
+            unreachable!();
+        };
+        RunState {
+            states,
+            turns,
+            first_gone: self.first_gone,
+        }
+    }
+
     /// What the timetable has in a slot that begins at `start` ticks goes.
     pub fn reserve(&mut self, reserved: Sent, start: u64) -> Row
         requires small { All IsSmall self.old.states.items }

@@ -20,7 +20,7 @@ pub fn run_slots(table: &Table, choice: &Choice, run: &mut RunState, first: u32,
     requires order { first ≤ end }
     requires end { end ≤ TIME_SLOTS_MOST }
     requires reached { Reached table.now choice.now first run.old }
-    ensures { TellsRun table.now choice.now end result run.new }
+    ensures { TellsRun table.now choice.now first end run.old result run.new }
 {
     let mut n = first;
     while n < end {

@@ -7,6 +7,8 @@
 #[cfg(test)]
 mod numbers;
 #[cfg(test)]
+mod runs;
+#[cfg(test)]
 mod tables;
 #[cfg(test)]
 mod tests;

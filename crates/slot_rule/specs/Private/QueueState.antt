@@ -107,3 +107,11 @@ first_state kind items first = record {
 -- the work that waits at a time for a packet of the stream which has come
 abbrev pub mb_or_tb_of_state : QueueState → (now : ℕ) → ℕ
 mb_or_tb_of_state state now = mb_or_tb_of_kind state.kind (state.tb_empty - now) (state.mb_empty - now)
+
+-- the work that waits in the two buffers of a state at a time; audio has no MB
+abbrev pub work_of_kind : QueueKind → (tb mb : ℕ) → ℕ × ℕ
+work_of_kind (Video program vbv) tb mb = (tb, mb)
+work_of_kind Audio tb mb = (tb, 0)
+
+abbrev pub work_of_state : QueueState → (now : ℕ) → ℕ × ℕ
+work_of_state state now = work_of_kind state.kind (state.tb_empty - now) (state.mb_empty - now)

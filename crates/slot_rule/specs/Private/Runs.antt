@@ -1,17 +1,18 @@
 -- What the rule keeps of all queues after some slots.
-use Rattle.std.specs.Prelude.{◌≡◌, ℕ, ◌+◌, ◌*◌, ◌<◌, All, List, None, length, map}
+use Rattle.std.specs.Prelude.{◌≡◌, ℕ, ◌+◌, ◌*◌, ◌<◌, ◌≤◌, All, List, [], ◌∷◌, ◌++◌, None, length, map}
 use Rattle.version_table.specs.declared.table.Table.{Table}
 use Rattle.slot_rule.specs.declared.after.After.{After}
 use Rattle.slot_rule.specs.declared.after.After.TheVariants.{Missed, AllSent, Waiting}
 use Rattle.stream_constants.specs.declared.clock.TheConstants.{SUBTICKS_PER_TICK}
 use Rattle.slot_rule.specs.declared.run_state.RunState.{RunState}
 use Rattle.slot_rule.specs.Buffers.{Row}
-use Rattle.slot_rule.specs.Private.Heads.{IsFirstHead, NoneGoneBefore, PassesAt}
+use Rattle.slot_rule.specs.Private.Heads.{IsFirst, IsFirstHead, NoneGoneBefore, Passes, PassesAt}
 use Rattle.slot_rule.specs.Private.Slots.{HasRun, NoneOverdue}
 use Rattle.slot_rule.specs.Private.States.{IsFirstState, queue_of}
 use Rattle.slot_rule.specs.Private.Turns.{AreTurns}
-use Rattle.slot_rule.specs.Queues.{queues_of}
-use Rattle.slot_rule.specs.Schedule.{IsFirstMiss, IsScheduled, NoMiss}
+use Rattle.slot_rule.specs.Queues.{QueuedPacket, queues_of}
+use Rattle.slot_rule.specs.Schedule.{IsFirstMiss, IsSchedule, NoMiss}
+use Rattle.slot_rule.specs.SlotList.{CarriesPacket}
 
 -- what is kept before the first slot
 pub record IsFirstRun (table : Table) (choice : List ℕ) (run : RunState) : Type 0 where
@@ -43,8 +44,21 @@ pub record IsIdle (slot : ℕ) (run : RunState) (m : ℕ) : Type 0 where
   pub nothing : IsFirstHead (PassesAt (m * slot)) run.states.items None
   pub in_time : NoneOverdue run.states.items (SUBTICKS_PER_TICK * ((m + 1) * slot))
 
--- what is found in the slots up to the end: the first miss, or that all is sent, or neither
-abbrev pub TellsRun : Table → List ℕ → (end : ℕ) → After → RunState → Type 0
-TellsRun table choice end (Missed miss) run = IsFirstMiss table choice miss
-TellsRun table choice end AllSent run = IsScheduled table choice
-TellsRun table choice end Waiting run = Reached table choice end run
+-- a packet waits to be sent
+abbrev pub Waits : RunState → Type 0
+Waits run = (stream : ℕ) × (packet : QueuedPacket) × IsFirst Passes run.states.items stream packet
+
+-- all is sent with the row of a slot from the first up to the end; a packet stands there, if one waited before
+pub record EndsWithin (table : Table) (choice : List ℕ) (first end : ℕ) (before : RunState) : Type 0 where
+  pub rows : List Row
+  pub last : Row
+  pub schedule : IsSchedule table choice (rows ++ last ∷ [])
+  pub from : first ≤ length rows
+  pub upto : length rows < end
+  pub carries : Waits before → CarriesPacket last
+
+-- what is found in the slots from the first up to the end: the first miss, or that all is sent, or neither
+abbrev pub TellsRun : Table → List ℕ → (first end : ℕ) → (before : RunState) → After → (kept : RunState) → Type 0
+TellsRun table choice first end before (Missed miss) kept = IsFirstMiss table choice miss × (first ≤ miss.slot) × (miss.slot < end)
+TellsRun table choice first end before AllSent kept = EndsWithin table choice first end before
+TellsRun table choice first end before Waiting kept = Reached table choice end kept × (Waits before → Waits kept)

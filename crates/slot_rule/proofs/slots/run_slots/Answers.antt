@@ -1,9 +1,11 @@
 use Rattle.std.proofs.Common.{◌≡◌, ◌+◌, ◌≤◌, ℕ, [], ◌∷◌, ◌++◌, None, length, sym, ap, ap₂, subst, ◌∙◌, arith}
 use Rattle.std.proofs.lemmas.List.{length_push}
 use Rattle.slot_rule.specs.Buffers.{Row, Empty}
+use Rattle.slot_rule.specs.declared.sent.Miss.{Miss}
+use Rattle.slot_rule.specs.Private.Runs.{Reached}
 use Rattle.slot_rule.specs.Timetable.{reserved}
 use Rattle.slot_rule.proofs.IdleLaws.{Reached-idle}
-use Rattle.slot_rule.proofs.MissLaws.{Reached-next, RowStands-next, miss_found, schedule_found}
+use Rattle.slot_rule.proofs.MissLaws.{Reached-next, carries_last, RowStands-next, miss_found, schedule_found}
 use Rattle.slot_rule.proofs.RuleRows.{IsNext}
 use Rattle.slot_rule.proofs.SmallLaws.{all_ready, all_soon, states_few}
 use Rattle.slot_rule.proofs.slots.run_slots.Goals as goal
@@ -32,13 +34,29 @@ pub returns-in-Missed : goal.returns-in-Missed
 returns-in-Missed c =
     let reached = c.loop-n.invariant.reached in
     let step = c.run_slot-row.ensures reached.rows reached.slots_are reached.run in
-    miss_found c.args.table.now c.args.choice.now c.requires.valid c.requires.fits c.loop-n.n c.loop-n.run c.run_slot-row.new.run c.run_slot-row.result reached step.0 step.1 c.in-Missed.miss c.in-Missed.ensures
+    let slot : c.in-Missed.miss.slot ≡ c.loop-n.n = ap (λ (miss : Miss). miss.slot) c.in-Missed.ensures.1 in (
+      miss_found c.args.table.now c.args.choice.now c.requires.valid c.requires.fits c.loop-n.n c.loop-n.run
+          c.run_slot-row.new.run c.run_slot-row.result reached step.0 step.1 c.in-Missed.miss c.in-Missed.ensures,
+      omega (arith, c.loop-n.invariant.from),
+      omega (arith, c.loop-n-test.true),
+    )
 
 pub returns-in-AllSent : goal.returns-in-AllSent
 returns-in-AllSent c =
     let reached = c.loop-n.invariant.reached in
     let step = c.run_slot-row.ensures reached.rows reached.slots_are reached.run in
-    (reached.rows ++ c.run_slot-row.result ∷ [], schedule_found c.args.table.now c.args.choice.now c.requires.valid c.requires.fits c.loop-n.n c.loop-n.run c.run_slot-row.new.run c.run_slot-row.result reached step.0 step.1 c.in-AllSent.ensures)
+    let schedule = schedule_found c.args.table.now c.args.choice.now c.requires.valid c.requires.fits c.loop-n.n
+    c.loop-n.run c.run_slot-row.new.run c.run_slot-row.result reached step.0 step.1 c.in-AllSent.ensures in
+    record {
+      rows = reached.rows;
+      last = c.run_slot-row.result;
+      schedule = schedule;
+      from = omega (arith, reached.slots_are, c.loop-n.invariant.from);
+      upto = omega (arith, reached.slots_are, c.loop-n-test.true);
+      carries = λ waits.
+          let waiting = c.loop-n.invariant.waits waits in
+          carries_last c.args.table.now c.args.choice.now reached.rows c.run_slot-row.result c.loop-n.run.states.items reached.run.states waiting.0 waiting.1 waiting.2 schedule.sent;
+    }
 
 pub idle_until-n-requires-clause-few : goal.idle_until-n-requires-clause-few
 idle_until-n-requires-clause-few c =
@@ -74,6 +92,7 @@ loop-n-preserved-in-Empty c =
     ap₂ (λ (slot programs : ℕ). reserved slot programs n) c.of.ensures.slot c.of.ensures.programs ∙ ap (λ (k : ℕ). reserved table.slot (length table.programs) k) (sym reached.slots_are) ∙ empty.0 in
     let upto : c.idle_until-n.result ≤ c.args.end = omega (arith, c.idle_until-n.ensures.upto, c.min.ensures) in
     record {
+      from = omega (arith, c.loop-n.invariant.from, c.idle_until-n.ensures.from);
       upto = upto;
       reached = Reached-idle table choice c.requires.valid c.requires.fits c.run_slot-row.new.run (n + 1) c.idle_until-n.result c.idle_until-n.ensures.from (omega (arith, upto, c.requires.end)) next
           (λ k from before. (
@@ -81,6 +100,7 @@ loop-n-preserved-in-Empty c =
             ap₂ (λ (slot programs : ℕ). reserved slot programs k) (sym c.of.ensures.slot) (sym c.of.ensures.programs)
                 ∙ c.free_until-free.ensures.free k (omega arith) (omega (arith, c.idle_until-n.ensures.upto, c.min.ensures)) free,
           ));
+      waits = λ waits. c.in-Waiting.ensures.2;
     }
 
 pub loop-n-preserved : goal.loop-n-preserved
@@ -88,6 +108,14 @@ loop-n-preserved c =
     let reached = c.loop-n.invariant.reached in
     let step = c.run_slot-row.ensures reached.rows reached.slots_are reached.run in
     record {
+      from = omega (arith, c.loop-n.invariant.from);
       upto = omega (arith, c.loop-n-test.true);
-      reached = Reached-next c.args.table.now c.args.choice.now c.requires.valid c.requires.fits c.loop-n.n c.loop-n.run c.run_slot-row.new.run c.run_slot-row.result reached step.0 step.1 c.in-Waiting.ensures;
+      reached = Reached-next c.args.table.now c.args.choice.now c.requires.valid c.requires.fits c.loop-n.n
+          c.loop-n.run c.run_slot-row.new.run c.run_slot-row.result reached step.0 step.1 c.in-Waiting.ensures;
+      waits = λ waits. c.in-Waiting.ensures.2;
     }
+
+pub returns : goal.returns
+returns c =
+    let done : c.loop-n.n ≡ c.args.end = omega (arith, c.loop-n.invariant.upto, c.loop-n-test.false) in
+    (subst (λ n. Reached c.args.table.now c.args.choice.now n c.loop-n.run) done c.loop-n.invariant.reached, c.loop-n.invariant.waits)

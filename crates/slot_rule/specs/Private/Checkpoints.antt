@@ -1,0 +1,59 @@
+-- What is kept at checkpoints, and what of it stands under another choice.
+use Rattle.std.specs.Prelude.{◌≡◌, ℕ, ◌*◌, ◌<◌, ◌≤◌, List, length, take, drop, slice_get, Option, Some, MatchOption, true, ◌⊎◌}
+use Rattle.version_table.specs.declared.table.Table.{Table}
+use Rattle.slot_rule.specs.declared.sent.Miss.{Miss}
+use Rattle.slot_rule.specs.declared.fronts.Front.{Front}
+use Rattle.slot_rule.specs.declared.queue_items.QueueItems.{QueueItems}
+use Rattle.slot_rule.specs.declared.queue_items.QueueItems.TheVariants.{Units, Packets}
+use Rattle.slot_rule.specs.declared.queue_state.QueueState.{QueueState}
+use Rattle.slot_rule.specs.declared.run_state.RunState.{RunState}
+use Rattle.slot_rule.specs.Queues.{QueuedPacket}
+use Rattle.slot_rule.specs.Schedule.{IsFirstMiss, IsScheduled}
+use Rattle.slot_rule.specs.SlotRun.{slots_apart}
+use Rattle.slot_rule.specs.Private.QueueItems.{program_at}
+use Rattle.slot_rule.specs.Private.Runs.{Reached, Waits}
+
+-- what is kept where so many slots have been run and a packet waits
+pub record IsCheckpoint (table : Table) (choice : List ℕ) (slots : ℕ) (run : RunState) : Type 0 where
+  pub reached : Reached table choice slots run
+  pub waits : Waits run
+
+-- each is what is kept at its checkpoint
+abbrev pub AreCheckpoints : Table → List ℕ → List RunState → Type 0
+AreCheckpoints table choice checkpoints = (k : ℕ) (run : RunState) → slice_get checkpoints k ≡ Some run → IsCheckpoint table choice (slots_apart * k) run
+
+-- the answer of a run
+abbrev pub TellsMiss : Table → List ℕ → Option Miss → Type 0
+TellsMiss table choice result = MatchOption result (IsScheduled table choice) (IsFirstMiss table choice)
+
+-- the units of a front have the same versions under both choices; it is whole where it has all units of its queue
+abbrev pub IsFrontOf : Table → (choice choice' : List ℕ) → QueueItems → (same : ℕ) → Type 0
+IsFrontOf table choice choice' (Units program first) same = take same (drop first choice) ≡ take same (drop first choice')
+IsFrontOf table choice choice' (Packets program audio) same = Unit {0}
+
+abbrev pub IsWholeOf : Table → QueueItems → (same : ℕ) → Type 0
+IsWholeOf table (Units program first) same = length (program_at table program).units ≤ same
+IsWholeOf table (Packets program audio) same = Unit {0}
+
+-- what of a queue is the same under both choices
+pub record IsFront (table : Table) (choice choice' : List ℕ) (state : QueueState) (front : Front) : Type 0 where
+  pub items : front.items ≡ state.items
+  pub same : IsFrontOf table choice choice' front.items front.same
+  pub whole : front.is_whole ≡ true → IsWholeOf table front.items front.same
+
+-- the fronts of the queues with these states
+pub record AreFronts (table : Table) (choice choice' : List ℕ) (states : List QueueState) (fronts : List Front) : Type 0 where
+  pub one_each : length fronts ≡ length states
+  pub each : (stream : ℕ) (state : QueueState) (front : Front) → slice_get states stream ≡ Some state → slice_get fronts stream ≡ Some front
+      → IsFront table choice choice' state front
+
+-- the queue's packets up to its head are within the front
+pub record IsWithin (front : Front) (state : QueueState) : Type 0 where
+  pub items : state.items ≡ front.items
+  pub head : (front.is_whole ≡ true) ⊎ ((packet : QueuedPacket) × (state.head ≡ Some packet) × (packet.item < front.same))
+
+-- the packets of all queues up to their heads are within the fronts
+pub record AreWithin (fronts : List Front) (states : List QueueState) : Type 0 where
+  pub one_each : length states ≡ length fronts
+  pub each : (stream : ℕ) (state : QueueState) (front : Front) → slice_get states stream ≡ Some state → slice_get fronts stream ≡ Some front
+      → IsWithin front state
