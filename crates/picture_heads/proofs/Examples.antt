@@ -58,7 +58,7 @@ group_place : (before_vbv_delay (Some state)).Spells 1 (bit_list (group_bytes ++
 unfolding answers decided-before
 group_place = (said (decided-before (Some state)) (bit_list (group_bytes ++ picture_bytes ++ coding_extension_bytes) ++ []) refl).0
 
-behind_group : IsHeadWithoutDelay (group_bytes ++ picture_bytes ++ coding_extension_bytes) (group_bytes ++ picture_without ++ coding_extension_bytes)
+pub behind_group : IsHeadWithoutDelay (group_bytes ++ picture_bytes ++ coding_extension_bytes) (group_bytes ++ picture_without ++ coding_extension_bytes)
 unfolding bits_of
 behind_group = record {
   front = bits_before group_bytes;
