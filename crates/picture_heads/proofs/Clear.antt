@@ -1,14 +1,12 @@
 -- Bits in which no start code begins, up to a place.
-use Rattle.std.proofs.Common.{◌≡◌, ◌≢◌, ◌⊎◌, ◌+◌, ◌*◌, ◌%◌, ◌^◌, ◌<◌, ◌≤◌, ℕ, zero, suc, List, [], ◌∷◌, ◌++◌, length, replicate, take, Bool, true, false, refl, sym, ap, ap₂, subst, ◌∙◌, inl, inr, arith, append_assoc, append-nil}
-use Rattle.std.proofs.lemmas.Bool.{and_parts, cases_lt}
-use Rattle.std.proofs.lemmas.List.{length-append, length-replicate, append_cancel_left, append_cancel_right}
-use Rattle.bit_lists.specs.Bits.{IsPrefix, bits_of}
+use Rattle.std.proofs.Common.{◌≡◌, ◌⊎◌, ◌+◌, ◌*◌, ◌%◌, ◌≤◌, ℕ, zero, suc, List, [], ◌∷◌, ◌++◌, length, replicate, Bool, true, refl, sym, ap, ap₂, subst, ◌∙◌, inl, inr, arith, append_assoc, append-nil}
+use Rattle.std.proofs.lemmas.List.{length-append, length-replicate}
+use Rattle.bit_lists.specs.Bits.{bits_of}
 use Rattle.bit_lists.proofs.BitLemmas.{length-bits_of}
-use Rattle.bit_lists.proofs.PrefixLemmas.{IsPrefix-append}
 use Rattle.picture_grammar.specs.Refusal.{Refusal}
 use Rattle.picture_grammar.specs.StartCode.{start_code_prefix, start_code_bits, start_code}
 use Rattle.picture_laws.proofs.Tested.{prefix-zeros}
-use Rattle.picture_laws.proofs.StartCodes.{zeros_before, zeros_before-one, opened, opened-zeros, parted, code-taken}
+use Rattle.picture_laws.proofs.StartCodes.{zeros_before, opened, opened-zeros, parted, code-taken}
 use Rattle.picture_laws.proofs.Tails.{suffix-one, led}
 use Rattle.picture_laws.proofs.ZeroRuns.{AreShort, zeros_behind, short-behind, short-zeros}
 use Rattle.picture_heads.specs.Private.Walk.{IsFirstCode}

@@ -1,5 +1,5 @@
 -- vbv_delay stands in one place of a head.
-use Rattle.std.proofs.Common.{◌≡◌, ◌≢◌, ◌⊎◌, ◌+◌, ◌-◌, ◌*◌, ◌/◌, ◌%◌, ◌<◌, ◌≤◌, ℕ, zero, suc, nat_eq, List, ◌++◌, length, drop, get_or, Bool, true, false, if◌then◌else◌, refl, sym, ap, ap₂, subst, ◌∙◌, inl, inr, arith, append_assoc, eq-eqb}
+use Rattle.std.proofs.Common.{◌≡◌, ◌≢◌, ◌+◌, ◌-◌, ◌*◌, ◌/◌, ◌%◌, ◌<◌, ◌≤◌, ℕ, zero, suc, nat_eq, List, ◌++◌, length, drop, get_or, if◌then◌else◌, refl, sym, ap, ap₂, ◌∙◌, inl, inr, arith, append_assoc, eq-eqb}
 use Rattle.std.proofs.lemmas.Bool.{cases_Bool, eqb-true, eqb-false}
 use Rattle.std.proofs.lemmas.List.{length-append}
 use Rattle.bit_lists.specs.Bits.{bits_of}
@@ -10,7 +10,7 @@ use Rattle.stream_constants.specs.declared.start_codes.TheConstants.{PICTURE, GR
 use Rattle.picture_heads.specs.declared.TheConstants.{DELAY_BITS, NO_DELAY}
 use Rattle.picture_heads.specs.Heads.{HasDelay, IsHeadWithoutDelay}
 use Rattle.picture_heads.specs.Private.StartCodes.{is_start_code_at}
-use Rattle.picture_heads.specs.Private.Walk.{IsFirstCode, LeadsIn, with_ones}
+use Rattle.picture_heads.specs.Private.Walk.{LeadsIn, with_ones}
 use Rattle.picture_heads.proofs.Bytes.{same_parts, IsFound}
 use Rattle.picture_heads.proofs.LeadingCodes.{head-leads}
 use Rattle.picture_heads.proofs.Ones.{IsSet, set_at}

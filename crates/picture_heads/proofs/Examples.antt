@@ -1,20 +1,17 @@
 -- Worked examples: heads, and the same without vbv_delay. The bits were worked out by hand.
-use Rattle.std.proofs.Common.{◌≡◌, ◌==◌, ℕ, Option, Some, None, List, [], ◌∷◌, ◌++◌, nat_lt, true, false, refl}
+use Rattle.std.proofs.Common.{◌≡◌, ℕ, Option, Some, None, List, [], ◌∷◌, ◌++◌, nat_lt, true, false, refl}
 use Rattle.std.specs.List.{list_all}
 use Rattle.std.proofs.lemmas.Bool.{and_parts, ltb-true}
 use Rattle.bit_lists.specs.Bits.{bits_of}
 use Rattle.bit_lists.specs.Fields.{AreBytes, bit_list}
 use Rattle.quant_math.specs.Matrices.{default_weights}
 use Rattle.syntax_types.specs.declared.picture.SeqState.{SeqState}
-use Rattle.stream_constants.specs.declared.start_codes.TheConstants.{PICTURE}
-use Rattle.picture_grammar.specs.Refusal.Refusal.{BadHeader}
-use Rattle.picture_grammar.specs.StartCode.{start_code}
 use Rattle.picture_laws.proofs.Answers.{IsDecided}
 use Rattle.picture_laws.proofs.Computing.{said, answers}
 use Rattle.picture_laws.proofs.Decided.{decided-then}
 use Rattle.picture_laws.proofs.DecidedElements.{decided-uimsbf}
 use Rattle.picture_laws.proofs.DecidedHeads.{decided-start_code, decided-sequence_part, decided-group_part}
-use Rattle.picture_heads.specs.Heads.{before_vbv_delay, HasDelay, IsHeadWithoutDelay}
+use Rattle.picture_heads.specs.Heads.{before_vbv_delay, IsHeadWithoutDelay}
 
 decided-before : (before : Option SeqState) → IsDecided (before_vbv_delay before)
 decided-before before =
@@ -61,7 +58,7 @@ group_place : (before_vbv_delay (Some state)).Spells 1 (bit_list (group_bytes ++
 unfolding answers decided-before
 group_place = (said (decided-before (Some state)) (bit_list (group_bytes ++ picture_bytes ++ coding_extension_bytes) ++ []) refl).0
 
-behind_group : IsHeadWithoutDelay (group_bytes ++ picture_bytes ++ coding_extension_bytes) (group_bytes ++ picture_without ++ coding_extension_bytes)
+pub behind_group : IsHeadWithoutDelay (group_bytes ++ picture_bytes ++ coding_extension_bytes) (group_bytes ++ picture_without ++ coding_extension_bytes)
 unfolding bits_of
 behind_group = record {
   front = bits_before group_bytes;

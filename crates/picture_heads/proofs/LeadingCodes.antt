@@ -1,7 +1,7 @@
 -- The start codes before vbv_delay: the walk comes to the picture's.
-use Rattle.std.proofs.Common.{◌≡◌, ◌≢◌, ◌⊎◌, ◌+◌, ◌*◌, ◌%◌, ◌^◌, ◌<◌, ◌≤◌, ◌==◌, ◌||◌, ◌&&◌, nat_eq, not, ℕ, zero, suc, Option, Some, None, List, [], ◌∷◌, ◌++◌, length, replicate, take, Bool, true, false, refl, sym, ap, ap₂, subst, ◌∙◌, inl, inr, arith, append_assoc, append-nil, eq-eqb}
+use Rattle.std.proofs.Common.{◌≡◌, ◌≢◌, ◌⊎◌, ◌+◌, ◌%◌, ◌<◌, ◌≤◌, ◌==◌, ◌||◌, ◌&&◌, nat_eq, not, ℕ, zero, suc, Option, Some, None, List, [], ◌∷◌, ◌++◌, length, replicate, Bool, true, false, refl, sym, ap, subst, ◌∙◌, inl, inr, arith, append_assoc, eq-eqb}
 use Rattle.std.proofs.lemmas.Bool.{and_parts, or_cases, cases_Bool, cases_lt, eqb-true}
-use Rattle.std.proofs.lemmas.List.{length-append, length-replicate, append_cancel_right}
+use Rattle.std.proofs.lemmas.List.{length-append, length-replicate}
 use Rattle.bit_lists.specs.Bits.{IsPrefix, bits_of}
 use Rattle.bit_lists.proofs.BitLemmas.{length-bits_of}
 use Rattle.bit_lists.proofs.JoinedLemmas.{bits_of-zero}
@@ -10,12 +10,12 @@ use Rattle.syntax_types.specs.declared.picture.SeqState.{SeqState}
 use Rattle.stream_constants.specs.declared.start_codes.TheConstants.{PICTURE, USER_DATA, SEQUENCE_HEADER, EXTENSION, GROUP, SEQUENCE_DISPLAY, QUANT_MATRIX}
 use Rattle.picture_grammar.specs.Refusal.{Refusal}
 use Rattle.picture_grammar.specs.Refusal.Refusal.{BadHeader, NotMpeg2}
-use Rattle.picture_grammar.specs.Grammar.{Grammar, done, ◌>>=◌, ◌>>◌, optional, when, if_next, many, SpellsList, Next, one_more}
+use Rattle.picture_grammar.specs.Grammar.{Grammar, done, optional, when, if_next, SpellsList, Next, one_more}
 use Rattle.picture_grammar.specs.Grammar.Next.{more, last}
-use Rattle.picture_grammar.specs.Element.{uimsbf, rule}
-use Rattle.picture_grammar.specs.StartCode.{start_code_prefix, start_code_bits, start_code, zero_bits, StartCodeComes}
-use Rattle.picture_grammar.specs.Headers.{Loaded, sequence_header, sequence_extension, group_header}
-use Rattle.picture_grammar.specs.Head.{is_scalable, no_matrix, unread, extension, extension_or_user_data, user_data_only, sequence_headers, sequence_part, group_part}
+use Rattle.picture_grammar.specs.Element.{uimsbf}
+use Rattle.picture_grammar.specs.StartCode.{start_code_prefix, start_code, zero_bits}
+use Rattle.picture_grammar.specs.Headers.{Loaded}
+use Rattle.picture_grammar.specs.Head.{is_scalable, no_matrix, unread, extension, extension_or_user_data, sequence_headers, sequence_part, group_part}
 use Rattle.picture_laws.proofs.StartCodes.{zeros_before, zeros_before-one}
 use Rattle.picture_laws.proofs.Tested.{prefix-zeros}
 use Rattle.picture_heads.specs.Heads.{before_vbv_delay}

@@ -1,5 +1,5 @@
 -- Heads that some bits spell have a vbv_delay.
-use Rattle.std.proofs.Common.{◌≡◌, ◌+◌, ◌*◌, ◌%◌, ◌<◌, ◌≤◌, ◌==◌, ◌||◌, ◌^◌, ℕ, Option, Some, None, List, [], ◌∷◌, ◌++◌, length, replicate, Bool, true, false, refl, sym, ap, ap₂, subst, ◌∙◌, inl, inr, arith, append_assoc}
+use Rattle.std.proofs.Common.{◌≡◌, ◌*◌, ◌%◌, ◌==◌, ◌||◌, ℕ, Option, List, [], ◌∷◌, ◌++◌, length, replicate, Bool, refl, sym, ap, ap₂, subst, ◌∙◌, arith, append_assoc}
 use Rattle.std.specs.Prelude.{fold}
 use Rattle.std.proofs.lemmas.List.{length-append, append_cancel_right}
 use Rattle.bit_lists.specs.Bits.{bits_of}
@@ -15,11 +15,11 @@ use Rattle.picture_grammar.specs.Element.{uimsbf, rule}
 use Rattle.picture_grammar.specs.Exact.{IsExact, EndsWith}
 use Rattle.picture_grammar.specs.Slice.{extra_information}
 use Rattle.picture_grammar.specs.StartCode.{start_code_bits, start_code, zero_bits}
-use Rattle.picture_grammar.specs.Headers.{old_f_code, picture_header, picture_coding_extension, with_loaded}
+use Rattle.picture_grammar.specs.Headers.{old_f_code, picture_coding_extension, with_loaded}
 use Rattle.picture_grammar.specs.Head.{extensions_and_user_data, sequence_part, group_part, head}
 use Rattle.picture_grammar.proofs.GrammarLaws.{exact-done, exact-bind, exact-then, exact-optional, exact-many, EndsWith-through}
 use Rattle.picture_grammar.proofs.PictureLaws.{exact-uimsbf}
-use Rattle.picture_grammar.proofs.HeaderLaws.{exact-zero_bits, exact-start_code, exact-old_f_code, exact-picture_coding_extension, exact-extension_or_user_data, exact-sequence_part, exact-group_part}
+use Rattle.picture_grammar.proofs.HeaderLaws.{exact-zero_bits, exact-start_code, exact-old_f_code, exact-picture_coding_extension, exact-extension_or_user_data}
 use Rattle.picture_grammar.proofs.MacroblockLaws.{exact-extra_information}
 use Rattle.picture_laws.proofs.StartCodes.{code-taken, code-made}
 use Rattle.picture_laws.proofs.Steady.{IsSteady, steady-bind, steady-then, steady-done}

@@ -1,13 +1,12 @@
 -- Zero bits on end in sequence headers and their extension: at most 22.
-use Rattle.std.proofs.Common.{◌≡◌, ◌≢◌, ◌&&◌, ◌+◌, ◌<◌, ◌≤◌, ℕ, not, nat_le, nat_eq, List, [], ◌∷◌, Option, Some, None, Bool, true, false, refl, sym, subst, arith, eq-eqb}
+use Rattle.std.proofs.Common.{◌≡◌, ◌≢◌, ◌&&◌, ◌+◌, ◌<◌, ◌≤◌, ℕ, nat_le, nat_eq, List, [], ◌∷◌, Option, None, Bool, true, false, sym, subst, arith, eq-eqb}
 use Rattle.std.proofs.lemmas.Bool.{and_parts, leb-true, eqb-true, both_ways, not-true}
-use Rattle.bit_lists.specs.Bits.{bits_of}
 use Rattle.syntax_types.specs.declared.picture.SeqState.{SeqState}
 use Rattle.stream_constants.specs.declared.main_level.TheConstants.{VBV_MOST}
 use Rattle.picture_grammar.specs.declared.limits.TheConstants.{WIDTH_LEAST, WIDTH_MOST, HEIGHT_LEAST, HEIGHT_MOST, RATE_CODE_MOST, MAIN_AT_MAIN, CHROMA_420}
 use Rattle.stream_constants.specs.declared.start_codes.TheConstants.{SEQUENCE_EXTENSION}
 use Rattle.picture_grammar.specs.Refusal.Refusal.{BadHeader, NotMpeg2}
-use Rattle.picture_grammar.specs.Grammar.{optional, repeated, ◌>>=◌, ◌>>◌}
+use Rattle.picture_grammar.specs.Grammar.{optional, repeated, ◌>>◌}
 use Rattle.picture_grammar.specs.Element.{Rule, passes, uimsbf, flag_where, rule}
 use Rattle.picture_grammar.specs.Headers.{is_from_to, is_not_zero, matrix_if_loaded, sequence_header, sequence_extension}
 use Rattle.picture_laws.proofs.ZeroRuns.{AreShort, zeros_behind, IsShort, short-done, short-element, short-bind, short-weak, short-optional, short-repeated, short-uimsbf, behind_flag, short-flag}

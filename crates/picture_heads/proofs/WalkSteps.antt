@@ -1,13 +1,11 @@
 -- The walk over the bytes of a head, from one start code to the next.
-use Rattle.std.proofs.Common.{◌≡◌, ◌≢◌, ◌⊎◌, ◌+◌, ◌-◌, ◌*◌, ◌%◌, ◌<◌, ◌≤◌, ℕ, zero, suc, List, ◌++◌, length, take, drop, get_or, min, true, false, refl, sym, ap, subst, ◌∙◌, inl, inr, arith, append_assoc}
+use Rattle.std.proofs.Common.{◌≡◌, ◌≢◌, ◌⊎◌, ◌+◌, ◌-◌, ◌*◌, ◌%◌, ◌<◌, ◌≤◌, ℕ, zero, suc, List, ◌++◌, length, take, drop, get_or, true, false, sym, ap, subst, ◌∙◌, inl, inr, arith, append_assoc}
 use Rattle.std.proofs.lemmas.Bool.{cases_lt}
 use Rattle.std.proofs.lemmas.List.{length-append, drop-drop, length-take, length-drop}
 use Rattle.bit_lists.specs.Fields.{AreBytes, bit_list}
-use Rattle.bit_lists.proofs.BitLemmas.{length-bits_of}
 use Rattle.bit_lists.proofs.ByteLemmas.{bit_list-take, length-bit_list}
-use Rattle.bit_lists.specs.Bits.{bits_of}
-use Rattle.stream_constants.specs.declared.start_codes.TheConstants.{PICTURE, GROUP}
-use Rattle.picture_grammar.specs.StartCode.{start_code_prefix, start_code_bits}
+use Rattle.picture_grammar.specs.declared.start_codes.TheConstants.{PICTURE, GROUP}
+use Rattle.picture_grammar.specs.StartCode.{start_code_bits}
 use Rattle.picture_heads.specs.Private.StartCodes.{is_start_code_at}
 use Rattle.picture_heads.specs.Private.Walk.{IsFirstCode, GoesOn, LeadsIn}
 use Rattle.picture_heads.proofs.Bytes.{same_parts, IsFound, found-at}

@@ -15,3 +15,6 @@ pub const DELAY_BITS: u32 = 16;
 
 /// vbv_delay of a picture whose stream has no constant rate (ISO/IEC 13818-2, 6.3.9).
 pub const NO_DELAY: u16 = 0xFFFF;
+
+#[cfg(test)]
+mod tests;

@@ -1,7 +1,7 @@
 -- The version of a lawful picture is lawful.
-use Rattle.std.proofs.Common.{◌≡◌, ◌+◌, ◌*◌, ◌%◌, ◌<◌, ◌==◌, ℕ, List, [], ◌∷◌, ◌++◌, length, Bool, true, false, refl, sym, ◌∙◌, ap, ap₂, subst, arith}
+use Rattle.std.proofs.Common.{◌≡◌, ◌+◌, ◌*◌, ◌<◌, ◌==◌, ℕ, List, [], ◌∷◌, ◌++◌, length, Bool, true, refl, sym, ◌∙◌, ap, ap₂, subst, arith}
 use Rattle.std.specs.Prelude.{map}
-use Rattle.std.specs.List.{AllByRecursion, AllZip, flat_map, range_with_len}
+use Rattle.std.specs.List.{AllByRecursion, flat_map, range_with_len}
 use Rattle.bit_lists.specs.Fields.{bit_list}
 use Rattle.bit_lists.proofs.ByteLemmas.{length-bit_list}
 use Rattle.syntax_types.specs.declared.macroblock.Macroblock.{Macroblock}
@@ -25,7 +25,7 @@ use Rattle.requantiser.specs.Version.{IsVersion}
 use Rattle.requantiser.specs.Private.Shapes.{IsWalkableSlice}
 use Rattle.requantiser.specs.Private.Walk.{coarsened_slice}
 use Rattle.requantiser.proofs.SpellableSlices.{slice-spelled}
-use Rattle.requantiser.proofs.SpelledPictures.{IsWalkablePicture, lawful-walkable, coarsened_slices-are}
+use Rattle.requantiser.proofs.SpelledPictures.{lawful-walkable, coarsened_slices-are}
 use Rattle.requantiser.proofs.Versions.{lawful-delay, one_list}
 
 -- ---- vbv_delay plays no part in macroblocks

@@ -1,5 +1,5 @@
 -- Blocks of a version that some bits spell.
-use Rattle.std.proofs.Common.{◌≡◌, ◌≢◌, ◌⊎◌, ◌+◌, ◌-◌, ◌*◌, ◌/◌, ◌%◌, ◌^◌, ◌<◌, ◌≤◌, ◌==◌, ◌&&◌, ◌||◌, ℕ, zero, suc, ℤ, pos, negsuc, unsigned_abs, not, Option, Some, None, List, [], ◌∷◌, ◌++◌, length, Bool, true, false, if◌then◌else◌, refl, sym, ◌∙◌, ap, subst, inl, inr, arith, get_or}
+use Rattle.std.proofs.Common.{◌≡◌, ◌≢◌, ◌⊎◌, ◌+◌, ◌-◌, ◌*◌, ◌/◌, ◌%◌, ◌^◌, ◌<◌, ◌≤◌, ◌==◌, ◌||◌, ℕ, zero, suc, ℤ, pos, negsuc, unsigned_abs, not, Option, None, List, [], ◌∷◌, length, Bool, true, false, if◌then◌else◌, refl, sym, ◌∙◌, ap, subst, inl, inr, arith}
 use Rattle.std.specs.Prelude.{slice_index_or}
 use Rattle.std.specs.Int.{bit_at}
 use Rattle.std.specs.List.{AllByRecursion, sum_by}
@@ -10,13 +10,12 @@ use Rattle.bit_lists.specs.Fields.{flag}
 use Rattle.bit_lists.proofs.FieldLemmas.{flag_below}
 use Rattle.syntax_types.specs.declared.block.Block.{Block}
 use Rattle.syntax_types.specs.declared.block.BlockWay.{BlockWay}
-use Rattle.syntax_types.specs.declared.block.Dc.{Dc}
 use Rattle.syntax_types.specs.declared.block.RunLevel.{RunLevel}
 use Rattle.syntax_types.specs.declared.macroblock.TheConstants.{BLOCKS}
 use Rattle.syntax_types.specs.declared.macroblock.Kind.{Kind}
 use Rattle.syntax_types.specs.declared.picture.PicCoding.{PicCoding}
 use Rattle.picture_grammar.specs.Grammar.{Grammar, optional}
-use Rattle.picture_grammar.specs.Block.{dc_coefficient, first_place, next_place}
+use Rattle.picture_grammar.specs.Block.{dc_coefficient, first_place}
 use Rattle.picture_grammar.specs.Macroblock.{block_way, is_coded, no_block}
 use Rattle.picture_laws.specs.Spellable.{IsSpellable, HasSpellableCoefficients, IsSpellableBlock, AreSpellableBlocks}
 use Rattle.requantiser.specs.Macroblocks.{is_empty_block, pattern_of}

@@ -1,5 +1,5 @@
 -- Elements of a macroblock that some bits spell.
-use Rattle.std.proofs.Common.{◌≡◌, ◌≢◌, ◌+◌, ◌-◌, ◌*◌, ◌/◌, ◌^◌, ◌<◌, ◌≤◌, ◌==◌, ◌&&◌, ◌||◌, ℕ, zero, suc, nat_eq, nat_le, not, Option, Some, None, List, [], ◌∷◌, ◌++◌, length, Bool, true, false, if◌then◌else◌, refl, sym, ◌∙◌, ap, subst, inl, inr, arith}
+use Rattle.std.proofs.Common.{◌≡◌, ◌+◌, ◌-◌, ◌*◌, ◌/◌, ◌<◌, ◌≤◌, ◌==◌, ◌&&◌, ◌||◌, ℕ, zero, suc, nat_le, not, Option, Some, None, List, [], ◌∷◌, ◌++◌, length, Bool, true, false, if◌then◌else◌, refl, sym, ◌∙◌, ap, subst, inl, inr, arith}
 use Rattle.std.specs.Prelude.{is_some}
 use Rattle.std.specs.List.{list_all, range_with_len}
 use Rattle.std.proofs.lemmas.Bool.{and_parts, and_from, le-leb, ne_eqb, cases_Bool}
@@ -15,7 +15,7 @@ use Rattle.quant_math.specs.Scales.{IsCode}
 use Rattle.syntax_types.specs.declared.macroblock.Kind.{Kind}
 use Rattle.syntax_types.specs.declared.picture.PicCoding.{PicCoding}
 use Rattle.syntax_types.specs.declared.picture.TheConstants.{I_PICTURE, P_PICTURE}
-use Rattle.picture_grammar.specs.Refusal.Refusal.{BadType, BadPattern}
+use Rattle.picture_grammar.specs.Refusal.Refusal.{BadPattern}
 use Rattle.picture_grammar.specs.Grammar.{SpellsList}
 use Rattle.picture_grammar.specs.Grammar.Next.{more, last}
 use Rattle.picture_grammar.specs.Element.{vlclbf}

@@ -1,16 +1,15 @@
 -- Macroblocks of a version that some bits spell.
-use Rattle.std.proofs.Common.{◌≡◌, ◌≢◌, ◌⊎◌, ◌+◌, ◌-◌, ◌*◌, ◌^◌, ◌<◌, ◌≤◌, ◌==◌, ◌&&◌, ◌||◌, ℕ, zero, suc, ℤ, pos, negsuc, unsigned_abs, not, Option, Some, None, List, [], ◌∷◌, ◌++◌, length, Bool, true, false, if◌then◌else◌, refl, sym, ◌∙◌, ap, subst, inl, inr, arith, get_or}
+use Rattle.std.proofs.Common.{◌≡◌, ◌≢◌, ◌⊎◌, ◌+◌, ◌-◌, ◌<◌, ◌==◌, ◌&&◌, ◌||◌, ℕ, zero, suc, ℤ, pos, negsuc, unsigned_abs, not, Option, Some, None, List, [], ◌∷◌, length, Bool, true, false, if◌then◌else◌, refl, sym, ◌∙◌, ap, subst, inl, inr, arith, get_or}
 use Rattle.std.specs.Prelude.{slice_index_or, slice_set, is_some}
 use Rattle.std.specs.Int.{bit_at, int_signum}
 use Rattle.std.specs.List.{AllByRecursion}
-use Rattle.std.proofs.lemmas.Bool.{cases_Bool, cases_eq, eqb-true, eq-eqb, not-true, ne_eqb}
+use Rattle.std.proofs.lemmas.Bool.{cases_Bool, cases_eq, eqb-true, eq-eqb}
 use Rattle.std.proofs.lemmas.List.{same_lists, get_or_default, get_or-replicate, get_or-set_same, get_or-set_other}
 use Rattle.std.proofs.lemmas.Nat.Bits.{bit_at-zero}
 use Rattle.prefix_codes.specs.declared.table_name.TableName.TheVariants.{Pattern}
 use Rattle.quant_math.specs.Scales.{IsCode}
 use Rattle.syntax_types.specs.declared.block.Block.{Block}
 use Rattle.syntax_types.specs.declared.block.BlockWay.{BlockWay}
-use Rattle.syntax_types.specs.declared.block.RunLevel.{RunLevel}
 use Rattle.syntax_types.specs.declared.macroblock.TheConstants.{BLOCKS}
 use Rattle.syntax_types.specs.declared.macroblock.Kind.{Kind}
 use Rattle.syntax_types.specs.declared.macroblock.Macroblock.{Macroblock}
@@ -18,16 +17,16 @@ use Rattle.syntax_types.specs.declared.macroblock.Vector.{Vector}
 use Rattle.syntax_types.specs.declared.picture.PicCoding.{PicCoding}
 use Rattle.syntax_types.specs.declared.picture.SeqState.{SeqState}
 use Rattle.picture_grammar.specs.Refusal.Refusal.{BadPattern}
-use Rattle.picture_grammar.specs.Grammar.{Grammar, optional, when}
+use Rattle.picture_grammar.specs.Grammar.{optional, when}
 use Rattle.picture_grammar.specs.Element.{vlclbf, one_flag}
 use Rattle.picture_grammar.specs.Block.{dc_coefficient}
 use Rattle.picture_grammar.specs.Motion.{motion_vectors}
-use Rattle.picture_grammar.specs.Macroblock.{address_increment, most_increment, macroblock_type, motion_type, dct_type, has_dct_type, has_forward, f_codes, motion_format, quantiser_scale_code, block_way, is_coded, no_block, blocks}
-use Rattle.picture_laws.specs.Spellable.{IsSpellable, HasSpellableCoefficients, IsSpellableBlock, AreSpellableBlocks, HasSpellableParts}
+use Rattle.picture_grammar.specs.Macroblock.{address_increment, most_increment, macroblock_type, motion_type, dct_type, has_dct_type, has_forward, f_codes, motion_format, quantiser_scale_code, block_way, is_coded, no_block}
+use Rattle.picture_laws.specs.Spellable.{IsSpellable, IsSpellableBlock, AreSpellableBlocks, HasSpellableParts}
 use Rattle.picture_laws.proofs.WrittenBlocks.{of_blocks, blocks-of}
-use Rattle.requantiser.specs.Blocks.{IsCoarserBlock, AreCoarserBlocks, KeepsFirstLevel, no_blocks, block_of_one}
+use Rattle.requantiser.specs.Blocks.{IsCoarserBlock, AreCoarserBlocks, no_blocks, block_of_one}
 use Rattle.requantiser.specs.Levels.{level_at}
-use Rattle.requantiser.specs.Macroblocks.{has_coefficients, pattern_of, IsEmptiedWithoutMotion, HasBlocks, IsCoarserMacroblock}
+use Rattle.requantiser.specs.Macroblocks.{has_coefficients, pattern_of, HasBlocks, IsCoarserMacroblock}
 use Rattle.requantiser.proofs.Blocks.{coarsened_block-is, one_coarser_block}
 use Rattle.requantiser.proofs.Macroblocks.{empty_block}
 use Rattle.requantiser.proofs.Made.{FitBlocks}

@@ -1,10 +1,9 @@
 -- Slices of a version that some bits spell.
-use Rattle.std.proofs.Common.{◌≡◌, ◌≢◌, ◌⊎◌, ◌+◌, ◌-◌, ◌*◌, ◌<◌, ◌≤◌, ◌==◌, ◌&&◌, ℕ, zero, suc, min, not, Option, Some, None, List, [], ◌∷◌, ◌++◌, length, unwrap_or, Bool, true, false, if◌then◌else◌, refl, sym, ◌∙◌, ap, subst, inl, inr, arith, append_assoc, append-nil}
-use Rattle.std.specs.List.{AllByRecursion, sum_by}
-use Rattle.std.proofs.lemmas.Bool.{cases_Bool, ne_eqb}
+use Rattle.std.proofs.Common.{◌≡◌, ◌⊎◌, ◌+◌, ◌-◌, ◌<◌, ◌≤◌, ◌==◌, ◌&&◌, ℕ, min, not, Option, Some, None, List, [], ◌∷◌, ◌++◌, length, unwrap_or, Bool, true, false, if◌then◌else◌, refl, sym, ◌∙◌, ap, subst, inl, inr, arith, append_assoc, append-nil}
+use Rattle.std.specs.List.{sum_by}
+use Rattle.std.proofs.lemmas.Bool.{ne_eqb}
 use Rattle.std.proofs.lemmas.List.{length-append}
 use Rattle.std.proofs.lemmas.List.Sums.{sum_by-append, sum_by-cons}
-use Rattle.quant_math.specs.Scales.{IsMappedCode}
 use Rattle.syntax_types.specs.declared.macroblock.Macroblock.{Macroblock}
 use Rattle.syntax_types.specs.declared.picture.TheConstants.{I_PICTURE}
 use Rattle.syntax_types.specs.declared.picture.PicCoding.{PicCoding}
@@ -14,7 +13,7 @@ use Rattle.picture_grammar.specs.Macroblock.{address_increment, most_increment}
 use Rattle.picture_grammar.specs.Picture.{first_column, addresses}
 use Rattle.picture_grammar.specs.Slice.{columns, columns_left}
 use Rattle.picture_laws.specs.Spellable.{IsSpellable, HasSpellableParts, HasSpellableMacroblocks}
-use Rattle.requantiser.specs.Macroblocks.{IsEmptiedWithoutMotion, IsCoarserMacroblock, IsCoarserAt}
+use Rattle.requantiser.specs.Macroblocks.{IsCoarserAt}
 use Rattle.requantiser.specs.Private.Shapes.{IsWalkable, AreWalkable}
 use Rattle.requantiser.specs.Private.Walk.{mapped_code, is_none, coarsened_macroblock, coarsened_macroblocks, coarsened_slice}
 use Rattle.requantiser.proofs.Macroblocks.{coarsened_macroblock-is}

@@ -1,8 +1,8 @@
-use Rattle.std.proofs.Common.{◌≡◌, ◌+◌, ◌-◌, ◌*◌, ◌<◌, ◌++◌, ℕ, Some, List, length, take, drop, refl, sym, ap, subst, ◌∙◌, arith, rules}
+use Rattle.std.proofs.Common.{◌≡◌, ◌++◌, ℕ, List, length, take, drop, sym, ap, subst, ◌∙◌, arith, rules}
 use Rattle.std.proofs.Math.Seq.{take-append_seam}
-use Rattle.picture_heads.specs.Heads.{HasDelay, IsHeadWithoutDelay}
+use Rattle.picture_heads.specs.Heads.{IsHeadWithoutDelay}
 use Rattle.picture_heads.specs.Private.Walk.{with_ones}
-use Rattle.picture_heads.proofs.DelayPlaces.{HasWalk, delay-walk, set-without}
+use Rattle.picture_heads.proofs.DelayPlaces.{delay-walk, set-without}
 use Rattle.picture_heads.proofs.Ones.{ones-length}
 use Rattle.picture_heads.proofs.delay.without_delay.Goals as goal
 

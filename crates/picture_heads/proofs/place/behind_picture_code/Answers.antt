@@ -1,5 +1,4 @@
-use Rattle.std.proofs.Common.{◌≡◌, ◌≢◌, ◌+◌, ◌*◌, ◌-◌, ℕ, List, length, Some, refl, sym, ◌∙◌, arith}
-use Rattle.stream_constants.specs.declared.start_codes.TheConstants.{PICTURE}
+use Rattle.std.proofs.Common.{◌+◌, refl}
 use Rattle.picture_heads.proofs.Bytes.{bytes-are}
 use Rattle.picture_heads.proofs.WalkSteps.{IsFirstAt, walk-none, walk-here, walk-on}
 use Rattle.picture_heads.proofs.place.behind_picture_code.Goals as goal

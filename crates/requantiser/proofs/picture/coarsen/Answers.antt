@@ -1,4 +1,4 @@
-use Rattle.std.proofs.Common.{◌≡◌, ℕ, refl, sym, subst, List}
+use Rattle.std.proofs.Common.{ℕ, refl, sym, subst, List}
 use Rattle.picture_heads.specs.Heads.{HasDelay, IsHeadWithoutDelay}
 use Rattle.requantiser.proofs.Versions.{lawful-delay}
 use Rattle.requantiser.proofs.LawfulVersions.{version-lawful}
