@@ -1,6 +1,6 @@
 -- A worked picture, computed from the definitions: a slice that ends at a whole byte, one that lacks seven bits of it, and a
 -- sequence end code.
-use Rattle.std.proofs.Common.{◌≡◌, ◌++◌, None, List, [], ◌∷◌, ℕ, true, refl}
+use Rattle.std.proofs.Common.{◌≡◌, ◌++◌, None, [], ◌∷◌, ℕ, true, refl}
 use Rattle.syntax_types.specs.declared.macroblock.Macroblock.{Macroblock}
 use Rattle.syntax_types.specs.declared.picture.Picture.{Picture}
 use Rattle.syntax_types.specs.declared.slice.Slice.{Slice}

@@ -1,5 +1,5 @@
 -- What a sink got when a writer over it stopped or was finished, and what it got before.
-use Rattle.std.proofs.Common.{◌≡◌, ℕ, ◌+◌, ◌-◌, ◌^◌, ◌<◌, ◌≤◌, ◌≢◌, List, [], ◌++◌, Result, Ok, Err, OnOk, OnErr, IsErrOf, IsErrAnd, IsErr, true, false, length, take, drop, refl, sym, ap, subst, inl, inr, ◌∙◌, arith, append_assoc, append-nil}
+use Rattle.std.proofs.Common.{◌≡◌, ℕ, ◌-◌, ◌^◌, ◌<◌, ◌≤◌, ◌≢◌, List, [], ◌++◌, Result, Ok, Err, OnOk, OnErr, IsErrOf, IsErrAnd, IsErr, true, false, take, drop, sym, ap, subst, inl, inr, ◌∙◌, arith, append_assoc, append-nil}
 use Rattle.std.proofs.lemmas.Bool.{cases_lt}
 use Rattle.shelf_io.specs.declared.fault.Fault.{Fault}
 use Rattle.shelf_io.specs.declared.fault.Fault.TheVariants.{Failed, Missing}
@@ -9,10 +9,10 @@ use Rattle.shelf_io.specs.Sink.{Told, with_bytes, AddsPrefix}
 use Rattle.shelf_io.proofs.Written.{with_bytes-twice}
 use Rattle.bit_lists.specs.Fields.{AreBytes, bit_list}
 use Rattle.bit_lists.proofs.ByteLemmas.{AreBytes-append, AreBytes-take, bit_list-append, bit_list-take}
-use Rattle.bit_lists.proofs.PrefixLemmas.{IsPrefix-append, IsPrefix-behind, IsPrefix-through}
+use Rattle.bit_lists.proofs.PrefixLemmas.{IsPrefix-append, IsPrefix-behind}
 use Rattle.bit_cursor.specs.declared.bit_writer.BitWriter.{BitWriter}
-use Rattle.bit_cursor.specs.BitWriter.{AddsBits, Gets, GetsFront, Writes, told_by, waiting_in, sink_of}
-use Rattle.bit_cursor.proofs.Composed.{gets_then_front, gets_front_more}
+use Rattle.bit_cursor.specs.BitWriter.{AddsBits, GetsFront, Writes, told_by, waiting_in, sink_of}
+use Rattle.bit_cursor.proofs.Composed.{gets_then_front}
 use Rattle.picture_writer.specs.WrittenPicture.{AddsFront}
 
 rose_behind : (a b c : ℕ) → a ≤ b → b ≤ c → Rose b c → Rose a c

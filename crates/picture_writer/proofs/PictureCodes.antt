@@ -1,8 +1,8 @@
 -- The search for a unit's picture start code.
-use Rattle.std.proofs.Common.{◌≡◌, ◌⊎◌, ◌+◌, ◌<◌, ◌≤◌, ℕ, List, length, sym, subst, inl, inr, ◌∙◌, arith}
+use Rattle.std.proofs.Common.{◌≡◌, ◌+◌, ◌≤◌, ℕ, List, length, sym, subst, inl, inr, ◌∙◌, arith}
 use Rattle.std.proofs.lemmas.Bool.{cases_lt}
 use Rattle.picture_grammar.specs.declared.start_codes.TheConstants.{GROUP, PICTURE}
-use Rattle.picture_writer.specs.VbvDelay.{CodeStands, IsInGroup, IsPictureCode}
+use Rattle.picture_writer.specs.VbvDelay.{CodeStands, IsPictureCode}
 use Rattle.picture_writer.specs.Private.Scan.{IsBehindGroup, IsScanned}
 
 pub scanned_none : (unit : List ℕ) → IsScanned unit 0 0

@@ -1,24 +1,22 @@
 -- When a whole picture header begins some bytes: by its picture_coding_type and by the bits behind vbv_delay and the old f_codes.
-use Rattle.std.proofs.Common.{◌≡◌, ◌⊎◌, ℕ, zero, suc, ◌+◌, ◌-◌, ◌*◌, ◌/◌, ◌%◌, ◌^◌, ◌<◌, ◌≤◌, ◌==◌, ◌&&◌, ◌||◌, List, [], ◌∷◌, ◌++◌, Option, Some, None, Bool, true, false, length, take, drop, get_or, if◌then◌else◌, refl, sym, ap, ap₂, subst, inl, inr, ◌∙◌, add-one, drop-cons, append_assoc, length-append, length-drop, arith}
-use Rattle.std.proofs.lemmas.Bool.{and_parts, eqb-true, leb-true, le-leb, cases_lt}
+use Rattle.std.proofs.Common.{◌≡◌, ℕ, zero, suc, ◌+◌, ◌-◌, ◌*◌, ◌/◌, ◌%◌, ◌^◌, ◌<◌, ◌≤◌, ◌==◌, List, [], ◌∷◌, ◌++◌, Option, Some, None, true, false, length, take, drop, get_or, refl, sym, ap, ap₂, subst, inl, inr, ◌∙◌, add-one, drop-cons, length-append, arith}
+use Rattle.std.proofs.lemmas.Bool.{and_parts, eqb-true, cases_lt}
 use Rattle.std.proofs.lemmas.List.{drop_all, drop_at, take-append-drop, drop-append-le}
 use Rattle.std.proofs.lemmas.Nat.{pow_pos}
 use Rattle.std.proofs.Math.Seq.{drop-append-add}
 use Rattle.bit_lists.specs.Bits.{bits_of, number_of}
 use Rattle.bit_lists.specs.Fields.{bit_list, flag}
-use Rattle.bit_lists.proofs.BitLemmas.{length-bits_of, take-bits_of, bits_of-same, bits_of-mod}
+use Rattle.bit_lists.proofs.BitLemmas.{length-bits_of, bits_of-same, bits_of-mod}
 use Rattle.bit_lists.proofs.ByteLemmas.{length-bit_list, bit_list-take}
 use Rattle.bit_lists.proofs.JoinedLemmas.{drop-bits_of, bits_of-byte}
 use Rattle.bit_lists.proofs.NumberLemmas.{AreBits-bit_list}
 use Rattle.picture_laws.proofs.Answers.{AreBits}
 use Rattle.picture_laws.proofs.Numbers.{number_of-below, bits_of-number_of, AreBits-take, AreBits-drop}
-use Rattle.picture_grammar.specs.Grammar.{optional, many, SpellsList, Next}
+use Rattle.picture_grammar.specs.Grammar.{SpellsList, Next}
 use Rattle.picture_grammar.specs.Grammar.Next.{more, last}
 use Rattle.picture_grammar.specs.Refusal.Refusal.{BadHeader}
-use Rattle.picture_grammar.specs.Headers.{old_f_code, picture_header}
 use Rattle.picture_grammar.specs.Slice.{extra_information}
 use Rattle.picture_grammar.specs.StartCode.{zero_bits}
-use Rattle.picture_writer.specs.VbvDelay.{BeginsWithHeader}
 use Rattle.picture_writer.specs.Private.ExtraInformation.{Closes}
 
 -- ---- bits of bytes from a place on

@@ -1,4 +1,4 @@
-use Rattle.std.proofs.Common.{rules, ◌≡◌, [], ◌++◌, refl, ap, sym, subst, append-nil}
+use Rattle.std.proofs.Common.{rules, [], refl, ap, sym, subst, append-nil}
 use Rattle.std.specs.List.{flat_map, AllByRecursion}
 use Rattle.bit_cursor.proofs.Composed.{writes_then, writes_exit, finished}
 use Rattle.block_coeffs.proofs.Writing.{writes_as}

@@ -1,4 +1,4 @@
-use Rattle.std.proofs.Common.{◌≡◌, ◌+◌, ◌-◌, ◌≤◌, ℕ, List, take, drop, length, sym, subst, length-drop, arith}
+use Rattle.std.proofs.Common.{◌≡◌, ◌+◌, ◌-◌, ℕ, List, take, drop, length, sym, subst, length-drop, arith}
 use Rattle.std.proofs.lemmas.List.{take_all}
 use Rattle.picture_writer.specs.VbvDelay.{BeginsWithHeader}
 use Rattle.picture_writer.proofs.HeaderFront.{header_front}
