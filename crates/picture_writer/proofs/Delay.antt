@@ -80,7 +80,8 @@ module _ (old new : List ℕ) (at : ℕ) (same_length : length new ≡ length ol
   delay_set = record { same_length = same_length; set = is_set; kept = is_kept }
 
 pub three_set : (old : List ℕ) (at : ℕ) → at + 8 ≤ length old
-    → SetsDelay old (set (set (set old (at + 5) (get_or old (at + 5) 0 / 8 * 8 + 7)) (at + 6) 255) (at + 7) (248 + get_or (set (set old (at + 5) (get_or old (at + 5) 0 / 8 * 8 + 7)) (at + 6) 255) (at + 7) 0 % 8)) at
+    → SetsDelay old (set (set (set old (at + 5) (get_or old (at + 5) 0 / 8 * 8 + 7)) (at + 6) 255) (at + 7)
+    (248 + get_or (set (set old (at + 5) (get_or old (at + 5) 0 / 8 * 8 + 7)) (at + 6) 255) (at + 7) 0 % 8)) at
 three_set old at within =
     let x = get_or old (at + 5) 0 / 8 * 8 + 7 in
     let one : List ℕ = set old (at + 5) x in

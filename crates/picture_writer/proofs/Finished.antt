@@ -54,7 +54,8 @@ causes_behind {faults} {first} {mid} {last} a b = record {
 module _ {K : Type 0} {written : K → Told} {faults : K → ℕ} {keeps : K → K → Type 0} where
   -- ---- what the sink became, when a writer was made over it, put bits and was let go
 
-  pub writer_causes : {T : Type 0} {a b : BitWriter K} {bits : List ℕ} (r : Result T Fault) (first : K) {last : K} → (sink_of a).now ≡ first → last ≡ (sink_of b).now → Writes written faults keeps a b r bits
+  pub writer_causes : {T : Type 0} {a b : BitWriter K} {bits : List ℕ} (r : Result T Fault) (first : K) {last : K} → (sink_of a).now ≡ first → last ≡ (sink_of b).now
+      → Writes written faults keeps a b r bits
       → SinkCauses faults (IsErrOf r Failed) (IsErrOf r Missing) first last
   writer_causes {b} r first is back call = rw (back, ← is) (record { failed_rose = call.failed; never_missing = call.never_missing; faults_grow = call.counts })
 
@@ -63,13 +64,15 @@ module _ {K : Type 0} {written : K → Told} {faults : K → ℕ} {keeps : K →
   writer_front {a} {b} {bits} r first is none back call =
       rw (back, ← is) (subst (λ (waited : List ℕ). OnErr r (GetsFront (told_by written a) (told_by written b) waited bits)) none call.err)
 
-  pub writer_keeps : {T : Type 0} {a b : BitWriter K} {bits : List ℕ} (r : Result T Fault) (first : K) {last : K} → (sink_of a).now ≡ first → last ≡ (sink_of b).now → Writes written faults keeps a b r bits
+  pub writer_keeps : {T : Type 0} {a b : BitWriter K} {bits : List ℕ} (r : Result T Fault) (first : K) {last : K} → (sink_of a).now ≡ first → last ≡ (sink_of b).now
+      → Writes written faults keeps a b r bits
       → keeps first last
   writer_keeps r first is back call = rw (back, ← is) call.kept
 
   -- ---- and was finished
 
-  pub finish_causes : {T U : Type 0} {a b : BitWriter K} {x : T} {bits : List ℕ} (r : Result U Fault) (first out : K) {last : K} → (sink_of a).now ≡ first → last ≡ out → Writes written faults keeps a b (Ok x) bits
+  pub finish_causes : {T U : Type 0} {a b : BitWriter K} {x : T} {bits : List ℕ} (r : Result U Fault) (first out : K) {last : K} → (sink_of a).now ≡ first → last ≡ out
+      → Writes written faults keeps a b (Ok x) bits
       → (IsErrOf r Failed → Rose (faults (sink_of b).now) (faults out)) → r ≢ Err Missing → faults (sink_of b).now ≤ faults out → SinkCauses faults (IsErrOf r Failed) (IsErrOf r Missing) first last
   finish_causes {a} {b} r first out is back call failed never counts = rw (back, ← is) (record {
     failed_rose = λ e. rose_behind (faults (sink_of a).now) (faults (sink_of b).now) (faults out) call.counts counts (failed e);
@@ -85,7 +88,8 @@ module _ {K : Type 0} {written : K → Told} {faults : K → ℕ} {keeps : K →
       rw (back, ← is) (subst (λ (waited : List ℕ). GetsFront (told_by written a) (written out) waited bits) none
       (subst (λ (put : List ℕ). GetsFront (told_by written a) (written out) (waiting_in a) put) (append-nil bits) whole))
 
-  pub finish_keeps : {T : Type 0} {a b : BitWriter K} {x : T} {bits : List ℕ} (first out : K) {last : K} → ((one two three : K) → keeps one two → keeps two three → keeps one three) → (sink_of a).now ≡ first → last ≡ out
+  pub finish_keeps : {T : Type 0} {a b : BitWriter K} {x : T} {bits : List ℕ} (first out : K) {last : K} → ((one two three : K) → keeps one two → keeps two three → keeps one three)
+      → (sink_of a).now ≡ first → last ≡ out
       → Writes written faults keeps a b (Ok x) bits → keeps (sink_of b).now out → keeps first last
   finish_keeps {a} {b} first out keeps_on is back call kept = rw (back, ← is) (keeps_on (sink_of a).now (sink_of b).now out call.kept kept)
 

@@ -75,7 +75,21 @@ pub record HasFront (bytes : List ℕ) : Type 0 where
   pub closes : Closes (drop (25 + 4 * kind_of bytes) (bit_list bytes))
 
 pub header_front : (bytes : List ℕ) → BeginsWithHeader bytes → HasFront bytes
-header_front bytes (header, rest, (h, m0, (t, m1, (c1, (fits1, is1), p1, split1), (kind, m2, (c2, (fits2, is2), p2, split2), (v, m3, (c3, (fits3, is3), p3, split3), (o1, m4, s4, (o2, m5, s5, (found, m6, s6, (e, f))))))), (z, m7, zeros, (e', f')))) =
+header_front bytes (
+  header,
+  rest,
+  (
+    h,
+    m0,
+    (
+      t,
+      m1,
+      (c1, (fits1, is1), p1, split1),
+      (kind, m2, (c2, (fits2, is2), p2, split2), (v, m3, (c3, (fits3, is3), p3, split3), (o1, m4, s4, (o2, m5, s5, (found, m6, s6, (e, f)))))),
+    ),
+    (z, m7, zeros, (e', f')),
+  ),
+) =
     let bits = bit_list bytes in
     let ten : length c1 ≡ 10 = ap length is1 ∙ length-bits_of 10 t in
     let three : length c2 ≡ 3 = ap length is2 ∙ length-bits_of 3 kind in
@@ -84,7 +98,8 @@ header_front bytes (header, rest, (h, m0, (t, m1, (c1, (fits1, is1), p1, split1)
     let at_13 : drop 13 bits ≡ m2 = sym (drop_twice 10 3 bits) ∙ ap (drop 3) (at_10 ∙ split2) ∙ drop_at c2 m2 3 three in
     let at_29 : drop 29 bits ≡ m3 = sym (drop_twice 13 16 bits) ∙ ap (drop 16) (at_13 ∙ split3) ∙ drop_at c3 m3 16 sixteen in
     let total : 8 * length bytes ≡ 29 + length m3 =
-    (let a = ap length split1 in let b = ap length split2 in let d = ap length split3 in omega (arith, sym (length-bit_list bytes), a, b, d, length-append c1 m1, length-append c2 m2, length-append c3 m3, ten, three, sixteen)) in
+    (let a = ap length split1 in let b = ap length split2 in let d = ap length split3 in omega
+    (arith, sym (length-bit_list bytes), a, b, d, length-append c1 m1, length-append c2 m2, length-append c3 m3, ten, three, sixteen)) in
     let enough : 4 ≤ length bytes = omega (arith, total) in
     let parts = and_parts (nat_le 1 kind) (nat_le kind 3) (and_parts (is_from_to I_PICTURE B_PICTURE kind) true p2).0 in
     let is_kind : IsKind kind = (leb-true 1 kind parts.0, leb-true kind 3 parts.1) in
@@ -124,14 +139,16 @@ front_header bytes has =
     let count = length-bit_list bytes in
     let longer : 25 + 4 * kind < length bits = some_left (25 + 4 * kind) has.closes in
     let (t, lt_t, split_t) = front_number 10 bits are (omega (arith, count, enough)) in
-    let split_k : drop 10 bits ≡ bits_of 3 kind ++ drop 13 bits = sym (take-append-drop 3 (drop 10 bits)) ∙ ap₂ (λ (a b : List ℕ). a ++ b) (kind_bits bytes (omega (arith, enough))) (drop_twice 10 3 bits) in
+    let split_k : drop 10 bits ≡ bits_of 3 kind ++ drop 13 bits = sym (take-append-drop 3 (drop 10 bits)) ∙ ap₂ (λ (a b : List ℕ). a ++ b) (kind_bits bytes (omega (arith, enough)))
+    (drop_twice 10 3 bits) in
     let (v, lt_v, split) = front_number 16 (drop 13 bits) (AreBits-drop 13 bits are) (omega (arith, length-drop 13 bits, count, enough)) in
     let split_v : drop 13 bits ≡ bits_of 16 v ++ drop 29 bits = split ∙ ap (λ b. bits_of 16 v ++ b) (drop_twice 13 16 bits) in
     let l1 = old_bits (kind == P_PICTURE || kind == B_PICTURE) in
     let l2 = old_bits (kind == B_PICTURE) in
     let lengths = old_lengths kind has.kind in
     let (o1, s1) = optional_made (kind == P_PICTURE || kind == B_PICTURE) (drop 29 bits) (AreBits-drop 29 bits are) (omega (arith, length-drop 29 bits, longer, lengths, has.kind.0)) in
-    let (o2, s2) = optional_made (kind == B_PICTURE) (drop l1 (drop 29 bits)) (AreBits-drop l1 (drop 29 bits) (AreBits-drop 29 bits are)) (omega (arith, length-drop l1 (drop 29 bits), length-drop 29 bits, longer, lengths, has.kind.0)) in
+    let (o2, s2) = optional_made (kind == B_PICTURE) (drop l1 (drop 29 bits)) (AreBits-drop l1 (drop 29 bits) (AreBits-drop 29 bits are))
+    (omega (arith, length-drop l1 (drop 29 bits), length-drop 29 bits, longer, lengths, has.kind.0)) in
     let place : 29 + (l1 + l2) ≡ 25 + 4 * kind = (let least = has.kind.0 in omega (arith, lengths, least)) in
     let behind : drop (25 + 4 * kind) bits ≡ drop l2 (drop l1 (drop 29 bits)) = ap (λ n. drop n bits) (sym place) ∙ sym (drop_twice 29 (l1 + l2) bits) ∙ sym (drop_twice l1 l2 (drop 29 bits)) in
     let closes : Closes (drop l2 (drop l1 (drop 29 bits))) = subst Closes behind has.closes in (

@@ -13,7 +13,8 @@ pub returns-in_err-write_slices : goal.returns-in_err-write_slices
 returns-in_err-write_slices g c =
     let picture = c.args.picture.now in
     let r = c.from_residual.result in
-    let call = writes_exit r (written_end picture.sequence_end) c.from_residual.ensures.1 (writes_as c.in_err-write_slices.ensures.writes (ap (flat_map (written_whole_slice picture.coding)) c.as_slice.ensures)) in
+    let call = writes_exit r (written_end picture.sequence_end) c.from_residual.ensures.1
+    (writes_as c.in_err-write_slices.ensures.writes (ap (flat_map (written_whole_slice picture.coding)) c.as_slice.ensures)) in
     record {
       ok = no_ok _ r c.from_residual.ensures.0;
       err = writer_front r c.args.to.now c.new-writer.ensures.sink c.new-writer.ensures.none_waits (search rules) call;

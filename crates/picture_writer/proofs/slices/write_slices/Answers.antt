@@ -48,4 +48,5 @@ pub returns-clause-writes : goal.returns-clause-writes
 returns-clause-writes g c =
     let written = written_whole_slice c.args.coding.now in
     writes_as c.loop-slice.invariant.put
-    (none_more written c.args.slices.now c.loop-slice.slice-index c.loop-slice.invariant.done (flat_map written c.args.slices.now) c.loop-slice.invariant.rest (omega (arith, c.loop-slice-test.false)))
+    (none_more written c.args.slices.now c.loop-slice.slice-index c.loop-slice.invariant.done (flat_map written c.args.slices.now) c.loop-slice.invariant.rest
+    (omega (arith, c.loop-slice-test.false)))

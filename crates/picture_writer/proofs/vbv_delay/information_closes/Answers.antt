@@ -21,7 +21,8 @@ loop-byte-preserved c =
     record {
       few = c.nine_on-next_byte.ensures.few;
       to = λ closes. c.loop-byte.invariant.to (one_to bytes c.loop-byte.byte k c.loop-byte-test.true c.loop-byte.invariant.few one (subst (λ n. Closes (drop n (bit_list bytes))) place closes));
-      back = λ closes. subst (λ n. Closes (drop n (bit_list bytes))) (sym place) (one_from bytes c.loop-byte.byte k c.loop-byte-test.true c.loop-byte.invariant.few one (c.loop-byte.invariant.back closes));
+      back = λ closes. subst (λ n. Closes (drop n (bit_list bytes))) (sym place)
+          (one_from bytes c.loop-byte.byte k c.loop-byte-test.true c.loop-byte.invariant.few one (c.loop-byte.invariant.back closes));
     }
 
 pub returns-then-bytes-byte-eq0-clause-yes : goal.returns-then-bytes-byte-eq0-clause-yes

@@ -12,7 +12,8 @@ returns-then-is_outside_code-clause-some c =
 
 pub loop-at-preserved : goal.loop-at-preserved
 loop-at-preserved c =
-    scanned_more c.args.unit.now c.loop-at.at c.loop-at.outside c.behind_group-outside.result c.loop-at.invariant c.behind_group-outside.ensures (c.is_outside_code.ensures.no c.if-is_outside_code.false)
+    scanned_more c.args.unit.now c.loop-at.at c.loop-at.outside c.behind_group-outside.result c.loop-at.invariant c.behind_group-outside.ensures
+    (c.is_outside_code.ensures.no c.if-is_outside_code.false)
 
 pub returns-clause-none : goal.returns-clause-none
 returns-clause-none c = λ at code. scanned_all c.args.unit.now c.loop-at.at c.loop-at.outside at c.loop-at.invariant (omega (arith, c.loop-at-test.false)) code
