@@ -9,9 +9,8 @@ use Rattle.shelf_io.specs.declared.fault.Fault.TheVariants.{Failed, Missing}
 use Rattle.shelf_io.specs.Counts.{Rose}
 use Rattle.bit_lists.specs.Bits.{IsPrefix, bits_of, number_of}
 use Rattle.bit_lists.proofs.JoinedLemmas.{bits_of-put}
-use Rattle.bit_lists.proofs.NumberLemmas.{AreBits, AreBits-append, AreBits-zeros, number_of-below}
+use Rattle.bit_lists.proofs.NumberLemmas.{AreBits, AreBits-append, AreBits-zeros, number_of-below, bits_of-number_of}
 use Rattle.bit_lists.proofs.PrefixLemmas.{IsPrefix-append, IsPrefix-through}
-use Rattle.picture_laws.proofs.Numbers.{bits_of-number_of}
 use Rattle.prefix_codes.specs.Entry.{Entry}
 use Rattle.prefix_codes.specs.declared.table_name.TableName.{TableName}
 use Rattle.prefix_codes.specs.declared.table_name.TableName.TheVariants.{Pattern, Motion}

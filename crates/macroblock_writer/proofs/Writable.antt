@@ -31,7 +31,8 @@ usual_fits coding = elim (cases_Bool (is_frame coding)) [
   | inr other ↦ rw other (omega arith)
 ]
 
-motion_type_fits : (stands : Bool) (coding : PicCoding) (number : ℕ) (bits rest : List ℕ) → (when stands (uimsbf 2 (rule BadType (λ number. not (number == 0)) ∷ [])) (usual_motion_type coding)).Spells number bits rest → number < 2 ^ 2
+motion_type_fits : (stands : Bool) (coding : PicCoding) (number : ℕ) (bits rest : List ℕ)
+    → (when stands (uimsbf 2 (rule BadType (λ number. not (number == 0)) ∷ [])) (usual_motion_type coding)).Spells number bits rest → number < 2 ^ 2
 motion_type_fits true coding number bits rest (code, (fits, same), passing, split) = fits
 motion_type_fits false coding number bits rest (e, f) = subst (λ (n : ℕ). n < 4) (sym e) (usual_fits coding)
 
@@ -51,16 +52,19 @@ part_fits f_code dual part bits rest (size, m1, s1, (negative, m2, s2, (residual
 
 vector_stands : (codes : List ℕ) (format : MotionFormat) (vector : Vector) (bits rest : List ℕ) → (motion_vector codes format).Spells vector bits rest → CanStand codes vector
 vector_stands codes format vector bits rest (select, m1, s1, (horizontal, m2, s2, (vertical, m3, s3, (e, f)))) = record {
-  horizontal = subst (λ (number : ℕ). number < 2 ^ (slice_index codes 0 - 1)) (sym (ap (λ (v : Vector). slice_index v.residual 0) e)) (part_fits (slice_index codes 0) format.dual horizontal m1 m2 s2);
+  horizontal = subst (λ (number : ℕ). number < 2 ^ (slice_index codes 0 - 1)) (sym (ap (λ (v : Vector). slice_index v.residual 0) e))
+      (part_fits (slice_index codes 0) format.dual horizontal m1 m2 s2);
   vertical = subst (λ (number : ℕ). number < 2 ^ (slice_index codes 1 - 1)) (sym (ap (λ (v : Vector). slice_index v.residual 1) e)) (part_fits (slice_index codes 1) format.dual vertical m2 m3 s3);
 }
 
-several_stand : (n : ℕ) (codes : List ℕ) (format : MotionFormat) (vectors : List Vector) (bits rest : List ℕ) → (repeated n (motion_vector codes format)).Spells vectors bits rest → AllByRecursion (CanStand codes) vectors
+several_stand : (n : ℕ) (codes : List ℕ) (format : MotionFormat) (vectors : List Vector) (bits rest : List ℕ) → (repeated n (motion_vector codes format)).Spells vectors bits rest
+    → AllByRecursion (CanStand codes) vectors
 several_stand zero codes format vectors bits rest (e, f) = subst (AllByRecursion (CanStand codes)) (sym e) tt
 several_stand (suc n) codes format vectors bits rest (v, m, s, (vs, m', t, (e, f))) =
     subst (AllByRecursion (CanStand codes)) (sym e) (vector_stands codes format v bits m s, several_stand n codes format vs m m' t)
 
-vectors_stand : (stand : Bool) (codes : List ℕ) (format : MotionFormat) (vectors : List Vector) (bits rest : List ℕ) → (when stand (motion_vectors codes format) []).Spells vectors bits rest → AllByRecursion (CanStand codes) vectors
+vectors_stand : (stand : Bool) (codes : List ℕ) (format : MotionFormat) (vectors : List Vector) (bits rest : List ℕ)
+    → (when stand (motion_vectors codes format) []).Spells vectors bits rest → AllByRecursion (CanStand codes) vectors
 vectors_stand true codes format vectors bits rest s = several_stand format.count codes format vectors bits rest s
 vectors_stand false codes format vectors bits rest (e, f) = subst (AllByRecursion (CanStand codes)) (sym e) tt
 
@@ -76,7 +80,8 @@ can_be_written coding first columns_left m parts = record {
   code = code_fits m.kind.quant m.code parts.code.bits parts.code.rest parts.code.spelled;
   forward = vectors_stand (has_forward coding m.kind) (f_codes coding 0) (motion_format coding m.motion_type) m.forward.items parts.forward.bits parts.forward.rest parts.forward.spelled;
   backward = vectors_stand m.kind.backward (f_codes coding 1) (motion_format coding m.motion_type) m.backward.items parts.backward.bits parts.backward.rest parts.backward.spelled;
-  blocks = λ i lt is. block_spelled (is_coded m.kind m.pattern i) (block_way coding m.kind i) (slice_index_or m.blocks i no_block) ((blocks-of coding m.kind m.pattern m.blocks parts.blocks).each i lt) is;
+  blocks = λ i lt is. block_spelled (is_coded m.kind m.pattern i) (block_way coding m.kind i) (slice_index_or m.blocks i no_block)
+      ((blocks-of coding m.kind m.pattern m.blocks parts.blocks).each i lt) is;
 }
 
 pub spelled_can_be_written : (coding : PicCoding) (first : Bool) (columns_left : ℕ) (m : Macroblock) → IsSpellable (macroblock coding first columns_left) m → CanBeWritten coding m

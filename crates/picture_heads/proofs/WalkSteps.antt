@@ -4,7 +4,7 @@ use Rattle.std.proofs.lemmas.Bool.{cases_lt}
 use Rattle.std.proofs.lemmas.List.{length-append, drop-drop, length-take, length-drop}
 use Rattle.bit_lists.specs.Fields.{AreBytes, bit_list}
 use Rattle.bit_lists.proofs.ByteLemmas.{bit_list-take, length-bit_list}
-use Rattle.picture_grammar.specs.declared.start_codes.TheConstants.{PICTURE, GROUP}
+use Rattle.stream_constants.specs.declared.start_codes.TheConstants.{PICTURE, GROUP}
 use Rattle.picture_grammar.specs.StartCode.{start_code_bits}
 use Rattle.picture_heads.specs.Private.StartCodes.{is_start_code_at}
 use Rattle.picture_heads.specs.Private.Walk.{IsFirstCode, GoesOn, LeadsIn}

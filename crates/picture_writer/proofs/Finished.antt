@@ -1,5 +1,5 @@
 -- What a sink got when a writer over it stopped or was finished, and what it got before.
-use Rattle.std.proofs.Common.{◌≡◌, ℕ, ◌+◌, ◌-◌, ◌^◌, ◌<◌, ◌≤◌, ◌≢◌, List, [], ◌++◌, Result, Ok, Err, OnOk, OnErr, IsErrOf, IsErrAnd, IsErr, true, false, length, take, drop, refl, sym, ap, subst, inl, inr, ◌∙◌, arith, append_assoc, append-nil}
+use Rattle.std.proofs.Common.{◌≡◌, ℕ, ◌-◌, ◌^◌, ◌<◌, ◌≤◌, ◌≢◌, List, [], ◌++◌, Result, Ok, Err, OnOk, OnErr, IsErrOf, IsErrAnd, IsErr, true, false, take, drop, sym, ap, subst, inl, inr, ◌∙◌, arith, append_assoc, append-nil}
 use Rattle.std.proofs.lemmas.Bool.{cases_lt}
 use Rattle.shelf_io.specs.declared.fault.Fault.{Fault}
 use Rattle.shelf_io.specs.declared.fault.Fault.TheVariants.{Failed, Missing}
@@ -9,10 +9,10 @@ use Rattle.shelf_io.specs.Sink.{Told, with_bytes, AddsPrefix}
 use Rattle.shelf_io.proofs.Written.{with_bytes-twice}
 use Rattle.bit_lists.specs.Fields.{AreBytes, bit_list}
 use Rattle.bit_lists.proofs.ByteLemmas.{AreBytes-append, AreBytes-take, bit_list-append, bit_list-take}
-use Rattle.bit_lists.proofs.PrefixLemmas.{IsPrefix-append, IsPrefix-behind, IsPrefix-through}
+use Rattle.bit_lists.proofs.PrefixLemmas.{IsPrefix-append, IsPrefix-behind}
 use Rattle.bit_cursor.specs.declared.bit_writer.BitWriter.{BitWriter}
-use Rattle.bit_cursor.specs.BitWriter.{AddsBits, Gets, GetsFront, Writes, told_by, waiting_in, sink_of}
-use Rattle.bit_cursor.proofs.Composed.{gets_then_front, gets_front_more}
+use Rattle.bit_cursor.specs.BitWriter.{AddsBits, GetsFront, Writes, told_by, waiting_in, sink_of}
+use Rattle.bit_cursor.proofs.Composed.{gets_then_front}
 use Rattle.picture_writer.specs.WrittenPicture.{AddsFront}
 
 rose_behind : (a b c : ℕ) → a ≤ b → b ≤ c → Rose b c → Rose a c
@@ -54,7 +54,8 @@ causes_behind {faults} {first} {mid} {last} a b = record {
 module _ {K : Type 0} {written : K → Told} {faults : K → ℕ} {keeps : K → K → Type 0} where
   -- ---- what the sink became, when a writer was made over it, put bits and was let go
 
-  pub writer_causes : {T : Type 0} {a b : BitWriter K} {bits : List ℕ} (r : Result T Fault) (first : K) {last : K} → (sink_of a).now ≡ first → last ≡ (sink_of b).now → Writes written faults keeps a b r bits
+  pub writer_causes : {T : Type 0} {a b : BitWriter K} {bits : List ℕ} (r : Result T Fault) (first : K) {last : K} → (sink_of a).now ≡ first → last ≡ (sink_of b).now
+      → Writes written faults keeps a b r bits
       → SinkCauses faults (IsErrOf r Failed) (IsErrOf r Missing) first last
   writer_causes {b} r first is back call = rw (back, ← is) (record { failed_rose = call.failed; never_missing = call.never_missing; faults_grow = call.counts })
 
@@ -63,13 +64,15 @@ module _ {K : Type 0} {written : K → Told} {faults : K → ℕ} {keeps : K →
   writer_front {a} {b} {bits} r first is none back call =
       rw (back, ← is) (subst (λ (waited : List ℕ). OnErr r (GetsFront (told_by written a) (told_by written b) waited bits)) none call.err)
 
-  pub writer_keeps : {T : Type 0} {a b : BitWriter K} {bits : List ℕ} (r : Result T Fault) (first : K) {last : K} → (sink_of a).now ≡ first → last ≡ (sink_of b).now → Writes written faults keeps a b r bits
+  pub writer_keeps : {T : Type 0} {a b : BitWriter K} {bits : List ℕ} (r : Result T Fault) (first : K) {last : K} → (sink_of a).now ≡ first → last ≡ (sink_of b).now
+      → Writes written faults keeps a b r bits
       → keeps first last
   writer_keeps r first is back call = rw (back, ← is) call.kept
 
   -- ---- and was finished
 
-  pub finish_causes : {T U : Type 0} {a b : BitWriter K} {x : T} {bits : List ℕ} (r : Result U Fault) (first out : K) {last : K} → (sink_of a).now ≡ first → last ≡ out → Writes written faults keeps a b (Ok x) bits
+  pub finish_causes : {T U : Type 0} {a b : BitWriter K} {x : T} {bits : List ℕ} (r : Result U Fault) (first out : K) {last : K} → (sink_of a).now ≡ first → last ≡ out
+      → Writes written faults keeps a b (Ok x) bits
       → (IsErrOf r Failed → Rose (faults (sink_of b).now) (faults out)) → r ≢ Err Missing → faults (sink_of b).now ≤ faults out → SinkCauses faults (IsErrOf r Failed) (IsErrOf r Missing) first last
   finish_causes {a} {b} r first out is back call failed never counts = rw (back, ← is) (record {
     failed_rose = λ e. rose_behind (faults (sink_of a).now) (faults (sink_of b).now) (faults out) call.counts counts (failed e);
@@ -85,7 +88,8 @@ module _ {K : Type 0} {written : K → Told} {faults : K → ℕ} {keeps : K →
       rw (back, ← is) (subst (λ (waited : List ℕ). GetsFront (told_by written a) (written out) waited bits) none
       (subst (λ (put : List ℕ). GetsFront (told_by written a) (written out) (waiting_in a) put) (append-nil bits) whole))
 
-  pub finish_keeps : {T : Type 0} {a b : BitWriter K} {x : T} {bits : List ℕ} (first out : K) {last : K} → ((one two three : K) → keeps one two → keeps two three → keeps one three) → (sink_of a).now ≡ first → last ≡ out
+  pub finish_keeps : {T : Type 0} {a b : BitWriter K} {x : T} {bits : List ℕ} (first out : K) {last : K} → ((one two three : K) → keeps one two → keeps two three → keeps one three)
+      → (sink_of a).now ≡ first → last ≡ out
       → Writes written faults keeps a b (Ok x) bits → keeps (sink_of b).now out → keeps first last
   finish_keeps {a} {b} first out keeps_on is back call kept = rw (back, ← is) (keeps_on (sink_of a).now (sink_of b).now out call.kept kept)
 

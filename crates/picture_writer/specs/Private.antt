@@ -1,1 +1,3 @@
+pub mod ExtraInformation
+pub mod Scan
 pub mod Slices

@@ -45,7 +45,8 @@ loop-left-init g c = record {
 
 pub returns-in_err-write_code : goal.returns-in_err-write_code
 returns-in_err-write_code g c =
-    writes_as (writes_exit c.from_residual.result (written_increment (c.loop-left.left - 33)) c.from_residual.ensures.1 (writes_then g.met.K.Sink.keeps_on c.loop-left.invariant.put c.in_err-write_code.ensures))
+    writes_as (writes_exit c.from_residual.result (written_increment (c.loop-left.left - 33)) c.from_residual.ensures.1
+    (writes_then g.met.K.Sink.keeps_on c.loop-left.invariant.put c.in_err-write_code.ensures))
     (another c.loop-left.invariant.done (written_increment c.args.increment) c.loop-left.left (c.loop-left.left - 33) c.loop-left.invariant.rest (omega (arith, c.loop-left-test.true)) refl)
 
 pub loop-left-preserved : goal.loop-left-preserved

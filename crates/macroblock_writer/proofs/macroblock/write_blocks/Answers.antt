@@ -16,7 +16,8 @@ loop-i-init g c = record {
 pub returns-in_err-write_coded_block : goal.returns-in_err-write_coded_block
 returns-in_err-write_coded_block g c =
     let written = written_coded_block c.args.coding.now c.args.macroblock.now in
-    writes_as (writes_exit c.from_residual.result (flat_map written (range_with_len (c.loop-i.i + 1) (6 - (c.loop-i.i + 1)))) c.from_residual.ensures.1 (writes_then g.met.K.Sink.keeps_on c.loop-i.invariant.put c.in_err-write_coded_block.ensures))
+    writes_as (writes_exit c.from_residual.result (flat_map written (range_with_len (c.loop-i.i + 1) (6 - (c.loop-i.i + 1)))) c.from_residual.ensures.1
+    (writes_then g.met.K.Sink.keeps_on c.loop-i.invariant.put c.in_err-write_coded_block.ensures))
     (one_number written 6 c.loop-i.i c.loop-i.invariant.done (flat_map written (range_with_len 0 6)) c.loop-i.invariant.rest (omega (arith, c.loop-i-test.true)))
 
 pub loop-i-preserved : goal.loop-i-preserved

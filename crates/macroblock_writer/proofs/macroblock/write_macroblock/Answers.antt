@@ -7,4 +7,5 @@ write_parts-requires-clause-fits g c = spelled_can_be_written c.args.coding.now 
 
 pub returns-clause-read_back : goal.returns-clause-read_back
 returns-clause-read_back g c = λ first columns_left following s.
-    (anywhere-macroblock c.args.coding.now first columns_left c.args.macroblock.now (parts-of_macroblock c.args.coding.now first columns_left c.args.macroblock.now s.bits s.rest s.spelled)).before following
+    (anywhere-macroblock c.args.coding.now first columns_left c.args.macroblock.now
+    (parts-of_macroblock c.args.coding.now first columns_left c.args.macroblock.now s.bits s.rest s.spelled)).before following

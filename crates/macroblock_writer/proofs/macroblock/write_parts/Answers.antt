@@ -21,7 +21,8 @@ ten a b c d e f g h i j =
     left ∙ sym right
 
 -- in groups, and part for part
-grouped : (coding : PicCoding) (m : Macroblock) (n : ℕ) → n ≡ m.skipped_before → written_increment (n + 1) ++ written_modes coding m ++ written_motion coding m ++ written_coefficients coding m ≡ written_macroblock coding m
+grouped : (coding : PicCoding) (m : Macroblock) (n : ℕ) → n ≡ m.skipped_before
+    → written_increment (n + 1) ++ written_modes coding m ++ written_motion coding m ++ written_coefficients coding m ≡ written_macroblock coding m
 unfolding written_macroblock
 grouped coding m n is = ap (λ (k : ℕ). written_increment (k + 1) ++ written_modes coding m ++ written_motion coding m ++ written_coefficients coding m) is
     ∙ ten (written_increment (m.skipped_before + 1)) (code_for (type_table coding) (type_symbol m.kind)) (if has_motion_type coding m.kind then bits_of 2 m.motion_type else [])

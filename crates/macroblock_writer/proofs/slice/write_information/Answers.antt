@@ -43,4 +43,5 @@ loop-byte-preserved g c =
 pub returns : goal.returns
 returns g c =
     writes_as c.loop-byte.invariant.put
-    (none_more written_byte c.args.bytes.now c.loop-byte.byte-index c.loop-byte.invariant.done (flat_map written_byte c.args.bytes.now) c.loop-byte.invariant.rest (omega (arith, c.loop-byte-test.false)))
+    (none_more written_byte c.args.bytes.now c.loop-byte.byte-index c.loop-byte.invariant.done (flat_map written_byte c.args.bytes.now) c.loop-byte.invariant.rest
+    (omega (arith, c.loop-byte-test.false)))

@@ -29,7 +29,8 @@ returns-in_err-write_parts g c =
     writes_as
     (writes_exit c.from_residual.result (flat_map written (drop (c.loop-macroblock.macroblock-index + 1) c.args.macroblocks.now)) c.from_residual.ensures.1
     (writes_then g.met.K.Sink.keeps_on c.loop-macroblock.invariant.put (writes_as c.in_err-write_parts.ensures (ap written c.macroblock-item.is))))
-    (one_more written c.args.macroblocks.now c.loop-macroblock.macroblock-index c.loop-macroblock.invariant.done (flat_map written c.args.macroblocks.now) c.loop-macroblock.invariant.rest c.macroblock-item.result within)
+    (one_more written c.args.macroblocks.now c.loop-macroblock.macroblock-index c.loop-macroblock.invariant.done
+    (flat_map written c.args.macroblocks.now) c.loop-macroblock.invariant.rest c.macroblock-item.result within)
 
 pub loop-macroblock-preserved : goal.loop-macroblock-preserved
 loop-macroblock-preserved g c =
@@ -39,7 +40,8 @@ loop-macroblock-preserved g c =
     record {
       done = _;
       put = put;
-      rest = one_more written c.args.macroblocks.now c.loop-macroblock.macroblock-index c.loop-macroblock.invariant.done (flat_map written c.args.macroblocks.now) c.loop-macroblock.invariant.rest c.macroblock-item.result within;
+      rest = one_more written c.args.macroblocks.now c.loop-macroblock.macroblock-index c.loop-macroblock.invariant.done
+          (flat_map written c.args.macroblocks.now) c.loop-macroblock.invariant.rest c.macroblock-item.result within;
       fit = other_ones (CanBeWritten c.args.coding.now) c.args.macroblocks.now c.loop-macroblock.macroblock-index c.macroblock-item.result within c.loop-macroblock.invariant.fit;
     }
 
@@ -47,4 +49,5 @@ pub returns : goal.returns
 returns g c =
     let written = written_macroblock c.args.coding.now in
     writes_as c.loop-macroblock.invariant.put
-    (none_more written c.args.macroblocks.now c.loop-macroblock.macroblock-index c.loop-macroblock.invariant.done (flat_map written c.args.macroblocks.now) c.loop-macroblock.invariant.rest (omega (arith, c.loop-macroblock-test.false)))
+    (none_more written c.args.macroblocks.now c.loop-macroblock.macroblock-index c.loop-macroblock.invariant.done (flat_map written c.args.macroblocks.now) c.loop-macroblock.invariant.rest
+    (omega (arith, c.loop-macroblock-test.false)))

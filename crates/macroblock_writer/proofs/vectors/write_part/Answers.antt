@@ -21,5 +21,7 @@ returns-in-Some g c =
     let difference : ℤ = slice_index_or c.in-Some.dual c.args.part (pos 0) in
     let small : SFits w8 difference = search rules in
     writes_as (writes_then g.met.K.Sink.keeps_on c.in_ok-write_motion_code.ensures c.write_dmvector.ensures)
-    (ap₂ (λ (y z : ℤ). written_part (slice_index c.args.f_codes c.args.part) y (slice_index c.args.vector.residual c.args.part) ++ dmvector_code z) (to_z-of_z w8 code fits) (to_z-of_z w8 difference small)
-    ∙ ap (λ dual. written_part (slice_index c.args.f_codes c.args.part) code (slice_index c.args.vector.residual c.args.part) ++ if_any (λ dual. dmvector_code (slice_index_or dual c.args.part (pos 0))) dual) (sym c.in-Some.is))
+    (ap₂ (λ (y z : ℤ). written_part (slice_index c.args.f_codes c.args.part) y (slice_index c.args.vector.residual c.args.part) ++ dmvector_code z) (to_z-of_z w8 code fits)
+    (to_z-of_z w8 difference small)
+    ∙ ap (λ dual. written_part (slice_index c.args.f_codes c.args.part) code (slice_index c.args.vector.residual c.args.part) ++ if_any
+    (λ dual. dmvector_code (slice_index_or dual c.args.part (pos 0))) dual) (sym c.in-Some.is))

@@ -1,4 +1,4 @@
-use Rattle.std.proofs.Common.{rules, ◌≡◌, [], ◌++◌, refl, ap, sym, subst, append-nil}
+use Rattle.std.proofs.Common.{rules, [], refl, ap, sym, subst, append-nil}
 use Rattle.std.specs.List.{flat_map, AllByRecursion}
 use Rattle.bit_cursor.proofs.Composed.{writes_then, writes_exit, finished}
 use Rattle.block_coeffs.proofs.Writing.{writes_as}
@@ -13,7 +13,8 @@ pub returns-in_err-write_slices : goal.returns-in_err-write_slices
 returns-in_err-write_slices g c =
     let picture = c.args.picture.now in
     let r = c.from_residual.result in
-    let call = writes_exit r (written_end picture.sequence_end) c.from_residual.ensures.1 (writes_as c.in_err-write_slices.ensures.writes (ap (flat_map (written_whole_slice picture.coding)) c.as_slice.ensures)) in
+    let call = writes_exit r (written_end picture.sequence_end) c.from_residual.ensures.1
+    (writes_as c.in_err-write_slices.ensures.writes (ap (flat_map (written_whole_slice picture.coding)) c.as_slice.ensures)) in
     record {
       ok = no_ok _ r c.from_residual.ensures.0;
       err = writer_front r c.args.to.now c.new-writer.ensures.sink c.new-writer.ensures.none_waits (search rules) call;

@@ -59,8 +59,11 @@ returns g c =
     let head : mid ≡ with_bytes told picture.head = c.in_ok-put_all.ensures.ok ∙ ap (with_bytes told) c.as_slice.ensures in
     let are = (lawful_fits picture c.requires.lawful).head in
     record {
-      ok = on_ok_weaker r (λ (adds : AddsBits mid after (behind picture)). subst (AddsBits told after) (in_parts picture) (adds_behind told mid after picture.head (behind picture) are head adds)) c.write_behind_head.ensures.ok;
-      err = on_err_weaker r (λ (adds : AddsFront mid after (behind picture)). subst (AddsFront told after) (in_parts picture) (front_behind told mid after picture.head (behind picture) are head adds)) c.write_behind_head.ensures.err;
+      ok = on_ok_weaker r (λ (adds : AddsBits mid after (behind picture)). subst (AddsBits told after) (in_parts picture)
+          (adds_behind told mid after picture.head (behind picture) are head adds)) c.write_behind_head.ensures.ok;
+      err = on_err_weaker r
+          (λ (adds : AddsFront mid after (behind picture)). subst (AddsFront told after) (in_parts picture)
+          (front_behind told mid after picture.head (behind picture) are head adds)) c.write_behind_head.ensures.err;
       read_back = read_again picture;
       causes = causes_behind c.in_ok-put_all.ensures.causes c.write_behind_head.ensures.causes;
       keeps = g.met.K.Sink.keeps_on _ _ _ c.in_ok-put_all.ensures.keeps c.write_behind_head.ensures.keeps;

@@ -1,4 +1,4 @@
-use Rattle.std.proofs.Common.{◌≡◌, ◌+◌, ◌<◌, ◌≤◌, ℕ, List, [], ◌++◌, drop, length, refl, ap, sym, subst, ◌∙◌, arith}
+use Rattle.std.proofs.Common.{◌+◌, ◌<◌, [], drop, length, refl, ap, sym, subst, arith}
 use Rattle.std.specs.List.{flat_map}
 use Rattle.bit_cursor.proofs.Composed.{writes_none, writes_then, writes_exit}
 use Rattle.block_coeffs.proofs.Writing.{writes_as}
@@ -48,4 +48,5 @@ pub returns-clause-writes : goal.returns-clause-writes
 returns-clause-writes g c =
     let written = written_whole_slice c.args.coding.now in
     writes_as c.loop-slice.invariant.put
-    (none_more written c.args.slices.now c.loop-slice.slice-index c.loop-slice.invariant.done (flat_map written c.args.slices.now) c.loop-slice.invariant.rest (omega (arith, c.loop-slice-test.false)))
+    (none_more written c.args.slices.now c.loop-slice.slice-index c.loop-slice.invariant.done (flat_map written c.args.slices.now) c.loop-slice.invariant.rest
+    (omega (arith, c.loop-slice-test.false)))

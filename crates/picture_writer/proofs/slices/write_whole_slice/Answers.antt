@@ -1,4 +1,4 @@
-use Rattle.std.proofs.Common.{◌≡◌, ◌+◌, ◌-◌, ◌%◌, ◌<◌, ◌^◌, ℕ, List, ◌++◌, length, replicate, ap, sym, ◌∙◌, arith}
+use Rattle.std.proofs.Common.{◌≡◌, ◌+◌, ◌-◌, ◌%◌, ℕ, List, ◌++◌, length, replicate, ap, arith}
 use Rattle.bit_cursor.specs.BitWriter.{odd_bits}
 use Rattle.bit_cursor.proofs.Composed.{gets_odd, writes_then, writes_exit}
 use Rattle.block_coeffs.proofs.Writing.{writes_as}
