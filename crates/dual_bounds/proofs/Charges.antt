@@ -75,7 +75,7 @@ one_more : (packets lambda others : ℕ) (within : Bool) → packets * (cond wit
 one_more packets lambda others true = mul-add packets lambda others ∙ ap (λ n. n + packets * others) (let turned : packets * lambda ≡ lambda * packets = mul_comm packets lambda in turned)
 one_more packets lambda others false = omega (arith, mul-zero lambda, ap (λ n. packets * n) (let same : 0 + others ≡ others = omega arith in same))
 
-price-more : (window : Window) (windows : List Window) (time : ℕ) → price (window ∷ windows) time ≡ charge time window + price windows time
+pub price-more : (window : Window) (windows : List Window) (time : ℕ) → price (window ∷ windows) time ≡ charge time window + price windows time
 unfolding price
 price-more window windows time = sum_by-cons (charge time) window windows
 

@@ -1,9 +1,9 @@
 -- The free slots of a window, counted by periods of the timetable.
-use Rattle.std.proofs.Common.{◌≡◌, ℕ, zero, suc, ◌+◌, ◌-◌, ◌*◌, ◌/◌, ◌%◌, ◌^◌, ◌<◌, ◌≤◌, Bool, true, false, cond, eqb, leb, ltb, nat_le, ◌&&◌, length, min, Option, Some, None, is_none, if◌then◌else◌, refl, sym, ap, ◌∙◌, inl, inr, mul-le-mul_right, suc-mul, add-zero, div-add-mod', mul_comm, zero-mul, arith}
+use Rattle.std.proofs.Common.{◌≡◌, ℕ, zero, suc, ◌+◌, ◌-◌, ◌*◌, ◌/◌, ◌%◌, ◌<◌, ◌≤◌, Bool, true, false, cond, eqb, leb, ltb, nat_le, ◌&&◌, length, min, Option, Some, None, is_none, if◌then◌else◌, refl, sym, ap, ◌∙◌, inl, inr, mul-le-mul_right, suc-mul, add-zero, div-add-mod', zero-mul, arith}
 use Rattle.std.specs.List.{range_with_len}
 use Rattle.std.specs.Int.{div_ceil}
 use Rattle.std.proofs.lemmas.Bool.{cases_lt, cases_eq, cond-true, cond-false, ne_eqb, eq-eqb, le-leb, lt-leb, lt-ltb, le-ltb, and_left, and_right}
-use Rattle.std.proofs.lemmas.Nat.{le-div, mod-mul-add, mod_below, div_below}
+use Rattle.std.proofs.lemmas.Nat.{le-div, mod-mul-add, mod_below}
 use Rattle.std.proofs.lemmas.List.Sums.{count_by-le-length}
 use Rattle.std.proofs.lemmas.List.FromFn.{length-range_with_len}
 use Rattle.stream_constants.specs.declared.decoder.TheConstants.{HOLD_TICKS}

@@ -1,6 +1,7 @@
 pub mod AudioDue
 pub mod Carried
 pub mod Charges
+pub mod Concave
 pub mod Duality
 pub mod Examples
 pub mod FixedNone

@@ -1,6 +1,6 @@
 //! Laws of the bounds, as functions that do nothing.
 
-ghost use Rattle.std.specs.Prelude.{ℕ, ◌≡◌, ◌*◌, ◌<◌, ◌≤◌, ◌↔◌, List, [], ◌∷◌, ◌++◌, length, slice_get, slice_set, Option, ℤ, pos, ◌≤ℤ◌};
+ghost use Rattle.std.specs.Prelude.{ℕ, ◌≡◌, ◌+◌, ◌*◌, ◌<◌, ◌≤◌, ◌↔◌, List, [], ◌∷◌, ◌++◌, length, slice_get, slice_set, Option, ℤ, pos, ◌+ℤ◌, ◌≤ℤ◌};
 ghost use Rattle.std.specs.List.{AllZip};
 ghost use Rattle.version_table.specs.declared.table.Table.{Table};
 ghost use Rattle.version_table.specs.declared.table.Unit.{Unit as CodedUnit};
@@ -57,4 +57,11 @@ pub fn value_without_windows()
 pub fn branches_bound()
     ensures { (table : Table) (fixed : List (Option ℕ)) (u : ℕ) (unit : CodedUnit) (bound : ℕ) → slice_get (units_of table) u ≡ Some unit → u < length fixed
         → ((k : ℕ) → HasVersion unit k → IsBound table (slice_set fixed u (Some k)) bound) → IsBound table fixed bound }
+{}
+
+/// Along the lambda of one window, the others kept, each rise of the value is at most the one before: the value is concave.
+pub fn rises_fall_along_each_lambda()
+    ensures { (table : Table) (fixed : List (Option ℕ)) (from due lambda : ℕ) (others : List Window)
+        → (value_of_windows table fixed (record { from = from; due = due; lambda = lambda } ∷ others) +ℤ value_of_windows table fixed (record { from = from; due = due; lambda = lambda + 2 } ∷ others))
+        ≤ℤ (value_of_windows table fixed (record { from = from; due = due; lambda = lambda + 1 } ∷ others) +ℤ value_of_windows table fixed (record { from = from; due = due; lambda = lambda + 1 } ∷ others)) }
 {}

@@ -1,5 +1,5 @@
 -- The first best of several multipliers.
-use Rattle.std.proofs.Common.{◌≡◌, ℕ, ◌<◌, ◌≤◌, ◌⊎◌, List, [], ◌∷◌, ◌++◌, get_or, Option, refl, sym, subst, ◌∙◌, inl, inr, arith, ℤ, ◌≤ℤ◌, ◌<ℤ◌}
+use Rattle.std.proofs.Common.{◌≡◌, ℕ, ◌<◌, ◌≤◌, ◌⊎◌, List, [], ◌∷◌, ◌++◌, get_or, Option, refl, sym, subst, ◌∙◌, inl, inr, arith, ℤ, ◌≤ℤ◌, ◌<ℤ◌, suc, ◌+ℤ◌}
 use Rattle.std.specs.List.{Contains}
 use Rattle.std.proofs.lemmas.Bool.{cases_lt}
 use Rattle.std.proofs.lemmas.Int.{by_lt_z, ints}
@@ -7,9 +7,17 @@ use Rattle.std.proofs.lemmas.List.Elements.{Contains-append_left, Contains-appen
 use Rattle.version_table.specs.declared.table.Table.{Table}
 use Rattle.dual_bounds.specs.declared.constants.TheConstants.{LAMBDA_MOST}
 use Rattle.dual_bounds.specs.declared.windows.Multiplier.{Multiplier}
+use Rattle.dual_bounds.specs.Values.{value_of_multipliers}
+use Rattle.dual_bounds.proofs.Concave.{value-concave}
 use Rattle.multiplier_search.specs.Private.Lambda.{BetterOf, EndsRise, RisesTo, value_at}
 use Rattle.multiplier_search.specs.Single.{IsFirstBest, IsNoWorse, value_alone}
-use Rattle.multiplier_search.proofs.Concave.{less_below, no_greater_behind}
+use Rattle.multiplier_search.proofs.Rises.{less_below, no_greater_behind}
+
+-- along the lambdas at one due time, each rise of the value is at most the one before
+pub values_concave : (table : Table) (fixed : List (Option ℕ)) (due k : ℕ)
+    → (value_at table fixed due k +ℤ value_at table fixed due (suc (suc k))) ≤ℤ (value_at table fixed due (suc k) +ℤ value_at table fixed due (suc k))
+unfolding value_alone value_of_multipliers
+values_concave table fixed due k = value-concave table fixed 0 due k []
 
 pub no_worse_twice : (table : Table) (fixed : List (Option ℕ)) (a b c : Multiplier) → IsNoWorse table fixed a b → IsNoWorse table fixed b c → IsNoWorse table fixed a c
 no_worse_twice table fixed a b c (inl more) (inl more') = inl (omega (arith, ints))
@@ -59,18 +67,18 @@ Contains-one x y (k, within, is) =
     let there : get_or (x ∷ []) 0 y ≡ y = subst (λ n. get_or (x ∷ []) n y ≡ y) first is in
     there
 
-beside : (table : Table) (fixed : List (Option ℕ)) (due lambda : ℕ) → RisesTo table fixed due lambda → EndsRise table fixed due lambda → (k : ℕ) → k ≤ LAMBDA_MOST
+beside : (table : Table) (fixed : List (Option ℕ)) (due lambda : ℕ) → RisesTo (value_at table fixed due) lambda → EndsRise (value_at table fixed due) lambda → (k : ℕ) → k ≤ LAMBDA_MOST
     → IsNoWorse table fixed (record { due = due; lambda = lambda }) (record { due = due; lambda = k })
 beside table fixed due lambda rises ends k limit =
     elim (cases_lt k lambda) as (λ _. IsNoWorse table fixed (record { due = due; lambda = lambda }) (record { due = due; lambda = k })) [
-      | inl below ↦ inl (less_below table fixed due lambda k rises below)
+      | inl below ↦ inl (less_below (value_at table fixed due) (values_concave table fixed due) lambda k rises below)
       | inr from ↦
-          (let most : value_at table fixed due k ≤ℤ value_at table fixed due lambda = no_greater_behind table fixed due lambda k ends from limit in
+          (let most : value_at table fixed due k ≤ℤ value_at table fixed due lambda = no_greater_behind (value_at table fixed due) (values_concave table fixed due) lambda k ends from limit in
           by_lt_z (value_at table fixed due k) (value_at table fixed due lambda) (λ less. inl less)
           (λ least. (let same : value_at table fixed due k ≡ value_at table fixed due lambda = omega (arith, ints) in inr (same, inr (refl, from)))))
     ]
 
-pub best_at_due : (table : Table) (fixed : List (Option ℕ)) (due lambda : ℕ) → lambda ≤ LAMBDA_MOST → RisesTo table fixed due lambda → EndsRise table fixed due lambda
+pub best_at_due : (table : Table) (fixed : List (Option ℕ)) (due lambda : ℕ) → lambda ≤ LAMBDA_MOST → RisesTo (value_at table fixed due) lambda → EndsRise (value_at table fixed due) lambda
     → IsFirstBest table fixed (due ∷ []) (record { due = due; lambda = lambda })
 best_at_due table fixed due lambda most rises ends = record {
   candidate = record { due = (0, omega arith, refl); lambda = most };

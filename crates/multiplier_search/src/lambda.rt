@@ -14,8 +14,8 @@ pub fn best_lambda(table: &Table, fixed: &Fixed, due: u64) -> u64
     requires valid { IsValidTable table.now }
     requires fixed { FixesVersions table.now fixed.now }
     ensures most { result ≤ LAMBDA_MOST }
-    ensures rises { RisesTo table.now fixed.now due result }
-    ensures ends { EndsRise table.now fixed.now due result }
+    ensures rises { RisesTo (value_at table.now fixed.now due) result }
+    ensures ends { EndsRise (value_at table.now fixed.now due) result }
 {
     let mut low = 0;
     let mut high = LAMBDA_MOST;

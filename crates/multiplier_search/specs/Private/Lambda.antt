@@ -10,12 +10,12 @@ abbrev pub value_at : Table → List (Option ℕ) → (due lambda : ℕ) → ℤ
 value_at table fixed due lambda = value_alone table fixed (record { due = due; lambda = lambda })
 
 -- values rise with each lambda below this one
-abbrev pub RisesTo : Table → List (Option ℕ) → (due lambda : ℕ) → Type 0
-RisesTo table fixed due lambda = (k : ℕ) → k < lambda → value_at table fixed due k <ℤ value_at table fixed due (k + 1)
+abbrev pub RisesTo : (ℕ → ℤ) → (lambda : ℕ) → Type 0
+RisesTo value lambda = (k : ℕ) → k < lambda → value k <ℤ value (k + 1)
 
 -- this is the greatest lambda, or the value at the next one is no greater
-abbrev pub EndsRise : Table → List (Option ℕ) → (due lambda : ℕ) → Type 0
-EndsRise table fixed due lambda = (lambda ≡ LAMBDA_MOST) ⊎ (value_at table fixed due (lambda + 1) ≤ℤ value_at table fixed due lambda)
+abbrev pub EndsRise : (ℕ → ℤ) → (lambda : ℕ) → Type 0
+EndsRise value lambda = (lambda ≡ LAMBDA_MOST) ⊎ (value (lambda + 1) ≤ℤ value lambda)
 
 -- the first best of these units' due times; none where there is none
 abbrev pub IsBestOf : Table → List (Option ℕ) → List ℕ → Option Multiplier → Type 0

@@ -1,7 +1,8 @@
 use Rattle.std.proofs.Common.{◌+◌, ◌-◌, ◌/◌, ◌<ℤ◌, arith}
 use Rattle.std.proofs.lemmas.Int.{ints}
 use Rattle.multiplier_search.specs.Private.Lambda.{value_at}
-use Rattle.multiplier_search.proofs.Concave.{rises_upto}
+use Rattle.multiplier_search.proofs.Best.{values_concave}
+use Rattle.multiplier_search.proofs.Rises.{rises_upto}
 use Rattle.multiplier_search.proofs.lambda.best_lambda.Goals as goal
 
 pub loop-low-preserved-then-value_at : goal.loop-low-preserved-then-value_at
@@ -13,6 +14,6 @@ loop-low-preserved-then-value_at c =
     record {
       order = omega arith;
       most = c.loop-low.invariant.most;
-      rises = rises_upto table fixed c.args.due middle rise;
+      rises = rises_upto (value_at table fixed c.args.due) (values_concave table fixed c.args.due) middle rise;
       ends = c.loop-low.invariant.ends;
     }
