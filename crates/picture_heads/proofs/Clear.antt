@@ -116,7 +116,8 @@ first-code refusal may_come byte bits rest s whole =
     let run : zeros_before (start_code_bits byte ++ rest) ≡ 23 = opened-zeros 0 byte rest in
     let clear = clear-short [] (8 * n) (start_code_bits byte ++ rest) tt (omega (arith, run)) in
     let lengths : length bits ≡ 8 * n + (32 + length rest) =
-    ap length split ∙ length-append (replicate (8 * n) 0) (start_code_bits byte ++ rest) ∙ omega (arith, length-replicate {A = ℕ} (8 * n) 0, length-append (start_code_bits byte) rest, length-append start_code_prefix (bits_of 8 byte), length-bits_of 8 byte, length-bits_of 24 1) in
+    ap length split ∙ length-append (replicate (8 * n) 0) (start_code_bits byte ++ rest)
+    ∙ omega (arith, length-replicate {A = ℕ} (8 * n) 0, length-append (start_code_bits byte) rest, length-append start_code_prefix (bits_of 8 byte), length-bits_of 8 byte, length-bits_of 24 1) in
     let aligned : length rest % 8 ≡ 0 = omega (arith, lengths, whole) in (
       record {
         front = replicate (8 * n) 0;

@@ -54,7 +54,8 @@ one-parting front delay back f d b lf ld e =
     (p, r, s)
 
 -- ones at that place
-pub set-without : (head front delay back : List ℕ) (h : HasDelay head front delay back) (at : ℕ) → at + 3 < length head → 8 * (length head - at) + length h.following ≡ length (delay-walk head front delay back h).rest
+pub set-without : (head front delay back : List ℕ) (h : HasDelay head front delay back) (at : ℕ) → at + 3 < length head
+    → 8 * (length head - at) + length h.following ≡ length (delay-walk head front delay back h).rest
     → IsHeadWithoutDelay head (with_ones head at)
 set-without head front delay back h at lt size =
     let w = delay-walk head front delay back h in

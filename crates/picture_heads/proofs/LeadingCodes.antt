@@ -246,7 +246,8 @@ group_leads found bits middle rest
     let sizes : length m1 ≡ 27 + length m2 =
     ap length split1 ∙ length-append c1 n1 ∙ omega (arith, l1, l2, l3, ap length split2, length-append c2 n2, ap length split3, length-append c3 m2) in
     let size : length header ≡ 32 =
-    length-append c1 (c2 ++ (c3 ++ replicate p 0)) ∙ omega (arith, l1, l2, l3, length-append c2 (c3 ++ replicate p 0), length-append c3 (replicate p 0), length-replicate {A = ℕ} p 0, sizes, aligned, count) in
+    length-append c1 (c2 ++ (c3 ++ replicate p 0))
+    ∙ omega (arith, l1, l2, l3, length-append c2 (c3 ++ replicate p 0), length-append c3 (replicate p 0), length-replicate {A = ℕ} p 0, sizes, aligned, count) in
     let goes : GoesOn byte m1 m3 = record { no_picture = λ q. clash GROUP PICTURE byte is_group q refl; goes = inr (same, header, all, size) } in
     let l : Leads m3 rest = list_leads _ _ user_codes [] user.0 m3 m4 rest s4 aligned' (λ w. subst (λ (x : List ℕ). Leads x rest) (sym f) (later (subst (λ (x : List ℕ). length x % 8 ≡ 0) f w))) in
     record { codes = suc l.codes; leads = (byte, m1, m3, code, goes, l.leads); many = zeros }

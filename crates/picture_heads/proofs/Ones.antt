@@ -38,7 +38,8 @@ four_at (y ∷ ys) (suc at) lt =
     let j : suc at + 2 ≡ suc (at + 2) = omega arith in
     let k : suc at + 3 ≡ suc (at + 3) = omega arith in
     let same : with_ones (y ∷ ys) (suc at) ≡ y ∷ with_ones ys at =
-    ap (λ (n : ℕ). set_three (y ∷ ys) n (suc at + 2) (suc at + 3)) i ∙ ap (λ (n : ℕ). set_three (y ∷ ys) (suc (at + 1)) n (suc at + 3)) j ∙ ap (λ (n : ℕ). set_three (y ∷ ys) (suc (at + 1)) (suc (at + 2)) n) k in
+    ap (λ (n : ℕ). set_three (y ∷ ys) n (suc at + 2) (suc at + 3)) i ∙ ap (λ (n : ℕ). set_three (y ∷ ys) (suc (at + 1)) n (suc at + 3)) j
+    ∙ ap (λ (n : ℕ). set_three (y ∷ ys) (suc (at + 1)) (suc (at + 2)) n) k in
     record {
       front = y ∷ four.front;
       a = four.a;

@@ -165,7 +165,8 @@ unfolding is_picture
 pictures = record { user_data = refl; extension = refl; sequence = refl; group = refl }
 
 -- what stands before the picture's start code is read the same before another picture header
-part-moved : (before : Option SeqState) (seq : SeqState) (bits m rest other : List ℕ) (group : Unit {0}) (middle : List ℕ) (byte : ℕ) → (sequence_part before).Spells seq bits middle → group_part.Spells group middle m
+part-moved : (before : Option SeqState) (seq : SeqState) (bits m rest other : List ℕ) (group : Unit {0}) (middle : List ℕ) (byte : ℕ) → (sequence_part before).Spells seq bits middle
+    → group_part.Spells group middle m
     → (start_code BadHeader (λ b. b == PICTURE)).Spells byte m rest → length rest % 8 ≡ length other % 8
     → (front : List ℕ) × (bits ≡ front ++ (start_code_bits byte ++ rest))
     × (now : List ℕ) × (new : List ℕ) × (sequence_part before).Spells seq (front ++ (start_code_bits byte ++ other)) now × group_part.Spells group now new × (start_code BadHeader (λ b. b == PICTURE)).Spells byte new other
@@ -297,7 +298,8 @@ head-parted before seq coding bits rest (
       );
     }
 
-parted-has : (before : Option SeqState) (seq : SeqState) (coding : PicCoding) (bytes rest : List ℕ) (p : IsParted before seq coding (bit_list bytes ++ rest) rest) → AreBytes bytes → length rest % 8 ≡ 0
+parted-has : (before : Option SeqState) (seq : SeqState) (coding : PicCoding) (bytes rest : List ℕ) (p : IsParted before seq coding (bit_list bytes ++ rest) rest) → AreBytes bytes
+    → length rest % 8 ≡ 0
     → HasDelay bytes p.front p.delay p.back
 parted-has before seq coding bytes rest p are whole = record {
   bytes = are;
@@ -312,14 +314,16 @@ parted-has before seq coding bytes rest p are whole = record {
 }
 
 -- the head of a picture has a vbv_delay
-pub head-has : (before : Option SeqState) (seq : SeqState) (coding : PicCoding) (bytes rest : List ℕ) → (with_bytes (head before)).Spells ((seq, coding), bytes) (bit_list bytes ++ rest) rest → length rest % 8 ≡ 0
+pub head-has : (before : Option SeqState) (seq : SeqState) (coding : PicCoding) (bytes rest : List ℕ) → (with_bytes (head before)).Spells ((seq, coding), bytes) (bit_list bytes ++ rest) rest
+    → length rest % 8 ≡ 0
     → (front : List ℕ) × (delay : List ℕ) × (back : List ℕ) × HasDelay bytes front delay back
 head-has before seq coding bytes rest (s, are, split) whole =
     let p = head-parted before seq coding (bit_list bytes ++ rest) rest s in
     (p.front, p.delay, p.back, parted-has before seq coding bytes rest p are whole)
 
 -- and the same head without it is read the same but for that
-pub without-read : (before : Option SeqState) (seq : SeqState) (coding : PicCoding) (bytes without rest : List ℕ) → (with_bytes (head before)).Spells ((seq, coding), bytes) (bit_list bytes ++ rest) rest
+pub without-read : (before : Option SeqState) (seq : SeqState) (coding : PicCoding) (bytes without rest : List ℕ)
+    → (with_bytes (head before)).Spells ((seq, coding), bytes) (bit_list bytes ++ rest) rest
     → length rest % 8 ≡ 0 → IsHeadWithoutDelay bytes without → (with_bytes (head before)).Spells ((seq, without_delay coding), without) (bit_list without ++ rest) rest
 without-read before seq coding bytes without rest (s, are, split) whole to =
     let p = head-parted before seq coding (bit_list bytes ++ rest) rest s in

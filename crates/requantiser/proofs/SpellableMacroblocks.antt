@@ -109,7 +109,8 @@ module _ (seq : SeqState) (coding : PicCoding) (in_force mapped before : ℕ) (f
       elim (cases_eq i keeps.index) [
         | inl here ↦
             let is : slice_index_or to.blocks i no_block ≡ one =
-            ap (λ (bs : List Block). slice_index_or bs i no_block) keeps.kept ∙ ap (λ (n : ℕ). get_or (slice_set no_blocks keeps.index one) n no_block) here ∙ get_or-set_same no_blocks keeps.index one no_block keeps.within in
+            ap (λ (bs : List Block). slice_index_or bs i no_block) keeps.kept ∙ ap (λ (n : ℕ). get_or (slice_set no_blocks keeps.index one) n no_block) here
+            ∙ get_or-set_same no_blocks keeps.index one no_block keeps.within in
             record {
               dc = none-dc to.kind.intra (dc_coefficient (block_way coding to.kind i)) _ non_intra (ap (λ (x : Block). x.dc) is);
               fit = fits.each i lt;
@@ -151,7 +152,8 @@ module _ (seq : SeqState) (coding : PicCoding) (in_force mapped before : ℕ) (f
       ap shown same)
 
   -- where none has coefficients, the macroblock has motion
-  has-motion : AreSpellableBlocks coding from.kind from.pattern from.blocks → FitBlocks to.kind.intra to.blocks → IsSpellable (macroblock_type coding) from.kind → from.kind.intra ≡ false → pattern_of to.blocks ≡ 0
+  has-motion : AreSpellableBlocks coding from.kind from.pattern from.blocks → FitBlocks to.kind.intra to.blocks → IsSpellable (macroblock_type coding) from.kind → from.kind.intra ≡ false
+      → pattern_of to.blocks ≡ 0
       → HasBlocks seq coding in_force mapped from to.blocks → (from.kind.forward || from.kind.backward) ≡ true
   has-motion source fits kind non_intra empty has = elim (cases_Bool (from.kind.forward || from.kind.backward)) [
     | inl motion ↦ motion
