@@ -43,7 +43,12 @@ clear-then bits middle end a b = record {
 
 pub first-then : (bits middle : List ℕ) (byte : ℕ) (behind : List ℕ) → IsClear bits middle → IsFirstCode middle byte behind → IsFirstCode bits byte behind
 first-then bits middle byte behind clear code =
-    let all = clear-then bits middle (start_code_bits byte ++ behind) clear (record { front = code.front; split = code.split ∙ append_assoc code.front (start_code_bits byte) behind; none = code.first }) in
+    let all = clear-then bits middle (start_code_bits byte ++ behind) clear (record {
+      front = code.front;
+      split = code.split ∙ append_assoc code.front
+          (start_code_bits byte) behind;
+      none = code.first;
+    }) in
     record { front = all.front; split = all.split ∙ sym (append_assoc all.front (start_code_bits byte) behind); is_byte = code.is_byte; whole = code.whole; first = all.none }
 
 -- ---- zeros before a one

@@ -141,8 +141,10 @@ module _ (head f1 f2 : List ℕ) (are : AreBytes head) (w1 : length f1 % 8 ≡ 0
             omega (arith, here1.1, here2.1)
         | inr not_picture ↦
             let other : value ≢ PICTURE = eqb-false value PICTURE not_picture in
-            let on1 = walk-on head f1 are w1 n at found.code value (behind_one found.code value) r1 within e1 l1 first other (λ is le. behind-group found.code value is) (λ o. behind-other found.code value o) in
-            let on2 = walk-on head f2 are w2 k at found.code value (behind_one found.code value) r2 within e2 l2 first other (λ is le. behind-group found.code value is) (λ o. behind-other found.code value o) in
+            let on1 = walk-on head f1 are w1 n at found.code value (behind_one found.code value) r1 within e1 l1 first other (λ is le. behind-group found.code value is)
+            (λ o. behind-other found.code value o) in
+            let on2 = walk-on head f2 are w2 k at found.code value (behind_one found.code value) r2 within e2 l2 first other (λ is le. behind-group found.code value is)
+            (λ o. behind-other found.code value o) in
             let far : found.code + 4 ≤ behind_one found.code value = behind-far found.code value in
             same-rest fuel (behind_one found.code value) on1.0 on2.0 r1 r2 (omega (arith, few, found.begun, found.within, far))
             (next-within n at found.code value r1 within e1 l1 first other) e1 e2 on1.1 on2.1

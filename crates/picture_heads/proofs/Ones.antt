@@ -156,7 +156,8 @@ set_at head at lt are = let four : HasFour head at = four_at head at lt in by_fo
             bytes.0 (bytes.1.0, (omega (arith, low_b, bytes.1.1.0), (omega arith, (omega (arith, high_d), bytes.1.1.1.1.1)))));
         set = ap bit_list four.set ∙ bit_list-append four.front (a ∷ bit_or b 0b00000111 ∷ 255 ∷ bit_or d 0b11111000 ∷ four.back)
             ∙ ap (λ (x : List ℕ). bit_list four.front ++ (bits_of_byte a ++ (x ++ (bits_of_byte 255 ++ (bits_of_byte (bit_or d 0b11111000) ++ bit_list four.back))))) (low_bits b bytes.1.1.0)
-            ∙ ap (λ (x : List ℕ). bit_list four.front ++ (bits_of_byte a ++ ((bit_at b 7 ∷ bit_at b 6 ∷ bit_at b 5 ∷ bit_at b 4 ∷ bit_at b 3 ∷ 1 ∷ 1 ∷ 1 ∷ []) ++ (bits_of_byte 255 ++ (x ++ bit_list four.back))))) (high_bits d bytes.1.1.1.1.0)
+            ∙ ap (λ (x : List ℕ). bit_list four.front ++ (bits_of_byte a ++ ((bit_at b 7 ∷ bit_at b 6 ∷ bit_at b 5 ∷ bit_at b 4 ∷ bit_at b 3 ∷ 1 ∷ 1 ∷ 1 ∷ []) ++
+            (bits_of_byte 255 ++ (x ++ bit_list four.back))))) (high_bits d bytes.1.1.1.1.0)
             ∙ sym (append_assoc (bit_list four.front) (bits_of_byte a ++ bit_at b 7 ∷ bit_at b 6 ∷ bit_at b 5 ∷ bit_at b 4 ∷ bit_at b 3 ∷ [])
             ((1 ∷ 1 ∷ 1 ∷ 1 ∷ 1 ∷ 1 ∷ 1 ∷ 1 ∷ 1 ∷ 1 ∷ 1 ∷ 1 ∷ 1 ∷ 1 ∷ 1 ∷ 1 ∷ []) ++ back))
             ∙ ap (λ (x : List ℕ). front ++ (x ++ back)) (sym sixteen_ones) ∙ sym (append_assoc front (bits_of DELAY_BITS NO_DELAY) back);
