@@ -123,7 +123,8 @@ found-at head following at byte behind are within whole longer f =
     let size : length (bit_list (take j (drop at head))) ≡ length f.front =
     length-bit_list (take j (drop at head)) ∙ omega (arith, length-take j (drop at head), length-drop at head, fits, eights) in
     let parts : bit_list (take j (drop at head)) ++ (bit_list (drop (at + j) head) ++ following) ≡ f.front ++ (start_code_bits byte ++ behind) =
-    sym (append_assoc (bit_list (take j (drop at head))) (bit_list (drop (at + j) head)) following) ∙ sym (ap (λ (x : List ℕ). x ++ following) cut) ∙ f.split ∙ append_assoc f.front (start_code_bits byte) behind in
+    sym (append_assoc (bit_list (take j (drop at head))) (bit_list (drop (at + j) head)) following) ∙ sym (ap (λ (x : List ℕ). x ++ following) cut) ∙ f.split
+    ∙ append_assoc f.front (start_code_bits byte) behind in
     let (same, rest) = same_parts (bit_list (take j (drop at head))) f.front (bit_list (drop (at + j) head) ++ following) (start_code_bits byte ++ behind) size parts in
     let (is, value, lt, e) = bits-code head following (at + j) byte behind are f.is_byte (omega (arith, fits, within)) longer rest in
     record {

@@ -43,7 +43,12 @@ clear-then bits middle end a b = record {
 
 pub first-then : (bits middle : List ℕ) (byte : ℕ) (behind : List ℕ) → IsClear bits middle → IsFirstCode middle byte behind → IsFirstCode bits byte behind
 first-then bits middle byte behind clear code =
-    let all = clear-then bits middle (start_code_bits byte ++ behind) clear (record { front = code.front; split = code.split ∙ append_assoc code.front (start_code_bits byte) behind; none = code.first }) in
+    let all = clear-then bits middle (start_code_bits byte ++ behind) clear (record {
+      front = code.front;
+      split = code.split ∙ append_assoc code.front
+          (start_code_bits byte) behind;
+      none = code.first;
+    }) in
     record { front = all.front; split = all.split ∙ sym (append_assoc all.front (start_code_bits byte) behind); is_byte = code.is_byte; whole = code.whole; first = all.none }
 
 -- ---- zeros before a one
@@ -116,7 +121,8 @@ first-code refusal may_come byte bits rest s whole =
     let run : zeros_before (start_code_bits byte ++ rest) ≡ 23 = opened-zeros 0 byte rest in
     let clear = clear-short [] (8 * n) (start_code_bits byte ++ rest) tt (omega (arith, run)) in
     let lengths : length bits ≡ 8 * n + (32 + length rest) =
-    ap length split ∙ length-append (replicate (8 * n) 0) (start_code_bits byte ++ rest) ∙ omega (arith, length-replicate {A = ℕ} (8 * n) 0, length-append (start_code_bits byte) rest, length-append start_code_prefix (bits_of 8 byte), length-bits_of 8 byte, length-bits_of 24 1) in
+    ap length split ∙ length-append (replicate (8 * n) 0) (start_code_bits byte ++ rest)
+    ∙ omega (arith, length-replicate {A = ℕ} (8 * n) 0, length-append (start_code_bits byte) rest, length-append start_code_prefix (bits_of 8 byte), length-bits_of 8 byte, length-bits_of 24 1) in
     let aligned : length rest % 8 ≡ 0 = omega (arith, lengths, whole) in (
       record {
         front = replicate (8 * n) 0;

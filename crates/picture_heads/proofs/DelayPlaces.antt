@@ -54,7 +54,8 @@ one-parting front delay back f d b lf ld e =
     (p, r, s)
 
 -- ones at that place
-pub set-without : (head front delay back : List ℕ) (h : HasDelay head front delay back) (at : ℕ) → at + 3 < length head → 8 * (length head - at) + length h.following ≡ length (delay-walk head front delay back h).rest
+pub set-without : (head front delay back : List ℕ) (h : HasDelay head front delay back) (at : ℕ) → at + 3 < length head
+    → 8 * (length head - at) + length h.following ≡ length (delay-walk head front delay back h).rest
     → IsHeadWithoutDelay head (with_ones head at)
 set-without head front delay back h at lt size =
     let w = delay-walk head front delay back h in
@@ -140,8 +141,10 @@ module _ (head f1 f2 : List ℕ) (are : AreBytes head) (w1 : length f1 % 8 ≡ 0
             omega (arith, here1.1, here2.1)
         | inr not_picture ↦
             let other : value ≢ PICTURE = eqb-false value PICTURE not_picture in
-            let on1 = walk-on head f1 are w1 n at found.code value (behind_one found.code value) r1 within e1 l1 first other (λ is le. behind-group found.code value is) (λ o. behind-other found.code value o) in
-            let on2 = walk-on head f2 are w2 k at found.code value (behind_one found.code value) r2 within e2 l2 first other (λ is le. behind-group found.code value is) (λ o. behind-other found.code value o) in
+            let on1 = walk-on head f1 are w1 n at found.code value (behind_one found.code value) r1 within e1 l1 first other (λ is le. behind-group found.code value is)
+            (λ o. behind-other found.code value o) in
+            let on2 = walk-on head f2 are w2 k at found.code value (behind_one found.code value) r2 within e2 l2 first other (λ is le. behind-group found.code value is)
+            (λ o. behind-other found.code value o) in
             let far : found.code + 4 ≤ behind_one found.code value = behind-far found.code value in
             same-rest fuel (behind_one found.code value) on1.0 on2.0 r1 r2 (omega (arith, few, found.begun, found.within, far))
             (next-within n at found.code value r1 within e1 l1 first other) e1 e2 on1.1 on2.1

@@ -238,7 +238,8 @@ group_leads found bits middle rest
     let (p, pad, aligned', count) = padding BadHeader z m2 m3 s3 in
     let header = c1 ++ (c2 ++ (c3 ++ replicate p 0)) in
     let all : m1 ≡ header ++ m3 =
-    split1 ∙ ap (λ (x : List ℕ). c1 ++ x) (split2 ∙ ap (λ (x : List ℕ). c2 ++ x) (split3 ∙ ap (λ (x : List ℕ). c3 ++ x) pad ∙ sym (append_assoc c3 (replicate p 0) m3)) ∙ sym (append_assoc c2 (c3 ++ replicate p 0) m3))
+    split1 ∙ ap (λ (x : List ℕ). c1 ++ x) (split2 ∙ ap (λ (x : List ℕ). c2 ++ x) (split3 ∙ ap (λ (x : List ℕ). c3 ++ x) pad ∙ sym (append_assoc c3 (replicate p 0) m3)) ∙ sym
+    (append_assoc c2 (c3 ++ replicate p 0) m3))
     ∙ sym (append_assoc c1 (c2 ++ (c3 ++ replicate p 0)) m3) in
     let l1 : length c1 ≡ 25 = ap length is ∙ length-bits_of 25 time in
     let l2 : length c2 ≡ 1 = ap length is2 in
@@ -246,7 +247,8 @@ group_leads found bits middle rest
     let sizes : length m1 ≡ 27 + length m2 =
     ap length split1 ∙ length-append c1 n1 ∙ omega (arith, l1, l2, l3, ap length split2, length-append c2 n2, ap length split3, length-append c3 m2) in
     let size : length header ≡ 32 =
-    length-append c1 (c2 ++ (c3 ++ replicate p 0)) ∙ omega (arith, l1, l2, l3, length-append c2 (c3 ++ replicate p 0), length-append c3 (replicate p 0), length-replicate {A = ℕ} p 0, sizes, aligned, count) in
+    length-append c1 (c2 ++ (c3 ++ replicate p 0))
+    ∙ omega (arith, l1, l2, l3, length-append c2 (c3 ++ replicate p 0), length-append c3 (replicate p 0), length-replicate {A = ℕ} p 0, sizes, aligned, count) in
     let goes : GoesOn byte m1 m3 = record { no_picture = λ q. clash GROUP PICTURE byte is_group q refl; goes = inr (same, header, all, size) } in
     let l : Leads m3 rest = list_leads _ _ user_codes [] user.0 m3 m4 rest s4 aligned' (λ w. subst (λ (x : List ℕ). Leads x rest) (sym f) (later (subst (λ (x : List ℕ). length x % 8 ≡ 0) f w))) in
     record { codes = suc l.codes; leads = (byte, m1, m3, code, goes, l.leads); many = zeros }
@@ -258,7 +260,8 @@ sequence_leads before found bits middle rest (b1, m1, s1, (seq, m2, s2, (z1, m3,
     let (p, pad, aligned3, count) = padding BadHeader z1 m2 m3 s3 in
     let (code', zeros', aligned4, is') = first-code NotMpeg2 (λ b. b == EXTENSION) b2 m3 m4 s4 aligned3 in
     let (q, pad', aligned7, count') = padding BadHeader z2 m6 m7 s7 in
-    let l7 : Leads m7 rest = list_leads _ _ extension_codes [] extra.0 m7 m8 rest s8 aligned7 (λ w. subst (λ (x : List ℕ). Leads x rest) (sym f) (later (subst (λ (x : List ℕ). length x % 8 ≡ 0) f w))) in
+    let l7 : Leads m7 rest = list_leads _ _ extension_codes [] extra.0 m7 m8 rest s8 aligned7 (λ w. subst (λ (x : List ℕ). Leads x rest) (sym f)
+    (later (subst (λ (x : List ℕ). length x % 8 ≡ 0) f w))) in
     let (g, split, short, le) = (short-sequence_header before).runs seq m1 m2 s2 in
     let (g', split', short', le') = (short-sequence_extension before).runs progressive m4 m6 (id, m5, s5, s6) in
     let clear1 : IsClear m1 m3 = subst (λ (x : List ℕ). IsClear x m3) (sym (split ∙ ap (λ (x : List ℕ). g ++ x) pad)) (clear-short g p m3 short zeros') in

@@ -38,7 +38,8 @@ four_at (y ∷ ys) (suc at) lt =
     let j : suc at + 2 ≡ suc (at + 2) = omega arith in
     let k : suc at + 3 ≡ suc (at + 3) = omega arith in
     let same : with_ones (y ∷ ys) (suc at) ≡ y ∷ with_ones ys at =
-    ap (λ (n : ℕ). set_three (y ∷ ys) n (suc at + 2) (suc at + 3)) i ∙ ap (λ (n : ℕ). set_three (y ∷ ys) (suc (at + 1)) n (suc at + 3)) j ∙ ap (λ (n : ℕ). set_three (y ∷ ys) (suc (at + 1)) (suc (at + 2)) n) k in
+    ap (λ (n : ℕ). set_three (y ∷ ys) n (suc at + 2) (suc at + 3)) i ∙ ap (λ (n : ℕ). set_three (y ∷ ys) (suc (at + 1)) n (suc at + 3)) j
+    ∙ ap (λ (n : ℕ). set_three (y ∷ ys) (suc (at + 1)) (suc (at + 2)) n) k in
     record {
       front = y ∷ four.front;
       a = four.a;
@@ -155,7 +156,8 @@ set_at head at lt are = let four : HasFour head at = four_at head at lt in by_fo
             bytes.0 (bytes.1.0, (omega (arith, low_b, bytes.1.1.0), (omega arith, (omega (arith, high_d), bytes.1.1.1.1.1)))));
         set = ap bit_list four.set ∙ bit_list-append four.front (a ∷ bit_or b 0b00000111 ∷ 255 ∷ bit_or d 0b11111000 ∷ four.back)
             ∙ ap (λ (x : List ℕ). bit_list four.front ++ (bits_of_byte a ++ (x ++ (bits_of_byte 255 ++ (bits_of_byte (bit_or d 0b11111000) ++ bit_list four.back))))) (low_bits b bytes.1.1.0)
-            ∙ ap (λ (x : List ℕ). bit_list four.front ++ (bits_of_byte a ++ ((bit_at b 7 ∷ bit_at b 6 ∷ bit_at b 5 ∷ bit_at b 4 ∷ bit_at b 3 ∷ 1 ∷ 1 ∷ 1 ∷ []) ++ (bits_of_byte 255 ++ (x ++ bit_list four.back))))) (high_bits d bytes.1.1.1.1.0)
+            ∙ ap (λ (x : List ℕ). bit_list four.front ++ (bits_of_byte a ++ ((bit_at b 7 ∷ bit_at b 6 ∷ bit_at b 5 ∷ bit_at b 4 ∷ bit_at b 3 ∷ 1 ∷ 1 ∷ 1 ∷ []) ++
+            (bits_of_byte 255 ++ (x ++ bit_list four.back))))) (high_bits d bytes.1.1.1.1.0)
             ∙ sym (append_assoc (bit_list four.front) (bits_of_byte a ++ bit_at b 7 ∷ bit_at b 6 ∷ bit_at b 5 ∷ bit_at b 4 ∷ bit_at b 3 ∷ [])
             ((1 ∷ 1 ∷ 1 ∷ 1 ∷ 1 ∷ 1 ∷ 1 ∷ 1 ∷ 1 ∷ 1 ∷ 1 ∷ 1 ∷ 1 ∷ 1 ∷ 1 ∷ 1 ∷ []) ++ back))
             ∙ ap (λ (x : List ℕ). front ++ (x ++ back)) (sym sixteen_ones) ∙ sym (append_assoc front (bits_of DELAY_BITS NO_DELAY) back);

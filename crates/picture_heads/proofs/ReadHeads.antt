@@ -69,78 +69,115 @@ exact-behind_header seq header =
 -- the same picture coding extension beside another vbv_delay
 extension-delay : (progressive : Bool) (kind delay other : ℕ) (coding : PicCoding) (bits rest : List ℕ) → (picture_coding_extension progressive kind delay).Spells coding bits rest
     → (picture_coding_extension progressive kind other).Spells (record coding { vbv_delay = other }) bits rest
-extension-delay progressive kind delay other coding bits rest
-    (a1, m1, s1, (a2, m2, s2, (a3, m3, s3, (a4, m4, s4, (a5, m5, s5, (a6, m6, s6, (a7, m7, s7, (a8, m8, s8, (a9, m9, s9, (a10, m10, s10, (a11, m11, s11, (a12, m12, s12, (a13, m13, s13, (a14, m14, s14, (a15, m15, s15, (a16, m16, s16, (a17, m17, s17, (e, f)))))))))))))))))) = (
-      a1,
-      m1,
-      s1,
+extension-delay progressive kind delay other coding bits rest (
+  a1,
+  m1,
+  s1,
+  (
+    a2,
+    m2,
+    s2,
+    (
+      a3,
+      m3,
+      s3,
       (
-        a2,
-        m2,
-        s2,
+        a4,
+        m4,
+        s4,
         (
-          a3,
-          m3,
-          s3,
+          a5,
+          m5,
+          s5,
           (
-            a4,
-            m4,
-            s4,
+            a6,
+            m6,
+            s6,
             (
-              a5,
-              m5,
-              s5,
+              a7,
+              m7,
+              s7,
               (
-                a6,
-                m6,
-                s6,
+                a8,
+                m8,
+                s8,
+                (a9, m9, s9, (a10, m10, s10, (a11, m11, s11, (a12, m12, s12, (a13, m13, s13, (a14, m14, s14, (a15, m15, s15, (a16, m16, s16, (a17, m17, s17, (e, f)))))))))),
+              ),
+            ),
+          ),
+        ),
+      ),
+    ),
+  ),
+) = (
+  a1,
+  m1,
+  s1,
+  (
+    a2,
+    m2,
+    s2,
+    (
+      a3,
+      m3,
+      s3,
+      (
+        a4,
+        m4,
+        s4,
+        (
+          a5,
+          m5,
+          s5,
+          (
+            a6,
+            m6,
+            s6,
+            (
+              a7,
+              m7,
+              s7,
+              (
+                a8,
+                m8,
+                s8,
                 (
-                  a7,
-                  m7,
-                  s7,
+                  a9,
+                  m9,
+                  s9,
                   (
-                    a8,
-                    m8,
-                    s8,
+                    a10,
+                    m10,
+                    s10,
                     (
-                      a9,
-                      m9,
-                      s9,
+                      a11,
+                      m11,
+                      s11,
                       (
-                        a10,
-                        m10,
-                        s10,
+                        a12,
+                        m12,
+                        s12,
                         (
-                          a11,
-                          m11,
-                          s11,
+                          a13,
+                          m13,
+                          s13,
                           (
-                            a12,
-                            m12,
-                            s12,
+                            a14,
+                            m14,
+                            s14,
                             (
-                              a13,
-                              m13,
-                              s13,
+                              a15,
+                              m15,
+                              s15,
                               (
-                                a14,
-                                m14,
-                                s14,
+                                a16,
+                                m16,
+                                s16,
                                 (
-                                  a15,
-                                  m15,
-                                  s15,
-                                  (
-                                    a16,
-                                    m16,
-                                    s16,
-                                    (
-                                      a17,
-                                      m17,
-                                      s17,
-                                      (ap (λ (c : PicCoding). let again : PicCoding = record c { vbv_delay = other } in again) e, f),
-                                    ),
-                                  ),
+                                  a17,
+                                  m17,
+                                  s17,
+                                  (ap (λ (c : PicCoding). let again : PicCoding = record c { vbv_delay = other } in again) e, f),
                                 ),
                               ),
                             ),
@@ -155,7 +192,9 @@ extension-delay progressive kind delay other coding bits rest
           ),
         ),
       ),
-    )
+    ),
+  ),
+)
 
 is_picture : ℕ → Bool
 is_picture byte = byte == PICTURE
@@ -165,10 +204,12 @@ unfolding is_picture
 pictures = record { user_data = refl; extension = refl; sequence = refl; group = refl }
 
 -- what stands before the picture's start code is read the same before another picture header
-part-moved : (before : Option SeqState) (seq : SeqState) (bits m rest other : List ℕ) (group : Unit {0}) (middle : List ℕ) (byte : ℕ) → (sequence_part before).Spells seq bits middle → group_part.Spells group middle m
+part-moved : (before : Option SeqState) (seq : SeqState) (bits m rest other : List ℕ) (group : Unit {0}) (middle : List ℕ) (byte : ℕ) → (sequence_part before).Spells seq bits middle
+    → group_part.Spells group middle m
     → (start_code BadHeader (λ b. b == PICTURE)).Spells byte m rest → length rest % 8 ≡ length other % 8
     → (front : List ℕ) × (bits ≡ front ++ (start_code_bits byte ++ rest))
-    × (now : List ℕ) × (new : List ℕ) × (sequence_part before).Spells seq (front ++ (start_code_bits byte ++ other)) now × group_part.Spells group now new × (start_code BadHeader (λ b. b == PICTURE)).Spells byte new other
+    × (now : List ℕ) × (new : List ℕ) × (sequence_part before).Spells seq (front ++ (start_code_bits byte ++ other)) now × group_part.Spells group now new ×
+    (start_code BadHeader (λ b. b == PICTURE)).Spells byte new other
 unfolding is_picture
 part-moved before seq bits m rest other group middle byte s t u whole =
     let (n, split, fits, comes) = code-taken BadHeader (λ b. b == PICTURE) byte m rest u in
@@ -287,7 +328,17 @@ head-parted before seq coding bits rest (
               (
                 (kind, NO_DELAY),
                 n2,
-                (temporal, c3 ++ (d ++ p3), (c10, coded10, pass10, refl), (kind, d ++ p3, (c3, coded3, pass3, refl), (NO_DELAY, p3, (d, (omega arith, refl), refl, refl), (o1, p4, u4, (o2, p5, u5, (extra, p6, u6, (refl, f2))))))),
+                (
+                  temporal,
+                  c3 ++ (d ++ p3),
+                  (c10, coded10, pass10, refl),
+                  (
+                    kind,
+                    d ++ p3,
+                    (c3, coded3, pass3, refl),
+                    (NO_DELAY, p3, (d, (omega arith, refl), refl, refl), (o1, p4, u4, (o2, p5, u5, (extra, p6, u6, (refl, f2))))),
+                  ),
+                ),
                 (z1, n3, t3, (b2, n4, t4, (id, n5, t5, (without_delay cod, n6, extension-delay seq0.progressive kind delay NO_DELAY cod n5 n6 extension, (z2, n7, t7, (loaded, n8, t8, (refl, f3))))))),
               ),
             ),
@@ -297,7 +348,8 @@ head-parted before seq coding bits rest (
       );
     }
 
-parted-has : (before : Option SeqState) (seq : SeqState) (coding : PicCoding) (bytes rest : List ℕ) (p : IsParted before seq coding (bit_list bytes ++ rest) rest) → AreBytes bytes → length rest % 8 ≡ 0
+parted-has : (before : Option SeqState) (seq : SeqState) (coding : PicCoding) (bytes rest : List ℕ) (p : IsParted before seq coding (bit_list bytes ++ rest) rest) → AreBytes bytes
+    → length rest % 8 ≡ 0
     → HasDelay bytes p.front p.delay p.back
 parted-has before seq coding bytes rest p are whole = record {
   bytes = are;
@@ -306,20 +358,23 @@ parted-has before seq coding bytes rest p are whole = record {
   following = rest;
   whole = whole;
   parts = append_cancel_right (bit_list bytes) (p.front ++ p.delay ++ p.back) rest
-      (p.split ∙ ap (λ (x : List ℕ). p.front ++ x) (sym (append_assoc p.delay p.back rest)) ∙ sym (append_assoc p.front (p.delay ++ p.back) rest) ∙ ap (λ (x : List ℕ). x ++ rest) (sym (append_assoc p.front p.delay p.back)));
+      (p.split ∙ ap (λ (x : List ℕ). p.front ++ x) (sym (append_assoc p.delay p.back rest)) ∙ sym (append_assoc p.front (p.delay ++ p.back) rest) ∙ ap (λ (x : List ℕ). x ++ rest)
+      (sym (append_assoc p.front p.delay p.back)));
   delay_bits = p.delay_bits;
   place = subst (λ (x : List ℕ). (before_vbv_delay before).Spells p.kind (bit_list bytes ++ rest) x) (sym (append_assoc p.delay p.back rest)) p.place;
 }
 
 -- the head of a picture has a vbv_delay
-pub head-has : (before : Option SeqState) (seq : SeqState) (coding : PicCoding) (bytes rest : List ℕ) → (with_bytes (head before)).Spells ((seq, coding), bytes) (bit_list bytes ++ rest) rest → length rest % 8 ≡ 0
+pub head-has : (before : Option SeqState) (seq : SeqState) (coding : PicCoding) (bytes rest : List ℕ) → (with_bytes (head before)).Spells ((seq, coding), bytes) (bit_list bytes ++ rest) rest
+    → length rest % 8 ≡ 0
     → (front : List ℕ) × (delay : List ℕ) × (back : List ℕ) × HasDelay bytes front delay back
 head-has before seq coding bytes rest (s, are, split) whole =
     let p = head-parted before seq coding (bit_list bytes ++ rest) rest s in
     (p.front, p.delay, p.back, parted-has before seq coding bytes rest p are whole)
 
 -- and the same head without it is read the same but for that
-pub without-read : (before : Option SeqState) (seq : SeqState) (coding : PicCoding) (bytes without rest : List ℕ) → (with_bytes (head before)).Spells ((seq, coding), bytes) (bit_list bytes ++ rest) rest
+pub without-read : (before : Option SeqState) (seq : SeqState) (coding : PicCoding) (bytes without rest : List ℕ)
+    → (with_bytes (head before)).Spells ((seq, coding), bytes) (bit_list bytes ++ rest) rest
     → length rest % 8 ≡ 0 → IsHeadWithoutDelay bytes without → (with_bytes (head before)).Spells ((seq, without_delay coding), without) (bit_list without ++ rest) rest
 without-read before seq coding bytes without rest (s, are, split) whole to =
     let p = head-parted before seq coding (bit_list bytes ++ rest) rest s in

@@ -104,8 +104,10 @@ version-spelled m from to lawful version =
         each = subst (λ (s : SeqState). AllByRecursion (λ x. HasSpellableMacroblocks s to.coding x × (is_slice (x.row + FIRST_SLICE) ≡ true)) to.slices) (sym version.seq)
             (subst (λ (c : PicCoding). AllByRecursion (λ x. HasSpellableMacroblocks from.seq c x × (is_slice (x.row + FIRST_SLICE) ≡ true)) to.slices) (sym version.coding) each');
       },
-      ap (λ (s : SeqState). flat_map (addresses s) to.slices) version.seq ∙ ap (flat_map (addresses from.seq)) made ∙ addresses-same from.seq from.coding m from.slices is.each walkable.slices ∙ lawful.covered
-          ∙ ap (λ (c : PicCoding). range_with_len 0 (rows from.seq c * columns from.seq)) (sym version.coding) ∙ ap (λ (s : SeqState). range_with_len 0 (rows s to.coding * columns s)) (sym version.seq),
+      ap (λ (s : SeqState). flat_map (addresses s) to.slices) version.seq ∙ ap (flat_map (addresses from.seq)) made ∙ addresses-same from.seq from.coding m from.slices is.each walkable.slices
+          ∙ lawful.covered
+          ∙ ap (λ (c : PicCoding). range_with_len 0 (rows from.seq c * columns from.seq)) (sym version.coding)
+          ∙ ap (λ (s : SeqState). range_with_len 0 (rows s to.coding * columns s)) (sym version.seq),
     )
 
 pub version-lawful : (m : ℕ) (from to : Picture) → IsLawful from → IsVersion m from to → IsLawful to

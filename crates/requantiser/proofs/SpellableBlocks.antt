@@ -72,8 +72,15 @@ shown b = not (is_empty_block b)
 
 bits-six : (a b c d e f : ℕ) → a < 2 → b < 2 → c < 2 → d < 2 → e < 2 → f < 2 → (n : ℕ) → n ≡ a * 32 + (b * 16 + (c * 8 + (d * 4 + (e * 2 + f))))
     → (n / 32 % 2 ≡ a) × (n / 16 % 2 ≡ b) × (n / 8 % 2 ≡ c) × (n / 4 % 2 ≡ d) × (n / 2 % 2 ≡ e) × (n / 1 % 2 ≡ f)
-bits-six a b c d e f la lb lc ld le lf n is =
-    (omega (arith, la, lb, lc, ld, le, lf, is), omega (arith, la, lb, lc, ld, le, lf, is), omega (arith, la, lb, lc, ld, le, lf, is), omega (arith, la, lb, lc, ld, le, lf, is), omega (arith, la, lb, lc, ld, le, lf, is), omega (arith, la, lb, lc, ld, le, lf, is))
+bits-six a b c d e f la lb lc ld le lf n is = (
+  omega (arith, la, lb, lc, ld, le, lf, is),
+  omega (arith, la, lb, lc, ld, le, lf, is),
+  omega (arith, la, lb, lc, ld, le, lf, is),
+  omega (arith, la, lb, lc, ld, le, lf, is),
+  omega
+      (arith, la, lb, lc, ld, le, lf, is),
+  omega (arith, la, lb, lc, ld, le, lf, is),
+)
 
 -- the bit of a block says whether it has coefficients
 pub pattern-bit : (bs : List Block) → length bs ≡ 6 → (i : ℕ) → i < 6 → (bit_at (pattern_of bs) (5 - i) == 1) ≡ shown (slice_index_or bs i no_block)
@@ -112,7 +119,16 @@ pattern-zero (a ∷ b ∷ c ∷ d ∷ e ∷ []) six each = absurd (omega (arith,
 pattern-zero (a ∷ b ∷ c ∷ d ∷ e ∷ f ∷ g ∷ hs) six each = absurd (omega (arith, six))
 pattern-zero (a ∷ b ∷ c ∷ d ∷ e ∷ f ∷ []) six each =
     number_of-six (flag (shown a)) (flag (shown b)) (flag (shown c)) (flag (shown d)) (flag (shown e)) (flag (shown f))
-    ∙ omega (arith, ap flag (each 0 (omega arith)), ap flag (each 1 (omega arith)), ap flag (each 2 (omega arith)), ap flag (each 3 (omega arith)), ap flag (each 4 (omega arith)), ap flag (each 5 (omega arith)))
+    ∙ omega (
+      arith,
+      ap flag (each 0 (omega arith)),
+      ap flag (each 1 (omega arith)),
+      ap flag (each 2 (omega arith)),
+      ap flag (each 3 (omega arith)),
+      ap flag (each 4 (omega arith)),
+      ap flag
+          (each 5 (omega arith)),
+    )
 
 pub pattern-small : (bs : List Block) → length bs ≡ 6 → pattern_of bs < 64
 pattern-small [] six = absurd (omega (arith, six))

@@ -121,7 +121,8 @@ or_next : (a b : Bool) → (not a || b) ≡ true → a ≡ true → b ≡ true
 or_next true b e is = e
 or_next false b e is = absurd (let e' : false ≡ true = is in cc)
 
-closed-of : (table : TableName) → all_closed table ≡ true → (q f b p i q' p' : Bool) → listed table (symbol_of q f b p i) ≡ true → may_be f b p i q' p' ≡ true → listed table (symbol_of q' f b p' i) ≡ true
+closed-of : (table : TableName) → all_closed table ≡ true → (q f b p i q' p' : Bool) → listed table (symbol_of q f b p i) ≡ true → may_be f b p i q' p' ≡ true
+    → listed table (symbol_of q' f b p' i) ≡ true
 closed-of table all q f b p i q' p' is may =
     let a1 = both_of (λ q. both (λ f. both (λ b. both (λ p. both (λ i. both (λ q'. both (λ p'. is_closed table q f b p i q' p'))))))) all q in
     let a2 = both_of (λ f. both (λ b. both (λ p. both (λ i. both (λ q'. both (λ p'. is_closed table q f b p i q' p')))))) a1 f in

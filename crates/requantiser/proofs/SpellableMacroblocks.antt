@@ -109,7 +109,8 @@ module _ (seq : SeqState) (coding : PicCoding) (in_force mapped before : ℕ) (f
       elim (cases_eq i keeps.index) [
         | inl here ↦
             let is : slice_index_or to.blocks i no_block ≡ one =
-            ap (λ (bs : List Block). slice_index_or bs i no_block) keeps.kept ∙ ap (λ (n : ℕ). get_or (slice_set no_blocks keeps.index one) n no_block) here ∙ get_or-set_same no_blocks keeps.index one no_block keeps.within in
+            ap (λ (bs : List Block). slice_index_or bs i no_block) keeps.kept ∙ ap (λ (n : ℕ). get_or (slice_set no_blocks keeps.index one) n no_block) here
+            ∙ get_or-set_same no_blocks keeps.index one no_block keeps.within in
             record {
               dc = none-dc to.kind.intra (dc_coefficient (block_way coding to.kind i)) _ non_intra (ap (λ (x : Block). x.dc) is);
               fit = fits.each i lt;
@@ -142,7 +143,8 @@ module _ (seq : SeqState) (coding : PicCoding) (in_force mapped before : ℕ) (f
   no-blocks source non_intra none zero_pattern six (inl (coarser, other)) = pattern-zero to.blocks six (λ i lt.
       let uncoded : is_coded from.kind from.pattern i ≡ false =
       ap (λ (t : Bool). t || (bit_at from.pattern (5 - i) == 1)) non_intra ∙ ap (λ (n : ℕ). bit_at n (5 - i) == 1) zero_pattern ∙ ap (λ (n : ℕ). n == 1) (bit_at-zero (5 - i)) in
-      let old : slice_index_or from.blocks i no_block ≡ no_block = subst (λ (c : Bool). IsSpellableBlock c (block_way coding from.kind i) (slice_index_or from.blocks i no_block)) uncoded (source.each i lt) in
+      let old : slice_index_or from.blocks i no_block ≡ no_block = subst (λ (c : Bool). IsSpellableBlock c (block_way coding from.kind i) (slice_index_or from.blocks i no_block)) uncoded
+      (source.each i lt) in
       let one = coarser.1 i (omega (arith, lt, source.six)) in
       let same : slice_index_or to.blocks i no_block ≡ no_block =
       one_coarser_block seq coding (block_way coding from.kind i) in_force mapped no_block (slice_index_or to.blocks i no_block) no_block
@@ -151,7 +153,8 @@ module _ (seq : SeqState) (coding : PicCoding) (in_force mapped before : ℕ) (f
       ap shown same)
 
   -- where none has coefficients, the macroblock has motion
-  has-motion : AreSpellableBlocks coding from.kind from.pattern from.blocks → FitBlocks to.kind.intra to.blocks → IsSpellable (macroblock_type coding) from.kind → from.kind.intra ≡ false → pattern_of to.blocks ≡ 0
+  has-motion : AreSpellableBlocks coding from.kind from.pattern from.blocks → FitBlocks to.kind.intra to.blocks → IsSpellable (macroblock_type coding) from.kind → from.kind.intra ≡ false
+      → pattern_of to.blocks ≡ 0
       → HasBlocks seq coding in_force mapped from to.blocks → (from.kind.forward || from.kind.backward) ≡ true
   has-motion source fits kind non_intra empty has = elim (cases_Bool (from.kind.forward || from.kind.backward)) [
     | inl motion ↦ motion
@@ -199,7 +202,8 @@ module _ (seq : SeqState) (coding : PicCoding) (in_force mapped before : ℕ) (f
         let none : not (to.pattern == 0) ≡ false = ap (λ (n : ℕ). not (n == 0)) (pattern-intra intra) in
         may-intra from.kind.forward from.kind.backward from.kind.pattern from.kind.intra (is_some to.code) (not (to.pattern == 0)) intra none
     | inr other ↦ elim (cases_Bool (not (to.pattern == 0))) [
-      | inl some ↦ may-pattern from.kind.forward from.kind.backward from.kind.pattern from.kind.intra (is_some to.code) (not (to.pattern == 0)) other some (had-pattern other some (cases_Bool from.kind.pattern))
+      | inl some ↦ may-pattern from.kind.forward from.kind.backward from.kind.pattern from.kind.intra (is_some to.code) (not (to.pattern == 0)) other some
+          (had-pattern other some (cases_Bool from.kind.pattern))
       | inr none ↦
           let empty : pattern_of to.blocks ≡ 0 = sym (pattern-other other) ∙ zero-of none in
           may-motion from.kind.forward from.kind.backward from.kind.pattern from.kind.intra (is_some to.code) (not (to.pattern == 0)) other none

@@ -116,7 +116,8 @@ module _ (seq : SeqState) (coding : PicCoding) (m : ℕ) where
       increment = increment-of coding first left from are.0
 
       by_made : (made : Option Macroblock) → made ≡ made_of first code before skipped from later
-          → ((coding.kind == I_PICTURE) ≡ false → AreSpelled coding false (left - span_of from + (skipped + (from.skipped_before + 1))) (walk false (unwrap_or from.code code) before (skipped + (from.skipped_before + 1)) later))
+          → ((coding.kind == I_PICTURE) ≡ false → AreSpelled coding false (left - span_of from + (skipped + (from.skipped_before + 1)))
+          (walk false (unwrap_or from.code code) before (skipped + (from.skipped_before + 1)) later))
           → ((to : Macroblock) → AreSpelled coding false (left - span_of from + 0) (walk false (unwrap_or from.code code) (unwrap_or to.code before) 0 later))
           → AreSpelled coding first (left + skipped) (walk first code before skipped (from ∷ later))
       by_made None is skips makes =
@@ -124,11 +125,13 @@ module _ (seq : SeqState) (coding : PicCoding) (m : ℕ) where
           let kind = no-pattern coding from.kind (let p = are.0 in p.kind) emptied.coded in
           let count : left - span_of from + (skipped + (from.skipped_before + 1)) ≡ left + skipped = omega (arith, increment.within, most_within coding first left) in
           subst (AreSpelled coding first (left + skipped)) (sym (walk-skips seq coding m first code before skipped from later (sym is)))
-          (subst (λ (t : Bool). AreSpelled coding t (left + skipped) (walk false (unwrap_or from.code code) before (skipped + (from.skipped_before + 1)) later)) (sym (not_first first (not (is_none later)) inner))
+          (subst (λ (t : Bool). AreSpelled coding t (left + skipped) (walk false (unwrap_or from.code code) before (skipped + (from.skipped_before + 1)) later))
+          (sym (not_first first (not (is_none later)) inner))
           (subst (λ (n : ℕ). AreSpelled coding false n (walk false (unwrap_or from.code code) before (skipped + (from.skipped_before + 1)) later)) count (skips kind)))
       by_made (Some to) is skips makes =
           let (mapped, is_mapped, coarser, inner) = at-one first code before skipped from later (Some to) walkable.0 is in
-          let gap : to.skipped_before ≡ skipped + from.skipped_before = gap-walk seq coding m (not first && not (is_none later)) (unwrap_or from.code code) before (skipped + from.skipped_before) from to (sym is) in
+          let gap : to.skipped_before ≡ skipped + from.skipped_before = gap-walk seq coding m (not first && not (is_none later)) (unwrap_or from.code code) before
+          (skipped + from.skipped_before) from to (sym is) in
           let fits = made-fits seq coding m (not first && not (is_none later)) (unwrap_or from.code code) before (skipped + from.skipped_before) from to walkable.0.measured is in
           let here : skipped + span_of from ≡ to.skipped_before + 1 = omega (arith, gap) in
           let count : left - span_of from + 0 ≡ left + skipped - span_of to = omega (arith, gap, increment.within, most_within coding first left) in
@@ -159,7 +162,8 @@ module _ (seq : SeqState) (coding : PicCoding) (m : ℕ) where
       no_later before (x ∷ xs) makes = makes refl ∙ omega arith
 
       by_made : (made : Option Macroblock) → made ≡ made_of first code before skipped from later
-          → (is_none later ≡ false → sum_by span_of (walk false (unwrap_or from.code code) before (skipped + (from.skipped_before + 1)) later) ≡ skipped + (from.skipped_before + 1) + sum_by span_of later)
+          → (is_none later ≡ false → sum_by span_of (walk false (unwrap_or from.code code) before (skipped + (from.skipped_before + 1)) later) ≡ skipped +
+          (from.skipped_before + 1) + sum_by span_of later)
           → ((to : Macroblock) → is_none later ≡ false → sum_by span_of (walk false (unwrap_or from.code code) (unwrap_or to.code before) 0 later) ≡ 0 + sum_by span_of later)
           → sum_by span_of (walk first code before skipped (from ∷ later)) ≡ skipped + sum_by span_of (from ∷ later)
       by_made None is skips makes =
@@ -167,7 +171,8 @@ module _ (seq : SeqState) (coding : PicCoding) (m : ℕ) where
           ap (sum_by span_of) (walk-skips seq coding m first code before skipped from later (sym is))
           ∙ skips (some_later (not first) (is_none later) inner) ∙ omega (arith, sum_by-cons span_of from later)
       by_made (Some to) is skips makes =
-          let gap : to.skipped_before ≡ skipped + from.skipped_before = gap-walk seq coding m (not first && not (is_none later)) (unwrap_or from.code code) before (skipped + from.skipped_before) from to (sym is) in
+          let gap : to.skipped_before ≡ skipped + from.skipped_before = gap-walk seq coding m (not first && not (is_none later)) (unwrap_or from.code code) before
+          (skipped + from.skipped_before) from to (sym is) in
           ap (sum_by span_of) (walk-makes seq coding m first code before skipped from to later (sym is))
           ∙ sum_by-cons span_of to (walk false (unwrap_or from.code code) (unwrap_or to.code before) 0 later)
           ∙ omega (arith, gap, no_later (unwrap_or to.code before) later (makes to), sum_by-cons span_of from later)
@@ -184,7 +189,8 @@ module _ (seq : SeqState) (coding : PicCoding) (m : ℕ) where
         absurd (let e : false ≡ true = inner in cc)
     by_made (Some to) is =
         let gap : to.skipped_before ≡ 0 + from.skipped_before = gap-walk seq coding m false (unwrap_or from.code code) before (0 + from.skipped_before) from to (sym is) in
-        subst (λ (ys : List Macroblock). (first_column ys ≡ from.skipped_before) × (0 < length ys)) (sym (walk-makes seq coding m true code before 0 from to later (sym is))) (omega (arith, gap), omega arith)
+        subst (λ (ys : List Macroblock). (first_column ys ≡ from.skipped_before) × (0 < length ys)) (sym (walk-makes seq coding m true code before 0 from to later (sym is)))
+        (omega (arith, gap), omega arith)
 
   some_none : (ms : List Macroblock) → 0 < length ms → is_none ms ≡ false
   some_none [] some = absurd (omega (arith, some))

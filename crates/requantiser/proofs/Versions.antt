@@ -36,5 +36,6 @@ one-version m from a b p q =
     ap (λ (n : SeqState). let x : Picture = record a { seq = n } in x) (p.seq ∙ sym q.seq)
     ∙ ap (λ (n : PicCoding). let x : Picture = record a { seq = b.seq; coding = n } in x) (p.coding ∙ sym q.coding)
     ∙ ap (λ (n : List ℕ). let x : Picture = record a { seq = b.seq; coding = b.coding; head = n } in x) (one-without from.head a.head b.head p.head q.head)
-    ∙ ap (λ (n : List Slice). let x : Picture = record a { seq = b.seq; coding = b.coding; head = b.head; slices = n } in x) (one_list from.seq from.coding m from.slices a.slices b.slices p.slices q.slices)
+    ∙ ap (λ (n : List Slice). let x : Picture = record a { seq = b.seq; coding = b.coding; head = b.head; slices = n } in x)
+    (one_list from.seq from.coding m from.slices a.slices b.slices p.slices q.slices)
     ∙ ap (λ n. let x : Picture = record b { sequence_end = n } in x) (p.sequence_end ∙ sym q.sequence_end)

@@ -30,7 +30,13 @@ returns c =
     let (place, is, lt, size) = c.behind_picture_code.ensures w.codes h.following w.rest w.leads h.whole w.enough in
     let at : place ≡ c.in-Some.at = (let e = sym is ∙ c.in-Some.is in cc) in
     let same : c.deref_mut.result.now ≡ c.args.head.now = search rules in
-    let count : c.in_ok-bytes.bytes.len ≡ length c.set_delay.new.bytes = omega (arith, ap length c.set_delay.ensures, ones-length c.deref_mut.result.now c.in-Some.at, c.deref_mut.ensures.len, ap length c.deref_mut.ensures.value) in
+    let count : c.in_ok-bytes.bytes.len ≡ length c.set_delay.new.bytes = omega (
+      arith,
+      ap length c.set_delay.ensures,
+      ones-length c.deref_mut.result.now c.in-Some.at,
+      c.deref_mut.ensures.len,
+      ap length c.deref_mut.ensures.value,
+    ) in
     let made : c.from_vec.result ≡ with_ones c.args.head.now c.in-Some.at =
     c.from_vec.ensures ∙ ap (λ (n : ℕ). take n (c.set_delay.new.bytes ++ drop (length c.set_delay.new.bytes) c.in_ok-bytes.bytes.items)) count
     ∙ take-append_seam c.set_delay.new.bytes (drop (length c.set_delay.new.bytes) c.in_ok-bytes.bytes.items) ∙ c.set_delay.ensures ∙ ap (λ (xs : List ℕ). with_ones xs c.in-Some.at) same in
