@@ -1,3 +1,4 @@
 pub mod Private
+pub mod SliceBytes
 pub mod VbvDelay
 pub mod WrittenPicture
