@@ -7,6 +7,7 @@
 
 mod address;
 mod blocks;
+mod cursor;
 mod elements;
 mod fault;
 mod macroblock;
@@ -14,5 +15,6 @@ mod modes;
 mod motion;
 mod why;
 
+pub use cursor::SliceCursor;
 pub use fault::SliceFault;
 pub use macroblock::{empty_macroblock, read_macroblock, read_macroblock_into};
