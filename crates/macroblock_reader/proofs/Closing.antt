@@ -1,25 +1,25 @@
 -- Where a slice is closed (ISO/IEC 13818-2, 6.2.4).
-use Rattle.std.proofs.Common.{◌≡◌, ◌⊎◌, ◌+◌, ◌-◌, ◌<◌, ◌≤◌, ◌==◌, nat_le, ℕ, zero, suc, min, List, [], ◌∷◌, ◌++◌, length, replicate, take, drop, Option, Some, None, IfSome, IfOk, IfErr, IsNone, MatchResult, Result, Ok, Err, Bool, true, false, refl, sym, ap, ap₂, subst, ◌∙◌, inl, inr, arith}
-use Rattle.std.proofs.lemmas.List.{length-take, length-append, length-replicate, take_all, take-append-le, take-replicate, replicate-append-replicate}
+use Rattle.std.proofs.Common.{◌≡◌, ◌⊎◌, ◌+◌, ◌≤◌, ◌==◌, nat_le, ℕ, List, [], ◌∷◌, ◌++◌, length, replicate, take, Option, Some, None, IfSome, IfOk, IfErr, IsNone, MatchResult, Result, Ok, Err, Bool, true, false, refl, sym, ap, subst, ◌∙◌, inl, inr, arith}
+use Rattle.std.proofs.lemmas.List.{length-take, take_all, take-append-le, take-replicate, replicate-append-replicate}
 use Rattle.std.proofs.lemmas.Bool.{cases_Bool, ne_eqb, leb-true, leb-false}
 use Rattle.shelf_io.specs.declared.source.Source.{Ghosts}
-use Rattle.bit_lists.specs.Bits.{IsPrefix, bits_of, front_of, number_of}
+use Rattle.bit_lists.specs.Bits.{front_of, number_of}
 use Rattle.bit_lists.proofs.JoinedLemmas.{bits_of-zero}
 use Rattle.bit_lists.proofs.NumberLemmas.{number_of-zeros}
 use Rattle.bit_cursor.specs.declared.bit_reader.BitReader.{BitReader}
 use Rattle.bit_cursor.specs.Reading.{Shows, zero_filled}
-use Rattle.bit_cursor.specs.BitReader.{bits_left, place, KeepsSource}
+use Rattle.bit_cursor.specs.BitReader.{bits_left, place}
 use Rattle.syntax_types.specs.declared.macroblock.Macroblock.{Macroblock}
 use Rattle.syntax_types.specs.declared.picture.PicCoding.{PicCoding}
 use Rattle.syntax_types.specs.declared.picture.SeqState.{SeqState}
 use Rattle.picture_grammar.specs.Refusal.{Refusal}
 use Rattle.picture_grammar.specs.Exact.{IsExact}
-use Rattle.picture_grammar.specs.Grammar.{Grammar, Next}
+use Rattle.picture_grammar.specs.Grammar.{Grammar}
 use Rattle.picture_grammar.specs.Grammar.Next.{more, last}
 use Rattle.picture_grammar.specs.Macroblock.{macroblock}
 use Rattle.picture_grammar.specs.Slice.{ClosesSlice, columns, columns_left, next_macroblock}
 use Rattle.picture_laws.proofs.WrittenSlice.{macroblock-closes}
-use Rattle.grammar_reading.specs.BitsRead.{PlacedRefusal, IsSpelled, ReadsFrom, RefusedAt, ExplainsFrom, Reads, Explains, BeginsWith}
+use Rattle.grammar_reading.specs.BitsRead.{PlacedRefusal, IsSpelled, ReadsFrom, ExplainsFrom, Reads, Explains, BeginsWith}
 use Rattle.grammar_reading.proofs.BitsRead.{read-comes, refused-comes}
 use Rattle.macroblock_reader.specs.declared.fault.SliceFault.{SliceFault}
 use Rattle.macroblock_reader.specs.SliceFault.{refusal_told}
@@ -73,9 +73,9 @@ module _ (seq : SeqState) (coding : PicCoding) (first : Bool) (left : ℕ) where
       let later : first ≡ false = e ∙ ne_eqb (length (b ∷ bs)) 0 (omega arith) in
       let t = subst (λ n. (macroblock coding false n).Refuses bits refusal others) f (subst (λ c. (macroblock coding c left).Refuses bits refusal others) later r) in
       inr (goes-on later going, inl t) where
-    goes-on : first ≡ false → (first ≡ true) ⊎ (ClosesSlice bits → ⊥) → ClosesSlice bits → ⊥
-    goes-on later (inl is) = λ _. absurd (let never : true ≡ false = sym is ∙ later in cc)
-    goes-on later (inr none) = none
+        goes-on : first ≡ false → (first ≡ true) ⊎ (ClosesSlice bits → ⊥) → ClosesSlice bits → ⊥
+        goes-on later (inl is) = λ _. absurd (let never : true ≡ false = sym is ∙ later in cc)
+        goes-on later (inr none) = none
 
   module _ (before : List Macroblock) (e : first ≡ (length before == 0)) (f : left ≡ columns_left seq before) where
     pub next-read : (m : Macroblock) (bits after : Option (List ℕ)) (at at_after : ℕ) → ReadsFrom (macroblock coding first left) m bits after at at_after → ReadsFrom (next_macroblock seq coding before) (more m) bits after at at_after
@@ -96,9 +96,9 @@ module _ (seq : SeqState) (coding : PicCoding) (first : Bool) (left : ℕ) where
   next-closed (b ∷ bs) e later bits after at at_after closes same moved =
       subst (λ o. ReadsFrom (next_macroblock seq coding (b ∷ bs)) (last tt) bits o at at_after) (sym same)
       (subst (λ n. ReadsFrom (next_macroblock seq coding (b ∷ bs)) (last tt) bits bits at n) (sym moved) (here bits closes)) where
-    here : (bits : Option (List ℕ)) → IfSome bits ClosesSlice → ReadsFrom (next_macroblock seq coding (b ∷ bs)) (last tt) bits bits at at
-    here None closes = record { front = []; spelled = ([], inl (inr refl, (refl, refl))); left = refl; moved = omega arith }
-    here (Some rest) closes = record { front = []; spelled = inl (closes, (refl, refl)); left = refl; moved = omega arith }
+        here : (bits : Option (List ℕ)) → IfSome bits ClosesSlice → ReadsFrom (next_macroblock seq coding (b ∷ bs)) (last tt) bits bits at at
+        here None closes = record { front = []; spelled = ([], inl (inr refl, (refl, refl))); left = refl; moved = omega arith }
+        here (Some rest) closes = record { front = []; spelled = inl (closes, (refl, refl)); left = refl; moved = omega arith }
 
 -- where the bits are told, the answer is theirs
 pub next-exact : {A T S : Type 0} {g : Ghosts S} (grammar : Grammar A) (found : T → A) (old new : BitReader S g) → IsExact grammar → (value : A) (rest : List ℕ) → BeginsWith grammar value old rest → (result : Result T SliceFault)

@@ -6,3 +6,4 @@ pub mod Vectors
 pub mod Sixes
 pub mod Macroblocks
 pub mod Closing
+pub mod Slices

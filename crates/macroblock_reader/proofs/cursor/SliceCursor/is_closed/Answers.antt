@@ -1,4 +1,4 @@
-use Rattle.std.proofs.Common.{nat_eq, inr}
+use Rattle.std.proofs.Common.{inr}
 use Rattle.std.proofs.lemmas.Bool.{eqb-true, eqb-false}
 use Rattle.bit_cursor.specs.BitReader.{bits_left}
 use Rattle.macroblock_reader.proofs.Closing.{closed-shown, open-shown}

@@ -1,9 +1,8 @@
-use Rattle.std.proofs.Common.{◌≡◌, ◌⊎◌, true, Ok, Err, IfSome, sym, subst}
+use Rattle.std.proofs.Common.{true, Ok, IfSome, subst}
 use Rattle.std.proofs.lemmas.Result.{err_from_is_err_and}
 use Rattle.bit_cursor.specs.BitReader.{bits_left, place}
-use Rattle.picture_grammar.specs.Grammar.Next.{more}
 use Rattle.picture_grammar.specs.Macroblock.{macroblock}
-use Rattle.picture_grammar.specs.Slice.{ClosesSlice, next_macroblock}
+use Rattle.picture_grammar.specs.Slice.{next_macroblock}
 use Rattle.picture_grammar.proofs.MacroblockLaws.{exact-next_macroblock}
 use Rattle.grammar_reading.specs.BitsRead.{ReadsFrom, ExplainsFrom}
 use Rattle.macroblock_reader.specs.SliceFault.{refusal_told}
