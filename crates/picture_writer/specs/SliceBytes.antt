@@ -4,7 +4,7 @@ use Rattle.bit_lists.specs.Bits.{IsPrefix}
 use Rattle.bit_lists.specs.Fields.{bit_list}
 use Rattle.syntax_types.specs.declared.picture.Picture.{Picture}
 use Rattle.syntax_types.specs.declared.slice.Slice.{Slice}
-use Rattle.picture_grammar.specs.declared.start_codes.TheConstants.{FIRST_SLICE}
+use Rattle.stream_constants.specs.declared.start_codes.TheConstants.{FIRST_SLICE}
 use Rattle.picture_grammar.specs.StartCode.{start_code_bits}
 use Rattle.picture_laws.specs.SliceStands.{SliceStands}
 
