@@ -12,7 +12,7 @@ use Rattle.slot_rule.specs.declared.queue_state.QueueState.{QueueState}
 use Rattle.slot_rule.specs.Buffers.{Row, Reserved, Carries, is_of, packets_in, payload_in, slot_subticks, tb_subticks, tb_work, mb_work}
 use Rattle.slot_rule.specs.Private.Slots.{HasRun, Sends, Tracks, subtick_after}
 use Rattle.slot_rule.specs.Private.QueueItems.{IsPlace, queue_at}
-use Rattle.slot_rule.specs.Private.States.{ChangesEach, ReleasesAll, TakesPcr, queue_of}
+use Rattle.slot_rule.specs.Private.States.{ChangesEach, ReleasesAll, TakesPcr, places_kept, queue_of}
 use Rattle.slot_rule.specs.Private.QueueState.{HasPcr, HoldsNoneGone, IsKind, KeepsPlace, packets_at}
 use Rattle.slot_rule.specs.Queues.{QueueKind, Video, Audio, QueuedPacket}
 use Rattle.slot_rule.proofs.RuleSent.{count-push, count-carried, count-reserved}
@@ -20,6 +20,19 @@ use Rattle.slot_rule.proofs.RuleWork.{tb_work-push, mb_work-push, packets_in-car
 use Rattle.slot_rule.proofs.TrackLaws.{AllHoldNoneGone}
 
 -- lists of states whose elements have the same streams
+pub same_places : (olds news : List QueueState) → length news ≡ length olds
+    → ((stream : ℕ) (old new : QueueState) → slice_get olds stream ≡ Some old → slice_get news stream ≡ Some new → new.items ≡ old.items)
+    → places_kept news ≡ places_kept olds
+same_places olds news many sources =
+    same_lists (places_kept news) (places_kept olds) (length-map news (λ s. s.items) ∙ many ∙ sym (length-map olds (λ s. s.items)))
+    (λ k d within.
+    let below : k < length news = omega (arith, length-map news (λ (s : QueueState). s.items)) in
+    let below' : k < length olds = omega arith in
+    let e : QueueState = record { kind = Audio; items = QueueItems.Packets 0 0; tb_empty = 0; mb_empty = 0; sent = 0; head = None; gone = 0; oldest = None; held = 0 } in
+    get_or-map (λ (s : QueueState). s.items) news k e d below
+    ∙ sources k (get_or olds k e) (get_or news k e) (slice_get-get_or olds k e below') (slice_get-get_or news k e below)
+    ∙ sym (get_or-map (λ (s : QueueState). s.items) olds k e d below'))
+
 pub same_queues : (table : Table) (choice : List ℕ) (olds news : List QueueState) → length news ≡ length olds
     → ((stream : ℕ) (old new : QueueState) → slice_get olds stream ≡ Some old → slice_get news stream ≡ Some new → new.items ≡ old.items)
     → map (queue_of table choice) news ≡ map (queue_of table choice) olds
@@ -71,6 +84,8 @@ HasRun-release table choice rows olds news changes run = (
   record {
     follows = run.follows;
     queues = same_queues table choice olds news changes.as_many (λ stream old new there there'. ap (λ (s : QueueState). s.items) (changes.each stream old new there there').releases.changed) ∙ run.queues;
+    places = same_places olds news changes.as_many (λ stream old new there there'. ap (λ (s : QueueState). s.items) (changes.each stream old new there there').releases.changed)
+        ∙ run.places;
     tracks = λ stream new there.
         let before = state_before (ReleasesAll table choice (length rows * table.slot)) olds news stream new changes there in
         Tracks-release table choice rows stream before.0 new before.2 (run.tracks stream before.0 before.1);

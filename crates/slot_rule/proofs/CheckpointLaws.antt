@@ -123,7 +123,7 @@ IsCheckpoint-first table choice run stream packet first is = record { reached = 
 module _ (table : Table) (choice : List ℕ) (run : RunState) (first : IsFirstRun table choice run) (none : IsFirstHead Passes run.states.items None) where
   none_waits : AllSent (queues_of table choice) []
   none_waits stream kind packet head =
-      let found = state_from_head table choice [] run.states.items (HasRun-first table choice run.states.items first.queues first.first) stream kind packet head in
+      let found = state_from_head table choice [] run.states.items (HasRun-first table choice run.states.items first.queues first.places first.first) stream kind packet head in
       none stream found.0 packet found.1 found.3 tt
 
   pub IsScheduled-empty : IsScheduled table choice

@@ -1,5 +1,5 @@
 -- The streams of the first programs of a table, for a loop over its programs.
-use Rattle.std.proofs.Common.{◌≡◌, ℕ, suc, ◌+◌, ◌<◌, ◌≤◌, List, [], ◌∷◌, ◌++◌, length, map, get_or, take, drop, sum_by, sym, ap, subst, ◌∙◌, zero-add, arith}
+use Rattle.std.proofs.Common.{◌≡◌, ℕ, suc, ◌+◌, ◌<◌, ◌≤◌, List, [], ◌∷◌, ◌++◌, length, map, get_or, take, drop, sum_by, sym, ap, ap₂, subst, ◌∙◌, append_assoc, append-nil, add-zero, zero-add, arith}
 use Rattle.std.proofs.lemmas.List.{length-map, length-append, length-take-le, take_more, take-append-drop}
 use Rattle.std.proofs.lemmas.List.Concat.{flat_map-append}
 use Rattle.std.proofs.lemmas.List.Sums.{sum_by_more_le}
@@ -10,11 +10,12 @@ use Rattle.version_table.specs.declared.table.Table.{Table}
 use Rattle.version_table.specs.declared.table.Unit.{Unit as CodedUnit}
 use Rattle.version_table.specs.Table.{IsValidTable, units_of}
 use Rattle.version_table.specs.Choice.{Fits, HasVersion}
+use Rattle.slot_rule.specs.declared.queue_items.QueueItems.{QueueItems}
 use Rattle.slot_rule.specs.declared.queue_items.QueueItems.TheVariants.{Units}
 use Rattle.slot_rule.specs.declared.states.TheConstants.{STREAMS_MOST}
 use Rattle.slot_rule.specs.declared.queue_state.QueueState.{QueueState}
 use Rattle.slot_rule.specs.Private.QueueItems.{HasSizes, IsPlace, program_at}
-use Rattle.slot_rule.specs.Private.States.{queue_of}
+use Rattle.slot_rule.specs.Private.States.{places_from, places_in, places_kept, queue_of}
 use Rattle.slot_rule.specs.Queues.{Queue, queues_from, queues_of}
 use Rattle.slot_rule.proofs.RuleQueues.{units_in, queues_in, queues_from-push, length-queues_from, queues_of-few, HasSizes-at_program}
 
@@ -67,3 +68,29 @@ queues_more table choice p first olds news within first_is queues added =
     ∙ ap (λ n. queues_from 0 (take p table.programs) choice ++ queues_in p row (drop n choice)) first_is
     ∙ ap (λ n. queues_from 0 (take p table.programs) choice ++ queues_in n row (drop (length (units_in (take p table.programs))) choice)) (sym number)
     ∙ sym (ap (λ (rows : List ProgramRow). queues_from 0 rows choice) (take_more table.programs p (record { vbv = 0; units = []; audios = [] }) within) ∙ queues_from-push 0 (take p table.programs) row choice)
+
+-- ---- where their packets stand
+-- the places of one more program
+places_from-push : (program first : ℕ) (rows : List ProgramRow) (row : ProgramRow)
+    → places_from program first (rows ++ row ∷ []) ≡ places_from program first rows ++ places_in (program + length rows) (first + length (units_in rows)) row
+places_from-push program first [] row =
+    append-nil (places_in program first row) ∙ ap₂ (λ p f. places_in p f row) (sym (add-zero program)) (sym (add-zero first))
+places_from-push program first (r ∷ rows) row =
+    let later : program + 1 + length rows ≡ program + suc (length rows) = omega arith in
+    let units : first + length r.units + length (units_in rows) ≡ first + length (units_in (r ∷ rows)) = omega (arith, length-append r.units (units_in rows)) in
+    ap (λ (more : List QueueItems). places_in program first r ++ more)
+    (places_from-push (program + 1) (first + length r.units) rows row
+    ∙ ap₂ (λ p f. places_from (program + 1) (first + length r.units) rows ++ places_in p f row) later units)
+    ∙ sym (append_assoc (places_in program first r) (places_from (program + 1) (first + length r.units) rows) (places_in (program + suc (length rows)) (first + length (units_in (r ∷ rows))) row))
+
+pub places_more : (table : Table) (p first : ℕ) (olds news : List QueueState) → p < length table.programs → first ≡ length (units_in (take p table.programs))
+    → places_kept olds ≡ places_from 0 0 (take p table.programs) → places_kept news ≡ places_kept olds ++ places_in p first (program_at table p)
+    → places_kept news ≡ places_from 0 0 (take (p + 1) table.programs)
+places_more table p first olds news within first_is places added =
+    let row = program_at table p in
+    let number : p ≡ 0 + length (take p table.programs) = sym (zero-add _ ∙ length-take-le p table.programs (omega arith)) in
+    let unit : first ≡ 0 + length (units_in (take p table.programs)) = first_is ∙ sym (zero-add _) in
+    added ∙ ap (λ (list : List QueueItems). list ++ places_in p first row) places
+    ∙ ap₂ (λ n f. places_from 0 0 (take p table.programs) ++ places_in n f row) number unit
+    ∙ sym (ap (λ (rows : List ProgramRow). places_from 0 0 rows) (take_more table.programs p (record { vbv = 0; units = []; audios = [] }) within)
+    ∙ places_from-push 0 0 (take p table.programs) row)

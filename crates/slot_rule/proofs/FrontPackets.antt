@@ -101,25 +101,17 @@ module _ (table : Table) (choice choice' : List ℕ) (state : QueueState) where
       (drop first choice) (drop first choice') is n packet there (subst (λ m. packet.item < m) (sym (zero-add same)) before) k upto
   head_same (Packets program audio) same n packet is there before k upto = refl
 
-  pub SameSoFar-within : (front : Front) → state.items ≡ front.items → IsFrontOf table choice choice' front.items front.same → (front.is_whole ≡ true → IsWholeOf table front.items front.same)
+  pub SameSoFar-within : (front : Front) → IsFrontOf table choice choice' state.items front.same → (front.is_whole ≡ true → IsWholeOf table state.items front.same)
       → KeepsPlace (packets_at table choice state.items) state → IsWithin front state → SameSoFar table choice choice' state
-  SameSoFar-within front items same whole keeps within =
-      let is : IsFrontOf table choice choice' state.items front.same = subst (λ (q : QueueItems). IsFrontOf table choice choice' q front.same) (sym items) same in
-      elim within.head as (λ _. SameSoFar table choice choice' state) [
-        | inl all ↦
-            (let packets : packets_at table choice' state.items ≡ packets_at table choice state.items =
-            whole_same state.items front.same is (subst (λ (q : QueueItems). IsWholeOf table q front.same) (sym items) (whole all)) in
-            λ k upto. ap (λ (list : List QueuedPacket). slice_get list k) packets)
-        | inr some ↦ head_same state.items front.same state.sent some.0 is (sym keeps.head ∙ some.1) some.2
-      ]
+  SameSoFar-within front same whole keeps (inl all) = λ k upto. ap (λ (list : List QueuedPacket). slice_get list k) (whole_same state.items front.same same (whole all))
+  SameSoFar-within front same whole keeps (inr some) = head_same state.items front.same state.sent some.0 same (sym keeps.head ∙ some.1) some.2
 
 -- a front that is made for the places of a state
-pub IsFront-made : (table : Table) (choice choice' : List ℕ) (state : QueueState) (front found : Front) (items : QueueItems) → front ≡ found → front.items ≡ items → items ≡ state.items
+pub IsFront-made : (table : Table) (choice choice' : List ℕ) (state : QueueState) (front found : Front) (items : QueueItems) → front ≡ found → items ≡ state.items
     → IsFrontOf table choice choice' items front.same → (front.is_whole ≡ true → IsWholeOf table items front.same) → IsFront table choice choice' state found
-IsFront-made table choice choice' state front found items is made places same whole =
+IsFront-made table choice choice' state front found items is places same whole =
     subst (λ (f : Front). IsFront table choice choice' state f) is
     (record {
-      items = made ∙ places;
-      same = subst (λ (q : QueueItems). IsFrontOf table choice choice' q front.same) (sym made) same;
-      whole = λ all. subst (λ (q : QueueItems). IsWholeOf table q front.same) (sym made) (whole all);
+      same = subst (λ (q : QueueItems). IsFrontOf table choice choice' q front.same) places same;
+      whole = λ all. subst (λ (q : QueueItems). IsWholeOf table q front.same) places (whole all);
     })

@@ -1,8 +1,9 @@
 -- A kept run under another choice, the number of its checkpoints, and the work that they tell.
 use Rattle.std.proofs.Common.{◌≡◌, ℕ, ◌+◌, ◌-◌, ◌*◌, ◌/◌, ◌<◌, ◌≤◌, Bool, true, false, List, [], ◌∷◌, ◌++◌, length, map, get_or, take, drop, count_by, slice_get, Some, None, if◌then◌else◌, refl, sym, ap, ap₂, subst, ◌∙◌, inl, inr, zero-le, arith}
+use Rattle.std.specs.Option.{option_map}
 use Rattle.std.proofs.lemmas.Bool.{cases_lt}
 use Rattle.std.proofs.lemmas.List.{length-map, length-take-le, take_more, same_from_push}
-use Rattle.std.proofs.lemmas.Option.{none-some, slice_get_past, slice_get_within, slice_get-get_or, get_or_from_slice_get}
+use Rattle.std.proofs.lemmas.Option.{none-some, same_Some, slice_get-map, slice_get_past, slice_get_within, slice_get-get_or, get_or_from_slice_get}
 use Rattle.version_table.specs.declared.table.Table.{Table}
 use Rattle.stream_constants.specs.declared.clock.TheConstants.{SUBTICKS_PER_TICK}
 use Rattle.slot_rule.specs.declared.fronts.Front.{Front}
@@ -16,7 +17,7 @@ use Rattle.slot_rule.specs.Queues.{QueueKind, Video, Audio, QueuedPacket, Queue,
 use Rattle.slot_rule.specs.Schedule.{IsHead, IsSchedule, Misses}
 use Rattle.slot_rule.specs.SlotList.{CarriesPacket}
 use Rattle.slot_rule.specs.SlotRun.{CountsCheckpoints, CountsKept, HasNoPacket, IsCheckpointCount, IsKeptWork, IsLastCarried, IsLastSlot, IsWorkAt, slots_apart, streams_of, work_of}
-use Rattle.slot_rule.specs.Private.Checkpoints.{AreFronts, AreWithin, IsCheckpoint}
+use Rattle.slot_rule.specs.Private.Checkpoints.{AreFronts, AreWithin, IsCheckpoint, IsFrontOf, IsWholeOf}
 use Rattle.slot_rule.specs.Private.QueueItems.{IsPlace}
 use Rattle.slot_rule.specs.Private.QueueState.{work_of_kind, work_of_state}
 use Rattle.slot_rule.specs.Private.Runs.{IsFirstRun, Reached}
@@ -41,32 +42,35 @@ module _ (table : Table) (old new : List ℕ) (first : RunState) (fronts : List 
       → (front : Front) × (before : QueueState) × (slice_get fronts stream ≡ Some front) × (slice_get first.states.items stream ≡ Some before)
   front_at stream state there =
       let here = slice_get_within run.states.items stream state there in
-      let d : Front = record { items = state.items; same = 0; is_whole = false } in (
+      let d : Front = record { same = 0; is_whole = false } in (
         get_or fronts stream d,
         get_or first.states.items stream state,
         slice_get-get_or fronts stream d (omega (arith, here, within.one_each)),
         slice_get-get_or first.states.items stream state (omega (arith, here, within.one_each, are.one_each)),
       )
 
-  same_places : (stream : ℕ) (before state : QueueState) → slice_get first.states.items stream ≡ Some before → slice_get run.states.items stream ≡ Some state → state.items ≡ before.items
-  same_places stream before state there there' =
-      let at = front_at stream state there' in
-      (within.each stream state at.0 there' at.2).items ∙ (are.each stream before at.0 there at.2).items
+  same_items : (stream : ℕ) (before state : QueueState) → slice_get first.states.items stream ≡ Some before → slice_get run.states.items stream ≡ Some state → state.items ≡ before.items
+  same_items stream before state there there' =
+      same_Some state.items before.items
+      (sym (slice_get-map (λ (s : QueueState). s.items) run.states.items stream ∙ ap (option_map (λ (s : QueueState). s.items)) there')
+      ∙ ap (λ (list : List QueueItems). slice_get list stream) (is.reached.run.states.places ∙ sym first_is.places)
+      ∙ slice_get-map (λ (s : QueueState). s.items) first.states.items stream ∙ ap (option_map (λ (s : QueueState). s.items)) there)
 
   queues_new : map (queue_of table new) run.states.items ≡ queues_of table new
-  queues_new = same_queues table new first.states.items run.states.items (within.one_each ∙ are.one_each) same_places ∙ first_is.queues
+  queues_new = same_queues table new first.states.items run.states.items (within.one_each ∙ are.one_each) same_items ∙ first_is.queues
 
   same_so_far : (stream : ℕ) (state : QueueState) → slice_get run.states.items stream ≡ Some state → SameSoFar table old new state
   same_so_far stream state there =
       let at = front_at stream state there in
       let front = are.each stream at.1 at.0 at.3 at.2 in
-      let in_front = within.each stream state at.0 there at.2 in
-      SameSoFar-within table old new state at.0 in_front.items front.same front.whole (is.reached.run.states.tracks stream state there).keeps in_front
+      let items = sym (same_items stream at.1 state at.3 there) in
+      SameSoFar-within table old new state at.0 (subst (λ (q : QueueItems). IsFrontOf table old new q at.0.same) items front.same)
+      (λ all. subst (λ (q : QueueItems). IsWholeOf table q at.0.same) items (front.whole all)) (is.reached.run.states.tracks stream state there).keeps (within.each stream state at.0 there at.2)
 
   places_new : (stream : ℕ) (state : QueueState) → slice_get run.states.items stream ≡ Some state → IsPlace table new state.items
   places_new stream state there =
       let at = front_at stream state there in
-      subst (λ (items : QueueItems). IsPlace table new items) (sym (same_places stream at.1 state at.3 there))
+      subst (λ (items : QueueItems). IsPlace table new items) (sym (same_items stream at.1 state at.3 there))
       (All-at_place (IsFirstState table new) first.states.items first_is.first stream at.1 at.3).place
 
   pub IsCheckpoint-under : IsCheckpoint table new slots run

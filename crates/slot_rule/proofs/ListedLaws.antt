@@ -39,7 +39,7 @@ Listed-first table choice run first = record {
   reached = record {
     rows = [];
     slots_are = refl;
-    run = record { states = HasRun-first table choice run.states.items first.queues first.first; turns = first.turns; gone = first.gone };
+    run = record { states = HasRun-first table choice run.states.items first.queues first.places first.first; turns = first.turns; gone = first.gone };
     in_time = NoMiss-nil table.slot (queues_of table choice);
   };
   sent_is = refl;

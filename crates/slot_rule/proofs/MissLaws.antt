@@ -20,7 +20,7 @@ use Rattle.slot_rule.specs.Schedule.{AllSent, IsHead, Misses, NoMiss, SentLate, 
 use Rattle.slot_rule.specs.SlotList.{CarriesPacket}
 use Rattle.slot_rule.specs.Private.Runs.{IsFirstRun, IsRun, Reached}
 use Rattle.slot_rule.specs.Private.Slots.{ComesLate, FirstOverdue, HasRun, NoneLate, NoneOverdue, RowStands, TellsAfter, Tracks, subtick_after}
-use Rattle.slot_rule.specs.Private.States.{IsFirstState, queue_of}
+use Rattle.slot_rule.specs.Private.States.{AreOfStreams, IsFirstState, queue_of}
 use Rattle.slot_rule.specs.Private.QueueState.{KeepsPlace, mb_or_tb_of_kind, mb_or_tb_of_state}
 use Rattle.slot_rule.specs.Queues.{QueueKind, Video, Audio, QueuedPacket, Queue, queues_of}
 use Rattle.slot_rule.proofs.Places.{All-at_place}
@@ -48,12 +48,13 @@ Tracks-first table choice stream state first =
       mb = ap (λ (s : QueueState). s.mb_empty - subtick_after table.slot none) is ∙ zero-sub _;
     }
 
-pub HasRun-first : (table : Table) (choice : List ℕ) (states : List QueueState) → map (queue_of table choice) states ≡ queues_of table choice
+pub HasRun-first : (table : Table) (choice : List ℕ) (states : List QueueState) → map (queue_of table choice) states ≡ queues_of table choice → AreOfStreams table states
     → All (IsFirstState table choice) states
     → HasRun table choice [] states
-HasRun-first table choice states queues first = record {
+HasRun-first table choice states queues places first = record {
   follows = FollowRule-nil table choice;
   queues = queues;
+  places = places;
   tracks = λ stream state there. Tracks-first table choice stream state (All-at_place (IsFirstState table choice) states first stream state there);
 }
 
@@ -166,7 +167,7 @@ pub Reached-first : (table : Table) (choice : List ℕ) (run : RunState) → IsF
 Reached-first table choice run first = record {
   rows = [];
   slots_are = refl;
-  run = record { states = HasRun-first table choice run.states.items first.queues first.first; turns = first.turns; gone = first.gone };
+  run = record { states = HasRun-first table choice run.states.items first.queues first.places first.first; turns = first.turns; gone = first.gone };
   in_time = NoMiss-nil table.slot (queues_of table choice);
 }
 

@@ -92,6 +92,7 @@ module _ (table : Table) (choice choice' : List ℕ) (rows : List Row) (states :
   HasRun-same places = record {
     follows = FollowRule-same table choice choice' rows heads_same run.follows;
     queues = queues';
+    places = run.places;
     tracks = λ stream state there.
         let tracks = run.tracks stream state there in
         let order = tracks.keeps.order in

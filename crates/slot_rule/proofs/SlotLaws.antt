@@ -10,10 +10,10 @@ use Rattle.slot_rule.specs.declared.sent.Sent.TheVariants.{Null, Pat, Pmt, Pcr, 
 use Rattle.slot_rule.specs.declared.queue_state.QueueState.{QueueState}
 use Rattle.slot_rule.specs.Buffers.{Row, Reserved, Carries, Empty}
 use Rattle.slot_rule.specs.Private.Slots.{FillsSlot, HasRun, Reserves, SendsOne, subtick_after}
-use Rattle.slot_rule.specs.Private.States.{ChangesEach, ReleasesAll, TakesPcr, queue_of}
+use Rattle.slot_rule.specs.Private.States.{AreOfStreams, ChangesEach, ReleasesAll, TakesPcr, queue_of}
 use Rattle.slot_rule.specs.Queues.{QueuedPacket, queues_of}
 use Rattle.slot_rule.specs.Timetable.{reserved}
-use Rattle.slot_rule.proofs.BringLaws.{Brings, Brings-nothing, Brings-pcr, Brings-packet, HasRun-release, Tracks-passed, TakesPcr-items, same_queues, state_before}
+use Rattle.slot_rule.proofs.BringLaws.{Brings, Brings-nothing, Brings-pcr, Brings-packet, HasRun-release, Tracks-passed, TakesPcr-items, same_places, same_queues, state_before}
 use Rattle.slot_rule.proofs.RuleRows.{IsNext, FollowRule-push}
 use Rattle.slot_rule.proofs.RuleWork.{packets_in-empty, packets_in-no_pcr, packets_in-other, payload_in-other}
 use Rattle.slot_rule.proofs.TrackLaws.{AllHoldNoneGone, Goes-from_first, NothingGoes-from_none}
@@ -21,6 +21,7 @@ use Rattle.slot_rule.proofs.TrackLaws.{AllHoldNoneGone, Goes-from_first, Nothing
 -- the states tell what these rows left of each stream, with the work that one more row brings
 pub record HasBrought (table : Table) (choice : List ℕ) (rows : List Row) (row : Row) (states : List QueueState) : Type 0 where
   pub queues : map (queue_of table choice) states ≡ queues_of table choice
+  pub places : AreOfStreams table states
   pub brings : (stream : ℕ) (state : QueueState) → slice_get states stream ≡ Some state → Brings table choice rows row stream state
 
 -- a row with nothing for any stream
@@ -28,6 +29,7 @@ HasBrought-nothing : (table : Table) (choice : List ℕ) (rows : List Row) (sent
     → HasBrought table choice rows (Reserved sent) states
 HasBrought-nothing table choice rows sent states run apart = record {
   queues = run.queues;
+  places = run.places;
   brings = λ stream state there. Brings-nothing table choice rows (Reserved sent) stream state (run.tracks stream state there) refl (packets_in-no_pcr stream state.kind sent apart) refl;
 }
 
@@ -43,6 +45,8 @@ HasBrought-reserved : (table : Table) (choice : List ℕ) (rows : List Row) (sen
     → HasBrought table choice rows (Reserved sent) news
 HasBrought-reserved table choice rows (Pcr program) olds news run reserves = record {
   queues = same_queues table choice olds news reserves.as_many (λ stream old new there there'. TakesPcr-items program (subtick_after table.slot rows) stream old new (reserves.each stream old new there there')) ∙ run.queues;
+  places = same_places olds news reserves.as_many
+      (λ stream old new there there'. TakesPcr-items program (subtick_after table.slot rows) stream old new (reserves.each stream old new there there')) ∙ run.places;
   brings = λ stream new there.
       let before = state_before (TakesPcr program (subtick_after table.slot rows)) olds news stream new reserves there in
       Brings-pcr table choice rows program stream before.0 new before.2 (run.tracks stream before.0 before.1);
@@ -66,6 +70,15 @@ HasBrought-packet table choice rows s packet olds news run sends = record {
         | inr other ↦ ap (λ (state : QueueState). state.items) (same_Some new old (sym there' ∙ sends.others stream other ∙ there))
       ])
       ∙ run.queues;
+  places = same_places olds news sends.as_many
+      (λ stream old new there there'. elim (cases_eq stream s) as (λ _. new.items ≡ old.items) [
+        | inl own ↦
+            (let there_own : slice_get olds s ≡ Some old = ap (λ k. slice_get olds k) (sym own) ∙ there in
+            let there_own' : slice_get news s ≡ Some new = ap (λ k. slice_get news k) (sym own) ∙ there' in
+            ap (λ (state : QueueState). state.items) (sends.own old new there_own there_own').changed)
+        | inr other ↦ ap (λ (state : QueueState). state.items) (same_Some new old (sym there' ∙ sends.others stream other ∙ there))
+      ])
+      ∙ run.places;
   brings = λ stream new there. elim (cases_eq stream s) as (λ _. Brings table choice rows (Carries s packet) stream new) [
     | inl own ↦
         (let within : stream < length olds = omega (arith, slice_get_within news stream new there, sends.as_many) in
@@ -89,7 +102,7 @@ free_slot table choice valid fits rows (Carries stream packet) olds news run res
 free_slot table choice valid fits rows Empty olds news run rest free (none, same) = (
   (free, NothingGoes-from_none table choice valid fits rows olds run rest none),
   subst (λ (states : List QueueState). HasBrought table choice rows Empty states) (sym same)
-      (record { queues = run.queues; brings = λ stream state there. Brings-nothing table choice rows Empty stream state (run.tracks stream state there) refl (packets_in-empty stream state.kind) refl }),
+      (record { queues = run.queues; places = run.places; brings = λ stream state there. Brings-nothing table choice rows Empty stream state (run.tracks stream state there) refl (packets_in-empty stream state.kind) refl }),
 )
 free_slot table choice valid fits rows (Reserved sent) olds news run rest free fills = absurd fills
 
@@ -99,6 +112,7 @@ HasRun-passed : (table : Table) (choice : List ℕ) (rows : List Row) (row : Row
 HasRun-passed table choice rows row olds news run next brought = record {
   follows = FollowRule-push table choice rows row run.follows next;
   queues = brought.queues;
+  places = brought.places;
   tracks = λ stream new there. Tracks-passed table choice rows row stream new (brought.brings stream new there);
 }
 

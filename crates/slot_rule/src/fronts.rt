@@ -14,8 +14,6 @@ use version_table::Table;
 /// How much of a queue is the same under two choices.
 #[derive(Clone, Copy)]
 pub struct Front {
-    /// Where its packets stand.
-    pub items: QueueItems,
     /// Units, from its first on, that have the same versions under both.
     pub same: usize,
     /// Whether these are all of its units. An audio queue has none.
@@ -26,10 +24,6 @@ impl Default for Front {
     /// The front of an audio queue.
     fn default() -> Front {
         Front {
-            items: QueueItems::Packets {
-                program: 0,
-                audio: 0,
-            },
             same: 0,
             is_whole: true,
         }
@@ -57,7 +51,6 @@ pub fn fronts_of(table: &Table, old: &[u8], new: &[u8], states: &[QueueState]) -
 fn front_of(table: &Table, old: &[u8], new: &[u8], items: QueueItems) -> Front
     requires as_many { length old.now ≡ length new.now }
     requires place { IsPlace table.now new.now items }
-    ensures items { result.items ≡ items }
     ensures same { IsFrontOf table.now old.now new.now items result.same }
     ensures whole { IsTrue result.is_whole → IsWholeOf table.now items result.same }
 {
@@ -66,13 +59,11 @@ fn front_of(table: &Table, old: &[u8], new: &[u8], items: QueueItems) -> Front
             let units = program_at(table, program).units.len();
             let same = same_front(&old[first..], &new[first..], units);
             Front {
-                items,
                 same,
                 is_whole: same == units,
             }
         }
         QueueItems::Packets { .. } => Front {
-            items,
             same: 0,
             is_whole: true,
         },
@@ -94,11 +85,11 @@ fn same_front(old: &[u8], new: &[u8], most: usize) -> usize
 }
 
 impl Front {
-    /// Whether the queue's packets up to its head are the same under both choices.
+    /// Whether the packets of the queue in this state are the same under both choices up to its head.
     fn admits(&self, state: &QueueState) -> bool
         ensures { IsTrue result → IsWithin self.now state.now }
     {
-        self.items == state.items && (self.is_whole || self.has(state.head))
+        self.is_whole || self.has(state.head)
     }
 
     /// Whether the packet is of a unit that is the same.

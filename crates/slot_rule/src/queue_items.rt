@@ -10,7 +10,7 @@ use stream_constants::packets::PAYLOAD_BYTES;
 use version_table::{AudioPacket, Choice, ProgramRow, Table, Unit};
 
 /// Where the packets of a stream stand in a table and a choice.
-#[derive(Clone, Copy, PartialEq)]
+#[derive(Clone, Copy)]
 pub enum QueueItems {
     /// The units of a program; the number of the first of them stands at `first` in the choice.
     Units { program: usize, first: usize },

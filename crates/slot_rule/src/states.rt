@@ -6,7 +6,7 @@ ghost use Rattle.version_table.specs.Choice.{Fits};
 ghost use Rattle.slot_rule.specs.declared.queue_items.QueueItems.TheVariants.{Units};
 ghost use Rattle.slot_rule.specs.Private.Heads.{NoneGoneBefore};
 ghost use Rattle.slot_rule.specs.Private.QueueItems.{IsPlace, program_at, queue_at};
-ghost use Rattle.slot_rule.specs.Private.States.{ChangesEach, IsFirstState, IsPlaced, ReleasesAll, TakesPcr, queue_of};
+ghost use Rattle.slot_rule.specs.Private.States.{AreOfStreams, ChangesEach, IsFirstState, IsPlaced, ReleasesAll, TakesPcr, places_in, places_kept, queue_of};
 ghost use Rattle.slot_rule.specs.Queues.{audio_of, queues_of, video_of};
 ghost use Rattle.slot_rule.specs.Private.QueueState.{IsKind, IsSmall};
 
@@ -28,6 +28,7 @@ pub fn first_states(table: &Table, choice: &Choice) -> States
     requires valid { IsValidTable table.now }
     requires fits { Fits table.now choice.now }
     ensures queues { map (queue_of table.now choice.now) result.items ≡ queues_of table.now choice.now }
+    ensures places { AreOfStreams table.now result.items }
     ensures first { All (IsFirstState table.now choice.now) result.items }
 {
     let mut states = States::new();
@@ -50,6 +51,7 @@ fn add_program(table: &Table, choice: &Choice, states: &mut States, program: usi
         ≡ map (queue_of table.now choice.now) states.old.items
         ++ (video_of program (program_at table.now program) (drop first choice.now)
         ∷ map audio_of (program_at table.now program).audios) }
+    ensures places { places_kept states.new.items ≡ places_kept states.old.items ++ places_in program first (program_at table.now program) }
     ensures first { All (IsFirstState table.now choice.now) states.new.items }
 {
     let row = program_at(table, program);
@@ -89,6 +91,7 @@ fn add_stream(
     requires first { All (IsFirstState table.now choice.now) states.old.items }
     ensures queues { map (queue_of table.now choice.now) states.new.items
         ≡ map (queue_of table.now choice.now) states.old.items ++ queue_at table.now choice.now items ∷ [] }
+    ensures places { places_kept states.new.items ≡ places_kept states.old.items ++ items ∷ [] }
     ensures first { All (IsFirstState table.now choice.now) states.new.items }
 {
     states.push(QueueState::new(kind, items, items.first_packet(table, choice)));

@@ -37,9 +37,8 @@ IsWholeOf table (Packets program audio) same = Unit {0}
 
 -- what of a queue is the same under both choices
 pub record IsFront (table : Table) (choice choice' : List ℕ) (state : QueueState) (front : Front) : Type 0 where
-  pub items : front.items ≡ state.items
-  pub same : IsFrontOf table choice choice' front.items front.same
-  pub whole : front.is_whole ≡ true → IsWholeOf table front.items front.same
+  pub same : IsFrontOf table choice choice' state.items front.same
+  pub whole : front.is_whole ≡ true → IsWholeOf table state.items front.same
 
 -- the fronts of the queues with these states
 pub record AreFronts (table : Table) (choice choice' : List ℕ) (states : List QueueState) (fronts : List Front) : Type 0 where
@@ -48,9 +47,8 @@ pub record AreFronts (table : Table) (choice choice' : List ℕ) (states : List 
       → IsFront table choice choice' state front
 
 -- the queue's packets up to its head are within the front
-pub record IsWithin (front : Front) (state : QueueState) : Type 0 where
-  pub items : state.items ≡ front.items
-  pub head : (front.is_whole ≡ true) ⊎ ((packet : QueuedPacket) × (state.head ≡ Some packet) × (packet.item < front.same))
+abbrev pub IsWithin : Front → QueueState → Type 0
+IsWithin front state = (front.is_whole ≡ true) ⊎ ((packet : QueuedPacket) × (state.head ≡ Some packet) × (packet.item < front.same))
 
 -- the packets of all queues up to their heads are within the fronts
 pub record AreWithin (fronts : List Front) (states : List QueueState) : Type 0 where

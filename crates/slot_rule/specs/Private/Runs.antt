@@ -8,7 +8,7 @@ use Rattle.slot_rule.specs.declared.run_state.RunState.{RunState}
 use Rattle.slot_rule.specs.Buffers.{Row}
 use Rattle.slot_rule.specs.Private.Heads.{IsFirst, IsFirstHead, NoneGoneBefore, Passes, PassesAt}
 use Rattle.slot_rule.specs.Private.Slots.{HasRun, NoneOverdue}
-use Rattle.slot_rule.specs.Private.States.{IsFirstState, queue_of}
+use Rattle.slot_rule.specs.Private.States.{AreOfStreams, IsFirstState, queue_of}
 use Rattle.slot_rule.specs.Private.Turns.{AreTurns}
 use Rattle.slot_rule.specs.Queues.{QueuedPacket, queues_of}
 use Rattle.slot_rule.specs.Schedule.{IsFirstMiss, IsSchedule, NoMiss}
@@ -17,6 +17,7 @@ use Rattle.slot_rule.specs.SlotList.{CarriesPacket}
 -- what is kept before the first slot
 pub record IsFirstRun (table : Table) (choice : List ℕ) (run : RunState) : Type 0 where
   pub queues : map (queue_of table choice) run.states.items ≡ queues_of table choice
+  pub places : AreOfStreams table run.states.items
   pub first : All (IsFirstState table choice) run.states.items
   pub turns : AreTurns run.states.items run.turns.items
   pub gone : NoneGoneBefore run.states.items run.first_gone

@@ -15,7 +15,7 @@ use Rattle.slot_rule.specs.Private.Heads.{IsFirst, IsFirstHead, Passes, PassesAt
 use Rattle.slot_rule.specs.Schedule.{FollowRule}
 use Rattle.slot_rule.specs.SlotList.{piece_sent}
 use Rattle.slot_rule.specs.Private.QueueItems.{IsPlace}
-use Rattle.slot_rule.specs.Private.States.{ChangesEach, IsPlaced, TakesPcr, queue_of}
+use Rattle.slot_rule.specs.Private.States.{AreOfStreams, ChangesEach, IsPlaced, TakesPcr, queue_of}
 use Rattle.slot_rule.specs.Private.QueueState.{IsKind, IsSmall, KeepsPlace, mb_or_tb_of_state}
 use Rattle.slot_rule.specs.Queues.{QueuedPacket, queues_of}
 
@@ -39,6 +39,7 @@ pub record Tracks (table : Table) (choice : List ℕ) (rows : List Row) (stream 
 pub record HasRun (table : Table) (choice : List ℕ) (rows : List Row) (states : List QueueState) : Type 0 where
   pub follows : FollowRule table choice rows
   pub queues : map (queue_of table choice) states ≡ queues_of table choice
+  pub places : AreOfStreams table states
   pub tracks : (stream : ℕ) (state : QueueState) → slice_get states stream ≡ Some state → Tracks table choice rows stream state
 
 -- what a reserved slot that begins at this subtick changes: the PCR of a program goes on the PID of its video

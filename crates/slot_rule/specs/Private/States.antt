@@ -1,12 +1,41 @@
 -- What a slot changes in the states of all streams.
-use Rattle.std.specs.Prelude.{◌≡◌, ℕ, ◌+◌, ◌*◌, List, All, length, max, slice_get, Some}
+use Rattle.std.specs.Prelude.{◌≡◌, ℕ, zero, suc, ◌+◌, ◌*◌, List, [], ◌∷◌, ◌++◌, All, length, map, max, slice_get, Some}
+use Rattle.version_table.specs.declared.table.ProgramRow.{ProgramRow}
 use Rattle.version_table.specs.declared.table.Table.{Table}
 use Rattle.stream_constants.specs.declared.packets.TheConstants.{PACKET_BYTES}
+use Rattle.slot_rule.specs.declared.queue_items.QueueItems.{QueueItems}
+use Rattle.slot_rule.specs.declared.queue_items.QueueItems.TheVariants.{Units, Packets}
 use Rattle.slot_rule.specs.declared.queue_state.QueueState.{QueueState}
 use Rattle.slot_rule.specs.Buffers.{tb_subticks}
 use Rattle.slot_rule.specs.Private.QueueItems.{IsPlace, queue_at}
 use Rattle.slot_rule.specs.Queues.{Queue}
 use Rattle.slot_rule.specs.Private.QueueState.{HasPcr, HoldsNoneGone, IsKind, IsNumbered, KeepsPlace, Releases, first_state, packets_at}
+
+-- where the packets of so many audio streams of a program stand
+abbrev pub audio_places : (program count : ℕ) → List QueueItems
+audio_places program zero = []
+audio_places program (suc count) = audio_places program count ++ Packets program count ∷ []
+
+-- where the packets of all streams of a program stand, whose first unit has this place in a choice
+abbrev pub places_in : (program first : ℕ) → ProgramRow → List QueueItems
+places_in program first row = Units program first ∷ audio_places program (length row.audios)
+
+-- where the packets of all streams of these programs stand, of which the first has this number
+abbrev pub places_from : (program first : ℕ) → List ProgramRow → List QueueItems
+places_from program first [] = []
+places_from program first (row ∷ rows) = places_in program first row ++ places_from (program + 1) (first + length row.units) rows
+
+-- the same of a table
+abbrev pub places_of : Table → List QueueItems
+places_of table = places_from 0 0 table.programs
+
+-- where the packets of the streams of these states stand
+abbrev pub places_kept : List QueueState → List QueueItems
+places_kept states = map (λ (state : QueueState). state.items) states
+
+-- the states are those of the table's streams, in their order
+abbrev pub AreOfStreams : Table → List QueueState → Type 0
+AreOfStreams table states = places_kept states ≡ places_of table
 
 -- the stream that the state is of
 abbrev pub queue_of : Table → List ℕ → QueueState → Queue

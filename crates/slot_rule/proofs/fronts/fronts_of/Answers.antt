@@ -19,7 +19,7 @@ loop-state-preserved c =
             | inl earlier ↦ c.loop-state.invariant.each stream state found there earlier.1
             | inr last ↦
                 (let here : slice_get c.args.states.now c.loop-state.state-index ≡ Some state = ap (λ k. slice_get c.args.states.now k) (sym (last.0 ∙ c.loop-state.invariant.as_many)) ∙ there in
-                IsFront-made c.args.table.now c.args.old.now c.args.new.now state c.front_of.result found _ last.1 c.front_of.ensures.items
+                IsFront-made c.args.table.now c.args.old.now c.args.new.now state c.front_of.result found _ last.1
                 (ap (λ (s : QueueState). s.items) (get_or_from_slice_get states n state _ here)) c.front_of.ensures.same c.front_of.ensures.whole)
           ];
     }

@@ -1,6 +1,6 @@
 use Rattle.std.proofs.Common.{◌≡◌, ◌<◌, length, get_or, ap, ◌∙◌, arith}
 use Rattle.version_table.specs.declared.table.ProgramRow.{ProgramRow}
-use Rattle.slot_rule.proofs.FirstStates.{all_units_more, units_small, place_of_program, room_for_program, queues_more}
+use Rattle.slot_rule.proofs.FirstStates.{all_units_more, units_small, place_of_program, places_more, room_for_program, queues_more}
 use Rattle.slot_rule.proofs.states.first_states.Goals as goal
 
 pub add_program-requires-clause-place : goal.add_program-requires-clause-place
@@ -30,6 +30,8 @@ loop-program-preserved c =
     let row : c.row-item.result ≡ get_or table.programs c.loop-program.program c.row-item.result = c.row-item.is ∙ ap (λ rows. get_or rows c.loop-program.program c.row-item.result) c.as_slice-row-items.ensures in
     record {
       queues = queues_more table c.args.choice.now c.loop-program.program c.loop-program.first c.loop-program.states.items c.add_program.new.states.items within c.loop-program.invariant.first_unit c.loop-program.invariant.queues c.add_program.ensures.queues;
+      places = places_more table c.loop-program.program c.loop-program.first c.loop-program.states.items c.add_program.new.states.items within
+          c.loop-program.invariant.first_unit c.loop-program.invariant.places c.add_program.ensures.places;
       first_states = c.add_program.ensures.first;
       first_unit = omega (arith, c.loop-program.invariant.first_unit, ap (λ (r : ProgramRow). length r.units) row, all_units_more table.programs c.loop-program.program c.row-item.result within);
     }
