@@ -1,2 +1,6 @@
-mod Examples
 pub mod PayloadLemmas
+pub mod Readings
+pub mod SectionLemmas
+pub mod TableLemmas
+pub mod TableSteps
+mod Examples

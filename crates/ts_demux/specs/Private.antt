@@ -1,1 +1,3 @@
 pub mod PayloadWalk
+pub mod SectionReader
+pub mod TableWalk

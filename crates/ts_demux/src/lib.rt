@@ -4,9 +4,16 @@
 //! Stands on `shelf_io` and `ts_packets`.
 #![tactic(auto)]
 
+mod demux_fault;
+mod demuxed;
+mod file_packets;
 mod payload_walk;
 mod payloads;
+mod section_reader;
+mod table_walk;
 
+pub use demux_fault::DemuxFault;
+pub use demuxed::{AudioStream, Demuxed, PesUnit};
 pub use payloads::Payloads;
 
 #[cfg(test)]
