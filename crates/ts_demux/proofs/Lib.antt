@@ -3,4 +3,5 @@ pub mod Readings
 pub mod SectionLemmas
 pub mod TableLemmas
 pub mod TableSteps
+pub mod WalkSteps
 mod Examples

@@ -72,7 +72,10 @@ behind_before m j n r (inr (same, before)) = omega arith
 
 range_more : (from n : ℕ) → range_with_len from (n + 1) ≡ range_with_len from n ++ (from + n) ∷ []
 range_more from zero = ap (λ (k : ℕ). k ∷ []) (omega arith)
-range_more from (suc n) = ap (λ (ks : List ℕ). from ∷ ks) (range_more (from + 1) n ∙ ap (λ (k : ℕ). range_with_len (from + 1) n ++ k ∷ []) (omega arith))
+range_more from (suc n) = ap (range_with_len from) (more n) ∙ ap (λ (ks : List ℕ). from ∷ ks) (range_more (from + 1) n ∙ ap (λ (k : ℕ). range_with_len (from + 1) n ++ k ∷ []) (omega arith))
+  where
+    more : (n : ℕ) → suc n + 1 ≡ suc (n + 1)
+    more n = omega arith
 
 filter_last : (f : ℕ → Bool) (xs : List ℕ) (x : ℕ) → filter f (xs ++ x ∷ []) ≡ filter f xs ++ cond (f x) (x ∷ []) []
 filter_last f [] x = by_test (f x)
@@ -160,7 +163,10 @@ pub next_there : (xs : List Found) (k : ℕ) (found : Found) (rest : List Found)
 next_there [] zero found rest is = absurd cc
 next_there [] (suc k) found rest is = absurd cc
 next_there (x ∷ xs) zero found rest is = (cc, cc)
-next_there (x ∷ xs) (suc k) found rest is = next_there xs k found rest is
+next_there (x ∷ xs) (suc k) found rest is = ((next_there xs k found rest is).0, ap (λ (n : ℕ). drop n (x ∷ xs)) (more k) ∙ (next_there xs k found rest is).1)
+  where
+    more : (n : ℕ) → suc n + 1 ≡ suc (n + 1)
+    more n = omega arith
 
 -- none is behind the last one
 pub none_behind : (xs : List Found) (done k : ℕ) (found : Found) → drop done xs ≡ [] → done ≤ k → slice_get xs k ≡ Some found → ⊥

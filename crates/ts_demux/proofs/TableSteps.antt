@@ -217,6 +217,18 @@ known_more file program n k section OtherPrograms (MapOn pid from) is here behin
 known_more file program n k section OtherPrograms OtherPrograms is here behind = (unnamed_more file program n k section is.0 here behind, is.1)
 known_more file program n k section OtherPrograms Nothing is here behind = absurd behind
 
+-- the packet's own faults are no sections
+pub first_known : (file : List ℕ) (program n : ℕ) (known : Known) → IsKnown file program n 0 known → IsKnown file program n 1 known
+first_known file program n Nothing is = (
+  λ m j pid found before there names. elim (further m (j + 1) n 0 before) [ inl less ↦ is.0 m j pid found less there names | inr same ↦ absurd (omega (arith, same.1)) ],
+  λ m j found before there current. elim (further m (j + 1) n 0 before) [ inl less ↦ is.1 m j found less there current | inr same ↦ absurd (omega (arith, same.1)) ],
+)
+first_known file program n OtherPrograms is = (
+  λ m j pid found before there names. elim (further m (j + 1) n 0 before) [ inl less ↦ is.0 m j pid found less there names | inr same ↦ absurd (omega (arith, same.1)) ],
+  is.1,
+)
+first_known file program n (MapOn pid from) is = named_later file program n 0 1 pid from (omega arith) is
+
 -- ---- and one packet
 
 pub known_next : (file : List ℕ) (program n r : ℕ) (known : Known) → IsKnown file program n r known → ((j : ℕ) (found : Found) → r ≤ j + 1 → IsSection file pat_pid 0 n j found → ⊥) → IsKnown file program (n + 1) 0 known
@@ -238,3 +250,74 @@ known_next file program n r OtherPrograms is none = (
   is.1,
 )
 known_next file program n r (MapOn pid from) is none = record { at = is.at; index = is.index; takes = is.takes; before = inl (omega (arith, behind_before is.at (is.index + 1) n r is.before)); from_is = is.from_is; only = is.only }
+
+-- ---- behind the last section of a packet nothing ends the reading
+
+pmt_ends : (file : List ℕ) (program n done k : ℕ) (found : Found) → is_of_pid file pat_pid n ≡ true → drop done (sections_at file pat_pid 0 n) ≡ [] → done ≤ k → IsPmtSection file program n k found → ⊥
+pmt_ends file program n done k found of_pid end less is = by_pid (is.pid == pat_pid) refl is.section
+  where
+    by_pid : (on : Bool) → (is.pid == pat_pid) ≡ on → IsSection file is.pid (cond on 0 (is.packet + 1)) n k found → ⊥
+    by_pid true on there =
+        let zero_is : is.pid ≡ pat_pid = grind (arith, nat_tests) in
+        let here : IsSection file pat_pid 0 n k found = subst (λ (p : ℕ). IsSection file p 0 n k found) zero_is there in
+        none_behind (sections_at file pat_pid 0 n) done k found end less here.stands
+    by_pid false on there =
+        let not_zero : pat_pid ≢ is.pid = grind (arith, nat_tests) in
+        none_there file is.pid (is.packet + 1) n k found (of_no_other file pat_pid is.pid n of_pid not_zero) there
+
+pub pat_ends : (file : List ℕ) (program n done j : ℕ) (stop : Stop) → is_of_pid file pat_pid n ≡ true → drop done (sections_at file pat_pid 0 n) ≡ [] → done + 1 ≤ j → StopsAt file program n j stop → ⊥
+pat_ends file program n done j stop of_pid end less (no_sync rank none is) = absurd (omega arith)
+pat_ends file program n done j stop of_pid end less (pat_packet fault rank has is) = absurd (omega arith)
+pat_ends file program n done j stop of_pid end less (pmt_packet packet index pid fault rank takes other has is) = absurd (omega arith)
+pat_ends file program n done j stop of_pid end less (pat_section k found fault rank is bad stop_is) = none_behind (sections_at file pat_pid 0 n) done k found end (omega arith) is.stands
+pat_ends file program n done j stop of_pid end less (pmt_section k found fault rank is bad stop_is) = pmt_ends file program n done k found of_pid end (omega arith) is
+pat_ends file program n done j stop of_pid end less (map_section k found map rank is map_is stop_is) = pmt_ends file program n done k found of_pid end (omega arith) is
+
+pub map_ends : (file : List ℕ) (program n done pid from j : ℕ) (stop : Stop) → IsNamed file program n (done + 1) pid from → pid ≢ pat_pid → is_of_pid file pid n ≡ true → drop done (sections_at file pid from n) ≡ [] → done + 1 ≤ j → StopsAt file program n j stop → ⊥
+map_ends file program n done pid from j stop named other of_pid end less (no_sync rank none is) = absurd (omega arith)
+map_ends file program n done pid from j stop named other of_pid end less (pat_packet fault rank has is) = absurd (omega arith)
+map_ends file program n done pid from j stop named other of_pid end less (pmt_packet packet index p fault rank takes not_zero has is) = absurd (omega arith)
+map_ends file program n done pid from j stop named other of_pid end less (pat_section k found fault rank is bad stop_is) = none_there file pat_pid 0 n k found (of_no_other file pid pat_pid n of_pid other) is
+map_ends file program n done pid from j stop named other of_pid end less (pmt_section k found fault rank is bad stop_is) = none_behind (sections_at file pid from n) done k found end (omega arith) (named_other file program n (done + 1) pid from n k found named other is).stands
+map_ends file program n done pid from j stop named other of_pid end less (map_section k found map rank is map_is stop_is) = none_behind (sections_at file pid from n) done k found end (omega arith) (named_other file program n (done + 1) pid from n k found named other is).stands
+
+-- before a PAT section is taken no section of a packet of another PID is a PMT section
+early : (file : List ℕ) (program n k packet index pid : ℕ) (found : Found) → IsUnnamed file program n 0 → is_of_pid file pat_pid n ≡ false → TakesPat file program packet index pid → IsBefore packet index n k → ⊥
+early file program n k packet index pid found unnamed not_pat takes (inl before) = unnamed_takes file program n 0 packet index pid unnamed takes (inl before)
+early file program n k packet index pid found unnamed not_pat takes (inr (same, before)) = none_there file pat_pid 0 n index takes.found not_pat (subst (λ (m : ℕ). IsSection file pat_pid 0 m index takes.found) same takes.section)
+
+-- a packet that is of neither PID completes no section of them
+no_pmt : (file : List ℕ) (program n k : ℕ) (known : Known) (found : Found) → IsKnown file program n 0 known → is_of_pid file pat_pid n ≡ false → ((map_pid from : ℕ) → known ≡ MapOn map_pid from → is_of_pid file map_pid n ≡ false) → IsPmtSection file program n k found → ⊥
+no_pmt file program n k Nothing found known not_pat not_map is = early file program n k is.packet is.index is.pid found known.0 not_pat is.pat is.behind
+no_pmt file program n k OtherPrograms found known not_pat not_map is = early file program n k is.packet is.index is.pid found known.0 not_pat is.pat is.behind
+no_pmt file program n k (MapOn pid from) found known not_pat not_map is = none_there file pid (pmt_from known.at pid) n k found (not_map pid from refl) (named_section file program n 0 pid from n k found known is)
+
+pub other_ends : (file : List ℕ) (program n j : ℕ) (known : Known) (stop : Stop) → IsKnown file program n 0 known → sync_byte (piece_at file n) ≡ 0x47 → is_of_pid file pat_pid n ≡ false → ((map_pid from : ℕ) → known ≡ MapOn map_pid from → is_of_pid file map_pid n ≡ false) → StopsAt file program n j stop → ⊥
+other_ends file program n j known stop is_known sync not_pat not_map (no_sync rank none is) = none.no_sync sync
+other_ends file program n j known stop is_known sync not_pat not_map (pat_packet fault rank has is) = let e : is_of_pid file pat_pid n ≡ true = has.of_pid in absurd cc
+other_ends file program n j known stop is_known sync not_pat not_map (pmt_packet packet index pid fault rank takes other has is) = other_packet file program n packet index pid fault known is_known not_map takes has
+other_ends file program n j known stop is_known sync not_pat not_map (pat_section k found fault rank is bad stop_is) = none_there file pat_pid 0 n k found not_pat is
+other_ends file program n j known stop is_known sync not_pat not_map (pmt_section k found fault rank is bad stop_is) = no_pmt file program n k known found is_known not_pat not_map is
+other_ends file program n j known stop is_known sync not_pat not_map (map_section k found map rank is map_is stop_is) = no_pmt file program n k known found is_known not_pat not_map is
+
+-- ---- at the file's end
+
+pmt_within : (file : List ℕ) (program n k : ℕ) (found : Found) → IsPmtSection file program n k found → n < piece_count file
+pmt_within file program n k found is = is.section.within
+
+stop_within : (file : List ℕ) (program n j : ℕ) (stop : Stop) → StopsAt file program n j stop → n < piece_count file
+stop_within file program n j stop (no_sync rank none is) = none.within
+stop_within file program n j stop (pat_packet fault rank has is) = has.within
+stop_within file program n j stop (pmt_packet packet index pid fault rank takes other has is) = has.within
+stop_within file program n j stop (pat_section k found fault rank is bad stop_is) = is.within
+stop_within file program n j stop (pmt_section k found fault rank is bad stop_is) = pmt_within file program n k found is
+stop_within file program n j stop (map_section k found map rank is map_is stop_is) = pmt_within file program n k found is
+
+pub nothing_stops : (file : List ℕ) (program count : ℕ) → piece_count file ≤ count → IsQuiet file program count 0 → NothingStops file program
+nothing_stops file program count end quiet n j stop is = quiet n j stop (inl (omega (arith, stop_within file program n j stop is))) is
+
+pub no_pat : (file : List ℕ) (count : ℕ) → piece_count file ≤ count → IsWithoutPat file count 0 → HasPat file → ⊥
+no_pat file count end without has = without has.packet has.index has.found (inl (omega (arith, has.section.within))) has.section has.current
+
+pub no_program : (file : List ℕ) (program count : ℕ) → piece_count file ≤ count → IsUnnamed file program count 0 → HasProgram file program → ⊥
+no_program file program count end unnamed has = unnamed_takes file program count 0 has.packet has.index has.pid unnamed has.pat (inl (omega (arith, has.pat.section.within)))

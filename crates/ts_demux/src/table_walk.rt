@@ -5,7 +5,7 @@ ghost use Rattle.ts_packets.specs.TransportStream.{piece_at, piece_count, is_of_
 ghost use Rattle.psi_tables.specs.Sections.{sections_of};
 ghost use Rattle.ts_demux.specs.declared.table_walk.Reading.TheVariants.{GoesOn};
 ghost use Rattle.ts_demux.specs.Tables.{HasMap, IsTablesFault};
-ghost use Rattle.ts_demux.specs.Private.TableWalk.{IsBetween, IsInPat, IsInMap, IsOnMapPid, Reads, Ends, ReadsPat, ReadsMap, missing_of, is_on_pat_pid};
+ghost use Rattle.ts_demux.specs.Private.TableWalk.{IsBetween, IsInPat, IsInMap, IsOnMapPid, Reads, Ends, ReadsPat, ReadsMap, missing_of, is_on_pat_pid, is_map_on};
 
 use crate::demux_fault::{DemuxFault, pid_refused, section_refused};
 use crate::file_packets::{packet_at, place_of};
@@ -29,6 +29,17 @@ pub enum Known {
 }
 
 impl Known {
+    /// True where the PMT is on this PID.
+    fn is_map_on(self, other: u16) -> bool
+        ensures { result ≡ is_map_on self other }
+    {
+        match self {
+            Known::Nothing => false,
+            Known::OtherPrograms => false,
+            Known::MapOn { pid, from: _ } => other == pid,
+        }
+    }
+
     /// True where the PMT is on PID 0 too.
     fn is_on_pat_pid(self) -> bool
         ensures { result ≡ is_on_pat_pid self }
@@ -98,10 +109,8 @@ impl<'a> TableWalk<'a> {
         if pid == PAT_PID {
             return self.take_pat_packet(file, n, bytes);
         }
-        if let Known::MapOn { pid: map_pid, from: _ } = self.known {
-            if map_pid == pid {
-                return self.take_map_packet(file, n, bytes);
-            }
+        if self.known.is_map_on(pid) {
+            return self.take_map_packet(file, n, bytes);
         }
         Ok(None)
     }
@@ -121,14 +130,24 @@ impl<'a> TableWalk<'a> {
         requires between { IsBetween file.now n self.old }
         ensures { Ends file.now self.old.program result (IsBetween file.now (n + 1) self.new × (self.new.program ≡ self.old.program)) }
     {
-        if let Err(fault) = self.pat.take(bytes) {
-            return Err(pid_refused(place_of(n), fault));
+        match self.pat.take(bytes) {
+            Ok(()) => self.read_pat_sections(file, n),
+            Err(fault) => Err(pid_refused(place_of(n), fault)),
         }
+    }
+
+    /// Reads the sections of PID 0 that wait behind the n-th packet.
+    fn read_pat_sections(&mut self, file: &[u8], n: usize) -> Result<Option<ProgramMap>, DemuxFault>
+        requires place { PACKET_BYTES * n < 2 ^ 64 }
+        requires within { IsInPat file.now n self.old }
+        ensures { Ends file.now self.old.program result (IsBetween file.now (n + 1) self.new × (self.new.program ≡ self.old.program)) }
+    {
         loop {
-            match self.read_pat_section(file, n)? {
-                Reading::AllRead => return Ok(None),
-                Reading::GoesOn => {}
-                Reading::Map(map) => return Ok(Some(map)),
+            match self.read_pat_section(file, n) {
+                Ok(Reading::AllRead) => return Ok(None),
+                Ok(Reading::GoesOn) => {}
+                Ok(Reading::Map(map)) => return Ok(Some(map)),
+                Err(fault) => return Err(fault),
             }
         }
     }
@@ -148,14 +167,24 @@ impl<'a> TableWalk<'a> {
         requires between { IsBetween file.now n self.old }
         ensures { Ends file.now self.old.program result (IsBetween file.now (n + 1) self.new × (self.new.program ≡ self.old.program)) }
     {
-        if let Err(fault) = self.map.take(bytes) {
-            return Err(pid_refused(place_of(n), fault));
+        match self.map.take(bytes) {
+            Ok(()) => self.read_map_sections(file, n),
+            Err(fault) => Err(pid_refused(place_of(n), fault)),
         }
+    }
+
+    /// Reads the sections of the PMT's PID that wait behind the n-th packet.
+    fn read_map_sections(&mut self, file: &[u8], n: usize) -> Result<Option<ProgramMap>, DemuxFault>
+        requires place { PACKET_BYTES * n < 2 ^ 64 }
+        requires within { IsInMap file.now n self.old }
+        ensures { Ends file.now self.old.program result (IsBetween file.now (n + 1) self.new × (self.new.program ≡ self.old.program)) }
+    {
         loop {
-            match self.read_map_section(file, n)? {
-                Reading::AllRead => return Ok(None),
-                Reading::GoesOn => {}
-                Reading::Map(map) => return Ok(Some(map)),
+            match self.read_map_section(file, n) {
+                Ok(Reading::AllRead) => return Ok(None),
+                Ok(Reading::GoesOn) => {}
+                Ok(Reading::Map(map)) => return Ok(Some(map)),
+                Err(fault) => return Err(fault),
             }
         }
     }
@@ -267,10 +296,11 @@ pub fn read_map(file: &[u8], program: u16) -> Result<ProgramMap, DemuxFault>
     let mut walk = TableWalk::new(program);
     let mut n = 0;
     while let Some(bytes) = packet_at(file, n) {
-        if let Some(map) = walk.take(file, n, bytes)? {
-            return Ok(map);
+        match walk.take(file, n, bytes) {
+            Ok(None) => n += 1,
+            Ok(Some(map)) => return Ok(map),
+            Err(fault) => return Err(fault),
         }
-        n += 1;
     }
     Err(walk.missing())
 }

@@ -111,6 +111,12 @@ is_on_pat_pid Nothing = false
 is_on_pat_pid OtherPrograms = false
 is_on_pat_pid (MapOn pid from) = pid == pat_pid
 
+-- the PMT is on this PID
+abbrev pub is_map_on : Known → ℕ → Bool
+is_map_on Nothing other = false
+is_map_on OtherPrograms other = false
+is_map_on (MapOn pid from) other = other == pid
+
 -- why no PMT section was taken
 abbrev pub missing_of : Known → DemuxFault
 missing_of Nothing = NoPat 0
