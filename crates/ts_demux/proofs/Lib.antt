@@ -4,4 +4,5 @@ pub mod SectionLemmas
 pub mod TableLemmas
 pub mod TableSteps
 pub mod WalkSteps
+pub mod Gathering
 mod Examples

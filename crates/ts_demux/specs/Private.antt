@@ -1,3 +1,5 @@
 pub mod PayloadWalk
 pub mod SectionReader
 pub mod TableWalk
+pub mod PesGatherer
+pub mod StreamWalk

@@ -9,7 +9,9 @@ mod demuxed;
 mod file_packets;
 mod payload_walk;
 mod payloads;
+mod pes_gatherer;
 mod section_reader;
+mod stream_walk;
 mod table_walk;
 
 pub use demux_fault::DemuxFault;
