@@ -4,5 +4,7 @@ pub mod SectionLemmas
 pub mod TableLemmas
 pub mod TableSteps
 pub mod WalkSteps
+pub mod CarrySteps
 pub mod Gathering
+pub mod GatherSteps
 mod Examples

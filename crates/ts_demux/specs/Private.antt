@@ -3,3 +3,4 @@ pub mod SectionReader
 pub mod TableWalk
 pub mod PesGatherer
 pub mod StreamWalk
+pub mod CarriedStreams

@@ -4,6 +4,7 @@
 //! Stands on `shelf_io` and `ts_packets`.
 #![tactic(auto)]
 
+mod carried_streams;
 mod demux_fault;
 mod demuxed;
 mod file_packets;
