@@ -2,20 +2,81 @@
 use Rattle.std.proofs.Common.{◌≡◌, ℕ, zero, suc, ◌+◌, ◌<◌, ◌≤◌, ◌==◌, ◌⊎◌, inl, inr, Bool, true, false, cond, not, ◌&&◌, ◌||◌, nat_lt, List, [], ◌∷◌, ◌++◌, length, map, take, drop, get_or, Option, Some, None, refl, sym, ap, ◌∙◌, subst, append_assoc, arith}
 use Rattle.std.proofs.lemmas.Bool.Decides.{nat_tests}
 use Rattle.std.proofs.lemmas.List.{map-append, append-nil}
-use Rattle.std.specs.List.{position, remove, position_or_len, find}
+use Rattle.std.specs.List.{remove}
 use Rattle.psi_tables.specs.declared.stream.Stream.{Stream}
-use Rattle.ts_demux.specs.Streams.{is_video, is_carried, video_of, without_video, audios_of, others_of}
-use Rattle.ts_demux.specs.Private.CarriedStreams.{pids_in, CarriesAudios}
+use Rattle.ts_demux.specs.Streams.{is_among, is_video, is_carried, video_of, without_video, audios_of, others_of}
+use Rattle.ts_demux.specs.Private.CarriedStreams.{pids_in, IsVideoAt}
 
 -- ---- the first video stream
 
-pub video_there : (xs : List Stream) (i : ℕ) (d : Stream) → position is_video xs ≡ Some i → (i < length xs) × (video_of xs ≡ Some (get_or xs i d)) × (remove xs i ≡ without_video xs)
-video_there [] i d is = absurd cc
-video_there (x ∷ xs) i d is = ?
+drop_next : (xs : List Stream) (i : ℕ) (d : Stream) → i < length xs → drop i xs ≡ get_or xs i d ∷ drop (i + 1) xs
+drop_next [] i d within = absurd (omega arith)
+drop_next (x ∷ xs) zero d within = refl
+drop_next (x ∷ xs) (suc i) d within = drop_next xs i d (omega arith) ∙ ap (λ (n : ℕ). get_or xs i d ∷ drop n (x ∷ xs)) (more i)
+  where
+    more : (n : ℕ) → suc (n + 1) ≡ suc n + 1
+    more n = omega arith
 
-pub no_video : (xs : List Stream) → position is_video xs ≡ None → video_of xs ≡ None
-no_video [] is = refl
-no_video (x ∷ xs) is = ?
+take_next : (xs : List Stream) (i : ℕ) (d : Stream) → i < length xs → take (i + 1) xs ≡ take i xs ++ get_or xs i d ∷ []
+take_next [] i d within = absurd (omega arith)
+take_next (x ∷ xs) zero d within = refl
+take_next (x ∷ xs) (suc i) d within = ap (λ (n : ℕ). take n (x ∷ xs)) (more i) ∙ ap (λ (ys : List Stream). x ∷ ys) (take_next xs i d (omega arith))
+  where
+    more : (n : ℕ) → suc n + 1 ≡ suc (n + 1)
+    more n = omega arith
+
+drop_end : (xs : List Stream) (i : ℕ) → length xs ≤ i → drop i xs ≡ []
+drop_end [] zero end = refl
+drop_end [] (suc i) end = refl
+drop_end (x ∷ xs) zero end = absurd (omega arith)
+drop_end (x ∷ xs) (suc i) end = drop_end xs i (omega arith)
+
+-- the first streams aren't video
+pub record NoVideoBefore (xs : List Stream) (i : ℕ) : Type 0 where
+  pub video : video_of xs ≡ video_of (drop i xs)
+  pub others : without_video xs ≡ take i xs ++ without_video (drop i xs)
+
+pub no_video_more : (xs : List Stream) (i : ℕ) (d : Stream) → i < length xs → is_video (get_or xs i d) ≡ false → NoVideoBefore xs i → NoVideoBefore xs (i + 1)
+no_video_more xs i d within test before =
+    let next = drop_next xs i d within in
+    record {
+      video = before.video ∙ ap video_of next ∙ ap (λ (b : Bool). cond b (Some (get_or xs i d)) (video_of (drop (i + 1) xs))) test;
+      others = before.others ∙ ap (λ (ys : List Stream). take i xs ++ without_video ys) next
+          ∙ ap (λ (b : Bool). take i xs ++ cond b (drop (i + 1) xs) (get_or xs i d ∷ without_video (drop (i + 1) xs))) test
+          ∙ sym (append_assoc (take i xs) (get_or xs i d ∷ []) (without_video (drop (i + 1) xs)))
+          ∙ ap (λ (ys : List Stream). ys ++ without_video (drop (i + 1) xs)) (sym (take_next xs i d within));
+    }
+
+same_there : (xs : List Stream) (i : ℕ) (d e : Stream) → i < length xs → get_or xs i e ≡ get_or xs i d
+same_there [] i d e within = absurd (omega arith)
+same_there (x ∷ xs) zero d e within = refl
+same_there (x ∷ xs) (suc i) d e within = same_there xs i d e (omega arith)
+
+pub video_here : (xs : List Stream) (i : ℕ) (d : Stream) → i < length xs → is_video (get_or xs i d) ≡ true → NoVideoBefore xs i → IsVideoAt xs i
+video_here xs i d within test before =
+    let next = drop_next xs i d within in
+    record {
+      within = within;
+      video = λ e. before.video ∙ ap video_of (drop_next xs i e within) ∙ ap (λ (b : Bool). cond b (Some (get_or xs i e)) (video_of (drop (i + 1) xs))) (ap is_video (same_there xs i d e within) ∙ test);
+      others = before.others ∙ ap (λ (ys : List Stream). take i xs ++ without_video ys) next ∙ ap (λ (b : Bool). take i xs ++ cond b (drop (i + 1) xs) (get_or xs i d ∷ without_video (drop (i + 1) xs))) test ∙ ap (λ (n : ℕ). take i xs ++ drop n xs) (next_is i);
+    }
+  where
+    next_is : (n : ℕ) → n + 1 ≡ suc n
+    next_is n = omega arith
+
+pub no_video : (xs : List Stream) (i : ℕ) → length xs ≤ i → NoVideoBefore xs i → video_of xs ≡ None
+no_video xs i end before = before.video ∙ ap video_of (drop_end xs i end)
+
+-- ---- a PID among those of streams
+
+pub among_more : (xs : List Stream) (pid i : ℕ) (d : Stream) → i < length xs → ((get_or xs i d).pid == pid) ≡ false → is_among (pids_in xs) pid ≡ is_among (pids_in (drop i xs)) pid → is_among (pids_in xs) pid ≡ is_among (pids_in (drop (i + 1) xs)) pid
+among_more xs pid i d within test same = same ∙ ap (λ (ys : List Stream). is_among (pids_in ys) pid) (drop_next xs i d within) ∙ ap (λ (b : Bool). b || is_among (pids_in (drop (i + 1) xs)) pid) test
+
+pub among_here : (xs : List Stream) (pid i : ℕ) (d : Stream) → i < length xs → ((get_or xs i d).pid == pid) ≡ true → is_among (pids_in xs) pid ≡ is_among (pids_in (drop i xs)) pid → is_among (pids_in xs) pid ≡ true
+among_here xs pid i d within test same = same ∙ ap (λ (ys : List Stream). is_among (pids_in ys) pid) (drop_next xs i d within) ∙ ap (λ (b : Bool). b || is_among (pids_in (drop (i + 1) xs)) pid) test
+
+pub among_none : (xs : List Stream) (pid i : ℕ) → length xs ≤ i → is_among (pids_in xs) pid ≡ is_among (pids_in (drop i xs)) pid → is_among (pids_in xs) pid ≡ false
+among_none xs pid i end same = same ∙ ap (λ (ys : List Stream). is_among (pids_in ys) pid) (drop_end xs i end)
 
 -- ---- the audio streams
 
@@ -57,3 +118,21 @@ all_carried drop_pids carried (s ∷ streams) all none same = absurd (omega arit
 pub all_others : (drop_pids : List ℕ) (carried streams : List Stream) (others all : List ℕ) → length streams ≡ 0 → others ++ others_of drop_pids (pids_in carried) streams ≡ all → others ≡ all
 all_others drop_pids carried [] others all none same = sym (append-nil others) ∙ same
 all_others drop_pids carried (s ∷ streams) others all none same = absurd (omega arith)
+
+-- one of some streams is taken off
+pub fewer : (xs : List Stream) (n : ℕ) → 0 < length xs → length xs ≡ n → length (remove xs 0) + 1 ≡ n
+fewer [] n some is = absurd (omega arith)
+fewer (x ∷ xs) n some is = omega arith
+
+pub some_there : (n : ℕ) → (n == 0) ≡ false → 0 < n
+some_there n is = grind (arith, nat_tests)
+
+pub none_left : (n : ℕ) → (n == 0) ≡ true → n ≡ 0
+none_left n is = grind (arith, nat_tests)
+
+-- behind the video alone
+pub carried_behind : (drop_pids : List ℕ) (carried : List Stream) (video : Stream) (rest others : List Stream) → carried ≡ video ∷ [] → rest ≡ others → carried ++ audios_of drop_pids (pids_in carried) rest ≡ video ∷ audios_of drop_pids (video.pid ∷ []) others
+carried_behind drop_pids carried video rest others is same = ap (λ (xs : List Stream). xs ++ audios_of drop_pids (pids_in xs) rest) is ∙ ap (λ (xs : List Stream). video ∷ audios_of drop_pids (video.pid ∷ []) xs) same
+
+pub others_behind : (drop_pids : List ℕ) (carried : List Stream) (video : Stream) (rest others : List Stream) → carried ≡ video ∷ [] → rest ≡ others → others_of drop_pids (pids_in carried) rest ≡ others_of drop_pids (video.pid ∷ []) others
+others_behind drop_pids carried video rest others is same = ap (λ (xs : List Stream). others_of drop_pids (pids_in xs) rest) is ∙ ap (others_of drop_pids (video.pid ∷ [])) same

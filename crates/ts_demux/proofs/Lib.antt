@@ -5,6 +5,7 @@ pub mod TableLemmas
 pub mod TableSteps
 pub mod WalkSteps
 pub mod CarrySteps
+pub mod DemuxSteps
 pub mod Gathering
 pub mod GatherSteps
 mod Examples

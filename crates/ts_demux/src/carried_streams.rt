@@ -1,8 +1,7 @@
-ghost use Rattle.std.specs.Prelude.{◌≡◌, ◌+◌, ◌≤◌, length, map, MatchResult};
-ghost use Rattle.std.specs.List.{position};
+ghost use Rattle.std.specs.Prelude.{◌≡◌, ◌+◌, ◌≤◌, length, map, MatchOption, MatchResult, None};
 ghost use Rattle.ts_demux.specs.declared.demux_fault.DemuxFault.TheVariants.{OutOfMemory};
-ghost use Rattle.ts_demux.specs.Streams.{is_video, is_audio, is_among, is_carried};
-ghost use Rattle.ts_demux.specs.Private.CarriedStreams.{IsCarried, IsCarryFault, CarriesAudios};
+ghost use Rattle.ts_demux.specs.Streams.{is_video, is_audio, is_among, is_carried, video_of};
+ghost use Rattle.ts_demux.specs.Private.CarriedStreams.{IsCarried, IsCarryFault, CarriesAudios, IsVideoAt};
 
 use crate::demux_fault::DemuxFault;
 use arrayvec::ArrayVec;
@@ -47,7 +46,10 @@ pub fn carry_streams(
     };
     let mut carried = ArrayVec::new();
     carried.push(streams.remove(at));
-    let others = carry_audios(alloc, drop, &mut carried, streams)?;
+    let others = match carry_audios(alloc, drop, &mut carried, streams) {
+        Ok(others) => others,
+        Err(fault) => return Err(fault),
+    };
     Ok(CarriedStreams {
         map: ProgramMap {
             number,
@@ -61,9 +63,21 @@ pub fn carry_streams(
 
 /// The place of the first video stream.
 fn find_video(streams: &[Stream]) -> Option<usize>
-    ensures { result ≡ position is_video streams.now }
+    ensures { MatchOption result (video_of streams.now ≡ None) (IsVideoAt streams.now) }
 {
-    streams.iter().position(|stream| stream.kind == VIDEO)
+    for (at, stream) in streams.iter().enumerate() {
+        if is_video(stream) {
+            return Some(at);
+        }
+    }
+    None
+}
+
+/// True where its type is that of video.
+fn is_video(stream: &Stream) -> bool
+    ensures { result ≡ is_video stream.now }
+{
+    stream.kind == VIDEO
 }
 
 /// Moves the carried ones of some audio streams behind those that are carried, and gives the PIDs of the others.

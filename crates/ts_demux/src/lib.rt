@@ -6,6 +6,7 @@
 
 mod carried_streams;
 mod demux_fault;
+mod demux_program;
 mod demuxed;
 mod file_packets;
 mod payload_walk;
@@ -15,6 +16,7 @@ mod section_reader;
 mod stream_walk;
 mod table_walk;
 
+pub use demux_program::demux;
 pub use demux_fault::DemuxFault;
 pub use demuxed::{AudioStream, Demuxed, PesUnit};
 pub use payloads::Payloads;
