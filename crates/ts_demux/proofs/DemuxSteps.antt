@@ -1,5 +1,5 @@
 -- What is answered, from what the parts of the reading answer.
-use Rattle.std.proofs.Common.{◌≡◌, ℕ, zero, suc, ◌+◌, ◌*◌, ◌/◌, ◌%◌, ◌<◌, ◌≤◌, ◌⊎◌, inl, inr, List, [], ◌∷◌, ◌++◌, length, map, drop, get_or, Some, None, refl, sym, ap, ◌∙◌, subst, arith, length-drop}
+use Rattle.std.proofs.Common.{◌≡◌, ℕ, ◌*◌, ◌/◌, ◌%◌, ◌<◌, ◌≤◌, inl, inr, List, ◌∷◌, length, map, get_or, sym, ap, ◌∙◌, subst, arith, length-drop}
 use Rattle.std.specs.List.{remove}
 use Rattle.psi_tables.specs.declared.program_map.ProgramMap.{ProgramMap}
 use Rattle.psi_tables.specs.declared.stream.Stream.{Stream}
@@ -9,7 +9,7 @@ use Rattle.ts_demux.specs.declared.demux_fault.DemuxFault.{DemuxFault}
 use Rattle.ts_demux.specs.declared.demuxed.AudioStream.{AudioStream}
 use Rattle.ts_demux.specs.declared.pes_gatherer.PesGatherer.{PesGatherer}
 use Rattle.ts_demux.specs.Tables.{HasMap}
-use Rattle.ts_demux.specs.Demux.{IsCarriedMap, HasCarriedMap, pids_of, packets_of, IsRefused, memory, no_video, streams, IsFirstStreamFault}
+use Rattle.ts_demux.specs.Demux.{HasCarriedMap, pids_of, packets_of, IsRefused, memory, no_video, streams}
 use Rattle.ts_demux.specs.Private.PesGatherer.{stream_gathered}
 use Rattle.ts_demux.specs.Private.CarriedStreams.{IsCarryFault}
 use Rattle.ts_demux.specs.Private.StreamWalk.{AreGathered, IsGatherFault}
@@ -37,4 +37,3 @@ others_of_first xs a others is = ap (λ (ys : List AudioStream). remove ys 0) is
 
 pub rest_size : (file : List ℕ) → length file % 188 ≡ length (rest_of file)
 rest_size file = omega (arith, length-drop (188 * (length file / 188)) file)
-

@@ -1,23 +1,22 @@
 -- Gatherers of some PIDs, one gatherer or one packet further.
-use Rattle.std.proofs.Common.{◌≡◌, ◌≢◌, ℕ, zero, suc, ◌+◌, ◌-◌, ◌*◌, ◌<◌, ◌≤◌, ◌==◌, ◌⊎◌, inl, inr, Bool, true, false, cond, ◌||◌, List, [], ◌∷◌, ◌++◌, length, map, take, get_or, set, slice_get, Option, Some, None, Result, Ok, Err, refl, sym, ap, ◌∙◌, subst, subst₂, length-set, arith}
+use Rattle.std.proofs.Common.{◌≡◌, ◌≢◌, ℕ, zero, suc, ◌+◌, ◌*◌, ◌<◌, ◌≤◌, ◌==◌, ◌⊎◌, inl, inr, Bool, true, false, ◌||◌, List, [], ◌∷◌, ◌++◌, length, map, take, get_or, set, slice_get, Some, Ok, refl, sym, ap, ◌∙◌, subst, arith}
 use Rattle.std.proofs.lemmas.Bool.{cases_lt}
 use Rattle.std.proofs.lemmas.Option.{same_Some, slice_get-get_or, slice_get_within}
 use Rattle.std.proofs.lemmas.Bool.Decides.{nat_tests}
 use Rattle.ts_packets.specs.declared.pid_fault.PidFault.{PidFault}
 use Rattle.ts_packets.specs.Packet.{sync_byte}
-use Rattle.ts_packets.specs.TransportStream.{piece_at, piece_count, pieces_of}
+use Rattle.ts_packets.specs.TransportStream.{piece_at, piece_count}
 use Rattle.psi_tables.specs.declared.stream.Stream.{Stream}
 use Rattle.ts_demux.specs.declared.demux_fault.DemuxFault.{DemuxFault}
 use Rattle.ts_demux.specs.declared.demux_fault.DemuxFault.TheVariants.{Sync, OutOfMemory}
 use Rattle.ts_demux.specs.declared.demuxed.AudioStream.{AudioStream}
-use Rattle.ts_demux.specs.declared.demuxed.PesUnit.{PesUnit}
 use Rattle.ts_demux.specs.declared.pes_gatherer.PesGatherer.{PesGatherer}
 use Rattle.ts_demux.specs.Faults.{of_pid}
 use Rattle.ts_demux.specs.Streams.{is_among}
-use Rattle.ts_demux.specs.Tables.{HasNoSync, HasPidFault}
-use Rattle.ts_demux.specs.Demux.{IsStreamFault, IsFirstStreamFault, AreStreamsSound, packets_of}
-use Rattle.ts_demux.specs.Private.PesGatherer.{gathered_of, Gathers, GathersMore, AllGather, gatherer_pids, AllGatherMore, stream_gathered}
-use Rattle.ts_demux.specs.Private.StreamWalk.{AreGathered, IsGatherFault}
+use Rattle.ts_demux.specs.Tables.{HasPidFault}
+use Rattle.ts_demux.specs.Demux.{IsStreamFault, AreStreamsSound, packets_of}
+use Rattle.ts_demux.specs.Private.PesGatherer.{Gathers, AllGather, gatherer_pids, AllGatherMore, stream_gathered}
+use Rattle.ts_demux.specs.Private.StreamWalk.{IsGatherFault}
 
 slice_get-set_same : {X : Type 0} (xs : List X) (n : ℕ) (x : X) → n < length xs → slice_get (set xs n x) n ≡ Some x
 slice_get-set_same [] n x within = absurd (omega arith)

@@ -1,13 +1,12 @@
 -- The PES packets that a PID carries, one payload further.
-use Rattle.std.proofs.Common.{◌≡◌, ◌≢◌, ℕ, ◌+◌, ◌*◌, ◌<◌, ◌≤◌, ◌==◌, ◌⊎◌, inl, inr, Bool, true, false, cond, ◌&&◌, nat_lt, List, [], ◌∷◌, ◌++◌, length, map, Option, Some, None, Result, Ok, Err, IfErr, OnOk, IfSome, refl, sym, ap, ◌∙◌, subst, append_assoc, arith}
+use Rattle.std.proofs.Common.{◌≡◌, ℕ, ◌+◌, ◌*◌, ◌<◌, inl, Bool, true, false, cond, ◌&&◌, nat_lt, List, [], ◌∷◌, ◌++◌, length, map, Option, Some, None, Result, Ok, Err, IfErr, OnOk, refl, sym, ap, ◌∙◌, subst, append_assoc, arith}
 use Rattle.std.proofs.lemmas.Bool.Decides.{nat_tests}
 use Rattle.std.proofs.lemmas.List.{append-nil}
-use Rattle.payload_lists.specs.Payload.{Payload, CarriedPayload, is_start}
+use Rattle.payload_lists.specs.Payload.{CarriedPayload, is_start}
 use Rattle.ts_packets.specs.declared.pid_fault.PidFault.{PidFault}
-use Rattle.ts_packets.specs.declared.packet.Packet.{Packet}
 use Rattle.ts_packets.specs.TransportStream.{Piece, piece_at, piece_count, is_of_pid, pieces_of}
 use Rattle.ts_packets.specs.Carried.{carried, pid_fault}
-use Rattle.ts_packets.specs.PidReader.{IsBehind, carried_at}
+use Rattle.ts_packets.specs.PidReader.{IsBehind}
 use Rattle.pes_units.specs.PesPackets.{Gathered, gathered, up_to_start}
 use Rattle.ts_demux.specs.declared.demux_fault.DemuxFault.{DemuxFault}
 use Rattle.ts_demux.specs.declared.demux_fault.DemuxFault.TheVariants.{OutOfMemory}
@@ -139,8 +138,7 @@ gathers_more file n bytes gatherer between after start payload (Err fault) bytes
 gathers_more file n bytes gatherer between after start payload (Ok _) bytes_are of_pid some one behind same pid ok order kept memory sound gathers =
     let pid_is : after.pid ≡ gatherer.pid = kept.pid ∙ pid in
     let now : units_in (pieces_of file gatherer.pid 0 (n + 1)) ≡ gathered_more (units_in (pieces_of file gatherer.pid 0 n)) (188 * n) start payload =
-    ap units_in (pieces_with file gatherer.pid n bytes bytes_are of_pid) ∙ ap units_of one ∙ units_more (carried (pieces_of file gatherer.pid 0 n)) (record { at = 188 * n; payload = record { start = start; bytes = payload } }) some in
-    (
+    ap units_in (pieces_with file gatherer.pid n bytes bytes_are of_pid) ∙ ap units_of one ∙ units_more (carried (pieces_of file gatherer.pid 0 n)) (record { at = 188 * n; payload = record { start = start; bytes = payload } }) some in (
       record {
         order = order;
         packets = rw (pid_is, kept.packets, pieces_with file gatherer.pid n bytes bytes_are of_pid) behind;

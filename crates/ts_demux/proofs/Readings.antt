@@ -1,6 +1,6 @@
 -- What a section says, from what reading it answers.
 use Rattle.std.proofs.Common.{◌≡◌, ℕ, ◌+◌, ◌==◌, ◌⊎◌, inl, inr, Bool, true, false, List, Option, Some, None, Result, Ok, Err, refl, sym, ap, ◌∙◌, arith}
-use Rattle.std.specs.Prelude.{◌↔◌, IsTrue}
+use Rattle.std.specs.Prelude.{◌↔◌}
 use Rattle.std.proofs.lemmas.Bool.Decides.{nat_tests}
 use Rattle.psi_tables.specs.declared.program_map.ProgramMap.{ProgramMap}
 use Rattle.psi_tables.specs.declared.section.SectionFault.{SectionFault}
@@ -49,9 +49,9 @@ pub names_it : (program : ℕ) (section : List ℕ) (pid : ℕ) → SaysPat prog
 names_it program section pid says some =
     elim (current_or_not 0 section) [
       | inl current ↦ let found = some current in
-        let e : Ok (Some pid) ≡ Ok (map_pid program found.0) = says.pid found.0 found.1 in
-        let same : Some pid ≡ map_pid program found.0 = cc in
-        (found.0, found.1, sym same)
+          let e : Ok (Some pid) ≡ Ok (map_pid program found.0) = says.pid found.0 found.1 in
+          let same : Some pid ≡ map_pid program found.0 = cc in
+          (found.0, found.1, sym same)
       | inr not_current ↦ let e : Ok (Some pid) ≡ Ok None = says.other not_current in absurd cc
     ]
 

@@ -1,11 +1,10 @@
 -- What a reader of sections has taken, and what waits, one step further.
-use Rattle.std.proofs.Common.{◌≡◌, ℕ, ◌+◌, ◌<◌, List, [], ◌∷◌, ◌++◌, length, drop, map, Option, Some, None, Result, Ok, Err, IfSome, refl, sym, ap, ◌∙◌, subst, arith}
+use Rattle.std.proofs.Common.{◌≡◌, ℕ, ◌+◌, ◌<◌, List, [], ◌∷◌, ◌++◌, length, drop, map, Option, Some, None, Result, IfSome, refl, sym, ap, ◌∙◌, arith}
 use Rattle.std.specs.Prelude.{IfNone}
 use Rattle.std.proofs.lemmas.List.{map-append, append-nil}
 use Rattle.arrayvec.specs.ArrayVec.{ArrayVec}
 use Rattle.payload_lists.specs.Payload.{Payload, CarriedPayload}
 use Rattle.ts_packets.specs.declared.packet.Packet.{Packet}
-use Rattle.ts_packets.specs.declared.pid_reader.PidReader.{PidReader}
 use Rattle.ts_packets.specs.TransportStream.{Piece}
 use Rattle.ts_packets.specs.Carried.{carried}
 use Rattle.ts_packets.specs.PidReader.{IsBehind, carried_at}

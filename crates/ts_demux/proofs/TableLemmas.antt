@@ -1,19 +1,12 @@
 -- What is quiet and known one section, or one packet, further.
-use Rattle.std.proofs.Common.{◌≡◌, ◌≢◌, ℕ, zero, suc, ◌+◌, ◌-◌, ◌*◌, ◌<◌, ◌≤◌, ◌==◌, ◌⊎◌, inl, inr, Bool, true, false, cond, List, [], ◌∷◌, ◌++◌, length, drop, map, filter, slice_get, Option, Some, None, Ok, Err, refl, sym, ap, ◌∙◌, subst, arith}
+use Rattle.std.proofs.Common.{◌≡◌, ◌≢◌, ℕ, zero, suc, ◌+◌, ◌-◌, ◌<◌, ◌≤◌, ◌==◌, ◌⊎◌, inl, inr, Bool, true, false, cond, List, [], ◌∷◌, ◌++◌, length, drop, map, filter, slice_get, Some, None, refl, sym, ap, ◌∙◌, subst, arith}
 use Rattle.std.proofs.lemmas.Bool.Decides.{nat_tests}
 use Rattle.std.specs.Prelude.{nat_le}
 use Rattle.std.specs.List.{range_with_len}
-use Rattle.ts_packets.specs.declared.pid_fault.PidFault.{PidFault}
-use Rattle.ts_packets.specs.Packet.{sync_byte, packet_identifier}
-use Rattle.ts_packets.specs.TransportStream.{Piece, piece_at, piece_count, is_of_pid, pieces_of}
-use Rattle.ts_packets.specs.Carried.{pid_fault}
-use Rattle.psi_tables.specs.declared.program_map.ProgramMap.{ProgramMap}
-use Rattle.psi_tables.specs.declared.section.SectionFault.{SectionFault}
+use Rattle.ts_packets.specs.TransportStream.{Piece, is_of_pid, pieces_of}
 use Rattle.psi_tables.specs.Sections.{Found}
-use Rattle.ts_demux.specs.declared.table_walk.Known.{Known}
-use Rattle.ts_demux.specs.declared.table_walk.Known.TheVariants.{Nothing, OtherPrograms, MapOn}
-use Rattle.ts_demux.specs.Tables.{pat_pid, piece, HasNoSync, HasPidFault, IsBefore, IsSection, Names, TakesPat, pmt_from, IsPmtSection, IsBadPat, IsBadPmt, IsMapOf, HasPat, HasProgram, IsPatSection, Stop, refuse, take, StopsAt, no_sync, pat_packet, pmt_packet, pat_section, pmt_section, map_section, StopsFirst, NothingStops, sections_at, sections_in}
-use Rattle.ts_demux.specs.Private.TableWalk.{IsQuiet, IsUnnamed, IsWithoutPat, IsNamed, IsKnown, NamesNone, IsKnownBehind}
+use Rattle.ts_demux.specs.Tables.{piece, IsBefore, IsSection, Stop, StopsAt, StopsFirst, sections_at, sections_in}
+use Rattle.ts_demux.specs.Private.TableWalk.{IsQuiet}
 
 -- ---- places
 

@@ -1,5 +1,5 @@
 -- One section, or one packet, ends the reading of the tables or doesn't.
-use Rattle.std.proofs.Common.{◌≡◌, ◌≢◌, ℕ, zero, suc, ◌+◌, ◌-◌, ◌*◌, ◌<◌, ◌≤◌, ◌==◌, ◌⊎◌, inl, inr, Bool, true, false, cond, List, [], ◌∷◌, length, drop, slice_get, Option, Some, None, Ok, Err, refl, sym, ap, ◌∙◌, subst, arith}
+use Rattle.std.proofs.Common.{◌≡◌, ◌≢◌, ℕ, ◌+◌, ◌<◌, ◌≤◌, ◌==◌, inl, inr, Bool, true, false, cond, List, [], drop, Some, None, Ok, refl, sym, ap, ◌∙◌, subst, arith}
 use Rattle.std.proofs.lemmas.Bool.Decides.{nat_tests}
 use Rattle.ts_packets.specs.declared.pid_fault.PidFault.{PidFault}
 use Rattle.ts_packets.specs.Packet.{sync_byte}
@@ -11,8 +11,8 @@ use Rattle.psi_tables.specs.Section.{IsCurrent}
 use Rattle.psi_tables.specs.Sections.{Found}
 use Rattle.ts_demux.specs.declared.table_walk.Known.{Known}
 use Rattle.ts_demux.specs.declared.table_walk.Known.TheVariants.{Nothing, OtherPrograms, MapOn}
-use Rattle.ts_demux.specs.Faults.{of_pid, of_section}
-use Rattle.ts_demux.specs.Tables.{pat_pid, piece, HasNoSync, HasPidFault, IsBefore, IsSection, Names, TakesPat, pmt_from, IsPmtSection, IsBadPat, IsBadPmt, IsMapOf, HasPat, HasProgram, IsPatSection, Stop, refuse, take, StopsAt, no_sync, pat_packet, pmt_packet, pat_section, pmt_section, map_section, NothingStops, sections_at}
+use Rattle.ts_demux.specs.Faults.{of_pid}
+use Rattle.ts_demux.specs.Tables.{pat_pid, piece, HasPidFault, IsBefore, IsSection, Names, TakesPat, pmt_from, IsPmtSection, IsBadPat, IsBadPmt, IsMapOf, HasPat, HasProgram, IsPatSection, Stop, StopsAt, no_sync, pat_packet, pmt_packet, pat_section, pmt_section, map_section, NothingStops, sections_at}
 use Rattle.ts_demux.specs.Private.TableWalk.{IsQuiet, IsUnnamed, IsWithoutPat, IsNamed, IsKnown, NamesNone, IsKnownBehind, is_on_pat_pid}
 use Rattle.ts_demux.proofs.TableLemmas.{further, next_packet, ordered, rank_before, before_rank, later, behind_before, of_one, of_no_other, none_there, same_section, none_behind}
 
@@ -170,9 +170,9 @@ unnamed_more file program n k section unnamed here none m j pid found before is 
     elim (further m (j + 1) n (k + 1) before) [
       | inl less ↦ unnamed m j pid found less is names
       | inr same ↦
-        let place : j ≡ k = omega (arith, same.1) in
-        let there : IsSection file pat_pid 0 n k found = subst (λ (i : ℕ). IsSection file pat_pid 0 n i found) place (subst (λ (i : ℕ). IsSection file pat_pid 0 i j found) same.0 is) in
-        none pid (subst (λ (f : Found). Names program f pid) (same_section file pat_pid 0 n k found (Ok section) there here) names)
+          let place : j ≡ k = omega (arith, same.1) in
+          let there : IsSection file pat_pid 0 n k found = subst (λ (i : ℕ). IsSection file pat_pid 0 n i found) place (subst (λ (i : ℕ). IsSection file pat_pid 0 i j found) same.0 is) in
+          none pid (subst (λ (f : Found). Names program f pid) (same_section file pat_pid 0 n k found (Ok section) there here) names)
     ]
 
 without_more : (file : List ℕ) (n k : ℕ) (section : List ℕ) → IsWithoutPat file n (k + 1) → IsSection file pat_pid 0 n k (Ok section) → (IsCurrent 0 section → ⊥) → IsWithoutPat file n (k + 1 + 1)
@@ -180,9 +180,9 @@ without_more file n k section without here none m j found before is current =
     elim (further m (j + 1) n (k + 1) before) [
       | inl less ↦ without m j found less is current
       | inr same ↦
-        let place : j ≡ k = omega (arith, same.1) in
-        let there : IsSection file pat_pid 0 n k found = subst (λ (i : ℕ). IsSection file pat_pid 0 n i found) place (subst (λ (i : ℕ). IsSection file pat_pid 0 i j found) same.0 is) in
-        none (subst IsPatSection (same_section file pat_pid 0 n k found (Ok section) there here) current)
+          let place : j ≡ k = omega (arith, same.1) in
+          let there : IsSection file pat_pid 0 n k found = subst (λ (i : ℕ). IsSection file pat_pid 0 n i found) place (subst (λ (i : ℕ). IsSection file pat_pid 0 i j found) same.0 is) in
+          none (subst IsPatSection (same_section file pat_pid 0 n k found (Ok section) there here) current)
     ]
 
 has_pat : (file : List ℕ) (n k : ℕ) (section : List ℕ) → IsSection file pat_pid 0 n k (Ok section) → IsCurrent 0 section → HasPat file
@@ -197,15 +197,15 @@ named_now file program n k pid from section unnamed here names from_is alone = r
   before = inr (refl, omega arith);
   from_is = from_is;
   only = λ m j other takes.
-    elim (ordered m j n k) [
-      | inl before ↦ absurd (unnamed_takes file program n (k + 1) m j other unnamed takes (before_rank m j n k before))
-      | inr behind ↦ elim behind [
-        | inl same ↦
-          let there : IsSection file pat_pid 0 n k takes.found = subst (λ (i : ℕ). IsSection file pat_pid 0 n i takes.found) same.1 (subst (λ (i : ℕ). IsSection file pat_pid 0 i j takes.found) same.0 takes.section) in
-          (same.0, same.1, alone other (subst (λ (f : Found). Names program f other) (same_section file pat_pid 0 n k takes.found (Ok section) there here) takes.names))
-        | inr after ↦ absurd (takes.first n k pid (Ok section) after here names)
-      ]
-    ];
+      elim (ordered m j n k) [
+        | inl before ↦ absurd (unnamed_takes file program n (k + 1) m j other unnamed takes (before_rank m j n k before))
+        | inr behind ↦ elim behind [
+          | inl same ↦
+              let there : IsSection file pat_pid 0 n k takes.found = subst (λ (i : ℕ). IsSection file pat_pid 0 n i takes.found) same.1 (subst (λ (i : ℕ). IsSection file pat_pid 0 i j takes.found) same.0 takes.section) in
+              (same.0, same.1, alone other (subst (λ (f : Found). Names program f other) (same_section file pat_pid 0 n k takes.found (Ok section) there here) takes.names))
+          | inr after ↦ absurd (takes.first n k pid (Ok section) after here names)
+        ]
+      ];
 }
 
 pub known_more : (file : List ℕ) (program n k : ℕ) (section : List ℕ) (known after : Known) → IsKnown file program n (k + 1) known → IsSection file pat_pid 0 n k (Ok section) → IsKnownBehind program section n known after → IsKnown file program n (k + 1 + 1) after

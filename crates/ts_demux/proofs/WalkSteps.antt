@@ -19,11 +19,11 @@ use Rattle.ts_demux.specs.declared.table_walk.Reading.{Reading}
 use Rattle.ts_demux.specs.declared.table_walk.Reading.TheVariants.{AllRead, GoesOn, Map}
 use Rattle.ts_demux.specs.declared.table_walk.TableWalk.{TableWalk}
 use Rattle.ts_demux.specs.Faults.{of_pid, of_section}
-use Rattle.ts_demux.specs.Tables.{pat_pid, piece, HasNoSync, HasPidFault, IsSection, IsBadPat, IsBadPmt, IsMapOf, Stop, refuse, take, StopsAt, no_sync, pat_packet, pmt_packet, pat_section, pmt_section, map_section, StopsFirst, IsTablesFault, sections_in, sections_at}
+use Rattle.ts_demux.specs.Tables.{pat_pid, piece, IsSection, IsBadPat, IsBadPmt, IsMapOf, refuse, take, no_sync, pat_packet, pmt_packet, pat_section, pmt_section, map_section, StopsFirst, IsTablesFault, sections_in, sections_at}
 use Rattle.ts_demux.specs.Private.SectionReader.{Waits, added_by, TakesPiece, ReadsNext}
-use Rattle.ts_demux.specs.Private.TableWalk.{IsQuiet, IsNamed, IsKnown, IsMapReader, IsBetween, IsInPat, IsInMap, Reads, IsKnownBehind, ReadsPat, ReadsMap, IsOnMapPid, is_on_pat_pid, is_map_on, missing_of}
-use Rattle.ts_demux.proofs.TableLemmas.{pieces_more, pieces_same, pieces_other, pieces_none, of_no_other, none_there, next_there, none_behind, stops, quiet_further, quiet_next, later}
-use Rattle.ts_demux.proofs.TableSteps.{first_pat, first_map, first_other, pat_passes, pat_pmt_section, map_passes, map_pmt_section, named_more, known_more, first_known, known_next, pat_ends, map_ends, other_ends, nothing_stops, no_pat, no_program}
+use Rattle.ts_demux.specs.Private.TableWalk.{IsNamed, IsKnown, IsMapReader, IsBetween, IsInPat, IsInMap, Reads, IsKnownBehind, ReadsPat, ReadsMap, IsOnMapPid, is_on_pat_pid, is_map_on, missing_of}
+use Rattle.ts_demux.proofs.TableLemmas.{pieces_more, pieces_other, pieces_none, of_no_other, none_there, next_there, none_behind, stops, quiet_further, quiet_next}
+use Rattle.ts_demux.proofs.TableSteps.{first_pat, first_map, pat_passes, pat_pmt_section, map_passes, map_pmt_section, named_more, known_more, first_known, known_next, pat_ends, map_ends, other_ends, nothing_stops, no_pat, no_program}
 
 -- ---- the sections of a packet of PID 0
 

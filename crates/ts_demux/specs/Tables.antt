@@ -1,6 +1,6 @@
 -- The PAT and the PMT section of a program in a file (ISO/IEC 13818-1, 2.4.4.3 and 2.4.4.8; which ones are taken is this
 -- project's).
-use Rattle.std.specs.Prelude.{◌≡◌, ◌≢◌, ℕ, ◌+◌, ◌*◌, ◌<◌, ◌≤◌, ◌==◌, ◌⊎◌, Bool, true, List, length, drop, map, slice_get, Option, Some, None, Ok, Err, if◌then◌else◌}
+use Rattle.std.specs.Prelude.{◌≡◌, ◌≢◌, ℕ, ◌+◌, ◌*◌, ◌<◌, ◌≤◌, ◌==◌, ◌⊎◌, true, List, length, drop, map, slice_get, Some, Ok, Err, if◌then◌else◌}
 use Rattle.stream_constants.specs.declared.packets.TheConstants.{PACKET_BYTES}
 use Rattle.payload_lists.specs.Payload.{Payload}
 use Rattle.ts_packets.specs.declared.pid_fault.PidFault.{PidFault}
@@ -15,7 +15,7 @@ use Rattle.psi_tables.specs.Sections.{Found, sections_of}
 use Rattle.psi_tables.specs.Pat.{IsPat, map_pid}
 use Rattle.psi_tables.specs.Pmt.{IsPmt, HasRoom}
 use Rattle.ts_demux.specs.declared.demux_fault.DemuxFault.{DemuxFault}
-use Rattle.ts_demux.specs.declared.demux_fault.DemuxFault.TheVariants.{ShortFile, Sync, ErrorFlag, Scrambled, BadField, Discontinuity, Gap, BadSection as bad_section, BadCrc, NoPat, NoProgram, NoPmt, NoVideo, ProgramLimit, PmtTooLong, OutOfMemory}
+use Rattle.ts_demux.specs.declared.demux_fault.DemuxFault.TheVariants.{Sync, NoPat, NoProgram, NoPmt}
 use Rattle.ts_demux.specs.Faults.{of_pid, of_section}
 
 -- ---- packets and their sections

@@ -21,12 +21,7 @@ const STREAMS_CARRIED: usize = 1 + 8;
 /// and of its audio streams, but for those whose PIDs are in `drop`. An error is the first refusal in the order of reading:
 /// the file's length, the packets and sections of its tables up to the program's map, the streams of that map, and then
 /// all packets of the carried streams. Places are bytes of the file.
-pub fn demux(
-    alloc: Global,
-    file: &[u8],
-    program: u16,
-    drop: &[u16],
-) -> Result<Demuxed, DemuxFault>
+pub fn demux(alloc: Global, file: &[u8], program: u16, drop: &[u16]) -> Result<Demuxed, DemuxFault>
     ensures { MatchResult result (IsDemuxed file.now program drop.now) (IsRefused file.now program drop.now) }
 {
     if file.len() < PACKET_BYTES {
@@ -65,10 +60,7 @@ pub fn demux(
 }
 
 /// The streams that are gathered, in order.
-fn all_streams(
-    alloc: Global,
-    gatherers: Vec<PesGatherer>,
-) -> Result<Vec<AudioStream>, DemuxFault>
+fn all_streams(alloc: Global, gatherers: Vec<PesGatherer>) -> Result<Vec<AudioStream>, DemuxFault>
     ensures ok { IfOk result (λ streams. streams.items ≡ map stream_gathered gatherers.entry.items) }
     ensures memory { IfErr result (λ fault. fault ≡ OutOfMemory) }
 {

@@ -74,13 +74,7 @@ impl<'a> PesGatherer<'a> {
     }
 
     /// Adds a payload, which isn't empty, of the packet at a place.
-    fn add(
-        &mut self,
-        alloc: Global,
-        at: u64,
-        start: bool,
-        payload: &[u8],
-    ) -> Result<(), DemuxFault>
+    fn add(&mut self, alloc: Global, at: u64, start: bool, payload: &[u8]) -> Result<(), DemuxFault>
         requires { IsInOrder self.old }
         ensures ok { OnOk result (gathered_of self.new ≡ gathered_more (gathered_of self.old) at start payload.now) }
         ensures order { OnOk result (IsInOrder self.new) }

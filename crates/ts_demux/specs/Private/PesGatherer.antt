@@ -1,7 +1,7 @@
 -- What a gatherer of PES packets has gathered.
-use Rattle.std.specs.Prelude.{◌≡◌, ℕ, ◌+◌, ◌*◌, ◌⊎◌, Bool, true, List, [], ◌∷◌, ◌++◌, map, slice_get, Option, Some, None, Result, Ok, Err, if◌then◌else◌}
+use Rattle.std.specs.Prelude.{◌≡◌, ℕ, ◌+◌, ◌*◌, ◌⊎◌, Bool, List, [], ◌∷◌, ◌++◌, map, slice_get, Option, Some, None, Result, Ok, Err, if◌then◌else◌}
 use Rattle.ts_packets.specs.declared.pid_fault.PidFault.{PidFault}
-use Rattle.ts_packets.specs.TransportStream.{piece_count, pieces_of}
+use Rattle.ts_packets.specs.TransportStream.{pieces_of}
 use Rattle.ts_packets.specs.PidReader.{IsBehind}
 use Rattle.ts_demux.specs.declared.demux_fault.DemuxFault.{DemuxFault}
 use Rattle.ts_demux.specs.declared.demux_fault.DemuxFault.TheVariants.{OutOfMemory}

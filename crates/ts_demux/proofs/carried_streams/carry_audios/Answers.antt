@@ -1,8 +1,8 @@
-use Rattle.std.proofs.Common.{◌≡◌, ◌<◌, ◌==◌, ◌+◌, ◌++◌, ◌∷◌, List, true, false, length, refl, sym, ap, ◌∙◌, arith}
+use Rattle.std.proofs.Common.{◌≡◌, ◌<◌, ◌∷◌, List, false, length, sym, ap, ◌∙◌, arith}
 use Rattle.psi_tables.specs.declared.stream.Stream.{Stream}
 use Rattle.ts_demux.specs.Streams.{is_carried}
 use Rattle.ts_demux.specs.Private.CarriedStreams.{pids_in}
-use Rattle.ts_demux.proofs.CarrySteps.{first_removed, carries, carries_others, passes, passes_others, all_carried, all_others, some_there, none_left}
+use Rattle.ts_demux.proofs.CarrySteps.{first_removed, passes, passes_others, all_carried, all_others, some_there, none_left}
 use Rattle.ts_demux.proofs.carried_streams.carry_audios.Goals as goal
 
 pub returns : goal.returns

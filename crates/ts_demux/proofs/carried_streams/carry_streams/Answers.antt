@@ -1,7 +1,6 @@
-use Rattle.std.proofs.Common.{Some, ◌≡◌, ◌++◌, ◌∷◌, [], List, ℕ, refl, sym, ap, ◌∙◌, subst}
+use Rattle.std.proofs.Common.{Some, ◌≡◌, ◌++◌, ◌∷◌, [], List, refl, sym, ap, ◌∙◌, subst}
 use Rattle.psi_tables.specs.declared.stream.Stream.{Stream}
-use Rattle.ts_demux.specs.Streams.{video_of, audios_of, others_of}
-use Rattle.ts_demux.specs.Private.CarriedStreams.{pids_in, IsVideoAt}
+use Rattle.ts_demux.specs.Private.CarriedStreams.{IsVideoAt}
 use Rattle.ts_demux.proofs.CarrySteps.{carried_behind, others_behind}
 use Rattle.ts_demux.proofs.carried_streams.carry_streams.Goals as goal
 

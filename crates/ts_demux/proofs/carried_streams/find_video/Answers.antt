@@ -1,7 +1,6 @@
-use Rattle.std.proofs.Common.{◌≡◌, refl, sym, ap, ◌∙◌, arith}
-use Rattle.psi_tables.specs.declared.stream.Stream.{Stream}
+use Rattle.std.proofs.Common.{refl, sym, ap, ◌∙◌, arith}
 use Rattle.ts_demux.specs.Streams.{is_video}
-use Rattle.ts_demux.proofs.CarrySteps.{NoVideoBefore, no_video, video_here, no_video_more}
+use Rattle.ts_demux.proofs.CarrySteps.{no_video, video_here, no_video_more}
 use Rattle.ts_demux.proofs.carried_streams.find_video.Goals as goal
 
 pub loop-at-init : goal.loop-at-init

@@ -1,10 +1,7 @@
-use Rattle.std.proofs.Common.{◌≡◌, ◌≤◌, ◌<◌, ◌∷◌, List, ℕ, length, map, get_or, refl, sym, ap, ◌∙◌, subst, arith}
+use Rattle.std.proofs.Common.{◌≤◌, ◌<◌, List, ℕ, length, map, refl, ap, ◌∙◌, subst, arith}
 use Rattle.psi_tables.specs.declared.stream.Stream.{Stream}
-use Rattle.psi_tables.specs.Pmt.{pmt_length}
 use Rattle.ts_demux.specs.declared.demuxed.AudioStream.{AudioStream}
-use Rattle.ts_demux.specs.declared.pes_gatherer.PesGatherer.{PesGatherer}
-use Rattle.ts_demux.specs.Streams.{audios_of, without_video}
-use Rattle.ts_demux.specs.Demux.{HasCarriedMap, AreStreamsSound, packets_of, IsRefused, audios, long_map}
+use Rattle.ts_demux.specs.Demux.{HasCarriedMap, audios, long_map}
 use Rattle.ts_demux.specs.Private.StreamWalk.{AreGathered, IsGatherFault}
 use Rattle.ts_demux.proofs.DemuxSteps.{carry_refused, gather_refused, all_of, some_of, first_of, others_of_first, rest_size}
 use Rattle.ts_demux.proofs.demux_program.demux.Goals as goal

@@ -1,4 +1,4 @@
-use Rattle.std.proofs.Common.{◌≡◌, ◌≤◌, ◌<◌, ◌++◌, ℕ, List, [], map, length, take, drop, refl, sym, ap, ◌∙◌, ◌+◌, subst, inl, arith}
+use Rattle.std.proofs.Common.{◌≡◌, ◌≤◌, ◌<◌, ◌++◌, ℕ, List, map, length, take, drop, sym, ap, ◌∙◌, ◌+◌, subst, arith}
 use Rattle.std.proofs.lemmas.List.{take_at}
 use Rattle.psi_tables.specs.declared.stream.Stream.{Stream}
 use Rattle.ts_packets.specs.TransportStream.{piece_count}

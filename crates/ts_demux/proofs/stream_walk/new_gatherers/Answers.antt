@@ -1,6 +1,5 @@
-use Rattle.std.proofs.Common.{◌≡◌, ◌<◌, ◌++◌, ◌∷◌, [], List, length, sym, ap, subst, ◌∙◌, arith}
+use Rattle.std.proofs.Common.{◌≡◌, ◌<◌, ◌++◌, ◌∷◌, [], length, ap, ◌∙◌, arith}
 use Rattle.psi_tables.specs.declared.stream.Stream.{Stream}
-use Rattle.ts_demux.specs.declared.pes_gatherer.PesGatherer.{PesGatherer}
 use Rattle.ts_demux.proofs.GatherSteps.{all_push, pids_more}
 use Rattle.ts_demux.proofs.stream_walk.new_gatherers.Goals as goal
 

@@ -1,8 +1,8 @@
-use Rattle.std.proofs.Common.{◌≡◌, ◌⊎◌, inr, ◌<◌, ◌≤◌, length, sym, subst, refl, arith}
-use Rattle.ts_demux.specs.declared.demux_fault.DemuxFault.TheVariants.{Sync, OutOfMemory}
+use Rattle.std.proofs.Common.{inr, sym, subst, arith}
+use Rattle.ts_demux.specs.declared.demux_fault.DemuxFault.TheVariants.{Sync}
 use Rattle.ts_demux.specs.Demux.{IsStreamFault}
 use Rattle.ts_demux.specs.Private.PesGatherer.{gatherer_pids}
-use Rattle.ts_demux.proofs.GatherSteps.{FirstGather, first_before, first_more, all_taken, one_fault, sync_fault}
+use Rattle.ts_demux.proofs.GatherSteps.{first_before, first_more, all_taken, one_fault, sync_fault}
 use Rattle.ts_demux.proofs.stream_walk.take_packet.Goals as goal
 
 pub take-requires-clause-before : goal.take-requires-clause-before

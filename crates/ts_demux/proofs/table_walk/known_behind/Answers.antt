@@ -1,7 +1,6 @@
-use Rattle.std.proofs.Common.{◌≡◌, ℕ, Bool, true, false, Option, Some, None, Ok, refl, subst, sym, ap, ◌∙◌}
+use Rattle.std.proofs.Common.{◌≡◌, ℕ, true, Option, Ok, refl, subst, sym}
 use Rattle.psi_tables.specs.Section.{IsCurrent}
 use Rattle.ts_demux.specs.declared.table_walk.Known.{Known}
-use Rattle.ts_demux.specs.declared.table_walk.Known.TheVariants.{MapOn}
 use Rattle.ts_demux.specs.Private.TableWalk.{IsKnownBehind}
 use Rattle.ts_demux.proofs.Readings.{SaysPat, bad_pat, sound_pat, known_named, known_other, known_same}
 use Rattle.ts_demux.proofs.table_walk.known_behind.Goals as goal

@@ -1,4 +1,4 @@
-use Rattle.std.proofs.Common.{◌≡◌, ℕ, subst, sym, refl}
+use Rattle.std.proofs.Common.{ℕ, subst, sym, refl}
 use Rattle.ts_demux.specs.Private.TableWalk.{missing_of}
 use Rattle.ts_demux.specs.Tables.{IsTablesFault}
 use Rattle.ts_demux.proofs.WalkSteps.{ends_missing}

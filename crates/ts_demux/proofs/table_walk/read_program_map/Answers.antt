@@ -1,4 +1,4 @@
-use Rattle.std.proofs.Common.{◌≡◌, Option, Some, Ok, refl, subst, ap, ◌∙◌, IfSome}
+use Rattle.std.proofs.Common.{Option, Ok, subst, ap, ◌∙◌, IfSome}
 use Rattle.psi_tables.specs.declared.program_map.ProgramMap.{ProgramMap}
 use Rattle.psi_tables.specs.Pmt.{IsPmt, HasRoom}
 use Rattle.ts_demux.specs.Faults.{of_section}

@@ -1,7 +1,7 @@
-use Rattle.std.proofs.Common.{◌≡◌, ◌≤◌, ◌<◌, ◌++◌, ◌∷◌, ◌*◌, [], ◌⊎◌, inl, inr, Bool, true, false, ◌==◌, ap, sym, subst, refl, ◌∙◌, ℕ, Option, None, Some, IfSome, length, arith}
+use Rattle.std.proofs.Common.{◌≡◌, ◌≤◌, ◌<◌, ◌++◌, ◌∷◌, ◌*◌, [], inr, Bool, true, false, ◌==◌, ap, sym, subst, refl, ◌∙◌, ℕ, Option, None, Some, IfSome, length, arith}
 use Rattle.std.proofs.lemmas.Bool.Decides.{nat_tests}
 use Rattle.ts_packets.specs.declared.packet.Packet.{Packet}
-use Rattle.ts_packets.specs.TransportStream.{Piece, is_of_pid, pieces_of}
+use Rattle.ts_packets.specs.TransportStream.{Piece, pieces_of}
 use Rattle.ts_packets.specs.Carried.{carried}
 use Rattle.ts_packets.specs.PidReader.{carried_at}
 use Rattle.ts_demux.specs.Faults.{of_pid}

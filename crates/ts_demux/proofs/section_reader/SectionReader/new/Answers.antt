@@ -1,6 +1,5 @@
-use Rattle.std.proofs.Common.{◌≡◌, ◌++◌, List, [], refl}
+use Rattle.std.proofs.Common.{List, [], refl}
 use Rattle.payload_lists.specs.Payload.{Payload}
-use Rattle.psi_tables.specs.Sections.{sections_of}
 use Rattle.ts_demux.proofs.section_reader.SectionReader.new.Goals as goal
 
 pub returns : goal.returns

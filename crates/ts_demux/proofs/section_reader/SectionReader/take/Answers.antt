@@ -1,11 +1,10 @@
-use Rattle.std.proofs.Common.{◌≡◌, refl, ◌≤◌, ◌++◌, ◌∷◌, [], ap, sym, subst, ◌∙◌, Option, None, Some, IfSome, length, ◌<◌}
+use Rattle.std.proofs.Common.{◌≡◌, refl, ◌≤◌, ◌++◌, ◌∷◌, [], sym, subst, ◌∙◌, Option, None, Some, IfSome, length, ◌<◌}
 use Rattle.std.proofs.lemmas.List.{append-nil}
 use Rattle.ts_packets.specs.declared.packet.Packet.{Packet}
 use Rattle.ts_packets.specs.TransportStream.{Piece}
 use Rattle.ts_packets.specs.Carried.{carried}
 use Rattle.ts_packets.specs.PidReader.{carried_at}
 use Rattle.ts_demux.specs.Tables.{payloads_in}
-use Rattle.ts_demux.specs.declared.section_reader.SectionReader.{SectionReader}
 use Rattle.ts_demux.proofs.SectionLemmas.{takes_payload, takes_nothing, payloads_behind}
 use Rattle.ts_demux.proofs.section_reader.SectionReader.take.Goals as goal
 
@@ -27,8 +26,7 @@ returns-in_default c before at waits =
 pub returns : goal.returns
 returns c before at waits =
     let piece : Piece = record { at = at; bytes = c.args.bytes.now } in
-    let carries : carried (before ++ piece ∷ []) ≡ carried before ++ carried_at at (Some c.in-Some.packet) = subst (λ (taken : Option Packet). carried (before ++ piece ∷ []) ≡ carried before ++ carried_at at taken) c.in-Some.is (c.in-Ok.ensures.carried before at waits.packets) in
-    (
+    let carries : carried (before ++ piece ∷ []) ≡ carried before ++ carried_at at (Some c.in-Some.packet) = subst (λ (taken : Option Packet). carried (before ++ piece ∷ []) ≡ carried before ++ carried_at at taken) c.in-Some.is (c.in-Ok.ensures.carried before at waits.packets) in (
       sym (c.in-Ok.ensures.fault before at waits.packets),
       takes_payload before piece c.args.self.now (record { packets = c.take.new.self; builder = c.feed.new.self }) (record { start = c.in-Some.packet.start; bytes = c.in-Some.packet.payload.now })
           waits (payloads_behind before piece (Some c.in-Some.packet) carries) (c.in-Ok.ensures.behind before at waits.packets) c.sections_in_turn.ensures.fed c.feed.ensures,

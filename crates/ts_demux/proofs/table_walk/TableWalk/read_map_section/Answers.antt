@@ -1,4 +1,4 @@
-use Rattle.std.proofs.Common.{◌≡◌, ◌+◌, ℕ, Option, Some, None, Result, Ok, Err, refl, sym, ap, ◌∙◌, subst}
+use Rattle.std.proofs.Common.{◌+◌, ℕ, Option, Some, Result, refl, sym, ap, ◌∙◌, subst}
 use Rattle.arrayvec.specs.ArrayVec.{ArrayVec}
 use Rattle.psi_tables.specs.declared.section.SectionFault.{SectionFault}
 use Rattle.psi_tables.specs.SectionBuilder.{found_of}

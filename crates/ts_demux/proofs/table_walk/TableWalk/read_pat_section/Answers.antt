@@ -1,8 +1,7 @@
-use Rattle.std.proofs.Common.{◌≡◌, ◌+◌, ℕ, true, false, Bool, Option, Some, None, Result, Ok, Err, refl, sym, ap, ◌∙◌, subst}
+use Rattle.std.proofs.Common.{◌≡◌, ◌+◌, ℕ, true, false, Option, Some, Result, Ok, refl, sym, ap, ◌∙◌, subst}
 use Rattle.arrayvec.specs.ArrayVec.{ArrayVec}
 use Rattle.psi_tables.specs.declared.section.SectionFault.{SectionFault}
 use Rattle.psi_tables.specs.SectionBuilder.{found_of}
-use Rattle.psi_tables.specs.Sections.{Found}
 use Rattle.ts_packets.specs.TransportStream.{pieces_of}
 use Rattle.ts_demux.specs.Faults.{of_section}
 use Rattle.ts_demux.specs.Tables.{pat_pid, refuse, StopsFirst, IsSection, IsBadPat}

@@ -1,9 +1,7 @@
-use Rattle.std.proofs.Common.{◌≡◌, ◌≢◌, ◌*◌, ◌+◌, ◌==◌, ℕ, Bool, true, false, refl, sym, ap, ◌∙◌, subst, arith}
+use Rattle.std.proofs.Common.{◌≡◌, ◌==◌, ℕ, Bool, true, false, refl, sym, ◌∙◌, subst, arith}
 use Rattle.std.proofs.lemmas.Bool.Decides.{nat_tests}
-use Rattle.ts_packets.specs.TransportStream.{is_of_pid}
 use Rattle.ts_demux.specs.declared.demux_fault.DemuxFault.TheVariants.{Sync}
 use Rattle.ts_demux.specs.Tables.{pat_pid, refuse, StopsFirst}
-use Rattle.ts_demux.specs.Private.TableWalk.{is_map_on}
 use Rattle.ts_demux.proofs.WalkSteps.{is_of, on_map, not_on_map, other_goes_on, sync_refuses}
 use Rattle.ts_demux.proofs.table_walk.TableWalk.take.Goals as goal
 
