@@ -7,17 +7,17 @@ use thiserror::Error;
 pub enum AudioFault {
     /// No header of Layer II where one must stand, or one with another ID or sampling rate. It is at 0 where there is no
     /// first frame.
-    #[error("no Layer II header at byte {0}")]
-    NotLayer2(u64),
+    #[error("no Layer II header at byte {at}")]
+    NotLayer2 { at: u64 },
     /// No twelve ones where a frame must begin.
-    #[error("no audio sync word at byte {0}")]
-    AudioSync(u64),
+    #[error("no audio sync word at byte {at}")]
+    AudioSync { at: u64 },
     /// The first frame is given no time.
-    #[error("no time for the audio frame at byte {0}")]
-    NoAudioTime(u64),
+    #[error("no time for the audio frame at byte {at}")]
+    NoAudioTime { at: u64 },
     /// A frame isn't later than the one before it.
-    #[error("audio frame out of order at byte {0}")]
-    TimeOrder(u64),
+    #[error("audio frame out of order at byte {at}")]
+    TimeOrder { at: u64 },
     /// Memory was wanted and not there.
     #[error("out of memory")]
     OutOfMemory,

@@ -35,7 +35,7 @@ pub fn frames(
     ensures refused { IfErr result (IsRefused payload.now starts.now) }
 {
     let Some(first) = find_first(payload) else {
-        return Err(AudioFault::NotLayer2(0));
+        return Err(AudioFault::NotLayer2 { at: 0 });
     };
     let places = find_places(alloc, payload, first)?;
     timed_frames(alloc, payload, starts, places.as_slice())

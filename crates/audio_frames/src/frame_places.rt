@@ -54,8 +54,8 @@ fn break_at(payload: &[u8], at: usize, first: usize, header: FrameHeader) -> Opt
     if is_near_end(payload, at) || header.goes_on(&payload[at..]) {
         None
     } else if has_sync(&payload[at..]) {
-        Some(AudioFault::NotLayer2(at as u64))
+        Some(AudioFault::NotLayer2 { at: at as u64 })
     } else {
-        Some(AudioFault::AudioSync(at as u64))
+        Some(AudioFault::AudioSync { at: at as u64 })
     }
 }

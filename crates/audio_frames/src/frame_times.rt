@@ -29,7 +29,7 @@ pub fn timed_frames(
 {
     let rate = header_at(payload, places[0] as usize).hertz();
     let Some(mut clock) = Clock::start(rate, starts, places) else {
-        return Err(AudioFault::NoAudioTime(places[0]));
+        return Err(AudioFault::NoAudioTime { at: places[0] });
     };
     let mut begin = 0;
     let mut frames = ListOf::new(alloc);
@@ -37,7 +37,7 @@ pub fn timed_frames(
         let end = places[frame + 1];
         let next = clock.next(starts, places, frame);
         if next.time <= clock.time {
-            return Err(AudioFault::TimeOrder(end));
+            return Err(AudioFault::TimeOrder { at: end });
         }
         frames.push(frame_of(begin, end, clock.time))?;
         begin = end;

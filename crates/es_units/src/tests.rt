@@ -23,7 +23,7 @@ fn without_a_sequence_header_there_are_none(rt: HostRuntime) -> Result<(), Fail>
     assert!(rt;
         matches!(
             split_units(rt.alloc(), &[0, 0, 1, 0, 0, 0, 1]),
-            Err(UnitFault::NoSequence)
+            Err(UnitFault::NoSequence { at: 0 })
         )
     );
     Ok(())

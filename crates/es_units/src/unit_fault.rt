@@ -4,9 +4,9 @@ use thiserror::Error;
 /// Why a video stream isn't cut into units.
 #[derive(Clone, Copy, Debug, PartialEq, Eq, Error)]
 pub enum UnitFault {
-    /// No sequence header stands in the stream, so no unit is left.
-    #[error("no sequence header")]
-    NoSequence,
+    /// No sequence header stands in the stream, so no unit is left; at 0.
+    #[error("no sequence header from byte {at} on")]
+    NoSequence { at: u64 },
     /// Memory was wanted and not there.
     #[error("out of memory")]
     OutOfMemory,

@@ -1,4 +1,4 @@
-ghost use Rattle.std.specs.Prelude.{◌≡◌, Some, None, IfOk, Err};
+ghost use Rattle.std.specs.Prelude.{◌≡◌, ℕ, Some, None, IfOk, Err};
 ghost use Rattle.es_units.specs.Units.{units_of, first_sequence};
 
 use crate::cuts::{find_sequence, next_cut};
@@ -16,14 +16,14 @@ pub struct Units {
     pub cuts: ListOf<(u64, u64)>,
 }
 
-/// Cuts a video stream into units. The only errors are NoSequence, exactly where no sequence header stands, and want of
-/// memory.
+/// Cuts a video stream into units. The only errors are NoSequence at 0, exactly where no sequence header stands, and
+/// want of memory.
 pub fn split_units(alloc: Global, es: &[u8]) -> Result<Units, UnitFault>
     ensures units { IfOk result (λ units. units_of es.now ≡ Some units) }
-    ensures no_sequence { result ≡ Err UnitFault.NoSequence → first_sequence es.now ≡ None }
+    ensures no_sequence { (at : ℕ) → result ≡ Err (UnitFault.NoSequence at) → (at ≡ 0) × (first_sequence es.now ≡ None) }
 {
     let Some(first) = find_sequence(es) else {
-        return Err(UnitFault::NoSequence);
+        return Err(UnitFault::NoSequence { at: 0 });
     };
     let mut cuts = ListOf::new(alloc);
     let mut dropped: u32 = 0;

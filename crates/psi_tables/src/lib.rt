@@ -21,7 +21,7 @@ mod streams;
 
 pub use crc::crc32;
 pub use pat::{is_pat, read_pat, write_pat};
-pub use pmt::{PACKET_SECTION_BYTES, read_pmt, write_pmt};
+pub use pmt::{PACKET_SECTION_BYTES, pmt_length, read_pmt, write_pmt};
 pub use program_map::ProgramMap;
 pub use section::{SECTION_BYTES, Section, SectionFault};
 pub use section_builder::SectionBuilder;

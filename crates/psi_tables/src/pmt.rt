@@ -70,6 +70,13 @@ pub fn write_pmt(map: &ProgramMap, into: &mut Section) -> Result<(), SectionFaul
     Ok(())
 }
 
+/// Length in bytes of the PMT section that stands for the map, whether or not it is short enough for `write_pmt`.
+pub fn pmt_length(map: &ProgramMap) -> usize
+    ensures { result ≡ pmt_length map.now }
+{
+    HEADER_BYTES + MAP_BYTES + streams_length(map.streams.as_slice()) + CRC_BYTES
+}
+
 /// What the content of a PMT section says. None where descriptors and streams don't fill it, or have no room.
 #[tactic(auto, using(crate::proofs::Elements::elements))]
 fn read_map(content: &[u8], number: u16) -> Option<ProgramMap>

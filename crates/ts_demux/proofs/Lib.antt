@@ -1,2 +1,11 @@
-mod Examples
 pub mod PayloadLemmas
+pub mod Readings
+pub mod SectionLemmas
+pub mod TableLemmas
+pub mod TableSteps
+pub mod WalkSteps
+pub mod CarrySteps
+pub mod DemuxSteps
+pub mod Gathering
+pub mod GatherSteps
+mod Examples

@@ -1,2 +1,6 @@
 pub mod Payloads
+pub mod Faults
+pub mod Streams
+pub mod Tables
+pub mod Demux
 pub mod Private

@@ -1,1 +1,6 @@
 pub mod PayloadWalk
+pub mod SectionReader
+pub mod TableWalk
+pub mod PesGatherer
+pub mod StreamWalk
+pub mod CarriedStreams

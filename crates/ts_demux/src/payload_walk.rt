@@ -1,10 +1,9 @@
-ghost use Rattle.std.specs.Prelude.{◌≡◌, ℕ, ◌+◌, ◌<◌, ◌≤◌, [], ◌++◌, true, false, length, Option, None, IfSome};
+ghost use Rattle.std.specs.Prelude.{◌≡◌};
 ghost use Rattle.std.specs.Option.{option_map};
 ghost use Rattle.ts_packets.specs.Packet.{record_of};
-ghost use Rattle.ts_packets.specs.TransportStream.{piece_at, piece_count};
-ghost use Rattle.ts_demux.specs.Payloads.{payload_behind};
 ghost use Rattle.ts_demux.specs.Private.PayloadWalk.{payload_packet, repeats, Adds};
 
+use crate::file_packets::packet_at;
 use stream_constants::packets::PACKET_BYTES;
 use ts_packets::{Packet, pid_of};
 
@@ -48,17 +47,6 @@ impl<'a> PayloadWalk<'a> {
         }
         Added::Payload(packet.payload)
     }
-}
-
-/// The bytes of the n-th packet of a file.
-fn packet_at(file: &[u8], n: usize) -> Option<&[u8; PACKET_BYTES]>
-    ensures some { IfSome result (λ bytes. (n < piece_count file.now) × (bytes.now ≡ piece_at file.now n)) }
-    ensures none { result ≡ None → piece_count file.now ≤ n }
-{
-    if n >= file.len() / PACKET_BYTES {
-        return None;
-    }
-    file[n * PACKET_BYTES..].first_chunk()
 }
 
 /// The packet that the bytes are, where it is one of the PID with payload.

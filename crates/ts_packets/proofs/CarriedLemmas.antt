@@ -1,5 +1,5 @@
 -- What packets carry, and what is the last of them, one packet further.
-use Rattle.std.proofs.Common.{◌≡◌, ℕ, Bool, true, false, not, cond, ◌&&◌, nat_lt, ◌==◌, List, [], ◌∷◌, ◌++◌, length, map, filter, Option, Some, None, Result, Ok, Err, IfOk, refl, sym, ap, ◌∙◌, arith}
+use Rattle.std.proofs.Common.{◌≡◌, ℕ, ◌+◌, ◌<◌, ◌≤◌, Bool, true, false, not, cond, ◌&&◌, nat_lt, ◌==◌, List, [], ◌∷◌, ◌++◌, length, drop, map, filter, Option, Some, None, Result, Ok, Err, IfOk, IfSome, refl, sym, ap, ◌∙◌, subst, arith, length-drop}
 use Rattle.std.specs.Str.{bytes_eq}
 use Rattle.std.proofs.lemmas.Bool.{and_from, eq-eqb}
 use Rattle.std.proofs.lemmas.Slice.Eq.{bytes_eq-Decides}
@@ -11,7 +11,7 @@ use Rattle.std.proofs.lemmas.List.Elements.{filter-append, filter_map-append}
 use Rattle.payload_lists.specs.Payload.{CarriedPayload}
 use Rattle.ts_packets.specs.declared.packet.Packet.{Packet}
 use Rattle.ts_packets.specs.declared.pid_reader.PidReader.{PidReader}
-use Rattle.ts_packets.specs.Packet.{PacketRecord, record_of, packet_of}
+use Rattle.ts_packets.specs.Packet.{PacketRecord, record_of, packet_of, IsPacket, has_field, adaptation_field_length}
 use Rattle.ts_packets.specs.TransportStream.{Piece}
 use Rattle.ts_packets.specs.Carried.{PlacedPacket, placed, has_payload, payload_packets, is_repeat, not_repeated, without_repeats, carried_by, carried, last_payload}
 use Rattle.ts_packets.specs.PidReader.{is_none_there, IsBehind, carried_at}
@@ -155,6 +155,30 @@ no_payload n none = grind (arith, nat_tests)
 pub if_ok : {E : Type 0} (P Q : Option Packet → Type 0) (result : Result (Option Packet) E) → ((taken : Option Packet) → P taken → Q taken) → IfOk result P → IfOk result Q
 if_ok P Q (Ok taken) step is = step taken is
 if_ok P Q (Err fault) step is = is
+
+-- ---- how much a packet carries
+
+-- a packet's payload is what the header leaves at most
+pub payload_size : (packet : PacketRecord) (bytes : List ℕ) → IsPacket packet bytes → length packet.payload ≤ 184
+payload_size packet bytes is = subst (λ (p : PacketRecord). length p.payload ≤ 184) (sym is.fields) (by_field (has_field bytes) (adaptation_field_length bytes) is.size)
+  where
+    by_field : (some : Bool) (n : ℕ) → length bytes ≡ 188 → length (cond some (drop (5 + n) bytes) (drop 4 bytes)) ≤ 184
+    by_field true n size = omega (arith, length-drop (5 + n) bytes)
+    by_field false n size = omega (arith, length-drop 4 bytes)
+
+-- what is taken has some payload, and no more than that
+pub taken_fits : (packet : PacketRecord) (last : Option PacketRecord) (taken : Option Packet) → length packet.payload ≤ 184 → option_map record_of taken ≡ taken_packet packet last → IfSome taken (λ (p : Packet). (0 < length p.payload.now) × (length p.payload.now ≤ 184))
+taken_fits packet last None size is = tt
+taken_fits packet last (Some p) size is = by_test (nat_lt 0 (length packet.payload)) refl (not (option_map_or (is_repeat packet) last false)) is
+  where
+    by_test : (some : Bool) → nat_lt 0 (length packet.payload) ≡ some → (new : Bool) → Some (record_of p) ≡ cond (some && new) (Some packet) None → (0 < length p.payload.now) × (length p.payload.now ≤ 184)
+    by_test true some_is true e =
+        let same : record_of p ≡ packet = cc in
+        let count : length p.payload.now ≡ length packet.payload = ap (λ (r : PacketRecord). length r.payload) same in
+        let some : 0 < length packet.payload = grind (arith, nat_tests) in
+        (omega arith, omega arith)
+    by_test true some_is false e = absurd cc
+    by_test false some_is new e = absurd cc
 
 -- ---- a packet that comes again
 

@@ -22,7 +22,8 @@ pub struct PidReader<'a> {
 }
 
 impl<'a> PidReader<'a> {
-    ghost use Rattle.std.specs.Prelude.{◌≡◌, ℕ, List, [], ◌∷◌, ◌++◌, IfOk};
+    ghost use Rattle.std.specs.Prelude.{◌≡◌, ℕ, ◌<◌, ◌≤◌, List, [], ◌∷◌, ◌++◌, length, IfOk, IfSome};
+    ghost use Rattle.stream_constants.specs.declared.packets.TheConstants.{PAYLOAD_BYTES};
     ghost use Rattle.std.specs.Result.{result_err};
     ghost use Rattle.ts_packets.specs.TransportStream.{Piece};
     ghost use Rattle.ts_packets.specs.Carried.{carried, pid_fault};
@@ -45,6 +46,7 @@ impl<'a> PidReader<'a> {
             result_err result ≡ pid_fault before (record { at = at; bytes = bytes.now }) }
         ensures carried { (before : List Piece) (at : ℕ) → IsBehind before self.old →
             IfOk result (λ taken. carried (before ++ record { at = at; bytes = bytes.now } ∷ []) ≡ carried before ++ carried_at at taken) }
+        ensures fits { IfOk result (λ taken. IfSome taken (λ packet. (0 < length packet.payload.now) × (length packet.payload.now ≤ PAYLOAD_BYTES))) }
         ensures behind { (before : List Piece) (at : ℕ) → IsBehind before self.old →
             IsBehind (before ++ record { at = at; bytes = bytes.now } ∷ []) self.new }
     {

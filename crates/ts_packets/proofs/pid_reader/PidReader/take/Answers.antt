@@ -1,4 +1,4 @@
-use Rattle.std.proofs.Common.{◌≡◌, Bool, false, cond, [], ◌∷◌, ◌++◌, length, Option, Some, refl, sym, ap, ◌∙◌}
+use Rattle.std.proofs.Common.{◌≡◌, ◌<◌, ◌≤◌, IfSome, Bool, false, cond, [], ◌∷◌, ◌++◌, length, Option, Some, refl, sym, ap, ◌∙◌}
 use Rattle.std.specs.Option.{option_map}
 use Rattle.ts_packets.specs.declared.packet.Packet.{Packet}
 use Rattle.ts_packets.specs.Packet.{record_of, packet_of}
@@ -6,7 +6,7 @@ use Rattle.ts_packets.specs.TransportStream.{Piece}
 use Rattle.ts_packets.specs.Carried.{carried}
 use Rattle.ts_packets.specs.PidReader.{carried_at}
 use Rattle.ts_packets.specs.Private.PidReader.{taken_packet}
-use Rattle.ts_packets.proofs.CarriedLemmas.{behind_nothing, behind_packet, carried_taken, packets_none, packets_one, placed_at, some_payload, no_payload, if_ok}
+use Rattle.ts_packets.proofs.CarriedLemmas.{behind_nothing, behind_packet, carried_taken, packets_none, packets_one, placed_at, some_payload, no_payload, if_ok, payload_size, taken_fits}
 use Rattle.ts_packets.proofs.pid_reader.PidReader.take.Goals as goal
 use Rattle.ts_packets.proofs.pid_reader.PidReader.take.Goals.{then-not-is_empty, else-not-is_empty}
 
@@ -46,3 +46,10 @@ returns-clause-carried c before at behind =
     let last = option_map record_of c.args.self.now.last in
     if_ok (λ (taken : Option Packet). option_map record_of taken ≡ taken_packet (record_of packet) last) (λ (taken : Option Packet). carried (before ++ piece ∷ []) ≡ carried before ++ carried_at at taken) c.taken_behind.result
     (λ taken is. carried_taken before piece (record_of packet) last taken (sym c.in-Ok.ensures.exact) behind.last is) c.taken_behind.ensures.taken
+
+pub returns-clause-fits : goal.returns-clause-fits
+returns-clause-fits c =
+    let packet = c.in-Ok.packet in
+    let last = option_map record_of c.args.self.now.last in
+    if_ok (λ (taken : Option Packet). option_map record_of taken ≡ taken_packet (record_of packet) last) (λ (taken : Option Packet). IfSome taken (λ (p : Packet). (0 < length p.payload.now) × (length p.payload.now ≤ 184))) c.taken_behind.result
+    (λ taken is. taken_fits (record_of packet) last taken (payload_size (record_of packet) c.args.bytes.now c.in-Ok.ensures.packet) is) c.taken_behind.ensures.taken

@@ -1,0 +1,29 @@
+use Rattle.std.proofs.Common.{◌≡◌, ◌==◌, ℕ, true, false, Bool, refl, sym, ap, ◌∙◌, arith}
+use Rattle.std.proofs.lemmas.Bool.Decides.{nat_tests}
+use Rattle.psi_tables.specs.declared.stream.Stream.{Stream}
+use Rattle.ts_demux.proofs.CarrySteps.{among_more, among_here, among_none}
+use Rattle.ts_demux.proofs.carried_streams.has_pid.Goals as goal
+
+no_test : (pid other : ℕ) → (pid ≡ other → ⊥) → (pid == other) ≡ false
+no_test pid other apart = by_test (pid == other) refl
+  where
+    by_test : (is : Bool) → (pid == other) ≡ is → is ≡ false
+    by_test true is = let same : pid ≡ other = grind (arith, nat_tests) in absurd (apart same)
+    by_test false is = refl
+
+yes_test : (pid other : ℕ) → pid ≡ other → (pid == other) ≡ true
+yes_test pid other same = grind (arith, nat_tests)
+
+pub returns-then-stream-pid : goal.returns-then-stream-pid
+returns-then-stream-pid c =
+    let item = c.stream-item.result in
+    let pid_is = sym (ap (λ (s : Stream). s.pid) c.stream-item.is) ∙ c.if-stream-pid.true in
+    sym (among_here c.args.streams.now c.args.pid c.loop-stream.stream-index item c.loop-stream-test.true (yes_test _ c.args.pid pid_is) c.loop-stream.invariant)
+
+pub loop-stream-preserved : goal.loop-stream-preserved
+loop-stream-preserved c =
+    let item = c.stream-item.result in
+    among_more c.args.streams.now c.args.pid c.loop-stream.stream-index item c.loop-stream-test.true (no_test _ c.args.pid (λ same. c.if-stream-pid.false (ap (λ (s : Stream). s.pid) c.stream-item.is ∙ same))) c.loop-stream.invariant
+
+pub returns : goal.returns
+returns c = sym (among_none c.args.streams.now c.args.pid c.loop-stream.stream-index (omega arith) c.loop-stream.invariant)

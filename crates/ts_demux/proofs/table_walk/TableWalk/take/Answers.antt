@@ -1,0 +1,35 @@
+use Rattle.std.proofs.Common.{◌≡◌, ◌==◌, ℕ, Bool, true, false, refl, sym, ◌∙◌, subst, arith}
+use Rattle.std.proofs.lemmas.Bool.Decides.{nat_tests}
+use Rattle.ts_demux.specs.declared.demux_fault.DemuxFault.TheVariants.{Sync}
+use Rattle.ts_demux.specs.Tables.{pat_pid, refuse, StopsFirst}
+use Rattle.ts_demux.proofs.WalkSteps.{is_of, on_map, not_on_map, other_goes_on, sync_refuses}
+use Rattle.ts_demux.proofs.table_walk.TableWalk.take.Goals as goal
+
+no_test : (pid : ℕ) → (pid ≡ 0 → ⊥) → (pid == 0) ≡ false
+no_test pid other = by_test (pid == 0) refl
+  where
+    by_test : (is : Bool) → (pid == 0) ≡ is → is ≡ false
+    by_test true is = let same : pid ≡ 0 = grind (arith, nat_tests) in absurd (other same)
+    by_test false is = refl
+
+yes_test : (pid : ℕ) → pid ≡ 0 → (pid == 0) ≡ true
+yes_test pid same = grind (arith, nat_tests)
+
+pub returns-in_default : goal.returns-in_default
+returns-in_default c =
+    subst (λ at. StopsFirst c.args.file.now c.args.self.now.program (refuse (Sync at))) (sym c.place_of.ensures)
+    (sync_refuses c.args.file.now c.args.n c.args.self.now c.args.bytes.now c.requires.within c.requires.bytes c.in_default.ensures.sync.1 c.requires.between)
+
+pub take_pat_packet-requires-clause-of_pid : goal.take_pat_packet-requires-clause-of_pid
+take_pat_packet-requires-clause-of_pid c = is_of c.args.file.now c.args.n c.in-Ok.pid pat_pid c.args.bytes.now true c.requires.bytes c.in-Ok.ensures.pid.1 (yes_test c.in-Ok.pid c.if-pid-eq-PAT_PID.true)
+
+pub take_map_packet-requires-clause-of_pid : goal.take_map_packet-requires-clause-of_pid
+take_map_packet-requires-clause-of_pid c = on_map c.args.file.now c.args.n c.in-Ok.pid c.args.bytes.now c.args.self.now.known c.requires.bytes c.in-Ok.ensures.pid.1 c.if-pid-eq-PAT_PID.false (sym c.is_map_on.ensures ∙ c.if-is_map_on.true)
+
+pub returns : goal.returns
+returns c = (
+  other_goes_on c.args.file.now c.args.n c.args.self.now c.args.bytes.now c.requires.bytes c.in-Ok.ensures.pid.0
+      (is_of c.args.file.now c.args.n c.in-Ok.pid pat_pid c.args.bytes.now false c.requires.bytes c.in-Ok.ensures.pid.1 (no_test c.in-Ok.pid c.if-pid-eq-PAT_PID.false))
+      (not_on_map c.args.file.now c.args.n c.in-Ok.pid c.args.bytes.now c.args.self.now.known c.requires.bytes c.in-Ok.ensures.pid.1 (sym c.is_map_on.ensures ∙ c.if-is_map_on.false)) c.requires.between,
+  refl,
+)

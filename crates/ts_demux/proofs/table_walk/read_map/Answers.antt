@@ -1,0 +1,15 @@
+use Rattle.std.proofs.Common.{ℕ, subst, sym, refl}
+use Rattle.ts_demux.specs.Private.TableWalk.{missing_of}
+use Rattle.ts_demux.specs.Tables.{IsTablesFault}
+use Rattle.ts_demux.proofs.WalkSteps.{ends_missing}
+use Rattle.ts_demux.proofs.table_walk.read_map.Goals as goal
+
+pub loop-bytes-init : goal.loop-bytes-init
+loop-bytes-init c = record { between = c.new-walk.ensures.between c.args.file.now; program = c.new-walk.ensures.program }
+
+pub returns : goal.returns
+returns c =
+    let walk = c.loop-bytes.walk in
+    subst (λ fault. IsTablesFault c.args.file.now c.args.program fault) (sym c.missing.ensures)
+    (subst (λ (program : ℕ). IsTablesFault c.args.file.now program (missing_of walk.known)) c.loop-bytes.invariant.program
+    (ends_missing c.args.file.now c.loop-bytes.n walk walk.known refl (c.packet_at.ensures.none c.in_default.is) c.loop-bytes.invariant.between))

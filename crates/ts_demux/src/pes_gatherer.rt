@@ -1,0 +1,153 @@
+ghost use Rattle.std.specs.Prelude.{◌≡◌, ℕ, [], ◌∷◌, ◌++◌, ◌+◌, ◌*◌, ◌^◌, ◌<◌, OnOk, IfOk, IfErr};
+ghost use Rattle.stream_constants.specs.declared.packets.TheConstants.{PACKET_BYTES};
+ghost use Rattle.ts_packets.specs.Packet.{packet_identifier};
+ghost use Rattle.ts_packets.specs.TransportStream.{piece_at, piece_count};
+ghost use Rattle.ts_demux.specs.declared.demux_fault.DemuxFault.TheVariants.{OutOfMemory};
+ghost use Rattle.ts_demux.specs.Private.PesGatherer.{gathered_of, longer, gathered_more, IsInOrder, IsSame, IsClosed, Gathers, GathersMore};
+
+use crate::demux_fault::{DemuxFault, pid_refused};
+use crate::demuxed::PesUnit;
+use crate::file_packets::place_of;
+use list_types::ListOf;
+use std::alloc::Global;
+use std::mem;
+use stream_constants::packets::PACKET_BYTES;
+use ts_packets::PidReader;
+
+/// Gathers the PES packets of one PID (ISO/IEC 13818-1, 2.4.3.3).
+#[derive(Drop)]
+pub struct PesGatherer<'a> {
+    pub pid: u16,
+    packets: PidReader<'a>,
+    /// The PES packets before the last one.
+    whole: Vec<PesUnit>,
+    /// The place where the last one begins, once one has begun.
+    begun: Option<u64>,
+    /// The bytes of the last one.
+    bytes: Vec<u8>,
+}
+
+impl<'a> PesGatherer<'a> {
+    ghost use Rattle.std.specs.Prelude.{List, ℕ};
+
+    /// A gatherer of no packet.
+    pub fn new(alloc: Global, pid: u16) -> Self
+        ensures gathers { (file : List ℕ) → Gathers file 0 result }
+        ensures pid { result.pid ≡ pid }
+    {
+        PesGatherer {
+            pid,
+            packets: PidReader::new(),
+            whole: Vec::new(alloc),
+            begun: None,
+            bytes: Vec::new(alloc),
+        }
+    }
+
+    /// Takes the n-th packet of a file, which is of the PID `pid`. Any other PID than the gatherer's is passed over.
+    pub fn take(
+        &mut self,
+        alloc: Global,
+        file: &[u8],
+        n: usize,
+        pid: u16,
+        bytes: &'a [u8; PACKET_BYTES],
+    ) -> Result<(), DemuxFault>
+        requires within { n < piece_count file.now }
+        requires bytes { bytes.now ≡ piece_at file.now n }
+        requires pid { pid ≡ packet_identifier bytes.now }
+        requires place { PACKET_BYTES * n < 2 ^ 64 }
+        requires before { Gathers file.now n self.old }
+        ensures { GathersMore file.now n self.old result self.new }
+    {
+        if pid != self.pid {
+            return Ok(());
+        }
+        let taken = match self.packets.take(bytes) {
+            Ok(taken) => taken,
+            Err(fault) => return Err(pid_refused(place_of(n), fault)),
+        };
+        let Some(packet) = taken else {
+            return Ok(());
+        };
+        self.add(alloc, place_of(n), packet.start, packet.payload)
+    }
+
+    /// Adds a payload, which isn't empty, of the packet at a place.
+    fn add(&mut self, alloc: Global, at: u64, start: bool, payload: &[u8]) -> Result<(), DemuxFault>
+        requires { IsInOrder self.old }
+        ensures ok { OnOk result (gathered_of self.new ≡ gathered_more (gathered_of self.old) at start payload.now) }
+        ensures order { OnOk result (IsInOrder self.new) }
+        ensures same { OnOk result (IsSame self.old self.new) }
+        ensures memory { IfErr result (λ fault. fault ≡ OutOfMemory) }
+    {
+        if start {
+            self.begin(alloc, at, payload)
+        } else {
+            self.go_on(payload)
+        }
+    }
+
+    /// Begins a PES packet.
+    fn begin(&mut self, alloc: Global, at: u64, payload: &[u8]) -> Result<(), DemuxFault>
+        ensures ok { OnOk result (gathered_of self.new ≡ gathered_of self.old ++ record { at = at; bytes = payload.now } ∷ []) }
+        ensures order { OnOk result (IsInOrder self.new) }
+        ensures same { OnOk result (IsSame self.old self.new) }
+        ensures memory { IfErr result (λ fault. fault ≡ OutOfMemory) }
+    {
+        self.close(alloc)?;
+        self.begun = Some(at);
+        self.bytes.clear();
+        self.bytes.extend_from_slice(payload)?;
+        Ok(())
+    }
+
+    /// Goes on with the last PES packet, where one has begun.
+    fn go_on(&mut self, payload: &[u8]) -> Result<(), DemuxFault>
+        requires { IsInOrder self.old }
+        ensures ok { OnOk result (gathered_of self.new ≡ longer (gathered_of self.old) payload.now) }
+        ensures order { OnOk result (IsInOrder self.new) }
+        ensures same { OnOk result (IsSame self.old self.new) }
+        ensures memory { IfErr result (λ fault. fault ≡ OutOfMemory) }
+    {
+        let Some(_) = self.begun else {
+            return Ok(());
+        };
+        self.bytes.extend_from_slice(payload)?;
+        Ok(())
+    }
+
+    /// Ends the last PES packet, where there is one.
+    fn close(&mut self, alloc: Global) -> Result<(), DemuxFault>
+        ensures ok { OnOk result (IsClosed self.old self.new) }
+        ensures memory { IfErr result (λ fault. fault ≡ OutOfMemory) }
+    {
+        let Some(at) = self.begun else {
+            return Ok(());
+        };
+        let bytes = mem::replace(&mut self.bytes, Vec::new(alloc));
+        self.begun = None;
+        self.whole.push(PesUnit {
+            at,
+            bytes: ListOf::from_vec(bytes),
+        })?;
+        Ok(())
+    }
+
+    /// All PES packets.
+    pub fn into_units(self, alloc: Global) -> Result<ListOf<PesUnit>, DemuxFault>
+        ensures ok { IfOk result (λ units. units ≡ gathered_of self.entry) }
+        ensures memory { IfErr result (λ fault. fault ≡ OutOfMemory) }
+    {
+        let mut gatherer = self;
+        gatherer.close(alloc)?;
+        let PesGatherer {
+            pid: _,
+            packets: _,
+            whole,
+            begun: _,
+            bytes: _,
+        } = gatherer;
+        Ok(ListOf::from_vec(whole))
+    }
+}

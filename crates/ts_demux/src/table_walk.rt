@@ -1,0 +1,306 @@
+ghost use Rattle.std.specs.Prelude.{◌≡◌, ℕ, ◌+◌, ◌*◌, ◌^◌, ◌<◌, true, Ok, MatchResult, length};
+ghost use Rattle.ts_packets.specs.Packet.{sync_byte};
+ghost use Rattle.stream_constants.specs.declared.packets.TheConstants.{PACKET_BYTES};
+ghost use Rattle.ts_packets.specs.TransportStream.{piece_at, piece_count, is_of_pid};
+ghost use Rattle.psi_tables.specs.Sections.{sections_of};
+ghost use Rattle.ts_demux.specs.declared.table_walk.Reading.TheVariants.{GoesOn};
+ghost use Rattle.ts_demux.specs.Tables.{HasMap, IsTablesFault};
+ghost use Rattle.ts_demux.specs.Private.TableWalk.{IsBetween, IsInPat, IsInMap, IsOnMapPid, Reads, Ends, ReadsPat, ReadsMap, missing_of, is_on_pat_pid, is_map_on};
+
+use crate::demux_fault::{DemuxFault, pid_refused, section_refused};
+use crate::file_packets::{packet_at, place_of};
+use crate::section_reader::SectionReader;
+use psi_tables::{ProgramMap, Section, SectionFault, is_pat, read_pat, read_pmt};
+use stream_constants::packets::PACKET_BYTES;
+use ts_packets::pid_of;
+
+/// The PID of the PAT (ISO/IEC 13818-1, Table 2-3).
+const PAT_PID: u16 = 0;
+
+/// What is known of the tables of a program.
+#[derive(Clone, Copy)]
+pub enum Known {
+    /// No current PAT section was read.
+    Nothing,
+    /// Those that were read don't name the program.
+    OtherPrograms,
+    /// The PMT is on this PID, whose packets count from this number on.
+    MapOn { pid: u16, from: usize },
+}
+
+impl Known {
+    /// True where the PMT is on this PID.
+    fn is_map_on(self, other: u16) -> bool
+        ensures { result ≡ is_map_on self other }
+    {
+        match self {
+            Known::Nothing => false,
+            Known::OtherPrograms => false,
+            Known::MapOn { pid, from: _ } => other == pid,
+        }
+    }
+
+    /// True where the PMT is on PID 0 too.
+    fn is_on_pat_pid(self) -> bool
+        ensures { result ≡ is_on_pat_pid self }
+    {
+        match self {
+            Known::Nothing => false,
+            Known::OtherPrograms => false,
+            Known::MapOn { pid, from: _ } => pid == PAT_PID,
+        }
+    }
+}
+
+/// What comes of one section.
+#[derive(Drop)]
+pub enum Reading {
+    /// No section waits.
+    AllRead,
+    /// It decides nothing.
+    GoesOn,
+    /// It is the program's PMT section.
+    Map(ProgramMap),
+}
+
+/// Goes over the packets of a file and reads the tables of a program.
+#[derive(Drop)]
+pub struct TableWalk<'a> {
+    program: u16,
+    known: Known,
+    /// The sections of PID 0.
+    pat: SectionReader<'a>,
+    /// Those of the PMT's PID, where that is another.
+    map: SectionReader<'a>,
+}
+
+impl<'a> TableWalk<'a> {
+    ghost use Rattle.std.specs.Prelude.{List, ℕ};
+
+    /// A walk before the first packet.
+    fn new(program: u16) -> Self
+        ensures between { (file : List ℕ) → IsBetween file 0 result }
+        ensures program { result.program ≡ program }
+    {
+        TableWalk {
+            program,
+            known: Known::Nothing,
+            pat: SectionReader::new(),
+            map: SectionReader::new(),
+        }
+    }
+
+    /// Reads the n-th packet of a file.
+    fn take(
+        &mut self,
+        file: &[u8],
+        n: usize,
+        bytes: &'a [u8; PACKET_BYTES],
+    ) -> Result<Option<ProgramMap>, DemuxFault>
+        requires within { n < piece_count file.now }
+        requires bytes { bytes.now ≡ piece_at file.now n }
+        requires place { PACKET_BYTES * n < 2 ^ 64 }
+        requires between { IsBetween file.now n self.old }
+        ensures { Ends file.now self.old.program result (IsBetween file.now (n + 1) self.new × (self.new.program ≡ self.old.program)) }
+    {
+        let Ok(pid) = pid_of(bytes) else {
+            return Err(DemuxFault::Sync { at: place_of(n) });
+        };
+        if pid == PAT_PID {
+            return self.take_pat_packet(file, n, bytes);
+        }
+        if self.known.is_map_on(pid) {
+            return self.take_map_packet(file, n, bytes);
+        }
+        Ok(None)
+    }
+
+    /// Reads a packet of PID 0.
+    fn take_pat_packet(
+        &mut self,
+        file: &[u8],
+        n: usize,
+        bytes: &'a [u8; PACKET_BYTES],
+    ) -> Result<Option<ProgramMap>, DemuxFault>
+        requires within { n < piece_count file.now }
+        requires bytes { bytes.now ≡ piece_at file.now n }
+        requires place { PACKET_BYTES * n < 2 ^ 64 }
+        requires sync { sync_byte bytes.now ≡ 0x47 }
+        requires of_pid { is_of_pid file.now 0 n ≡ true }
+        requires between { IsBetween file.now n self.old }
+        ensures { Ends file.now self.old.program result (IsBetween file.now (n + 1) self.new × (self.new.program ≡ self.old.program)) }
+    {
+        match self.pat.take(bytes) {
+            Ok(()) => self.read_pat_sections(file, n),
+            Err(fault) => Err(pid_refused(place_of(n), fault)),
+        }
+    }
+
+    /// Reads the sections of PID 0 that wait behind the n-th packet.
+    fn read_pat_sections(&mut self, file: &[u8], n: usize) -> Result<Option<ProgramMap>, DemuxFault>
+        requires place { PACKET_BYTES * n < 2 ^ 64 }
+        requires within { IsInPat file.now n self.old }
+        ensures { Ends file.now self.old.program result (IsBetween file.now (n + 1) self.new × (self.new.program ≡ self.old.program)) }
+    {
+        loop {
+            match self.read_pat_section(file, n) {
+                Ok(Reading::AllRead) => return Ok(None),
+                Ok(Reading::GoesOn) => {}
+                Ok(Reading::Map(map)) => return Ok(Some(map)),
+                Err(fault) => return Err(fault),
+            }
+        }
+    }
+
+    /// Reads a packet of the PMT's PID, which isn't PID 0.
+    fn take_map_packet(
+        &mut self,
+        file: &[u8],
+        n: usize,
+        bytes: &'a [u8; PACKET_BYTES],
+    ) -> Result<Option<ProgramMap>, DemuxFault>
+        requires within { n < piece_count file.now }
+        requires bytes { bytes.now ≡ piece_at file.now n }
+        requires place { PACKET_BYTES * n < 2 ^ 64 }
+        requires sync { sync_byte bytes.now ≡ 0x47 }
+        requires of_pid { IsOnMapPid file.now n self.old.known }
+        requires between { IsBetween file.now n self.old }
+        ensures { Ends file.now self.old.program result (IsBetween file.now (n + 1) self.new × (self.new.program ≡ self.old.program)) }
+    {
+        match self.map.take(bytes) {
+            Ok(()) => self.read_map_sections(file, n),
+            Err(fault) => Err(pid_refused(place_of(n), fault)),
+        }
+    }
+
+    /// Reads the sections of the PMT's PID that wait behind the n-th packet.
+    fn read_map_sections(&mut self, file: &[u8], n: usize) -> Result<Option<ProgramMap>, DemuxFault>
+        requires place { PACKET_BYTES * n < 2 ^ 64 }
+        requires within { IsInMap file.now n self.old }
+        ensures { Ends file.now self.old.program result (IsBetween file.now (n + 1) self.new × (self.new.program ≡ self.old.program)) }
+    {
+        loop {
+            match self.read_map_section(file, n) {
+                Ok(Reading::AllRead) => return Ok(None),
+                Ok(Reading::GoesOn) => {}
+                Ok(Reading::Map(map)) => return Ok(Some(map)),
+                Err(fault) => return Err(fault),
+            }
+        }
+    }
+
+    /// Reads the next section of PID 0 that waits behind the n-th packet.
+    fn read_pat_section(&mut self, file: &[u8], n: usize) -> Result<Reading, DemuxFault>
+        requires place { PACKET_BYTES * n < 2 ^ 64 }
+        requires within { IsInPat file.now n self.old }
+        ensures read { Reads file.now self.old.program result (IsInPat file.now n self.new × (self.new.program ≡ self.old.program)) (IsBetween file.now (n + 1) self.new × (self.new.program ≡ self.old.program)) }
+        ensures fewer { result ≡ Ok GoesOn → length (sections_of self.new.pat.builder) < length (sections_of self.old.pat.builder) }
+    {
+        let Some(found) = self.pat.next() else {
+            return Ok(Reading::AllRead);
+        };
+        let section = match found {
+            Ok(section) => section,
+            Err(fault) => return Err(section_refused(place_of(n), fault)),
+        };
+        let known = self.known;
+        match known_behind(known, &section, self.program, n) {
+            Ok(known) => self.known = known,
+            Err(fault) => return Err(section_refused(place_of(n), fault)),
+        }
+        if !known.is_on_pat_pid() {
+            return Ok(Reading::GoesOn);
+        }
+        read_program_map(&section, self.program, n)
+    }
+
+    /// Reads the next section of the PMT's PID that waits behind the n-th packet.
+    fn read_map_section(&mut self, file: &[u8], n: usize) -> Result<Reading, DemuxFault>
+        requires place { PACKET_BYTES * n < 2 ^ 64 }
+        requires within { IsInMap file.now n self.old }
+        ensures read { Reads file.now self.old.program result (IsInMap file.now n self.new × (self.new.program ≡ self.old.program)) (IsBetween file.now (n + 1) self.new × (self.new.program ≡ self.old.program)) }
+        ensures fewer { result ≡ Ok GoesOn → length (sections_of self.new.map.builder) < length (sections_of self.old.map.builder) }
+    {
+        let Some(found) = self.map.next() else {
+            return Ok(Reading::AllRead);
+        };
+        let section = match found {
+            Ok(section) => section,
+            Err(fault) => return Err(section_refused(place_of(n), fault)),
+        };
+        read_program_map(&section, self.program, n)
+    }
+
+    /// Why no PMT section was taken, at the file's end.
+    fn missing(&self) -> DemuxFault
+        ensures { result ≡ missing_of self.now.known }
+    {
+        match self.known {
+            Known::Nothing => DemuxFault::NoPat { at: 0 },
+            Known::OtherPrograms => DemuxFault::NoProgram { at: 0 },
+            Known::MapOn { pid: _, from: _ } => DemuxFault::NoPmt { at: 0 },
+        }
+    }
+}
+
+/// What is known behind a section of PID 0 that the n-th packet completes. The only error is BadSection.
+fn known_behind(
+    known: Known,
+    section: &Section,
+    program: u16,
+    n: usize,
+) -> Result<Known, SectionFault>
+    requires { PACKET_BYTES * n < 2 ^ 64 }
+    ensures { ReadsPat program section.now.items n known result }
+{
+    let is_pat = is_pat(section);
+    let named = match read_pat(section, program) {
+        Ok(named) => named,
+        Err(fault) => return Err(fault),
+    };
+    if let Known::MapOn { pid: _, from: _ } = known {
+        return Ok(known);
+    }
+    let Some(pid) = named else {
+        if is_pat {
+            return Ok(Known::OtherPrograms);
+        }
+        return Ok(known);
+    };
+    Ok(Known::MapOn { pid, from: n + 1 })
+}
+
+/// What comes of a section of the PMT's PID that the n-th packet completes.
+fn read_program_map(section: &Section, program: u16, n: usize) -> Result<Reading, DemuxFault>
+    requires { PACKET_BYTES * n < 2 ^ 64 }
+    ensures { ReadsMap program section.now.items (PACKET_BYTES * n) result }
+{
+    let said = match read_pmt(section) {
+        Ok(said) => said,
+        Err(fault) => return Err(section_refused(place_of(n), fault)),
+    };
+    let Some(map) = said else {
+        return Ok(Reading::GoesOn);
+    };
+    if map.number != program {
+        return Ok(Reading::GoesOn);
+    }
+    Ok(Reading::Map(map))
+}
+
+/// The map of a program: what the first current PMT section of the program's number says, on the PID that the first
+/// current PAT section that names it says. An error is the first refusal up to it.
+pub fn read_map(file: &[u8], program: u16) -> Result<ProgramMap, DemuxFault>
+    ensures { MatchResult result (HasMap file.now program) (IsTablesFault file.now program) }
+{
+    let mut walk = TableWalk::new(program);
+    let mut n = 0;
+    while let Some(bytes) = packet_at(file, n) {
+        match walk.take(file, n, bytes) {
+            Ok(None) => n += 1,
+            Ok(Some(map)) => return Ok(map),
+            Err(fault) => return Err(fault),
+        }
+    }
+    Err(walk.missing())
+}
