@@ -1,0 +1,125 @@
+-- Steps of readers, one behind another.
+use Rattle.std.proofs.Common.{◌≡◌, ◌+◌, ◌-◌, ◌^◌, ◌<◌, ◌≤◌, ℕ, List, length, Option, Some, None, IfSome, Result, Ok, Err, MatchResult, IsErrOf, IsErrAnd, refl, sym, ap, subst, ◌∙◌, inl, inr, arith}
+use Rattle.std.proofs.lemmas.Bool.{cases_lt}
+use Rattle.std.proofs.lemmas.List.{drop-drop}
+use Rattle.shelf_io.specs.declared.fault.Fault.TheVariants.{Failed, Missing}
+use Rattle.shelf_io.specs.declared.source.Source.{Ghosts}
+use Rattle.shelf_io.specs.Counts.{Rose}
+use Rattle.shelf_io.specs.Source.{without_front}
+use Rattle.bit_cursor.specs.declared.bit_reader.BitReader.{BitReader}
+use Rattle.bit_cursor.specs.BitReader.{source_of, bits_held, place, faults_of, absences_of}
+use Rattle.bit_cursor.proofs.Source.{keeps_then}
+use Rattle.picture_grammar.specs.Grammar.{Grammar, done, ◌>>=◌}
+use Rattle.grammar_reading.specs.BitsRead.{PlacedRefusal}
+use Rattle.video_headers.specs.declared.fault.HeadFault.{HeadFault}
+use Rattle.video_headers.specs.declared.fault.HeadFault.TheVariants.{Outside}
+use Rattle.video_headers.specs.HeadFault.{refusal_told}
+use Rattle.video_headers.specs.Private.Reading.{Goes, Stops, Runs, Answers}
+
+pub goes-done : {A : Type 0} (value : A) (from : ℕ → List ℕ → Type 0) → Goes (done value) value from from
+goes-done value from = record { on = λ end bits left. (bits, (refl, refl), left) }
+
+pub goes-bind : {A B : Type 0} {first : Grammar A} {a : A} {from middle : ℕ → List ℕ → Type 0} (next : A → Grammar B) {value : B} {to : ℕ → List ℕ → Type 0}
+    → Goes first a from middle → Goes (next a) value middle to → Goes (first >>= next) value from to
+goes-bind {a = a} next f g = record {
+  on = λ end bits left.
+      let (m, s, left') = f.on end bits left in
+      let (rest, t, left'') = g.on end m left' in
+      (rest, (a, m, s, t), left'');
+}
+
+behind_told : {A B : Type 0} (first : Grammar A) (a : A) (next : A → Grammar B) (told : Option PlacedRefusal) (end : ℕ) (bits m : List ℕ) → first.Spells a bits m
+    → IfSome told (λ said. (left : List ℕ) × (next a).Refuses m said.refusal left × (said.at + length left ≡ end))
+    → IfSome told (λ said. (left : List ℕ) × (first >>= next).Refuses bits said.refusal left × (said.at + length left ≡ end))
+behind_told first a next None end bits m s why = tt
+behind_told first a next (Some said) end bits m s (left, r, e) = (left, inr (a, m, s, r), e)
+
+pub stops-behind : {A B : Type 0} {first : Grammar A} {a : A} {from middle : ℕ → List ℕ → Type 0} (next : A → Grammar B) {told : Option PlacedRefusal}
+    → Goes first a from middle → Stops (next a) told middle → Stops (first >>= next) told from
+stops-behind {first = first} {a = a} next {told} f g = record {
+  why = λ end bits left.
+      let (m, s, left') = f.on end bits left in
+      behind_told first a next told end bits m s (g.why end m left');
+}
+
+first_told : {A B : Type 0} (first : Grammar A) (next : A → Grammar B) (told : Option PlacedRefusal) (end : ℕ) (bits : List ℕ)
+    → IfSome told (λ said. (left : List ℕ) × first.Refuses bits said.refusal left × (said.at + length left ≡ end))
+    → IfSome told (λ said. (left : List ℕ) × (first >>= next).Refuses bits said.refusal left × (said.at + length left ≡ end))
+first_told first next None end bits why = tt
+first_told first next (Some said) end bits (left, r, e) = (left, inl r, e)
+
+pub stops-first : {A B : Type 0} {first : Grammar A} {from : ℕ → List ℕ → Type 0} (next : A → Grammar B) {told : Option PlacedRefusal} → Stops first told from → Stops (first >>= next) told from
+stops-first {first = first} next {told} f = record { why = λ end bits left. first_told first next told end bits (f.why end bits left) }
+
+-- ---- whole answers
+
+pub runs-none : {S : Type 0} {g : Ghosts S} (reader : BitReader S g) → ((x : S) → g.keeps x x) → Runs reader reader
+runs-none {g = g} reader itself = record {
+  keeps = record { same_source = refl; keeps = itself _; faults = omega arith; absences = omega arith };
+  count = 0;
+  taken = record { rest = none_taken (g.left (source_of reader).now); fewer = omega arith };
+  counted = omega arith;
+} where
+  none_taken : (told : Option (List ℕ)) → told ≡ without_front told 0
+  none_taken None = refl
+  none_taken (Some bytes) = refl
+
+taken-twice : (told middle after : Option (List ℕ)) (m n : ℕ) → middle ≡ without_front told m → after ≡ without_front middle n → after ≡ without_front told (m + n)
+taken-twice None middle after m n e f = f ∙ ap (λ t. without_front t n) e
+taken-twice (Some bytes) middle after m n e f = f ∙ ap (λ t. without_front t n) e ∙ ap Some (drop-drop n m bytes)
+
+rose_later : (a b c : ℕ) → a ≤ b → b ≤ c → Rose b c → Rose a c
+rose_later a b c first then rose small = elim (cases_lt b (2 ^ 64 - 1)) [
+  | inl below ↦ let more : b < c = rose below in omega arith
+  | inr full ↦ omega arith
+]
+
+gives-bind : {A B W : Type 0} {first : Grammar A} (next : A → Grammar B) (a : A) (value : W → B) (result : Result W HeadFault) {from : ℕ → List ℕ → Type 0} (to : ℕ → List ℕ → Type 0) (last : W → ℕ → List ℕ → Type 0)
+    → Goes first a from to → MatchResult result (λ w. Goes (next a) (value w) to (last w)) (λ fault. Stops (next a) (refusal_told fault) to)
+    → MatchResult result (λ w. Goes (first >>= next) (value w) from (last w)) (λ fault. Stops (first >>= next) (refusal_told fault) from)
+gives-bind next a value (Ok w) to last f h = goes-bind next f h
+gives-bind next a value (Err fault) to last f h = stops-behind next f h
+
+module _ {S : Type 0} {g : Ghosts S} (keeps_on : (x y z : S) → g.keeps x y → g.keeps y z → g.keeps x z) where
+  pub runs-then : {old middle new : BitReader S g} → Runs old middle → Runs middle new → Runs old new
+  runs-then a b = record {
+    keeps = keeps_then keeps_on a.keeps b.keeps;
+    count = a.count + b.count;
+    taken = record { rest = taken-twice _ _ _ a.count b.count a.taken.rest b.taken.rest; fewer = omega (arith, a.taken.fewer, b.taken.fewer) };
+    counted = omega (arith, a.counted, b.counted);
+  }
+
+  pub answers-bind : {A B V W : Type 0} {first : Grammar A} (next : A → Grammar B) {make : V → A} {v : V} {value : W → B} {result : Result W HeadFault} {from : ℕ → List ℕ → Type 0} {to : V → ℕ → List ℕ → Type 0} {last : W → ℕ → List ℕ → Type 0}
+      {old middle new : BitReader S g} → Answers first make (Ok v) from to old middle → Answers (next (make v)) value result (to v) last middle new → Answers (first >>= next) value result from last old new
+  answers-bind next {make = make} {v = v} {value = value} {result = result} {to = to} {last = last} a b = record {
+    gives = gives-bind next (make v) value result (to v) last a.gives b.gives;
+    runs = runs-then a.runs b.runs;
+    failed = λ is. rose_later _ _ _ a.runs.keeps.faults b.runs.keeps.faults (b.failed is);
+    missing = λ is. rose_later _ _ _ a.runs.keeps.absences b.runs.keeps.absences (b.missing is);
+  }
+
+pub answers-exit : {A B V W : Type 0} {first : Grammar A} (next : A → Grammar B) {make : V → A} {e : HeadFault} {value : W → B} (result : Result W HeadFault) {from : ℕ → List ℕ → Type 0} {to : V → ℕ → List ℕ → Type 0} {last : W → ℕ → List ℕ → Type 0}
+    {S : Type 0} {g : Ghosts S} {old new : BitReader S g} → IsErrAnd result (λ f. f ≡ e) → Answers first make (Err e) from to old new → Answers (first >>= next) value result from last old new
+answers-exit next (Ok w) is a = absurd is
+answers-exit {first = first} next {e = e} {value = value} (Err fault) {from = from} {last = last} {old = old} {new = new} is a =
+    subst (λ (f : HeadFault). Answers (first >>= next) value (Err f) from last old new) (sym is) (record {
+      gives = stops-first next a.gives;
+      runs = a.runs;
+      failed = λ is. a.failed (let e = is in cc);
+      missing = λ is. a.missing (let e = is in cc);
+    })
+
+pub answers-done : {A V : Type 0} (made : A) {value : V → A} (v : V) {from : ℕ → List ℕ → Type 0} {S : Type 0} {g : Ghosts S} (reader : BitReader S g) → ((x : S) → g.keeps x x) → value v ≡ made
+    → Answers (done made) value (Ok v) from (λ v. from) reader reader
+answers-done made {value} v {from} reader itself is = record {
+  gives = subst (λ (x : _). Goes (done made) x from from) (sym is) (goes-done made from);
+  runs = runs-none reader itself;
+  failed = λ is. cc;
+  missing = λ is. cc;
+}
+
+pub answers-of : {A V : Type 0} {grammar : Grammar A} {value : V → A} {result : Result V HeadFault} {from : ℕ → List ℕ → Type 0} {to : V → ℕ → List ℕ → Type 0} {S : Type 0} {g : Ghosts S} {old new : BitReader S g}
+    → MatchResult result (λ v. Goes grammar (value v) from (to v)) (λ fault. Stops grammar (refusal_told fault) from) → Runs old new
+    → (IsErrOf result (Outside Failed) → Rose (faults_of old) (faults_of new)) → (IsErrOf result (Outside Missing) → Rose (absences_of old) (absences_of new))
+    → Answers grammar value result from to old new
+answers-of gives runs failed missing = record { gives = gives; runs = runs; failed = failed; missing = missing }
