@@ -1,5 +1,7 @@
 pub mod Flags
 pub mod Limited
 pub mod Reading
+pub mod Repeats
 pub mod Rules
 pub mod ToldFields
+pub mod Zigzag

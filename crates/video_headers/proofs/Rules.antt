@@ -4,6 +4,11 @@ use Rattle.std.proofs.lemmas.Bool.{cases_Bool, and_parts, and_from, leb-true, le
 use Rattle.syntax_types.specs.declared.picture.SeqState.{SeqState}
 use Rattle.picture_grammar.specs.Headers.{is_from_to, repeats}
 use Rattle.bit_lists.specs.Fields.{flag}
+use Rattle.picture_grammar.specs.Refusal.{Refusal}
+use Rattle.picture_grammar.specs.Element.{rule}
+use Rattle.video_headers.specs.declared.limit.Limit.{Limit}
+use Rattle.video_headers.specs.declared.why.Why.TheVariants.{BadHeader}
+use Rattle.video_headers.specs.Private.Limits.{limit, IsFlagRule}
 
 same-answers : (a b : Bool) → (a ≡ true → b ≡ true) → (b ≡ true → a ≡ true) → a ≡ b
 same-answers true b f g = sym (f refl)
@@ -52,3 +57,7 @@ flag-if false false = refl
 pub flag-small : (is_set : Bool) → flag is_set < 2 ^ 32
 flag-small true = omega arith
 flag-small false = omega arith
+
+-- a limit of a flag that may be set only where something is so
+pub flag-rule : (l : Limit) (so : Bool) → l ≡ limit 0 (flag so) BadHeader → IsFlagRule l (rule Refusal.BadHeader (λ is_set. not is_set || so))
+flag-rule l so is = subst (λ (k : Limit). IsFlagRule k (rule Refusal.BadHeader (λ is_set. not is_set || so))) (sym is) (refl, flag-if so)

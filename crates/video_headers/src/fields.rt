@@ -1,4 +1,5 @@
-ghost use Rattle.std.specs.Prelude.{◌≡◌, ◌^◌, ◌<◌, ◌≤◌, [], ◌∷◌, List, ℕ, Bool, None, IfOk};
+ghost use Rattle.std.specs.Prelude.{◌≡◌, ◌+◌, ◌^◌, ◌<◌, ◌≤◌, [], ◌∷◌, List, ℕ, Bool, None, IfOk};
+ghost use Rattle.bit_cursor.specs.BitReader.{place};
 ghost use Rattle.picture_grammar.specs.Element.{Rule, uimsbf, flag_where};
 ghost use Rattle.video_headers.specs.Private.Limits.{first_broken, AreRules, IsFlagRule};
 ghost use Rattle.video_headers.specs.Private.Reading.{AnswersBits};
@@ -13,6 +14,7 @@ use shelf_io::Source;
 pub fn read_bits<S: Source>(reader: &mut BitReader<'_, S>, n: u32) -> Result<u32, HeadFault>
     requires { n ≤ 32 }
     ensures answers { AnswersBits (uimsbf n []) result reader.old reader.new }
+    ensures moved { IfOk result (λ _. place reader.new ≡ place reader.old + n) }
     ensures below { IfOk result (λ number. number < 2 ^ n) }
 {
     let at = reader.place();

@@ -4,11 +4,11 @@ ghost use Rattle.std.specs.Option.{option_map};
 ghost use Rattle.picture_grammar.specs.Refusal.Refusal.{BadHeader};
 ghost use Rattle.picture_grammar.specs.Grammar.{repeated};
 ghost use Rattle.picture_grammar.specs.Element.{uimsbf, rule};
-ghost use Rattle.picture_grammar.specs.Headers.{is_not_zero, in_raster_order, matrix_if_loaded, matrix_or};
+ghost use Rattle.picture_grammar.specs.Headers.{is_not_zero, in_raster_order, matrix_if_loaded, matrix_or, quant_matrix_extension};
 ghost use Rattle.video_headers.specs.Private.Reading.{Answers, Rests};
 
 use crate::fault::HeadFault;
-use crate::fields::{read_flag, read_limited};
+use crate::fields::{read_flag, read_limited, read_limited_flag};
 use crate::limit::Limit;
 use crate::why::Why;
 use arrayvec::ArrayVec;
@@ -74,4 +74,31 @@ fn in_raster_order(weights: &[u8]) -> [u8; 64]
         matrix[scan(false, place) as usize] = weights[place as usize];
     }
     matrix
+}
+
+/// The matrices that a quant matrix extension loads.
+pub struct LoadedWeights {
+    pub intra: Option<Weights>,
+    pub non_intra: Option<Weights>,
+}
+
+const NO_CHROMA_MATRIX: Limit = Limit {
+    least: 0,
+    most: 0,
+    otherwise: Why::BadHeader,
+};
+
+/// A quant matrix extension behind its identifier: 4:2:0 has no matrices of its own for chrominance (6.2.3.2).
+pub fn read_quant_matrix_extension<S: Source>(
+    reader: &mut BitReader<'_, S>,
+) -> Result<LoadedWeights, HeadFault>
+    ensures answers { Answers quant_matrix_extension (λ loaded. record { intra = option_map (λ w. w.items) loaded.intra; non_intra = option_map (λ w. w.items) loaded.non_intra }) result (Rests reader.old) (λ _. Rests reader.new) reader.old reader.new }
+    ensures intra { IfOk result (λ loaded. IfSome loaded.intra (λ w. length w.items ≡ BLOCK_PLACES)) }
+    ensures non_intra { IfOk result (λ loaded. IfSome loaded.non_intra (λ w. length w.items ≡ BLOCK_PLACES)) }
+{
+    let intra = read_matrix(reader)?;
+    let non_intra = read_matrix(reader)?;
+    let _chroma_intra = read_limited_flag(reader, NO_CHROMA_MATRIX)?;
+    let _chroma_non_intra = read_limited_flag(reader, NO_CHROMA_MATRIX)?;
+    Ok(LoadedWeights { intra, non_intra })
 }

@@ -1,5 +1,5 @@
 //! Picture headers and their extension (6.2.3, 6.2.3.1).
-ghost use Rattle.std.specs.Prelude.{◌≡◌, ◌^◌, ◌<◌, ◌≤◌, ℕ, [], IfOk};
+ghost use Rattle.std.specs.Prelude.{◌≡◌, ◌≤◌, ◌==◌, ◌&&◌, ◌||◌, []};
 ghost use Rattle.picture_grammar.specs.Grammar.{done, ◌>>◌, optional, many};
 ghost use Rattle.picture_grammar.specs.Element.{uimsbf};
 ghost use Rattle.picture_grammar.specs.Slice.{extra_information};
@@ -29,6 +29,18 @@ const STRUCTURE: Limit = Limit {
     otherwise: Why::BadHeader,
 };
 
+const F_CODE: Limit = Limit {
+    least: 1,
+    most: F_CODE_MOST as u32,
+    otherwise: Why::BadHeader,
+};
+
+const ANY_F_CODE: Limit = Limit {
+    least: 0,
+    most: 15,
+    otherwise: Why::BadHeader,
+};
+
 /// What a picture header says, as far as it is used.
 #[derive(Clone, Copy)]
 pub struct PictureHeader {
@@ -45,16 +57,27 @@ pub fn read_picture_header<S: Source>(
     ensures { Answers picture_header (λ h. (h.kind, h.vbv_delay)) result (Rests reader.old) (λ _. Rests reader.new) reader.old reader.new }
 {
     let _reference = read_bits(reader, 10)?;
-    let kind = read_limited(reader, 3, &[KIND])? as u8;
-    let vbv_delay = read_bits(reader, 16)? as u16;
-    let _forward = read_old_f_code(reader, kind == P_PICTURE || kind == B_PICTURE)?;
-    let _backward = read_old_f_code(reader, kind == B_PICTURE)?;
-    read_extra_information(reader)?;
-    Ok(PictureHeader { kind, vbv_delay })
+    let number = read_limited(reader, 3, &[KIND])?;
+    let vbv_delay = read_bits(reader, 16)?;
+    let kind = number as u8;
+    let _forward = read_optional_f_code(reader, has_forward(kind))?;
+    let _backward = read_optional_f_code(reader, kind == B_PICTURE)?;
+    let _extra = read_extra_information(reader)?;
+    Ok(PictureHeader {
+        kind,
+        vbv_delay: vbv_delay as u16,
+    })
 }
 
-/// The full-pel flag and f_code of MPEG-1, where they stand. They aren't used.
-fn read_old_f_code<S: Source>(
+/// Whether a picture of this type has forward vectors of its own.
+fn has_forward(kind: u8) -> bool
+    ensures { result ≡ (kind == P_PICTURE || kind == B_PICTURE) }
+{
+    kind == P_PICTURE || kind == B_PICTURE
+}
+
+/// The full-pel flag and f_code of MPEG-1, which aren't used, where they stand.
+fn read_optional_f_code<S: Source>(
     reader: &mut BitReader<'_, S>,
     stands: bool,
 ) -> Result<Option<u32>, HeadFault>
@@ -63,9 +86,17 @@ fn read_old_f_code<S: Source>(
     if !stands {
         return Ok(None);
     }
+    let code = read_old_f_code(reader)?;
+    Ok(Some(code))
+}
+
+/// The same, where they do.
+fn read_old_f_code<S: Source>(reader: &mut BitReader<'_, S>) -> Result<u32, HeadFault>
+    ensures { AnswersBits old_f_code result reader.old reader.new }
+{
     let _full_pel = read_flag(reader)?;
     let code = read_bits(reader, 3)?;
-    Ok(Some(code))
+    Ok(code)
 }
 
 /// So many bits, where they stand.
@@ -102,20 +133,20 @@ pub fn read_picture_coding_extension<S: Source>(
 ) -> Result<PicCoding, HeadFault>
     ensures { AnswersBits (picture_coding_extension progressive header.kind header.vbv_delay) result reader.old reader.new }
 {
-    let is_b = header.kind == B_PICTURE;
-    let forward = f_code_limit(header.kind == P_PICTURE || is_b);
-    let backward = f_code_limit(is_b);
+    let forward = forward_limit(header.kind);
+    let backward = backward_limit(header.kind);
     let f_00 = read_limited(reader, 4, &[forward])?;
     let f_01 = read_limited(reader, 4, &[forward])?;
     let f_10 = read_limited(reader, 4, &[backward])?;
     let f_11 = read_limited(reader, 4, &[backward])?;
     let dc_precision = read_bits(reader, 2)?;
-    let structure = read_limited(reader, 2, &[STRUCTURE, structure_limit(progressive)])?;
+    let by_sequence = structure_limit(progressive);
+    let structure = read_limited(reader, 2, &[STRUCTURE, by_sequence])?;
     let top_field_first = read_flag(reader)?;
-    let is_frame = structure == u32::from(FRAME_PICTURE);
-    let frame_pred_frame_dct = read_limited_flag(reader, set_only_if(is_frame))?;
-    let have_vectors = is_f_code(f_00) && is_f_code(f_01);
-    let concealment = read_limited_flag(reader, set_only_if(have_vectors))?;
+    let frame = frame_limit(structure);
+    let frame_pred_frame_dct = read_limited_flag(reader, frame)?;
+    let vectors = concealment_limit(f_00, f_01);
+    let concealment = read_limited_flag(reader, vectors)?;
     let q_scale_type = read_flag(reader)?;
     let intra_vlc_format = read_flag(reader)?;
     let alternate_scan = read_flag(reader)?;
@@ -141,23 +172,22 @@ pub fn read_picture_coding_extension<S: Source>(
     })
 }
 
-/// An f_code that counts is from 1 to 9 (Table 7-8); one that isn't needed may be anything.
-fn f_code_limit(is_needed: bool) -> Limit
-    ensures { IsFCodeLimit is_needed result }
+/// The limit of a forward f_code: one that a P- or a B-picture needs counts, from 1 to 9 (Table 7-8).
+fn forward_limit(kind: u8) -> Limit
+    ensures { IsFCodeLimit (kind == P_PICTURE || kind == B_PICTURE) result }
 {
-    if is_needed {
-        Limit {
-            least: 1,
-            most: u32::from(F_CODE_MOST),
-            otherwise: Why::BadHeader,
-        }
+    if has_forward(kind) {
+        F_CODE
     } else {
-        Limit {
-            least: 0,
-            most: 15,
-            otherwise: Why::BadHeader,
-        }
+        ANY_F_CODE
     }
+}
+
+/// The limit of a backward f_code, which a B-picture needs.
+fn backward_limit(kind: u8) -> Limit
+    ensures { IsFCodeLimit (kind == B_PICTURE) result }
+{
+    if kind == B_PICTURE { F_CODE } else { ANY_F_CODE }
 }
 
 /// A progressive sequence has frame pictures alone (6.3.10).
@@ -175,13 +205,25 @@ fn structure_limit(progressive: bool) -> Limit
     }
 }
 
-/// A flag that may be set only where something is so.
-fn set_only_if(so: bool) -> Limit
-    ensures { result ≡ limit 0 (flag so) Why.BadHeader }
+/// frame_pred_frame_dct may be set in a frame picture alone.
+fn frame_limit(structure: u32) -> Limit
+    ensures { result ≡ limit 0 (flag (structure == FRAME_PICTURE)) Why.BadHeader }
 {
     Limit {
         least: 0,
-        most: u32::from(so),
+        most: u32::from(structure == u32::from(FRAME_PICTURE)),
+        otherwise: Why::BadHeader,
+    }
+}
+
+/// Concealment vectors need forward f_codes that count.
+fn concealment_limit(horizontal: u32, vertical: u32) -> Limit
+    ensures { result ≡ limit 0 (flag (is_f_code horizontal && is_f_code vertical)) Why.BadHeader }
+{
+    let both = is_f_code(horizontal) && is_f_code(vertical);
+    Limit {
+        least: 0,
+        most: u32::from(both),
         otherwise: Why::BadHeader,
     }
 }

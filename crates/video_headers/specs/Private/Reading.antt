@@ -1,5 +1,5 @@
 -- Readers of told bits, as steps from what is left to what is left behind them.
-use Rattle.std.specs.Prelude.{◌≡◌, ◌+◌, ◌*◌, ℕ, List, length, Option, Some, IfSome, Result, MatchResult, IsErrOf}
+use Rattle.std.specs.Prelude.{◌≡◌, ◌+◌, ◌*◌, ◌≤◌, ℕ, List, length, Option, Some, IfSome, Result, MatchResult, IsErrOf}
 use Rattle.shelf_io.specs.declared.fault.Fault.{Fault}
 use Rattle.shelf_io.specs.declared.fault.Fault.TheVariants.{Failed, Missing}
 use Rattle.shelf_io.specs.Counts.{Rose}
@@ -31,6 +31,7 @@ pub record Runs {S : Type 0} {g : Ghosts S} (old new : BitReader S g) : Type 0 w
   pub count : ℕ
   pub taken : TakesBytes old new count
   pub counted : place new + bits_held new ≡ place old + bits_held old + 8 * count
+  pub onward : place old ≤ place new
 
 -- A reader's whole answer: it went on in its source, and an answer of the source's own has its cause. From all bits that
 -- may be left its value is spelled, with what it says of the bits behind; or they are refused as its fault tells.

@@ -1,5 +1,5 @@
 use Rattle.std.proofs.Common.{rules, refl, sym, arith, ◌∙◌}
-use Rattle.video_headers.proofs.Reading.{answers-bind, answers-exit, answers-done}
+use Rattle.video_headers.proofs.Reading.{answers-bind, answers-exit, answers-done, answers-as}
 use Rattle.video_headers.proofs.Rules.{only-range, some-range, unset-flag, flag-if}
 use Rattle.video_headers.proofs.group.read_group_header.Goals as goal
 
@@ -19,12 +19,11 @@ returns-in_err-broken_link g c =
     let on = g.met.S.Source.keeps_on in
     answers-bind on _ c.in_ok-_time_code.ensures.answers
     (answers-bind on _ c.in_ok-_closed_gop.ensures
-    (answers-exit _ c.from_residual-in_err-broken_link.result c.from_residual-in_err-broken_link.ensures.1 c.in_err-broken_link.ensures))
+    (answers-as c.from_residual-in_err-broken_link.result c.from_residual-in_err-broken_link.ensures.1 c.in_err-broken_link.ensures))
 
 pub returns : goal.returns
 returns g c =
     let on = g.met.S.Source.keeps_on in
     answers-bind on _ c.in_ok-_time_code.ensures.answers
     (answers-bind on _ c.in_ok-_closed_gop.ensures
-    (answers-bind on _ c.in_ok-broken_link.ensures
-    (answers-done _ _ _ g.met.S.Source.keeps_itself refl)))
+    (c.in_ok-broken_link.ensures))

@@ -1,8 +1,9 @@
 use Rattle.std.proofs.Common.{rules, refl, sym, arith, ◌∙◌}
-use Rattle.video_headers.proofs.Reading.{answers-bind, answers-exit, answers-done}
+use Rattle.video_headers.proofs.Reading.{answers-bind, answers-exit, answers-done, answers-as}
 use Rattle.video_headers.proofs.Rules.{only-range, some-range, unset-flag, flag-if}
 use Rattle.std.proofs.Common.{ap}
 use Rattle.video_headers.specs.Private.Why.{refusal_of}
+use Rattle.video_headers.proofs.Rules.{header-value}
 use Rattle.video_headers.proofs.sequence.read_sequence_header.Goals as goal
 
 pub returns-in_err-width : goal.returns-in_err-width
@@ -113,4 +114,4 @@ returns g c =
     (answers-bind on _ c.in_ok-_constrained.ensures
     (answers-bind on _ c.in_ok-intra.ensures.answers
     (answers-bind on _ c.in_ok-non_intra.ensures.answers
-    (answers-done _ _ _ g.met.S.Source.keeps_itself refl))))))))))
+    (answers-done _ _ _ g.met.S.Source.keeps_itself (header-value c.matrix_or.ensures c.matrix_or-2.ensures)))))))))))
