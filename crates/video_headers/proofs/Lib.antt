@@ -1,3 +1,4 @@
+pub mod Extra
 pub mod Flags
 pub mod Limited
 pub mod Reading

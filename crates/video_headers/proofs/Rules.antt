@@ -61,3 +61,13 @@ flag-small false = omega arith
 -- a limit of a flag that may be set only where something is so
 pub flag-rule : (l : Limit) (so : Bool) → l ≡ limit 0 (flag so) BadHeader → IsFlagRule l (rule Refusal.BadHeader (λ is_set. not is_set || so))
 flag-rule l so is = subst (λ (k : Limit). IsFlagRule k (rule Refusal.BadHeader (λ is_set. not is_set || so))) (sym is) (refl, flag-if so)
+
+-- ---- values by their parts
+
+-- a state by its parts
+abbrev pub state_of : ℕ → ℕ → ℕ → ℕ → Bool → List ℕ → List ℕ → SeqState
+state_of width height rate_code vbv progressive intra non_intra =
+    record { width = width; height = height; rate_code = rate_code; vbv = vbv; progressive = progressive; intra = intra; non_intra = non_intra }
+
+pub header-value : (width height rate_code vbv : ℕ) (progressive : Bool) (a b c d : List ℕ) → a ≡ b → c ≡ d → state_of width height rate_code vbv progressive a c ≡ state_of width height rate_code vbv progressive b d
+header-value width height rate_code vbv progressive a b c d e f = ap₂ (λ (x y : List ℕ). state_of width height rate_code vbv progressive x y) e f

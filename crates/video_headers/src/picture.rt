@@ -1,8 +1,8 @@
 //! Picture headers and their extension (6.2.3, 6.2.3.1).
 ghost use Rattle.std.specs.Prelude.{◌≡◌, ◌≤◌, ◌==◌, ◌&&◌, ◌||◌, []};
-ghost use Rattle.picture_grammar.specs.Grammar.{done, ◌>>◌, optional, many};
+ghost use Rattle.picture_grammar.specs.Grammar.{optional};
 ghost use Rattle.picture_grammar.specs.Element.{uimsbf};
-ghost use Rattle.picture_grammar.specs.Slice.{extra_information};
+ghost use Rattle.video_headers.specs.Private.Information.{information_bytes};
 ghost use Rattle.picture_grammar.specs.Headers.{is_f_code, old_f_code, picture_header, picture_coding_extension};
 ghost use Rattle.bit_lists.specs.Fields.{flag};
 ghost use Rattle.video_headers.specs.Private.Limits.{limit, IsFCodeLimit, IsStructureLimit};
@@ -117,12 +117,15 @@ fn read_optional_bits<S: Source>(
 
 /// The bytes of extra_information_picture, which nobody reads, and the bit 0 behind them.
 fn read_extra_information<S: Source>(reader: &mut BitReader<'_, S>) -> Result<(), HeadFault>
-    ensures { AnswersBits (many extra_information >> done tt) result reader.old reader.new }
+    ensures { AnswersBits information_bytes result reader.old reader.new }
 {
-    while read_flag(reader)? {
-        read_bits(reader, 8)?;
+    'bytes: loop {
+        let another = read_flag(reader)?;
+        if !another {
+            return Ok(());
+        }
+        let _byte = read_bits(reader, 8)?;
     }
-    Ok(())
 }
 
 /// A picture coding extension behind its identifier, by progressive_sequence and the picture header.

@@ -88,16 +88,20 @@ pub fn read_sequence_header<S: Source>(
     let _marker = read_limited(reader, 1, &[MARKER])?;
     let vbv = read_limited(reader, 10, &[VBV, repeated.vbv])?;
     let _constrained = read_flag(reader)?;
-    let intra = read_matrix(reader)?;
-    let non_intra = read_matrix(reader)?;
+    let loaded_intra = read_matrix(reader)?;
+    let loaded_non_intra = read_matrix(reader)?;
+    let default_intra = default_matrix(true);
+    let default_non_intra = default_matrix(false);
+    let intra = matrix_or(&loaded_intra, default_intra);
+    let non_intra = matrix_or(&loaded_non_intra, default_non_intra);
     Ok(SeqState {
         width: width as u16,
         height: height as u16,
         rate_code: rate_code as u8,
         vbv: vbv as u8,
         progressive: false,
-        intra: matrix_or(&intra, default_matrix(true)),
-        non_intra: matrix_or(&non_intra, default_matrix(false)),
+        intra,
+        non_intra,
     })
 }
 

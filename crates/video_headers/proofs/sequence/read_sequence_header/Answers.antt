@@ -1,7 +1,8 @@
-use Rattle.std.proofs.Common.{rules, refl, sym, arith, ◌∙◌}
-use Rattle.video_headers.proofs.Reading.{answers-bind, answers-exit, answers-done, answers-as}
+use Rattle.std.proofs.Common.{rules, refl, sym, ap, ap₂, arith, ◌∙◌}
+use Rattle.video_headers.proofs.Reading.{answers-bind, answers-exit, answers-done, answers-as, answers-mapped, answers-made_exit, follows}
 use Rattle.video_headers.proofs.Rules.{only-range, some-range, unset-flag, flag-if}
-use Rattle.std.proofs.Common.{ap}
+use Rattle.std.specs.Option.{option_map}
+use Rattle.picture_grammar.specs.Headers.{matrix_or}
 use Rattle.video_headers.specs.Private.Why.{refusal_of}
 use Rattle.video_headers.proofs.Rules.{header-value}
 use Rattle.video_headers.proofs.sequence.read_sequence_header.Goals as goal
@@ -74,8 +75,8 @@ returns-in_err-_constrained g c =
     (answers-bind on _ (c.in_ok-vbv.ensures.answers _ (refl, (λ v lt. refl), (sym (ap refusal_of c.limits_behind-repeated.ensures.vbv.0), (λ v lt. c.limits_behind-repeated.ensures.vbv.1 v (omega (arith, lt))), tt)))
     (answers-exit _ c.from_residual-in_err-_constrained.result c.from_residual-in_err-_constrained.ensures.1 c.in_err-_constrained.ensures)))))))
 
-pub returns-in_err-intra : goal.returns-in_err-intra
-returns-in_err-intra g c =
+pub returns-in_err-loaded_intra : goal.returns-in_err-loaded_intra
+returns-in_err-loaded_intra g c =
     let on = g.met.S.Source.keeps_on in
     answers-bind on _ (c.in_ok-width.ensures.answers _ (refl, (λ v lt. refl), (sym (ap refusal_of c.limits_behind-repeated.ensures.width.0), (λ v lt. c.limits_behind-repeated.ensures.width.1 v (omega (arith, lt))), tt)))
     (answers-bind on _ (c.in_ok-height.ensures.answers _ (refl, (λ v lt. refl), (sym (ap refusal_of c.limits_behind-repeated.ensures.height.0), (λ v lt. c.limits_behind-repeated.ensures.height.1 v (omega (arith, lt))), tt)))
@@ -85,10 +86,10 @@ returns-in_err-intra g c =
     (answers-bind on _ (c.in_ok-_marker.ensures.answers _ (refl, (λ v lt. only-range 1 v), tt))
     (answers-bind on _ (c.in_ok-vbv.ensures.answers _ (refl, (λ v lt. refl), (sym (ap refusal_of c.limits_behind-repeated.ensures.vbv.0), (λ v lt. c.limits_behind-repeated.ensures.vbv.1 v (omega (arith, lt))), tt)))
     (answers-bind on _ c.in_ok-_constrained.ensures
-    (answers-exit _ c.from_residual-in_err-intra.result c.from_residual-in_err-intra.ensures.1 c.in_err-intra.ensures.answers))))))))
+    (answers-exit _ c.from_residual-in_err-loaded_intra.result c.from_residual-in_err-loaded_intra.ensures.1 c.in_err-loaded_intra.ensures.answers))))))))
 
-pub returns-in_err-non_intra : goal.returns-in_err-non_intra
-returns-in_err-non_intra g c =
+pub returns-in_err-loaded_non_intra : goal.returns-in_err-loaded_non_intra
+returns-in_err-loaded_non_intra g c =
     let on = g.met.S.Source.keeps_on in
     answers-bind on _ (c.in_ok-width.ensures.answers _ (refl, (λ v lt. refl), (sym (ap refusal_of c.limits_behind-repeated.ensures.width.0), (λ v lt. c.limits_behind-repeated.ensures.width.1 v (omega (arith, lt))), tt)))
     (answers-bind on _ (c.in_ok-height.ensures.answers _ (refl, (λ v lt. refl), (sym (ap refusal_of c.limits_behind-repeated.ensures.height.0), (λ v lt. c.limits_behind-repeated.ensures.height.1 v (omega (arith, lt))), tt)))
@@ -98,8 +99,8 @@ returns-in_err-non_intra g c =
     (answers-bind on _ (c.in_ok-_marker.ensures.answers _ (refl, (λ v lt. only-range 1 v), tt))
     (answers-bind on _ (c.in_ok-vbv.ensures.answers _ (refl, (λ v lt. refl), (sym (ap refusal_of c.limits_behind-repeated.ensures.vbv.0), (λ v lt. c.limits_behind-repeated.ensures.vbv.1 v (omega (arith, lt))), tt)))
     (answers-bind on _ c.in_ok-_constrained.ensures
-    (answers-bind on _ c.in_ok-intra.ensures.answers
-    (answers-exit _ c.from_residual-in_err-non_intra.result c.from_residual-in_err-non_intra.ensures.1 c.in_err-non_intra.ensures.answers)))))))))
+    (answers-bind on _ c.in_ok-loaded_intra.ensures.answers
+    (answers-exit _ c.from_residual-in_err-loaded_non_intra.result c.from_residual-in_err-loaded_non_intra.ensures.1 c.in_err-loaded_non_intra.ensures.answers)))))))))
 
 pub returns : goal.returns
 returns g c =
@@ -112,6 +113,6 @@ returns g c =
     (answers-bind on _ (c.in_ok-_marker.ensures.answers _ (refl, (λ v lt. only-range 1 v), tt))
     (answers-bind on _ (c.in_ok-vbv.ensures.answers _ (refl, (λ v lt. refl), (sym (ap refusal_of c.limits_behind-repeated.ensures.vbv.0), (λ v lt. c.limits_behind-repeated.ensures.vbv.1 v (omega (arith, lt))), tt)))
     (answers-bind on _ c.in_ok-_constrained.ensures
-    (answers-bind on _ c.in_ok-intra.ensures.answers
-    (answers-bind on _ c.in_ok-non_intra.ensures.answers
-    (answers-done _ _ _ g.met.S.Source.keeps_itself (header-value c.matrix_or.ensures c.matrix_or-2.ensures)))))))))))
+    (answers-bind on _ c.in_ok-loaded_intra.ensures.answers
+    (answers-bind on _ c.in_ok-loaded_non_intra.ensures.answers
+    (answers-done _ _ _ g.met.S.Source.keeps_itself (header-value _ _ _ _ _ _ _ _ _ (c.matrix_or-intra.ensures ∙ ap (matrix_or (option_map (λ w. w.items) c.in_ok-loaded_intra.loaded_intra)) c.default_matrix-default_intra.ensures) (c.matrix_or-non_intra.ensures ∙ ap (matrix_or (option_map (λ w. w.items) c.in_ok-loaded_non_intra.loaded_non_intra)) c.default_matrix-default_non_intra.ensures))))))))))))
