@@ -1,5 +1,5 @@
 -- Information bytes, each behind a bit 1, up to a bit 0.
-use Rattle.std.proofs.Common.{◌≡◌, ℕ, List, [], ◌∷◌, ◌++◌, Option, Some, None, Result, Ok, Err, IsErrAnd, Bool, true, false, refl, inl, inr}
+use Rattle.std.proofs.Common.{◌≡◌, ℕ, List, [], ◌∷◌, ◌++◌, Option, Some, None, Result, Ok, Err, IsErrAnd, Bool, true, false, refl, subst, inl, inr}
 use Rattle.shelf_io.specs.declared.source.Source.{Ghosts}
 use Rattle.bit_cursor.specs.declared.bit_reader.BitReader.{BitReader}
 use Rattle.picture_grammar.specs.Grammar.{Grammar, Next}
@@ -13,20 +13,25 @@ use Rattle.video_headers.specs.Private.Information.{information_bytes}
 use Rattle.video_headers.specs.Private.Reading.{Answers, AnswersBits, Rests}
 use Rattle.video_headers.proofs.Reading.{answers-bind, answers-exit, answers-done, runs-none, joined, joined_exit}
 
-module _ {S : Type 0} {g : Ghosts S} (keeps_on : (x y z : S) → g.keeps x y → g.keeps y z → g.keeps x z) (itself : (x : S) → g.keeps x x) {first second third : BitReader S g} where
-  pub extra-more : (before : List ℕ) (byte : ℕ) → AnswersBits one_flag (Ok true) first second → AnswersBits (uimsbf 8 []) (Ok byte) second third
-      → Answers (extra_information before) (λ (x : ℕ). more x) (Ok byte) (Rests first) (λ _. Rests third) first third
-  extra-more before byte f b = answers-bind keeps_on _ f (answers-bind keeps_on _ (answers-bind keeps_on _ b (answers-done (Some byte) {value = λ (x : ℕ). Some x} byte third itself refl)) (answers-done (more byte) byte third itself refl))
+module _ {S : Type 0} {g : Ghosts S} (keeps_on : (x y z : S) → g.keeps x y → g.keeps y z → g.keeps x z) (itself : (x : S) → g.keeps x x) {first second : BitReader S g} where
+  flag-known : (another is_set : Bool) → another ≡ is_set → AnswersBits one_flag (Ok another) first second → AnswersBits one_flag (Ok is_set) first second
+  flag-known another is_set is f = subst (λ (b : Bool). AnswersBits one_flag (Ok b) first second) is f
 
-  pub extra-no_byte : (before : List ℕ) {e : HeadFault} → AnswersBits one_flag (Ok true) first second → AnswersBits (uimsbf 8 []) (Err e) second third
-      → Answers (extra_information before) (λ (x : ℕ). more x) (Err e) (Rests first) (λ _. Rests third) first third
-  extra-no_byte before {e} f b = answers-bind keeps_on _ f (answers-exit _ (Err e) refl (answers-exit _ {value = λ (x : ℕ). Some x} (Err e) {last = λ _. Rests third} refl b))
-
-  pub extra-last : (before : List ℕ) → AnswersBits one_flag (Ok false) first second → Answers (extra_information before) (λ (x : Unit {0}). last x) (Ok tt) (Rests first) (λ _. Rests second) first second
-  extra-last before f = answers-bind keeps_on _ f (answers-bind keeps_on _ (answers-done None {value = λ (x : Unit {0}). None} tt second itself refl) (answers-done (last tt) tt second itself refl))
+  pub extra-last : (before : List ℕ) (another : Bool) → another ≡ false → AnswersBits one_flag (Ok another) first second → Answers (extra_information before) (λ (x : Unit {0}). last x) (Ok tt) (Rests first) (λ _. Rests second) first second
+  extra-last before another is f =
+      answers-bind keeps_on _ (flag-known another false is f) (answers-bind keeps_on _ (answers-done None {value = λ (x : Unit {0}). None} tt second itself refl) (answers-done (last tt) tt second itself refl))
 
   pub extra-no_flag : (before : List ℕ) {e : HeadFault} → AnswersBits one_flag (Err e) first second → Answers (extra_information before) (λ (x : ℕ). more x) (Err e) (Rests first) (λ _. Rests second) first second
   extra-no_flag before {e} f = answers-exit _ (Err e) refl f
+
+  pub extra-more : {third : BitReader S g} (before : List ℕ) (byte : ℕ) (another : Bool) → another ≡ true → AnswersBits one_flag (Ok another) first second → AnswersBits (uimsbf 8 []) (Ok byte) second third
+      → Answers (extra_information before) (λ (x : ℕ). more x) (Ok byte) (Rests first) (λ _. Rests third) first third
+  extra-more {third} before byte another is f b =
+      answers-bind keeps_on _ (flag-known another true is f) (answers-bind keeps_on _ (answers-bind keeps_on _ b (answers-done (Some byte) {value = λ (x : ℕ). Some x} byte third itself refl)) (answers-done (more byte) byte third itself refl))
+
+  pub extra-no_byte : {third : BitReader S g} (before : List ℕ) (another : Bool) → another ≡ true → {e : HeadFault} → AnswersBits one_flag (Ok another) first second → AnswersBits (uimsbf 8 []) (Err e) second third
+      → Answers (extra_information before) (λ (x : ℕ). more x) (Err e) (Rests first) (λ _. Rests third) first third
+  extra-no_byte {third} before another is {e} f b = answers-bind keeps_on _ (flag-known another true is f) (answers-exit _ (Err e) refl (answers-exit _ {value = λ (x : ℕ). Some x} (Err e) {last = λ _. Rests third} refl b))
 
 -- ---- all of them
 

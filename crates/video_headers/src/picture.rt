@@ -60,7 +60,7 @@ pub fn read_picture_header<S: Source>(
     let number = read_limited(reader, 3, &[KIND])?;
     let vbv_delay = read_bits(reader, 16)?;
     let kind = number as u8;
-    let _forward = read_optional_f_code(reader, has_forward(kind))?;
+    let _forward = read_forward_f_code(reader, kind)?;
     let _backward = read_optional_f_code(reader, kind == B_PICTURE)?;
     let _extra = read_extra_information(reader)?;
     Ok(PictureHeader {
@@ -74,6 +74,16 @@ fn has_forward(kind: u8) -> bool
     ensures { result ≡ (kind == P_PICTURE || kind == B_PICTURE) }
 {
     kind == P_PICTURE || kind == B_PICTURE
+}
+
+/// The forward full-pel flag and f_code of MPEG-1, in a picture of this type.
+fn read_forward_f_code<S: Source>(
+    reader: &mut BitReader<'_, S>,
+    kind: u8,
+) -> Result<Option<u32>, HeadFault>
+    ensures { AnswersBits (optional (kind == P_PICTURE || kind == B_PICTURE) old_f_code) result reader.old reader.new }
+{
+    read_optional_f_code(reader, has_forward(kind))
 }
 
 /// The full-pel flag and f_code of MPEG-1, which aren't used, where they stand.

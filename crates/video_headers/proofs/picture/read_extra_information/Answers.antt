@@ -11,16 +11,16 @@ returns-in_err-another g c =
 
 pub returns-then-not-another : goal.returns-then-not-another
 returns-then-not-another g c =
-    extra-ended g.met.S.Source.keeps_on c.bytes.invariant.bytes c.bytes.invariant.so_far (extra-last g.met.S.Source.keeps_on g.met.S.Source.keeps_itself c.bytes.invariant.bytes (rw (← c.if-not-another.true) c.in_ok-another.ensures))
+    extra-ended g.met.S.Source.keeps_on c.bytes.invariant.bytes c.bytes.invariant.so_far (extra-last g.met.S.Source.keeps_on g.met.S.Source.keeps_itself c.bytes.invariant.bytes c.in_ok-another.another c.if-not-another.true c.in_ok-another.ensures)
 
 pub returns-in_err-_byte : goal.returns-in_err-_byte
 returns-in_err-_byte g c =
     extra-refused g.met.S.Source.keeps_on c.bytes.invariant.bytes c.from_residual-in_err-_byte.result c.from_residual-in_err-_byte.ensures.1 c.bytes.invariant.so_far
-    (extra-no_byte g.met.S.Source.keeps_on g.met.S.Source.keeps_itself c.bytes.invariant.bytes (rw (← c.if-not-another.false) c.in_ok-another.ensures) c.in_err-_byte.ensures.answers)
+    (extra-no_byte g.met.S.Source.keeps_on g.met.S.Source.keeps_itself c.bytes.invariant.bytes c.in_ok-another.another c.if-not-another.false c.in_ok-another.ensures c.in_err-_byte.ensures.answers)
 
 pub bytes-preserved : goal.bytes-preserved
 bytes-preserved g c = record {
   bytes = c.bytes.invariant.bytes ++ c.in_ok-_byte._byte ∷ [];
   so_far = extra-pushed g.met.S.Source.keeps_on c.bytes.invariant.bytes c.in_ok-_byte._byte c.bytes.invariant.so_far
-      (extra-more g.met.S.Source.keeps_on g.met.S.Source.keeps_itself c.bytes.invariant.bytes c.in_ok-_byte._byte (rw (← c.if-not-another.false) c.in_ok-another.ensures) c.in_ok-_byte.ensures.answers);
+      (extra-more g.met.S.Source.keeps_on g.met.S.Source.keeps_itself c.bytes.invariant.bytes c.in_ok-_byte._byte c.in_ok-another.another c.if-not-another.false c.in_ok-another.ensures c.in_ok-_byte.ensures.answers);
 }
