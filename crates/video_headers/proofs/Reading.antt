@@ -241,3 +241,6 @@ module _ {A B C : Type 0} {first : Grammar A} {second : Grammar B} {both : Gramm
         failed = λ is. rose_later _ _ _ x.runs.keeps.faults y.runs.keeps.faults (y.failed (let e = is in cc));
         missing = λ is. rose_later _ _ _ x.runs.keeps.absences y.runs.keeps.absences (y.missing (let e = is in cc));
       })
+
+pub follows-none : {W : Type 0} {w : W} {S : Type 0} {g : Ghosts S} (reader : BitReader S g) → ((x : S) → g.keeps x x) → Follows (Ok w) reader reader
+follows-none reader itself = record { runs = runs-none reader itself; failed = λ is. cc; missing = λ is. cc }

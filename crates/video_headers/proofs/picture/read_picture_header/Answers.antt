@@ -1,5 +1,5 @@
 use Rattle.std.proofs.Common.{rules, refl, sym, ap, ap₂, arith, ◌∙◌}
-use Rattle.video_headers.proofs.Reading.{answers-bind, answers-exit, answers-done, answers-as, answers-mapped, answers-made_exit, follows, goes-done}
+use Rattle.video_headers.proofs.Reading.{answers-bind, answers-exit, answers-done, answers-as, answers-mapped, answers-made_exit, follows, goes-done, follows-none}
 use Rattle.video_headers.proofs.Rules.{only-range, some-range, unset-flag, flag-if}
 use Rattle.video_headers.proofs.picture.read_picture_header.Goals as goal
 
@@ -56,4 +56,4 @@ returns g c =
     (answers-bind on _ c.in_ok-vbv_delay.ensures.answers
     (answers-bind on _ c.in_ok-_forward.ensures
     (answers-bind on _ c.in_ok-_backward.ensures
-    (answers-mapped _ _ on _ c.in_ok-_extra.ensures (follows (answers-done tt {value = λ (x : Unit {0}). tt} tt _ g.met.S.Source.keeps_itself refl)) (λ a e. (goes-done _ _)))))))
+    (answers-mapped _ _ on _ c.in_ok-_extra.ensures (follows-none _ g.met.S.Source.keeps_itself) (λ a e. (goes-done _ _)))))))
