@@ -1,8 +1,7 @@
 -- Information bytes, each behind a bit 1, up to a bit 0.
-use Rattle.std.proofs.Common.{◌≡◌, ℕ, List, [], ◌∷◌, ◌++◌, Option, Some, None, Result, Ok, Err, IsErrAnd, Bool, true, false, refl, subst, inl, inr}
+use Rattle.std.proofs.Common.{◌≡◌, ℕ, List, [], ◌∷◌, ◌++◌, Some, None, Result, Ok, Err, IsErrAnd, Bool, true, false, refl, subst, inl}
 use Rattle.shelf_io.specs.declared.source.Source.{Ghosts}
 use Rattle.bit_cursor.specs.declared.bit_reader.BitReader.{BitReader}
-use Rattle.picture_grammar.specs.Grammar.{Grammar, Next}
 use Rattle.picture_grammar.specs.Grammar.Next.{more, last}
 use Rattle.picture_grammar.specs.Element.{uimsbf, one_flag}
 use Rattle.picture_grammar.specs.Slice.{extra_information}

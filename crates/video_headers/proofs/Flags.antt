@@ -1,11 +1,11 @@
 -- Flags by their bits as numbers.
-use Rattle.std.proofs.Common.{◌≡◌, ℕ, zero, suc, ◌^◌, ◌<◌, ◌+◌, ◌==◌, ◌&&◌, List, [], ◌∷◌, ◌++◌, length, Option, Some, None, IfSome, Result, Ok, Err, IsErrAnd, Bool, true, false, refl, sym, ap, ap₂, subst, ◌∙◌, inl, inr, arith}
+use Rattle.std.proofs.Common.{◌≡◌, ℕ, zero, suc, ◌<◌, ◌+◌, ◌==◌, ◌&&◌, List, [], ◌∷◌, ◌++◌, length, Option, Some, None, IfSome, Result, Ok, Err, IsErrAnd, Bool, true, false, refl, sym, ap, ap₂, subst, ◌∙◌, inl, inr, arith}
 use Rattle.shelf_io.specs.declared.source.Source.{Ghosts}
 use Rattle.bit_lists.specs.Bits.{bits_of}
 use Rattle.bit_lists.specs.Fields.{flag}
 use Rattle.bit_cursor.specs.declared.bit_reader.BitReader.{BitReader}
 use Rattle.picture_grammar.specs.Refusal.{Refusal}
-use Rattle.picture_grammar.specs.Element.{Rule, rule, passes, MayStand, Stands, Breaks, IsRefused, uimsbf, flag_where}
+use Rattle.picture_grammar.specs.Element.{Rule, rule, passes, MayStand, Stands, IsRefused, uimsbf, flag_where}
 use Rattle.picture_grammar.specs.Headers.{is_from_to}
 use Rattle.grammar_reading.specs.BitsRead.{PlacedRefusal}
 use Rattle.video_headers.specs.declared.fault.HeadFault.{HeadFault}

@@ -1,5 +1,5 @@
 -- Numbers within limits: which numbers the bits left may begin, and which limit leaves none of them.
-use Rattle.std.proofs.Common.{◌≡◌, ℕ, ◌+◌, ◌-◌, ◌*◌, ◌/◌, ◌%◌, ◌^◌, ◌<◌, ◌≤◌, ◌⊎◌, ◌&&◌, nat_le, nat_lt, max, min, List, [], ◌∷◌, ◌++◌, length, take, Option, Some, None, Bool, true, false, refl, sym, ap, subst, ◌∙◌, inl, inr, arith, append_assoc, append-nil}
+use Rattle.std.proofs.Common.{◌≡◌, ℕ, ◌+◌, ◌-◌, ◌*◌, ◌/◌, ◌%◌, ◌^◌, ◌<◌, ◌≤◌, ◌⊎◌, nat_le, nat_lt, max, min, List, [], ◌∷◌, ◌++◌, length, take, Option, Some, None, Bool, true, false, refl, sym, ap, subst, ◌∙◌, inl, inr, arith, append_assoc, append-nil}
 use Rattle.std.proofs.lemmas.Bool.{and_parts, and_from, leb-true, le-leb, ltb-true, ltb-false, cases_lt}
 use Rattle.std.proofs.lemmas.Nat.{div-mul-add}
 use Rattle.std.proofs.Math.Nat.{div-lt_iff_lt-mul, div-add-mod, div-add-mod', mod-lt, mul-le-mul_right}
@@ -172,9 +172,9 @@ module _ (n : ℕ) (bits : List ℕ) (number known last : ℕ) (shows : Shows n 
           outside = λ v a b. (
             refl,
             agrees v (
-              let high : v / part ≡ number / part = part-same part v number some filled' a (omega (arith, last_is, b)) in
-              let high' : v / 2 ^ (n - known) ≡ number / 2 ^ (n - known) = ap (λ (k : ℕ). v / k) (sym is) ∙ high ∙ ap (λ (k : ℕ). number / k) is in
-              front v ∙ ap (bits_of known) high' ∙ sym (front number) ∙ shown
-            ),
+                let high : v / part ≡ number / part = part-same part v number some filled' a (omega (arith, last_is, b)) in
+                let high' : v / 2 ^ (n - known) ≡ number / 2 ^ (n - known) = ap (λ (k : ℕ). v / k) (sym is) ∙ high ∙ ap (λ (k : ℕ). number / k) is in
+                front v ∙ ap (bits_of known) high' ∙ sym (front number) ∙ shown
+                ),
           );
         }

@@ -7,7 +7,7 @@ use Rattle.shelf_io.specs.declared.source.Source.{Ghosts}
 use Rattle.shelf_io.specs.Counts.{Rose}
 use Rattle.shelf_io.specs.Source.{without_front}
 use Rattle.bit_cursor.specs.declared.bit_reader.BitReader.{BitReader}
-use Rattle.bit_cursor.specs.BitReader.{source_of, bits_held, place, faults_of, absences_of}
+use Rattle.bit_cursor.specs.BitReader.{source_of, faults_of, absences_of}
 use Rattle.bit_cursor.proofs.Source.{keeps_then}
 use Rattle.picture_grammar.specs.Refusal.{Refusal}
 use Rattle.picture_grammar.specs.Grammar.{Grammar, done, ◌>>=◌}

@@ -1,14 +1,12 @@
 -- Items read one at a time, so many of them.
-use Rattle.std.proofs.Common.{◌≡◌, ◌+◌, ◌<◌, ℕ, zero, suc, List, [], ◌∷◌, ◌++◌, length, Option, Some, None, IfSome, Result, Ok, Err, IsErrAnd, refl, sym, ap, ap₂, subst, ◌∙◌, inl, inr, arith}
+use Rattle.std.proofs.Common.{◌≡◌, ◌<◌, ℕ, zero, suc, List, [], ◌∷◌, ◌++◌, length, Result, Ok, Err, IsErrAnd, refl, sym, ap, subst, inl, inr, arith}
 use Rattle.std.proofs.lemmas.List.{length-append}
 use Rattle.shelf_io.specs.declared.source.Source.{Ghosts}
 use Rattle.bit_cursor.specs.declared.bit_reader.BitReader.{BitReader}
 use Rattle.picture_grammar.specs.Refusal.{Refusal}
 use Rattle.picture_grammar.specs.Grammar.{Grammar, repeated}
-use Rattle.grammar_reading.specs.BitsRead.{PlacedRefusal}
 use Rattle.video_headers.specs.declared.fault.HeadFault.{HeadFault}
-use Rattle.video_headers.specs.HeadFault.{refusal_told}
-use Rattle.video_headers.specs.Private.Reading.{Goes, Stops, Answers}
+use Rattle.video_headers.specs.Private.Reading.{Goes, Answers}
 use Rattle.video_headers.proofs.Reading.{joined, joined_exit, answers-done}
 
 module _ {A : Type 0} (item : Grammar A) where

@@ -1,8 +1,8 @@
 -- Rules of the grammar as limits.
-use Rattle.std.proofs.Common.{◌≡◌, ℕ, zero, suc, ◌+◌, ◌<◌, ◌≤◌, ◌^◌, ◌==◌, ◌&&◌, ◌||◌, nat_eq, nat_le, not, List, [], ◌∷◌, Option, Some, None, Bool, true, false, refl, sym, ap, ap₂, subst, ◌∙◌, inl, inr, arith, eq-eqb}
+use Rattle.std.proofs.Common.{◌≡◌, ℕ, ◌<◌, ◌≤◌, ◌^◌, ◌==◌, ◌||◌, nat_eq, nat_le, not, List, Bool, true, false, refl, sym, ap, ap₂, subst, inl, inr, arith, eq-eqb}
 use Rattle.std.proofs.lemmas.Bool.{cases_Bool, and_parts, and_from, leb-true, le-leb, eqb-true, both_ways}
 use Rattle.syntax_types.specs.declared.picture.SeqState.{SeqState}
-use Rattle.picture_grammar.specs.Headers.{is_from_to, repeats}
+use Rattle.picture_grammar.specs.Headers.{is_from_to}
 use Rattle.bit_lists.specs.Fields.{flag}
 use Rattle.picture_grammar.specs.Refusal.{Refusal}
 use Rattle.picture_grammar.specs.Element.{rule}

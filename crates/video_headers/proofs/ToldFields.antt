@@ -1,27 +1,25 @@
 -- What the readers of fields say of what is left, from what a reader of bits says.
-use Rattle.std.proofs.Common.{◌≡◌, ℕ, ◌+◌, ◌-◌, ◌*◌, ◌%◌, ◌^◌, ◌<◌, ◌≤◌, ◌==◌, ◌⊎◌, List, [], ◌∷◌, ◌++◌, length, take, drop, Option, Some, None, IfSome, Bool, true, false, refl, sym, ap, ap₂, subst, ◌∙◌, inl, inr, arith}
+use Rattle.std.proofs.Common.{◌≡◌, ℕ, ◌+◌, ◌-◌, ◌*◌, ◌%◌, ◌^◌, ◌<◌, ◌≤◌, ◌⊎◌, List, [], ◌++◌, length, take, drop, Option, Some, None, IfSome, true, refl, sym, ap, subst, ◌∙◌, inl, inr, arith}
 use Rattle.std.specs.Option.{option_map}
 use Rattle.std.proofs.lemmas.Nat.{one_shl}
-use Rattle.std.proofs.lemmas.Bool.{and_parts, leb-true, eqb-true}
 use Rattle.std.proofs.lemmas.List.{length-append, take-append-drop, take_all, length-take}
 use Rattle.shelf_io.specs.declared.source.Source.{Ghosts}
 use Rattle.bit_lists.specs.Bits.{IsPrefix, bits_of}
-use Rattle.bit_lists.specs.Fields.{flag}
 use Rattle.bit_lists.proofs.BitLemmas.{length-bits_of}
 use Rattle.bit_cursor.specs.declared.bit_reader.BitReader.{BitReader}
 use Rattle.bit_cursor.specs.BitReader.{bits_left, place, without_bits}
 use Rattle.bit_cursor.specs.Reading.{IsFront, Shows}
 use Rattle.picture_grammar.specs.Refusal.Refusal.{End}
 use Rattle.picture_grammar.specs.Grammar.{Grammar}
-use Rattle.picture_grammar.specs.Element.{Rule, passes, MayStand, Breaks, uimsbf, flag_where}
-use Rattle.grammar_reading.specs.BitsRead.{PlacedRefusal, ReadsFrom, ExplainsFrom}
+use Rattle.picture_grammar.specs.Element.{Rule, passes, MayStand, Breaks, uimsbf}
+use Rattle.grammar_reading.specs.BitsRead.{PlacedRefusal, ExplainsFrom}
 use Rattle.grammar_reading.proofs.ReadElements.{explains-number_end, left-bits}
 use Rattle.video_headers.specs.declared.limit.Limit.{Limit}
 use Rattle.video_headers.specs.declared.why.Why.{Why}
 use Rattle.video_headers.specs.declared.why.Why.TheVariants as why
 use Rattle.video_headers.specs.HeadFault.{refusal_told}
 use Rattle.video_headers.specs.Private.Why.{refusal_of, fault_at}
-use Rattle.video_headers.specs.Private.Limits.{first_broken, AreRules, IsFlagRule}
+use Rattle.video_headers.specs.Private.Limits.{first_broken, AreRules}
 use Rattle.video_headers.specs.Private.Reading.{Rests, Goes, Stops}
 use Rattle.video_headers.proofs.Limited.{NumberCode, Agrees, AreLeft, left-shown, limited, Says}
 

@@ -1,5 +1,5 @@
 -- Places of the zigzag scan and raster indices.
-use Rattle.std.proofs.Common.{◌≡◌, ◌<◌, ◌+◌, ◌==◌, ◌&&◌, ℕ, List, length, get_or, set, nat_lt, nat_eq, map, unwrap_or, position, Bool, true, refl, sym, ap, subst, ◌∙◌, inl, inr, arith}
+use Rattle.std.proofs.Common.{◌≡◌, ◌<◌, ◌+◌, ◌==◌, ◌&&◌, ℕ, List, length, get_or, set, nat_lt, nat_eq, unwrap_or, position, Bool, true, refl, sym, ap, ◌∙◌, inl, inr, arith}
 use Rattle.std.specs.List.{list_all, range_with_len}
 use Rattle.std.proofs.lemmas.Bool.{and_parts, eqb-true, ltb-true, cases_Bool, both_ways, cases_eq}
 use Rattle.std.proofs.lemmas.List.Folds.{list_all_at}

@@ -27,9 +27,7 @@ const WEIGHT: Limit = Limit {
 };
 
 /// A load flag, and the weights that stand behind it where it is set.
-pub fn read_matrix<S: Source>(
-    reader: &mut BitReader<'_, S>,
-) -> Result<Option<Weights>, HeadFault>
+pub fn read_matrix<S: Source>(reader: &mut BitReader<'_, S>) -> Result<Option<Weights>, HeadFault>
     ensures answers { Answers matrix_if_loaded (λ loaded. option_map (λ w. w.items) loaded) result (Rests reader.old) (λ _. Rests reader.new) reader.old reader.new }
     ensures count { IfOk result (λ loaded. IfSome loaded (λ w. length w.items ≡ BLOCK_PLACES)) }
 {

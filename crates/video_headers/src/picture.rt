@@ -200,7 +200,11 @@ fn forward_limit(kind: u8) -> Limit
 fn backward_limit(kind: u8) -> Limit
     ensures { IsFCodeLimit (kind == B_PICTURE) result }
 {
-    if kind == B_PICTURE { F_CODE } else { ANY_F_CODE }
+    if kind == B_PICTURE {
+        F_CODE
+    } else {
+        ANY_F_CODE
+    }
 }
 
 /// A progressive sequence has frame pictures alone (6.3.10).

@@ -1,6 +1,5 @@
 -- Readers of told bits, as steps from what is left to what is left behind them.
 use Rattle.std.specs.Prelude.{◌≡◌, ◌+◌, ◌*◌, ◌≤◌, ℕ, List, length, Option, Some, IfSome, Result, MatchResult, IsErrOf}
-use Rattle.shelf_io.specs.declared.fault.Fault.{Fault}
 use Rattle.shelf_io.specs.declared.fault.Fault.TheVariants.{Failed, Missing}
 use Rattle.shelf_io.specs.Counts.{Rose}
 use Rattle.shelf_io.specs.declared.source.Source.{Ghosts}

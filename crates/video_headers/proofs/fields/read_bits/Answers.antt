@@ -1,5 +1,4 @@
 use Rattle.std.proofs.Common.{rules}
-use Rattle.bit_cursor.specs.BitReader.{bits_left, place}
 use Rattle.video_headers.proofs.ToldFields.{stops-end, bits-goes, stops-nothing}
 use Rattle.video_headers.proofs.Reading.{answers-of}
 use Rattle.video_headers.proofs.fields.read_bits.Goals as goal

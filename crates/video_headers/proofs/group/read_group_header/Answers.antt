@@ -1,6 +1,4 @@
-use Rattle.std.proofs.Common.{rules, refl, sym, arith, ◌∙◌}
-use Rattle.video_headers.proofs.Reading.{answers-bind, answers-exit, answers-done, answers-as}
-use Rattle.video_headers.proofs.Rules.{only-range, some-range, unset-flag, flag-if}
+use Rattle.video_headers.proofs.Reading.{answers-bind, answers-exit, answers-as}
 use Rattle.video_headers.proofs.group.read_group_header.Goals as goal
 
 pub returns-in_err-_time_code : goal.returns-in_err-_time_code

@@ -1,6 +1,6 @@
-use Rattle.std.proofs.Common.{rules, refl, sym, ap, ap₂, arith, ◌∙◌}
-use Rattle.video_headers.proofs.Reading.{answers-bind, answers-exit, answers-done, answers-as, answers-mapped, answers-made_exit, follows, goes-done, follows-none}
-use Rattle.video_headers.proofs.Rules.{only-range, some-range, unset-flag, flag-if}
+use Rattle.std.proofs.Common.{refl}
+use Rattle.video_headers.proofs.Reading.{answers-bind, answers-exit, answers-done}
+use Rattle.video_headers.proofs.Rules.{unset-flag}
 use Rattle.video_headers.proofs.matrix.read_quant_matrix_extension.Goals as goal
 
 pub returns-in_err-intra-clause-answers : goal.returns-in_err-intra-clause-answers

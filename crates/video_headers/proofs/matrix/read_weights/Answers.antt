@@ -1,10 +1,7 @@
-use Rattle.std.proofs.Common.{refl, ℕ, List, [], ◌∷◌, Ok, length, ap, sym, subst, ◌∙◌, arith}
+use Rattle.std.proofs.Common.{refl, [], ◌∷◌, length, ap, arith}
 use Rattle.picture_grammar.specs.Refusal.Refusal.{BadHeader}
-use Rattle.picture_grammar.specs.Grammar.{repeated}
 use Rattle.picture_grammar.specs.Element.{uimsbf, rule}
 use Rattle.picture_grammar.specs.Headers.{is_not_zero}
-use Rattle.video_headers.specs.Private.Reading.{Answers, Rests}
-use Rattle.video_headers.proofs.Reading.{answers-done}
 use Rattle.std.proofs.lemmas.List.{length-append}
 use Rattle.video_headers.proofs.Repeats.{answers-more, answers-no_more, answers-pushed, answers-all, repeats-none}
 use Rattle.video_headers.proofs.Rules.{some-range}

@@ -1,4 +1,4 @@
-use Rattle.std.proofs.Common.{◌≡◌, ◌++◌, ◌∷◌, [], refl, arith}
+use Rattle.std.proofs.Common.{◌++◌, ◌∷◌, []}
 use Rattle.video_headers.proofs.Extra.{extra-more, extra-no_byte, extra-last, extra-no_flag, extra-none, extra-pushed, extra-ended, extra-refused}
 use Rattle.video_headers.proofs.picture.read_extra_information.Goals as goal
 

@@ -1,6 +1,4 @@
-use Rattle.std.proofs.Common.{rules, refl, sym, arith, ◌∙◌}
-use Rattle.video_headers.proofs.Reading.{answers-bind, answers-exit, answers-done, answers-as}
-use Rattle.video_headers.proofs.Rules.{only-range, some-range, unset-flag, flag-if}
+use Rattle.video_headers.proofs.Reading.{answers-bind, answers-exit, answers-as}
 use Rattle.video_headers.proofs.picture.read_old_f_code.Goals as goal
 
 pub returns-in_err-_full_pel : goal.returns-in_err-_full_pel

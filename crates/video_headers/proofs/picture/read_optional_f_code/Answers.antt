@@ -1,6 +1,5 @@
-use Rattle.std.proofs.Common.{rules, refl, sym, arith, ◌∙◌}
-use Rattle.video_headers.proofs.Reading.{answers-bind, answers-exit, answers-done, answers-as}
-use Rattle.video_headers.proofs.Rules.{only-range, some-range, unset-flag, flag-if}
+use Rattle.std.proofs.Common.{refl}
+use Rattle.video_headers.proofs.Reading.{answers-bind, answers-exit, answers-done}
 use Rattle.video_headers.proofs.picture.read_optional_f_code.Goals as goal
 
 pub returns-in_err-code : goal.returns-in_err-code

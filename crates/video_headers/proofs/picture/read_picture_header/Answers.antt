@@ -1,6 +1,5 @@
-use Rattle.std.proofs.Common.{rules, refl, sym, ap, ap₂, arith, ◌∙◌}
-use Rattle.video_headers.proofs.Reading.{answers-bind, answers-exit, answers-done, answers-as, answers-mapped, answers-made_exit, follows, goes-done, follows-none}
-use Rattle.video_headers.proofs.Rules.{only-range, some-range, unset-flag, flag-if}
+use Rattle.std.proofs.Common.{refl}
+use Rattle.video_headers.proofs.Reading.{answers-bind, answers-exit, answers-mapped, answers-made_exit, goes-done, follows-none}
 use Rattle.video_headers.proofs.picture.read_picture_header.Goals as goal
 
 pub returns-in_err-_reference : goal.returns-in_err-_reference

@@ -1,6 +1,6 @@
-use Rattle.std.proofs.Common.{rules, refl, sym, arith, ◌∙◌}
-use Rattle.video_headers.proofs.Reading.{answers-bind, answers-exit, answers-done, answers-as}
-use Rattle.video_headers.proofs.Rules.{only-range, some-range, unset-flag, flag-if}
+use Rattle.std.proofs.Common.{refl, sym}
+use Rattle.video_headers.proofs.Reading.{answers-bind, answers-exit, answers-done}
+use Rattle.video_headers.proofs.Rules.{only-range, unset-flag}
 use Rattle.std.proofs.Common.{ap}
 use Rattle.bit_lists.specs.Fields.{flag}
 use Rattle.video_headers.specs.Private.Why.{refusal_of}

@@ -1,6 +1,6 @@
-use Rattle.std.proofs.Common.{rules, refl, sym, ap, ap₂, arith, ◌∙◌}
-use Rattle.video_headers.proofs.Reading.{answers-bind, answers-exit, answers-done, answers-as, answers-mapped, answers-made_exit, follows, goes-done, follows-none}
-use Rattle.video_headers.proofs.Rules.{only-range, some-range, unset-flag, flag-if}
+use Rattle.std.proofs.Common.{refl, sym, ap, arith, ◌∙◌}
+use Rattle.video_headers.proofs.Reading.{answers-bind, answers-exit, answers-done}
+use Rattle.video_headers.proofs.Rules.{only-range}
 use Rattle.std.specs.Option.{option_map}
 use Rattle.picture_grammar.specs.Headers.{matrix_or}
 use Rattle.video_headers.specs.Private.Why.{refusal_of}
