@@ -75,6 +75,7 @@ fn in_raster_order(weights: &[u8]) -> [u8; 64]
 }
 
 /// The matrices that a quant matrix extension loads.
+#[derive(Drop)]
 pub struct LoadedWeights {
     pub intra: Option<Weights>,
     pub non_intra: Option<Weights>,
