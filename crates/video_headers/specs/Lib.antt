@@ -1,0 +1,2 @@
+pub mod HeadFault
+pub mod Private

@@ -1,0 +1,4 @@
+pub mod Information
+pub mod Limits
+pub mod Reading
+pub mod Why
