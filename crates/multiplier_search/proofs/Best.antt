@@ -13,11 +13,10 @@ use Rattle.multiplier_search.specs.Private.Lambda.{BetterOf, EndsRise, RisesTo, 
 use Rattle.multiplier_search.specs.Single.{IsFirstBest, IsNoWorse, value_alone}
 use Rattle.multiplier_search.proofs.Rises.{less_below, no_greater_behind}
 
--- along the lambdas at one due time, each rise of the value is at most the one before
-pub values_concave : (table : Table) (fixed : List (Option ℕ)) (due k : ℕ)
-    → (value_at table fixed due k +ℤ value_at table fixed due (suc (suc k))) ≤ℤ (value_at table fixed due (suc k) +ℤ value_at table fixed due (suc k))
-unfolding value_alone value_of_multipliers
-values_concave table fixed due k = value-concave table fixed 0 due k []
+-- along the lambdas of one window alone, each rise of the value is at most the one before
+pub values_concave : (table : Table) (fixed : List (Option ℕ)) (from due k : ℕ)
+    → (value_at table fixed from due k +ℤ value_at table fixed from due (suc (suc k))) ≤ℤ (value_at table fixed from due (suc k) +ℤ value_at table fixed from due (suc k))
+values_concave table fixed from due k = value-concave table fixed from due k []
 
 pub no_worse_twice : (table : Table) (fixed : List (Option ℕ)) (a b c : Multiplier) → IsNoWorse table fixed a b → IsNoWorse table fixed b c → IsNoWorse table fixed a c
 no_worse_twice table fixed a b c (inl more) (inl more') = inl (omega (arith, ints))
@@ -61,24 +60,26 @@ best_of_both table fixed dues more a b better best best' (inr second) =
     subst (λ (m : Multiplier). IsFirstBest table fixed (dues ++ more) m) (sym second.0) (best_right table fixed dues more a b best best' second.1)
 
 -- ---- at one due time
-Contains-one : (x y : ℕ) → Contains (x ∷ []) y → x ≡ y
+pub Contains-one : (x y : ℕ) → Contains (x ∷ []) y → x ≡ y
 Contains-one x y (k, within, is) =
     let first : k ≡ 0 = omega arith in
     let there : get_or (x ∷ []) 0 y ≡ y = subst (λ n. get_or (x ∷ []) n y ≡ y) first is in
     there
 
-beside : (table : Table) (fixed : List (Option ℕ)) (due lambda : ℕ) → RisesTo (value_at table fixed due) lambda → EndsRise (value_at table fixed due) lambda → (k : ℕ) → k ≤ LAMBDA_MOST
+beside : (table : Table) (fixed : List (Option ℕ)) (due lambda : ℕ) → RisesTo (value_at table fixed 0 due) lambda → EndsRise (value_at table fixed 0 due) lambda → (k : ℕ) → k ≤ LAMBDA_MOST
     → IsNoWorse table fixed (record { due = due; lambda = lambda }) (record { due = due; lambda = k })
+unfolding value_alone value_of_multipliers
 beside table fixed due lambda rises ends k limit =
+    let value : ℕ → ℤ = value_at table fixed 0 due in
     elim (cases_lt k lambda) as (λ _. IsNoWorse table fixed (record { due = due; lambda = lambda }) (record { due = due; lambda = k })) [
-      | inl below ↦ inl (less_below (value_at table fixed due) (values_concave table fixed due) lambda k rises below)
+      | inl below ↦ inl (less_below value (values_concave table fixed 0 due) lambda k rises below)
       | inr from ↦
-          (let most : value_at table fixed due k ≤ℤ value_at table fixed due lambda = no_greater_behind (value_at table fixed due) (values_concave table fixed due) lambda k ends from limit in
-          by_lt_z (value_at table fixed due k) (value_at table fixed due lambda) (λ less. inl less)
-          (λ least. (let same : value_at table fixed due k ≡ value_at table fixed due lambda = omega (arith, ints) in inr (same, inr (refl, from)))))
+          (let most : value k ≤ℤ value lambda = no_greater_behind value (values_concave table fixed 0 due) lambda k ends from limit in
+          by_lt_z (value k) (value lambda) (λ less. inl less)
+          (λ least. (let same : value k ≡ value lambda = omega (arith, ints) in inr (same, inr (refl, from)))))
     ]
 
-pub best_at_due : (table : Table) (fixed : List (Option ℕ)) (due lambda : ℕ) → lambda ≤ LAMBDA_MOST → RisesTo (value_at table fixed due) lambda → EndsRise (value_at table fixed due) lambda
+pub best_at_due : (table : Table) (fixed : List (Option ℕ)) (due lambda : ℕ) → lambda ≤ LAMBDA_MOST → RisesTo (value_at table fixed 0 due) lambda → EndsRise (value_at table fixed 0 due) lambda
     → IsFirstBest table fixed (due ∷ []) (record { due = due; lambda = lambda })
 best_at_due table fixed due lambda most rises ends = record {
   candidate = record { due = (0, omega arith, refl); lambda = most };

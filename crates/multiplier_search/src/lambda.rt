@@ -5,23 +5,25 @@ ghost use Rattle.dual_bounds.specs.Fixed.{FixesVersions};
 ghost use Rattle.multiplier_search.specs.Private.Lambda.{EndsRise, RisesTo, value_at};
 
 use dual_bounds::constants::LAMBDA_MOST;
-use dual_bounds::{Fixed, Multiplier, dual_value};
+use dual_bounds::{Fixed, Window, window_value};
 use version_table::Table;
 
-/// The least lambda at which the multiplier at a due time has its greatest value: values rise up to it and no more, since
+/// The least lambda at which a window alone has its greatest value: values rise up to it and no more, since
 /// each rise is at most the one before.
-pub fn best_lambda(table: &Table, fixed: &Fixed, due: u64) -> u64
+pub fn best_lambda(table: &Table, fixed: &Fixed, from: u64, due: u64) -> u64
     requires valid { IsValidTable table.now }
     requires fixed { FixesVersions table.now fixed.now }
     ensures most { result ≤ LAMBDA_MOST }
-    ensures rises { RisesTo (value_at table.now fixed.now due) result }
-    ensures ends { EndsRise (value_at table.now fixed.now due) result }
+    ensures rises { RisesTo (value_at table.now fixed.now from due) result }
+    ensures ends { EndsRise (value_at table.now fixed.now from due) result }
 {
     let mut low = 0;
     let mut high = LAMBDA_MOST;
     while low < high {
         let middle = low + (high - low) / 2;
-        if value_at(table, fixed, due, middle) < value_at(table, fixed, due, middle + 1) {
+        if value_at(table, fixed, from, due, middle)
+            < value_at(table, fixed, from, due, middle + 1)
+        {
             low = middle + 1;
         } else {
             high = middle;
@@ -30,12 +32,12 @@ pub fn best_lambda(table: &Table, fixed: &Fixed, due: u64) -> u64
     low
 }
 
-/// The value of the multiplier at a due time with this lambda.
-pub fn value_at(table: &Table, fixed: &Fixed, due: u64, lambda: u64) -> i128
+/// The value of a window alone with this lambda.
+pub fn value_at(table: &Table, fixed: &Fixed, from: u64, due: u64, lambda: u64) -> i128
     requires valid { IsValidTable table.now }
     requires fixed { FixesVersions table.now fixed.now }
     requires lambda { lambda ≤ LAMBDA_MOST }
-    ensures { result ≡ value_at table.now fixed.now due lambda }
+    ensures { result ≡ value_at table.now fixed.now from due lambda }
 {
-    dual_value(table, fixed, &[Multiplier { due, lambda }])
+    window_value(table, fixed, &[Window { from, due, lambda }])
 }

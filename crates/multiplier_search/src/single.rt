@@ -3,10 +3,10 @@ ghost use Rattle.version_table.specs.Table.{IsValidTable};
 ghost use Rattle.dual_bounds.specs.declared.constants.TheConstants.{LAMBDA_MOST};
 ghost use Rattle.dual_bounds.specs.Fixed.{FixesVersions};
 ghost use Rattle.multiplier_search.specs.Private.Lambda.{BetterOf, GoesFirst, IsBestOf};
-ghost use Rattle.multiplier_search.specs.Single.{IsBestSingle, IsFirstBest, dues_of};
+ghost use Rattle.multiplier_search.specs.Single.{IsBestSingle, IsFirstBest, dues_of, value_alone};
 
-use crate::lambda::{best_lambda, value_at};
-use dual_bounds::{Fixed, Multiplier, Multipliers};
+use crate::lambda::best_lambda;
+use dual_bounds::{Fixed, Multiplier, Multipliers, dual_value};
 use list_types::OutOfMemory;
 use version_table::{Table, Unit};
 
@@ -71,13 +71,23 @@ fn better_of(table: &Table, fixed: &Fixed, a: Multiplier, b: Multiplier) -> Mult
     requires second { b.lambda ≤ LAMBDA_MOST }
     ensures { BetterOf table.now fixed.now a b result }
 {
-    let value = value_at(table, fixed, a.due, a.lambda);
-    let other = value_at(table, fixed, b.due, b.lambda);
+    let value = value_alone(table, fixed, a);
+    let other = value_alone(table, fixed, b);
     if value < other || (value == other && goes_before(b, a)) {
         b
     } else {
         a
     }
+}
+
+/// The value of a multiplier alone.
+fn value_alone(table: &Table, fixed: &Fixed, multiplier: Multiplier) -> i128
+    requires valid { IsValidTable table.now }
+    requires fixed { FixesVersions table.now fixed.now }
+    requires lambda { multiplier.lambda ≤ LAMBDA_MOST }
+    ensures { result ≡ value_alone table.now fixed.now multiplier }
+{
+    dual_value(table, fixed, &[multiplier])
 }
 
 /// Whether a multiplier is due earlier than another, or at the same time with a lesser lambda.
@@ -96,6 +106,6 @@ fn best_at(table: &Table, fixed: &Fixed, due: u64) -> Multiplier
 {
     Multiplier {
         due,
-        lambda: best_lambda(table, fixed, due),
+        lambda: best_lambda(table, fixed, 0, due),
     }
 }

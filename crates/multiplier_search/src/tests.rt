@@ -1,5 +1,5 @@
-use crate::best_single;
-use dual_bounds::{Multiplier, nothing_fixed};
+use crate::{best_single, best_window};
+use dual_bounds::{Multiplier, Window, nothing_fixed};
 use std::alloc::Global;
 use std::process::Abort;
 use std::test::Fail;
@@ -55,4 +55,20 @@ fn without_room_the_greatest_lambda_is_taken(rt: HostRuntime) -> Result<(), Fail
 fn without_units_there_is_none(rt: HostRuntime) -> Result<(), Fail> {
     let text = b"remux table 1\nslot 4000\nnodes 1\nevaluations 0\nprogram 112\n";
     assert_best(&rt, rt.alloc(), text, None)
+}
+
+#[test]
+fn a_window_that_ends_late_bounds_what_no_multiplier_does(rt: HostRuntime) -> Result<(), Fail> {
+    let text =
+        b"remux table 1\nslot 40000\nnodes 1\nevaluations 0\nprogram 112\nunit 54000000 115000:0 92000:10\n";
+    let table = read_table(rt.alloc(), text)?;
+    let fixed = nothing_fixed(rt.alloc(), &table)?;
+    let found = best_window(&table, &fixed)?;
+    let best = Window {
+        from: 54_000_000,
+        due: 54_000_000,
+        lambda: 20,
+    };
+    assert_eq!(rt; found.as_slice().first().copied(), Some(best));
+    Ok(())
 }

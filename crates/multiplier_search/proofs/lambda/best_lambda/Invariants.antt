@@ -8,8 +8,8 @@ abbrev pub invariant-loop-low : goal.invariant-loop-low
 invariant-loop-low l = record {
   order : l.low ≤ l.high;
   most : l.high ≤ LAMBDA_MOST;
-  rises : RisesTo (value_at l.table l.fixed l.due) l.low;
-  ends : EndsRise (value_at l.table l.fixed l.due) l.high;
+  rises : RisesTo (value_at l.table l.fixed l.from l.due) l.low;
+  ends : EndsRise (value_at l.table l.fixed l.from l.due) l.high;
 }
 
 abbrev pub decreases-loop-low : goal.decreases-loop-low
