@@ -8,7 +8,7 @@ use Rattle.std.proofs.lemmas.Nat.{pow-add, pow_pos}
 use Rattle.std.proofs.lemmas.List.Folds.{list_all-append}
 use Rattle.bit_lists.specs.Bits.{IsPrefix, bits_of}
 use Rattle.bit_lists.proofs.BitLemmas.{length-bits_of, take-bits_of, bits_of-one}
-use Rattle.bit_cursor.specs.Reading.{Shows}
+use Rattle.bit_cursor.specs.Shown.{IsWindow}
 use Rattle.picture_grammar.specs.Element.{Rule, passes, MayStand, Breaks}
 use Rattle.picture_grammar.specs.Headers.{is_from_to}
 use Rattle.video_headers.specs.declared.limit.Limit.{Limit}
@@ -118,7 +118,7 @@ module _ (n : ℕ) (bits : List ℕ) where
 
 -- ---- what a window shows
 
-module _ (n : ℕ) (bits : List ℕ) (number known last : ℕ) (shows : Shows n bits number known) (below : number < 2 ^ n)
+module _ (n : ℕ) (bits : List ℕ) (number known last : ℕ) (shows : IsWindow n bits number known) (below : number < 2 ^ n)
     (filled : number % 2 ^ (n - known) ≡ 0) (is_last : last ≡ number + (2 ^ (n - known) - 1)) where
   few : known ≤ n
   few = omega (arith, shows.known)

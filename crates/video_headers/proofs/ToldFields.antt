@@ -8,7 +8,7 @@ use Rattle.bit_lists.specs.Bits.{IsPrefix, bits_of}
 use Rattle.bit_lists.proofs.BitLemmas.{length-bits_of}
 use Rattle.bit_cursor.specs.declared.bit_reader.BitReader.{BitReader}
 use Rattle.bit_cursor.specs.BitReader.{bits_left, place, without_bits}
-use Rattle.bit_cursor.specs.Reading.{IsFront, Shows}
+use Rattle.bit_cursor.specs.Shown.{IsFirstNumber, IsWindow}
 use Rattle.picture_grammar.specs.Refusal.Refusal.{End}
 use Rattle.picture_grammar.specs.Grammar.{Grammar}
 use Rattle.picture_grammar.specs.Element.{Rule, passes, MayStand, Breaks, uimsbf}
@@ -47,10 +47,10 @@ stops-end n reader at is short =
 -- ---- numbers within limits
 
 module _ (n : ℕ) {S : Type 0} {g : Ghosts S} (reader : BitReader S g) (number known last at : ℕ) (limits : List Limit)
-    (shows : IfSome (bits_left reader) (λ bits. Shows n bits number known)) (below : number < 2 ^ n)
+    (shows : IfSome (bits_left reader) (λ bits. IsWindow n bits number known)) (below : number < 2 ^ n)
     (filled : number % 2 ^ (n - known) ≡ 0) (is_last : last ≡ number + (2 ^ (n - known) - 1)) (is_at : at ≡ place reader) where
   says : (rules : List (Rule ℕ)) → AreRules n limits rules → (bits : List ℕ) → bits_left reader ≡ Some bits → Says n bits rules (first_broken number last limits)
-  says rules are bits told = limited n bits [] rules limits number last (left-shown n bits number known last (told-of (λ bits. Shows n bits number known) (bits_left reader) bits told shows) below filled is_last) are
+  says rules are bits told = limited n bits [] rules limits number last (left-shown n bits number known last (told-of (λ bits. IsWindow n bits number known) (bits_left reader) bits told shows) below filled is_last) are
 
   told_why : (why : Why) (rules : List (Rule ℕ)) (bits : List ℕ) (end : ℕ) → place reader + length bits ≡ end → (uimsbf n rules).Refuses bits (refusal_of why) bits
       → IfSome (refusal_told (fault_at why at)) (λ said. (left : List ℕ) × (uimsbf n rules).Refuses bits said.refusal left × (said.at + length left ≡ end))
@@ -72,7 +72,7 @@ module _ (n : ℕ) {S : Type 0} {g : Ghosts S} (reader : BitReader S g) (number 
   limited-cut found lt rules are = record {
     why = λ end bits left.
         let may : MayStand (NumberCode n) rules bits = subst (Says n bits rules) found (says rules are bits left.told) in
-        let shown = told-of (λ bits. Shows n bits number known) (bits_left reader) bits left.told shows in
+        let shown = told-of (λ bits. IsWindow n bits number known) (bits_left reader) bits left.told shows in
         let few : length bits < n = omega (arith, shown.known) in (
           bits,
           (
@@ -92,7 +92,7 @@ module _ (n : ℕ) {S : Type 0} {g : Ghosts S} (reader : BitReader S g) (number 
   limited-goes found ge {after} left moved rules are = record {
     on = λ end bits here.
         let may : MayStand (NumberCode n) rules bits = subst (Says n bits rules) found (says rules are bits here.told) in
-        let shown = told-of (λ bits. Shows n bits number known) (bits_left reader) bits here.told shows in
+        let shown = told-of (λ bits. IsWindow n bits number known) (bits_left reader) bits here.told shows in
         let all : known ≡ n = omega (arith, shown.known) in
         let long : n ≤ length bits = omega (arith, shown.known) in
         let first : take n bits ≡ bits_of n number = sym shown.front ∙ ap (λ (k : ℕ). take k (bits_of n number)) all ∙ take_all n (bits_of n number) (omega (arith, length-bits_of n number)) in
@@ -120,11 +120,11 @@ one-shifted k le = one_shl k 32 (omega (arith, le))
 pub stops-nothing : {A : Type 0} (grammar : Grammar A) (from : ℕ → List ℕ → Type 0) → Stops grammar None from
 stops-nothing grammar from = record { why = λ end bits left. tt }
 
-pub bits-goes : (n number : ℕ) {S : Type 0} {g : Ghosts S} (reader after : BitReader S g) → IfSome (bits_left reader) (λ bits. IsFront n bits number) → number < 2 ^ n
+pub bits-goes : (n number : ℕ) {S : Type 0} {g : Ghosts S} (reader after : BitReader S g) → IfSome (bits_left reader) (λ bits. IsFirstNumber n bits number) → number < 2 ^ n
     → bits_left after ≡ without_bits (bits_left reader) n → place after ≡ place reader + n → Goes (uimsbf n []) number (Rests reader) (Rests after)
 bits-goes n number reader after front below left moved = record {
   on = λ end bits here.
-      let is = told-of (λ bits. IsFront n bits number) (bits_left reader) bits here.told front in
+      let is = told-of (λ bits. IsFirstNumber n bits number) (bits_left reader) bits here.told front in
       let split : bits ≡ bits_of n number ++ drop n bits = sym (take-append-drop n bits) ∙ ap (λ (f : List ℕ). f ++ drop n bits) is.front in (
         drop n bits,
         (bits_of n number, (below, refl), refl, split),
