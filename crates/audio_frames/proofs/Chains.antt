@@ -7,12 +7,12 @@ use Rattle.std.proofs.lemmas.Bool.{cases_lt, or_parts}
 use Rattle.audio_frames.specs.declared.audio_fault.AudioFault.{AudioFault}
 use Rattle.audio_frames.specs.declared.audio_fault.AudioFault.TheVariants.{NotLayer2, AudioSync}
 use Rattle.audio_frames.specs.FrameHeader.{syncword}
-use Rattle.audio_frames.specs.Frames.{is_frame, end_of, goes_on, is_near_end, is_rest, is_first, has_header, AreFrames, AreAllFrames, BreaksAt, first_frame}
+use Rattle.audio_frames.specs.Frames.{is_audio_frame, end_of, goes_on, is_near_end, is_rest, is_first, has_header, AreFrames, AreAllFrames, BreaksAt, first_frame}
 use Rattle.audio_frames.specs.Private.Places.{AreApart, break_at, IsBroken}
 use Rattle.audio_frames.proofs.Formats.{rest_from, no_rest_at_frame, first_is_frame, frame_header}
 use Rattle.audio_frames.proofs.Places.{found_passes}
 
-pub frames_more : (payload : List ℕ) (first from : ℕ) (places : List ℕ) (at : ℕ) → AreFrames payload first from places at → is_frame payload first at ≡ true → AreFrames payload first from (places ++ at ∷ []) (end_of payload at)
+pub frames_more : (payload : List ℕ) (first from : ℕ) (places : List ℕ) (at : ℕ) → AreFrames payload first from places at → is_audio_frame payload first at ≡ true → AreFrames payload first from (places ++ at ∷ []) (end_of payload at)
 frames_more payload first from [] at before here = (before, here, refl)
 frames_more payload first from (place ∷ places) at before here = (before.0, before.1, frames_more payload first (end_of payload place) places at before.2 here)
 
@@ -41,7 +41,7 @@ apart_more places at end apart far =
     }
 
 -- where nothing breaks off behind the last whole frame, they are all frames
-pub all_frames : (payload places : List ℕ) (first end : ℕ) → first_frame payload ≡ Some first → AreFrames payload first first places end → is_frame payload first end ≡ false → break_at payload first end ≡ None → AreAllFrames payload places
+pub all_frames : (payload places : List ℕ) (first end : ℕ) → first_frame payload ≡ Some first → AreFrames payload first first places end → is_audio_frame payload first end ≡ false → break_at payload first end ≡ None → AreAllFrames payload places
 all_frames payload places first end begun frames no_frame no_break =
     record {
       end = end;
@@ -77,8 +77,8 @@ broken_there payload places first end fault begun frames = by_test (is_near_end 
         by_sync false stands is = subst (IsBroken payload) (some_same _ _ is) (broken false on stands)
 
 -- what the end of a frame says of it
-pub frame_found : (payload : List ℕ) (first at end : ℕ) → Some end ≡ cond (is_frame payload first at) (Some (end_of payload at)) None → (is_frame payload first at ≡ true) × (end ≡ end_of payload at)
-frame_found payload first at end = by_test (is_frame payload first at)
+pub frame_found : (payload : List ℕ) (first at end : ℕ) → Some end ≡ cond (is_audio_frame payload first at) (Some (end_of payload at)) None → (is_audio_frame payload first at ≡ true) × (end ≡ end_of payload at)
+frame_found payload first at end = by_test (is_audio_frame payload first at)
   where
     by_test : (is : Bool) → Some end ≡ cond is (Some (end_of payload at)) None → (is ≡ true) × (end ≡ end_of payload at)
     by_test true some = (refl, same_place end (end_of payload at) some)
@@ -87,8 +87,8 @@ frame_found payload first at end = by_test (is_frame payload first at)
         same_place a b is = cc
     by_test false some = absurd (cc)
 
-pub no_frame_found : (payload : List ℕ) (first at : ℕ) → None ≡ cond (is_frame payload first at) (Some (end_of payload at)) None → is_frame payload first at ≡ false
-no_frame_found payload first at = by_test (is_frame payload first at)
+pub no_frame_found : (payload : List ℕ) (first at : ℕ) → None ≡ cond (is_audio_frame payload first at) (Some (end_of payload at)) None → is_audio_frame payload first at ≡ false
+no_frame_found payload first at = by_test (is_audio_frame payload first at)
   where
     by_test : (is : Bool) → None ≡ cond is (Some (end_of payload at)) None → is ≡ false
     by_test true none = absurd (cc)

@@ -3,7 +3,7 @@ use Rattle.std.proofs.Common.{◌≡◌, ℕ, true, false, List, [], ◌∷◌, 
 use Rattle.bit_lists.specs.Fields.{bit, bits}
 use Rattle.audio_frames.specs.declared.pes_start.PesStart.{PesStart}
 use Rattle.audio_frames.specs.FrameHeader.{frame_length, is_header, sampling_rate}
-use Rattle.audio_frames.specs.Frames.{first_frame, is_frame, is_rest, goes_on}
+use Rattle.audio_frames.specs.Frames.{first_frame, is_audio_frame, is_rest, goes_on}
 use Rattle.audio_frames.specs.Times.{given_time, frame_ticks}
 
 -- ---- headers
@@ -40,7 +40,7 @@ stream_first : first_frame stream ≡ Some 2
 unfolding bit bits
 stream_first = refl
 
-stream_frames : (is_frame stream 2 2 ≡ true) × (is_frame stream 2 50 ≡ true) × (is_rest stream 2 98 ≡ true)
+stream_frames : (is_audio_frame stream 2 2 ≡ true) × (is_audio_frame stream 2 50 ≡ true) × (is_rest stream 2 98 ≡ true)
 unfolding bit bits
 stream_frames = (refl, refl, refl)
 

@@ -5,7 +5,7 @@ use Rattle.std.proofs.lemmas.List.{take_all}
 use Rattle.std.proofs.lemmas.Bool.{and_parts, and_from, and_left, and_right, leb-true, lt-leb, le-leb, leb-false, le-ltb, both_ways, or_from, lt-ltb, eq-eqb}
 use Rattle.audio_frames.specs.declared.frame_header.FrameHeader.{FrameHeader}
 use Rattle.audio_frames.specs.FrameHeader.{id, sampling_index, frame_length, hertz, sampling_rate, is_header, is_same_format}
-use Rattle.audio_frames.specs.Frames.{has_header, end_of, goes_on, is_near_end, is_rest, is_first, is_frame}
+use Rattle.audio_frames.specs.Frames.{has_header, end_of, goes_on, is_near_end, is_rest, is_first, is_audio_frame}
 use Rattle.audio_frames.specs.Private.Format.{header_of, has_format}
 
 -- a header that was kept stands there
@@ -58,7 +58,7 @@ pub goes_on_header : (payload : List ℕ) (first at : ℕ) → goes_on payload f
 goes_on_header payload first at is = (and_parts (has_header payload at) (is_same_format (drop first payload) (drop at payload)) is).0
 
 -- a first frame is a frame of its own format
-pub first_is_frame : (payload : List ℕ) (at : ℕ) → is_first payload at ≡ true → is_frame payload at at ≡ true
+pub first_is_frame : (payload : List ℕ) (at : ℕ) → is_first payload at ≡ true → is_audio_frame payload at at ≡ true
 first_is_frame payload at is =
     let end = end_of payload at in
     let parts : (has_header payload at ≡ true) × ((goes_on payload at end ≡ true) ⊎ (nat_le end (length payload) ≡ true)) =
@@ -77,7 +77,7 @@ rest_from false true end size is cut = lt-ltb size end (leb-false end size cut)
 rest_from false false end size is cut = absurd (cc)
 
 -- another format, or an end behind the payload's, is no frame
-pub no_like_frame : (payload : List ℕ) (first at : ℕ) (header next : FrameHeader) → header_of (drop first payload) ≡ Some header → header_of (drop at payload) ≡ Some next → ((header.id == next.id) && (header.sampling_index == next.sampling_index)) ≡ false → is_frame payload first at ≡ false
+pub no_like_frame : (payload : List ℕ) (first at : ℕ) (header next : FrameHeader) → header_of (drop first payload) ≡ Some header → header_of (drop at payload) ≡ Some next → ((header.id == next.id) && (header.sampling_index == next.sampling_index)) ≡ false → is_audio_frame payload first at ≡ false
 no_like_frame payload first at header next is stands other =
     let differ : is_same_format (drop first payload) (drop at payload) ≡ false =
     ap (λ (b : ℕ). (id (drop first payload) == b) && (sampling_index (drop first payload) == sampling_index (drop at payload))) (sym (kept_id (drop at payload) next stands))
@@ -94,12 +94,12 @@ kept_length bytes header = by_test (is_header bytes)
     by_test true is = cc
     by_test false is = absurd (cc)
 
-pub no_whole_frame : (payload : List ℕ) (first at : ℕ) (next : FrameHeader) → header_of (drop at payload) ≡ Some next → length payload < at + next.len → is_frame payload first at ≡ false
+pub no_whole_frame : (payload : List ℕ) (first at : ℕ) (next : FrameHeader) → header_of (drop at payload) ≡ Some next → length payload < at + next.len → is_audio_frame payload first at ≡ false
 no_whole_frame payload first at next stands past =
     let far : length payload < end_of payload at = omega (arith, past, kept_length (drop at payload) next stands) in
     and_right (goes_on payload first at) (nat_le (end_of payload at) (length payload)) (lt-leb (end_of payload at) (length payload) far)
 
-pub frame_header : (payload : List ℕ) (first at : ℕ) → is_frame payload first at ≡ true → has_header payload at ≡ true
+pub frame_header : (payload : List ℕ) (first at : ℕ) → is_audio_frame payload first at ≡ true → has_header payload at ≡ true
 frame_header payload first at is = goes_on_header payload first at (and_parts (goes_on payload first at) (nat_le (end_of payload at) (length payload)) is).0
 
 -- the rest of a payload as a slice of it
@@ -107,7 +107,7 @@ pub rest_whole : (payload : List ℕ) (at : ℕ) → take (length payload - at) 
 rest_whole payload at = take_all (length payload - at) (drop at payload) (omega (arith, length-drop at payload))
 
 -- where a frame stands no rest does
-pub no_rest_at_frame : (payload : List ℕ) (at : ℕ) → is_rest payload at at ≡ true → is_frame payload at at ≡ true → ⊥
+pub no_rest_at_frame : (payload : List ℕ) (at : ℕ) → is_rest payload at at ≡ true → is_audio_frame payload at at ≡ true → ⊥
 no_rest_at_frame payload at rest frame =
     let parts : (goes_on payload at at ≡ true) × (nat_le (end_of payload at) (length payload) ≡ true) = and_parts (goes_on payload at at) (nat_le (end_of payload at) (length payload)) frame in
     let long : at + 4 ≤ length payload = header_long payload at (goes_on_header payload at at parts.0) in

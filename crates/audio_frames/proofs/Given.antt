@@ -6,7 +6,7 @@ use Rattle.std.specs.List.Sorted.{IsStrictlyIncreasing}
 use Rattle.std.proofs.lemmas.List.{get_or-map}
 use Rattle.std.proofs.lemmas.Bool.{le-leb, lt-leb, lt-ltb, le-ltb, ne_eqb, cases_lt}
 use Rattle.audio_frames.specs.declared.pes_start.PesStart.{PesStart}
-use Rattle.audio_frames.specs.Times.{packet_of, given_time}
+use Rattle.audio_frames.specs.Times.{pes_packet_of, given_time}
 use Rattle.audio_frames.specs.Private.Packets.{start_of, time_of, time_between, IsCountUpTo}
 
 -- places that rise, from one to a later one
@@ -45,7 +45,7 @@ last_taken o (x ∷ xs) zero d lt = by_rest xs
 last_taken o (x ∷ xs) (suc n) d lt = last_taken (Some x) xs n d (omega arith)
 
 -- the packet of a place
-packet_is : (starts : List PesStart) (at n : ℕ) (d : PesStart) → IsCountUpTo starts at (suc n) → packet_of starts at ≡ Some (get_or starts n d)
+packet_is : (starts : List PesStart) (at n : ℕ) (d : PesStart) → IsCountUpTo starts at (suc n) → pes_packet_of starts at ≡ Some (get_or starts n d)
 packet_is starts at n d count =
     ap (last_or None) (first_packets starts at (suc n) count.within count.before count.behind) ∙ last_taken None starts n d (omega (arith, count.within))
 
@@ -54,7 +54,7 @@ pub given_is : (starts : List PesStart) (places : List ℕ) (k from up_to : ℕ)
 given_is starts places k from up_to d before here le some =
     let n = up_to - 1 in
     let count : up_to ≡ suc n = omega arith in
-    let packet : packet_of starts (slice_index places (k + 1)) ≡ Some (get_or starts n d) = packet_is starts (slice_index places (k + 1)) n d (subst (IsCountUpTo starts (slice_index places (k + 1))) count here) in
+    let packet : pes_packet_of starts (slice_index places (k + 1)) ≡ Some (get_or starts n d) = packet_is starts (slice_index places (k + 1)) n d (subst (IsCountUpTo starts (slice_index places (k + 1))) count here) in
     let start : start_of starts n ≡ (get_or starts n d).at = get_or-map (λ (start : PesStart). start.at) starts n d 0 (omega (arith, here.within)) in
     let time : time_of starts n ≡ (get_or starts n d).time = get_or-map (λ (start : PesStart). start.time) starts n d None (omega (arith, here.within)) in
     let back : (k + 1) - 1 ≡ k = omega arith in

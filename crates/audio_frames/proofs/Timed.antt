@@ -10,15 +10,15 @@ use Rattle.audio_frames.specs.Frames.{AreAllFrames}
 use Rattle.audio_frames.specs.declared.clock.Clock.{Clock}
 use Rattle.audio_frames.specs.declared.frame.Frame.{Frame}
 use Rattle.audio_frames.specs.declared.pes_start.PesStart.{PesStart}
-use Rattle.audio_frames.specs.Times.{frame_ticks, given_time, IsTimeOf, time_at, AreTimes, AreRising, IsOutOfOrder, AreFramesOf, rate_of, spans}
+use Rattle.audio_frames.specs.Times.{frame_ticks, given_time, IsTimeOf, frame_time_at, AreTimes, AreRising, IsOutOfOrder, AreFramesOf, rate_of, spans}
 use Rattle.audio_frames.specs.Private.Packets.{IsLastGiven, IsClockAt}
 
-time_last : (times : List ℤ) (t : ℤ) (k : ℕ) → k ≡ length times → time_at (times ++ t ∷ []) k ≡ t
+time_last : (times : List ℤ) (t : ℤ) (k : ℕ) → k ≡ length times → frame_time_at (times ++ t ∷ []) k ≡ t
 time_last times t k is =
     let sum : length times + 0 ≡ k = omega arith in
-    subst (λ (k : ℕ). time_at (times ++ t ∷ []) k ≡ t) sum (get_or-append-add times (t ∷ []) 0 (pos 0))
+    subst (λ (k : ℕ). frame_time_at (times ++ t ∷ []) k ≡ t) sum (get_or-append-add times (t ∷ []) 0 (pos 0))
 
-time_before : (times : List ℤ) (t : ℤ) (k : ℕ) → k < length times → time_at (times ++ t ∷ []) k ≡ time_at times k
+time_before : (times : List ℤ) (t : ℤ) (k : ℕ) → k < length times → frame_time_at (times ++ t ∷ []) k ≡ frame_time_at times k
 time_before times t k lt = get_or-append times (t ∷ []) (pos 0) k lt
 
 -- no time is given since
@@ -65,12 +65,12 @@ times_more starts places rate times k t are count is = λ j lt. elim (cases_lt j
       subst (IsTimeOf starts places rate j) (sym (time_last times t j (omega arith))) (subst (λ (j : ℕ). IsTimeOf starts places rate j t) same is))
 ]
 
-pub rising_more : (times : List ℤ) (n : ℕ) (t : ℤ) → n + 1 ≡ length times → AreRising times (n + 1) → time_at times n <ℤ t → AreRising (times ++ t ∷ []) (n + 1 + 1)
+pub rising_more : (times : List ℤ) (n : ℕ) (t : ℤ) → n + 1 ≡ length times → AreRising times (n + 1) → frame_time_at times n <ℤ t → AreRising (times ++ t ∷ []) (n + 1 + 1)
 rising_more times n t count up later = λ k lt. elim (cases_lt (k + 1) (n + 1)) [
   | inl before ↦ rw (time_before times t k (omega arith), time_before times t (k + 1) (omega arith)) (up k before)
   | inr last ↦
       (let same : n ≡ k = omega arith in
-      let later' : time_at times k <ℤ t = subst (λ (k : ℕ). time_at times k <ℤ t) same later in
+      let later' : frame_time_at times k <ℤ t = subst (λ (k : ℕ). frame_time_at times k <ℤ t) same later in
       rw (time_before times t k (omega arith), time_last times t (k + 1) (omega arith)) later')
 ]
 
@@ -163,7 +163,7 @@ pub out_of_order : (payload : List ℕ) (rate : ℕ) (starts : List PesStart) (p
 out_of_order payload rate starts places j clock next begin frames all rate_is before here same within early =
     let count = times_count frames j clock.time before.count in
     let times : List ℤ = times_of frames ++ clock.time ∷ [] in
-    let last : time_at times j ≡ clock.time = time_last (times_of frames) clock.time j (omega (arith, before.count, length-map frames (λ (frame : Frame). frame.time))) in
+    let last : frame_time_at times j ≡ clock.time = time_last (times_of frames) clock.time j (omega (arith, before.count, length-map frames (λ (frame : Frame). frame.time))) in
     record {
       places = places;
       all = all;

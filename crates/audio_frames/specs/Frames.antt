@@ -29,13 +29,13 @@ abbrev pub first_frame : List ℕ → Option ℕ
 first_frame payload = find (is_first payload) (range_with_len 0 (length payload))
 
 -- a whole frame of the same format
-abbrev pub is_frame : List ℕ → ℕ → ℕ → Bool
-is_frame payload first at = goes_on payload first at && nat_le (end_of payload at) (length payload)
+abbrev pub is_audio_frame : List ℕ → ℕ → ℕ → Bool
+is_audio_frame payload first at = goes_on payload first at && nat_le (end_of payload at) (length payload)
 
 -- whole frames at these places, one behind the other, from a place up to another
 abbrev pub AreFrames : List ℕ → ℕ → ℕ → List ℕ → ℕ → Type 0
 AreFrames payload first from [] end = from ≡ end
-AreFrames payload first from (at ∷ places) end = (from ≡ at) × (is_frame payload first at ≡ true) × AreFrames payload first (end_of payload at) places end
+AreFrames payload first from (at ∷ places) end = (from ≡ at) × (is_audio_frame payload first at ≡ true) × AreFrames payload first (end_of payload at) places end
 
 -- the rest behind the last frame: too short for a header, or a frame of the same format that the payload's end cuts
 abbrev pub is_rest : List ℕ → ℕ → ℕ → Bool

@@ -28,8 +28,8 @@ abbrev pub frame_ticks : ℕ → ℕ → ℕ
 frame_ticks rate count = count * (FRAME_SAMPLES * TICKS_PER_SECOND) / rate
 
 -- the PES packet with the byte at a place: the last one whose payload begins there or before
-abbrev pub packet_of : List PesStart → ℕ → Option PesStart
-packet_of starts at = last_or None (filter (λ start. nat_le start.at at) starts)
+abbrev pub pes_packet_of : List PesStart → ℕ → Option PesStart
+pes_packet_of starts at = last_or None (filter (λ start. nat_le start.at at) starts)
 
 -- the frame before the k-th one begins before the packet's payload
 abbrev pub is_first_in : List ℕ → ℕ → PesStart → Bool
@@ -38,7 +38,7 @@ is_first_in places k packet = (k == 0) || nat_lt (slice_index places (k - 1)) pa
 -- the time that the k-th frame is given: that of the PES packet in which it is the first one to begin
 abbrev pub given_time : List PesStart → List ℕ → ℕ → Option ℤ
 given_time starts places k =
-    option_and_then (λ packet. if is_first_in places k packet then packet.time else None) (packet_of starts (slice_index places k))
+    option_and_then (λ packet. if is_first_in places k packet then packet.time else None) (pes_packet_of starts (slice_index places k))
 
 -- The time of the k-th frame in ticks: it is the given time of the last frame up to it that has one, and the ticks of the
 -- frames from that one on.
@@ -51,16 +51,16 @@ pub record IsTimeOf (starts : List PesStart) (places : List ℕ) (rate k : ℕ) 
   pub is : time ≡ (pos TICKS_PER_TIME_UNIT *ℤ given) +ℤ pos (frame_ticks rate (k - last))
 
 -- the k-th of some times
-abbrev pub time_at : List ℤ → ℕ → ℤ
-time_at times k = slice_index_or times k (pos 0)
+abbrev pub frame_time_at : List ℤ → ℕ → ℤ
+frame_time_at times k = slice_index_or times k (pos 0)
 
 -- the times of the first frames
 abbrev pub AreTimes : List PesStart → List ℕ → ℕ → List ℤ → Type 0
-AreTimes starts places rate times = (k : ℕ) → k < length times → IsTimeOf starts places rate k (time_at times k)
+AreTimes starts places rate times = (k : ℕ) → k < length times → IsTimeOf starts places rate k (frame_time_at times k)
 
 -- each of the first times is later than the one before
 abbrev pub AreRising : List ℤ → ℕ → Type 0
-AreRising times count = (k : ℕ) → k + 1 < count → time_at times k <ℤ time_at times (k + 1)
+AreRising times count = (k : ℕ) → k + 1 < count → frame_time_at times k <ℤ frame_time_at times (k + 1)
 
 -- ---- what is answered
 
@@ -100,13 +100,13 @@ pub record IsOutOfOrder (payload : List ℕ) (starts : List PesStart) (at : ℕ)
   pub place : at ≡ slice_index places (before + 1)
   pub are : AreTimes starts places (rate_of payload places) times
   pub rising : AreRising times (before + 1)
-  pub not_later : time_at times (before + 1) ≤ℤ time_at times before
+  pub not_later : frame_time_at times (before + 1) ≤ℤ frame_time_at times before
 
 -- What refuses a payload. NotLayer2 is said of no first frame, or where twelve ones begin no header of the same format,
 -- AudioSync where they don't stand; NoAudioTime and TimeOrder only of a payload that is all frames.
-abbrev pub IsRefused : List ℕ → List PesStart → AudioFault → Type 0
-IsRefused payload starts (NotLayer2 at) = ((first_frame payload ≡ None) × (at ≡ 0)) ⊎ BreaksAt payload at true
-IsRefused payload starts (AudioSync at) = BreaksAt payload at false
-IsRefused payload starts (NoAudioTime at) = IsUntimed payload starts at
-IsRefused payload starts (TimeOrder at) = IsOutOfOrder payload starts at
-IsRefused payload starts OutOfMemory = Unit {0}
+abbrev pub IsAudioRefused : List ℕ → List PesStart → AudioFault → Type 0
+IsAudioRefused payload starts (NotLayer2 at) = ((first_frame payload ≡ None) × (at ≡ 0)) ⊎ BreaksAt payload at true
+IsAudioRefused payload starts (AudioSync at) = BreaksAt payload at false
+IsAudioRefused payload starts (NoAudioTime at) = IsUntimed payload starts at
+IsAudioRefused payload starts (TimeOrder at) = IsOutOfOrder payload starts at
+IsAudioRefused payload starts OutOfMemory = Unit {0}

@@ -1,5 +1,5 @@
 ghost use Rattle.std.specs.Prelude.{◌<◌, ◌^◌, length, IfOk, IfErr};
-ghost use Rattle.audio_frames.specs.Times.{AreStarts, AreFramesOf, IsRefused};
+ghost use Rattle.audio_frames.specs.Times.{AreStarts, AreFramesOf, IsAudioRefused};
 
 use crate::audio_fault::AudioFault;
 use crate::first_frame::find_first;
@@ -32,7 +32,7 @@ pub fn frames(
     requires size { length payload.now < 2 ^ 30 }
     requires starts { AreStarts (length payload.now) starts.now }
     ensures frames { IfOk result (AreFramesOf payload.now starts.now) }
-    ensures refused { IfErr result (IsRefused payload.now starts.now) }
+    ensures refused { IfErr result (IsAudioRefused payload.now starts.now) }
 {
     let Some(first) = find_first(payload) else {
         return Err(AudioFault::NotLayer2 { at: 0 });

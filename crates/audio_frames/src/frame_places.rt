@@ -1,5 +1,5 @@
 ghost use Rattle.std.specs.Prelude.{◌≡◌, ◌+◌, ◌<◌, ◌≤◌, Some, None, length, drop, IfOk, IfErr, IfSome, if◌then◌else◌};
-ghost use Rattle.audio_frames.specs.Frames.{first_frame, is_frame, end_of, AreAllFrames};
+ghost use Rattle.audio_frames.specs.Frames.{first_frame, is_audio_frame, end_of, AreAllFrames};
 ghost use Rattle.audio_frames.specs.Private.Format.{header_of};
 ghost use Rattle.audio_frames.specs.Private.Places.{AreApart, IsBroken, break_at};
 
@@ -33,7 +33,7 @@ pub fn find_places(alloc: Global, payload: &[u8], first: usize) -> Result<ListOf
 fn end_of_frame(payload: &[u8], at: usize, first: usize, header: FrameHeader) -> Option<usize>
     requires at { at ≤ length payload.now }
     requires header { header_of (drop first payload.now) ≡ Some header }
-    ensures end { result ≡ (if is_frame payload.now first at then Some (end_of payload.now at) else None) }
+    ensures end { result ≡ (if is_audio_frame payload.now first at then Some (end_of payload.now at) else None) }
     ensures within { IfSome result (λ end. (at + 4 ≤ end) × (end ≤ length payload.now)) }
 {
     let next = FrameHeader::read(&payload[at..])?;

@@ -1,21 +1,21 @@
 -- The units and the number of dropped ones, one cut further.
 use Rattle.std.proofs.Common.{◌≡◌, ℕ, suc, Bool, true, false, ◌+◌, ◌-◌, ◌^◌, ◌<◌, ◌≤◌, min, ◌&&◌, List, [], ◌∷◌, ◌++◌, length, filter, Some, nat_lt, nat_le, refl, sym, ap, ◌∙◌, append_assoc, arith}
 use Rattle.std.proofs.lemmas.Bool.{and_left, and_right, and_from, le-leb, lt-leb, lt-ltb, le-ltb}
-use Rattle.es_units.specs.Units.{places, is_cut, first_sequence, spans, cuts_up_to, cuts_behind, units_of}
+use Rattle.es_units.specs.Units.{places, is_unit_cut, first_sequence, spans, cuts_up_to, cuts_behind, units_of}
 use Rattle.es_units.proofs.Places.{filter_at, filter_past, filter_none}
 
 abbrev early : List ℕ → ℕ → ℕ → Bool
-early es first at = is_cut es at && nat_le at first
+early es first at = is_unit_cut es at && nat_le at first
 
 abbrev late : List ℕ → ℕ → ℕ → Bool
-late es first at = is_cut es at && nat_lt first at
+late es first at = is_unit_cut es at && nat_lt first at
 
 -- the next cut from a place on
 pub record IsNextCut (es : List ℕ) (from cut : ℕ) : Type 0 where
   pub begun : from ≤ cut
   pub inside : cut < length es
-  pub is : is_cut es cut ≡ true
-  pub none : (at : ℕ) → from ≤ at → at < cut → is_cut es at ≡ false
+  pub is : is_unit_cut es cut ≡ true
+  pub none : (at : ℕ) → from ≤ at → at < cut → is_unit_cut es at ≡ false
 
 pub dropped_more : (es : List ℕ) (first from cut dropped next most total : ℕ) → IsNextCut es from cut → cut ≤ first → next ≡ min (dropped + 1) most → min (dropped + length (filter (early es first) (places from (length es)))) most ≡ total → min (next + length (filter (early es first) (places (cut + 1) (length es)))) most ≡ total
 dropped_more es first from cut dropped next most total found le more before =
@@ -29,7 +29,7 @@ dropped_same es first from cut dropped most total found lt before =
     ap length (filter_past (early es first) from cut (length es) found.begun found.inside (λ at b u. and_left _ _ (found.none at b u)) (and_right _ _ (lt-leb _ _ lt))) in
     omega (arith, one, before)
 
-pub dropped_all : (es : List ℕ) (first from dropped most total : ℕ) → from ≤ length es → ((at : ℕ) → from ≤ at → is_cut es at ≡ false) → dropped ≤ most → min (dropped + length (filter (early es first) (places from (length es)))) most ≡ total → dropped ≡ total
+pub dropped_all : (es : List ℕ) (first from dropped most total : ℕ) → from ≤ length es → ((at : ℕ) → from ≤ at → is_unit_cut es at ≡ false) → dropped ≤ most → min (dropped + length (filter (early es first) (places from (length es)))) most ≡ total → dropped ≡ total
 dropped_all es first from dropped most total within none le before =
     let zero : length (filter (early es first) (places from (length es))) ≡ 0 = ap length (filter_none (early es first) from (length es) within (λ at b. and_left _ _ (none at b))) in
     omega (arith, zero, before)
@@ -43,7 +43,7 @@ spans_more es first from cut begin cuts total found lt before =
     append_assoc cuts ((begin, cut) ∷ []) (spans cut (filter (late es first) (places (cut + 1) (length es))) (length es))
     ∙ sym (ap (λ (ks : List ℕ). cuts ++ spans begin ks (length es)) (filter_at (late es first) from cut (length es) found.begun found.inside (λ at b u. and_left _ _ (found.none at b u)) (and_from _ _ found.is (lt-ltb _ _ lt)))) ∙ before
 
-pub spans_all : (es : List ℕ) (first from begin : ℕ) (cuts : List (ℕ × ℕ)) (total : List (ℕ × ℕ)) → from ≤ length es → ((at : ℕ) → from ≤ at → is_cut es at ≡ false) → cuts ++ spans begin (filter (late es first) (places from (length es))) (length es) ≡ total → cuts ++ (begin, length es) ∷ [] ≡ total
+pub spans_all : (es : List ℕ) (first from begin : ℕ) (cuts : List (ℕ × ℕ)) (total : List (ℕ × ℕ)) → from ≤ length es → ((at : ℕ) → from ≤ at → is_unit_cut es at ≡ false) → cuts ++ spans begin (filter (late es first) (places from (length es))) (length es) ≡ total → cuts ++ (begin, length es) ∷ [] ≡ total
 spans_all es first from begin cuts total within none before =
     sym (ap (λ (ks : List ℕ). cuts ++ spans begin ks (length es)) (filter_none (late es first) from (length es) within (λ at b. and_left _ _ (none at b)))) ∙ before
 

@@ -15,8 +15,8 @@ is_behind_slice es at =
     list_any (λ slice. has_code is_slice es slice && list_all (λ between. not (has_code is_unit_start es between)) (places (slice + 1) at)) (places 0 at)
 
 -- a unit ends before the place: a header with which a unit may begin stands there, the first one behind a slice
-abbrev pub is_cut : List ℕ → ℕ → Bool
-is_cut es at = has_code is_unit_start es at && is_behind_slice es at
+abbrev pub is_unit_cut : List ℕ → ℕ → Bool
+is_unit_cut es at = has_code is_unit_start es at && is_behind_slice es at
 
 -- the place of the first sequence header
 abbrev pub first_sequence : List ℕ → Option ℕ
@@ -29,11 +29,11 @@ spans from (cut ∷ cuts) end = (from, cut) ∷ spans cut cuts end
 
 -- the number of the cuts up to the first sequence header, each of which ends a unit that is dropped
 abbrev pub cuts_up_to : List ℕ → ℕ → ℕ
-cuts_up_to es first = length (filter (λ at. is_cut es at && nat_le at first) (places 0 (length es)))
+cuts_up_to es first = length (filter (λ at. is_unit_cut es at && nat_le at first) (places 0 (length es)))
 
 -- the cuts behind the first sequence header
 abbrev pub cuts_behind : List ℕ → ℕ → List ℕ
-cuts_behind es first = filter (λ at. is_cut es at && nat_lt first at) (places 0 (length es))
+cuts_behind es first = filter (λ at. is_unit_cut es at && nat_lt first at) (places 0 (length es))
 
 -- The units from the first sequence header on, and how many end there or earlier; none without a sequence header.
 -- The number stands still at 2^32 - 1.

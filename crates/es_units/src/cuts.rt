@@ -1,6 +1,6 @@
 ghost use Rattle.std.specs.Prelude.{◌≡◌, ℕ, true, false, ◌+◌, ◌<◌, ◌≤◌, length, Some, None, IfSome, MatchOption};
 ghost use Rattle.es_units.specs.StartCodes.{has_code, is_sequence_header};
-ghost use Rattle.es_units.specs.Units.{is_behind_slice, is_cut, first_sequence};
+ghost use Rattle.es_units.specs.Units.{is_behind_slice, is_unit_cut, first_sequence};
 
 use crate::start_codes::next_start_code;
 
@@ -22,8 +22,8 @@ pub fn find_sequence(es: &[u8]) -> Option<usize>
 pub fn next_cut(es: &[u8], from: usize) -> Option<usize>
     requires within { from ≤ length es.now }
     requires behind_header { is_behind_slice es.now from ≡ false }
-    ensures found { IfSome result (λ cut. (from ≤ cut) × (cut + 3 < length es.now) × (is_cut es.now cut ≡ true)) }
-    ensures first { MatchOption result ((at : ℕ) → from ≤ at → is_cut es.now at ≡ false) (λ cut. (at : ℕ) → from ≤ at → at < cut → is_cut es.now at ≡ false) }
+    ensures found { IfSome result (λ cut. (from ≤ cut) × (cut + 3 < length es.now) × (is_unit_cut es.now cut ≡ true)) }
+    ensures first { MatchOption result ((at : ℕ) → from ≤ at → is_unit_cut es.now at ≡ false) (λ cut. (at : ℕ) → from ≤ at → at < cut → is_unit_cut es.now at ≡ false) }
 {
     let mut at = from;
     let mut behind_slice = false;

@@ -12,10 +12,10 @@ use Rattle.job_report.specs.declared.job.ProgramJob.{ProgramJob}
 use Rattle.job_report.specs.Job.{IsJobOf}
 use Rattle.job_report.specs.JobText.{HasAnswer, NoDocument, Refused}
 use Rattle.job_report.specs.SharedFile.{refusals_of_files}
-use Rattle.job_report.specs.Refusal.{Refusal, OfField, OfLimit, refusals_of, refusals_of_field, refusals_of_names, place_of_program, first_refusal}
+use Rattle.job_report.specs.Refusal.{FieldRefusal, OfField, OfLimit, refusals_of, refusals_of_field, refusals_of_names, place_of_program, first_refusal}
 
 -- what refuses the document that a text is, if it is one
-abbrev first_of : List ℕ → Option (Option Refusal)
+abbrev first_of : List ℕ → Option (Option FieldRefusal)
 first_of text = option_map (λ document. first_refusal (refusals_of document)) (parse_document text)
 
 -- what stands before the fields of a program that has what is required

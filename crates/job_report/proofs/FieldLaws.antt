@@ -3,7 +3,7 @@ use Rattle.std.proofs.Common.{◌≡◌, ℕ, Bool, List, [], ◌∷◌, ◌++�
 use Rattle.toml.specs.Data.{Data, Members, get_member}
 use Rattle.job_report.specs.declared.values.Wrong.{Wrong}
 use Rattle.job_report.specs.declared.values.Wrong.TheVariants.{OtherType, OutOfRange}
-use Rattle.job_report.specs.Field.{Field, required, optional}
+use Rattle.job_report.specs.Field.{Field, required, optional_field}
 use Rattle.job_report.specs.Refusal.{OfField, refusals_of_field}
 use Rattle.job_report.specs.Job.{stated_or}
 use Rattle.job_report.specs.Private.Value.{IsWrong, IsRight}
@@ -19,7 +19,7 @@ missing place entries name has_type in_range e = rw e refl
 
 -- a field that may be missing and is
 pub left_out : (place : List ℕ) (entries : Members) (name : List ℕ) (has_type in_range : Data → Bool) → get_member name entries ≡ None
-    → refusals_of_field place entries (optional name has_type in_range) ≡ []
+    → refusals_of_field place entries (optional_field name has_type in_range) ≡ []
 unfolding refusals_of_field
 left_out place entries name has_type in_range e = rw e refl
 
@@ -52,7 +52,7 @@ pub right_tells : (place : List ℕ) (entries : Members) (field : Field) (value 
 right_tells place entries field value e is = right place entries field value (sym e) is
 
 pub left_out_right : (place : List ℕ) (entries : Members) (name : List ℕ) (has_type in_range : Data → Bool) → None ≡ get_member name entries
-    → refusals_of_field place entries (optional name has_type in_range) ≡ []
+    → refusals_of_field place entries (optional_field name has_type in_range) ≡ []
 left_out_right place entries name has_type in_range e = left_out place entries name has_type in_range (sym e)
 
 -- ---- what is stated, or the default

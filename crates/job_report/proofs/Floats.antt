@@ -5,9 +5,9 @@ use Rattle.serde_json.specs.Written.{has_float, items_have_float}
 use Rattle.job_report.specs.declared.report.ProgramReport.{ProgramReport}
 use Rattle.job_report.specs.declared.report.Report.{Report}
 use Rattle.job_report.specs.declared.report.Report.TheVariants.{Plan, Run, Probe, Check, Gen, Usage, TableSyntax, TableLimit, JobSyntax, JobField, JobLimit, Source, Unschedulable, ReadFault, WriteFault, CertSyntax, CertFault, Missing}
-use Rattle.job_report.specs.Report.{number_of, program_object, report_object}
+use Rattle.job_report.specs.Report.{json_number, program_object, report_object}
 
-numbers_without_float : (numbers : List ℕ) → items_have_float (items_of (map number_of numbers)) ≡ false
+numbers_without_float : (numbers : List ℕ) → items_have_float (items_of (map json_number numbers)) ≡ false
 numbers_without_float [] = refl
 numbers_without_float (n ∷ numbers) = numbers_without_float numbers
 

@@ -10,7 +10,7 @@ use Rattle.job_report.specs.Field.{natural_of, values_in}
 use Rattle.job_report.specs.JobText.{IsDocument, SpellsJob, IsRefusedDocument, JobAnswer, Spelled, NoDocument, Refused, HasAnswer, IsJobFaultOf, Gives}
 use Rattle.job_report.specs.declared.fault.JobFault.{JobFault}
 use Rattle.job_report.specs.declared.fault.JobFault.TheVariants.{JobSyntax, JobField, JobLimit, OutOfMemory}
-use Rattle.job_report.specs.Refusal.{Refusal, OfField, OfLimit, refusals_of, first_refusal, programs_in}
+use Rattle.job_report.specs.Refusal.{FieldRefusal, OfField, OfLimit, refusals_of, first_refusal, programs_in}
 
 -- ---- one value for what is stated
 
@@ -93,10 +93,10 @@ one_job document j k a b = same_job j k
 one_document : {text : List ℕ} (d e : Members) → IsDocument text d → IsDocument text e → d ≡ e
 one_document d e a b = same_Some _ _ (sym a.parsed ∙ b.parsed)
 
-nothing_first : (r : Refusal) → first_refusal [] ≡ Some r → ⊥
+nothing_first : (r : FieldRefusal) → first_refusal [] ≡ Some r → ⊥
 nothing_first r e = none-some r e
 
-right_refused : (text : List ℕ) (job : JobValue) (r : Refusal) → SpellsJob text job → IsRefusedDocument text r → ⊥
+right_refused : (text : List ℕ) (job : JobValue) (r : FieldRefusal) → SpellsJob text job → IsRefusedDocument text r → ⊥
 right_refused text job r a b =
     let same = one_document a.document b.document a.is_document b.is_document in
     nothing_first r (ap first_refusal (sym a.right) ∙ ap (λ d. first_refusal (refusals_of d)) same ∙ b.first)
@@ -107,7 +107,7 @@ jobs_same text j k a b =
     let P : Members → Type 0 = λ d. IsJobOf d j in
     one_job b.document j k (subst P same a.states) b.states
 
-refusals_same : (text : List ℕ) (r s : Refusal) → IsRefusedDocument text r → IsRefusedDocument text s → r ≡ s
+refusals_same : (text : List ℕ) (r s : FieldRefusal) → IsRefusedDocument text r → IsRefusedDocument text s → r ≡ s
 refusals_same text r s a b =
     let same = one_document a.document b.document a.is_document b.is_document in
     same_Some _ _ (sym a.first ∙ ap (λ d. first_refusal (refusals_of d)) same ∙ b.first)

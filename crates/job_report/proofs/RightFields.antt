@@ -7,18 +7,18 @@ use Rattle.std.proofs.lemmas.Bool.{and_parts, leb-true, ltb-true}
 use Rattle.std.proofs.lemmas.List.{length-map}
 use Rattle.std.proofs.lemmas.List.Elements.{All-nil, All-cons}
 use Rattle.toml.specs.Data.{Data, Members, get_member}
-use Rattle.job_report.specs.Field.{Field, required, optional, natural_of, values_in, is_between, are_numbers, rises}
-use Rattle.job_report.specs.Refusal.{Refusal, OfField, OfLimit, refusals_of_value, refusals_of_stated, refusals_of_field}
+use Rattle.job_report.specs.Field.{Field, required, optional_field, natural_of, values_in, is_between, are_numbers, rises}
+use Rattle.job_report.specs.Refusal.{FieldRefusal, OfField, OfLimit, refusals_of_value, refusals_of_stated, refusals_of_field}
 use Rattle.job_report.specs.Job.{integer_of, array_of, stated_or}
 use Rattle.job_report.specs.Private.Value.{IsRight}
 use Rattle.job_report.proofs.Stated.{values_in-array_of}
 
 -- nothing is wrong in a row: nothing is wrong before, nor behind
-pub none_before : (a b : List Refusal) → a ++ b ≡ [] → a ≡ []
+pub none_before : (a b : List FieldRefusal) → a ++ b ≡ [] → a ≡ []
 none_before [] b e = refl
 none_before (r ∷ a) b e = absurd cc
 
-pub none_behind : (a b : List Refusal) → a ++ b ≡ [] → b ≡ []
+pub none_behind : (a b : List FieldRefusal) → a ++ b ≡ [] → b ≡ []
 none_behind [] b e = e
 none_behind (r ∷ a) b e = absurd cc
 
@@ -43,12 +43,12 @@ required_right place entries name has_type in_range value e is =
 
 -- what stands in a field that may be left out, or the default
 pub optional_right : (place : List ℕ) (entries : Members) (name : List ℕ) (has_type in_range : Data → Bool) (default value : Data)
-    → refusals_of_field place entries (optional name has_type in_range) ≡ [] → stated_or default name entries ≡ value
+    → refusals_of_field place entries (optional_field name has_type in_range) ≡ [] → stated_or default name entries ≡ value
     → IsRight has_type in_range default → IsRight has_type in_range value
 unfolding refusals_of_field
 optional_right place entries name has_type in_range default value e is right =
     let P : Data → Type 0 = IsRight has_type in_range in
-    subst P is (found (optional name has_type in_range) (place ++ name) (get_member name entries) default e right)
+    subst P is (found (optional_field name has_type in_range) (place ++ name) (get_member name entries) default e right)
   where
     found : (field : Field) (name : List ℕ) (stated : Option Data) (default : Data) → refusals_of_stated field name stated ≡ []
         → IsRight field.has_type field.in_range default → IsRight field.has_type field.in_range (unwrap_or stated default)

@@ -11,7 +11,7 @@ use Rattle.job_report.specs.declared.limits.TheConstants.{START_MOST, START_DEFA
 use Rattle.job_report.specs.declared.job.ProgramJob.{ProgramJob}
 use Rattle.job_report.specs.declared.job.Job.{Job as JobValue}
 use Rattle.job_report.specs.Field.{required, job_fields, program_fields, number_of_program, values_in, list_of_items, is_integer, is_between, is_text, is_some_text, is_table, is_array_of, are_numbers, are_coarser, has_between, is_new_number}
-use Rattle.job_report.specs.Refusal.{Refusal, refusals_of, refusals_of_field, refusals_of_stated, refusals_of_names, refusals_of_table, refusals_of_programs, place_of_program, programs_in, tables_among, stated_tables}
+use Rattle.job_report.specs.Refusal.{FieldRefusal, refusals_of, refusals_of_field, refusals_of_stated, refusals_of_names, refusals_of_table, refusals_of_programs, place_of_program, programs_in, tables_among, stated_tables}
 use Rattle.job_report.specs.Job.{integer_of, array_of, IsProgramOf, AreProgramsOf, IsJobOf}
 use Rattle.job_report.specs.JobText.{SpellsJob}
 use Rattle.job_report.specs.declared.fault.JobFault.{JobFault}
@@ -20,7 +20,7 @@ use Rattle.job_report.specs.Private.Value.{IsRight}
 use Rattle.job_report.proofs.RightFields.{none_before, none_behind, value_right, required_right, optional_right, between, numbers_right, coarser_right}
 
 -- nothing is wrong with six fields in a row
-pub record AreSixRight (a b c d e f : List Refusal) : Type 0 where
+pub record AreSixRight (a b c d e f : List FieldRefusal) : Type 0 where
   pub first : a ≡ []
   pub second : b ≡ []
   pub third : c ≡ []
@@ -28,7 +28,7 @@ pub record AreSixRight (a b c d e f : List Refusal) : Type 0 where
   pub fifth : e ≡ []
   pub sixth : f ≡ []
 
-six_right : (a b c d e f : List Refusal) → a ++ (b ++ (c ++ (d ++ (e ++ (f ++ []))))) ≡ [] → AreSixRight a b c d e f
+six_right : (a b c d e f : List FieldRefusal) → a ++ (b ++ (c ++ (d ++ (e ++ (f ++ []))))) ≡ [] → AreSixRight a b c d e f
 six_right a b c d e f h =
     let hb = none_behind a _ h in
     let hc = none_behind b _ hb in

@@ -73,17 +73,17 @@ abbrev pub required : List ℕ → (Data → Bool) → (Data → Bool) → Field
 required name has_type in_range = record { name = name; required = true; has_type = has_type; in_range = in_range }
 
 -- a field that may be left out
-abbrev pub optional : List ℕ → (Data → Bool) → (Data → Bool) → Field
-optional name has_type in_range = record { name = name; required = false; has_type = has_type; in_range = in_range }
+abbrev pub optional_field : List ℕ → (Data → Bool) → (Data → Bool) → Field
+optional_field name has_type in_range = record { name = name; required = false; has_type = has_type; in_range = in_range }
 
 -- the fields of a job, in order
 abbrev pub job_fields : List Field
 job_fields =
     required (codes "slot") is_integer (is_between SLOT_LEAST SLOT_MOST)
-    ∷ optional (codes "start") is_integer (is_between 0 START_MOST)
-    ∷ optional (codes "stream_id") is_integer (is_between 0 STREAM_ID_MOST)
-    ∷ optional (codes "nodes") is_integer (is_between 1 NODES_MOST)
-    ∷ optional (codes "evaluations") is_integer (is_between 0 EVALUATIONS_MOST)
+    ∷ optional_field (codes "start") is_integer (is_between 0 START_MOST)
+    ∷ optional_field (codes "stream_id") is_integer (is_between 0 STREAM_ID_MOST)
+    ∷ optional_field (codes "nodes") is_integer (is_between 1 NODES_MOST)
+    ∷ optional_field (codes "evaluations") is_integer (is_between 0 EVALUATIONS_MOST)
     ∷ required (codes "program") (is_array_of is_table) (has_between 1 PROGRAMS_MOST)
     ∷ []
 
@@ -110,7 +110,7 @@ program_fields taken =
     required (codes "file") is_text is_some_text
     ∷ required (codes "program") is_integer (is_between 1 NUMBER_MOST)
     ∷ required (codes "number") is_integer (is_new_number taken)
-    ∷ optional (codes "weight") is_integer (is_between 1 WEIGHT_MOST)
-    ∷ optional (codes "coarser") (is_array_of is_integer) are_coarser
-    ∷ optional (codes "drop") (is_array_of is_integer) (are_numbers DROP_MOST 0 PID_MOST)
+    ∷ optional_field (codes "weight") is_integer (is_between 1 WEIGHT_MOST)
+    ∷ optional_field (codes "coarser") (is_array_of is_integer) are_coarser
+    ∷ optional_field (codes "drop") (is_array_of is_integer) (are_numbers DROP_MOST 0 PID_MOST)
     ∷ []

@@ -7,7 +7,7 @@ use Rattle.job_report.specs.declared.fault.JobFault.{JobFault}
 use Rattle.job_report.specs.declared.fault.JobFault.TheVariants.{JobSyntax, JobField, JobLimit, OutOfMemory}
 use Rattle.job_report.specs.declared.job.Job.{Job}
 use Rattle.job_report.specs.Job.{IsJobOf}
-use Rattle.job_report.specs.Refusal.{Refusal, OfField, OfLimit, refusals_of, first_refusal}
+use Rattle.job_report.specs.Refusal.{FieldRefusal, OfField, OfLimit, refusals_of, first_refusal}
 
 -- the document that a text is, as `toml` defines it: UTF-8, by the grammar of TOML 1.1
 pub record IsDocument (text : List ℕ) (document : Members) : Type 0 where
@@ -28,14 +28,14 @@ pub record IsNoDocument (text : List ℕ) : Type 0 where
   pub none : (document : Members) → ¬ IsDocument text document
 
 -- a text that isn't too long is a document, and this is the first that is wrong with it
-pub record IsRefusedDocument (text : List ℕ) (refusal : Refusal) : Type 0 where
+pub record IsRefusedDocument (text : List ℕ) (refusal : FieldRefusal) : Type 0 where
   pub short : length text ≤ JOB_TEXT_MOST
   pub document : Members
   pub is_document : IsDocument text document
   pub first : first_refusal (refusals_of document) ≡ Some refusal
 
 -- a text is refused so; one that is too long is refused for its bytes before all else
-abbrev pub IsRefusedFor : List ℕ → Refusal → Type 0
+abbrev pub IsRefusedFor : List ℕ → FieldRefusal → Type 0
 IsRefusedFor text refusal = ((JOB_TEXT_MOST < length text) × (refusal ≡ OfLimit (codes "bytes"))) ⊎ IsRefusedDocument text refusal
 
 -- a fault is what refuses the text, or want of memory
@@ -49,7 +49,7 @@ IsJobFaultOf text OutOfMemory = Unit {0}
 pub data JobAnswer : Type 0 where
   Spelled : Job → JobAnswer
   NoDocument : JobAnswer
-  Refused : Refusal → JobAnswer
+  Refused : FieldRefusal → JobAnswer
 
 -- a text has this answer
 abbrev pub HasAnswer : List ℕ → JobAnswer → Type 0

@@ -10,12 +10,12 @@ use Rattle.job_report.specs.declared.report.Report.TheVariants.{Plan, Run, Probe
 -- ---- values
 
 -- a number, of decimal digits
-abbrev pub number_of : ℕ → Data
-number_of n = number (unsigned n)
+abbrev pub json_number : ℕ → Data
+json_number n = number (unsigned n)
 
 -- an array of numbers
-abbrev pub numbers_of : List ℕ → Data
-numbers_of numbers = array (items_of (map number_of numbers))
+abbrev pub json_numbers : List ℕ → Data
+json_numbers numbers = array (items_of (map json_number numbers))
 
 -- a text in quotes
 abbrev pub text_of : List ℕ → Data
@@ -24,21 +24,21 @@ text_of text = string text
 -- ---- objects
 
 -- a key with its value
-pub record Entry : Type 0 where
+pub record JsonEntry : Type 0 where
   pub key : List ℕ
   pub value : Data
 
 -- this value under this key
-abbrev pub entry : List ℕ → Data → Entry
-entry key value = record { key = key; value = value }
+abbrev pub json_entry : List ℕ → Data → JsonEntry
+json_entry key value = record { key = key; value = value }
 
 -- entries as the members of an object
-abbrev pub members_of : List Entry → Members
+abbrev pub members_of : List JsonEntry → Members
 members_of [] = no_members
 members_of (first ∷ entries) = member first.key first.value (members_of entries)
 
 -- the object that has these entries
-abbrev pub object_of : List Entry → Data
+abbrev pub object_of : List JsonEntry → Data
 object_of entries = object (members_of entries)
 
 -- ---- reports
@@ -50,113 +50,113 @@ search_of optimal = text_of (if optimal then codes "optimal" else codes "budget"
 -- what is reported of one program of a run
 abbrev pub program_object : ProgramReport → Data
 program_object program = object_of (
-    entry (codes "audio_bytes") (numbers_of program.audio_bytes)
-    ∷ entry (codes "choice") (numbers_of program.choice)
-    ∷ entry (codes "descriptors_dropped") (number_of program.descriptors_dropped)
-    ∷ entry (codes "not_carried") (numbers_of program.not_carried)
-    ∷ entry (codes "number") (number_of program.number)
-    ∷ entry (codes "pes_dropped") (number_of program.pes_dropped)
-    ∷ entry (codes "rest") (number_of program.rest)
-    ∷ entry (codes "units_dropped") (number_of program.units_dropped)
+    json_entry (codes "audio_bytes") (json_numbers program.audio_bytes)
+    ∷ json_entry (codes "choice") (json_numbers program.choice)
+    ∷ json_entry (codes "descriptors_dropped") (json_number program.descriptors_dropped)
+    ∷ json_entry (codes "not_carried") (json_numbers program.not_carried)
+    ∷ json_entry (codes "number") (json_number program.number)
+    ∷ json_entry (codes "pes_dropped") (json_number program.pes_dropped)
+    ∷ json_entry (codes "rest") (json_number program.rest)
+    ∷ json_entry (codes "units_dropped") (json_number program.units_dropped)
     ∷ [])
 
 -- the object of a report
 abbrev pub report_object : Report → Data
 report_object (Plan bound choice distortion nodes optimal) = object_of (
-    entry (codes "bound") (number_of bound)
-    ∷ entry (codes "choice") (numbers_of choice)
-    ∷ entry (codes "distortion") (number_of distortion)
-    ∷ entry (codes "nodes") (number_of nodes)
-    ∷ entry (codes "search") (search_of optimal)
+    json_entry (codes "bound") (json_number bound)
+    ∷ json_entry (codes "choice") (json_numbers choice)
+    ∷ json_entry (codes "distortion") (json_number distortion)
+    ∷ json_entry (codes "nodes") (json_number nodes)
+    ∷ json_entry (codes "search") (search_of optimal)
     ∷ [])
 report_object (Run bound distortion nodes programs optimal slots) = object_of (
-    entry (codes "bound") (number_of bound)
-    ∷ entry (codes "distortion") (number_of distortion)
-    ∷ entry (codes "nodes") (number_of nodes)
-    ∷ entry (codes "programs") (array (items_of (map program_object programs)))
-    ∷ entry (codes "search") (search_of optimal)
-    ∷ entry (codes "slots") (number_of slots)
+    json_entry (codes "bound") (json_number bound)
+    ∷ json_entry (codes "distortion") (json_number distortion)
+    ∷ json_entry (codes "nodes") (json_number nodes)
+    ∷ json_entry (codes "programs") (array (items_of (map program_object programs)))
+    ∷ json_entry (codes "search") (search_of optimal)
+    ∷ json_entry (codes "slots") (json_number slots)
     ∷ [])
 report_object (Probe audio_packets units) = object_of (
-    entry (codes "audio_packets") (numbers_of audio_packets)
-    ∷ entry (codes "units") (number_of units)
+    json_entry (codes "audio_packets") (json_numbers audio_packets)
+    ∷ json_entry (codes "units") (json_number units)
     ∷ [])
 report_object (Check bound) = object_of (
-    entry (codes "bound") (number_of bound)
-    ∷ entry (codes "verdict") (text_of (codes "yes"))
+    json_entry (codes "bound") (json_number bound)
+    ∷ json_entry (codes "verdict") (text_of (codes "yes"))
     ∷ [])
 report_object (Gen bytes pictures) = object_of (
-    entry (codes "bytes") (number_of bytes)
-    ∷ entry (codes "pictures") (number_of pictures)
+    json_entry (codes "bytes") (json_number bytes)
+    ∷ json_entry (codes "pictures") (json_number pictures)
     ∷ [])
 report_object Usage = object_of (
-    entry (codes "reason") (text_of (codes "usage"))
-    ∷ entry (codes "status") (number_of 2)
+    json_entry (codes "reason") (text_of (codes "usage"))
+    ∷ json_entry (codes "status") (json_number 2)
     ∷ [])
 report_object (TableSyntax line) = object_of (
-    entry (codes "line") (number_of line)
-    ∷ entry (codes "reason") (text_of (codes "table syntax"))
-    ∷ entry (codes "status") (number_of 3)
+    json_entry (codes "line") (json_number line)
+    ∷ json_entry (codes "reason") (text_of (codes "table syntax"))
+    ∷ json_entry (codes "status") (json_number 3)
     ∷ [])
 report_object (TableLimit name) = object_of (
-    entry (codes "name") (text_of name.bytes)
-    ∷ entry (codes "reason") (text_of (codes "table limit"))
-    ∷ entry (codes "status") (number_of 3)
+    json_entry (codes "name") (text_of name.bytes)
+    ∷ json_entry (codes "reason") (text_of (codes "table limit"))
+    ∷ json_entry (codes "status") (json_number 3)
     ∷ [])
 report_object JobSyntax = object_of (
-    entry (codes "reason") (text_of (codes "job syntax"))
-    ∷ entry (codes "status") (number_of 3)
+    json_entry (codes "reason") (text_of (codes "job syntax"))
+    ∷ json_entry (codes "status") (json_number 3)
     ∷ [])
 report_object (JobField name) = object_of (
-    entry (codes "name") (text_of name.bytes)
-    ∷ entry (codes "reason") (text_of (codes "job field"))
-    ∷ entry (codes "status") (number_of 3)
+    json_entry (codes "name") (text_of name.bytes)
+    ∷ json_entry (codes "reason") (text_of (codes "job field"))
+    ∷ json_entry (codes "status") (json_number 3)
     ∷ [])
 report_object (JobLimit name) = object_of (
-    entry (codes "name") (text_of name.bytes)
-    ∷ entry (codes "reason") (text_of (codes "job limit"))
-    ∷ entry (codes "status") (number_of 3)
+    json_entry (codes "name") (text_of name.bytes)
+    ∷ json_entry (codes "reason") (text_of (codes "job limit"))
+    ∷ json_entry (codes "status") (json_number 3)
     ∷ [])
 report_object (Source at kind program) = object_of (
-    entry (codes "at") (number_of at)
-    ∷ entry (codes "kind") (text_of kind.bytes)
-    ∷ entry (codes "program") (number_of program)
-    ∷ entry (codes "reason") (text_of (codes "source"))
-    ∷ entry (codes "status") (number_of 4)
+    json_entry (codes "at") (json_number at)
+    ∷ json_entry (codes "kind") (text_of kind.bytes)
+    ∷ json_entry (codes "program") (json_number program)
+    ∷ json_entry (codes "reason") (text_of (codes "source"))
+    ∷ json_entry (codes "status") (json_number 4)
     ∷ [])
 report_object (Unschedulable due slot stream unit) = object_of (
-    entry (codes "due") (number_of due)
-    ∷ entry (codes "reason") (text_of (codes "unschedulable"))
-    ∷ entry (codes "slot") (number_of slot)
-    ∷ entry (codes "status") (number_of 5)
-    ∷ entry (codes "stream") (number_of stream)
-    ∷ entry (codes "unit") (number_of unit)
+    json_entry (codes "due") (json_number due)
+    ∷ json_entry (codes "reason") (text_of (codes "unschedulable"))
+    ∷ json_entry (codes "slot") (json_number slot)
+    ∷ json_entry (codes "status") (json_number 5)
+    ∷ json_entry (codes "stream") (json_number stream)
+    ∷ json_entry (codes "unit") (json_number unit)
     ∷ [])
 report_object (ReadFault name) = object_of (
-    entry (codes "name") (text_of name)
-    ∷ entry (codes "reason") (text_of (codes "read"))
-    ∷ entry (codes "status") (number_of 6)
+    json_entry (codes "name") (text_of name)
+    ∷ json_entry (codes "reason") (text_of (codes "read"))
+    ∷ json_entry (codes "status") (json_number 6)
     ∷ [])
 report_object (WriteFault name) = object_of (
-    entry (codes "name") (text_of name)
-    ∷ entry (codes "reason") (text_of (codes "write"))
-    ∷ entry (codes "status") (number_of 7)
+    json_entry (codes "name") (text_of name)
+    ∷ json_entry (codes "reason") (text_of (codes "write"))
+    ∷ json_entry (codes "status") (json_number 7)
     ∷ [])
 report_object (CertSyntax byte) = object_of (
-    entry (codes "byte") (number_of byte)
-    ∷ entry (codes "reason") (text_of (codes "certificate"))
-    ∷ entry (codes "status") (number_of 8)
+    json_entry (codes "byte") (json_number byte)
+    ∷ json_entry (codes "reason") (text_of (codes "certificate"))
+    ∷ json_entry (codes "status") (json_number 8)
     ∷ [])
 report_object (CertFault node why) = object_of (
-    entry (codes "node") (number_of node)
-    ∷ entry (codes "reason") (text_of (codes "certificate"))
-    ∷ entry (codes "status") (number_of 8)
-    ∷ entry (codes "why") (text_of why.bytes)
+    json_entry (codes "node") (json_number node)
+    ∷ json_entry (codes "reason") (text_of (codes "certificate"))
+    ∷ json_entry (codes "status") (json_number 8)
+    ∷ json_entry (codes "why") (text_of why.bytes)
     ∷ [])
 report_object (Missing name) = object_of (
-    entry (codes "name") (text_of name)
-    ∷ entry (codes "reason") (text_of (codes "missing"))
-    ∷ entry (codes "status") (number_of 9)
+    json_entry (codes "name") (text_of name)
+    ∷ json_entry (codes "reason") (text_of (codes "missing"))
+    ∷ json_entry (codes "status") (json_number 9)
     ∷ [])
 
 -- the line of a report: its object as compact JSON, and a line end

@@ -4,7 +4,7 @@ ghost use Rattle.std.specs.Prelude.{◌≡◌, IfOk, map};
 ghost use Rattle.serde_json.specs.Data.{array};
 ghost use Rattle.serde_json.specs.View.{view, items_of};
 ghost use Rattle.job_report.specs.Report as spec;
-ghost use Rattle.job_report.specs.Report.{numbers_of};
+ghost use Rattle.job_report.specs.Report.{json_numbers};
 
 use crate::objects::program_object;
 use crate::report::ProgramReport;
@@ -13,7 +13,7 @@ use std::alloc::{AllocError, Global};
 
 /// Version numbers.
 pub(crate) fn versions(alloc: Global, numbers: &[u8]) -> Result<Value, AllocError>
-    ensures { IfOk result (λ value. view value ≡ numbers_of numbers.now) }
+    ensures { IfOk result (λ value. view value ≡ json_numbers numbers.now) }
 {
     let mut items = Vec::with_capacity(alloc, numbers.len())?;
     for number in numbers {
@@ -24,7 +24,7 @@ pub(crate) fn versions(alloc: Global, numbers: &[u8]) -> Result<Value, AllocErro
 
 /// PIDs.
 pub(crate) fn pids(alloc: Global, numbers: &[u16]) -> Result<Value, AllocError>
-    ensures { IfOk result (λ value. view value ≡ numbers_of numbers.now) }
+    ensures { IfOk result (λ value. view value ≡ json_numbers numbers.now) }
 {
     let mut items = Vec::with_capacity(alloc, numbers.len())?;
     for number in numbers {
@@ -35,7 +35,7 @@ pub(crate) fn pids(alloc: Global, numbers: &[u16]) -> Result<Value, AllocError>
 
 /// Counts.
 pub(crate) fn counts(alloc: Global, numbers: &[u32]) -> Result<Value, AllocError>
-    ensures { IfOk result (λ value. view value ≡ numbers_of numbers.now) }
+    ensures { IfOk result (λ value. view value ≡ json_numbers numbers.now) }
 {
     let mut items = Vec::with_capacity(alloc, numbers.len())?;
     for number in numbers {
@@ -46,7 +46,7 @@ pub(crate) fn counts(alloc: Global, numbers: &[u32]) -> Result<Value, AllocError
 
 /// Sizes.
 pub(crate) fn sizes(alloc: Global, numbers: &[u64]) -> Result<Value, AllocError>
-    ensures { IfOk result (λ value. view value ≡ numbers_of numbers.now) }
+    ensures { IfOk result (λ value. view value ≡ json_numbers numbers.now) }
 {
     let mut items = Vec::with_capacity(alloc, numbers.len())?;
     for number in numbers {

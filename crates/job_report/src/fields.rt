@@ -3,7 +3,7 @@
 ghost use Rattle.std.specs.Prelude.{◌≡◌, ◌≤◌, Some, IfOk, IfErr, [], length, map, codes, option_map};
 ghost use Rattle.toml.specs.Data.{string, get_member};
 ghost use Rattle.toml.specs.View.{view, table_view};
-ghost use Rattle.job_report.specs.Field.{required, optional, is_integer, is_between, is_text, is_some_text, is_table, is_array_of, are_numbers, are_coarser, has_between, is_new_number};
+ghost use Rattle.job_report.specs.Field.{required, optional_field, is_integer, is_between, is_text, is_some_text, is_table, is_array_of, are_numbers, are_coarser, has_between, is_new_number};
 ghost use Rattle.job_report.specs.Refusal.{refusals_of_field, stated_tables, tables_among};
 ghost use Rattle.job_report.specs.Job.{integer_of, array_of, stated_or};
 ghost use Rattle.job_report.specs.Private.Fault.{TellsFirst};
@@ -59,10 +59,10 @@ pub(crate) fn optional_number(
     requires short { length name.now ≤ FIELD_NAME_MOST }
     requires default_least { least ≤ default }
     requires default_most { default ≤ most }
-    ensures right { IfOk result (λ n. refusals_of_field (place_text place) (table_view table.now) (optional name.now is_integer (is_between least most)) ≡ []) }
+    ensures right { IfOk result (λ n. refusals_of_field (place_text place) (table_view table.now) (optional_field name.now is_integer (is_between least most)) ≡ []) }
     ensures number { IfOk result (λ n. stated_or (integer_of default) name.now (table_view table.now) ≡ integer_of n) }
     ensures within { IfOk result (λ n. (least ≤ n) × (n ≤ most)) }
-    ensures wrong { IfErr result (TellsFirst (refusals_of_field (place_text place) (table_view table.now) (optional name.now is_integer (is_between least most)))) }
+    ensures wrong { IfErr result (TellsFirst (refusals_of_field (place_text place) (table_view table.now) (optional_field name.now is_integer (is_between least most)))) }
 {
     match stated(table, name) {
         None => Ok(default),
@@ -127,9 +127,9 @@ pub(crate) fn optional_numbers<const COUNT: usize>(
 ) -> Result<ArrayVec<u16, COUNT>, JobFault>
     requires short { length name.now ≤ FIELD_NAME_MOST }
     requires default_few { length default.now ≤ COUNT }
-    ensures right { IfOk result (λ numbers. refusals_of_field (place_text place) (table_view table.now) (optional name.now (is_array_of is_integer) (are_numbers COUNT least most)) ≡ []) }
+    ensures right { IfOk result (λ numbers. refusals_of_field (place_text place) (table_view table.now) (optional_field name.now (is_array_of is_integer) (are_numbers COUNT least most)) ≡ []) }
     ensures numbers { IfOk result (λ numbers. stated_or (array_of default.now) name.now (table_view table.now) ≡ array_of numbers.items) }
-    ensures wrong { IfErr result (TellsFirst (refusals_of_field (place_text place) (table_view table.now) (optional name.now (is_array_of is_integer) (are_numbers COUNT least most)))) }
+    ensures wrong { IfErr result (TellsFirst (refusals_of_field (place_text place) (table_view table.now) (optional_field name.now (is_array_of is_integer) (are_numbers COUNT least most)))) }
 {
     match stated(table, name) {
         None => Ok(copied(default)),
@@ -145,9 +145,9 @@ pub(crate) fn optional_coarser(
     table: &Table,
     place: Place,
 ) -> Result<ArrayVec<u16, COARSER_MOST>, JobFault>
-    ensures right { IfOk result (λ numbers. refusals_of_field (place_text place) (table_view table.now) (optional (codes "coarser") (is_array_of is_integer) are_coarser) ≡ []) }
+    ensures right { IfOk result (λ numbers. refusals_of_field (place_text place) (table_view table.now) (optional_field (codes "coarser") (is_array_of is_integer) are_coarser) ≡ []) }
     ensures numbers { IfOk result (λ numbers. stated_or (array_of COARSER_DEFAULT) (codes "coarser") (table_view table.now) ≡ array_of numbers.items) }
-    ensures wrong { IfErr result (TellsFirst (refusals_of_field (place_text place) (table_view table.now) (optional (codes "coarser") (is_array_of is_integer) are_coarser))) }
+    ensures wrong { IfErr result (TellsFirst (refusals_of_field (place_text place) (table_view table.now) (optional_field (codes "coarser") (is_array_of is_integer) are_coarser))) }
 {
     match stated(table, "coarser") {
         None => Ok(copied(&COARSER_DEFAULT)),

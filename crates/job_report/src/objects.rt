@@ -3,7 +3,7 @@
 ghost use Rattle.std.specs.Prelude.{◌≡◌, [], ◌∷◌, codes, IfOk};
 ghost use Rattle.serde_json.specs.View.{view};
 ghost use Rattle.job_report.specs.Report as spec;
-ghost use Rattle.job_report.specs.Report.{number_of, text_of, entry, object_of, search_of, report_object};
+ghost use Rattle.job_report.specs.Report.{json_number, text_of, json_entry, object_of, search_of, report_object};
 ghost use Rattle.job_report.specs.declared.report.Report.TheVariants.{Plan, Run, Probe, Check, Gen, TableSyntax, Unschedulable, CertSyntax};
 
 use crate::arrays::{counts, pids, programs, sizes, versions};
@@ -101,7 +101,7 @@ pub(crate) fn gen_object(alloc: Global, bytes: u64, pictures: u32) -> Result<Val
 /// A reason with its status alone.
 pub(crate) fn reason_object(alloc: Global, reason: &str, status: u8) -> Result<Value, AllocError>
     ensures { IfOk result (λ value. view value
-        ≡ object_of (entry (codes "reason") (text_of reason.now) ∷ entry (codes "status") (number_of status) ∷ [])) }
+        ≡ object_of (json_entry (codes "reason") (text_of reason.now) ∷ json_entry (codes "status") (json_number status) ∷ [])) }
 {
     json!(in alloc; {"reason": reason, "status": status})
 }
@@ -114,8 +114,8 @@ pub(crate) fn named_object(
     status: u8,
 ) -> Result<Value, AllocError>
     ensures { IfOk result (λ value. view value
-        ≡ object_of (entry (codes "name") (text_of name.now) ∷ entry (codes "reason") (text_of reason.now)
-        ∷ entry (codes "status") (number_of status) ∷ [])) }
+        ≡ object_of (json_entry (codes "name") (text_of name.now) ∷ json_entry (codes "reason") (text_of reason.now)
+        ∷ json_entry (codes "status") (json_number status) ∷ [])) }
 {
     json!(in alloc; {"name": name, "reason": reason, "status": status})
 }
@@ -134,9 +134,9 @@ pub(crate) fn source_object(
     kind: &str,
     program: u8,
 ) -> Result<Value, AllocError>
-    ensures { IfOk result (λ value. view value ≡ object_of (entry (codes "at") (number_of at) ∷ entry (codes "kind") (text_of kind.now)
-        ∷ entry (codes "program") (number_of program) ∷ entry (codes "reason") (text_of (codes "source"))
-        ∷ entry (codes "status") (number_of 4) ∷ [])) }
+    ensures { IfOk result (λ value. view value ≡ object_of (json_entry (codes "at") (json_number at) ∷ json_entry (codes "kind") (text_of kind.now)
+        ∷ json_entry (codes "program") (json_number program) ∷ json_entry (codes "reason") (text_of (codes "source"))
+        ∷ json_entry (codes "status") (json_number 4) ∷ [])) }
 {
     json!(in alloc; {"at": at, "kind": kind, "program": program, "reason": "source", "status": 4})
 }
@@ -165,8 +165,8 @@ pub(crate) fn byte_object(alloc: Global, byte: u64) -> Result<Value, AllocError>
 
 /// A node at which a certificate is wrong.
 pub(crate) fn node_object(alloc: Global, node: u32, why: &str) -> Result<Value, AllocError>
-    ensures { IfOk result (λ value. view value ≡ object_of (entry (codes "node") (number_of node) ∷ entry (codes "reason") (text_of (codes "certificate"))
-        ∷ entry (codes "status") (number_of 8) ∷ entry (codes "why") (text_of why.now) ∷ [])) }
+    ensures { IfOk result (λ value. view value ≡ object_of (json_entry (codes "node") (json_number node) ∷ json_entry (codes "reason") (text_of (codes "certificate"))
+        ∷ json_entry (codes "status") (json_number 8) ∷ json_entry (codes "why") (text_of why.now) ∷ [])) }
 {
     json!(in alloc; {"node": node, "reason": "certificate", "status": 8, "why": why})
 }

@@ -13,7 +13,7 @@ use Rattle.syntax_types.specs.declared.picture.PicCoding.{PicCoding}
 use Rattle.syntax_types.specs.declared.picture.SeqState.{SeqState}
 use Rattle.syntax_types.specs.declared.slice.Slice.{Slice}
 use Rattle.syntax_types.specs.declared.slice.SliceInfo.{SliceInfo}
-use Rattle.picture_grammar.specs.Grammar.{Grammar, done, ◌>>=◌, optional, many, Next, more_of, one_more}
+use Rattle.picture_grammar.specs.Grammar.{Grammar, done, ◌>>=◌, optional, many, Next, more_of, one_item_more}
 use Rattle.picture_grammar.specs.Grammar.Next.{more}
 use Rattle.picture_grammar.specs.Element.{uimsbf, one_flag}
 use Rattle.picture_grammar.specs.Exact.{IsLocal}
@@ -132,8 +132,8 @@ information-stands bytes v = stands-before (extra_information bytes) bytes v (lo
 module _ (seq : SeqState) (coding : PicCoding) where
   -- a macroblock behind others, wherever it stands
   abbrev alone : List Macroblock → Grammar (Next Macroblock (Unit {0}))
-  alone [] = one_more (macroblock coding true (columns seq))
-  alone (m ∷ ms) = one_more (macroblock coding false (columns_left seq (m ∷ ms)))
+  alone [] = one_item_more (macroblock coding true (columns seq))
+  alone (m ∷ ms) = one_item_more (macroblock coding false (columns_left seq (m ∷ ms)))
 
   local-alone : (before : List Macroblock) → IsLocal (alone before)
   local-alone [] = local-bind (macroblock coding true (columns seq)) (λ m. done (more m)) (local-macroblock coding true (columns seq)) (λ m. local-done _)

@@ -4,7 +4,7 @@ use Rattle.std.proofs.lemmas.List.{append_cancel_right}
 use Rattle.bit_lists.specs.Fields.{bit_list}
 use Rattle.bit_lists.proofs.PrefixLemmas.{bit_list-same}
 use Rattle.picture_grammar.specs.Refusal.{Refusal}
-use Rattle.picture_grammar.specs.Grammar.{Grammar, done, ◌>>=◌, ◌>>◌, optional, when, if_next, at_bits, ahead, repeated, each, many, one_more, SpellsList, RefusesAfter, Next, with_bytes}
+use Rattle.picture_grammar.specs.Grammar.{Grammar, done, ◌>>=◌, ◌>>◌, optional, when, if_next, at_bits, ahead, repeated, each, many, one_item_more, SpellsList, RefusesAfter, Next, with_spelling}
 use Rattle.picture_grammar.specs.Grammar.Next.{more, last}
 use Rattle.picture_grammar.specs.Exact.{IsExact, EndsWith}
 
@@ -133,7 +133,7 @@ exact-each (i ∷ is) grammar exact =
     exact-bind (grammar i) (λ value. each is grammar >>= λ values. done (value ∷ values)) (exact i)
     (λ value. exact-bind (each is grammar) (λ values. done (value ∷ values)) (exact-each is grammar exact) (λ values. exact-done (value ∷ values)))
 
-pub exact-one_more : {A B : Type 0} (grammar : Grammar A) → IsExact grammar → IsExact (one_more {A = A} {B = B} grammar)
+pub exact-one_more : {A B : Type 0} (grammar : Grammar A) → IsExact grammar → IsExact (one_item_more {A = A} {B = B} grammar)
 exact-one_more {A} {B} grammar exact =
     let another : A → Grammar (Next A B) = λ value. done (more value) in
     exact-bind grammar another exact (λ value. exact-done (more value))
@@ -195,7 +195,7 @@ module _ {A B : Type 0} (next : List A → Grammar (Next A B)) (exact : (before 
 
 -- ---- bytes
 
-pub exact-with_bytes : {A : Type 0} (grammar : Grammar A) → IsExact grammar → IsExact (with_bytes grammar)
+pub exact-with_bytes : {A : Type 0} (grammar : Grammar A) → IsExact grammar → IsExact (with_spelling grammar)
 exact-with_bytes {A} grammar exact = record {
   one_value = λ v w bits rest other (s, are, p) (t, are', q).
       let same = exact.one_value v.0 w.0 bits rest other s t in

@@ -91,8 +91,8 @@ more_of (Some value) = more value
 more_of None = last tt
 
 -- a value that is one more of a list
-abbrev pub one_more : {A B : Type 0} → Grammar A → Grammar (Next A B)
-one_more grammar = grammar >>= λ value. done (more value)
+abbrev pub one_item_more : {A B : Type 0} → Grammar A → Grammar (Next A B)
+one_item_more grammar = grammar >>= λ value. done (more value)
 
 module _ {A B : Type 0} (next : List A → Grammar (Next A B)) where
   -- behind the values so far: these values, then the end
@@ -117,8 +117,8 @@ module _ {A B : Type 0} (next : List A → Grammar (Next A B)) where
 -- ---- bytes
 
 -- a value together with the bytes that spell it
-abbrev pub with_bytes : {A : Type 0} → Grammar A → Grammar (A × List ℕ)
-with_bytes grammar = record {
+abbrev pub with_spelling : {A : Type 0} → Grammar A → Grammar (A × List ℕ)
+with_spelling grammar = record {
   Spells = λ found bits rest. grammar.Spells found.0 bits rest × AreBytes found.1 × (bits ≡ bit_list found.1 ++ rest);
   Refuses = grammar.Refuses;
 }

@@ -5,7 +5,7 @@ use Rattle.syntax_types.specs.declared.picture.PicCoding.{PicCoding}
 use Rattle.syntax_types.specs.declared.picture.SeqState.{SeqState}
 use Rattle.stream_constants.specs.declared.start_codes.TheConstants.{PICTURE, USER_DATA, SEQUENCE_HEADER, EXTENSION, GROUP, SEQUENCE_EXTENSION, SEQUENCE_DISPLAY, QUANT_MATRIX, COPYRIGHT, SEQUENCE_SCALABLE, PICTURE_DISPLAY, PICTURE_CODING, SPATIAL_SCALABLE, TEMPORAL_SCALABLE}
 use Rattle.picture_grammar.specs.Refusal.Refusal.{BadHeader, NotMpeg2, Profile}
-use Rattle.picture_grammar.specs.Grammar.{Grammar, done, ◌>>=◌, ◌>>◌, optional, when, if_next, at_bits, ahead, many, Next, one_more}
+use Rattle.picture_grammar.specs.Grammar.{Grammar, done, ◌>>=◌, ◌>>◌, optional, when, if_next, at_bits, ahead, many, Next, one_item_more}
 use Rattle.picture_grammar.specs.Grammar.Next.{more, last}
 use Rattle.picture_grammar.specs.Element.{uimsbf, rule}
 use Rattle.picture_grammar.specs.StartCode.{start_code_prefix, start_code, zero_bits, StartCodeComes, is_slice}
@@ -17,7 +17,7 @@ use Rattle.picture_grammar.specs.Headers.{Loaded, sequence_header, sequence_exte
 abbrev pub unread : Grammar (List ℕ × Unit {0})
 unread = do
   at_bits (λ bits. uimsbf (length bits % 8) [])
-  many (λ _. if_next (IsPrefix start_code_prefix) (done (last tt)) (one_more (uimsbf 8 [])))
+  many (λ _. if_next (IsPrefix start_code_prefix) (done (last tt)) (one_item_more (uimsbf 8 [])))
 
 -- extensions of other profiles (Table 6-2)
 abbrev pub is_scalable : ℕ → Bool

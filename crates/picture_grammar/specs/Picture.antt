@@ -14,7 +14,7 @@ use Rattle.picture_grammar.specs.declared.limits.TheConstants.{WIDTH_LEAST, WIDT
 use Rattle.stream_constants.specs.declared.start_codes.TheConstants.{FIRST_SLICE, SEQUENCE_END}
 use Rattle.picture_grammar.specs.Refusal.{Refusal}
 use Rattle.picture_grammar.specs.Refusal.Refusal.{BadHeader, Uncovered}
-use Rattle.picture_grammar.specs.Grammar.{Grammar, done, ◌>>=◌, ◌>>◌, optional, if_next, many, Next, with_bytes}
+use Rattle.picture_grammar.specs.Grammar.{Grammar, done, ◌>>=◌, ◌>>◌, optional, if_next, many, Next, with_spelling}
 use Rattle.picture_grammar.specs.Grammar.Next.{more, last}
 use Rattle.picture_grammar.specs.StartCode.{start_code, zero_bits, only_zero_bytes, is_slice}
 use Rattle.picture_grammar.specs.Macroblock.{is_frame, f_codes}
@@ -51,7 +51,7 @@ next_slice seq coding (s ∷ ss) = if_next (λ bits. bits ≡ replicate (length 
 -- a coded picture with its headers, behind a sequence state or none
 unfoldable pub picture_unit : Option SeqState → Grammar Picture
 picture_unit before = do
-  headers ← with_bytes (head before)
+  headers ← with_spelling (head before)
   slices ← many (next_slice headers.0.0 headers.0.1)
   done (record {
     seq = headers.0.0;

@@ -8,7 +8,7 @@ use Rattle.syntax_types.specs.declared.picture.SeqState.{SeqState}
 use Rattle.syntax_types.specs.declared.slice.Slice.{Slice}
 use Rattle.syntax_types.specs.declared.slice.SliceInfo.{SliceInfo}
 use Rattle.picture_grammar.specs.declared.limits.TheConstants.{MACROBLOCK_SIZE, SLICE_CLOSING_BITS}
-use Rattle.picture_grammar.specs.Grammar.{Grammar, done, ◌>>=◌, optional, if_next, many, Next, more_of, one_more}
+use Rattle.picture_grammar.specs.Grammar.{Grammar, done, ◌>>=◌, optional, if_next, many, Next, more_of, one_item_more}
 use Rattle.picture_grammar.specs.Grammar.Next.{last}
 use Rattle.picture_grammar.specs.Element.{uimsbf, one_flag}
 use Rattle.picture_grammar.specs.Macroblock.{macroblock, quantiser_scale_code}
@@ -53,8 +53,8 @@ ClosesSlice bits = IsPrefix (replicate SLICE_CLOSING_BITS 0) bits ⊎ (bits ≡ 
 
 -- the first macroblock; behind it another one, or the close of the slice
 abbrev pub next_macroblock : SeqState → PicCoding → List Macroblock → Grammar (Next Macroblock (Unit {0}))
-next_macroblock seq coding [] = one_more (macroblock coding true (columns seq))
-next_macroblock seq coding (m ∷ ms) = if_next ClosesSlice (done (last tt)) (one_more (macroblock coding false (columns_left seq (m ∷ ms))))
+next_macroblock seq coding [] = one_item_more (macroblock coding true (columns seq))
+next_macroblock seq coding (m ∷ ms) = if_next ClosesSlice (done (last tt)) (one_item_more (macroblock coding false (columns_left seq (m ∷ ms))))
 
 -- slice() (6.2.4) of a macroblock row, from behind its start code to the end of its last macroblock
 unfoldable pub slice : SeqState → PicCoding → ℕ → Grammar Slice

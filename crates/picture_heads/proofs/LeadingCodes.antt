@@ -10,7 +10,7 @@ use Rattle.syntax_types.specs.declared.picture.SeqState.{SeqState}
 use Rattle.stream_constants.specs.declared.start_codes.TheConstants.{PICTURE, USER_DATA, SEQUENCE_HEADER, EXTENSION, GROUP, SEQUENCE_DISPLAY, QUANT_MATRIX}
 use Rattle.picture_grammar.specs.Refusal.{Refusal}
 use Rattle.picture_grammar.specs.Refusal.Refusal.{BadHeader, NotMpeg2}
-use Rattle.picture_grammar.specs.Grammar.{Grammar, done, optional, when, if_next, SpellsList, Next, one_more}
+use Rattle.picture_grammar.specs.Grammar.{Grammar, done, optional, when, if_next, SpellsList, Next, one_item_more}
 use Rattle.picture_grammar.specs.Grammar.Next.{more, last}
 use Rattle.picture_grammar.specs.Element.{uimsbf}
 use Rattle.picture_grammar.specs.StartCode.{start_code_prefix, start_code, zero_bits}
@@ -61,7 +61,7 @@ padding refusal number bits rest (code, (fits, is), passing, split) =
     (length bits % 8, all, omega (arith, count), refl)
 
 abbrev unread_item : List ℕ → Grammar (Next ℕ (Unit {0}))
-unread_item before = if_next (IsPrefix start_code_prefix) (done (last tt)) (one_more (uimsbf 8 []))
+unread_item before = if_next (IsPrefix start_code_prefix) (done (last tt)) (one_item_more (uimsbf 8 []))
 
 -- of whole bytes that nobody reads none begins a start code
 unread_clear : (before values bits rest : List ℕ) → SpellsList unread_item before values tt bits rest → length bits % 8 ≡ 0 → IsClear bits rest × (length rest % 8 ≡ 0)

@@ -10,7 +10,7 @@ use Rattle.syntax_types.specs.declared.picture.SeqState.{SeqState}
 use Rattle.syntax_types.specs.declared.picture.TheConstants.{P_PICTURE, B_PICTURE}
 use Rattle.stream_constants.specs.declared.start_codes.TheConstants.{PICTURE, EXTENSION, QUANT_MATRIX, COPYRIGHT, PICTURE_DISPLAY, PICTURE_CODING}
 use Rattle.picture_grammar.specs.Refusal.Refusal.{BadHeader, NotMpeg2}
-use Rattle.picture_grammar.specs.Grammar.{Grammar, done, ◌>>=◌, ◌>>◌, optional, many, with_bytes}
+use Rattle.picture_grammar.specs.Grammar.{Grammar, done, ◌>>=◌, ◌>>◌, optional, many, with_spelling}
 use Rattle.picture_grammar.specs.Element.{uimsbf, rule}
 use Rattle.picture_grammar.specs.Exact.{IsExact, EndsWith}
 use Rattle.picture_grammar.specs.Slice.{extra_information}
@@ -365,7 +365,7 @@ parted-has before seq coding bytes rest p are whole = record {
 }
 
 -- the head of a picture has a vbv_delay
-pub head-has : (before : Option SeqState) (seq : SeqState) (coding : PicCoding) (bytes rest : List ℕ) → (with_bytes (head before)).Spells ((seq, coding), bytes) (bit_list bytes ++ rest) rest
+pub head-has : (before : Option SeqState) (seq : SeqState) (coding : PicCoding) (bytes rest : List ℕ) → (with_spelling (head before)).Spells ((seq, coding), bytes) (bit_list bytes ++ rest) rest
     → length rest % 8 ≡ 0
     → (front : List ℕ) × (delay : List ℕ) × (back : List ℕ) × HasDelay bytes front delay back
 head-has before seq coding bytes rest (s, are, split) whole =
@@ -374,8 +374,8 @@ head-has before seq coding bytes rest (s, are, split) whole =
 
 -- and the same head without it is read the same but for that
 pub without-read : (before : Option SeqState) (seq : SeqState) (coding : PicCoding) (bytes without rest : List ℕ)
-    → (with_bytes (head before)).Spells ((seq, coding), bytes) (bit_list bytes ++ rest) rest
-    → length rest % 8 ≡ 0 → IsHeadWithoutDelay bytes without → (with_bytes (head before)).Spells ((seq, without_delay coding), without) (bit_list without ++ rest) rest
+    → (with_spelling (head before)).Spells ((seq, coding), bytes) (bit_list bytes ++ rest) rest
+    → length rest % 8 ≡ 0 → IsHeadWithoutDelay bytes without → (with_spelling (head before)).Spells ((seq, without_delay coding), without) (bit_list without ++ rest) rest
 without-read before seq coding bytes without rest (s, are, split) whole to =
     let p = head-parted before seq coding (bit_list bytes ++ rest) rest s in
     let (f, d, b) = one-place bytes to.front to.delay to.back p.front p.delay p.back to.source (parted-has before seq coding bytes rest p are whole) in

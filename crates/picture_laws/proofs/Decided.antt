@@ -2,7 +2,7 @@
 use Rattle.std.proofs.Common.{◌≡◌, ℕ, zero, suc, ◌<◌, ◌≤◌, List, [], ◌∷◌, ◌++◌, length, Some, None, Bool, true, false, refl, inl, inr, arith}
 use Rattle.bit_lists.proofs.NumberLemmas.{AreBits}
 use Rattle.picture_grammar.specs.Refusal.Refusal.{End}
-use Rattle.picture_grammar.specs.Grammar.{Grammar, done, ◌>>=◌, ◌>>◌, optional, when, if_next, at_bits, ahead, repeated, each, many, one_more, SpellsList, RefusesAfter, Next}
+use Rattle.picture_grammar.specs.Grammar.{Grammar, done, ◌>>=◌, ◌>>◌, optional, when, if_next, at_bits, ahead, repeated, each, many, one_item_more, SpellsList, RefusesAfter, Next}
 use Rattle.picture_grammar.specs.Grammar.Next.{more, last}
 use Rattle.picture_laws.proofs.Answers.{Answer, IsRight, IsDecided}
 use Rattle.picture_laws.proofs.Answers.Answer.{found, refused}
@@ -111,7 +111,7 @@ decided-each (i ∷ is) grammar decided =
     decided-bind (grammar i) (λ value. each is grammar >>= λ values. done (value ∷ values)) (decided i)
     (λ value. decided-bind (each is grammar) (λ values. done (value ∷ values)) (decided-each is grammar decided) (λ values. decided-done (value ∷ values)))
 
-abbrev pub decided-one_more : {A B : Type 0} (grammar : Grammar A) → IsDecided grammar → IsDecided (one_more {A = A} {B = B} grammar)
+abbrev pub decided-one_more : {A B : Type 0} (grammar : Grammar A) → IsDecided grammar → IsDecided (one_item_more {A = A} {B = B} grammar)
 decided-one_more {A} {B} grammar decided =
     let another : A → Grammar (Next A B) = λ value. done (more value) in
     decided-bind grammar another decided (λ value. decided-done (more value))

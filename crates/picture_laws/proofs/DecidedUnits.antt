@@ -11,7 +11,7 @@ use Rattle.syntax_types.specs.declared.slice.Slice.{Slice}
 use Rattle.stream_constants.specs.declared.start_codes.TheConstants.{QUANT_MATRIX}
 use Rattle.picture_grammar.specs.Exact.{EndsWith}
 use Rattle.picture_grammar.specs.Refusal.Refusal.{BadHeader}
-use Rattle.picture_grammar.specs.Grammar.{Grammar, done, ◌>>=◌, ◌>>◌, optional, many, with_bytes}
+use Rattle.picture_grammar.specs.Grammar.{Grammar, done, ◌>>=◌, ◌>>◌, optional, many, with_spelling}
 use Rattle.picture_grammar.specs.StartCode.{zero_bits}
 use Rattle.picture_grammar.specs.Headers.{Loaded}
 use Rattle.picture_grammar.specs.Head.{unread, extension, extension_or_user_data, sequence_headers, sequence_part, group_part, picture_part, head}
@@ -98,7 +98,7 @@ with_bytes_answer bits (found v rest) = let count = length bits - length rest in
 with_bytes_answer bits (refused r left) = refused r left
 
 taken-bytes : {A : Type 0} (grammar : Grammar A) (v : A) (bits rest : List ℕ) → AreBits bits → EndsWith bits rest → length bits % 8 ≡ 0 → length rest % 8 ≡ 0 → grammar.Spells v bits rest → AreBits rest
-    → IsRight (with_bytes grammar) bits (with_bytes_answer bits (found v rest))
+    → IsRight (with_spelling grammar) bits (with_bytes_answer bits (found v rest))
 taken-bytes grammar v bits rest are (front, split) whole whole' s are' =
     let count : length bits - length rest ≡ length front = omega (arith, ap length split, length-append front rest) in
     let taken : take (length bits - length rest) bits ≡ front = ap (λ k. take k bits) count ∙ ap (take (length front)) split ∙ IsPrefix-append front rest in
@@ -109,7 +109,7 @@ taken-bytes grammar v bits rest are (front, split) whole whole' s are' =
     ((s, bytes.0, split ∙ ap (λ x. x ++ rest) (sym taken ∙ sym bytes.1)), are')
 
 pub right-with_bytes : {A : Type 0} (grammar : Grammar A) → KeepsWhole grammar → ((v : A) (bits rest : List ℕ) → grammar.Spells v bits rest → EndsWith bits rest)
-    → (bits : List ℕ) → AreBits bits → length bits % 8 ≡ 0 → (answer : Answer A) → IsRight grammar bits answer → IsRight (with_bytes grammar) bits (with_bytes_answer bits answer)
+    → (bits : List ℕ) → AreBits bits → length bits % 8 ≡ 0 → (answer : Answer A) → IsRight grammar bits answer → IsRight (with_spelling grammar) bits (with_bytes_answer bits answer)
 right-with_bytes grammar keeps front bits are whole (found v rest) (s, are') = taken-bytes grammar v bits rest are (front v bits rest s) whole (keeps.whole v bits rest s whole) s are'
 right-with_bytes grammar keeps front bits are whole (refused r left) s = s
 
@@ -143,5 +143,5 @@ unit_answer before bits = next_answer (with_bytes_answer bits ((decided-head bef
 pub right-unit : (before : Option SeqState) (bits : List ℕ) → AreBits bits → length bits % 8 ≡ 0 → IsRight (picture_unit before) bits (unit_answer before bits)
 unfolding picture_unit
 right-unit before bits are whole =
-    right-bind (with_bytes (head before)) _ decided-slices bits (with_bytes_answer bits ((decided-head before).answer bits))
+    right-bind (with_spelling (head before)) _ decided-slices bits (with_bytes_answer bits ((decided-head before).answer bits))
     (right-with_bytes (head before) (keeps-head before) (exact-head before).spelled_front bits are whole ((decided-head before).answer bits) ((decided-head before).right bits are))

@@ -7,7 +7,7 @@ use Rattle.syntax_types.specs.declared.macroblock.Macroblock.{Macroblock}
 use Rattle.syntax_types.specs.declared.picture.PicCoding.{PicCoding}
 use Rattle.syntax_types.specs.declared.picture.SeqState.{SeqState}
 use Rattle.syntax_types.specs.declared.slice.Slice.{Slice}
-use Rattle.picture_grammar.specs.Grammar.{done, ◌>>=◌, optional, SpellsList, Next, more_of, one_more}
+use Rattle.picture_grammar.specs.Grammar.{done, ◌>>=◌, optional, SpellsList, Next, more_of, one_item_more}
 use Rattle.picture_grammar.specs.Grammar.Next.{more, last}
 use Rattle.picture_grammar.specs.Element.{uimsbf, one_flag}
 use Rattle.picture_grammar.specs.Macroblock.{macroblock}
@@ -61,7 +61,7 @@ short-info = short-bind 4 (behind_flag 4) (λ _. 9) one_flag (λ extended. optio
 short-next : (seq : SeqState) (coding : PicCoding) → IsCoding coding → (before : List Macroblock) → IsShort 14 (λ _. 14) (next_macroblock seq coding before)
 short-next seq coding is [] = short-one_more 14 (λ _. 14) _ (short-macroblock coding true (columns seq) is)
 short-next seq coding is (m ∷ ms) =
-    short-if_next 14 (λ _. 14) ClosesSlice (done (last tt)) (one_more (macroblock coding false (columns_left seq (m ∷ ms)))) (short-done 14 (λ _. 14) (last tt) (omega arith))
+    short-if_next 14 (λ _. 14) ClosesSlice (done (last tt)) (one_item_more (macroblock coding false (columns_left seq (m ∷ ms)))) (short-done 14 (λ _. 14) (last tt) (omega arith))
     (short-one_more 14 (λ _. 14) _ (short-macroblock coding false (columns_left seq (m ∷ ms)) is))
 
 short-slice : (seq : SeqState) (coding : PicCoding) (row : ℕ) → IsCoding coding → IsShort 0 (λ _. 14) (slice seq coding row)

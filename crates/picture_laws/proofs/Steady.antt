@@ -4,7 +4,7 @@ use Rattle.std.proofs.lemmas.List.{length-append}
 use Rattle.bit_lists.specs.Bits.{IsPrefix, bits_of}
 use Rattle.bit_lists.proofs.BitLemmas.{length-bits_of}
 use Rattle.picture_grammar.specs.Refusal.{Refusal}
-use Rattle.picture_grammar.specs.Grammar.{Grammar, done, ◌>>=◌, ◌>>◌, optional, when, if_next, at_bits, many, SpellsList, Next, one_more}
+use Rattle.picture_grammar.specs.Grammar.{Grammar, done, ◌>>=◌, ◌>>◌, optional, when, if_next, at_bits, many, SpellsList, Next, one_item_more}
 use Rattle.picture_grammar.specs.Grammar.Next.{more, last}
 use Rattle.picture_grammar.specs.Element.{Rule, uimsbf}
 use Rattle.picture_grammar.specs.Exact.{IsLocal}
@@ -128,7 +128,7 @@ steady-comes {is_last} {A} refusal codes next absent none each = record { moved 
 -- ---- bits that nobody reads
 
 abbrev unread_item : List ℕ → Grammar (Next ℕ (Unit {0}))
-unread_item before = if_next (IsPrefix start_code_prefix) (done (last tt)) (one_more (uimsbf 8 []))
+unread_item before = if_next (IsPrefix start_code_prefix) (done (last tt)) (one_item_more (uimsbf 8 []))
 
 unread_steady : (is_last : ℕ → Bool) (before values bits rest : List ℕ) → SpellsList unread_item before values tt bits rest
     → (front : List ℕ) × (bits ≡ front ++ rest) × ((other : List ℕ) → AreAlike is_last rest other → SpellsList unread_item before values tt (front ++ other) other)

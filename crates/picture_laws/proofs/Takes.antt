@@ -17,7 +17,7 @@ use Rattle.syntax_types.specs.declared.picture.PicCoding.{PicCoding}
 use Rattle.syntax_types.specs.declared.picture.SeqState.{SeqState}
 use Rattle.picture_grammar.specs.Refusal.{Refusal}
 use Rattle.picture_grammar.specs.Refusal.Refusal.{BadType}
-use Rattle.picture_grammar.specs.Grammar.{Grammar, ◌>>=◌, many, one_more, SpellsList, Next}
+use Rattle.picture_grammar.specs.Grammar.{Grammar, ◌>>=◌, many, one_item_more, SpellsList, Next}
 use Rattle.picture_grammar.specs.Grammar.Next.{more, last}
 use Rattle.picture_grammar.specs.Exact.{IsExact, EndsWith}
 use Rattle.picture_grammar.specs.Element.{Rule, element, vlclbf, uimsbf, flag_where, marker_bit}
@@ -142,7 +142,7 @@ takes-macroblock coding first columns_left =
     (λ pattern. exact-bind _ _ (exact-blocks coding kind pattern)
     (λ blocks. exact-done _))))))))))
 
-one_more-fewer : {A B : Type 0} (grammar : Grammar A) → Takes grammar → (value : A) (bits middle : List ℕ) → (one_more {A = A} {B = B} grammar).Spells (more value) bits middle → length middle < length bits
+one_more-fewer : {A B : Type 0} (grammar : Grammar A) → Takes grammar → (value : A) (bits middle : List ℕ) → (one_item_more {A = A} {B = B} grammar).Spells (more value) bits middle → length middle < length bits
 one_more-fewer grammar takes value bits middle (a, m, s, (e, f)) = subst (λ (r : List ℕ). length r < length bits) f (takes.fewer a bits m s)
 
 pub takes-next_macroblock : (seq : SeqState) (coding : PicCoding) → TakesBits (next_macroblock seq coding)

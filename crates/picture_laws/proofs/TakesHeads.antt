@@ -9,7 +9,7 @@ use Rattle.syntax_types.specs.declared.slice.Slice.{Slice}
 use Rattle.stream_constants.specs.declared.start_codes.TheConstants.{EXTENSION, USER_DATA}
 use Rattle.picture_grammar.specs.Refusal.{Refusal}
 use Rattle.picture_grammar.specs.Refusal.Refusal.{BadHeader}
-use Rattle.picture_grammar.specs.Grammar.{Grammar, done, ◌>>=◌, ◌>>◌, optional, when, if_next, Next, one_more}
+use Rattle.picture_grammar.specs.Grammar.{Grammar, done, ◌>>=◌, ◌>>◌, optional, when, if_next, Next, one_item_more}
 use Rattle.picture_grammar.specs.Grammar.Next.{more, last}
 use Rattle.picture_grammar.specs.Element.{uimsbf}
 use Rattle.picture_grammar.specs.StartCode.{start_code_prefix, zero_byte, start_code, StartCodeComes, is_slice}
@@ -53,7 +53,7 @@ takes-only_zero_bytes = takes-list _ (λ before value bits middle s. fewer-else 
   later : Takes (if_next (IsPrefix start_code_prefix) (start_code BadHeader (λ _. false) >> done {A = Next ℕ (Unit {0})} (last tt)) (zero_byte BadHeader >>= λ byte. done (more byte)))
   later = takes-if_next _ _ _ (takes-bind _ _ (takes-start_code _ _) (λ byte. exact-done _)) (takes-bind _ _ (takes-zero_byte _) (λ byte. exact-done _))
 
-pub takes-unread : TakesBits (λ (before : List ℕ). if_next (IsPrefix start_code_prefix) (done {A = Next ℕ (Unit {0})} (last tt)) (one_more (uimsbf 8 [])))
+pub takes-unread : TakesBits (λ (before : List ℕ). if_next (IsPrefix start_code_prefix) (done {A = Next ℕ (Unit {0})} (last tt)) (one_item_more (uimsbf 8 [])))
 takes-unread = takes-list _ (λ before value bits middle s. fewer-else (IsPrefix start_code_prefix) tt _ (takes-bind (uimsbf 8 []) (λ byte. done (more byte)) (takes-uimsbf 8 [] (omega arith)) (λ byte. exact-done _)) value bits middle s)
 
 -- what comes where one of the start codes does

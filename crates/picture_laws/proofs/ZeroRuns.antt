@@ -10,7 +10,7 @@ use Rattle.prefix_codes.specs.declared.table_name.TableName.{TableName}
 use Rattle.prefix_codes.specs.TableName.{entries, code_in}
 use Rattle.prefix_codes.proofs.TableLemmas.{code_in-passes}
 use Rattle.picture_grammar.specs.Refusal.{Refusal}
-use Rattle.picture_grammar.specs.Grammar.{Grammar, done, ◌>>=◌, optional, when, if_next, repeated, each, many, SpellsList, Next, one_more}
+use Rattle.picture_grammar.specs.Grammar.{Grammar, done, ◌>>=◌, optional, when, if_next, repeated, each, many, SpellsList, Next, one_item_more}
 use Rattle.picture_grammar.specs.Grammar.Next.{more, last}
 use Rattle.picture_grammar.specs.Element.{Rule, passes, element, vlclbf, uimsbf, flag_where}
 use Rattle.picture_laws.specs.Spellable.{IsSpellable}
@@ -139,7 +139,7 @@ short-each from (i ∷ is) grammar short =
     short-bind from (λ _. from) (λ _. from) (grammar i) (λ value. each is grammar >>= λ values. done (value ∷ values)) (short i)
     (λ value s. short-bind from (λ _. from) (λ _. from) (each is grammar) (λ values. done (value ∷ values)) (short-each from is grammar short) (λ values t. short-done from (λ _. from) (value ∷ values) (omega arith)))
 
-pub short-one_more : {A B : Type 0} (from : ℕ) (to : Next A B → ℕ) (grammar : Grammar A) → IsShort from (λ v. to (more v)) grammar → IsShort from to (one_more {A = A} {B = B} grammar)
+pub short-one_more : {A B : Type 0} (from : ℕ) (to : Next A B → ℕ) (grammar : Grammar A) → IsShort from (λ v. to (more v)) grammar → IsShort from to (one_item_more {A = A} {B = B} grammar)
 short-one_more {A} {B} from to grammar short =
     let another : A → Grammar (Next A B) = λ value. done (more value) in
     short-bind from (λ v. to (more v)) to grammar another short (λ v s. short-done (to (more v)) to (more v) (omega arith))

@@ -14,7 +14,7 @@ use Rattle.syntax_types.specs.declared.picture.SeqState.{SeqState}
 use Rattle.syntax_types.specs.declared.slice.Slice.{Slice}
 use Rattle.prefix_codes.specs.declared.table_name.TableName.TheVariants.{Pattern}
 use Rattle.picture_grammar.specs.Refusal.Refusal.{BadPattern}
-use Rattle.picture_grammar.specs.Grammar.{Grammar, optional, when, with_bytes}
+use Rattle.picture_grammar.specs.Grammar.{Grammar, optional, when, with_spelling}
 use Rattle.picture_grammar.specs.Element.{vlclbf}
 use Rattle.stream_constants.specs.declared.start_codes.TheConstants.{FIRST_SLICE}
 use Rattle.picture_grammar.specs.declared.escape.TheConstants.{LEVEL_BITS}
@@ -74,6 +74,6 @@ pub record HasSpellableMacroblocks (seq : SeqState) (coding : PicCoding) (s : Sl
 pub record HasSpellableSlices (before : Option SeqState) (picture : Picture) : Type 0 where
   pub rest : List ℕ
   pub whole : length rest % 8 ≡ 0
-  pub head : (with_bytes (head before)).Spells ((picture.seq, picture.coding), picture.head) (bit_list picture.head ++ rest) rest
+  pub head : (with_spelling (head before)).Spells ((picture.seq, picture.coding), picture.head) (bit_list picture.head ++ rest) rest
   pub some : 0 < length picture.slices
   pub each : AllByRecursion (λ s. HasSpellableMacroblocks picture.seq picture.coding s × (is_slice (s.row + FIRST_SLICE) ≡ true)) picture.slices

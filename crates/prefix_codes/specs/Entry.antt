@@ -21,5 +21,5 @@ abbrev pub coefficient_symbol : ℕ → ℕ → ℕ
 coefficient_symbol run level = LEVELS_PER_RUN * run + level
 
 -- the entry of a run of zeros and the size of a level (Tables B-14 and B-15)
-abbrev pub coefficient : ℕ → ℕ → String → Entry
-coefficient run level text = entry (coefficient_symbol run level) text
+abbrev pub coefficient_entry : ℕ → ℕ → String → Entry
+coefficient_entry run level text = entry (coefficient_symbol run level) text

@@ -6,7 +6,7 @@ use Rattle.std.proofs.lemmas.List.{append-nil, get_or_append_left, get_or-take}
 use Rattle.std.proofs.lemmas.List.Elements.{filter-append}
 use Rattle.std.proofs.lemmas.List.Folds.{concat-append}
 use Rattle.std.proofs.lemmas.List.Sums.{sum_by-append, count_by-le-length}
-use Rattle.psi_tables.specs.Section.{IsRow}
+use Rattle.psi_tables.specs.Section.{IsItemRow}
 use Rattle.psi_tables.specs.Descriptors.{descriptor_length, IsDescriptor, is_kept, kept_bytes, count_dropped}
 use Rattle.psi_tables.proofs.Rows.{IsTold, IsUnderWay, under_way_none, under_way_more, under_way_rest}
 use Rattle.psi_tables.proofs.Elements.{descriptor_length-is}
@@ -92,10 +92,10 @@ read_dropped bytes rest kept dropped front behind read split is drops = record {
 }
 
 -- the rest of a row begins with a descriptor, where there is a rest
-pub next_descriptor : (bytes rest : List ℕ) (done xs : List (List ℕ)) → IsUnderWay IsDescriptor bytes rest done → IsRow IsDescriptor xs bytes → 0 < length rest → (front : List ℕ) × (behind : List ℕ) × (rest ≡ front ++ behind) × IsDescriptor front front × (ys : List (List ℕ)) × (xs ≡ done ++ front ∷ ys)
+pub next_descriptor : (bytes rest : List ℕ) (done xs : List (List ℕ)) → IsUnderWay IsDescriptor bytes rest done → IsItemRow IsDescriptor xs bytes → 0 < length rest → (front : List ℕ) × (behind : List ℕ) × (rest ≡ front ++ behind) × IsDescriptor front front × (ys : List (List ℕ)) × (xs ≡ done ++ front ∷ ys)
 next_descriptor bytes rest done xs is row more = by_rest (under_way_rest IsDescriptor descriptors_told bytes rest done xs is row)
   where
-    by_rest : (ys : List (List ℕ)) × (xs ≡ done ++ ys) × IsRow IsDescriptor ys rest → (front : List ℕ) × (behind : List ℕ) × (rest ≡ front ++ behind) × IsDescriptor front front × (ys : List (List ℕ)) × (xs ≡ done ++ front ∷ ys)
+    by_rest : (ys : List (List ℕ)) × (xs ≡ done ++ ys) × IsItemRow IsDescriptor ys rest → (front : List ℕ) × (behind : List ℕ) × (rest ≡ front ++ behind) × IsDescriptor front front × (ys : List (List ℕ)) × (xs ≡ done ++ front ∷ ys)
     by_rest ([], same, none) = absurd (omega (arith, more, ap length none))
     by_rest (y ∷ ys, same, found) =
         let y_is : y ≡ found.0 = found.3.bytes_are in
@@ -108,9 +108,9 @@ kept_at_least done front ys keeps =
     omega (arith, ap length (kept_bytes-append done (front ∷ ys)), length-append (kept_bytes done) (kept_bytes (front ∷ ys)), ap length one, length-append front (kept_bytes ys))
 
 -- fewer descriptors than bytes
-pub count_dropped-row : (xs : List (List ℕ)) (bytes : List ℕ) → IsRow IsDescriptor xs bytes → count_dropped xs ≤ length bytes
+pub count_dropped-row : (xs : List (List ℕ)) (bytes : List ℕ) → IsItemRow IsDescriptor xs bytes → count_dropped xs ≤ length bytes
 count_dropped-row xs bytes row = omega (arith, count_by-le-length (λ d. not (is_kept d)) xs, length-row xs bytes row)
   where
-    length-row : (xs : List (List ℕ)) (bytes : List ℕ) → IsRow IsDescriptor xs bytes → length xs ≤ length bytes
+    length-row : (xs : List (List ℕ)) (bytes : List ℕ) → IsItemRow IsDescriptor xs bytes → length xs ≤ length bytes
     length-row [] bytes row = omega arith
     length-row (x ∷ xs) bytes row = omega (arith, length-row xs row.1 row.4, row.3.size, ap length row.2, length-append row.0 row.1)

@@ -7,7 +7,7 @@ use Rattle.std.proofs.lemmas.List.Elements.{All-map, All-same}
 use Rattle.bit_lists.proofs.MaskLemmas.{and_15, and_31}
 use Rattle.psi_tables.specs.declared.stream.Stream.{Stream}
 use Rattle.psi_tables.specs.declared.program_map.ProgramMap.{ProgramMap}
-use Rattle.psi_tables.specs.Section.{IsRow}
+use Rattle.psi_tables.specs.Section.{IsItemRow}
 use Rattle.psi_tables.specs.Descriptors.{IsDescriptor, count_dropped}
 use Rattle.psi_tables.specs.Streams.{StreamInfo, IsStreamInfo, stream_of}
 use Rattle.psi_tables.specs.Private.Streams.{IsKeepable}
@@ -60,14 +60,14 @@ pcr_at content head pcr bytes head_is pcr_is =
     omega (arith, pcr_is, PCR_PID-is content, at 0 (omega arith), at 1 (omega arith), and_31 (get_or head 0 0), bytes 1)
 
 -- what its parts say, the content says
-pub content_says : (content info streams : List ℕ) (program : ProgramMap) (descriptors : List (List ℕ)) (infos : List StreamInfo) → IsCut content info streams → program.pcr_pid ≡ PCR_PID content → IsRow IsDescriptor descriptors info → IsRow IsStreamInfo infos streams → program.streams.items ≡ map stream_of infos → program.dropped ≡ length descriptors + sum_by (λ i. count_dropped i.descriptors) infos → IsMapContent program content
+pub content_says : (content info streams : List ℕ) (program : ProgramMap) (descriptors : List (List ℕ)) (infos : List StreamInfo) → IsCut content info streams → program.pcr_pid ≡ PCR_PID content → IsItemRow IsDescriptor descriptors info → IsItemRow IsStreamInfo infos streams → program.streams.items ≡ map stream_of infos → program.dropped ≡ length descriptors + sum_by (λ i. count_dropped i.descriptors) infos → IsMapContent program content
 content_says content info streams program descriptors infos cut pcr descriptors_are streams_are kept dropped = record {
   pcr = pcr;
   room = cut.room;
   descriptors = descriptors;
-  descriptors_are = subst (IsRow IsDescriptor descriptors) cut.info_is descriptors_are;
+  descriptors_are = subst (IsItemRow IsDescriptor descriptors) cut.info_is descriptors_are;
   streams = infos;
-  streams_are = subst (IsRow IsStreamInfo infos) cut.streams_are streams_are;
+  streams_are = subst (IsItemRow IsStreamInfo infos) cut.streams_are streams_are;
   kept = kept;
   dropped_are = dropped;
 }

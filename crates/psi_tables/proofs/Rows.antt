@@ -3,7 +3,7 @@ use Rattle.std.proofs.Common.{◌≡◌, ℕ, zero, suc, ◌<◌, Bool, true, fa
 use Rattle.std.proofs.lemmas.List.{append-nil, append_cancel_left, take_at, nil_from_length}
 use Rattle.std.specs.Prelude.{◌==◌}
 use Rattle.std.proofs.lemmas.Bool.{false≢true, eqb-true}
-use Rattle.psi_tables.specs.Section.{IsRow}
+use Rattle.psi_tables.specs.Section.{IsItemRow}
 
 -- what `is_empty` tells of a length
 pub not_empty : (answer : Bool) (n : ℕ) → answer ≡ (n == 0) → answer ≡ false → 0 < n
@@ -26,23 +26,23 @@ pub record IsTold {A : Type 0} (spells : A → List ℕ → Type 0) : Type 0 whe
   pub one : (x y : A) (front : List ℕ) → spells x front → spells y front → x ≡ y
 
 -- a row and one more item
-pub IsRow-push : {A : Type 0} (spells : A → List ℕ → Type 0) (xs : List A) (y : A) (a b : List ℕ) → IsRow spells xs a → spells y b → IsRow spells (xs ++ y ∷ []) (a ++ b)
+pub IsRow-push : {A : Type 0} (spells : A → List ℕ → Type 0) (xs : List A) (y : A) (a b : List ℕ) → IsItemRow spells xs a → spells y b → IsItemRow spells (xs ++ y ∷ []) (a ++ b)
 IsRow-push spells [] y a b row more = (b, [], ap (λ (xs : List ℕ). xs ++ b) row ∙ sym (append-nil b), more, refl)
 IsRow-push spells (x ∷ xs) y a b row more =
     (row.0, row.1 ++ b, ap (λ (bytes : List ℕ). bytes ++ b) row.2 ∙ append_assoc row.0 row.1 b, row.3, IsRow-push spells xs y row.1 b row.4 more)
 
 -- a row that begins with an item's bytes begins with the item
-pub IsRow-first : {A : Type 0} (spells : A → List ℕ → Type 0) → IsTold spells → (x : A) (xs : List A) (front behind : List ℕ) → spells x front → IsRow spells xs (front ++ behind) → (ys : List A) × (xs ≡ x ∷ ys) × IsRow spells ys behind
+pub IsRow-first : {A : Type 0} (spells : A → List ℕ → Type 0) → IsTold spells → (x : A) (xs : List A) (front behind : List ℕ) → spells x front → IsItemRow spells xs (front ++ behind) → (ys : List A) × (xs ≡ x ∷ ys) × IsItemRow spells ys behind
 IsRow-first spells told x [] front behind is row = absurd (omega (arith, told.some x front is, ap length row, length-append front behind))
 IsRow-first {A} spells told x (y ∷ ys) front behind is row =
     let parts = same_parts front row.0 behind row.1 row.2 (told.ends x y front row.0 behind row.1 row.2 is row.3) in
     let same : y ≡ x = told.one y x row.0 row.3 (subst (spells x) parts.0 is) in
-    (ys, ap (λ (z : A). z ∷ ys) same, subst (IsRow spells ys) (sym parts.1) row.4)
+    (ys, ap (λ (z : A). z ∷ ys) same, subst (IsItemRow spells ys) (sym parts.1) row.4)
 
 -- so far these items were taken, and the rest is left
 pub record IsUnderWay {A : Type 0} (spells : A → List ℕ → Type 0) (bytes rest : List ℕ) (done : List A) : Type 0 where
   pub taken : List ℕ
-  pub row : IsRow spells done taken
+  pub row : IsItemRow spells done taken
   pub joined : bytes ≡ taken ++ rest
 
 -- at the beginning
@@ -58,33 +58,33 @@ under_way_more spells bytes rest done x front behind is split more = record {
 }
 
 -- at the end
-pub under_way_all : {A : Type 0} (spells : A → List ℕ → Type 0) (bytes rest : List ℕ) (done : List A) → IsUnderWay spells bytes rest done → length rest ≡ 0 → IsRow spells done bytes
+pub under_way_all : {A : Type 0} (spells : A → List ℕ → Type 0) (bytes rest : List ℕ) (done : List A) → IsUnderWay spells bytes rest done → length rest ≡ 0 → IsItemRow spells done bytes
 under_way_all spells bytes rest done is none =
-    subst (IsRow spells done) (sym (is.joined ∙ ap (λ (xs : List ℕ). is.taken ++ xs) (nil_from_length rest none) ∙ append-nil is.taken)) is.row
+    subst (IsItemRow spells done) (sym (is.joined ∙ ap (λ (xs : List ℕ). is.taken ++ xs) (nil_from_length rest none) ∙ append-nil is.taken)) is.row
 
 -- a row of all the bytes goes on with a row of the rest
-pub row_of_rest : {A : Type 0} (spells : A → List ℕ → Type 0) → IsTold spells → (done xs : List A) (taken rest : List ℕ) → IsRow spells done taken → IsRow spells xs (taken ++ rest) → (ys : List A) × (xs ≡ done ++ ys) × IsRow spells ys rest
-row_of_rest spells told [] xs taken rest first row = (xs, refl, subst (λ (front : List ℕ). IsRow spells xs (front ++ rest)) first row)
+pub row_of_rest : {A : Type 0} (spells : A → List ℕ → Type 0) → IsTold spells → (done xs : List A) (taken rest : List ℕ) → IsItemRow spells done taken → IsItemRow spells xs (taken ++ rest) → (ys : List A) × (xs ≡ done ++ ys) × IsItemRow spells ys rest
+row_of_rest spells told [] xs taken rest first row = (xs, refl, subst (λ (front : List ℕ). IsItemRow spells xs (front ++ rest)) first row)
 row_of_rest {A} spells told (x ∷ done) xs taken rest first row =
     let bytes : taken ++ rest ≡ first.0 ++ (first.1 ++ rest) = ap (λ (front : List ℕ). front ++ rest) first.2 ∙ append_assoc first.0 first.1 rest in
-    let one = IsRow-first spells told x xs first.0 (first.1 ++ rest) first.3 (subst (IsRow spells xs) bytes row) in
+    let one = IsRow-first spells told x xs first.0 (first.1 ++ rest) first.3 (subst (IsItemRow spells xs) bytes row) in
     let others = row_of_rest spells told done one.0 first.1 rest first.4 one.2 in
     (others.0, one.1 ∙ ap (λ (ys : List A). x ∷ ys) others.1, others.2)
 
-pub under_way_rest : {A : Type 0} (spells : A → List ℕ → Type 0) → IsTold spells → (bytes rest : List ℕ) (done xs : List A) → IsUnderWay spells bytes rest done → IsRow spells xs bytes → (ys : List A) × (xs ≡ done ++ ys) × IsRow spells ys rest
-under_way_rest spells told bytes rest done xs is row = row_of_rest spells told done xs is.taken rest is.row (subst (IsRow spells xs) is.joined row)
+pub under_way_rest : {A : Type 0} (spells : A → List ℕ → Type 0) → IsTold spells → (bytes rest : List ℕ) (done xs : List A) → IsUnderWay spells bytes rest done → IsItemRow spells xs bytes → (ys : List A) × (xs ≡ done ++ ys) × IsItemRow spells ys rest
+under_way_rest spells told bytes rest done xs is row = row_of_rest spells told done xs is.taken rest is.row (subst (IsItemRow spells xs) is.joined row)
 
 -- no bytes are a row of nothing
-pub row_of_none : {A : Type 0} (spells : A → List ℕ → Type 0) → IsTold spells → (xs : List A) (bytes : List ℕ) → length bytes ≡ 0 → IsRow spells xs bytes → xs ≡ []
+pub row_of_none : {A : Type 0} (spells : A → List ℕ → Type 0) → IsTold spells → (xs : List A) (bytes : List ℕ) → length bytes ≡ 0 → IsItemRow spells xs bytes → xs ≡ []
 row_of_none spells told [] bytes none row = refl
 row_of_none spells told (x ∷ xs) bytes none row = absurd (omega (arith, told.some x row.0 row.3, none, ap length row.2, length-append row.0 row.1))
 
 -- bytes are one row at most
-pub one_row : {A : Type 0} (spells : A → List ℕ → Type 0) → IsTold spells → (bytes rest : List ℕ) (done xs : List A) → IsUnderWay spells bytes rest done → length rest ≡ 0 → IsRow spells xs bytes → xs ≡ done
+pub one_row : {A : Type 0} (spells : A → List ℕ → Type 0) → IsTold spells → (bytes rest : List ℕ) (done xs : List A) → IsUnderWay spells bytes rest done → length rest ≡ 0 → IsItemRow spells xs bytes → xs ≡ done
 one_row {A} spells told bytes rest done xs is none row =
     let behind = under_way_rest spells told bytes rest done xs is row in
     behind.1 ∙ ap (λ (ys : List A). done ++ ys) (row_of_none spells told behind.0 rest none behind.2) ∙ append-nil done
 
 -- and of all the bytes
-pub same_row : {A : Type 0} (spells : A → List ℕ → Type 0) → IsTold spells → (xs ys : List A) (bytes : List ℕ) → IsRow spells xs bytes → IsRow spells ys bytes → xs ≡ ys
+pub same_row : {A : Type 0} (spells : A → List ℕ → Type 0) → IsTold spells → (xs ys : List A) (bytes : List ℕ) → IsItemRow spells xs bytes → IsItemRow spells ys bytes → xs ≡ ys
 same_row spells told xs ys bytes first second = one_row spells told bytes [] ys xs (record { taken = bytes; row = second; joined = sym (append-nil bytes) }) refl first

@@ -7,7 +7,7 @@ use Rattle.std.proofs.lemmas.List.{get_or_append_left, get_or-take, get_or_at, m
 use Rattle.std.proofs.lemmas.List.Elements.{All-push, All-nil}
 use Rattle.std.proofs.lemmas.List.Sums.{sum_by_push}
 use Rattle.psi_tables.specs.declared.stream.Stream.{Stream}
-use Rattle.psi_tables.specs.Section.{IsRow}
+use Rattle.psi_tables.specs.Section.{IsItemRow}
 use Rattle.psi_tables.specs.Descriptors.{IsDescriptor, kept_bytes, count_dropped}
 use Rattle.psi_tables.specs.Streams.{StreamInfo, ES_info_length, IsStreamInfo, stream_of}
 use Rattle.psi_tables.specs.Private.Streams.{IsKeepable}
@@ -59,15 +59,15 @@ streams_told = record {
 }
 
 -- the rest of a row begins with a stream, where there is a rest
-pub next_info : (bytes rest : List ℕ) (done xs : List StreamInfo) → IsUnderWay IsStreamInfo bytes rest done → IsRow IsStreamInfo xs bytes → 0 < length rest → (front : List ℕ) × (behind : List ℕ) × (rest ≡ front ++ behind) × (info : StreamInfo) × IsStreamInfo info front × (ys : List StreamInfo) × (xs ≡ done ++ info ∷ ys)
+pub next_info : (bytes rest : List ℕ) (done xs : List StreamInfo) → IsUnderWay IsStreamInfo bytes rest done → IsItemRow IsStreamInfo xs bytes → 0 < length rest → (front : List ℕ) × (behind : List ℕ) × (rest ≡ front ++ behind) × (info : StreamInfo) × IsStreamInfo info front × (ys : List StreamInfo) × (xs ≡ done ++ info ∷ ys)
 next_info bytes rest done xs is row more = by_rest (under_way_rest IsStreamInfo streams_told bytes rest done xs is row)
   where
-    by_rest : (ys : List StreamInfo) × (xs ≡ done ++ ys) × IsRow IsStreamInfo ys rest → (front : List ℕ) × (behind : List ℕ) × (rest ≡ front ++ behind) × (info : StreamInfo) × IsStreamInfo info front × (ys : List StreamInfo) × (xs ≡ done ++ info ∷ ys)
+    by_rest : (ys : List StreamInfo) × (xs ≡ done ++ ys) × IsItemRow IsStreamInfo ys rest → (front : List ℕ) × (behind : List ℕ) × (rest ≡ front ++ behind) × (info : StreamInfo) × IsStreamInfo info front × (ys : List StreamInfo) × (xs ≡ done ++ info ∷ ys)
     by_rest ([], same, none) = absurd (omega (arith, more, ap length none))
     by_rest (y ∷ ys, same, found) = (found.0, found.1, found.2, y, found.3, ys, same)
 
 -- it is the stream of the bytes that were split off
-pub next_info_of : (bytes rest front behind : List ℕ) (done xs : List StreamInfo) → IsUnderWay IsStreamInfo bytes rest done → IsRow IsStreamInfo xs bytes → rest ≡ front ++ behind → length front ≡ 5 + ES_info_length front → (info : StreamInfo) × IsStreamInfo info front × (ys : List StreamInfo) × (xs ≡ done ++ info ∷ ys)
+pub next_info_of : (bytes rest front behind : List ℕ) (done xs : List StreamInfo) → IsUnderWay IsStreamInfo bytes rest done → IsItemRow IsStreamInfo xs bytes → rest ≡ front ++ behind → length front ≡ 5 + ES_info_length front → (info : StreamInfo) × IsStreamInfo info front × (ys : List StreamInfo) × (xs ≡ done ++ info ∷ ys)
 next_info_of bytes rest front behind done xs is row split size =
     let next = next_info bytes rest done xs is row (omega (arith, ap length split, length-append front behind, size)) in
     let parts = same_parts next.0 front next.1 behind (sym next.2 ∙ split) (info_ends next.0 front next.1 behind (sym next.2 ∙ split) next.4.size size) in

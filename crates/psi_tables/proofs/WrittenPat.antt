@@ -4,7 +4,7 @@ use Rattle.std.specs.List.{flat_map}
 use Rattle.std.specs.Int.{w32, to_be_bytes}
 use Rattle.std.proofs.lemmas.List.{take_at}
 use Rattle.std.proofs.lemmas.List.Elements.{All-head, All-tail}
-use Rattle.psi_tables.specs.Section.{section_length, table_id_extension, IsCurrent, IsWhole, IsRow, content, IsWithCrc, written_header}
+use Rattle.psi_tables.specs.Section.{section_length, table_id_extension, IsCurrent, IsWholeSection, IsItemRow, content, IsWithCrc, written_header}
 use Rattle.psi_tables.specs.Pat.{IsProgram, IsPat, written_program, written_pat}
 use Rattle.psi_tables.proofs.Elements.{table_id-is, section_length-is, table_id_extension-is, current_next_indicator-is, program_number-is, program_map_PID-is}
 
@@ -28,7 +28,7 @@ header_says table size extension rest table_low size_low extension_low =
 -- a whole section of this table, which has this between header and CRC
 pub record IsSectionOf (table extension : ℕ) (body bytes : List ℕ) : Type 0 where
   pub header : HasHeader table (9 + length body) extension bytes
-  pub whole : IsWhole bytes
+  pub whole : IsWholeSection bytes
   pub content_is : content bytes ≡ body
 
 pub section_says : (table extension : ℕ) (body bytes : List ℕ) → table < 256 → extension < 2 ^ 16 → length body ≤ 1000 → IsWithCrc (written_header table (9 + length body) extension ++ body) bytes → IsSectionOf table extension body bytes
@@ -47,7 +47,7 @@ section_says table extension body bytes table_low extension_low small is =
     }
 
 -- written items one behind the other are a row
-pub row_written : {A : Type 0} (spells : A → List ℕ → Type 0) (written : A → List ℕ) (xs : List A) → All (λ x. spells x (written x)) xs → IsRow spells xs (flat_map written xs)
+pub row_written : {A : Type 0} (spells : A → List ℕ → Type 0) (written : A → List ℕ) (xs : List A) → All (λ x. spells x (written x)) xs → IsItemRow spells xs (flat_map written xs)
 row_written spells written [] each = refl
 row_written {A} spells written (x ∷ xs) each =
     (written x, flat_map written xs, refl, All-head (λ (y : A). spells y (written y)) x xs each, row_written spells written xs (All-tail (λ (y : A). spells y (written y)) x xs each))
@@ -73,5 +73,5 @@ written_pat_is stream_id programs bytes id_low few numbers pids is =
     record {
       current = says.header.current;
       whole = says.whole;
-      programs_are = subst (IsRow IsProgram programs) (sym says.content_is) (row_written IsProgram written_program programs (λ k d within. program_says (get_or programs k d) (numbers k d within) (pids k d within)));
+      programs_are = subst (IsItemRow IsProgram programs) (sym says.content_is) (row_written IsProgram written_program programs (λ k d within. program_says (get_or programs k d) (numbers k d within) (pids k d within)));
     }

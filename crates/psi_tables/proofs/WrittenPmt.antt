@@ -7,17 +7,17 @@ use Rattle.std.proofs.lemmas.List.Folds.{length-flat_map-take}
 use Rattle.std.proofs.lemmas.List.Sums.{sum_by-cons}
 use Rattle.psi_tables.specs.declared.stream.Stream.{Stream}
 use Rattle.psi_tables.specs.declared.program_map.ProgramMap.{ProgramMap}
-use Rattle.psi_tables.specs.Section.{IsRow, IsWithCrc, written_header, written_pid, written_length}
+use Rattle.psi_tables.specs.Section.{IsItemRow, IsWithCrc, written_header, written_pid, written_length}
 use Rattle.psi_tables.specs.Descriptors.{IsDescriptor, is_kept, kept_bytes, count_dropped}
 use Rattle.psi_tables.specs.Streams.{StreamInfo, IsStreamInfo, stream_of, IsStreamWritable, written_stream}
-use Rattle.psi_tables.specs.Pmt.{PCR_PID, program_info_length, IsMapContent, IsPmt, HasRoom, IsWritable, written_streams, written_pmt, without_dropped}
+use Rattle.psi_tables.specs.Pmt.{PCR_PID, program_info_length, IsMapContent, IsPmt, HasRoom, IsWritableMap, written_streams, written_pmt, without_dropped}
 use Rattle.psi_tables.proofs.Elements.{descriptor_tag-is, elementary_PID-is, ES_info_length-is, PCR_PID-is, program_info_length-is}
 use Rattle.psi_tables.proofs.MapContents.{IsCut, content_says}
 use Rattle.psi_tables.proofs.WrittenPat.{section_says}
 
 -- ---- descriptors that are all kept
 
-kept_whole : (descriptors : List (List ℕ)) (bytes : List ℕ) → IsRow IsDescriptor descriptors bytes → AllPass is_kept descriptors → kept_bytes descriptors ≡ bytes
+kept_whole : (descriptors : List (List ℕ)) (bytes : List ℕ) → IsItemRow IsDescriptor descriptors bytes → AllPass is_kept descriptors → kept_bytes descriptors ≡ bytes
 kept_whole [] bytes row keeps = sym row
 kept_whole (d ∷ ds) bytes row keeps =
     let first : is_kept d ≡ true = All-head (λ (x : List ℕ). is_kept x ≡ true) d ds keeps in
@@ -52,7 +52,7 @@ stream_says stream is kind_low fits =
     )
 
 abbrev StreamsSay : List Stream → Type 0
-StreamsSay streams = (infos : List StreamInfo) × IsRow IsStreamInfo infos (flat_map written_stream streams) × (streams ≡ map stream_of infos) × (sum_by (λ (i : StreamInfo). count_dropped i.descriptors) infos ≡ 0)
+StreamsSay streams = (infos : List StreamInfo) × IsItemRow IsStreamInfo infos (flat_map written_stream streams) × (streams ≡ map stream_of infos) × (sum_by (λ (i : StreamInfo). count_dropped i.descriptors) infos ≡ 0)
 
 streams_say : (streams : List Stream) → All StreamSays streams → StreamsSay streams
 streams_say [] each = ([], refl, refl, refl)
@@ -79,7 +79,7 @@ written_has_room program few = record {
 
 -- ---- sections
 
-pub written_pmt_is : (program : ProgramMap) (bytes : List ℕ) → program.number < 2 ^ 16 → All (λ stream. stream.kind < 256) program.streams.items → IsWritable program → HasRoom (without_dropped program) → length (written_streams program) ≤ 183 → IsWithCrc (written_pmt program) bytes → IsPmt (without_dropped program) bytes
+pub written_pmt_is : (program : ProgramMap) (bytes : List ℕ) → program.number < 2 ^ 16 → All (λ stream. stream.kind < 256) program.streams.items → IsWritableMap program → HasRoom (without_dropped program) → length (written_streams program) ≤ 183 → IsWithCrc (written_pmt program) bytes → IsPmt (without_dropped program) bytes
 written_pmt_is program bytes number_low kinds writable room few is =
     let streams : List ℕ = written_streams program in
     let body : List ℕ = written_pid program.pcr_pid ++ written_length 0 ++ streams in

@@ -5,7 +5,7 @@ use Rattle.std.specs.Option.{option_map}
 use Rattle.std.specs.Int.{w16, to_be_bytes}
 use Rattle.psi_tables.specs.declared.section.TheConstants.{SECTION_LENGTH_LEAST}
 use Rattle.bit_lists.specs.Fields.{bits}
-use Rattle.psi_tables.specs.Section.{IsCurrent, IsWhole, IsRow, content, written_header, written_pid}
+use Rattle.psi_tables.specs.Section.{IsCurrent, IsWholeSection, IsItemRow, content, written_header, written_pid}
 
 -- four bytes: program_number, three bits that may be anything, program_map_PID
 pub record IsProgram (program : ℕ × ℕ) (bytes : List ℕ) : Type 0 where
@@ -16,8 +16,8 @@ pub record IsProgram (program : ℕ × ℕ) (bytes : List ℕ) : Type 0 where
 -- the bytes are a current PAT section of these programs
 pub record IsPat (programs : List (ℕ × ℕ)) (bytes : List ℕ) : Type 0 where
   pub current : IsCurrent 0 bytes
-  pub whole : IsWhole bytes
-  pub programs_are : IsRow IsProgram programs (content bytes)
+  pub whole : IsWholeSection bytes
+  pub programs_are : IsItemRow IsProgram programs (content bytes)
 
 -- the PID of the first program of this number; the number 0 is the network's and no program's
 abbrev pub map_pid : ℕ → List (ℕ × ℕ) → Option ℕ

@@ -4,7 +4,7 @@ use Rattle.std.specs.List.{flat_map, sum_by}
 use Rattle.bit_lists.specs.Fields.{bits}
 use Rattle.psi_tables.specs.declared.stream.TheConstants.{DESCRIPTOR_BYTES, STREAMS_MOST}
 use Rattle.psi_tables.specs.declared.program_map.ProgramMap.{ProgramMap}
-use Rattle.psi_tables.specs.Section.{table_id_extension, IsCurrent, IsWhole, IsRow, content, written_header, written_pid, written_length}
+use Rattle.psi_tables.specs.Section.{table_id_extension, IsCurrent, IsWholeSection, IsItemRow, content, written_header, written_pid, written_length}
 use Rattle.psi_tables.specs.Descriptors.{IsDescriptor, count_dropped}
 use Rattle.psi_tables.specs.Streams.{StreamInfo, IsStreamInfo, stream_of, IsStreamWritable, written_stream}
 
@@ -21,16 +21,16 @@ pub record IsMapContent (program : ProgramMap) (bytes : List ℕ) : Type 0 where
   pub pcr : program.pcr_pid ≡ PCR_PID bytes
   pub room : 4 + program_info_length bytes ≤ length bytes
   pub descriptors : List (List ℕ)
-  pub descriptors_are : IsRow IsDescriptor descriptors (take (program_info_length bytes) (drop 4 bytes))
+  pub descriptors_are : IsItemRow IsDescriptor descriptors (take (program_info_length bytes) (drop 4 bytes))
   pub streams : List StreamInfo
-  pub streams_are : IsRow IsStreamInfo streams (drop (4 + program_info_length bytes) bytes)
+  pub streams_are : IsItemRow IsStreamInfo streams (drop (4 + program_info_length bytes) bytes)
   pub kept : program.streams.items ≡ map stream_of streams
   pub dropped_are : program.dropped ≡ length descriptors + sum_by (λ info. count_dropped info.descriptors) streams
 
 -- the bytes are a current PMT section of this program
 pub record IsPmt (program : ProgramMap) (bytes : List ℕ) : Type 0 where
   pub current : IsCurrent 2 bytes
-  pub whole : IsWhole bytes
+  pub whole : IsWholeSection bytes
   pub number : program.number ≡ table_id_extension bytes
   pub content_is : IsMapContent program (content bytes)
 
@@ -42,7 +42,7 @@ pub record HasRoom (program : ProgramMap) : Type 0 where
 -- ---- how it is written
 
 -- what can be written
-pub record IsWritable (program : ProgramMap) : Type 0 where
+pub record IsWritableMap (program : ProgramMap) : Type 0 where
   pub pcr : program.pcr_pid < 2 ^ 13
   pub streams : All IsStreamWritable program.streams.items
 

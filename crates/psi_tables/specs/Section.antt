@@ -31,7 +31,7 @@ pub record IsCurrent (table : ℕ) (bytes : List ℕ) : Type 0 where
   pub current : current_next_indicator bytes ≡ 1
 
 -- section_length counts the bytes behind it, the last five of the header and four of the CRC among them
-pub record IsWhole (bytes : List ℕ) : Type 0 where
+pub record IsWholeSection (bytes : List ℕ) : Type 0 where
   pub size : length bytes ≡ 3 + section_length bytes
   pub room : SECTION_LENGTH_LEAST ≤ section_length bytes
 
@@ -40,9 +40,9 @@ abbrev pub content : List ℕ → List ℕ
 content bytes = take (length bytes - 12) (drop 8 bytes)
 
 -- the bytes are one item's after the other's, and nothing else
-abbrev pub IsRow : {A : Type 0} → (A → List ℕ → Type 0) → List A → List ℕ → Type 0
-IsRow spells [] bytes = bytes ≡ []
-IsRow spells (item ∷ items) bytes = (front : List ℕ) × (behind : List ℕ) × (bytes ≡ front ++ behind) × spells item front × IsRow spells items behind
+abbrev pub IsItemRow : {A : Type 0} → (A → List ℕ → Type 0) → List A → List ℕ → Type 0
+IsItemRow spells [] bytes = bytes ≡ []
+IsItemRow spells (item ∷ items) bytes = (front : List ℕ) × (behind : List ℕ) × (bytes ≡ front ++ behind) × spells item front × IsItemRow spells items behind
 
 -- ---- how it is written
 

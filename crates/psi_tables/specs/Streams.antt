@@ -3,7 +3,7 @@ use Rattle.std.specs.Prelude.{◌≡◌, ℕ, ◌+◌, ◌^◌, ◌<◌, List, �
 use Rattle.std.specs.List.{AllPass}
 use Rattle.bit_lists.specs.Fields.{bits}
 use Rattle.psi_tables.specs.declared.stream.Stream.{Stream}
-use Rattle.psi_tables.specs.Section.{IsRow, written_pid, written_length}
+use Rattle.psi_tables.specs.Section.{IsItemRow, written_pid, written_length}
 use Rattle.psi_tables.specs.Descriptors.{IsDescriptor, is_kept, kept_bytes}
 
 -- all that the section says of it
@@ -21,7 +21,7 @@ pub record IsStreamInfo (info : StreamInfo) (bytes : List ℕ) : Type 0 where
   pub size : length bytes ≡ 5 + ES_info_length bytes
   pub type_is : info.stream_type ≡ bits bytes 0 8
   pub pid : info.elementary_PID ≡ bits bytes 11 13
-  pub descriptors_are : IsRow IsDescriptor info.descriptors (drop 5 bytes)
+  pub descriptors_are : IsItemRow IsDescriptor info.descriptors (drop 5 bytes)
 
 -- what is kept of it
 abbrev pub stream_of : StreamInfo → Stream
@@ -37,7 +37,7 @@ stream_of info = record {
 pub record IsStreamWritable (stream : Stream) : Type 0 where
   pub pid : stream.pid < 2 ^ 13
   pub descriptors : List (List ℕ)
-  pub descriptors_are : IsRow IsDescriptor descriptors stream.descriptors.items
+  pub descriptors_are : IsItemRow IsDescriptor descriptors stream.descriptors.items
   pub kept : AllPass is_kept descriptors
 
 -- how a stream is written

@@ -1,5 +1,5 @@
 ghost use Rattle.std.specs.Prelude.{◌≡◌, ℕ, ◌+◌, ◌*◌, ◌^◌, ◌<◌, ◌≤◌, List, length, ◌++◌, Some, IsSome, IfSome, MatchOption};
-ghost use Rattle.psi_tables.specs.Section.{IsRow};
+ghost use Rattle.psi_tables.specs.Section.{IsItemRow};
 ghost use Rattle.psi_tables.specs.Descriptors.{IsDescriptor, is_kept, kept_bytes, count_dropped};
 
 use crate::stream::DESCRIPTOR_BYTES;
@@ -21,8 +21,8 @@ const ISO_639_LANGUAGE: u8 = 10;
 /// fill the bytes, or the kept ones have no room.
 pub(crate) fn read_descriptors(bytes: &[u8]) -> Option<(ArrayVec<u8, DESCRIPTOR_BYTES>, u32)>
     requires { length bytes.now ≤ 1024 }
-    ensures exact { (descriptors : List (List ℕ)) → IsRow IsDescriptor descriptors bytes.now → length (kept_bytes descriptors) ≤ 183 → result ≡ Some (record { items = kept_bytes descriptors }, count_dropped descriptors) }
-    ensures some { IsSome result → (descriptors : List (List ℕ)) × IsRow IsDescriptor descriptors bytes.now × (length (kept_bytes descriptors) ≤ 183) }
+    ensures exact { (descriptors : List (List ℕ)) → IsItemRow IsDescriptor descriptors bytes.now → length (kept_bytes descriptors) ≤ 183 → result ≡ Some (record { items = kept_bytes descriptors }, count_dropped descriptors) }
+    ensures some { IsSome result → (descriptors : List (List ℕ)) × IsItemRow IsDescriptor descriptors bytes.now × (length (kept_bytes descriptors) ≤ 183) }
 {
     let mut kept = ArrayVec::new();
     let mut dropped = 0;
@@ -44,9 +44,9 @@ pub(crate) fn read_descriptors(bytes: &[u8]) -> Option<(ArrayVec<u8, DESCRIPTOR_
 /// The number of descriptors. None where they don't fill the bytes.
 pub(crate) fn count_descriptors(bytes: &[u8]) -> Option<u32>
     requires { length bytes.now ≤ 1024 }
-    ensures exact { (descriptors : List (List ℕ)) → IsRow IsDescriptor descriptors bytes.now → result ≡ Some (length descriptors) }
+    ensures exact { (descriptors : List (List ℕ)) → IsItemRow IsDescriptor descriptors bytes.now → result ≡ Some (length descriptors) }
     ensures few { IfSome result (λ count. count ≤ length bytes.now) }
-    ensures some { IsSome result → (descriptors : List (List ℕ)) × IsRow IsDescriptor descriptors bytes.now }
+    ensures some { IsSome result → (descriptors : List (List ℕ)) × IsItemRow IsDescriptor descriptors bytes.now }
 {
     let mut count = 0;
     let mut rest = bytes;

@@ -2,7 +2,7 @@ ghost use Rattle.std.specs.Prelude.{◌≡◌, ℕ, ◌+◌, ◌*◌, ◌%◌, �
 ghost use Rattle.std.specs.List.{find, flat_map};
 ghost use Rattle.std.specs.Option.{option_map};
 ghost use Rattle.psi_tables.specs.Crc.{HasRightCrc};
-ghost use Rattle.psi_tables.specs.Section.{IsCurrent, IsRow, IsWithCrc};
+ghost use Rattle.psi_tables.specs.Section.{IsCurrent, IsItemRow, IsWithCrc};
 ghost use Rattle.psi_tables.specs.Pat.{IsProgram, IsPat, map_pid, written_pat, written_program};
 
 use crate::section::{
@@ -91,7 +91,7 @@ fn put_program(into: &mut Section, number: u16, pid: u16)
 
 /// The PID of the first program of this number.
 fn find_pid(content: &[u8], number: u16) -> Option<u16>
-    ensures { (programs : List (ℕ × ℕ)) → IsRow IsProgram programs content.now → result ≡ option_map (λ program. program.1) (find (λ program. program.0 == number) programs) }
+    ensures { (programs : List (ℕ × ℕ)) → IsItemRow IsProgram programs content.now → result ≡ option_map (λ program. program.1) (find (λ program. program.0 == number) programs) }
 {
     let mut rest = content;
     while let Some(([high, low, pid_high, pid_low], after)) = rest.split_first_chunk::<

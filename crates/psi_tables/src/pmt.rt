@@ -2,7 +2,7 @@ ghost use Rattle.std.specs.Prelude.{◌≡◌, ℕ, ◌+◌, ◌*◌, ◌^◌, �
 ghost use Rattle.psi_tables.specs.declared.program_map.ProgramMap.{ProgramMap};
 ghost use Rattle.psi_tables.specs.Crc.{HasRightCrc};
 ghost use Rattle.psi_tables.specs.Section.{IsCurrent, IsWithCrc};
-ghost use Rattle.psi_tables.specs.Pmt.{IsMapContent, IsPmt, HasRoom, IsWritable, written_pmt, pmt_length, without_dropped};
+ghost use Rattle.psi_tables.specs.Pmt.{IsMapContent, IsPmt, HasRoom, IsWritableMap, written_pmt, pmt_length, without_dropped};
 
 use crate::descriptors::count_descriptors;
 use crate::program_map::ProgramMap;
@@ -48,7 +48,7 @@ pub fn read_pmt(section: &Section) -> Result<Option<ProgramMap>, SectionFault>
 /// (ISO/IEC 13818-1, 2.4.4.8). `dropped` isn't written. It needs PIDs below 8,192, and of each stream whole descriptors of
 /// the kept tags. The only error is TooLong, exactly where the section would pass 183 bytes; `into` is then as it was.
 pub fn write_pmt(map: &ProgramMap, into: &mut Section) -> Result<(), SectionFault>
-    requires { IsWritable map.now }
+    requires { IsWritableMap map.now }
     ensures bytes { OnOk result (IsWithCrc (written_pmt map.now) into.new.items) }
     // What is written is a section of this program, nothing dropped, that has room, and its CRC is right.
     ensures map { OnOk result (IsPmt (without_dropped map.now) into.new.items) }

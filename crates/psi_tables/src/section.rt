@@ -1,6 +1,6 @@
 ghost use Rattle.std.specs.Prelude.{◌≡◌, ℕ, ◌+◌, ◌*◌, ◌^◌, ◌<◌, ◌≤◌, ◌↔◌, IsTrue, MatchOption, length, ◌++◌};
 ghost use Rattle.psi_tables.specs.Crc.{HasRightCrc};
-ghost use Rattle.psi_tables.specs.Section.{IsCurrent, IsWhole, IsWithCrc, content, written_header, written_pid, written_length};
+ghost use Rattle.psi_tables.specs.Section.{IsCurrent, IsWholeSection, IsWithCrc, content, written_header, written_pid, written_length};
 
 use crate::crc::crc32;
 use arrayvec::ArrayVec;
@@ -83,7 +83,7 @@ pub(crate) fn is_current(bytes: &[u8], table: u8) -> bool
 /// both.
 #[tactic(auto, using(crate::proofs::Elements::elements))]
 pub(crate) fn content_of(bytes: &[u8]) -> Option<&[u8]>
-    ensures { MatchOption result (IsWhole bytes.now → ⊥) (λ found. IsWhole bytes.now × (found.now ≡ content bytes.now)) }
+    ensures { MatchOption result (IsWholeSection bytes.now → ⊥) (λ found. IsWholeSection bytes.now × (found.now ≡ content bytes.now)) }
 {
     if bytes.len() < HEADER_BYTES + CRC_BYTES {
         return None;

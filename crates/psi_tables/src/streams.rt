@@ -1,6 +1,6 @@
 ghost use Rattle.std.specs.Prelude.{◌≡◌, ℕ, ◌+◌, ◌*◌, ◌^◌, ◌<◌, ◌≤◌, List, length, ◌++◌, ◌∷◌, [], map, All, Some, IsSome, IfSome, MatchOption};
 ghost use Rattle.std.specs.List.{sum_by, flat_map};
-ghost use Rattle.psi_tables.specs.Section.{IsRow};
+ghost use Rattle.psi_tables.specs.Section.{IsItemRow};
 ghost use Rattle.psi_tables.specs.Descriptors.{count_dropped};
 ghost use Rattle.psi_tables.specs.Streams.{StreamInfo, ES_info_length, IsStreamInfo, stream_of, IsStreamWritable, written_stream};
 ghost use Rattle.psi_tables.specs.Private.Streams.{IsKeepable};
@@ -17,8 +17,8 @@ const STREAM_BYTES: usize = 5;
 /// the bytes, there are more than are kept, or the kept descriptors of one have no room.
 pub(crate) fn read_streams(bytes: &[u8]) -> Option<(ArrayVec<Stream, STREAMS_MOST>, u32)>
     requires { length bytes.now ≤ 1024 }
-    ensures exact { (infos : List StreamInfo) → IsRow IsStreamInfo infos bytes.now → length infos ≤ 64 → All IsKeepable infos → result ≡ Some (record { items = map stream_of infos }, sum_by (λ info. count_dropped info.descriptors) infos) }
-    ensures some { IsSome result → (infos : List StreamInfo) × IsRow IsStreamInfo infos bytes.now × (length infos ≤ 64) × All IsKeepable infos }
+    ensures exact { (infos : List StreamInfo) → IsItemRow IsStreamInfo infos bytes.now → length infos ≤ 64 → All IsKeepable infos → result ≡ Some (record { items = map stream_of infos }, sum_by (λ info. count_dropped info.descriptors) infos) }
+    ensures some { IsSome result → (infos : List StreamInfo) × IsItemRow IsStreamInfo infos bytes.now × (length infos ≤ 64) × All IsKeepable infos }
     ensures few { IfSome result (λ read. read.1 ≤ length bytes.now) }
 {
     let mut streams = ArrayVec::new();

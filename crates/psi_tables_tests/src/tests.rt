@@ -2,7 +2,7 @@ ghost use Rattle.std.specs.Prelude.{◌≡◌, ℕ, ◌+◌, ◌*◌, ◌^◌, �
 ghost use Rattle.psi_tables.specs.Descriptors.{is_tag_kept};
 ghost use Rattle.psi_tables.specs.Pat.{map_pid};
 ghost use Rattle.psi_tables.specs.Streams.{IsStreamWritable};
-ghost use Rattle.psi_tables.specs.Pmt.{IsWritable, without_dropped};
+ghost use Rattle.psi_tables.specs.Pmt.{IsWritableMap, without_dropped};
 
 use arrayvec::{ArrayVec, CapacityError};
 use psi_tables::{
@@ -55,7 +55,7 @@ fn stream_of(kind: u8, pid: u16, tag: u8, content: &[u8]) -> Result<Stream, Capa
 
 /// What is read of a map that was written: the same, nothing dropped.
 fn read_back(map: &ProgramMap) -> Result<Option<ProgramMap>, SectionFault>
-    requires { IsWritable map.now }
+    requires { IsWritableMap map.now }
     ensures { IfOk result (λ read. read ≡ Some (without_dropped map.now)) }
 {
     let mut section = Section::new();
@@ -77,7 +77,7 @@ fn pid_read_back(programs: &[(u16, u16)], number: u16) -> Result<Option<u16>, Se
 /// The map of program 1 with the clock on PID 0x101, a video stream without descriptors there, and another stream.
 fn with_video(stream: Stream) -> ProgramMap
     requires { IsStreamWritable stream }
-    ensures { IsWritable result }
+    ensures { IsWritableMap result }
 {
     let mut streams = ArrayVec::new();
     streams.push(Stream {

@@ -7,7 +7,7 @@ use Rattle.std.specs.FinMap.{get, insert, get-insert, slice_cmp-IsAntisymmetric,
 use Rattle.shelf_io.specs.Files.{Files}
 use Rattle.remux_core.specs.declared.status.Status.{Status}
 use Rattle.remux_core.specs.declared.status.Status.TheVariants as statuses
-use Rattle.remux_core.specs.Answer.{Answer, CallsFor, IsDone, Leaves, EndsWith, Decides, HasCause, AnswerHasCause}
+use Rattle.remux_core.specs.Answer.{Answer, CallsFor, IsDone, Leaves, EndsWithStatus, Decides, HasCause, AnswerHasCause}
 use Rattle.remux_core.specs.Command.{Command, Plan, IsCommand, IsSaid}
 use Rattle.remux_core.specs.Outcome.{Outcome, BreaksOff, IsReported, WordsCallFor}
 use Rattle.remux_core.specs.Outside.{ShelfFacts, SinkFacts, OnFiles}
@@ -24,7 +24,7 @@ done_is_called_for None files after line done = absurd done
 
 -- where nothing failed, a command ends as it is called for
 answer_is_called_for : (command : Option Command) (files after : Files) (old new : ShelfFacts) (out_old out_new : SinkFacts) (status : Status) (line : List ℕ)
-    → EndsWith command files status line after → HasCause command old new status line → NoneFailed old new out_old out_new → CallsFor command files status
+    → EndsWithStatus command files status line after → HasCause command old new status line → NoneFailed old new out_old out_new → CallsFor command files status
 answer_is_called_for command files after old new out_old out_new statuses.Ok line ends cause none = done_is_called_for command files after line ends
 answer_is_called_for command files after old new out_old out_new statuses.Usage line ends cause none = ends.0
 answer_is_called_for command files after old new out_old out_new (statuses.JobRefused refusal) line ends cause none = ends.0
@@ -144,7 +144,7 @@ leaves_others (Some (Plan table certificate)) files after (inl same) = λ name a
 leaves_others (Some (Plan table certificate)) files after (inr (plan, has, k, few, written)) = λ name apart.
     stays _ after name written ∙ get_other files certificate _ name apart
 
-ends_leave_others : (command : Option Command) (files after : Files) (status : Status) (line : List ℕ) → EndsWith command files status line after → OthersStay command files after
+ends_leave_others : (command : Option Command) (files after : Files) (status : Status) (line : List ℕ) → EndsWithStatus command files status line after → OthersStay command files after
 ends_leave_others command files after statuses.Ok line ends = done_leaves_others command files after line ends
 ends_leave_others command files after statuses.Usage line ends = λ name apart. stays files after name ends.1
 ends_leave_others command files after (statuses.JobRefused refusal) line ends = λ name apart. stays files after name ends.1

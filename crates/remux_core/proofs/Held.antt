@@ -11,7 +11,7 @@ use Rattle.version_table.specs.declared.fault.TableFault.TheVariants as faults
 use Rattle.version_table.specs.Text.{IsRead, IsFaultOf, TextReading, Holds, RefusedAt, RefusedFor}
 use Rattle.remux_core.specs.declared.ended.Ended.{Ended}
 use Rattle.remux_core.specs.declared.status.Status.{Status}
-use Rattle.remux_core.specs.Answer.{Decides, EndsWith, AnswerHasCause, HasCause, Leaves}
+use Rattle.remux_core.specs.Answer.{Decides, EndsWithStatus, AnswerHasCause, HasCause, Leaves}
 use Rattle.remux_core.specs.Certificate.{Certificate, certificate_bytes}
 use Rattle.remux_core.specs.PlanCommand.{HasPlan}
 use Rattle.remux_core.proofs.Told.{HoldsPart, on_prefix}
@@ -56,10 +56,10 @@ pub refused_ends : (table certificate : List ℕ) (held : Files) (front : List �
     → HoldsFront held table front → IsFaultOf front fault → IfSome result (IsRefusedFor (refusal_by fault)) → Decides (Some (Plan table certificate)) held (answer_of result) held
 refused_ends table certificate held front None fault holds is so = inl refl
 refused_ends table certificate held front (Some ended) (faults.TableSyntax n) holds is so =
-    subst (λ (s : Status). EndsWith (Some (Plan table certificate)) held s ended.line.items held) (sym so.0)
+    subst (λ (s : Status). EndsWithStatus (Some (Plan table certificate)) held s ended.line.items held) (sym so.0)
     ((holds.text, holds.held, read_whole holds.text front (RefusedAt n) holds.front_is is), refl)
 refused_ends table certificate held front (Some ended) (faults.TableLimit name) holds is so =
-    subst (λ (s : Status). EndsWith (Some (Plan table certificate)) held s ended.line.items held) (sym so.0)
+    subst (λ (s : Status). EndsWithStatus (Some (Plan table certificate)) held s ended.line.items held) (sym so.0)
     ((holds.text, holds.held, (is.0, read_whole holds.text front (RefusedFor is.0) holds.front_is is.1, is.2)), refl)
 refused_ends table certificate held front (Some ended) faults.OutOfMemory holds is so = absurd so
 

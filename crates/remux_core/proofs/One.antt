@@ -14,7 +14,7 @@ use Rattle.remux_core.specs.declared.status.JobRefusal.TheVariants.{TableSyntax,
 use Rattle.remux_core.specs.Answer.{CallsFor}
 use Rattle.remux_core.specs.Command.{Command, Plan, IsSaid}
 use Rattle.remux_core.specs.Outcome.{WordsCallFor}
-use Rattle.remux_core.specs.PlanCommand.{HoldsTable, IsRefused, PlanCallsFor}
+use Rattle.remux_core.specs.PlanCommand.{HoldsTable, IsTableRefused, PlanCallsFor}
 use Rattle.remux_core.specs.Status.{IsSameRefusal, IsSameStatus}
 
 -- the laws that each text is read in one way, each table has one smallest choice, and a choice is scheduled or has one first miss
@@ -41,7 +41,7 @@ one_table laws files name s t a b =
     cc
 
 -- the text of a table isn't refused
-no_refusal : Laws → (text : List ℕ) (table : Table) (refusal : JobRefusal) → IsRead text (Holds table) → IsRefused text refusal → ⊥
+no_refusal : Laws → (text : List ℕ) (table : Table) (refusal : JobRefusal) → IsRead text (Holds table) → IsTableRefused text refusal → ⊥
 no_refusal laws text table (TableSyntax n) read refused =
     let same : Holds table ≡ RefusedAt n = laws.reading text (Holds table) (RefusedAt n) read refused in
     cc
@@ -51,14 +51,14 @@ no_refusal laws text table (TableLimit name) read refused =
 
 -- a file that holds a table isn't refused
 table_or_refusal : Laws → (files : Files) (name : List ℕ) (table : Table) (refusal : JobRefusal) → HoldsTable files name table
-    → (text : List ℕ) × (get files name ≡ Some text) × IsRefused text refusal → ⊥
+    → (text : List ℕ) × (get files name ≡ Some text) × IsTableRefused text refusal → ⊥
 table_or_refusal laws files name table refusal holds (text, held, refused) =
     let there = holds.held in
     let texts : holds.text ≡ text = cc in
     no_refusal laws text table refusal (subst (λ (x : List ℕ). IsRead x (Holds table)) texts holds.read) refused
 
 -- a text has one refusal
-one_refusal : Laws → (text : List ℕ) (a b : JobRefusal) → IsRefused text a → IsRefused text b → IsSameRefusal a b
+one_refusal : Laws → (text : List ℕ) (a b : JobRefusal) → IsTableRefused text a → IsTableRefused text b → IsSameRefusal a b
 one_refusal laws text (TableSyntax n) (TableSyntax m) a b =
     let same : RefusedAt n ≡ RefusedAt m = laws.reading text (RefusedAt n) (RefusedAt m) a b in
     cc
@@ -99,7 +99,7 @@ plan_calls_for_one laws files name statuses.Ok statuses.Missing a b = let x = a.
 plan_calls_for_one laws files name (statuses.JobRefused refusal) statuses.Ok a b = absurd (table_or_refusal laws files name b.0 refusal b.1 a)
 plan_calls_for_one laws files name (statuses.JobRefused refusal) (statuses.JobRefused other) (text, held, refused) (same, holds, is) =
     let texts : same ≡ text = cc in
-    one_refusal laws text refusal other refused (subst (λ (x : List ℕ). IsRefused x other) texts is)
+    one_refusal laws text refusal other refused (subst (λ (x : List ℕ). IsTableRefused x other) texts is)
 plan_calls_for_one laws files name (statuses.JobRefused refusal) (statuses.Unschedulable miss) a b = absurd (table_or_refusal laws files name b.0 refusal b.2 a)
 plan_calls_for_one laws files name (statuses.JobRefused refusal) statuses.Missing a b = let x = a.1 in cc
 plan_calls_for_one laws files name (statuses.Unschedulable miss) statuses.Ok a b = absurd (scheduled_or_missed laws files name miss b a)

@@ -7,7 +7,7 @@ use Rattle.job_report.specs.declared.report.Report.TheVariants as reports
 use Rattle.remux_core.specs.declared.status.Status.{Status}
 use Rattle.remux_core.specs.declared.status.Status.TheVariants.{Ok, Usage, JobRefused, Unschedulable, ReadFault, WriteFault, Missing, OutOfMemory}
 use Rattle.remux_core.specs.Certificate.{Certificate}
-use Rattle.remux_core.specs.Command.{Command, Plan, Reads, Writes}
+use Rattle.remux_core.specs.Command.{Command, Plan, ReadsFile, WritesFile}
 use Rattle.remux_core.specs.Outside.{ShelfFacts}
 use Rattle.remux_core.specs.PlanCommand.{PlanCallsFor, PlanDone, PlanLeaves}
 use Rattle.remux_core.specs.Report.{plan_report, refusal_report, miss_report}
@@ -34,16 +34,16 @@ Leaves (Some (Plan table certificate)) files after = PlanLeaves table certificat
 Leaves None files after = after ≡ files
 
 -- What a command with this status and line does to the files. A refusal comes only where it is called for, and leaves them.
-abbrev pub EndsWith : Option Command → Files → Status → (line : List ℕ) → (after : Files) → Type 0
-EndsWith command files Ok line after = IsDone command files line after
-EndsWith command files ReadFault line after = after ≡ files
-EndsWith command files WriteFault line after = Leaves command files after
-EndsWith command files OutOfMemory line after = ⊥
-EndsWith command files status line after = CallsFor command files status × (after ≡ files)
+abbrev pub EndsWithStatus : Option Command → Files → Status → (line : List ℕ) → (after : Files) → Type 0
+EndsWithStatus command files Ok line after = IsDone command files line after
+EndsWithStatus command files ReadFault line after = after ≡ files
+EndsWithStatus command files WriteFault line after = Leaves command files after
+EndsWithStatus command files OutOfMemory line after = ⊥
+EndsWithStatus command files status line after = CallsFor command files status × (after ≡ files)
 
 -- what a command does to the files by its answer, or, where memory is wanted before there is one, without
 abbrev pub Decides : Option Command → Files → Option Answer → (after : Files) → Type 0
-Decides command files (Some answer) after = EndsWith command files answer.status answer.line after
+Decides command files (Some answer) after = EndsWithStatus command files answer.status answer.line after
 Decides command files None after = Leaves command files after
 
 -- a call of the shelf failed at a file of this kind, none followed it, its cause stands, and the line names the file
@@ -55,8 +55,8 @@ pub record FailsAt (IsAsked : List ℕ → Type 0) (Rises : Type 0) (line_of : L
   pub names : line ≡ line_of name
 
 -- a command reads this file
-abbrev pub IsRead : Option Command → (name : List ℕ) → Type 0
-IsRead command name = (limit : ℕ) × Reads command name limit
+abbrev pub IsReadFile : Option Command → (name : List ℕ) → Type 0
+IsReadFile command name = (limit : ℕ) × ReadsFile command name limit
 
 -- the line of a command whose work was done
 abbrev pub IsDoneLine : Command → (line : List ℕ) → Type 0
@@ -72,11 +72,11 @@ HasCause (Some command) old new Usage line = ⊥
 HasCause (Some command) old new (JobRefused refusal) line = line ≡ report_line (refusal_report refusal)
 HasCause (Some command) old new (Unschedulable miss) line = line ≡ report_line (miss_report miss)
 HasCause (Some command) old new ReadFault line =
-    FailsAt (IsRead (Some command)) (Rose old.counts.faults new.counts.faults) (λ name. report_line (reports.ReadFault name)) line new
+    FailsAt (IsReadFile (Some command)) (Rose old.counts.faults new.counts.faults) (λ name. report_line (reports.ReadFault name)) line new
 HasCause (Some command) old new WriteFault line =
-    FailsAt (Writes (Some command)) (Rose old.counts.write_faults new.counts.write_faults) (λ name. report_line (reports.WriteFault name)) line new
+    FailsAt (WritesFile (Some command)) (Rose old.counts.write_faults new.counts.write_faults) (λ name. report_line (reports.WriteFault name)) line new
 HasCause (Some command) old new Missing line =
-    FailsAt (λ name. IsRead (Some command) name × Lacks old.files name) (Rose old.counts.absences new.counts.absences)
+    FailsAt (λ name. IsReadFile (Some command) name × Lacks old.files name) (Rose old.counts.absences new.counts.absences)
     (λ name. report_line (reports.Missing name)) line new
 HasCause (Some command) old new OutOfMemory line = ⊥
 

@@ -28,11 +28,11 @@ IsSaid words (Some command) = IsWordsOf command words
 IsSaid words None = IsCommand words → ⊥
 
 -- a command reads this file, up to one byte past this limit
-abbrev pub Reads : Option Command → (name : List ℕ) → (limit : ℕ) → Type 0
-Reads (Some (Plan table certificate)) name limit = (name ≡ table) × (limit ≡ TABLE_TEXT_MOST)
-Reads None name limit = ⊥
+abbrev pub ReadsFile : Option Command → (name : List ℕ) → (limit : ℕ) → Type 0
+ReadsFile (Some (Plan table certificate)) name limit = (name ≡ table) × (limit ≡ TABLE_TEXT_MOST)
+ReadsFile None name limit = ⊥
 
 -- a command writes this file
-abbrev pub Writes : Option Command → (name : List ℕ) → Type 0
-Writes (Some (Plan table certificate)) name = name ≡ certificate
-Writes None name = ⊥
+abbrev pub WritesFile : Option Command → (name : List ℕ) → Type 0
+WritesFile (Some (Plan table certificate)) name = name ≡ certificate
+WritesFile None name = ⊥

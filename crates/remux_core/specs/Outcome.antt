@@ -11,7 +11,7 @@ use Rattle.remux_core.specs.Outside.{ShelfFacts, SinkFacts, OnFiles}
 use Rattle.remux_core.specs.Promises.{Promises}
 
 -- an answer was reported whole, and the run ends with its status
-pub record IsWhole (answer : Answer) (old new : SinkFacts) (status : Status) : Type 0 where
+pub record IsWholeFile (answer : Answer) (old new : SinkFacts) (status : Status) : Type 0 where
   pub same_status : status ≡ answer.status
   pub whole_line : new.written ≡ with_bytes old.written answer.line
 
@@ -23,7 +23,7 @@ BreaksOff answer old new status = ⊥
 
 -- how an answer became a status: by its report; without one memory was wanted, and the sink wasn't called
 abbrev pub IsReported : Option Answer → (old new : SinkFacts) → Status → Type 0
-IsReported (Some answer) old new status = IsWhole answer old new status ⊎ BreaksOff answer old new status
+IsReported (Some answer) old new status = IsWholeFile answer old new status ⊎ BreaksOff answer old new status
 IsReported None old new status = (status ≡ OutOfMemory) × (new ≡ old)
 
 -- What a run does.

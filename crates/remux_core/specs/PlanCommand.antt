@@ -30,15 +30,15 @@ pub record HasPlan (files : Files) (name : List ℕ) (plan : Certificate) : Type
   pub is_plan : IsPlan table plan
 
 -- a text is refused so
-abbrev pub IsRefused : List ℕ → JobRefusal → Type 0
-IsRefused text (TableSyntax n) = IsRead text (RefusedAt n)
-IsRefused text (TableLimit name) = (limit : Limit) × IsRead text (RefusedFor limit) × (name.bytes ≡ limit_name limit)
+abbrev pub IsTableRefused : List ℕ → JobRefusal → Type 0
+IsTableRefused text (TableSyntax n) = IsRead text (RefusedAt n)
+IsTableRefused text (TableLimit name) = (limit : Limit) × IsRead text (RefusedFor limit) × (name.bytes ≡ limit_name limit)
 
 -- what TABLE holds calls for this status
 abbrev pub PlanCallsFor : (table : List ℕ) → Files → Status → Type 0
 PlanCallsFor name files Ok =
     (table : Table) × HoldsTable files name table × ((choice : List ℕ) → IsSmallestChoice table choice → IsScheduled table choice)
-PlanCallsFor name files (JobRefused refusal) = (text : List ℕ) × (get files name ≡ Some text) × IsRefused text refusal
+PlanCallsFor name files (JobRefused refusal) = (text : List ℕ) × (get files name ≡ Some text) × IsTableRefused text refusal
 PlanCallsFor name files (Unschedulable miss) =
     (table : Table) × (choice : List ℕ) × HoldsTable files name table × IsSmallestChoice table choice × IsFirstMiss table choice miss
 PlanCallsFor name files Missing = get files name ≡ None

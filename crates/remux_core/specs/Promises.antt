@@ -3,7 +3,7 @@ use Rattle.std.specs.Prelude.{◌≡◌, ℕ, ◌+◌, ◌≤◌, List, Option, 
 use Rattle.std.specs.FinMap.{get}
 use Rattle.shelf_io.specs.Counts.{Rose, ShelfCounts}
 use Rattle.shelf_io.specs.Files.{Files}
-use Rattle.remux_core.specs.Command.{Command, Reads, Writes}
+use Rattle.remux_core.specs.Command.{Command, ReadsFile, WritesFile}
 use Rattle.remux_core.specs.Outside.{ShelfFacts, SinkFacts, OnFiles}
 
 -- no count of a shelf falls
@@ -14,12 +14,12 @@ pub record CountsGrow (old new : ShelfCounts) : Type 0 where
 
 -- only files that a command reads were asked for bytes, each for none behind one byte past its limit
 pub record AsksOnly (command : Option Command) (old new : List ℕ → ℕ) : Type 0 where
-  pub within : (name : List ℕ) (limit : ℕ) → Reads command name limit → new name ≤ max (old name) (limit + 1)
-  pub others : (name : List ℕ) → ((limit : ℕ) → Reads command name limit → ⊥) → new name ≤ old name
+  pub within : (name : List ℕ) (limit : ℕ) → ReadsFile command name limit → new name ≤ max (old name) (limit + 1)
+  pub others : (name : List ℕ) → ((limit : ℕ) → ReadsFile command name limit → ⊥) → new name ≤ old name
 
 -- every file but those that a command writes is as it was
 abbrev pub OthersStay : Option Command → (files after : Files) → Type 0
-OthersStay command files after = (name : List ℕ) → (Writes command name → ⊥) → get after name ≡ get files name
+OthersStay command files after = (name : List ℕ) → (WritesFile command name → ⊥) → get after name ≡ get files name
 
 -- no count falls, nothing is read past its limit, and every file that isn't written stays
 pub record Promises (command : Option Command) (old new : ShelfFacts) (out_old out_new : SinkFacts) : Type 0 where

@@ -1,7 +1,7 @@
 -- The statuses, with the exit status of each.
 use Rattle.std.specs.Prelude.{◌≡◌, ℕ, List, Some, codes}
 use Rattle.serde_json.specs.Find.{get}
-use Rattle.job_report.specs.Report.{number_of, report_object, report_line}
+use Rattle.job_report.specs.Report.{json_number, report_object, report_line}
 use Rattle.job_report.specs.declared.report.Report.{Report}
 use Rattle.remux_core.specs.declared.status.Status.{Status}
 use Rattle.remux_core.specs.declared.status.Status.TheVariants.{Ok, Usage, JobRefused, Unschedulable, ReadFault, WriteFault, Missing, OutOfMemory}
@@ -34,4 +34,4 @@ IsSameStatus first second = first ≡ second
 pub record TellsStatus (status : Status) (line : List ℕ) : Type 0 where
   pub report : Report
   pub line_is : line ≡ report_line report
-  pub told : get (codes "status") (report_object report) ≡ Some (number_of (code_of status))
+  pub told : get (codes "status") (report_object report) ≡ Some (json_number (code_of status))

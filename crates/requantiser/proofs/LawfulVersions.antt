@@ -10,7 +10,7 @@ use Rattle.syntax_types.specs.declared.picture.Picture.{Picture}
 use Rattle.syntax_types.specs.declared.picture.SeqState.{SeqState}
 use Rattle.syntax_types.specs.declared.slice.Slice.{Slice}
 use Rattle.stream_constants.specs.declared.start_codes.TheConstants.{FIRST_SLICE}
-use Rattle.picture_grammar.specs.Grammar.{with_bytes}
+use Rattle.picture_grammar.specs.Grammar.{with_spelling}
 use Rattle.picture_grammar.specs.Head.{head}
 use Rattle.picture_grammar.specs.Picture.{IsLawful, IsCovered, addresses, rows}
 use Rattle.picture_grammar.specs.Slice.{columns}
@@ -91,9 +91,9 @@ version-spelled m from to lawful version =
     let made : to.slices ≡ map (coarsened_slice from.seq from.coding m) from.slices =
     one_list from.seq from.coding m from.slices to.slices _ version.slices (coarsened_slices-are from.seq from.coding m (columns from.seq) from.slices walkable.slices) in
     let read = without-read lawful.before from.seq from.coding from.head to.head is.rest is.head is.whole version.head in
-    let head' : (with_bytes (head lawful.before)).Spells ((to.seq, to.coding), to.head) (bit_list to.head ++ is.rest) is.rest =
-    subst (λ (s : SeqState). (with_bytes (head lawful.before)).Spells ((s, to.coding), to.head) (bit_list to.head ++ is.rest) is.rest) (sym version.seq)
-    (subst (λ (c : PicCoding). (with_bytes (head lawful.before)).Spells ((from.seq, c), to.head) (bit_list to.head ++ is.rest) is.rest) (sym version.coding) read) in
+    let head' : (with_spelling (head lawful.before)).Spells ((to.seq, to.coding), to.head) (bit_list to.head ++ is.rest) is.rest =
+    subst (λ (s : SeqState). (with_spelling (head lawful.before)).Spells ((s, to.coding), to.head) (bit_list to.head ++ is.rest) is.rest) (sym version.seq)
+    (subst (λ (c : PicCoding). (with_spelling (head lawful.before)).Spells ((from.seq, c), to.head) (bit_list to.head ++ is.rest) is.rest) (sym version.coding) read) in
     let each' = subst (AllByRecursion (λ s. HasSpellableMacroblocks from.seq (without from.coding) s × (is_slice (s.row + FIRST_SLICE) ≡ true))) (sym made)
     (slices-spelled from.seq from.coding m from.slices is.each walkable.slices) in (
       record {

@@ -8,7 +8,7 @@ use Rattle.stream_constants.specs.declared.decoder.TheConstants.{MB_SUBTICKS, SY
 use Rattle.tstd_model.specs.Instants.{came, departures, departures_into}
 use Rattle.tstd_model.specs.PacketBytes.{Arrival, is_payload, parts, arrives, kept}
 use Rattle.tstd_model.specs.Decoder.{BufferKind, Video, Audio, System, Removal, DecoderBuffer, IsOverfull, tb_subticks, leave_tb, payload_passes, data_passes, removed, eb_bytes, eb_rooms, moves, transport_buffer, is_removed, completes}
-use Rattle.tstd_model.specs.Faults.{TstdFault, Overflow, Late, Old, Overflows, FindsLess, HeldPastLimit, hold_subticks, IsFault, instant_of, GoesBefore, IsFirstFault, IsFirstOrNone}
+use Rattle.tstd_model.specs.Faults.{TstdFault, Overflow, Late, Old, Overflows, FindsLess, HeldPastLimit, hold_subticks, IsFault, instant_of, FaultGoesBefore, IsFirstFault, IsFirstOrNone}
 use Rattle.tstd_model.specs.Private.Scans.{RemovedByte}
 use Rattle.tstd_model.specs.Private.Server.{Spaced}
 use Rattle.tstd_model.specs.Private.Walks.{main_buffer, first_excess, earlier, excess_found, late_found, old_found, NotAfter, Before, BeforeByte, IsEarliest}
@@ -196,7 +196,7 @@ module _ (slot : ℕ) (kind : BufferKind) (arrivals : List Arrival) (removals : 
     (late : Option RemovedByte) (over old : Option ℕ) (is_late : IsFirstLate (completes slot kind arrivals removals) removals late)
     (is_over : IsLeast (Overflows slot kind arrivals removals) over) (is_old : IsLeast (HeldPastLimit slot kind arrivals removals) old) where
   abbrev Follows : TstdFault → TstdFault → Type 0
-  Follows fault other = (instant_of removals fault < instant_of removals other) ⊎ ((instant_of removals fault ≡ instant_of removals other) × GoesBefore fault other)
+  Follows fault other = (instant_of removals fault < instant_of removals other) ⊎ ((instant_of removals fault ≡ instant_of removals other) × FaultGoesBefore fault other)
 
   after_late : (byte : RemovedByte) → IsFirstLate (completes slot kind arrivals removals) removals (Some byte) → NotAfter byte.at over → NotAfter byte.at old
       → (other : TstdFault) → IsFault slot kind arrivals removals other → Follows (Late byte.removal) other

@@ -47,23 +47,23 @@ instant_of removals (Late removal) = SUBTICKS_PER_TICK * (slice_index_or removal
 instant_of removals (Old at) = at
 
 -- of two faults at one instant, the first is said before the second: removals in their order, then buffers, then held bytes
-abbrev pub GoesBefore : TstdFault → TstdFault → Type 0
-GoesBefore (Late removal) (Late other) = removal ≤ other
-GoesBefore (Late removal) (Overflow other) = Unit {0}
-GoesBefore (Late removal) (Old other) = Unit {0}
-GoesBefore (Overflow at) (Late other) = ⊥
-GoesBefore (Overflow at) (Overflow other) = Unit {0}
-GoesBefore (Overflow at) (Old other) = Unit {0}
-GoesBefore (Old at) (Late other) = ⊥
-GoesBefore (Old at) (Overflow other) = ⊥
-GoesBefore (Old at) (Old other) = Unit {0}
+abbrev pub FaultGoesBefore : TstdFault → TstdFault → Type 0
+FaultGoesBefore (Late removal) (Late other) = removal ≤ other
+FaultGoesBefore (Late removal) (Overflow other) = Unit {0}
+FaultGoesBefore (Late removal) (Old other) = Unit {0}
+FaultGoesBefore (Overflow at) (Late other) = ⊥
+FaultGoesBefore (Overflow at) (Overflow other) = Unit {0}
+FaultGoesBefore (Overflow at) (Old other) = Unit {0}
+FaultGoesBefore (Old at) (Late other) = ⊥
+FaultGoesBefore (Old at) (Overflow other) = ⊥
+FaultGoesBefore (Old at) (Old other) = Unit {0}
 
 -- the fault is there, and each fault is later, or at the same instant and said after it
 pub record IsFirstFault (slot : ℕ) (kind : BufferKind) (arrivals : List Arrival) (removals : List Removal) (fault : TstdFault) : Type 0 where
   pub there : IsFault slot kind arrivals removals fault
   pub first : (other : TstdFault) → IsFault slot kind arrivals removals other
       → (instant_of removals fault < instant_of removals other)
-      ⊎ ((instant_of removals fault ≡ instant_of removals other) × GoesBefore fault other)
+      ⊎ ((instant_of removals fault ≡ instant_of removals other) × FaultGoesBefore fault other)
 
 -- the first fault, or none where there is none
 abbrev pub IsFirstOrNone : (slot : ℕ) → BufferKind → List Arrival → List Removal → Option TstdFault → Type 0

@@ -12,7 +12,7 @@ use Rattle.version_table.specs.declared.line.Line.{Line}
 use Rattle.version_table.specs.declared.line.Line.TheVariants.{Title, Slot, Nodes, Evaluations, Program, Unit as UnitLine, Audio, Packet}
 use Rattle.version_table.specs.declared.line.StatedVersion.{StatedVersion}
 use Rattle.version_table.specs.Order.{last_line}
-use Rattle.version_table.specs.Limits.{Test, test, version_tests, tests_of, first_failing, first_limit, is_program, is_unit, is_packet, is_within, audios_here, time_most, rises, packet_due, packet_gone}
+use Rattle.version_table.specs.Limits.{Test, test, version_tests, tests_of, first_failing, first_limit, is_program, is_unit, is_packet, is_in_range, audios_here, time_most, rises, packet_due, packet_gone}
 
 -- a version within the limits
 pub record KeepsVersion (version : StatedVersion) : Type 0 where
@@ -58,10 +58,10 @@ first_kept : (limit : Limit) (kept : Bool) (tests : List Test) → first_failing
 first_kept limit true tests h = (refl, h)
 first_kept limit false tests h = absurd cc
 
-within : (low high n : ℕ) → is_within low high n ≡ true → (low ≤ n) × (n ≤ high)
+within : (low high n : ℕ) → is_in_range low high n ≡ true → (low ≤ n) × (n ≤ high)
 within low high n h = let (a, b) = and_parts (nat_le low n) (nat_le n high) h in (leb-true low n a, leb-true n high b)
 
-is_within-true : (low high n : ℕ) → low ≤ n → n ≤ high → is_within low high n ≡ true
+is_within-true : (low high n : ℕ) → low ≤ n → n ≤ high → is_in_range low high n ≡ true
 is_within-true low high n a b = and_from (nat_le low n) (nat_le n high) (le-leb low n a) (le-leb n high b)
 
 versions_kept : (versions : List StatedVersion) → first_failing (flat_map version_tests versions) ≡ None → All KeepsVersion versions
@@ -69,7 +69,7 @@ versions_kept [] h = All-nil KeepsVersion
 versions_kept (version ∷ versions) h =
     let others = flat_map version_tests versions in
     let second = test limits.Distortion (nat_lt version.distortion DISTORTION_LIMIT) ∷ others in
-    let (bytes, more) = first_kept limits.Bytes (is_within 1 VERSION_BYTES_MOST version.bytes) second h in
+    let (bytes, more) = first_kept limits.Bytes (is_in_range 1 VERSION_BYTES_MOST version.bytes) second h in
     let (distortion, rest) = first_kept limits.Distortion (nat_lt version.distortion DISTORTION_LIMIT) others more in
     let (some, most) = within 1 VERSION_BYTES_MOST version.bytes bytes in
     All-cons KeepsVersion version versions (record { some = some; bytes = most; distortion = ltb-true version.distortion DISTORTION_LIMIT distortion }) (versions_kept versions rest)
@@ -77,13 +77,13 @@ versions_kept (version ∷ versions) h =
 pub keeps_from : (before : List Line) (line : Line) → first_limit before line ≡ None → Keeps before line
 unfolding tests_of
 keeps_from before Title h = tt
-keeps_from before (Slot ticks) h = within SLOT_LEAST SLOT_MOST ticks (first_kept limits.Slot (is_within SLOT_LEAST SLOT_MOST ticks) [] h).0
-keeps_from before (Nodes n) h = within 1 NODES_MOST n (first_kept limits.Nodes (is_within 1 NODES_MOST n) [] h).0
+keeps_from before (Slot ticks) h = within SLOT_LEAST SLOT_MOST ticks (first_kept limits.Slot (is_in_range SLOT_LEAST SLOT_MOST ticks) [] h).0
+keeps_from before (Nodes n) h = within 1 NODES_MOST n (first_kept limits.Nodes (is_in_range 1 NODES_MOST n) [] h).0
 keeps_from before (Evaluations n) h = leb-true n EVALUATIONS_MOST (first_kept limits.Evaluations (nat_le n EVALUATIONS_MOST) [] h).0
 keeps_from before (Program vbv) h =
-    let second = test limits.Vbv (is_within 1 VBV_MOST vbv) ∷ [] in
+    let second = test limits.Vbv (is_in_range 1 VBV_MOST vbv) ∷ [] in
     let (programs, more) = first_kept limits.Programs (nat_lt (count_by is_program before) PROGRAMS_MOST) second h in
-    let (some, most) = within 1 VBV_MOST vbv (first_kept limits.Vbv (is_within 1 VBV_MOST vbv) [] more).0 in
+    let (some, most) = within 1 VBV_MOST vbv (first_kept limits.Vbv (is_in_range 1 VBV_MOST vbv) [] more).0 in
     record { programs = ltb-true (count_by is_program before) PROGRAMS_MOST programs; some = some; vbv_most = most }
 keeps_from before (UnitLine due versions) h =
     let others = flat_map version_tests versions.items in
@@ -94,18 +94,18 @@ keeps_from before (UnitLine due versions) h =
     record { units = ltb-true (count_by is_unit before) UNITS_MOST units; time = leb-true due (time_most before) time; rising = rising; each = versions_kept versions.items rest }
 keeps_from before Audio h = ltb-true (audios_here before) AUDIOS_MOST (first_kept limits.Audios (nat_lt (audios_here before) AUDIOS_MOST) [] h).0
 keeps_from before (Packet due gone bytes) h =
-    let due_test = is_within (packet_due (last_line before)) (time_most before) due in
-    let gone_test = is_within due (time_most before) gone && nat_le (packet_gone (last_line before)) gone in
-    let fourth = test limits.Bytes (is_within 1 PAYLOAD_BYTES bytes) ∷ [] in
+    let due_test = is_in_range (packet_due (last_line before)) (time_most before) due in
+    let gone_test = is_in_range due (time_most before) gone && nat_le (packet_gone (last_line before)) gone in
+    let fourth = test limits.Bytes (is_in_range 1 PAYLOAD_BYTES bytes) ∷ [] in
     let third = test limits.Gone gone_test ∷ fourth in
     let second = test limits.Due due_test ∷ third in
     let (packets, more) = first_kept limits.Packets (nat_lt (count_by is_packet before) TEXT_AUDIO_PACKETS_MOST) second h in
     let (due_kept, more2) = first_kept limits.Due due_test third more in
     let (gone_kept, more3) = first_kept limits.Gone gone_test fourth more2 in
     let (dues, due_most) = within (packet_due (last_line before)) (time_most before) due due_kept in
-    let (gone_range, gone_order) = and_parts (is_within due (time_most before) gone) (nat_le (packet_gone (last_line before)) gone) gone_kept in
+    let (gone_range, gone_order) = and_parts (is_in_range due (time_most before) gone) (nat_le (packet_gone (last_line before)) gone) gone_kept in
     let (gone_least, gone_most) = within due (time_most before) gone gone_range in
-    let (some, bytes_most) = within 1 PAYLOAD_BYTES bytes (first_kept limits.Bytes (is_within 1 PAYLOAD_BYTES bytes) [] more3).0 in
+    let (some, bytes_most) = within 1 PAYLOAD_BYTES bytes (first_kept limits.Bytes (is_in_range 1 PAYLOAD_BYTES bytes) [] more3).0 in
     record {
       packets = ltb-true (count_by is_packet before) TEXT_AUDIO_PACKETS_MOST packets;
       dues = dues;
@@ -140,6 +140,6 @@ keeps_to before (Packet due gone bytes) h =
     rw (
       lt-ltb (count_by is_packet before) TEXT_AUDIO_PACKETS_MOST h.packets,
       is_within-true (packet_due (last_line before)) (time_most before) due h.dues h.due_most,
-      and_from (is_within due (time_most before) gone) (nat_le (packet_gone (last_line before)) gone) (is_within-true due (time_most before) gone h.gone_least h.gone_most) (le-leb (packet_gone (last_line before)) gone h.gones),
+      and_from (is_in_range due (time_most before) gone) (nat_le (packet_gone (last_line before)) gone) (is_within-true due (time_most before) gone h.gone_least h.gone_most) (le-leb (packet_gone (last_line before)) gone h.gones),
       is_within-true 1 PAYLOAD_BYTES bytes h.some h.bytes_most,
     ) refl

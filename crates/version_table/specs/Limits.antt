@@ -75,8 +75,8 @@ packet_gone (Some (Packet due gone bytes)) = gone
 packet_gone last = 0
 
 -- from the first number up to the second
-abbrev pub is_within : ℕ → ℕ → ℕ → Bool
-is_within low high n = nat_le low n && nat_le n high
+abbrev pub is_in_range : ℕ → ℕ → ℕ → Bool
+is_in_range low high n = nat_le low n && nat_le n high
 
 -- a limit, and whether it is kept
 pub record Test : Type 0 where
@@ -89,7 +89,7 @@ test limit kept = record { limit = limit; kept = kept }
 
 -- the tests of a version
 abbrev pub version_tests : StatedVersion → List Test
-version_tests version = test limits.Bytes (is_within 1 VERSION_BYTES_MOST version.bytes) ∷ test limits.Distortion (nat_lt version.distortion DISTORTION_LIMIT) ∷ []
+version_tests version = test limits.Bytes (is_in_range 1 VERSION_BYTES_MOST version.bytes) ∷ test limits.Distortion (nat_lt version.distortion DISTORTION_LIMIT) ∷ []
 
 -- the tests of a unit behind other lines: first whether there may be one more, then its due time, then its versions
 abbrev pub unit_tests : List Line → ℕ → List StatedVersion → List Test
@@ -101,17 +101,17 @@ unit_tests before due versions =
 -- the tests of a line behind others, in reading order: first whether there may be one more of its kind
 unfoldable pub tests_of : List Line → Line → List Test
 tests_of before Title = []
-tests_of before (Slot ticks) = test limits.Slot (is_within SLOT_LEAST SLOT_MOST ticks) ∷ []
-tests_of before (Nodes n) = test limits.Nodes (is_within 1 NODES_MOST n) ∷ []
+tests_of before (Slot ticks) = test limits.Slot (is_in_range SLOT_LEAST SLOT_MOST ticks) ∷ []
+tests_of before (Nodes n) = test limits.Nodes (is_in_range 1 NODES_MOST n) ∷ []
 tests_of before (Evaluations n) = test limits.Evaluations (nat_le n EVALUATIONS_MOST) ∷ []
-tests_of before (Program vbv) = test limits.Programs (nat_lt (count_by is_program before) PROGRAMS_MOST) ∷ test limits.Vbv (is_within 1 VBV_MOST vbv) ∷ []
+tests_of before (Program vbv) = test limits.Programs (nat_lt (count_by is_program before) PROGRAMS_MOST) ∷ test limits.Vbv (is_in_range 1 VBV_MOST vbv) ∷ []
 tests_of before (UnitLine due versions) = unit_tests before due versions.items
 tests_of before Audio = test limits.Audios (nat_lt (audios_here before) AUDIOS_MOST) ∷ []
 tests_of before (Packet due gone bytes) =
     test limits.Packets (nat_lt (count_by is_packet before) TEXT_AUDIO_PACKETS_MOST)
-    ∷ test limits.Due (is_within (packet_due (last_line before)) (time_most before) due)
-    ∷ test limits.Gone (is_within due (time_most before) gone && nat_le (packet_gone (last_line before)) gone)
-    ∷ test limits.Bytes (is_within 1 PAYLOAD_BYTES bytes)
+    ∷ test limits.Due (is_in_range (packet_due (last_line before)) (time_most before) due)
+    ∷ test limits.Gone (is_in_range due (time_most before) gone && nat_le (packet_gone (last_line before)) gone)
+    ∷ test limits.Bytes (is_in_range 1 PAYLOAD_BYTES bytes)
     ∷ []
 
 -- the first limit that isn't kept

@@ -3,7 +3,7 @@
 ghost use Rattle.std.specs.Prelude.{◌≡◌, ◌+◌, ◌*◌, [], ◌∷◌, ◌&&◌, nat_le, nat_lt, count_by, List};
 ghost use Rattle.std.specs.List.{flat_map};
 ghost use Rattle.version_table.specs.Order.{last_line};
-ghost use Rattle.version_table.specs.Limits.{is_within, first_failing, test, version_tests, unit_tests, first_limit, is_program, audios_here, time_most, rises, packet_due, packet_gone};
+ghost use Rattle.version_table.specs.Limits.{is_in_range, first_failing, test, version_tests, unit_tests, first_limit, is_program, audios_here, time_most, rises, packet_due, packet_gone};
 ghost use Rattle.version_table.specs.Private.Draft.{Allows, IsDraft, lines_of_draft};
 
 use crate::draft::Draft;
@@ -25,10 +25,10 @@ impl Draft {
         match line {
             Line::Title => None,
             Line::Slot(ticks) => unless(
-                is_within(SLOT_LEAST as u64, SLOT_MOST as u64, *ticks),
+                is_in_range(SLOT_LEAST as u64, SLOT_MOST as u64, *ticks),
                 Limit::Slot,
             ),
-            Line::Nodes(n) => unless(is_within(1, NODES_MOST as u64, *n), Limit::Nodes),
+            Line::Nodes(n) => unless(is_in_range(1, NODES_MOST as u64, *n), Limit::Nodes),
             Line::Evaluations(n) => unless(*n <= EVALUATIONS_MOST as u64, Limit::Evaluations),
             Line::Program(vbv) => self.program_limit(stage, *vbv),
             Line::Unit { due, versions } => self.unit_limit(*due, versions.as_slice()),
@@ -47,7 +47,7 @@ impl Draft {
         if self.program_count(stage) >= PROGRAMS_MOST {
             return Some(Limit::Programs);
         }
-        unless(is_within(1, VBV_MOST as u64, vbv), Limit::Vbv)
+        unless(is_in_range(1, VBV_MOST as u64, vbv), Limit::Vbv)
     }
 
     /// The first limit that a unit breaks in the open program.
@@ -76,13 +76,13 @@ impl Draft {
         }
         let last = self.last_packet();
         let most = self.time_most();
-        if !is_within(last.due, most, due) {
+        if !is_in_range(last.due, most, due) {
             return Some(Limit::Due);
         }
-        if !is_within(due, most, gone) || gone < last.gone {
+        if !is_in_range(due, most, gone) || gone < last.gone {
             return Some(Limit::Gone);
         }
-        unless(is_within(1, PAYLOAD_BYTES as u64, bytes), Limit::Bytes)
+        unless(is_in_range(1, PAYLOAD_BYTES as u64, bytes), Limit::Bytes)
     }
 
     /// Whether a due time is greater than that of the last unit of the open program.
@@ -145,7 +145,7 @@ fn versions_limit(versions: &[StatedVersion]) -> Option<Limit>
     ensures { result ≡ first_failing (flat_map version_tests versions.now) }
 {
     for version in versions {
-        if !is_within(1, VERSION_BYTES_MOST as u64, version.bytes) {
+        if !is_in_range(1, VERSION_BYTES_MOST as u64, version.bytes) {
             return Some(Limit::Bytes);
         }
         if version.distortion >= DISTORTION_LIMIT {
@@ -161,8 +161,8 @@ fn unless(kept: bool, limit: Limit) -> Option<Limit>
     if kept { None } else { Some(limit) }
 }
 
-fn is_within(low: u64, high: u64, n: u64) -> bool
-    ensures { result ≡ is_within low high n }
+fn is_in_range(low: u64, high: u64, n: u64) -> bool
+    ensures { result ≡ is_in_range low high n }
 {
     low <= n && n <= high
 }

@@ -1,5 +1,5 @@
 use Rattle.std.proofs.Common.{◌≡◌, ◌<◌, ◌+◌, true, sym, length}
-use Rattle.audio_frames.specs.Frames.{is_frame, is_first, end_of}
+use Rattle.audio_frames.specs.Frames.{is_audio_frame, is_first, end_of}
 use Rattle.audio_frames.proofs.Chains.{frames_more, apart_more, all_frames, broken_there, frame_found, no_frame_found}
 use Rattle.audio_frames.proofs.Formats.{first_is_frame, frame_header}
 use Rattle.audio_frames.proofs.Places.{found_passes}
@@ -16,7 +16,7 @@ loop-end-preserved c =
     let payload = c.args.payload.now in
     let first = c.args.first in
     let at = c.loop-end.at in
-    let found : (is_frame payload first at ≡ true) × (c.in-Some.end ≡ end_of payload at) = frame_found payload first at c.in-Some.end c.in-Some.ensures.end in
+    let found : (is_audio_frame payload first at ≡ true) × (c.in-Some.end ≡ end_of payload at) = frame_found payload first at c.in-Some.end c.in-Some.ensures.end in
     record {
       within = c.in-Some.ensures.within.1;
       frames = rw (c.in_ok-push.ensures.ok, found.1) (frames_more payload first first c.loop-end.places at c.loop-end.invariant.frames found.0);

@@ -1,5 +1,5 @@
 use Rattle.std.proofs.Common.{◌≡◌, ℕ, false, ◌<◌, ◌≤◌, length, ◌-◌}
-use Rattle.es_units.specs.Units.{is_behind_slice, is_cut}
+use Rattle.es_units.specs.Units.{is_behind_slice, is_unit_cut}
 use Rattle.es_units.proofs.cuts.next_cut.Given as goal
 
 abbrev pub invariant-loop-code : goal.invariant-loop-code
@@ -7,7 +7,7 @@ invariant-loop-code l = record {
   begun : l.from ≤ l.at;
   within : l.at ≤ length l.es;
   state : l.behind_slice ≡ is_behind_slice l.es l.at;
-  passed : (at : ℕ) → l.from ≤ at → at < l.at → is_cut l.es at ≡ false;
+  passed : (at : ℕ) → l.from ≤ at → at < l.at → is_unit_cut l.es at ≡ false;
 }
 
 abbrev pub decreases-loop-code : goal.decreases-loop-code

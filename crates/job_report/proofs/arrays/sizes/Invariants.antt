@@ -1,7 +1,7 @@
 use Rattle.std.proofs.Common.{◌≡◌, take, map}
 use Rattle.serde_json.specs.View.{view}
-use Rattle.job_report.specs.Report.{number_of}
+use Rattle.job_report.specs.Report.{json_number}
 use Rattle.job_report.proofs.arrays.sizes.Given as goal
 
 abbrev pub invariant-loop-number : goal.invariant-loop-number
-invariant-loop-number l = map view l.items.items ≡ map number_of (take l.number-index l.numbers)
+invariant-loop-number l = map view l.items.items ≡ map json_number (take l.number-index l.numbers)

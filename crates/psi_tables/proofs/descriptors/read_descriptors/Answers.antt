@@ -1,6 +1,6 @@
 use Rattle.std.proofs.Common.{◌≡◌, ◌∷◌, ◌++◌, List, ℕ, Some, length, ap, ap₂, sym, refl, true, subst, ◌∙◌, arith}
 use Rattle.std.proofs.lemmas.Bool.{false≢true}
-use Rattle.psi_tables.specs.Section.{IsRow}
+use Rattle.psi_tables.specs.Section.{IsItemRow}
 use Rattle.psi_tables.specs.Descriptors.{IsDescriptor, is_kept, kept_bytes, count_dropped}
 use Rattle.psi_tables.proofs.Rows.{not_empty, empty, IsRow-first, under_way_rest, under_way_all, one_row}
 use Rattle.psi_tables.proofs.DescriptorRows.{descriptors_told, next_descriptor, kept_at_least, read_kept, read_dropped}
@@ -19,7 +19,7 @@ returns-in_default-clause-exact c = λ descriptors row room.
     let keeps : is_kept front ≡ true = sym c.keeps.ensures ∙ c.if-keeps.true in
     let is = c.in_ok-descriptor.ensures in
     let behind = under_way_rest IsDescriptor descriptors_told c.args.bytes.now c.loop-rest.rest.now read.done descriptors read.under_way row in
-    let next = IsRow-first IsDescriptor descriptors_told front behind.0 front c.in_ok-descriptor.after.now is.0 (subst (IsRow IsDescriptor behind.0) is.1 behind.2) in
+    let next = IsRow-first IsDescriptor descriptors_told front behind.0 front c.in_ok-descriptor.after.now is.0 (subst (IsItemRow IsDescriptor behind.0) is.1 behind.2) in
     let whole : descriptors ≡ read.done ++ front ∷ next.0 = behind.1 ∙ ap (λ (ys : List (List ℕ)). read.done ++ ys) next.1 in
     absurd (false≢true (c.in_default.ensures.variant.1 (omega (arith, room, ap (λ (xs : List (List ℕ)). length (kept_bytes xs)) whole, kept_at_least read.done front next.0 keeps, ap length read.kept_is))))
 

@@ -1,5 +1,5 @@
 use Rattle.std.proofs.Common.{◌≡◌, ap, subst, ◌∙◌}
-use Rattle.psi_tables.specs.Section.{IsWhole, content}
+use Rattle.psi_tables.specs.Section.{IsWholeSection, content}
 use Rattle.psi_tables.proofs.ProgramRows.{pat_from, pat_fills}
 use Rattle.psi_tables.proofs.pat.read_pat.Goals as goal
 
@@ -11,9 +11,9 @@ returns-then-content-ne0-clause-pid c = λ programs is.
 pub returns-then-number-eq0-clause-ok : goal.returns-then-number-eq0-clause-ok
 returns-then-number-eq0-clause-ok c = λ current.
     let found : c.in-Some.content.now ≡ content c.args.section.now.items = c.in-Some.ensures.1 ∙ ap content c.as_slice.ensures.value in
-    pat_from c.args.section.now.items c.in-Some.content.now current (subst IsWhole c.as_slice.ensures.value c.in-Some.ensures.0) found c.if-content-ne0.false
+    pat_from c.args.section.now.items c.in-Some.content.now current (subst IsWholeSection c.as_slice.ensures.value c.in-Some.ensures.0) found c.if-content-ne0.false
 
 pub returns-clause-ok : goal.returns-clause-ok
 returns-clause-ok c = λ current.
     let found : c.in-Some.content.now ≡ content c.args.section.now.items = c.in-Some.ensures.1 ∙ ap content c.as_slice.ensures.value in
-    pat_from c.args.section.now.items c.in-Some.content.now current (subst IsWhole c.as_slice.ensures.value c.in-Some.ensures.0) found c.if-content-ne0.false
+    pat_from c.args.section.now.items c.in-Some.content.now current (subst IsWholeSection c.as_slice.ensures.value c.in-Some.ensures.0) found c.if-content-ne0.false

@@ -6,7 +6,7 @@ use Rattle.std.specs.List.{sum_by}
 use Rattle.arrayvec.specs.ArrayVec.{ArrayVec}
 use Rattle.psi_tables.specs.declared.program_map.ProgramMap.{ProgramMap}
 use Rattle.psi_tables.specs.declared.stream.Stream.{Stream}
-use Rattle.psi_tables.specs.Section.{IsRow}
+use Rattle.psi_tables.specs.Section.{IsItemRow}
 use Rattle.psi_tables.specs.Descriptors.{count_dropped}
 use Rattle.psi_tables.specs.Streams.{IsStreamInfo, stream_of}
 use Rattle.psi_tables.proofs.MapContents.{keepable_from, room_from, cut_at, pcr_at, content_says, one_map}
@@ -34,7 +34,7 @@ returns-in_err-streams-clause-only c = λ program is room number.
     let cut =
     cut_at c.args.content.now c.in_ok-pcr_high.field-0-0.now c.in_ok-pcr_high.rest.now c.split_at.result.0.now c.split_at.result.1.now c.from_be_bytes-info_length.result (λ i. omega (arith, c.type_inv.content i)) head.0 head.1 (omega (arith, head.2)) c.from_be_bytes-info_length.ensures c.if-rest-info_length.false c.split_at.ensures.front c.split_at.ensures.back in
     let keeps = keepable_from program is.streams is.kept room in
-    let none = c.in_err-streams.ensures.exact is.streams (subst (IsRow IsStreamInfo is.streams) (sym cut.streams_are) is.streams_are) keeps.0 keeps.1 in
+    let none = c.in_err-streams.ensures.exact is.streams (subst (IsItemRow IsStreamInfo is.streams) (sym cut.streams_are) is.streams_are) keeps.0 keeps.1 in
     absurd (cc none)
 
 pub returns-clause-some : goal.returns-clause-some

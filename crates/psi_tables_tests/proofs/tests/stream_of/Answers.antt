@@ -1,7 +1,7 @@
 use Rattle.std.proofs.Common.{◌≡◌, ◌++◌, ◌∷◌, [], ℕ, List, length, refl, sym, ap, subst, ◌∙◌, arith, true}
 use Rattle.std.proofs.lemmas.List.{append-nil}
 use Rattle.std.proofs.lemmas.List.Elements.{All-cons, All-nil}
-use Rattle.psi_tables.specs.Section.{IsRow}
+use Rattle.psi_tables.specs.Section.{IsItemRow}
 use Rattle.psi_tables.specs.Descriptors.{IsDescriptor, is_tag_kept, is_kept, descriptor_tag}
 use Rattle.psi_tables.proofs.Elements.{descriptor_tag-is, descriptor_length-is}
 use Rattle.psi_tables_tests.proofs.tests.stream_of.Goals as goal
@@ -17,6 +17,6 @@ returns c =
     record {
       pid = c.requires.pid;
       descriptors = descriptor ∷ [];
-      descriptors_are = subst (IsRow IsDescriptor (descriptor ∷ [])) (sym items) (descriptor, [], sym (append-nil descriptor), record { bytes_are = refl; size = omega (arith, c.requires.size, descriptor_length-is descriptor) }, refl);
+      descriptors_are = subst (IsItemRow IsDescriptor (descriptor ∷ [])) (sym items) (descriptor, [], sym (append-nil descriptor), record { bytes_are = refl; size = omega (arith, c.requires.size, descriptor_length-is descriptor) }, refl);
       kept = All-cons (λ (d : List ℕ). is_kept d ≡ true) descriptor [] (ap is_tag_kept tag ∙ c.requires.kept) (All-nil (λ (d : List ℕ). is_kept d ≡ true));
     }
