@@ -69,10 +69,12 @@ no_video xs i end before = before.video ∙ ap video_of (drop_end xs i end)
 
 -- ---- a PID among those of streams
 
-pub among_more : (xs : List Stream) (pid i : ℕ) (d : Stream) → i < length xs → ((get_or xs i d).pid == pid) ≡ false → is_among (pids_in xs) pid ≡ is_among (pids_in (drop i xs)) pid → is_among (pids_in xs) pid ≡ is_among (pids_in (drop (i + 1) xs)) pid
+pub among_more : (xs : List Stream) (pid i : ℕ) (d : Stream) → i < length xs → ((get_or xs i d).pid == pid) ≡ false → is_among (pids_in xs) pid ≡ is_among (pids_in (drop i xs)) pid →
+    is_among (pids_in xs) pid ≡ is_among (pids_in (drop (i + 1) xs)) pid
 among_more xs pid i d within test same = same ∙ ap (λ (ys : List Stream). is_among (pids_in ys) pid) (drop_next xs i d within) ∙ ap (λ (b : Bool). b || is_among (pids_in (drop (i + 1) xs)) pid) test
 
-pub among_here : (xs : List Stream) (pid i : ℕ) (d : Stream) → i < length xs → ((get_or xs i d).pid == pid) ≡ true → is_among (pids_in xs) pid ≡ is_among (pids_in (drop i xs)) pid → is_among (pids_in xs) pid ≡ true
+pub among_here : (xs : List Stream) (pid i : ℕ) (d : Stream) → i < length xs → ((get_or xs i d).pid == pid) ≡ true → is_among (pids_in xs) pid ≡ is_among (pids_in (drop i xs)) pid →
+    is_among (pids_in xs) pid ≡ true
 among_here xs pid i d within test same = same ∙ ap (λ (ys : List Stream). is_among (pids_in ys) pid) (drop_next xs i d within) ∙ ap (λ (b : Bool). b || is_among (pids_in (drop (i + 1) xs)) pid) test
 
 pub among_none : (xs : List Stream) (pid i : ℕ) → length xs ≤ i → is_among (pids_in xs) pid ≡ is_among (pids_in (drop i xs)) pid → is_among (pids_in xs) pid ≡ false
@@ -87,25 +89,29 @@ first_removed (x ∷ xs) s some is = ap (λ (y : Stream). y ∷ xs) (sym is)
 pids_more : (carried : List Stream) (s : Stream) → pids_in (carried ++ s ∷ []) ≡ pids_in carried ++ s.pid ∷ []
 pids_more carried s = map-append (λ (stream : Stream). stream.pid) carried (s ∷ [])
 
-pub carries : (drop_pids : List ℕ) (carried streams rest all : List Stream) (s : Stream) → streams ≡ s ∷ rest → is_carried drop_pids (pids_in carried) s ≡ true → carried ++ audios_of drop_pids (pids_in carried) streams ≡ all → (carried ++ s ∷ []) ++ audios_of drop_pids (pids_in (carried ++ s ∷ [])) rest ≡ all
+pub carries : (drop_pids : List ℕ) (carried streams rest all : List Stream) (s : Stream) → streams ≡ s ∷ rest → is_carried drop_pids (pids_in carried) s ≡ true →
+    carried ++ audios_of drop_pids (pids_in carried) streams ≡ all → (carried ++ s ∷ []) ++ audios_of drop_pids (pids_in (carried ++ s ∷ [])) rest ≡ all
 carries drop_pids carried streams rest all s is test same =
     let one : audios_of drop_pids (pids_in carried) streams ≡ s ∷ audios_of drop_pids (pids_in carried ++ s.pid ∷ []) rest =
     ap (audios_of drop_pids (pids_in carried)) is ∙ ap (λ (b : Bool). cond b (s ∷ audios_of drop_pids (pids_in carried ++ s.pid ∷ []) rest) (audios_of drop_pids (pids_in carried) rest)) test in
     append_assoc carried (s ∷ []) (audios_of drop_pids (pids_in (carried ++ s ∷ [])) rest) ∙ ap (λ (pids : List ℕ). carried ++ s ∷ audios_of drop_pids pids rest) (pids_more carried s) ∙ ap (λ (xs : List Stream). carried ++ xs) (sym one) ∙ same
 
-pub carries_others : (drop_pids : List ℕ) (carried streams rest : List Stream) (others all : List ℕ) (s : Stream) → streams ≡ s ∷ rest → is_carried drop_pids (pids_in carried) s ≡ true → others ++ others_of drop_pids (pids_in carried) streams ≡ all → others ++ others_of drop_pids (pids_in (carried ++ s ∷ [])) rest ≡ all
+pub carries_others : (drop_pids : List ℕ) (carried streams rest : List Stream) (others all : List ℕ) (s : Stream) → streams ≡ s ∷ rest → is_carried drop_pids (pids_in carried) s ≡ true →
+    others ++ others_of drop_pids (pids_in carried) streams ≡ all → others ++ others_of drop_pids (pids_in (carried ++ s ∷ [])) rest ≡ all
 carries_others drop_pids carried streams rest others all s is test same =
     let one : others_of drop_pids (pids_in carried) streams ≡ others_of drop_pids (pids_in carried ++ s.pid ∷ []) rest =
     ap (others_of drop_pids (pids_in carried)) is ∙ ap (λ (b : Bool). cond b (others_of drop_pids (pids_in carried ++ s.pid ∷ []) rest) (s.pid ∷ others_of drop_pids (pids_in carried) rest)) test in
     ap (λ (pids : List ℕ). others ++ others_of drop_pids pids rest) (pids_more carried s) ∙ ap (λ (xs : List ℕ). others ++ xs) (sym one) ∙ same
 
-pub passes : (drop_pids : List ℕ) (carried streams rest all : List Stream) (s : Stream) → streams ≡ s ∷ rest → is_carried drop_pids (pids_in carried) s ≡ false → carried ++ audios_of drop_pids (pids_in carried) streams ≡ all → carried ++ audios_of drop_pids (pids_in carried) rest ≡ all
+pub passes : (drop_pids : List ℕ) (carried streams rest all : List Stream) (s : Stream) → streams ≡ s ∷ rest → is_carried drop_pids (pids_in carried) s ≡ false →
+    carried ++ audios_of drop_pids (pids_in carried) streams ≡ all → carried ++ audios_of drop_pids (pids_in carried) rest ≡ all
 passes drop_pids carried streams rest all s is test same =
     let one : audios_of drop_pids (pids_in carried) streams ≡ audios_of drop_pids (pids_in carried) rest =
     ap (audios_of drop_pids (pids_in carried)) is ∙ ap (λ (b : Bool). cond b (s ∷ audios_of drop_pids (pids_in carried ++ s.pid ∷ []) rest) (audios_of drop_pids (pids_in carried) rest)) test in
     ap (λ (xs : List Stream). carried ++ xs) (sym one) ∙ same
 
-pub passes_others : (drop_pids : List ℕ) (carried streams rest : List Stream) (others all : List ℕ) (s : Stream) → streams ≡ s ∷ rest → is_carried drop_pids (pids_in carried) s ≡ false → others ++ others_of drop_pids (pids_in carried) streams ≡ all → (others ++ s.pid ∷ []) ++ others_of drop_pids (pids_in carried) rest ≡ all
+pub passes_others : (drop_pids : List ℕ) (carried streams rest : List Stream) (others all : List ℕ) (s : Stream) → streams ≡ s ∷ rest → is_carried drop_pids (pids_in carried) s ≡ false →
+    others ++ others_of drop_pids (pids_in carried) streams ≡ all → (others ++ s.pid ∷ []) ++ others_of drop_pids (pids_in carried) rest ≡ all
 passes_others drop_pids carried streams rest others all s is test same =
     let one : others_of drop_pids (pids_in carried) streams ≡ s.pid ∷ others_of drop_pids (pids_in carried) rest =
     ap (others_of drop_pids (pids_in carried)) is ∙ ap (λ (b : Bool). cond b (others_of drop_pids (pids_in carried ++ s.pid ∷ []) rest) (s.pid ∷ others_of drop_pids (pids_in carried) rest)) test in
@@ -131,8 +137,11 @@ pub none_left : (n : ℕ) → (n == 0) ≡ true → n ≡ 0
 none_left n is = grind (arith, nat_tests)
 
 -- behind the video alone
-pub carried_behind : (drop_pids : List ℕ) (carried : List Stream) (video : Stream) (rest others : List Stream) → carried ≡ video ∷ [] → rest ≡ others → carried ++ audios_of drop_pids (pids_in carried) rest ≡ video ∷ audios_of drop_pids (video.pid ∷ []) others
-carried_behind drop_pids carried video rest others is same = ap (λ (xs : List Stream). xs ++ audios_of drop_pids (pids_in xs) rest) is ∙ ap (λ (xs : List Stream). video ∷ audios_of drop_pids (video.pid ∷ []) xs) same
+pub carried_behind : (drop_pids : List ℕ) (carried : List Stream) (video : Stream) (rest others : List Stream) → carried ≡ video ∷ [] → rest ≡ others →
+    carried ++ audios_of drop_pids (pids_in carried) rest ≡ video ∷ audios_of drop_pids (video.pid ∷ []) others
+carried_behind drop_pids carried video rest others is same =
+    ap (λ (xs : List Stream). xs ++ audios_of drop_pids (pids_in xs) rest) is ∙ ap (λ (xs : List Stream). video ∷ audios_of drop_pids (video.pid ∷ []) xs) same
 
-pub others_behind : (drop_pids : List ℕ) (carried : List Stream) (video : Stream) (rest others : List Stream) → carried ≡ video ∷ [] → rest ≡ others → others_of drop_pids (pids_in carried) rest ≡ others_of drop_pids (video.pid ∷ []) others
+pub others_behind : (drop_pids : List ℕ) (carried : List Stream) (video : Stream) (rest others : List Stream) → carried ≡ video ∷ [] → rest ≡ others →
+    others_of drop_pids (pids_in carried) rest ≡ others_of drop_pids (video.pid ∷ []) others
 others_behind drop_pids carried video rest others is same = ap (λ (xs : List Stream). others_of drop_pids (pids_in xs) rest) is ∙ ap (others_of drop_pids (video.pid ∷ [])) same

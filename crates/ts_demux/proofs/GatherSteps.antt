@@ -42,7 +42,8 @@ pub record FirstGather (file : List ℕ) (n i : ℕ) (olds news : List PesGather
   pub pids : gatherer_pids news ≡ gatherer_pids olds
   pub sound : (k : ℕ) (g : PesGatherer) → k < i → slice_get olds k ≡ Some g → (found : PidFault) → HasPidFault file g.pid 0 n found → ⊥
 
-pub first_before : (file : List ℕ) (n i : ℕ) (olds news : List PesGatherer) (d : PesGatherer) → FirstGather file n i olds news → i < length news → AllGather file n olds → Gathers file n (get_or news i d)
+pub first_before : (file : List ℕ) (n i : ℕ) (olds news : List PesGatherer) (d : PesGatherer) → FirstGather file n i olds news → i < length news → AllGather file n olds →
+    Gathers file n (get_or news i d)
 first_before file n i olds news d first within all = all i (get_or news i d) (sym (first.others i (omega arith)) ∙ slice_get-get_or news i d within)
 
 pub first_more : (file : List ℕ) (n i : ℕ) (olds news : List PesGatherer) (d new : PesGatherer) → FirstGather file n i olds news → i < length news →
@@ -85,7 +86,8 @@ among_there (g ∷ gs) pid is = by_test (among_there gs pid) (g.pid == pid) refl
 
 there_among : (gs : List PesGatherer) (k : ℕ) (g : PesGatherer) → slice_get gs k ≡ Some g → is_among (gatherer_pids gs) g.pid ≡ true
 there_among [] k g there = absurd cc
-there_among (x ∷ gs) zero g there = let same : x ≡ g = cc in ap (λ (p : ℕ). (p == g.pid) || is_among (gatherer_pids gs) g.pid) (ap (λ (h : PesGatherer). h.pid) same) ∙ ap (λ (b : Bool). b || is_among (gatherer_pids gs) g.pid) (itself g.pid)
+there_among (x ∷ gs) zero g there =
+    let same : x ≡ g = cc in ap (λ (p : ℕ). (p == g.pid) || is_among (gatherer_pids gs) g.pid) (ap (λ (h : PesGatherer). h.pid) same) ∙ ap (λ (b : Bool). b || is_among (gatherer_pids gs) g.pid) (itself g.pid)
   where
     itself : (p : ℕ) → (p == p) ≡ true
     itself p = grind (arith, nat_tests)
@@ -97,7 +99,8 @@ there_among (x ∷ gs) (suc k) g there = by_test (x.pid == g.pid) (there_among g
 
 -- ---- a packet
 
-pub all_taken : (file : List ℕ) (n i : ℕ) (bytes : List ℕ) (olds news : List PesGatherer) → bytes ≡ piece_at file n → sync_byte bytes ≡ 0x47 → FirstGather file n i olds news → length news ≤ i → length olds ≤ i → AllGatherMore file n olds (Ok tt) news
+pub all_taken : (file : List ℕ) (n i : ℕ) (bytes : List ℕ) (olds news : List PesGatherer) → bytes ≡ piece_at file n → sync_byte bytes ≡ 0x47 → FirstGather file n i olds news →
+    length news ≤ i → length olds ≤ i → AllGatherMore file n olds (Ok tt) news
 all_taken file n i bytes olds news bytes_are sync first all all_olds = (
   λ k g there. first.each k g (omega (arith, slice_get_within news k g there)) there,
   first.pids,
@@ -120,7 +123,8 @@ one_fault file n i olds news d fault first within is = elim is [
   | inr has ↦ inr (inr ((get_or news i d).pid, has.0, there_among olds i (get_or news i d) (sym (first.others i (omega arith)) ∙ slice_get-get_or news i d within), has.1, has.2))
 ]
 
-pub sync_fault : (file : List ℕ) (n : ℕ) (bytes : List ℕ) (olds : List PesGatherer) → n < piece_count file → bytes ≡ piece_at file n → sync_byte bytes ≢ 0x47 → IsStreamFault file (gatherer_pids olds) n (Sync (188 * n))
+pub sync_fault : (file : List ℕ) (n : ℕ) (bytes : List ℕ) (olds : List PesGatherer) → n < piece_count file → bytes ≡ piece_at file n → sync_byte bytes ≢ 0x47 →
+    IsStreamFault file (gatherer_pids olds) n (Sync (188 * n))
 sync_fault file n bytes olds within bytes_are none = inl (record { within = within; no_sync = subst (λ (b : List ℕ). sync_byte b ≢ 0x47) bytes_are none }, refl)
 
 -- ---- all packets
@@ -146,7 +150,8 @@ pub all_at_end : (file : List ℕ) (n : ℕ) (gs : List PesGatherer) → n ≡ p
 all_at_end file n gs end all = subst (λ (k : ℕ). AllGather file k gs) end all
 
 -- what is gathered are the PES packets of the streams
-pub streams_gathered : (file : List ℕ) (gs : List PesGatherer) (streams : List Stream) → AllGather file (piece_count file) gs → gatherer_pids gs ≡ map (λ (stream : Stream). stream.pid) streams → map stream_gathered gs ≡ map (packets_of file) streams
+pub streams_gathered : (file : List ℕ) (gs : List PesGatherer) (streams : List Stream) → AllGather file (piece_count file) gs →
+    gatherer_pids gs ≡ map (λ (stream : Stream). stream.pid) streams → map stream_gathered gs ≡ map (packets_of file) streams
 streams_gathered file [] [] all same = refl
 streams_gathered file [] (s ∷ streams) all same = absurd cc
 streams_gathered file (g ∷ gs) [] all same = absurd cc
@@ -169,18 +174,22 @@ pids_push : (gs : List PesGatherer) (g : PesGatherer) → gatherer_pids (gs ++ g
 pids_push [] g = refl
 pids_push (x ∷ gs) g = ap (λ (ps : List ℕ). x.pid ∷ ps) (pids_push gs g)
 
-pids_next : (streams : List Stream) (i : ℕ) (d : Stream) → i < length streams → map (λ (stream : Stream). stream.pid) (take (i + 1) streams) ≡ map (λ (stream : Stream). stream.pid) (take i streams) ++ (get_or streams i d).pid ∷ []
+pids_next : (streams : List Stream) (i : ℕ) (d : Stream) → i < length streams →
+    map (λ (stream : Stream). stream.pid) (take (i + 1) streams) ≡ map (λ (stream : Stream). stream.pid) (take i streams) ++ (get_or streams i d).pid ∷ []
 pids_next [] i d within = absurd (omega arith)
 pids_next (s ∷ streams) zero d within = refl
-pids_next (s ∷ streams) (suc i) d within = ap (λ (n : ℕ). map (λ (stream : Stream). stream.pid) (take n (s ∷ streams))) (more i) ∙ ap (λ (ps : List ℕ). s.pid ∷ ps) (pids_next streams i d (omega arith))
+pids_next (s ∷ streams) (suc i) d within =
+    ap (λ (n : ℕ). map (λ (stream : Stream). stream.pid) (take n (s ∷ streams))) (more i) ∙ ap (λ (ps : List ℕ). s.pid ∷ ps) (pids_next streams i d (omega arith))
   where
     more : (n : ℕ) → suc n + 1 ≡ suc (n + 1)
     more n = omega arith
 
-pub pids_more : (gs : List PesGatherer) (g : PesGatherer) (streams : List Stream) (i : ℕ) (d : Stream) → gatherer_pids gs ≡ map (λ (stream : Stream). stream.pid) (take i streams) → i < length streams → g.pid ≡ (get_or streams i d).pid → gatherer_pids (gs ++ g ∷ []) ≡ map (λ (stream : Stream). stream.pid) (take (i + 1) streams)
+pub pids_more : (gs : List PesGatherer) (g : PesGatherer) (streams : List Stream) (i : ℕ) (d : Stream) → gatherer_pids gs ≡ map (λ (stream : Stream). stream.pid) (take i streams) →
+    i < length streams → g.pid ≡ (get_or streams i d).pid → gatherer_pids (gs ++ g ∷ []) ≡ map (λ (stream : Stream). stream.pid) (take (i + 1) streams)
 pids_more gs g streams i d same within pid =
     pids_push gs g ∙ ap (λ (p : ℕ). gatherer_pids gs ++ p ∷ []) pid ∙ ap (λ (ps : List ℕ). ps ++ (get_or streams i d).pid ∷ []) same ∙ sym (pids_next streams i d within)
 
-pub first_fault : (file pids others : List ℕ) (n : ℕ) (fault : DemuxFault) → others ≡ pids → AreSoundBefore file pids n → (fault ≡ OutOfMemory) ⊎ IsStreamFault file others n fault → IsGatherFault file pids fault
+pub first_fault : (file pids others : List ℕ) (n : ℕ) (fault : DemuxFault) → others ≡ pids → AreSoundBefore file pids n → (fault ≡ OutOfMemory) ⊎ IsStreamFault file others n fault →
+    IsGatherFault file pids fault
 first_fault file pids others n fault same sound (inl memory) = inl memory
 first_fault file pids others n fault same sound (inr is) = inr (record { packet = n; stands = subst (λ (ps : List ℕ). IsStreamFault file ps n fault) same is; first = sound })

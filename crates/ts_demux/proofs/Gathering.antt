@@ -37,7 +37,9 @@ up_on : (xs : List CarriedPayload) (c : CarriedPayload) → is_start c.payload �
 up_on [] c start none = ap (λ (b : Bool). cond b [] (c.payload.bytes ++ [])) start ∙ append-nil c.payload.bytes
 up_on (x ∷ xs) c start none = by_test (up_on xs c start) (is_start x.payload) none
   where
-    by_test : (gathered xs ≡ [] → up_to_start (xs ++ c ∷ []) ≡ up_to_start xs ++ c.payload.bytes) → (is : Bool) → cond is (record { at = x.at; bytes = x.payload.bytes ++ up_to_start xs } ∷ gathered xs) (gathered xs) ≡ [] → cond is [] (x.payload.bytes ++ up_to_start (xs ++ c ∷ [])) ≡ cond is [] (x.payload.bytes ++ up_to_start xs) ++ c.payload.bytes
+    by_test : (gathered xs ≡ [] → up_to_start (xs ++ c ∷ []) ≡ up_to_start xs ++ c.payload.bytes) → (is : Bool) →
+        cond is (record { at = x.at; bytes = x.payload.bytes ++ up_to_start xs } ∷ gathered xs) (gathered xs) ≡ [] →
+        cond is [] (x.payload.bytes ++ up_to_start (xs ++ c ∷ [])) ≡ cond is [] (x.payload.bytes ++ up_to_start xs) ++ c.payload.bytes
     by_test on true none = absurd cc
     by_test on false none = ap (λ (bytes : List ℕ). x.payload.bytes ++ bytes) (on none) ∙ sym (append_assoc x.payload.bytes (up_to_start xs) c.payload.bytes)
 
@@ -45,7 +47,9 @@ up_same : (xs : List CarriedPayload) (c : CarriedPayload) (g : Gathered) (gs : L
 up_same [] c g gs some = absurd cc
 up_same (x ∷ xs) c g gs some = by_test (up_same xs c g gs) (is_start x.payload) some
   where
-    by_test : (gathered xs ≡ g ∷ gs → up_to_start (xs ++ c ∷ []) ≡ up_to_start xs) → (is : Bool) → cond is (record { at = x.at; bytes = x.payload.bytes ++ up_to_start xs } ∷ gathered xs) (gathered xs) ≡ g ∷ gs → cond is [] (x.payload.bytes ++ up_to_start (xs ++ c ∷ [])) ≡ cond is [] (x.payload.bytes ++ up_to_start xs)
+    by_test : (gathered xs ≡ g ∷ gs → up_to_start (xs ++ c ∷ []) ≡ up_to_start xs) → (is : Bool) →
+        cond is (record { at = x.at; bytes = x.payload.bytes ++ up_to_start xs } ∷ gathered xs) (gathered xs) ≡ g ∷ gs →
+        cond is [] (x.payload.bytes ++ up_to_start (xs ++ c ∷ [])) ≡ cond is [] (x.payload.bytes ++ up_to_start xs)
     by_test on true some = refl
     by_test on false some = ap (λ (bytes : List ℕ). x.payload.bytes ++ bytes) (on some)
 
@@ -72,7 +76,11 @@ units_on [] c start = ap (λ (b : Bool). map unit_of (cond b (record { at = c.at
 units_on (x ∷ xs) c start = by_test (is_start x.payload) (units_on xs c start)
   where
     by_others : (others : List Gathered) → gathered xs ≡ others → units_of (xs ++ c ∷ []) ≡ longer (map unit_of others) c.payload.bytes →
-        record { at = x.at; bytes = x.payload.bytes ++ up_to_start (xs ++ c ∷ []) } ∷ units_of (xs ++ c ∷ []) ≡ longer (record { at = x.at; bytes = x.payload.bytes ++ up_to_start xs } ∷ map unit_of others) c.payload.bytes
+        record {
+          at =
+              x.at;
+          bytes = x.payload.bytes ++ up_to_start (xs ++ c ∷ []);
+        } ∷ units_of (xs ++ c ∷ []) ≡ longer (record { at = x.at; bytes = x.payload.bytes ++ up_to_start xs } ∷ map unit_of others) c.payload.bytes
     by_others [] none same =
         ap (λ (bytes : List ℕ). (let unit : PesUnit = record { at = x.at; bytes = x.payload.bytes ++ bytes } in unit) ∷ units_of (xs ++ c ∷ [])) (up_on xs c start none)
         ∙ ap (λ (us : List PesUnit). (let unit : PesUnit = record { at = x.at; bytes = x.payload.bytes ++ (up_to_start xs ++ c.payload.bytes) } in unit) ∷ us) same
@@ -91,7 +99,8 @@ units_on (x ∷ xs) c start = by_test (is_start x.payload) (units_on xs c start)
 units_more : (xs : List CarriedPayload) (c : CarriedPayload) → 0 < length c.payload.bytes → units_of (xs ++ c ∷ []) ≡ gathered_more (units_of xs) c.at c.payload.start c.payload.bytes
 units_more xs c some = by_start c.payload.start refl (nat_lt 0 (length c.payload.bytes)) refl
   where
-    by_start : (start : Bool) → c.payload.start ≡ start → (full : Bool) → nat_lt 0 (length c.payload.bytes) ≡ full → units_of (xs ++ c ∷ []) ≡ cond start (units_of xs ++ record { at = c.at; bytes = c.payload.bytes } ∷ []) (longer (units_of xs) c.payload.bytes)
+    by_start : (start : Bool) → c.payload.start ≡ start → (full : Bool) → nat_lt 0 (length c.payload.bytes) ≡ full →
+        units_of (xs ++ c ∷ []) ≡ cond start (units_of xs ++ record { at = c.at; bytes = c.payload.bytes } ∷ []) (longer (units_of xs) c.payload.bytes)
     by_start start start_is false full_is = absurd (grind (arith, nat_tests))
     by_start true start_is true full_is = units_start xs c (ap (λ (b : Bool). b && nat_lt 0 (length c.payload.bytes)) start_is ∙ full_is)
     by_start false start_is true full_is = units_on xs c (ap (λ (b : Bool). b && nat_lt 0 (length c.payload.bytes)) start_is)
@@ -103,7 +112,8 @@ longer_last [] unit payload = refl
 longer_last (u ∷ []) unit payload = refl
 longer_last (u ∷ v ∷ units) unit payload = ap (λ (us : List PesUnit). u ∷ us) (longer_last (v ∷ units) unit payload)
 
-pub goes_on : (whole : List PesUnit) (begun : Option ℕ) (at : ℕ) (bytes more payload : List ℕ) → begun ≡ Some at → more ≡ bytes ++ payload → whole ++ last_of begun more ≡ longer (whole ++ last_of begun bytes) payload
+pub goes_on : (whole : List PesUnit) (begun : Option ℕ) (at : ℕ) (bytes more payload : List ℕ) → begun ≡ Some at → more ≡ bytes ++ payload →
+    whole ++ last_of begun more ≡ longer (whole ++ last_of begun bytes) payload
 goes_on whole begun at bytes more payload is same = rw (is, same) (sym (longer_last whole (record { at = at; bytes = bytes }) payload))
 
 -- a packet of another PID
@@ -114,11 +124,13 @@ gathers_other file n gatherer other gathers = record {
   units = gathers.units ∙ ap units_in (sym (pieces_other file gatherer.pid 0 n other));
 }
 
-pieces_with : (file : List ℕ) (pid n : ℕ) (bytes : List ℕ) → bytes ≡ piece_at file n → is_of_pid file pid n ≡ true → pieces_of file pid 0 (n + 1) ≡ pieces_of file pid 0 n ++ record { at = 188 * n; bytes = bytes } ∷ []
+pieces_with : (file : List ℕ) (pid n : ℕ) (bytes : List ℕ) → bytes ≡ piece_at file n → is_of_pid file pid n ≡ true →
+    pieces_of file pid 0 (n + 1) ≡ pieces_of file pid 0 n ++ record { at = 188 * n; bytes = bytes } ∷ []
 pieces_with file pid n bytes bytes_are of_pid = pieces_more file pid 0 n (omega arith) of_pid ∙ ap (λ (b : List ℕ). pieces_of file pid 0 n ++ record { at = 188 * n; bytes = b } ∷ []) (sym bytes_are)
 
 -- one that carries nothing
-pub gathers_nothing : (file : List ℕ) (n : ℕ) (bytes : List ℕ) (gatherer after : PesGatherer) → bytes ≡ piece_at file n → is_of_pid file gatherer.pid n ≡ true → after.pid ≡ gatherer.pid → after.begun ≡ gatherer.begun → after.whole ≡ gatherer.whole → after.bytes ≡ gatherer.bytes →
+pub gathers_nothing : (file : List ℕ) (n : ℕ) (bytes : List ℕ) (gatherer after : PesGatherer) → bytes ≡ piece_at file n → is_of_pid file gatherer.pid n ≡ true → after.pid ≡ gatherer.pid →
+    after.begun ≡ gatherer.begun → after.whole ≡ gatherer.whole → after.bytes ≡ gatherer.bytes →
     carried (pieces_of file gatherer.pid 0 n ++ record { at = 188 * n; bytes = bytes } ∷ []) ≡ carried (pieces_of file gatherer.pid 0 n) ++ [] →
     IsBehind (pieces_of file gatherer.pid 0 n ++ record { at = 188 * n; bytes = bytes } ∷ []) after.packets → Gathers file n gatherer → Gathers file (n + 1) after
 gathers_nothing file n bytes gatherer after bytes_are of_pid pid begun whole own none behind gathers = record {
@@ -128,8 +140,13 @@ gathers_nothing file n bytes gatherer after bytes_are of_pid pid begun whole own
 }
 
 -- one that carries a payload
-pub gathers_more : (file : List ℕ) (n : ℕ) (bytes : List ℕ) (gatherer between after : PesGatherer) (start : Bool) (payload : List ℕ) (result : Result Unit DemuxFault) → bytes ≡ piece_at file n → is_of_pid file gatherer.pid n ≡ true → 0 < length payload →
-    carried (pieces_of file gatherer.pid 0 n ++ record { at = 188 * n; bytes = bytes } ∷ []) ≡ carried (pieces_of file gatherer.pid 0 n) ++ record { at = 188 * n; payload = record { start = start; bytes = payload } } ∷ [] →
+pub gathers_more : (file : List ℕ) (n : ℕ) (bytes : List ℕ) (gatherer between after : PesGatherer) (start : Bool) (payload : List ℕ) (result : Result Unit DemuxFault) →
+    bytes ≡ piece_at file n → is_of_pid file gatherer.pid n ≡ true → 0 < length payload →
+    carried (pieces_of file gatherer.pid 0 n ++ record {
+      at =
+          188 * n;
+      bytes = bytes;
+    } ∷ []) ≡ carried (pieces_of file gatherer.pid 0 n) ++ record { at = 188 * n; payload = record { start = start; bytes = payload } } ∷ [] →
     IsBehind (pieces_of file gatherer.pid 0 n ++ record { at = 188 * n; bytes = bytes } ∷ []) between.packets →
     gathered_of between ≡ gathered_of gatherer → between.pid ≡ gatherer.pid →
     OnOk result (gathered_of after ≡ gathered_more (gathered_of between) (188 * n) start payload) → OnOk result (IsInOrder after) → OnOk result (IsSame between after) → IfErr result (λ (fault : DemuxFault). fault ≡ OutOfMemory) →
@@ -149,7 +166,8 @@ gathers_more file n bytes gatherer between after start payload (Ok _) bytes_are 
     )
 
 -- no fault
-pub gathers_sound : (file : List ℕ) (n pid : ℕ) (bytes : List ℕ) → bytes ≡ piece_at file n → pid_fault (pieces_of file pid 0 n) (record { at = 188 * n; bytes = bytes }) ≡ None → (found : PidFault) → HasPidFault file pid 0 n found → ⊥
+pub gathers_sound : (file : List ℕ) (n pid : ℕ) (bytes : List ℕ) → bytes ≡ piece_at file n → pid_fault (pieces_of file pid 0 n) (record { at = 188 * n; bytes = bytes }) ≡ None →
+    (found : PidFault) → HasPidFault file pid 0 n found → ⊥
 gathers_sound file n pid bytes bytes_are none found has =
     let there : pid_fault (pieces_of file pid 0 n) (piece file n) ≡ None = subst (λ (b : List ℕ). pid_fault (pieces_of file pid 0 n) (record { at = 188 * n; bytes = b }) ≡ None) bytes_are none in
     let e : None ≡ Some found = sym there ∙ has.fault_is in
@@ -159,7 +177,8 @@ pub other_sound : (file : List ℕ) (n pid : ℕ) → is_of_pid file pid n ≡ f
 other_sound file n pid other found has = let e : is_of_pid file pid n ≡ true = has.of_pid in absurd cc
 
 -- one that has a fault
-pub gathers_fault : (file : List ℕ) (n : ℕ) (bytes : List ℕ) (gatherer : PesGatherer) (fault : PidFault) → n < piece_count file → bytes ≡ piece_at file n → is_of_pid file gatherer.pid n ≡ true → pid_fault (pieces_of file gatherer.pid 0 n) (record { at = 188 * n; bytes = bytes }) ≡ Some fault → HasPidFault file gatherer.pid 0 n fault
+pub gathers_fault : (file : List ℕ) (n : ℕ) (bytes : List ℕ) (gatherer : PesGatherer) (fault : PidFault) → n < piece_count file → bytes ≡ piece_at file n →
+    is_of_pid file gatherer.pid n ≡ true → pid_fault (pieces_of file gatherer.pid 0 n) (record { at = 188 * n; bytes = bytes }) ≡ Some fault → HasPidFault file gatherer.pid 0 n fault
 gathers_fault file n bytes gatherer fault within bytes_are on_pid is = record {
   within = within;
   behind = omega arith;

@@ -45,7 +45,8 @@ named_alone program section named says pid names =
 pub names_none : (program : ℕ) (section : List ℕ) → SaysPat program section (Ok None) → NamesNone program section
 names_none program section says pid names = let e : None ≡ Some pid = named_alone program section None says pid names in absurd cc
 
-pub names_it : (program : ℕ) (section : List ℕ) (pid : ℕ) → SaysPat program section (Ok (Some pid)) → (IsCurrent 0 section → (programs : List (ℕ × ℕ)) × IsPat programs section) → Names program (Ok section) pid
+pub names_it : (program : ℕ) (section : List ℕ) (pid : ℕ) → SaysPat program section (Ok (Some pid)) → (IsCurrent 0 section → (programs : List (ℕ × ℕ)) × IsPat programs section) →
+    Names program (Ok section) pid
 names_it program section pid says some =
     elim (current_or_not 0 section) [
       | inl current ↦ let found = some current in
@@ -59,17 +60,20 @@ pub names_alone : (program : ℕ) (section : List ℕ) (pid : ℕ) → SaysPat p
 names_alone program section pid says other names = let e : Some pid ≡ Some other = named_alone program section (Some pid) says other names in cc
 
 -- what is known behind it
-pub known_named : (program : ℕ) (section : List ℕ) (n : ℕ) (known : Known) (pid from : ℕ) → ((old start : ℕ) → known ≡ MapOn old start → ⊥) → from ≡ n + 1 → SaysPat program section (Ok (Some pid)) → (IsCurrent 0 section → (programs : List (ℕ × ℕ)) × IsPat programs section) → IsKnownBehind program section n known (MapOn pid from)
+pub known_named : (program : ℕ) (section : List ℕ) (n : ℕ) (known : Known) (pid from : ℕ) → ((old start : ℕ) → known ≡ MapOn old start → ⊥) → from ≡ n + 1 →
+    SaysPat program section (Ok (Some pid)) → (IsCurrent 0 section → (programs : List (ℕ × ℕ)) × IsPat programs section) → IsKnownBehind program section n known (MapOn pid from)
 known_named program section n Nothing pid from new from_is says some = (names_it program section pid says some, from_is, names_alone program section pid says)
 known_named program section n OtherPrograms pid from new from_is says some = (names_it program section pid says some, from_is, names_alone program section pid says)
 known_named program section n (MapOn old start) pid from new from_is says some = absurd (new old start refl)
 
-pub known_other : (program : ℕ) (section : List ℕ) (n : ℕ) (known : Known) → ((old start : ℕ) → known ≡ MapOn old start → ⊥) → SaysPat program section (Ok None) → IsCurrent 0 section → IsKnownBehind program section n known OtherPrograms
+pub known_other : (program : ℕ) (section : List ℕ) (n : ℕ) (known : Known) → ((old start : ℕ) → known ≡ MapOn old start → ⊥) → SaysPat program section (Ok None) → IsCurrent 0 section →
+    IsKnownBehind program section n known OtherPrograms
 known_other program section n Nothing new says current = (names_none program section says, current)
 known_other program section n OtherPrograms new says current = names_none program section says
 known_other program section n (MapOn old start) new says current = absurd (new old start refl)
 
-pub known_same : (program : ℕ) (section : List ℕ) (n : ℕ) (known : Known) → ((old start : ℕ) → known ≡ MapOn old start → ⊥) → SaysPat program section (Ok None) → (IsCurrent 0 section → ⊥) → IsKnownBehind program section n known known
+pub known_same : (program : ℕ) (section : List ℕ) (n : ℕ) (known : Known) → ((old start : ℕ) → known ≡ MapOn old start → ⊥) → SaysPat program section (Ok None) →
+    (IsCurrent 0 section → ⊥) → IsKnownBehind program section n known known
 known_same program section n Nothing new says current = (names_none program section says, current)
 known_same program section n OtherPrograms new says current = names_none program section says
 known_same program section n (MapOn old start) new says current = absurd (new old start refl)

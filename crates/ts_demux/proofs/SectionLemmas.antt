@@ -16,7 +16,8 @@ use Rattle.ts_demux.specs.Tables.{payloads_in, sections_in}
 use Rattle.ts_demux.specs.Private.SectionReader.{Waits, added_by, ReadsNext}
 
 -- what was given and what waits are all sections
-pub all_given : (before : List Piece) (given waiting : List Found) (held : List Payload) → GivesInTurn (payloads_in before) given held → sections_of held ≡ waiting → sections_in before ≡ given ++ waiting
+pub all_given : (before : List Piece) (given waiting : List Found) (held : List Payload) → GivesInTurn (payloads_in before) given held → sections_of held ≡ waiting →
+    sections_in before ≡ given ++ waiting
 all_given before given waiting held in_turn waits =
     ap sections_of (sym (append-nil (payloads_in before))) ∙ in_turn.all [] ∙ ap (λ (ps : List Payload). given ++ sections_of ps) (append-nil held) ∙ ap (λ (fs : List Found). given ++ fs) waits
 
@@ -56,8 +57,10 @@ takes_nothing before piece reader after waits same behind builder = record {
   waiting_is = ap sections_of builder ∙ waits.waiting_is ∙ sym (ap (λ (ps : List Payload). drop (length (sections_in before)) (sections_of ps)) same ∙ drop_itself (sections_in before));
 }
 
-pub payloads_behind : (before : List Piece) (piece : Piece) (taken : Option Packet) → carried (before ++ piece ∷ []) ≡ carried before ++ carried_at piece.at taken → payloads_in (before ++ piece ∷ []) ≡ payloads_in before ++ map (λ (carried : CarriedPayload). carried.payload) (carried_at piece.at taken)
-payloads_behind before piece taken is = ap (map (λ (carried : CarriedPayload). carried.payload)) is ∙ map-append (λ (carried : CarriedPayload). carried.payload) (carried before) (carried_at piece.at taken)
+pub payloads_behind : (before : List Piece) (piece : Piece) (taken : Option Packet) → carried (before ++ piece ∷ []) ≡ carried before ++ carried_at piece.at taken →
+    payloads_in (before ++ piece ∷ []) ≡ payloads_in before ++ map (λ (carried : CarriedPayload). carried.payload) (carried_at piece.at taken)
+payloads_behind before piece taken is =
+    ap (map (λ (carried : CarriedPayload). carried.payload)) is ∙ map-append (λ (carried : CarriedPayload). carried.payload) (carried before) (carried_at piece.at taken)
 
 -- the first one that waits is read
 pub reads_next : (before : List Piece) (waiting : List Found) (result : Option (Result (ArrayVec ℕ) SectionFault)) (reader after : SectionReader) →
@@ -72,7 +75,13 @@ reads_next before waiting None reader after none same found law packets waits = 
 reads_next before waiting (Some read) reader after none same found law packets waits = (
   sections_of after.builder,
   sym waits.waiting_is ∙ ap sections_of (sym (append-nil reader.builder)) ∙ found [] ∙ ap (λ (ps : List Payload). found_of read ∷ sections_of ps) (append-nil after.builder),
-  record { packets = rw packets waits.packets; given = waits.given ++ found_of read ∷ []; in_turn = law (payloads_in before) waits.given reader.builder after.builder (found_of read) waits.in_turn found; waiting_is = refl },
+  record {
+    packets =
+        rw packets waits.packets;
+    given = waits.given ++ found_of read ∷ [];
+    in_turn = law (payloads_in before) waits.given reader.builder after.builder (found_of read) waits.in_turn found;
+    waiting_is = refl;
+  },
 )
 
 -- and fewer wait

@@ -77,7 +77,8 @@ filter_last f [] x = by_test (f x)
     by_test is = refl
 filter_last f (y ∷ xs) x = by_test (f y) (filter_last f xs x)
   where
-    by_test : (is : Bool) → filter f (xs ++ x ∷ []) ≡ filter f xs ++ cond (f x) (x ∷ []) [] → cond is (y ∷ filter f (xs ++ x ∷ [])) (filter f (xs ++ x ∷ [])) ≡ cond is (y ∷ filter f xs) (filter f xs) ++ cond (f x) (x ∷ []) []
+    by_test : (is : Bool) → filter f (xs ++ x ∷ []) ≡ filter f xs ++ cond (f x) (x ∷ []) [] →
+        cond is (y ∷ filter f (xs ++ x ∷ [])) (filter f (xs ++ x ∷ [])) ≡ cond is (y ∷ filter f xs) (filter f xs) ++ cond (f x) (x ∷ []) []
     by_test true same = ap (λ (ys : List ℕ). y ∷ ys) same
     by_test false same = same
 

@@ -23,7 +23,8 @@ unnamed_takes : (file : List ℕ) (program n r m j pid : ℕ) → IsUnnamed file
 unnamed_takes file program n r m j pid unnamed takes before = unnamed m j pid takes.found before takes.section takes.names
 
 -- a section of the PMT's PID, once that is known
-named_section : (file : List ℕ) (program n r pid from m k : ℕ) (found : Found) → (named : IsNamed file program n r pid from) → IsPmtSection file program m k found → IsSection file pid (pmt_from named.at pid) m k found
+named_section : (file : List ℕ) (program n r pid from m k : ℕ) (found : Found) → (named : IsNamed file program n r pid from) → IsPmtSection file program m k found →
+    IsSection file pid (pmt_from named.at pid) m k found
 named_section file program n r pid from m k found named is =
     let same = named.only is.packet is.index is.pid is.pat in
     subst (λ (p : ℕ). IsSection file pid (pmt_from p pid) m k found) same.0 (subst (λ (p : ℕ). IsSection file p (pmt_from is.packet p) m k found) same.2 is.section)
@@ -36,13 +37,15 @@ from_other at pid other = by_test (pid == pat_pid) refl
     by_test false is = refl
 
 -- the same on another PID than 0
-named_other : (file : List ℕ) (program n r pid from m k : ℕ) (found : Found) → (named : IsNamed file program n r pid from) → pid ≢ pat_pid → IsPmtSection file program m k found → IsSection file pid from m k found
+named_other : (file : List ℕ) (program n r pid from m k : ℕ) (found : Found) → (named : IsNamed file program n r pid from) → pid ≢ pat_pid → IsPmtSection file program m k found →
+    IsSection file pid from m k found
 named_other file program n r pid from m k found named other is =
     subst (λ (f : ℕ). IsSection file pid f m k found) (from_other named.at pid other ∙ sym named.from_is) (named_section file program n r pid from m k found named is)
 
 -- ---- the packet itself, before its sections
 
-pub first_pat : (file : List ℕ) (program n : ℕ) (stop : Stop) → sync_byte (piece_at file n) ≡ 0x47 → is_of_pid file pat_pid n ≡ true → pid_fault (pieces_of file pat_pid 0 n) (piece file n) ≡ None → StopsAt file program n 0 stop → ⊥
+pub first_pat : (file : List ℕ) (program n : ℕ) (stop : Stop) → sync_byte (piece_at file n) ≡ 0x47 → is_of_pid file pat_pid n ≡ true →
+    pid_fault (pieces_of file pat_pid 0 n) (piece file n) ≡ None → StopsAt file program n 0 stop → ⊥
 first_pat file program n stop sync of_pid passes (no_sync rank none is) = none.no_sync sync
 first_pat file program n stop sync of_pid passes (pat_packet fault rank has is) = let e : None ≡ Some fault = sym passes ∙ has.fault_is in absurd cc
 first_pat file program n stop sync of_pid passes (pmt_packet packet index pid fault rank takes other has is) = other (of_one file pid pat_pid n has.of_pid of_pid)
@@ -50,7 +53,8 @@ first_pat file program n stop sync of_pid passes (pat_section k found fault rank
 first_pat file program n stop sync of_pid passes (pmt_section k found fault rank is bad stop_is) = absurd (omega arith)
 first_pat file program n stop sync of_pid passes (map_section k found map rank is map_is stop_is) = absurd (omega arith)
 
-pub first_map : (file : List ℕ) (program n pid from : ℕ) (stop : Stop) → IsNamed file program n 0 pid from → sync_byte (piece_at file n) ≡ 0x47 → pid ≢ pat_pid → is_of_pid file pid n ≡ true → pid_fault (pieces_of file pid from n) (piece file n) ≡ None → StopsAt file program n 0 stop → ⊥
+pub first_map : (file : List ℕ) (program n pid from : ℕ) (stop : Stop) → IsNamed file program n 0 pid from → sync_byte (piece_at file n) ≡ 0x47 → pid ≢ pat_pid →
+    is_of_pid file pid n ≡ true → pid_fault (pieces_of file pid from n) (piece file n) ≡ None → StopsAt file program n 0 stop → ⊥
 first_map file program n pid from stop named sync other of_pid passes (no_sync rank none is) = none.no_sync sync
 first_map file program n pid from stop named sync other of_pid passes (pat_packet fault rank has is) = other (of_one file pid pat_pid n of_pid has.of_pid)
 first_map file program n pid from stop named sync other of_pid passes (pmt_packet packet index found fault rank takes not_zero has is) =
@@ -65,7 +69,8 @@ first_map file program n pid from stop named sync other of_pid passes (pmt_secti
 first_map file program n pid from stop named sync other of_pid passes (map_section k found map rank is map_is stop_is) = absurd (omega arith)
 
 -- a packet of another PID than the PMT's isn't looked at
-other_packet : (file : List ℕ) (program n packet index pid : ℕ) (fault : PidFault) (known : Known) → IsKnown file program n 0 known → ((map_pid from : ℕ) → known ≡ MapOn map_pid from → is_of_pid file map_pid n ≡ false) → TakesPat file program packet index pid → HasPidFault file pid (packet + 1) n fault → ⊥
+other_packet : (file : List ℕ) (program n packet index pid : ℕ) (fault : PidFault) (known : Known) → IsKnown file program n 0 known →
+    ((map_pid from : ℕ) → known ≡ MapOn map_pid from → is_of_pid file map_pid n ≡ false) → TakesPat file program packet index pid → HasPidFault file pid (packet + 1) n fault → ⊥
 other_packet file program n packet index pid fault Nothing is_known not_of takes has = unnamed_takes file program n 0 packet index pid is_known.0 takes (inl (omega (arith, has.behind)))
 other_packet file program n packet index pid fault OtherPrograms is_known not_of takes has = unnamed_takes file program n 0 packet index pid is_known.0 takes (inl (omega (arith, has.behind)))
 other_packet file program n packet index pid fault (MapOn map_pid from) is_known not_of takes has =
@@ -74,10 +79,12 @@ other_packet file program n packet index pid fault (MapOn map_pid from) is_known
     let is_not : is_of_pid file map_pid n ≡ false = not_of map_pid from refl in
     absurd cc
 
-pub first_other : (file : List ℕ) (program n : ℕ) (known : Known) (stop : Stop) → IsKnown file program n 0 known → sync_byte (piece_at file n) ≡ 0x47 → is_of_pid file pat_pid n ≡ false → ((map_pid from : ℕ) → known ≡ MapOn map_pid from → is_of_pid file map_pid n ≡ false) → StopsAt file program n 0 stop → ⊥
+pub first_other : (file : List ℕ) (program n : ℕ) (known : Known) (stop : Stop) → IsKnown file program n 0 known → sync_byte (piece_at file n) ≡ 0x47 → is_of_pid file pat_pid n ≡ false →
+    ((map_pid from : ℕ) → known ≡ MapOn map_pid from → is_of_pid file map_pid n ≡ false) → StopsAt file program n 0 stop → ⊥
 first_other file program n known stop is_known sync not_pat not_map (no_sync rank none is) = none.no_sync sync
 first_other file program n known stop is_known sync not_pat not_map (pat_packet fault rank has is) = let e : is_of_pid file pat_pid n ≡ true = has.of_pid in absurd cc
-first_other file program n known stop is_known sync not_pat not_map (pmt_packet packet index pid fault rank takes other has is) = other_packet file program n packet index pid fault known is_known not_map takes has
+first_other file program n known stop is_known sync not_pat not_map (pmt_packet packet index pid fault rank takes other has is) =
+    other_packet file program n packet index pid fault known is_known not_map takes has
 first_other file program n known stop is_known sync not_pat not_map (pat_section k found fault rank is bad stop_is) = absurd (omega arith)
 first_other file program n known stop is_known sync not_pat not_map (pmt_section k found fault rank is bad stop_is) = absurd (omega arith)
 first_other file program n known stop is_known sync not_pat not_map (map_section k found map rank is map_is stop_is) = absurd (omega arith)
@@ -88,18 +95,24 @@ same_place : (r s k : ℕ) → r ≡ k + 1 → r ≡ s + 1 → k ≡ s
 same_place r s k e f = omega arith
 
 -- as a section of the PMT's PID it is that section, and the PMT is on PID 0
-pmt_on_pat : (file : List ℕ) (program n k : ℕ) (known : Known) (found other : Found) → IsKnown file program n (k + 1) known → is_of_pid file pat_pid n ≡ true → IsSection file pat_pid 0 n k found → IsPmtSection file program n k other → (is_on_pat_pid known ≡ true) × (other ≡ found)
-pmt_on_pat file program n k Nothing found other known of_pid section is = absurd (unnamed_takes file program n (k + 1) is.packet is.index is.pid known.0 is.pat (before_rank is.packet is.index n k is.behind))
-pmt_on_pat file program n k OtherPrograms found other known of_pid section is = absurd (unnamed_takes file program n (k + 1) is.packet is.index is.pid known.0 is.pat (before_rank is.packet is.index n k is.behind))
+pmt_on_pat : (file : List ℕ) (program n k : ℕ) (known : Known) (found other : Found) → IsKnown file program n (k + 1) known → is_of_pid file pat_pid n ≡ true →
+    IsSection file pat_pid 0 n k found → IsPmtSection file program n k other → (is_on_pat_pid known ≡ true) × (other ≡ found)
+pmt_on_pat file program n k Nothing found other known of_pid section is =
+    absurd (unnamed_takes file program n (k + 1) is.packet is.index is.pid known.0 is.pat (before_rank is.packet is.index n k is.behind))
+pmt_on_pat file program n k OtherPrograms found other known of_pid section is =
+    absurd (unnamed_takes file program n (k + 1) is.packet is.index is.pid known.0 is.pat (before_rank is.packet is.index n k is.behind))
 pmt_on_pat file program n k (MapOn pid from) found other known of_pid section is = by_pid (pid == pat_pid) refl (named_section file program n (k + 1) pid from n k other known is)
   where
     by_pid : (on : Bool) → (pid == pat_pid) ≡ on → IsSection file pid (cond on 0 (known.at + 1)) n k other → (on ≡ true) × (other ≡ found)
-    by_pid true on there = let zero_is : pid ≡ pat_pid = grind (arith, nat_tests) in (refl, same_section file pat_pid 0 n k other found (subst (λ (p : ℕ). IsSection file p 0 n k other) zero_is there) section)
+    by_pid true on there =
+        let zero_is : pid ≡ pat_pid = grind (arith, nat_tests) in (refl, same_section file pat_pid 0 n k other found (subst (λ (p : ℕ). IsSection file p 0 n k other) zero_is there) section)
     by_pid false on there =
         let not_zero : pat_pid ≢ pid = grind (arith, nat_tests) in
         absurd (none_there file pid (known.at + 1) n k other (of_no_other file pat_pid pid n of_pid not_zero) there)
 
-pub pat_passes : (file : List ℕ) (program n k : ℕ) (known : Known) (found : Found) (stop : Stop) → IsKnown file program n (k + 1) known → is_of_pid file pat_pid n ≡ true → IsSection file pat_pid 0 n k found → ((fault : SectionFault) → IsBadPat found fault → ⊥) → (is_on_pat_pid known ≡ true → ((fault : SectionFault) → IsBadPmt found fault → ⊥) × ((map : ProgramMap) → IsMapOf program found map → ⊥)) → StopsAt file program n (k + 1) stop → ⊥
+pub pat_passes : (file : List ℕ) (program n k : ℕ) (known : Known) (found : Found) (stop : Stop) → IsKnown file program n (k + 1) known → is_of_pid file pat_pid n ≡ true →
+    IsSection file pat_pid 0 n k found → ((fault : SectionFault) → IsBadPat found fault → ⊥) →
+    (is_on_pat_pid known ≡ true → ((fault : SectionFault) → IsBadPmt found fault → ⊥) × ((map : ProgramMap) → IsMapOf program found map → ⊥)) → StopsAt file program n (k + 1) stop → ⊥
 pat_passes file program n k known found stop is_known of_pid section sound on_pat (no_sync rank none is) = absurd (omega arith)
 pat_passes file program n k known found stop is_known of_pid section sound on_pat (pat_packet fault rank has is) = absurd (omega arith)
 pat_passes file program n k known found stop is_known of_pid section sound on_pat (pmt_packet packet index pid fault rank takes other has is) = absurd (omega arith)
@@ -117,7 +130,8 @@ pat_passes file program n k known found stop is_known of_pid section sound on_pa
     (on_pat same.0).1 map (subst (λ (f : Found). IsMapOf program f map) same.1 map_is)
 
 -- where the PMT is on PID 0, a section of it is looked at behind the taken PAT section
-pub pat_pmt_section : (file : List ℕ) (program n k : ℕ) (known : Known) (found : Found) → IsKnown file program n (k + 1) known → is_on_pat_pid known ≡ true → IsSection file pat_pid 0 n k found → IsPmtSection file program n k found
+pub pat_pmt_section : (file : List ℕ) (program n k : ℕ) (known : Known) (found : Found) → IsKnown file program n (k + 1) known → is_on_pat_pid known ≡ true →
+    IsSection file pat_pid 0 n k found → IsPmtSection file program n k found
 pat_pmt_section file program n k Nothing found known on section = absurd cc
 pat_pmt_section file program n k OtherPrograms found known on section = absurd cc
 pat_pmt_section file program n k (MapOn pid from) found known on section =
@@ -133,11 +147,13 @@ pat_pmt_section file program n k (MapOn pid from) found known on section =
 
 -- ---- a section of the PMT's PID, which isn't PID 0
 
-pub map_passes : (file : List ℕ) (program n k pid from : ℕ) (found : Found) (stop : Stop) → IsNamed file program n (k + 1) pid from → pid ≢ pat_pid → is_of_pid file pid n ≡ true → IsSection file pid from n k found → ((fault : SectionFault) → IsBadPmt found fault → ⊥) → ((map : ProgramMap) → IsMapOf program found map → ⊥) → StopsAt file program n (k + 1) stop → ⊥
+pub map_passes : (file : List ℕ) (program n k pid from : ℕ) (found : Found) (stop : Stop) → IsNamed file program n (k + 1) pid from → pid ≢ pat_pid → is_of_pid file pid n ≡ true →
+    IsSection file pid from n k found → ((fault : SectionFault) → IsBadPmt found fault → ⊥) → ((map : ProgramMap) → IsMapOf program found map → ⊥) → StopsAt file program n (k + 1) stop → ⊥
 map_passes file program n k pid from found stop named other of_pid section sound no_map (no_sync rank none is) = absurd (omega arith)
 map_passes file program n k pid from found stop named other of_pid section sound no_map (pat_packet fault rank has is) = absurd (omega arith)
 map_passes file program n k pid from found stop named other of_pid section sound no_map (pmt_packet packet index p fault rank takes not_zero has is) = absurd (omega arith)
-map_passes file program n k pid from found stop named other of_pid section sound no_map (pat_section j read fault rank is bad stop_is) = none_there file pat_pid 0 n j read (of_no_other file pid pat_pid n of_pid other) is
+map_passes file program n k pid from found stop named other of_pid section sound no_map (pat_section j read fault rank is bad stop_is) =
+    none_there file pat_pid 0 n j read (of_no_other file pid pat_pid n of_pid other) is
 map_passes file program n k pid from found stop named other of_pid section sound no_map (pmt_section j read fault rank is bad stop_is) =
     let place : j ≡ k = omega arith in
     let there : IsSection file pid from n k read = subst (λ (i : ℕ). IsSection file pid from n i read) place (named_other file program n (k + 1) pid from n j read named other is) in
@@ -147,7 +163,8 @@ map_passes file program n k pid from found stop named other of_pid section sound
     let there : IsSection file pid from n k read = subst (λ (i : ℕ). IsSection file pid from n i read) place (named_other file program n (k + 1) pid from n j read named other is) in
     no_map map (subst (λ (f : Found). IsMapOf program f map) (same_section file pid from n k read found there section) map_is)
 
-pub map_pmt_section : (file : List ℕ) (program n k pid from : ℕ) (found : Found) → IsNamed file program n (k + 1) pid from → pid ≢ pat_pid → IsSection file pid from n k found → IsPmtSection file program n k found
+pub map_pmt_section : (file : List ℕ) (program n k pid from : ℕ) (found : Found) → IsNamed file program n (k + 1) pid from → pid ≢ pat_pid → IsSection file pid from n k found →
+    IsPmtSection file program n k found
 map_pmt_section file program n k pid from found named other section = record {
   packet = named.at;
   index = named.index;
@@ -160,12 +177,14 @@ map_pmt_section file program n k pid from found named other section = record {
 -- ---- what is known one section further
 
 named_later : (file : List ℕ) (program n r s pid from : ℕ) → r ≤ s → IsNamed file program n r pid from → IsNamed file program n s pid from
-named_later file program n r s pid from less named = record { at = named.at; index = named.index; takes = named.takes; before = later named.at (named.index + 1) n r s less named.before; from_is = named.from_is; only = named.only }
+named_later file program n r s pid from less named =
+    record { at = named.at; index = named.index; takes = named.takes; before = later named.at (named.index + 1) n r s less named.before; from_is = named.from_is; only = named.only }
 
 pub named_more : (file : List ℕ) (program n r pid from : ℕ) → IsNamed file program n r pid from → IsNamed file program n (r + 1) pid from
 named_more file program n r pid from named = named_later file program n r (r + 1) pid from (omega arith) named
 
-unnamed_more : (file : List ℕ) (program n k : ℕ) (section : List ℕ) → IsUnnamed file program n (k + 1) → IsSection file pat_pid 0 n k (Ok section) → NamesNone program section → IsUnnamed file program n (k + 1 + 1)
+unnamed_more : (file : List ℕ) (program n k : ℕ) (section : List ℕ) → IsUnnamed file program n (k + 1) → IsSection file pat_pid 0 n k (Ok section) → NamesNone program section →
+    IsUnnamed file program n (k + 1 + 1)
 unnamed_more file program n k section unnamed here none m j pid found before is names =
     elim (further m (j + 1) n (k + 1) before) [
       | inl less ↦ unnamed m j pid found less is names
@@ -189,7 +208,8 @@ has_pat : (file : List ℕ) (n k : ℕ) (section : List ℕ) → IsSection file 
 has_pat file n k section here current = record { packet = n; index = k; found = Ok section; section = here; current = current }
 
 -- the first section that names the program is taken
-named_now : (file : List ℕ) (program n k pid from : ℕ) (section : List ℕ) → IsUnnamed file program n (k + 1) → IsSection file pat_pid 0 n k (Ok section) → Names program (Ok section) pid → from ≡ n + 1 → ((other : ℕ) → Names program (Ok section) other → other ≡ pid) → IsNamed file program n (k + 1 + 1) pid from
+named_now : (file : List ℕ) (program n k pid from : ℕ) (section : List ℕ) → IsUnnamed file program n (k + 1) → IsSection file pat_pid 0 n k (Ok section) → Names program (Ok section) pid →
+    from ≡ n + 1 → ((other : ℕ) → Names program (Ok section) other → other ≡ pid) → IsNamed file program n (k + 1 + 1) pid from
 named_now file program n k pid from section unnamed here names from_is alone = record {
   at = n;
   index = k;
@@ -208,7 +228,8 @@ named_now file program n k pid from section unnamed here names from_is alone = r
       ];
 }
 
-pub known_more : (file : List ℕ) (program n k : ℕ) (section : List ℕ) (known after : Known) → IsKnown file program n (k + 1) known → IsSection file pat_pid 0 n k (Ok section) → IsKnownBehind program section n known after → IsKnown file program n (k + 1 + 1) after
+pub known_more : (file : List ℕ) (program n k : ℕ) (section : List ℕ) (known after : Known) → IsKnown file program n (k + 1) known → IsSection file pat_pid 0 n k (Ok section) →
+    IsKnownBehind program section n known after → IsKnown file program n (k + 1 + 1) after
 known_more file program n k section (MapOn pid from) after is here behind = subst (λ (a : Known). IsKnown file program n (k + 1 + 1) a) (sym behind) (named_more file program n (k + 1) pid from is)
 known_more file program n k section Nothing (MapOn pid from) is here behind = named_now file program n k pid from section is.0 here behind.0 behind.1 behind.2
 known_more file program n k section Nothing OtherPrograms is here behind = (unnamed_more file program n k section is.0 here behind.0, has_pat file n k section here behind.1)
@@ -231,7 +252,8 @@ first_known file program n (MapOn pid from) is = named_later file program n 0 1 
 
 -- ---- and one packet
 
-pub known_next : (file : List ℕ) (program n r : ℕ) (known : Known) → IsKnown file program n r known → ((j : ℕ) (found : Found) → r ≤ j + 1 → IsSection file pat_pid 0 n j found → ⊥) → IsKnown file program (n + 1) 0 known
+pub known_next : (file : List ℕ) (program n r : ℕ) (known : Known) → IsKnown file program n r known → ((j : ℕ) (found : Found) → r ≤ j + 1 → IsSection file pat_pid 0 n j found → ⊥) →
+    IsKnown file program (n + 1) 0 known
 known_next file program n r Nothing is none = (
   λ m j pid found before there names. elim (next_packet m (j + 1) n r before) [
     | inl less ↦ is.0 m j pid found less there names
@@ -249,7 +271,8 @@ known_next file program n r OtherPrograms is none = (
   ],
   is.1,
 )
-known_next file program n r (MapOn pid from) is none = record { at = is.at; index = is.index; takes = is.takes; before = inl (omega (arith, behind_before is.at (is.index + 1) n r is.before)); from_is = is.from_is; only = is.only }
+known_next file program n r (MapOn pid from) is none =
+    record { at = is.at; index = is.index; takes = is.takes; before = inl (omega (arith, behind_before is.at (is.index + 1) n r is.before)); from_is = is.from_is; only = is.only }
 
 -- ---- behind the last section of a packet nothing ends the reading
 
@@ -273,29 +296,39 @@ pat_ends file program n done j stop of_pid end less (pat_section k found fault r
 pat_ends file program n done j stop of_pid end less (pmt_section k found fault rank is bad stop_is) = pmt_ends file program n done k found of_pid end (omega arith) is
 pat_ends file program n done j stop of_pid end less (map_section k found map rank is map_is stop_is) = pmt_ends file program n done k found of_pid end (omega arith) is
 
-pub map_ends : (file : List ℕ) (program n done pid from j : ℕ) (stop : Stop) → IsNamed file program n (done + 1) pid from → pid ≢ pat_pid → is_of_pid file pid n ≡ true → drop done (sections_at file pid from n) ≡ [] → done + 1 ≤ j → StopsAt file program n j stop → ⊥
+pub map_ends : (file : List ℕ) (program n done pid from j : ℕ) (stop : Stop) → IsNamed file program n (done + 1) pid from → pid ≢ pat_pid → is_of_pid file pid n ≡ true →
+    drop done (sections_at file pid from n) ≡ [] → done + 1 ≤ j → StopsAt file program n j stop → ⊥
 map_ends file program n done pid from j stop named other of_pid end less (no_sync rank none is) = absurd (omega arith)
 map_ends file program n done pid from j stop named other of_pid end less (pat_packet fault rank has is) = absurd (omega arith)
 map_ends file program n done pid from j stop named other of_pid end less (pmt_packet packet index p fault rank takes not_zero has is) = absurd (omega arith)
-map_ends file program n done pid from j stop named other of_pid end less (pat_section k found fault rank is bad stop_is) = none_there file pat_pid 0 n k found (of_no_other file pid pat_pid n of_pid other) is
-map_ends file program n done pid from j stop named other of_pid end less (pmt_section k found fault rank is bad stop_is) = none_behind (sections_at file pid from n) done k found end (omega arith) (named_other file program n (done + 1) pid from n k found named other is).stands
-map_ends file program n done pid from j stop named other of_pid end less (map_section k found map rank is map_is stop_is) = none_behind (sections_at file pid from n) done k found end (omega arith) (named_other file program n (done + 1) pid from n k found named other is).stands
+map_ends file program n done pid from j stop named other of_pid end less (pat_section k found fault rank is bad stop_is) =
+    none_there file pat_pid 0 n k found (of_no_other file pid pat_pid n of_pid other) is
+map_ends file program n done pid from j stop named other of_pid end less (pmt_section k found fault rank is bad stop_is) =
+    none_behind (sections_at file pid from n) done k found end (omega arith) (named_other file program n (done + 1) pid from n k found named other is).stands
+map_ends file program n done pid from j stop named other of_pid end less (map_section k found map rank is map_is stop_is) =
+    none_behind (sections_at file pid from n) done k found end (omega arith) (named_other file program n (done + 1) pid from n k found named other is).stands
 
 -- before a PAT section is taken no section of a packet of another PID is a PMT section
-early : (file : List ℕ) (program n k packet index pid : ℕ) (found : Found) → IsUnnamed file program n 0 → is_of_pid file pat_pid n ≡ false → TakesPat file program packet index pid → IsBefore packet index n k → ⊥
+early : (file : List ℕ) (program n k packet index pid : ℕ) (found : Found) → IsUnnamed file program n 0 → is_of_pid file pat_pid n ≡ false → TakesPat file program packet index pid →
+    IsBefore packet index n k → ⊥
 early file program n k packet index pid found unnamed not_pat takes (inl before) = unnamed_takes file program n 0 packet index pid unnamed takes (inl before)
-early file program n k packet index pid found unnamed not_pat takes (inr (same, before)) = none_there file pat_pid 0 n index takes.found not_pat (subst (λ (m : ℕ). IsSection file pat_pid 0 m index takes.found) same takes.section)
+early file program n k packet index pid found unnamed not_pat takes (inr (same, before)) =
+    none_there file pat_pid 0 n index takes.found not_pat (subst (λ (m : ℕ). IsSection file pat_pid 0 m index takes.found) same takes.section)
 
 -- a packet that is of neither PID completes no section of them
-no_pmt : (file : List ℕ) (program n k : ℕ) (known : Known) (found : Found) → IsKnown file program n 0 known → is_of_pid file pat_pid n ≡ false → ((map_pid from : ℕ) → known ≡ MapOn map_pid from → is_of_pid file map_pid n ≡ false) → IsPmtSection file program n k found → ⊥
+no_pmt : (file : List ℕ) (program n k : ℕ) (known : Known) (found : Found) → IsKnown file program n 0 known → is_of_pid file pat_pid n ≡ false →
+    ((map_pid from : ℕ) → known ≡ MapOn map_pid from → is_of_pid file map_pid n ≡ false) → IsPmtSection file program n k found → ⊥
 no_pmt file program n k Nothing found known not_pat not_map is = early file program n k is.packet is.index is.pid found known.0 not_pat is.pat is.behind
 no_pmt file program n k OtherPrograms found known not_pat not_map is = early file program n k is.packet is.index is.pid found known.0 not_pat is.pat is.behind
-no_pmt file program n k (MapOn pid from) found known not_pat not_map is = none_there file pid (pmt_from known.at pid) n k found (not_map pid from refl) (named_section file program n 0 pid from n k found known is)
+no_pmt file program n k (MapOn pid from) found known not_pat not_map is =
+    none_there file pid (pmt_from known.at pid) n k found (not_map pid from refl) (named_section file program n 0 pid from n k found known is)
 
-pub other_ends : (file : List ℕ) (program n j : ℕ) (known : Known) (stop : Stop) → IsKnown file program n 0 known → sync_byte (piece_at file n) ≡ 0x47 → is_of_pid file pat_pid n ≡ false → ((map_pid from : ℕ) → known ≡ MapOn map_pid from → is_of_pid file map_pid n ≡ false) → StopsAt file program n j stop → ⊥
+pub other_ends : (file : List ℕ) (program n j : ℕ) (known : Known) (stop : Stop) → IsKnown file program n 0 known → sync_byte (piece_at file n) ≡ 0x47 → is_of_pid file pat_pid n ≡ false →
+    ((map_pid from : ℕ) → known ≡ MapOn map_pid from → is_of_pid file map_pid n ≡ false) → StopsAt file program n j stop → ⊥
 other_ends file program n j known stop is_known sync not_pat not_map (no_sync rank none is) = none.no_sync sync
 other_ends file program n j known stop is_known sync not_pat not_map (pat_packet fault rank has is) = let e : is_of_pid file pat_pid n ≡ true = has.of_pid in absurd cc
-other_ends file program n j known stop is_known sync not_pat not_map (pmt_packet packet index pid fault rank takes other has is) = other_packet file program n packet index pid fault known is_known not_map takes has
+other_ends file program n j known stop is_known sync not_pat not_map (pmt_packet packet index pid fault rank takes other has is) =
+    other_packet file program n packet index pid fault known is_known not_map takes has
 other_ends file program n j known stop is_known sync not_pat not_map (pat_section k found fault rank is bad stop_is) = none_there file pat_pid 0 n k found not_pat is
 other_ends file program n j known stop is_known sync not_pat not_map (pmt_section k found fault rank is bad stop_is) = no_pmt file program n k known found is_known not_pat not_map is
 other_ends file program n j known stop is_known sync not_pat not_map (map_section k found map rank is map_is stop_is) = no_pmt file program n k known found is_known not_pat not_map is
