@@ -24,7 +24,8 @@ count_places test (x ∷ xs) low zero inside early late fits =
       arith,
       sum_by-cons (λ y. cond (test y) 1 0) x xs,
       count_places test xs low zero
-          (λ k d within from before. absurd (omega arith)) (λ k d within before. late (suc k) d (omega arith) (omega arith)) (λ k d within from. late (suc k) d (omega arith) (omega arith)) (omega arith),
+          (λ k d within from before. absurd (omega arith)) (λ k d within before. late (suc k) d (omega arith) (omega arith)) (λ k d within from. late (suc k) d (omega arith)
+          (omega arith)) (omega arith),
     )
 count_places test (x ∷ xs) zero (suc high) inside early late fits =
     let own : cond (test x) 1 0 ≡ 1 = ap {B = ℕ} (λ b. cond b 1 0) (inside 0 x (omega arith) (omega arith) (omega arith)) in
@@ -32,7 +33,8 @@ count_places test (x ∷ xs) zero (suc high) inside early late fits =
       arith,
       sum_by-cons (λ y. cond (test y) 1 0) x xs,
       count_places test xs zero high
-          (λ k d within from before. inside (suc k) d (omega arith) (omega arith) (omega arith)) (λ k d within before. absurd (omega arith)) (λ k d within from. late (suc k) d (omega arith) (omega arith)) (omega arith),
+          (λ k d within from before. inside (suc k) d (omega arith) (omega arith) (omega arith)) (λ k d within before. absurd (omega arith)) (λ k d within from. late (suc k)
+          d (omega arith) (omega arith)) (omega arith),
     )
 count_places test (x ∷ xs) (suc low) (suc high) inside early late fits =
     let own : cond (test x) 1 0 ≡ 0 = ap {B = ℕ} (λ b. cond b 1 0) (early 0 x (omega arith) (omega arith)) in
@@ -40,7 +42,8 @@ count_places test (x ∷ xs) (suc low) (suc high) inside early late fits =
       arith,
       sum_by-cons (λ y. cond (test y) 1 0) x xs,
       count_places test xs low high
-          (λ k d within from before. inside (suc k) d (omega arith) (omega arith) (omega arith)) (λ k d within before. early (suc k) d (omega arith) (omega arith)) (λ k d within from. late (suc k) d (omega arith) (omega arith)) (omega arith),
+          (λ k d within from before. inside (suc k) d (omega arith) (omega arith) (omega arith)) (λ k d within before. early (suc k) d (omega arith) (omega arith)) (λ k d
+          within from. late (suc k) d (omega arith) (omega arith)) (omega arith),
     )
 
 pub audio_within-is : (from due : ℕ) (packets : List AudioPacket) (before by : ℕ) → SplitsBefore from packets before → SplitsBy due packets by → audio_within from due packets ≡ by - before

@@ -127,7 +127,8 @@ row_parts from due first (Reserved sent) = omega arith
 row_parts from due first Empty = omega arith
 row_parts from due first (Carries stream packet) =
     let within = is_within from due packet.due in
-    elim (cases_eq stream first) as (λ _. due_in from due (packet_of first (Carries stream packet)) + cond (due_from from due (first + 1) (Carries stream packet)) 1 0 ≤ cond (due_from from due first (Carries stream packet)) 1 0) [
+    elim (cases_eq stream first) as (λ _. due_in from due (packet_of first (Carries stream packet)) + cond (due_from from due (first + 1) (Carries stream packet)) 1 0 ≤ cond
+    (due_from from due first (Carries stream packet)) 1 0) [
       | inl same ↦
           rw (packet_of-carried first stream packet same, lt-leb (first + 1) stream (omega arith), le-leb first stream (omega arith)) (omega arith)
       | inr apart ↦ rw (packet_of-other first stream packet apart)
@@ -191,7 +192,8 @@ all_sent : (table : Table) (choice : List ℕ) (rows : List Row) → FollowRule 
     → (stream : ℕ) (queue : Queue) → slice_get (queues_of table choice) stream ≡ Some queue → queue.packets ≡ packets_sent stream rows
 all_sent table choice rows follows sent stream queue got =
     let first = FollowRule-sent table choice stream queue.kind queue.packets got rows follows in
-    let long : length queue.packets ≤ count_by (is_of stream) rows = elim (slice_get_cases queue.packets (count_by (is_of stream) rows)).1 as (λ _. length queue.packets ≤ count_by (is_of stream) rows) [
+    let long : length queue.packets ≤ count_by (is_of stream) rows = elim (slice_get_cases queue.packets (count_by (is_of stream) rows)).1 as (λ _. length queue.packets ≤
+    count_by (is_of stream) rows) [
       | inl at ↦ absurd (sent stream queue.kind at.0 (queue.packets, got, at.2))
       | inr past ↦ past.0
     ] in

@@ -144,7 +144,8 @@ unfolding worth
 charged-le-worth table chosen fit [] = omega (arith, ints, charged-none chosen)
 charged-le-worth table chosen fit (window ∷ windows) =
     let packets = sum_by (packets_due window.from window.due) chosen in
-    let here : pos (window.lambda * packets) ≤ℤ (pos window.lambda *ℤ room table window.from window.due) = room-at_least table window.from window.due window.lambda packets (fit window.from window.due) in
+    let here : pos (window.lambda * packets) ≤ℤ (pos window.lambda *ℤ room table window.from window.due) = room-at_least table window.from window.due window.lambda packets
+    (fit window.from window.due) in
     let others : pos (sum_by (charged windows) chosen) ≤ℤ worth table windows = charged-le-worth table chosen fit windows in
     let whole = worth-more table window windows in
     omega (arith, ints, charged-more window windows chosen)

@@ -39,7 +39,8 @@ least-is n numbers = elim (fold-min-is n numbers) as (λ _. (k : ℕ) × (k < su
 cost_steps : (p : ℕ) (version : Version) → cost p version + cost (suc (suc p)) version ≡ cost (suc p) version + cost (suc p) version
 cost_steps p version = omega (arith, mul-suc (packets_of version) p, mul-suc (packets_of version) (suc p))
 
-least-concave : (p : ℕ) (versions : List Version) → least (map (cost p) versions) + least (map (cost (suc (suc p))) versions) ≤ least (map (cost (suc p)) versions) + least (map (cost (suc p)) versions)
+least-concave : (p : ℕ) (versions : List Version) → least (map (cost p) versions) + least (map (cost (suc (suc p))) versions) ≤ least (map (cost (suc p)) versions) + least
+    (map (cost (suc p)) versions)
 least-concave p [] = omega arith
 least-concave p (first ∷ rest) =
     let versions = first ∷ rest in
@@ -119,7 +120,11 @@ value-concave table fixed from due k others =
 
 pub rises_fall : (table : Table) (fixed : List (Option ℕ)) (from due lambda : ℕ) (others : List Window)
     → (value_of_windows table fixed (record { from = from; due = due; lambda = lambda } ∷ others) +ℤ value_of_windows table fixed (record { from = from; due = due; lambda = lambda + 2 } ∷ others))
-    ≤ℤ (value_of_windows table fixed (record { from = from; due = due; lambda = lambda + 1 } ∷ others) +ℤ value_of_windows table fixed (record { from = from; due = due; lambda = lambda + 1 } ∷ others))
+    ≤ℤ (value_of_windows table fixed (record { from = from; due = due; lambda = lambda + 1 } ∷ others) +ℤ value_of_windows table fixed (record {
+      from = from;
+      due = due;
+      lambda = lambda + 1;
+    } ∷ others))
 rises_fall table fixed from due lambda others =
     let value : ℕ → ℤ = λ n. value_of_windows table fixed (with from due others n) in
     let one_more : lambda + 1 ≡ suc lambda = omega arith in

@@ -25,10 +25,11 @@ free_place programs offset =
       | inl first ↦ ap is_none (cond-true (eqb offset 0) (Some Pat) pmt (eq-eqb offset 0 first)) ∙ sym (le-ltb (2 * programs) offset (omega arith))
       | inr later ↦ ap is_none (cond-false (eqb offset 0) (Some Pat) pmt (ne_eqb offset 0 later)) ∙ elim (cases_lt programs offset) as (λ _. is_none pmt ≡ ltb (2 * programs) offset) [
         | inr of_pmt ↦ ap is_none (cond-true (leb offset programs) (Some (Pmt (offset - 1))) pcr (le-leb offset programs of_pmt)) ∙ sym (le-ltb (2 * programs) offset (omega arith))
-        | inl past ↦ ap is_none (cond-false (leb offset programs) (Some (Pmt (offset - 1))) pcr (lt-leb offset programs past)) ∙ elim (cases_lt (2 * programs) offset) as (λ _. is_none pcr ≡ ltb (2 * programs) offset) [
-          | inr of_pcr ↦ ap is_none (cond-true (leb offset (2 * programs)) (Some (Pcr (offset - programs - 1))) None (le-leb offset (2 * programs) of_pcr)) ∙ sym (le-ltb (2 * programs) offset of_pcr)
-          | inl free ↦ ap is_none (cond-false (leb offset (2 * programs)) (Some (Pcr (offset - programs - 1))) None (lt-leb offset (2 * programs) free)) ∙ sym (lt-ltb (2 * programs) offset free)
-        ]
+        | inl past ↦ ap is_none (cond-false (leb offset programs) (Some (Pmt (offset - 1))) pcr (lt-leb offset programs past)) ∙ elim (cases_lt (2 * programs) offset) as (λ
+            _. is_none pcr ≡ ltb (2 * programs) offset) [
+              | inr of_pcr ↦ ap is_none (cond-true (leb offset (2 * programs)) (Some (Pcr (offset - programs - 1))) None (le-leb offset (2 * programs) of_pcr)) ∙ sym (le-ltb (2 * programs) offset of_pcr)
+              | inl free ↦ ap is_none (cond-false (leb offset (2 * programs)) (Some (Pcr (offset - programs - 1))) None (lt-leb offset (2 * programs) free)) ∙ sym (lt-ltb (2 * programs) offset free)
+            ]
       ]
     ]
 

@@ -133,7 +133,13 @@ least_cost-fits windows slot unit None charging valid names =
     let some : 0 < length unit.versions.items = omega (arith, valid.some_version) in
     let at : get_or (map own unit.versions.items) 0 0 ≡ own (get_or unit.versions.items 0 none) = get_or-map own unit.versions.items 0 none 0 some in
     let size : length (map own unit.versions.items) ≡ length unit.versions.items = length-map unit.versions.items own in
-    omega (arith, at, least-le (map own unit.versions.items) 0 (omega arith), cost-le (price windows unit.due) (get_or unit.versions.items 0 none) (price-le windows unit.due charging) (valid.versions 0 none some))
+    omega (
+      arith,
+      at,
+      least-le (map own unit.versions.items) 0 (omega arith),
+      cost-le (price windows unit.due) (get_or unit.versions.items 0 none) (price-le windows unit.due
+          charging) (valid.versions 0 none some),
+    )
 least_cost-fits windows slot unit (Some k) charging valid names =
     let none : Version = record { bytes = 0; distortion = 0 } in
     cost-le (price windows unit.due) (version_at unit k) (price-le windows unit.due charging) (valid.versions k none names)

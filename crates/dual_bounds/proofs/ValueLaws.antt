@@ -99,7 +99,13 @@ pub any_order : (table : Table) (fixed : List (Option ℕ)) (before : List Windo
 unfolding price
 any_order table fixed before window after =
     value-same table fixed (before ++ window ∷ after) (window ∷ (before ++ after))
-    (λ time. omega (arith, sum_by-append (charge time) before (window ∷ after), sum_by-cons (charge time) window after, sum_by-cons (charge time) window (before ++ after), sum_by-append (charge time) before after))
+    (λ time. omega (
+      arith,
+      sum_by-append (charge time) before (window ∷ after),
+      sum_by-cons (charge time) window after,
+      sum_by-cons (charge time) window (before ++ after),
+      sum_by-append (charge time) before after,
+    ))
     (worth_moved table before window after)
 
 charge_of_none : (time from due : ℕ) → charge time (record { from = from; due = due; lambda = 0 }) ≡ 0

@@ -34,5 +34,6 @@ loop-packets-preserved c =
 
 pub returns : goal.returns
 returns c =
-    let rest = ap (λ (left : List (List AudioPacket)). audio_within c.args.from c.args.due (flat_map (λ packets. packets) left)) (drop_all c.loop-packets.packets-index c.args.audios.now c.loop-packets-test.false) in
+    let rest = ap (λ (left : List (List AudioPacket)). audio_within c.args.from c.args.due (flat_map (λ packets. packets) left)) (drop_all c.loop-packets.packets-index
+    c.args.audios.now c.loop-packets-test.false) in
     omega (arith, rest, audio_within-nil c.args.from c.args.due)

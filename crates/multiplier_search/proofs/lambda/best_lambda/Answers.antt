@@ -10,7 +10,11 @@ loop-low-preserved-then-value_at c =
     let table = c.args.table.now in
     let fixed = c.args.fixed.now in
     let middle = c.loop-low.low + (c.loop-low.high - c.loop-low.low) / 2 in
-    let rise : value_at table fixed c.args.from c.args.due middle <ℤ value_at table fixed c.args.from c.args.due (middle + 1) = rw (← c.value_at.ensures, ← c.value_at-in-loop-low.ensures) (grind (arith, ints)) in
+    let rise : value_at table fixed c.args.from c.args.due middle <ℤ value_at table fixed c.args.from c.args.due (middle + 1) = rw (
+      ← c.value_at.ensures,
+      ←
+          c.value_at-in-loop-low.ensures,
+    ) (grind (arith, ints)) in
     record {
       order = omega arith;
       most = c.loop-low.invariant.most;
