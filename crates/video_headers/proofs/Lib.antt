@@ -6,3 +6,4 @@ pub mod Repeats
 pub mod Rules
 pub mod ToldFields
 pub mod Zigzag
+pub mod WholeBytes

@@ -15,6 +15,7 @@ mod picture;
 mod repeated;
 mod sequence;
 mod why;
+mod zeros;
 
 pub use fault::HeadFault;
 
