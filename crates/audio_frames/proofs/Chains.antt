@@ -12,7 +12,8 @@ use Rattle.audio_frames.specs.Private.Places.{AreApart, break_at, IsBroken}
 use Rattle.audio_frames.proofs.Formats.{rest_from, no_rest_at_frame, first_is_frame, frame_header}
 use Rattle.audio_frames.proofs.Places.{found_passes}
 
-pub frames_more : (payload : List ℕ) (first from : ℕ) (places : List ℕ) (at : ℕ) → AreFrames payload first from places at → is_audio_frame payload first at ≡ true → AreFrames payload first from (places ++ at ∷ []) (end_of payload at)
+pub frames_more : (payload : List ℕ) (first from : ℕ) (places : List ℕ) (at : ℕ) → AreFrames payload first from places at
+    → is_audio_frame payload first at ≡ true → AreFrames payload first from (places ++ at ∷ []) (end_of payload at)
 frames_more payload first from [] at before here = (before, here, refl)
 frames_more payload first from (place ∷ places) at before here = (before.0, before.1, frames_more payload first (end_of payload place) places at before.2 here)
 
@@ -41,7 +42,8 @@ apart_more places at end apart far =
     }
 
 -- where nothing breaks off behind the last whole frame, they are all frames
-pub all_frames : (payload places : List ℕ) (first end : ℕ) → first_frame payload ≡ Some first → AreFrames payload first first places end → is_audio_frame payload first end ≡ false → break_at payload first end ≡ None → AreAllFrames payload places
+pub all_frames : (payload places : List ℕ) (first end : ℕ) → first_frame payload ≡ Some first → AreFrames payload first first places end
+    → is_audio_frame payload first end ≡ false → break_at payload first end ≡ None → AreAllFrames payload places
 all_frames payload places first end begun frames no_frame no_break =
     record {
       end = end;
@@ -49,7 +51,9 @@ all_frames payload places first end begun frames no_frame no_break =
       rest = by_test (is_near_end payload end || goes_on payload first end) refl no_break;
     }
   where
-    by_test : (on : Bool) → (is_near_end payload end || goes_on payload first end) ≡ on → cond on None (cond (syncword (drop end payload) == 0xFFF) (Some (NotLayer2 end)) (Some (AudioSync end))) ≡ None → is_rest payload first end ≡ true
+    by_test : (on : Bool) → (is_near_end payload end || goes_on payload first end) ≡ on
+        → cond on None (cond (syncword (drop end payload) == 0xFFF) (Some (NotLayer2 end)) (Some (AudioSync end))) ≡ None
+        → is_rest payload first end ≡ true
     by_test true on is = rest_from (is_near_end payload end) (goes_on payload first end) (end_of payload end) (length payload) on no_frame
     by_test false on is = by_sync (syncword (drop end payload) == 0xFFF) is
       where
@@ -61,14 +65,17 @@ some_same : (a b : AudioFault) → Some a ≡ Some b → a ≡ b
 some_same a b is = cc
 
 -- a fault behind the last whole frame breaks them off
-pub broken_there : (payload places : List ℕ) (first end : ℕ) (fault : AudioFault) → first_frame payload ≡ Some first → AreFrames payload first first places end → break_at payload first end ≡ Some fault → IsBroken payload fault
+pub broken_there : (payload places : List ℕ) (first end : ℕ) (fault : AudioFault) → first_frame payload ≡ Some first
+    → AreFrames payload first first places end → break_at payload first end ≡ Some fault → IsBroken payload fault
 broken_there payload places first end fault begun frames = by_test (is_near_end payload end || goes_on payload first end) refl
   where
     broken : (sync : Bool) → (is_near_end payload end || goes_on payload first end) ≡ false → (syncword (drop end payload) == 0xFFF) ≡ sync → BreaksAt payload end sync
     broken sync on is = (let parts : (is_near_end payload end ≡ false) × (goes_on payload first end ≡ false) = or_parts _ _ on in
         record { places = places; before = record { first = first; begun = begun; frames = frames }; long = parts.0; other = parts.1; sync = is })
 
-    by_test : (on : Bool) → (is_near_end payload end || goes_on payload first end) ≡ on → cond on None (cond (syncword (drop end payload) == 0xFFF) (Some (NotLayer2 end)) (Some (AudioSync end))) ≡ Some fault → IsBroken payload fault
+    by_test : (on : Bool) → (is_near_end payload end || goes_on payload first end) ≡ on
+        → cond on None (cond (syncword (drop end payload) == 0xFFF) (Some (NotLayer2 end)) (Some (AudioSync end))) ≡ Some fault
+        → IsBroken payload fault
     by_test true on is = absurd (cc)
     by_test false on is = by_sync (syncword (drop end payload) == 0xFFF) refl is
       where
@@ -77,7 +84,8 @@ broken_there payload places first end fault begun frames = by_test (is_near_end 
         by_sync false stands is = subst (IsBroken payload) (some_same _ _ is) (broken false on stands)
 
 -- what the end of a frame says of it
-pub frame_found : (payload : List ℕ) (first at end : ℕ) → Some end ≡ cond (is_audio_frame payload first at) (Some (end_of payload at)) None → (is_audio_frame payload first at ≡ true) × (end ≡ end_of payload at)
+pub frame_found : (payload : List ℕ) (first at end : ℕ) → Some end ≡ cond (is_audio_frame payload first at) (Some (end_of payload at)) None
+    → (is_audio_frame payload first at ≡ true) × (end ≡ end_of payload at)
 frame_found payload first at end = by_test (is_audio_frame payload first at)
   where
     by_test : (is : Bool) → Some end ≡ cond is (Some (end_of payload at)) None → (is ≡ true) × (end ≡ end_of payload at)
@@ -99,5 +107,7 @@ pub some_frame : (payload places : List ℕ) → AreAllFrames payload places →
 some_frame payload places all = by_places places all.all.frames
   where
     by_places : (places : List ℕ) → AreFrames payload all.all.first all.all.first places all.end → (0 < length places) × (has_header payload (slice_index places 0) ≡ true)
-    by_places [] frames = absurd (no_rest_at_frame payload all.all.first (subst (λ (end : ℕ). is_rest payload all.all.first end ≡ true) (sym frames) all.rest) (first_is_frame payload all.all.first (found_passes (is_first payload) (length payload) 0 all.all.first all.all.begun).0))
+    by_places [] frames = absurd (no_rest_at_frame payload all.all.first
+        (subst (λ (end : ℕ). is_rest payload all.all.first end ≡ true) (sym frames) all.rest)
+        (first_is_frame payload all.all.first (found_passes (is_first payload) (length payload) 0 all.all.first all.all.begun).0))
     by_places (place ∷ places) frames = (omega arith, frame_header payload all.all.first place frames.1)

@@ -1,5 +1,36 @@
 -- The clock from one frame to the next.
-use Rattle.std.proofs.Common.{◌≡◌, ℕ, zero, suc, ◌+◌, ◌-◌, ◌^◌, ◌<◌, ◌≤◌, true, nat_lt, List, length, get_or, Some, None, refl, sym, subst, ◌∙◌, arith, to_z, of_z, w64, ℤ, pos, neg_ℤ, ◌+ℤ◌, ◌*ℤ◌, ◌≤ℤ◌}
+use Rattle.std.proofs.Common.{
+  ◌≡◌,
+  ℕ,
+  zero,
+  suc,
+  ◌+◌,
+  ◌-◌,
+  ◌^◌,
+  ◌<◌,
+  ◌≤◌,
+  true,
+  nat_lt,
+  List,
+  length,
+  get_or,
+  Some,
+  None,
+  refl,
+  sym,
+  subst,
+  ◌∙◌,
+  arith,
+  to_z,
+  of_z,
+  w64,
+  ℤ,
+  pos,
+  neg_ℤ,
+  ◌+ℤ◌,
+  ◌*ℤ◌,
+  ◌≤ℤ◌,
+}
 use Rattle.std.specs.Prelude.{slice_index}
 use Rattle.std.proofs.lemmas.List.{get_or-map}
 use Rattle.std.proofs.lemmas.Int.{ints}
@@ -25,7 +56,8 @@ pub record IsClockOf (clock : Clock) (packets : ℕ) (given : ℤ) (ago : ℕ) :
   pub low : neg_ℤ (pos (2 ^ 54)) ≤ℤ given
   pub high : given ≤ℤ pos (2 ^ 54)
 
-pub clock_at : (starts : List PesStart) (places : List ℕ) (j packets ago : ℕ) (given : ℤ) (clock : Clock) → IsClockOf clock packets given ago → IsCountUpTo starts (slice_index places j) packets → 0 < packets → IsLastGiven starts places j given ago → IsClockAt starts places j clock
+pub clock_at : (starts : List PesStart) (places : List ℕ) (j packets ago : ℕ) (given : ℤ) (clock : Clock) → IsClockOf clock packets given ago
+    → IsCountUpTo starts (slice_index places j) packets → 0 < packets → IsLastGiven starts places j given ago → IsClockAt starts places j clock
 clock_at starts places j packets ago given clock is counted some last = record {
   counted = rw is.packets_are counted;
   some = rw is.packets_are some;
@@ -37,7 +69,8 @@ clock_at starts places j packets ago given clock is counted some last = record {
 }
 
 -- at the first frame
-pub first_between : (starts : List PesStart) (places : List ℕ) (packets : ℕ) → IsCountUpTo starts (slice_index places 0) packets → 0 < packets → given_time starts places 0 ≡ time_between starts 0 packets
+pub first_between : (starts : List PesStart) (places : List ℕ) (packets : ℕ) → IsCountUpTo starts (slice_index places 0) packets → 0 < packets
+    → given_time starts places 0 ≡ time_between starts 0 packets
 first_between starts places packets counted some =
     let n = packets - 1 in
     let count : packets ≡ suc n = omega arith in
@@ -50,11 +83,15 @@ pub some_packet : (starts : List PesStart) (at packets : ℕ) → 0 < length sta
 some_packet starts at zero some first counted = absurd (omega (arith, first, counted.behind 0 (omega arith) some))
 some_packet starts at (suc n) some first counted = omega arith
 
-pub next_given : (starts : List PesStart) (places : List ℕ) (j up_to : ℕ) (clock : Clock) (given : ℤ) → IsClockAt starts places j clock → IsCountUpTo starts (slice_index places (j + 1)) up_to → clock.packets ≤ up_to → Some given ≡ time_between starts clock.packets up_to → IsLastGiven starts places (j + 1) given 0
+pub next_given : (starts : List PesStart) (places : List ℕ) (j up_to : ℕ) (clock : Clock) (given : ℤ) → IsClockAt starts places j clock
+    → IsCountUpTo starts (slice_index places (j + 1)) up_to → clock.packets ≤ up_to → Some given ≡ time_between starts clock.packets up_to
+    → IsLastGiven starts places (j + 1) given 0
 next_given starts places j up_to clock given at counted le is =
     given_here starts places (j + 1) given (given_is starts places j clock.packets up_to nowhere at.counted counted le at.some ∙ sym is)
 
-pub next_kept : (starts : List PesStart) (places : List ℕ) (j up_to : ℕ) (clock : Clock) → IsClockAt starts places j clock → IsCountUpTo starts (slice_index places (j + 1)) up_to → clock.packets ≤ up_to → None ≡ time_between starts clock.packets up_to → IsLastGiven starts places (j + 1) clock.given (clock.ago + 1)
+pub next_kept : (starts : List PesStart) (places : List ℕ) (j up_to : ℕ) (clock : Clock) → IsClockAt starts places j clock
+    → IsCountUpTo starts (slice_index places (j + 1)) up_to → clock.packets ≤ up_to → None ≡ time_between starts clock.packets up_to
+    → IsLastGiven starts places (j + 1) clock.given (clock.ago + 1)
 next_kept starts places j up_to clock at counted le is =
     given_kept starts places j clock.given clock.ago at.last (given_is starts places j clock.packets up_to nowhere at.counted counted le at.some ∙ sym is)
 

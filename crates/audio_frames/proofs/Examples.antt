@@ -24,7 +24,9 @@ unfolding bit bits
 header_24 = (refl, refl, refl)
 
 -- three bytes are none; nor are Layer III, free format, bit rate index 15 and sampling index 3
-no_headers : (is_header (0xFF ∷ 0xFD ∷ 0xA4 ∷ []) ≡ false) × (is_header (0xFF ∷ 0xFB ∷ 0xA4 ∷ 0x00 ∷ []) ≡ false) × (is_header (0xFF ∷ 0xFD ∷ 0x04 ∷ 0x00 ∷ []) ≡ false) × (is_header (0xFF ∷ 0xFD ∷ 0xF4 ∷ 0x00 ∷ []) ≡ false) × (is_header (0xFF ∷ 0xFD ∷ 0xAC ∷ 0x00 ∷ []) ≡ false)
+no_headers : (is_header (0xFF ∷ 0xFD ∷ 0xA4 ∷ []) ≡ false) × (is_header (0xFF ∷ 0xFB ∷ 0xA4 ∷ 0x00 ∷ []) ≡ false)
+    × (is_header (0xFF ∷ 0xFD ∷ 0x04 ∷ 0x00 ∷ []) ≡ false) × (is_header (0xFF ∷ 0xFD ∷ 0xF4 ∷ 0x00 ∷ []) ≡ false)
+    × (is_header (0xFF ∷ 0xFD ∷ 0xAC ∷ 0x00 ∷ []) ≡ false)
 unfolding bit bits
 no_headers = (refl, refl, refl, refl, refl)
 
@@ -64,7 +66,8 @@ abbrev starts : Option ℕ → List PesStart
 starts None = record { at = 0; time = Some (pos 90000) } ∷ record { at = 20; time = None } ∷ []
 starts (Some time) = record { at = 0; time = Some (pos 90000) } ∷ record { at = 20; time = Some (pos time) } ∷ []
 
-given : (given_time (starts (Some 94321)) (2 ∷ 50 ∷ []) 0 ≡ Some (pos 90000)) × (given_time (starts (Some 94321)) (2 ∷ 50 ∷ []) 1 ≡ Some (pos 94321)) × (given_time (starts None) (2 ∷ 50 ∷ []) 1 ≡ None)
+given : (given_time (starts (Some 94321)) (2 ∷ 50 ∷ []) 0 ≡ Some (pos 90000)) × (given_time (starts (Some 94321)) (2 ∷ 50 ∷ []) 1 ≡ Some (pos 94321))
+    × (given_time (starts None) (2 ∷ 50 ∷ []) 1 ≡ None)
 given = (refl, refl, refl)
 
 -- of two frames that begin in one packet the second is given none

@@ -1,5 +1,36 @@
 -- What is kept of a header, against the header.
-use Rattle.std.proofs.Common.{◌≡◌, ℕ, ◌+◌, ◌-◌, ◌<◌, ◌≤◌, ◌==◌, nat_le, nat_lt, Bool, true, false, cond, ◌⊎◌, ◌&&◌, ◌||◌, List, length, drop, Some, None, refl, sym, ap, ◌∙◌, arith, take, length-drop, inl, inr}
+use Rattle.std.proofs.Common.{
+  ◌≡◌,
+  ℕ,
+  ◌+◌,
+  ◌-◌,
+  ◌<◌,
+  ◌≤◌,
+  ◌==◌,
+  nat_le,
+  nat_lt,
+  Bool,
+  true,
+  false,
+  cond,
+  ◌⊎◌,
+  ◌&&◌,
+  ◌||◌,
+  List,
+  length,
+  drop,
+  Some,
+  None,
+  refl,
+  sym,
+  ap,
+  ◌∙◌,
+  arith,
+  take,
+  length-drop,
+  inl,
+  inr,
+}
 use Rattle.std.specs.Prelude.{slice_index}
 use Rattle.std.proofs.lemmas.List.{take_all}
 use Rattle.std.proofs.lemmas.Bool.{and_parts, and_from, and_left, and_right, leb-true, lt-leb, le-leb, leb-false, le-ltb, both_ways, or_from, lt-ltb, eq-eqb}
@@ -26,7 +57,8 @@ kept_id bytes header = by_test (is_header bytes)
 pub kept_index : (bytes : List ℕ) (header : FrameHeader) → header_of bytes ≡ Some header → header.sampling_index ≡ sampling_index bytes
 kept_index bytes header = by_test (is_header bytes)
   where
-    by_test : (test : Bool) → cond test (Some (record { id = id bytes; sampling_index = sampling_index bytes; len = frame_length bytes })) None ≡ Some header → header.sampling_index ≡ sampling_index bytes
+    by_test : (test : Bool) → cond test (Some (record { id = id bytes; sampling_index = sampling_index bytes; len = frame_length bytes })) None
+        ≡ Some header → header.sampling_index ≡ sampling_index bytes
     by_test true is = cc
     by_test false is = absurd (cc)
 
@@ -77,7 +109,9 @@ rest_from false true end size is cut = lt-ltb size end (leb-false end size cut)
 rest_from false false end size is cut = absurd (cc)
 
 -- another format, or an end behind the payload's, is no frame
-pub no_like_frame : (payload : List ℕ) (first at : ℕ) (header next : FrameHeader) → header_of (drop first payload) ≡ Some header → header_of (drop at payload) ≡ Some next → ((header.id == next.id) && (header.sampling_index == next.sampling_index)) ≡ false → is_audio_frame payload first at ≡ false
+pub no_like_frame : (payload : List ℕ) (first at : ℕ) (header next : FrameHeader) → header_of (drop first payload) ≡ Some header
+    → header_of (drop at payload) ≡ Some next → ((header.id == next.id) && (header.sampling_index == next.sampling_index)) ≡ false
+    → is_audio_frame payload first at ≡ false
 no_like_frame payload first at header next is stands other =
     let differ : is_same_format (drop first payload) (drop at payload) ≡ false =
     ap (λ (b : ℕ). (id (drop first payload) == b) && (sampling_index (drop first payload) == sampling_index (drop at payload))) (sym (kept_id (drop at payload) next stands))
@@ -113,7 +147,8 @@ no_rest_at_frame payload at rest frame =
     let long : at + 4 ≤ length payload = header_long payload at (goes_on_header payload at at parts.0) in
     let far : is_near_end payload at ≡ false = le-ltb (length payload) (at + 4) long in
     let whole : nat_lt (length payload) (end_of payload at) ≡ false = le-ltb (length payload) (end_of payload at) (leb-true (end_of payload at) (length payload) parts.1) in
-    both_ways (is_rest payload at at) (or_from (is_near_end payload at) (goes_on payload at at && nat_lt (length payload) (end_of payload at)) far (and_right (goes_on payload at at) (nat_lt (length payload) (end_of payload at)) whole)) rest
+    both_ways (is_rest payload at at) (or_from (is_near_end payload at) (goes_on payload at at && nat_lt (length payload) (end_of payload at)) far
+    (and_right (goes_on payload at at) (nat_lt (length payload) (end_of payload at)) whole)) rest
 
 -- the sampling rate of the header that was kept is that of the bytes
 pub kept_rate : (bytes : List ℕ) (header : FrameHeader) (rate : ℕ) → header_of bytes ≡ Some header → rate ≡ slice_index (hertz header.id) header.sampling_index → rate ≡ sampling_rate bytes

@@ -1,5 +1,38 @@
 -- Which packet a place is in, and the time that its frame is given.
-use Rattle.std.proofs.Common.{◌≡◌, ℕ, zero, suc, ◌+◌, ◌-◌, ◌<◌, ◌≤◌, ◌==◌, nat_lt, nat_le, true, false, List, [], ◌∷◌, length, map, filter, take, get_or, Option, Some, None, refl, sym, ap, subst, ◌∙◌, arith, inl, inr}
+use Rattle.std.proofs.Common.{
+  ◌≡◌,
+  ℕ,
+  zero,
+  suc,
+  ◌+◌,
+  ◌-◌,
+  ◌<◌,
+  ◌≤◌,
+  ◌==◌,
+  nat_lt,
+  nat_le,
+  true,
+  false,
+  List,
+  [],
+  ◌∷◌,
+  length,
+  map,
+  filter,
+  take,
+  get_or,
+  Option,
+  Some,
+  None,
+  refl,
+  sym,
+  ap,
+  subst,
+  ◌∙◌,
+  arith,
+  inl,
+  inr,
+}
 use Rattle.std.specs.Prelude.{slice_index}
 use Rattle.std.specs.List.{last_or}
 use Rattle.std.specs.List.Sorted.{IsStrictlyIncreasing}
@@ -18,14 +51,19 @@ rises xs up (suc n) k lt =
     subst (λ (j : ℕ). slice_index xs k ≤ slice_index xs j) (sym next) (omega (arith, step, rises xs up n k (omega arith)))
 
 -- where one of the packets begins behind a place, so do all later ones
-pub all_behind : (starts : List PesStart) (at count : ℕ) → IsStrictlyIncreasing (map (λ start. start.at) starts) → length (map (λ (start : PesStart). start.at) starts) ≡ length starts → at < start_of starts count → (k : ℕ) → count ≤ k → k < length starts → at < start_of starts k
+pub all_behind : (starts : List PesStart) (at count : ℕ) → IsStrictlyIncreasing (map (λ start. start.at) starts)
+    → length (map (λ (start : PesStart). start.at) starts) ≡ length starts → at < start_of starts count → (k : ℕ) → count ≤ k → k < length starts
+    → at < start_of starts k
 all_behind starts at count up same behind k from lt =
     let sum : count + (k - count) ≡ k = omega arith in
-    let le : start_of starts count ≤ start_of starts k = subst (λ (j : ℕ). start_of starts count ≤ start_of starts j) sum (rises (map (λ (start : PesStart). start.at) starts) up (k - count) count (omega (arith, same))) in
+    let le : start_of starts count ≤ start_of starts k = subst (λ (j : ℕ). start_of starts count ≤ start_of starts j) sum
+    (rises (map (λ (start : PesStart). start.at) starts) up (k - count) count (omega (arith, same))) in
     omega (arith, le, behind)
 
 -- the packets that begin at a place or before are the first ones
-first_packets : (starts : List PesStart) (at count : ℕ) → count ≤ length starts → ((k : ℕ) → k < count → start_of starts k ≤ at) → ((k : ℕ) → count ≤ k → k < length starts → at < start_of starts k) → filter (λ (start : PesStart). nat_le start.at at) starts ≡ take count starts
+first_packets : (starts : List PesStart) (at count : ℕ) → count ≤ length starts → ((k : ℕ) → k < count → start_of starts k ≤ at)
+    → ((k : ℕ) → count ≤ k → k < length starts → at < start_of starts k)
+    → filter (λ (start : PesStart). nat_le start.at at) starts ≡ take count starts
 first_packets [] at zero within before behind = refl
 first_packets [] at (suc count) within before behind = absurd (omega arith)
 first_packets (start ∷ starts) at zero within before behind =
@@ -50,11 +88,15 @@ packet_is starts at n d count =
     ap (last_or None) (first_packets starts at (suc n) count.within count.before count.behind) ∙ last_taken None starts n d (omega (arith, count.within))
 
 -- the k-th frame's given time, by how many packets begin up to it and up to the frame before
-pub given_is : (starts : List PesStart) (places : List ℕ) (k from up_to : ℕ) (d : PesStart) → IsCountUpTo starts (slice_index places k) from → IsCountUpTo starts (slice_index places (k + 1)) up_to → from ≤ up_to → 0 < from → given_time starts places (k + 1) ≡ time_between starts from up_to
+pub given_is : (starts : List PesStart) (places : List ℕ) (k from up_to : ℕ) (d : PesStart) → IsCountUpTo starts (slice_index places k) from
+    → IsCountUpTo starts (slice_index places (k + 1)) up_to → from ≤ up_to → 0 < from
+    → given_time starts places (k + 1) ≡ time_between starts from up_to
 given_is starts places k from up_to d before here le some =
     let n = up_to - 1 in
     let count : up_to ≡ suc n = omega arith in
-    let packet : pes_packet_of starts (slice_index places (k + 1)) ≡ Some (get_or starts n d) = packet_is starts (slice_index places (k + 1)) n d (subst (IsCountUpTo starts (slice_index places (k + 1))) count here) in
+    let packet : pes_packet_of starts (slice_index places (k + 1))
+    ≡ Some (get_or starts n d) = packet_is starts (slice_index places (k + 1)) n d
+    (subst (IsCountUpTo starts (slice_index places (k + 1))) count here) in
     let start : start_of starts n ≡ (get_or starts n d).at = get_or-map (λ (start : PesStart). start.at) starts n d 0 (omega (arith, here.within)) in
     let time : time_of starts n ≡ (get_or starts n d).time = get_or-map (λ (start : PesStart). start.time) starts n d None (omega (arith, here.within)) in
     let back : (k + 1) - 1 ≡ k = omega arith in

@@ -13,6 +13,8 @@ pub found_passes : (test : ℕ → Bool) (n from found : ℕ) → find test (ran
 found_passes test zero from found is = absurd (cc)
 found_passes test (suc n) from found is = by_test (test from) refl is (found_passes test n (from + 1) found)
   where
-    by_test : (here : Bool) → test from ≡ here → cond here (Some from) (find test (range_with_len (from + 1) n)) ≡ Some found → (find test (range_with_len (from + 1) n) ≡ Some found → (test found ≡ true) × (found < (from + 1) + n)) → (test found ≡ true) × (found < from + suc n)
+    by_test : (here : Bool) → test from ≡ here → cond here (Some from) (find test (range_with_len (from + 1) n)) ≡ Some found
+        → (find test (range_with_len (from + 1) n) ≡ Some found → (test found ≡ true) × (found < (from + 1) + n)) → (test found ≡ true)
+        × (found < from + suc n)
     by_test true passes is later = (let same : from ≡ found = cc in (subst (λ (k : ℕ). test k ≡ true) same passes, omega arith))
     by_test false fails is later = (let behind : (test found ≡ true) × (found < (from + 1) + n) = later is in (behind.0, omega (arith, behind.1)))

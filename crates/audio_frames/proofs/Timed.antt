@@ -1,5 +1,38 @@
 -- The times of frames, one frame further.
-use Rattle.std.proofs.Common.{◌≡◌, ℕ, suc, ◌+◌, ◌-◌, ◌<◌, ◌≤◌, List, [], ◌∷◌, ◌++◌, length, map, drop, Some, None, refl, sym, ap, subst, ◌∙◌, arith, inl, inr, length-append, append_assoc, ℤ, pos, ◌+ℤ◌, ◌*ℤ◌, ◌≤ℤ◌, ◌<ℤ◌}
+use Rattle.std.proofs.Common.{
+  ◌≡◌,
+  ℕ,
+  suc,
+  ◌+◌,
+  ◌-◌,
+  ◌<◌,
+  ◌≤◌,
+  List,
+  [],
+  ◌∷◌,
+  ◌++◌,
+  length,
+  map,
+  drop,
+  Some,
+  None,
+  refl,
+  sym,
+  ap,
+  subst,
+  ◌∙◌,
+  arith,
+  inl,
+  inr,
+  length-append,
+  append_assoc,
+  ℤ,
+  pos,
+  ◌+ℤ◌,
+  ◌*ℤ◌,
+  ◌≤ℤ◌,
+  ◌<ℤ◌,
+}
 use Rattle.std.specs.Prelude.{slice_index}
 use Rattle.std.proofs.Math.ListN.{get_or-append, drop_of_length-le}
 use Rattle.std.proofs.lemmas.List.{get_or-append-add, length-map, map-append}
@@ -22,7 +55,8 @@ time_before : (times : List ℤ) (t : ℤ) (k : ℕ) → k < length times → fr
 time_before times t k lt = get_or-append times (t ∷ []) (pos 0) k lt
 
 -- no time is given since
-pub given_kept : (starts : List PesStart) (places : List ℕ) (k : ℕ) (given : ℤ) (ago : ℕ) → IsLastGiven starts places k given ago → given_time starts places (k + 1) ≡ None → IsLastGiven starts places (k + 1) given (ago + 1)
+pub given_kept : (starts : List PesStart) (places : List ℕ) (k : ℕ) (given : ℤ) (ago : ℕ) → IsLastGiven starts places k given ago
+    → given_time starts places (k + 1) ≡ None → IsLastGiven starts places (k + 1) given (ago + 1)
 given_kept starts places k given ago last none =
     let same : k - ago ≡ (k + 1) - (ago + 1) = omega arith in
     record {
@@ -44,7 +78,8 @@ given_here starts places k given is =
       none_since = λ j from upto. absurd (omega arith);
     }
 
-pub time_is : (starts : List PesStart) (places : List ℕ) (rate k : ℕ) (given : ℤ) (ago : ℕ) (time : ℤ) → IsLastGiven starts places k given ago → time ≡ (pos TICKS_PER_TIME_UNIT *ℤ given) +ℤ pos (frame_ticks rate ago) → IsTimeOf starts places rate k time
+pub time_is : (starts : List PesStart) (places : List ℕ) (rate k : ℕ) (given : ℤ) (ago : ℕ) (time : ℤ) → IsLastGiven starts places k given ago
+    → time ≡ (pos TICKS_PER_TIME_UNIT *ℤ given) +ℤ pos (frame_ticks rate ago) → IsTimeOf starts places rate k time
 time_is starts places rate k given ago time last is =
     let count : ago ≡ k - (k - ago) = omega (arith, last.up_to) in
     record {
@@ -56,7 +91,8 @@ time_is starts places rate k given ago time last is =
       is = is ∙ ap (λ (n : ℕ). (pos TICKS_PER_TIME_UNIT *ℤ given) +ℤ pos (frame_ticks rate n)) count;
     }
 
-pub times_more : (starts : List PesStart) (places : List ℕ) (rate : ℕ) (times : List ℤ) (k : ℕ) (t : ℤ) → AreTimes starts places rate times → k ≡ length times → IsTimeOf starts places rate k t → AreTimes starts places rate (times ++ t ∷ [])
+pub times_more : (starts : List PesStart) (places : List ℕ) (rate : ℕ) (times : List ℤ) (k : ℕ) (t : ℤ) → AreTimes starts places rate times
+    → k ≡ length times → IsTimeOf starts places rate k t → AreTimes starts places rate (times ++ t ∷ [])
 times_more starts places rate times k t are count is = λ j lt. elim (cases_lt j (length times)) [
   | inl before ↦ subst (IsTimeOf starts places rate j) (sym (time_before times t j before)) (are j before)
   | inr last ↦
@@ -94,7 +130,9 @@ times_count : (frames : List Frame) (j : ℕ) (time : ℤ) → length frames ≡
 times_count frames j time count = omega (arith, count, length-append (times_of frames) (time ∷ []), length-map frames (λ (frame : Frame). frame.time))
 
 -- the span of the frame that ends at the next place goes before the others
-spans_first : (begin place size j : ℕ) (places : List ℕ) (frame : Frame) → j + 1 < length places → place ≡ slice_index places (j + 1) → frame.at ≡ begin → frame.at + frame.len ≡ place → spans begin (drop (j + 1) places) size ≡ span frame ∷ spans place (drop (j + 1 + 1) places) size
+spans_first : (begin place size j : ℕ) (places : List ℕ) (frame : Frame) → j + 1 < length places → place ≡ slice_index places (j + 1)
+    → frame.at ≡ begin → frame.at + frame.len ≡ place → spans begin (drop (j + 1) places) size
+    ≡ span frame ∷ spans place (drop (j + 1 + 1) places) size
 spans_first begin place size j places frame within place_is at end =
     let next : suc (j + 1) ≡ j + 1 + 1 = omega arith in
     let one : span frame ≡ (begin, place) = ap (λ (a : ℕ). (a, frame.at + frame.len)) at ∙ ap (λ (e : ℕ). (begin, e)) end in
@@ -108,9 +146,13 @@ pub clock_time : (starts : List PesStart) (places : List ℕ) (rate j : ℕ) (cl
 clock_time starts places rate j clock at same =
     time_is starts places rate j clock.given clock.ago clock.time at.last (at.time ∙ ap (λ (r : ℕ). (pos TICKS_PER_TIME_UNIT *ℤ clock.given) +ℤ pos (frame_ticks r clock.ago)) same)
 
-pub timed_more : (size rate : ℕ) (starts : List PesStart) (places : List ℕ) (j : ℕ) (clock next : Clock) (begin place : ℕ) (frames : List Frame) (frame : Frame) → TimedUpTo size rate starts places j clock begin frames → IsClockAt starts places (j + 1) next → next.rate ≡ clock.rate → j + 1 < length places → place ≡ slice_index places (j + 1) → clock.time <ℤ next.time → frame.at ≡ begin → frame.at + frame.len ≡ place → frame.time ≡ clock.time → TimedUpTo size rate starts places (j + 1) next place (frames ++ frame ∷ [])
+pub timed_more : (size rate : ℕ) (starts : List PesStart) (places : List ℕ) (j : ℕ) (clock next : Clock) (begin place : ℕ) (frames : List Frame)
+    (frame : Frame) → TimedUpTo size rate starts places j clock begin frames → IsClockAt starts places (j + 1) next → next.rate ≡ clock.rate
+    → j + 1 < length places → place ≡ slice_index places (j + 1) → clock.time <ℤ next.time → frame.at ≡ begin → frame.at + frame.len ≡ place
+    → frame.time ≡ clock.time → TimedUpTo size rate starts places (j + 1) next place (frames ++ frame ∷ [])
 timed_more size rate starts places j clock next begin place frames frame before here same within place_is later at end is =
-    let same_times : times_of (frames ++ frame ∷ []) ≡ times_of frames ++ clock.time ∷ [] = map-append (λ (frame : Frame). frame.time) frames (frame ∷ []) ∙ ap (λ (t : ℤ). times_of frames ++ t ∷ []) is in
+    let same_times : times_of (frames ++ frame ∷ []) ≡ times_of frames
+    ++ clock.time ∷ [] = map-append (λ (frame : Frame). frame.time) frames (frame ∷ []) ∙ ap (λ (t : ℤ). times_of frames ++ t ∷ []) is in
     let count = times_count frames j clock.time before.count in
     let rate_is : next.rate ≡ rate = same ∙ before.same_rate in
     record {
@@ -118,7 +160,8 @@ timed_more size rate starts places j clock next begin place frames frame before 
       at = here;
       same_rate = rate_is;
       times = rw same_times (times_more starts places rate (times_of frames ++ clock.time ∷ []) (j + 1) next.time before.times count (clock_time starts places rate (j + 1) next here rate_is));
-      rising = rw same_times (rising_more (times_of frames ++ clock.time ∷ []) j next.time count before.rising (rw (time_last (times_of frames) clock.time j (omega (arith, before.count, length-map frames (λ (frame : Frame). frame.time)))) later));
+      rising = rw same_times (rising_more (times_of frames ++ clock.time ∷ []) j next.time count before.rising
+          (rw (time_last (times_of frames) clock.time j (omega (arith, before.count, length-map frames (λ (frame : Frame). frame.time)))) later));
       begun = omega (arith, place_is);
       cover =
           ap (λ (spans_so_far : List (ℕ × ℕ)). spans_so_far ++ spans place (drop (j + 1 + 1) places) size) (map-append span frames (frame ∷ []))
@@ -140,9 +183,13 @@ timed_first size rate starts places clock at same = record {
 }
 
 -- the last frame has the rest
-pub timed_all : (payload : List ℕ) (rate : ℕ) (starts : List PesStart) (places : List ℕ) (j : ℕ) (clock : Clock) (begin : ℕ) (frames : List Frame) (frame : Frame) → AreAllFrames payload places → rate ≡ rate_of payload places → TimedUpTo (length payload) rate starts places j clock begin frames → j + 1 ≡ length places → frame.at ≡ begin → frame.at + frame.len ≡ length payload → frame.time ≡ clock.time → AreFramesOf payload starts (frames ++ frame ∷ [])
+pub timed_all : (payload : List ℕ) (rate : ℕ) (starts : List PesStart) (places : List ℕ) (j : ℕ) (clock : Clock) (begin : ℕ) (frames : List Frame)
+    (frame : Frame) → AreAllFrames payload places → rate ≡ rate_of payload places → TimedUpTo (length payload) rate starts places j clock begin frames
+    → j + 1 ≡ length places → frame.at ≡ begin → frame.at + frame.len ≡ length payload → frame.time ≡ clock.time
+    → AreFramesOf payload starts (frames ++ frame ∷ [])
 timed_all payload rate starts places j clock begin frames frame all rate_is before last at end is =
-    let same_times : times_of (frames ++ frame ∷ []) ≡ times_of frames ++ clock.time ∷ [] = map-append (λ (frame : Frame). frame.time) frames (frame ∷ []) ∙ ap (λ (t : ℤ). times_of frames ++ t ∷ []) is in
+    let same_times : times_of (frames ++ frame ∷ []) ≡ times_of frames
+    ++ clock.time ∷ [] = map-append (λ (frame : Frame). frame.time) frames (frame ∷ []) ∙ ap (λ (t : ℤ). times_of frames ++ t ∷ []) is in
     let behind : drop (j + 1) places ≡ [] = drop_of_length-le places (omega arith) in
     let one : span frame ≡ (begin, length payload) = ap (λ (a : ℕ). (a, frame.at + frame.len)) at ∙ ap (λ (e : ℕ). (begin, e)) end in
     let count : length (frames ++ frame ∷ []) ≡ j + 1 = length-append frames (frame ∷ []) ∙ ap (λ (n : ℕ). n + 1) before.count in
@@ -159,7 +206,10 @@ timed_all payload rate starts places j clock begin frames frame all rate_is befo
     }
 
 -- a frame that isn't later than the one before it
-pub out_of_order : (payload : List ℕ) (rate : ℕ) (starts : List PesStart) (places : List ℕ) (j : ℕ) (clock next : Clock) (begin : ℕ) (frames : List Frame) → AreAllFrames payload places → rate ≡ rate_of payload places → TimedUpTo (length payload) rate starts places j clock begin frames → IsClockAt starts places (j + 1) next → next.rate ≡ clock.rate → j + 1 < length places → next.time ≤ℤ clock.time → IsOutOfOrder payload starts (slice_index places (j + 1))
+pub out_of_order : (payload : List ℕ) (rate : ℕ) (starts : List PesStart) (places : List ℕ) (j : ℕ) (clock next : Clock) (begin : ℕ)
+    (frames : List Frame) → AreAllFrames payload places → rate ≡ rate_of payload places
+    → TimedUpTo (length payload) rate starts places j clock begin frames → IsClockAt starts places (j + 1) next → next.rate ≡ clock.rate
+    → j + 1 < length places → next.time ≤ℤ clock.time → IsOutOfOrder payload starts (slice_index places (j + 1))
 out_of_order payload rate starts places j clock next begin frames all rate_is before here same within early =
     let count = times_count frames j clock.time before.count in
     let times : List ℤ = times_of frames ++ clock.time ∷ [] in
@@ -172,7 +222,9 @@ out_of_order payload rate starts places j clock next begin frames all rate_is be
       count = length-append times (next.time ∷ []) ∙ omega (arith, count);
       inside = within;
       place = refl;
-      are = subst (λ (r : ℕ). AreTimes starts places r (times ++ next.time ∷ [])) rate_is (times_more starts places rate times (j + 1) next.time before.times count (clock_time starts places rate (j + 1) next here (same ∙ before.same_rate)));
+      are = subst (λ (r : ℕ). AreTimes starts places r (times ++ next.time ∷ [])) rate_is
+          (times_more starts places rate times (j + 1) next.time before.times count
+          (clock_time starts places rate (j + 1) next here (same ∙ before.same_rate)));
       rising = λ k lt. rw (time_before times next.time k (omega arith), time_before times next.time (k + 1) (omega arith)) (before.rising k lt);
       not_later = rw (time_last times next.time (j + 1) count, time_before times next.time j (omega arith), last) early;
     }

@@ -1,6 +1,35 @@
 -- What a sink got in several calls: what each function that puts bits by other ones needs. They speak of `Gets` and
 -- `GetsFront`, so of `Puts` and `PutsFront` between states of a writer.
-use Rattle.std.proofs.Common.{◌≡◌, ℕ, ◌+◌, ◌-◌, ◌*◌, ◌%◌, ◌^◌, ◌<◌, List, [], ◌++◌, false, Result, Ok, Err, OnOk, IsErrAnd, ◌≤◌, length, refl, sym, ap, subst, ◌∙◌, arith, append_assoc, append-nil, length-append}
+use Rattle.std.proofs.Common.{
+  ◌≡◌,
+  ℕ,
+  ◌+◌,
+  ◌-◌,
+  ◌*◌,
+  ◌%◌,
+  ◌^◌,
+  ◌<◌,
+  List,
+  [],
+  ◌++◌,
+  false,
+  Result,
+  Ok,
+  Err,
+  OnOk,
+  IsErrAnd,
+  ◌≤◌,
+  length,
+  refl,
+  sym,
+  ap,
+  subst,
+  ◌∙◌,
+  arith,
+  append_assoc,
+  append-nil,
+  length-append,
+}
 use Rattle.std.proofs.lemmas.Result.{on_ok_weaker, on_err_weaker}
 use Rattle.shelf_io.specs.declared.fault.Fault.{Fault}
 use Rattle.shelf_io.specs.Sink.{Told, with_bytes}
@@ -96,7 +125,8 @@ module _ {K : Type 0} {written : K → Told} {faults : K → ℕ} {keeps : K →
   }
 
   -- a call that failed, with more to come behind it
-  pub writes_no_more : {T U : Type 0} {a b : BitWriter K} {e : Fault} {xs : List ℕ} (more : List ℕ) → Writes {T = T} written faults keeps a b (Err e) xs → Writes {T = U} written faults keeps a b (Err e) (xs ++ more)
+  pub writes_no_more : {T U : Type 0} {a b : BitWriter K} {e : Fault} {xs : List ℕ} (more : List ℕ)
+      → Writes {T = T} written faults keeps a b (Err e) xs → Writes {T = U} written faults keeps a b (Err e) (xs ++ more)
   writes_no_more more call = record {
     ok = tt;
     err = gets_front_more more call.err;
@@ -109,7 +139,8 @@ module _ {K : Type 0} {written : K → Told} {faults : K → ℕ} {keeps : K →
   }
 
   -- the same at the exit of a `?`
-  pub writes_exit : {T U : Type 0} {a b : BitWriter K} {e : Fault} {xs : List ℕ} (r : Result U Fault) (more : List ℕ) → IsErrAnd r (λ f. f ≡ e) → Writes {T = T} written faults keeps a b (Err e) xs → Writes {T = U} written faults keeps a b r (xs ++ more)
+  pub writes_exit : {T U : Type 0} {a b : BitWriter K} {e : Fault} {xs : List ℕ} (r : Result U Fault) (more : List ℕ) → IsErrAnd r (λ f. f ≡ e)
+      → Writes {T = T} written faults keeps a b (Err e) xs → Writes {T = U} written faults keeps a b r (xs ++ more)
   writes_exit (Ok x) more is call = absurd is
   writes_exit {U} {a} {b} {xs} (Err f) more is call = subst (λ (fault : Fault). Writes {T = U} written faults keeps a b (Err fault) (xs ++ more)) (sym is) (writes_no_more more call)
 

@@ -14,12 +14,14 @@ pub gets_none : (told : Told) (waited put waits : List ℕ) → waits ≡ waited
 gets_none told waited put waits is = record { bytes = []; are_bytes = tt; at_the_end = with_bytes-none told; in_order = is }
 
 -- these bytes went out
-pub gets_bytes : {X Y : Type 0} (r : Result X Y) (told after : Told) (bytes waited put waits : List ℕ) → AreBytes bytes → bit_list bytes ++ waits ≡ waited ++ put → OnOk r (after ≡ with_bytes told bytes) → OnOk r (Gets told after waited put waits)
+pub gets_bytes : {X Y : Type 0} (r : Result X Y) (told after : Told) (bytes waited put waits : List ℕ) → AreBytes bytes
+    → bit_list bytes ++ waits ≡ waited ++ put → OnOk r (after ≡ with_bytes told bytes) → OnOk r (Gets told after waited put waits)
 gets_bytes (Ok x) told after bytes waited put waits are order adds = record { bytes = bytes; are_bytes = are; at_the_end = adds; in_order = order }
 gets_bytes (Err e) told after bytes waited put waits are order adds = tt
 
 -- or a front of them
-pub gets_front : {X Y : Type 0} (r : Result X Y) (told after : Told) (bytes waited put waits : List ℕ) → AreBytes bytes → bit_list bytes ++ waits ≡ waited ++ put → OnErr r (AddsPrefix told after bytes) → OnErr r (GetsFront told after waited put)
+pub gets_front : {X Y : Type 0} (r : Result X Y) (told after : Told) (bytes waited put waits : List ℕ) → AreBytes bytes
+    → bit_list bytes ++ waits ≡ waited ++ put → OnErr r (AddsPrefix told after bytes) → OnErr r (GetsFront told after waited put)
 gets_front (Ok x) told after bytes waited put waits are order adds = tt
 gets_front (Err e) told after bytes waited put waits are order adds =
     let k = adds.0 in

@@ -1,5 +1,35 @@
 -- What is told of the bits that are left, as the reader moves.
-use Rattle.std.proofs.Common.{◌≡◌, ℕ, ◌+◌, ◌-◌, ◌*◌, ◌%◌, ◌^◌, ◌<◌, ◌≤◌, List, [], ◌∷◌, ◌++◌, Option, None, Some, IfSome, slice_get, length, drop, refl, sym, ap, subst, ◌∙◌, arith, bit_or, append_assoc, append-nil}
+use Rattle.std.proofs.Common.{
+  ◌≡◌,
+  ℕ,
+  ◌+◌,
+  ◌-◌,
+  ◌*◌,
+  ◌%◌,
+  ◌^◌,
+  ◌<◌,
+  ◌≤◌,
+  List,
+  [],
+  ◌∷◌,
+  ◌++◌,
+  Option,
+  None,
+  Some,
+  IfSome,
+  slice_get,
+  length,
+  drop,
+  refl,
+  sym,
+  ap,
+  subst,
+  ◌∙◌,
+  arith,
+  bit_or,
+  append_assoc,
+  append-nil,
+}
 use Rattle.std.specs.Option.{option_map}
 use Rattle.std.proofs.lemmas.List.{drop-append-le}
 use Rattle.shelf_io.specs.Source.{without_front}
@@ -24,7 +54,8 @@ told_fewer (Some bytes) h n w le =
     ∙ ap (λ f. f ++ bit_list bytes) (ap (λ k. drop n (bits_of k w)) (sym whole) ∙ drop-bits_of n (h - n) w)))
 
 -- a byte went from the source into the held bits
-pub told_more : (told after : Option (List ℕ)) (h w byte : ℕ) → h ≤ 56 → byte < 2 ^ 8 → IfSome told (λ bytes. Some byte ≡ slice_get bytes 0) → after ≡ without_front told 1 → told_bits after (h + 8) (bit_or (w * 2 ^ 8 % 2 ^ 64) byte) ≡ told_bits told h w
+pub told_more : (told after : Option (List ℕ)) (h w byte : ℕ) → h ≤ 56 → byte < 2 ^ 8 → IfSome told (λ bytes. Some byte ≡ slice_get bytes 0)
+    → after ≡ without_front told 1 → told_bits after (h + 8) (bit_or (w * 2 ^ 8 % 2 ^ 64) byte) ≡ told_bits told h w
 told_more None after h w byte le lt first is = ap (λ a. told_bits a (h + 8) (bit_or (w * 2 ^ 8 % 2 ^ 64) byte)) is
 told_more (Some []) after h w byte le lt first is = cc
 told_more (Some (b ∷ bytes)) after h w byte le lt first is =

@@ -5,7 +5,8 @@ use Rattle.bit_cursor.specs.declared.bit_reader.BitReader.{BitReader}
 use Rattle.bit_cursor.specs.BitReader.{KeepsSource}
 
 -- a source that is kept and then kept again is kept, as the laws of a source say of one call
-pub keeps_then : {S : Type 0} {g : Ghosts S} {first second third : BitReader S g} → ((x y z : S) → g.keeps x y → g.keeps y z → g.keeps x z) → KeepsSource first second → KeepsSource second third → KeepsSource first third
+pub keeps_then : {S : Type 0} {g : Ghosts S} {first second third : BitReader S g} → ((x y z : S) → g.keeps x y → g.keeps y z → g.keeps x z)
+    → KeepsSource first second → KeepsSource second third → KeepsSource first third
 keeps_then keeps_on h k = record {
   same_source = k.same_source ∙ h.same_source;
   keeps = keeps_on _ _ _ h.keeps k.keeps;

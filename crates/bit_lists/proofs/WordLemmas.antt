@@ -18,12 +18,15 @@ bits_below bytes first (suc n) = rw pow-suc (omega (arith, bits_below bytes firs
 pub bits-part : (bytes : List ℕ) (first j n k : ℕ) → bits bytes (first + j) n ≡ bits bytes first (j + n + k) / 2 ^ k % 2 ^ n
 bits-part bytes first j n k =
     let front = bits bytes first (j + n) in
-    let whole : bits bytes first (j + n + k) / 2 ^ k ≡ front = ap (λ x. x / 2 ^ k) (bits-add bytes first (j + n) k) ∙ shr_high front k (bits bytes (first + (j + n)) k) (bits_below bytes (first + (j + n)) k) in
+    let whole : bits bytes first (j + n + k) / 2 ^ k ≡ front = ap (λ x. x / 2 ^ k) (bits-add bytes first (j + n) k)
+    ∙ shr_high front k (bits bytes (first + (j + n)) k) (bits_below bytes (first + (j + n)) k) in
     let part : front % 2 ^ n ≡ bits bytes (first + j) n = ap (λ x. x % 2 ^ n) (bits-add bytes first j n) ∙ mod_low (bits bytes first j) n (bits bytes (first + j) n) (bits_below bytes (first + j) n) in
     sym (ap (λ x. x % 2 ^ n) whole ∙ part)
 
 -- the number in five whole bytes
-pub bits-five : (bytes : List ℕ) (i : ℕ) → bits bytes (8 * i) 40 ≡ get_or bytes i 0 % 256 * 2 ^ 32 + get_or bytes (i + 1) 0 % 256 * 2 ^ 24 + get_or bytes (i + 2) 0 % 256 * 2 ^ 16 + get_or bytes (i + 3) 0 % 256 * 2 ^ 8 + get_or bytes (i + 4) 0 % 256
+pub bits-five : (bytes : List ℕ) (i : ℕ) → bits bytes (8 * i) 40
+    ≡ get_or bytes i 0 % 256 * 2 ^ 32 + get_or bytes (i + 1) 0 % 256 * 2 ^ 24 + get_or bytes (i + 2) 0 % 256 * 2 ^ 16 + get_or bytes (i + 3) 0 % 256
+    * 2 ^ 8 + get_or bytes (i + 4) 0 % 256
 bits-five bytes i =
     omega (
       arith,

@@ -1,5 +1,32 @@
 -- A block read as a DC coefficient and a list of coefficients.
-use Rattle.std.proofs.Common.{◌≡◌, ℕ, ◌<◌, ◌==◌, if◌then◌else◌, Bool, true, false, List, Option, Some, None, IfSome, IsSomeAnd, IsNone, Result, Ok, Err, OnOk, OnErr, IfErr, MatchResult, sym, ap, subst, arith}
+use Rattle.std.proofs.Common.{
+  ◌≡◌,
+  ℕ,
+  ◌<◌,
+  ◌==◌,
+  if◌then◌else◌,
+  Bool,
+  true,
+  false,
+  List,
+  Option,
+  Some,
+  None,
+  IfSome,
+  IsSomeAnd,
+  IsNone,
+  Result,
+  Ok,
+  Err,
+  OnOk,
+  OnErr,
+  IfErr,
+  MatchResult,
+  sym,
+  ap,
+  subst,
+  arith,
+}
 use Rattle.std.proofs.lemmas.Bool.{ne_eqb}
 use Rattle.prefix_codes.specs.declared.table_name.TableName.{TableName}
 use Rattle.prefix_codes.specs.declared.table_name.TableName.TheVariants.{CoeffZero, CoeffFirst, CoeffOne}
@@ -33,7 +60,9 @@ pub explains-first_dc : (way : BlockWay) (table : TableName) → way.intra ≡ t
 explains-first_dc way table intra is said told place h =
     explains-present way way.intra intra said told place (subst (λ t. IfSome told (λ bits. ExplainsFrom (dc_by t) said bits place)) is h)
 
-reads-present : (way : BlockWay) (intra : Bool) → intra ≡ true → (dc : Dc) (bits after : Option (List ℕ)) (place place_after : ℕ) → ReadsFrom (dc_coefficient way) dc bits after place place_after → ReadsFrom (optional intra (dc_coefficient way)) (Some dc) bits after place place_after
+reads-present : (way : BlockWay) (intra : Bool) → intra ≡ true → (dc : Dc) (bits after : Option (List ℕ)) (place place_after : ℕ)
+    → ReadsFrom (dc_coefficient way) dc bits after place place_after
+    → ReadsFrom (optional intra (dc_coefficient way)) (Some dc) bits after place place_after
 reads-present way true e dc bits after place place_after r = reads-some r
 reads-present way false e dc bits after place place_after r = absurd (let never : false ≡ true = e in cc)
 
@@ -70,14 +99,17 @@ pub local-coefficients : (way : BlockWay) → IsLocal (several (coefficient way)
 local-coefficients way = local-several (coefficient way) (local-coefficient way)
 
 -- the grammar of a coefficient behind others, by its table and its place
-pub reads-coefficient : (way : BlockWay) (before : List RunLevel) (table : TableName) (index : ℕ) → table ≡ coefficient_table way index → index ≡ next_place way before → (found value : Option RunLevel) → found ≡ value
-    → (bits after : Option (List ℕ)) (place place_after : ℕ) → ReadsFrom (coefficient_at table index) (more_of found) bits after place place_after → ReadsFrom (coefficient way before) (more_of value) bits after place place_after
+pub reads-coefficient : (way : BlockWay) (before : List RunLevel) (table : TableName) (index : ℕ) → table ≡ coefficient_table way index
+    → index ≡ next_place way before → (found value : Option RunLevel) → found ≡ value
+    → (bits after : Option (List ℕ)) (place place_after : ℕ) → ReadsFrom (coefficient_at table index) (more_of found) bits after place place_after
+    → ReadsFrom (coefficient way before) (more_of value) bits after place place_after
 reads-coefficient way before table index table_is index_is found value is bits after place place_after r =
     subst (λ v. ReadsFrom (coefficient way before) (more_of v) bits after place place_after) is
     (subst (λ n. ReadsFrom (coefficient_at (coefficient_table way n) n) (more_of found) bits after place place_after) index_is
     (subst (λ t. ReadsFrom (coefficient_at t index) (more_of found) bits after place place_after) table_is r))
 
-pub explains-coefficient : (way : BlockWay) (before : List RunLevel) (table : TableName) (index : ℕ) → table ≡ coefficient_table way index → index ≡ next_place way before → (said : Option PlacedRefusal) (told : Option (List ℕ)) (place : ℕ)
+pub explains-coefficient : (way : BlockWay) (before : List RunLevel) (table : TableName) (index : ℕ) → table ≡ coefficient_table way index
+    → index ≡ next_place way before → (said : Option PlacedRefusal) (told : Option (List ℕ)) (place : ℕ)
     → IfSome told (λ bits. ExplainsFrom (coefficient_at table index) said bits place) → IfSome told (λ bits. ExplainsFrom (coefficient way before) said bits place)
 explains-coefficient way before table index table_is index_is said told place h =
     subst (λ n. IfSome told (λ bits. ExplainsFrom (coefficient_at (coefficient_table way n) n) said bits place)) index_is
@@ -98,7 +130,9 @@ reads-block way dc pairs bits middle after place place_middle place_after first 
     (reads-made {grammar = many (coefficient way)} (λ coefficients. record { dc = dc; pairs = record { items = coefficients.0 } }) others)
 
 -- a refusal of the DC coefficient
-pub explains-dc : (way : BlockWay) (said : Option PlacedRefusal) (told : Option (List ℕ)) (place : ℕ) → IfSome told (λ bits. ExplainsFrom (optional way.intra (dc_coefficient way)) said bits place) → IfSome told (λ bits. ExplainsFrom (block way) said bits place)
+pub explains-dc : (way : BlockWay) (said : Option PlacedRefusal) (told : Option (List ℕ)) (place : ℕ)
+    → IfSome told (λ bits. ExplainsFrom (optional way.intra (dc_coefficient way)) said bits place)
+    → IfSome told (λ bits. ExplainsFrom (block way) said bits place)
 unfolding block
 explains-dc way said told place h = explains-first (optional way.intra (dc_coefficient way)) (rest_of way) said told place h
 

@@ -1,5 +1,38 @@
 -- One coefficient more, or the end of block, behind coefficients that were read.
-use Rattle.std.proofs.Common.{◌≡◌, ℕ, ℤ, ◌+◌, ◌<◌, ◌≤◌, ◌==◌, if◌then◌else◌, Bool, true, false, List, [], ◌∷◌, ◌++◌, Option, Some, None, IfSome, Result, Ok, Err, OnErr, length, refl, sym, ap, subst, ◌∙◌, add-zero, arith, length-append}
+use Rattle.std.proofs.Common.{
+  ◌≡◌,
+  ℕ,
+  ℤ,
+  ◌+◌,
+  ◌<◌,
+  ◌≤◌,
+  ◌==◌,
+  if◌then◌else◌,
+  Bool,
+  true,
+  false,
+  List,
+  [],
+  ◌∷◌,
+  ◌++◌,
+  Option,
+  Some,
+  None,
+  IfSome,
+  Result,
+  Ok,
+  Err,
+  OnErr,
+  length,
+  refl,
+  sym,
+  ap,
+  subst,
+  ◌∙◌,
+  add-zero,
+  arith,
+  length-append,
+}
 use Rattle.std.specs.Option.{option_map}
 use Rattle.prefix_codes.specs.declared.table_name.TableName.{TableName}
 use Rattle.prefix_codes.specs.declared.table_name.TableName.TheVariants.{CoeffZero, CoeffFirst, CoeffOne}
@@ -32,7 +65,8 @@ pub none-read : (way : BlockWay) (items : List RunLevel) (bits : Option (List �
 none-read way items bits at none = subst (λ pairs. ReadsFrom (several (coefficient way)) pairs bits bits at at) (sym none) (reads-none (coefficient way) bits at)
 
 -- ... where the reader stays
-pub none-read_yet : (way : BlockWay) (items : List RunLevel) (bits now : Option (List ℕ)) (at place_now : ℕ) → items ≡ [] → now ≡ bits → place_now ≡ at → ReadsFrom (several (coefficient way)) items bits now at place_now
+pub none-read_yet : (way : BlockWay) (items : List RunLevel) (bits now : Option (List ℕ)) (at place_now : ℕ) → items ≡ [] → now ≡ bits
+    → place_now ≡ at → ReadsFrom (several (coefficient way)) items bits now at place_now
 none-read_yet way items bits now at place_now none same stays =
     subst (λ (t : Option (List ℕ)). ReadsFrom (several (coefficient way)) items bits t at place_now) (sym same)
     (subst (λ n. ReadsFrom (several (coefficient way)) items bits bits at n) (sym stays) (none-read way items bits at none))
@@ -79,8 +113,10 @@ more-behind way before items pair index run next b within same next_is items_are
 module _ (way : BlockWay) (before : List RunLevel) (table : TableName) (index : ℕ) (table_is : table ≡ coefficient_table way index) (index_is : index ≡ next_place way before)
     (window : Window) (told after : Option (List ℕ)) (place place_after : ℕ) (shows : IfSome told (ShowsFront window)) where
   -- a coefficient was found and its bits were passed
-  pub pair-read : (bits : Option (List ℕ)) (at run : ℕ) (level held : ℤ) (len : ℕ) (items : List RunLevel) → IsFound table index window (Pair run level len) → held ≡ level → after ≡ without_bits told len → place_after ≡ place + len
-      → items ≡ before ++ record { run = run; level = held } ∷ [] → ReadsFrom (several (coefficient way)) before bits told at place → ReadsFrom (several (coefficient way)) items bits after at place_after
+  pub pair-read : (bits : Option (List ℕ)) (at run : ℕ) (level held : ℤ) (len : ℕ) (items : List RunLevel)
+      → IsFound table index window (Pair run level len) → held ≡ level → after ≡ without_bits told len → place_after ≡ place + len
+      → items ≡ before ++ record { run = run; level = held } ∷ [] → ReadsFrom (several (coefficient way)) before bits told at place
+      → ReadsFrom (several (coefficient way)) items bits after at place_after
   pair-read bits at run level held len items is same left moved items_are r =
       let pair : RunLevel = record { run = run; level = held } in
       let spelled = subst (λ (n : ℤ). (coefficient_at table index).Spells (more (record { run = run; level = n })) (seen window len) []) (sym same) is.2 in
@@ -98,7 +134,8 @@ module _ (way : BlockWay) (before : List RunLevel) (table : TableName) (index : 
       reads-end (coefficient way) (stands-before (coefficient way before) before (last tt) (local-coefficients way)) r read
 
   -- neither was found
-  pub refused-read : (bits : Option (List ℕ)) (at : ℕ) (why : Why) (behind place_refused : ℕ) (fault : BlockFault) → IsFound table index window (Refused why behind) → fault ≡ fault_at why place_refused → place_refused ≡ place + behind
+  pub refused-read : (bits : Option (List ℕ)) (at : ℕ) (why : Why) (behind place_refused : ℕ) (fault : BlockFault)
+      → IsFound table index window (Refused why behind) → fault ≡ fault_at why place_refused → place_refused ≡ place + behind
       → ReadsFrom (several (coefficient way)) before bits told at place → IfSome bits (λ b. ExplainsFrom (many (coefficient way)) (refusal_told fault) b at)
   refused-read bits at why behind place_refused fault is fault_is placed r =
       let here = explains-found (coefficient_at table index) why told window behind place place_refused shows is.0 is.1 placed in

@@ -1,5 +1,41 @@
 -- An escape, whole or cut: 6 bits of code, 6 bits of run and 12 bits of level.
-use Rattle.std.proofs.Common.{◌≡◌, ℕ, ℤ, ◌+◌, ◌-◌, ◌*◌, ◌/◌, ◌%◌, ◌^◌, ◌<◌, ◌≤◌, ◌&&◌, ◌⊎◌, true, false, not, nat_eq, nat_lt, List, [], ◌∷◌, ◌++◌, length, take, Some, refl, sym, ap, ap₂, subst, ◌∙◌, inl, inr, arith, append-nil}
+use Rattle.std.proofs.Common.{
+  ◌≡◌,
+  ℕ,
+  ℤ,
+  ◌+◌,
+  ◌-◌,
+  ◌*◌,
+  ◌/◌,
+  ◌%◌,
+  ◌^◌,
+  ◌<◌,
+  ◌≤◌,
+  ◌&&◌,
+  ◌⊎◌,
+  true,
+  false,
+  not,
+  nat_eq,
+  nat_lt,
+  List,
+  [],
+  ◌∷◌,
+  ◌++◌,
+  length,
+  take,
+  Some,
+  refl,
+  sym,
+  ap,
+  ap₂,
+  subst,
+  ◌∙◌,
+  inl,
+  inr,
+  arith,
+  append-nil,
+}
 use Rattle.std.proofs.Math.Nat.{div-add-mod, mod-eq_of_lt, div-lt_iff_lt-mul}
 use Rattle.std.proofs.Math.Pow.{mod-mod-pow, pow-lt}
 use Rattle.std.proofs.lemmas.Bool.{cases_lt, and_parts, and_left, and_right, and_from, ne_eqb, eq-eqb, ltb-true, lt-ltb, le-ltb}
@@ -210,13 +246,15 @@ module _ {table : TableName} (is : IsCoefficients table) (place : ℕ) (window :
     whole_begins : (bits : List ℕ) → ShowsFront window bits → IsPrefix (seen window 24) bits
     whole_begins bits shows = ap (λ n. take n bits) (length-front_of 24 window.bits 24 (omega arith)) ∙ shows ∙ seen-is
 
-    whole-breaks : (before after : List (Rule Coefficient)) (broken : Rule Coefficient) → rules_at place ≡ before ++ broken ∷ after → passes before (escape the_run the_level) ≡ true → broken.test (escape the_run the_level) ≡ false
+    whole-breaks : (before after : List (Rule Coefficient)) (broken : Rule Coefficient) → rules_at place ≡ before ++ broken ∷ after
+        → passes before (escape the_run the_level) ≡ true → broken.test (escape the_run the_level) ≡ false
         → (bits : List ℕ) → ShowsFront window bits → (coefficient_at table place).Refuses bits broken.refusal bits
     whole-breaks before after broken order passing fails bits shows =
         inl (
           refl,
           inr (inl (subst (λ (rules : List (Rule Coefficient)). Breaks (CoefficientCode table) rules bits broken.refusal) (sym order)
-              (breaks (CoefficientCode table) (free-coefficient table) (escape the_run the_level) (seen window 24) (whole-coded is place window len b) bits (whole_begins bits shows) before after broken passing fails))),
+              (breaks (CoefficientCode table) (free-coefficient table) (escape the_run the_level) (seen window 24)
+              (whole-coded is place window len b) bits (whole_begins bits shows) before after broken passing fails))),
         )
 
     past-whole : 64 ≤ place + the_run → IsFound table place window (Refused why.TooMany 0)

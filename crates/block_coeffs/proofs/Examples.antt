@@ -19,7 +19,13 @@ use Rattle.block_coeffs.specs.BlockFault.{refusal_told}
 -- from place 100 on an escape with run 0 and level 2047 and the end of block are read up to place 126
 read_escape : ReadsFrom (block non_intra) (record { dc = None; pairs = record { items = record { run = 0; level = pos 2047 } ∷ [] } })
     (Some (printed_bits "000001 000000 011111111111 10 0101")) (Some (printed_bits "0101")) 100 126
-read_escape = record { front = printed_bits "000001 000000 011111111111 10"; spelled = anywhere (local-block non_intra) _ (printed_bits "000001 000000 011111111111 10") [] (printed_bits "0101") one_escape; left = refl; moved = refl }
+read_escape = record {
+  front = printed_bits "000001 000000 011111111111 10";
+  spelled = anywhere (local-block non_intra) _
+      (printed_bits "000001 000000 011111111111 10") [] (printed_bits "0101") one_escape;
+  left = refl;
+  moved = refl;
+}
 
 -- with the level -2048 the escape is refused at its first bit
 refused_escape : ExplainsFrom (block non_intra) (refusal_told (fault.BadEscape 100)) (printed_bits "000001 000000 100000000000 10") 100

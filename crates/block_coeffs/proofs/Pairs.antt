@@ -1,5 +1,37 @@
 -- A coefficient by a code of the tables, and its sign.
-use Rattle.std.proofs.Common.{◌≡◌, ℕ, ℤ, ◌+◌, ◌-◌, ◌/◌, ◌%◌, ◌^◌, ◌<◌, ◌≤◌, Bool, true, nat_eq, nat_lt, List, [], ◌∷◌, ◌++◌, length, take, drop, Some, refl, sym, ap, subst, ◌∙◌, inl, inr, arith, append-nil}
+use Rattle.std.proofs.Common.{
+  ◌≡◌,
+  ℕ,
+  ℤ,
+  ◌+◌,
+  ◌-◌,
+  ◌/◌,
+  ◌%◌,
+  ◌^◌,
+  ◌<◌,
+  ◌≤◌,
+  Bool,
+  true,
+  nat_eq,
+  nat_lt,
+  List,
+  [],
+  ◌∷◌,
+  ◌++◌,
+  length,
+  take,
+  drop,
+  Some,
+  refl,
+  sym,
+  ap,
+  subst,
+  ◌∙◌,
+  inl,
+  inr,
+  arith,
+  append-nil,
+}
 use Rattle.std.proofs.lemmas.Bool.{and_from, cases_eq, eq-eqb, ne_eqb, lt-ltb, le-ltb}
 use Rattle.std.proofs.lemmas.List.{length-take, drop_all}
 use Rattle.bit_lists.specs.Bits.{IsPrefix, bits_of}
@@ -36,7 +68,8 @@ seen-one_more window index lt =
       | inr other ↦ let zero_is : bit ≡ 0 = omega arith in zero_is ∙ sym (ap flag (ne_eqb bit 1 other))
     ] in
     let digit : bits_of 1 (window.bits / 2 ^ (24 - (index + 1))) ≡ flag (nat_eq bit 1) ∷ [] =
-    ap (λ n. bits_of 1 (window.bits / 2 ^ n)) places ∙ ap (λ b. b ∷ []) ((let whole : window.bits / 2 ^ (23 - index) / 1 ≡ window.bits / 2 ^ (23 - index) = omega arith in ap (λ n. n % 2) whole) ∙ is_bit) in
+    ap (λ n. bits_of 1 (window.bits / 2 ^ n)) places ∙ ap (λ b. b ∷ [])
+    ((let whole : window.bits / 2 ^ (23 - index) / 1 ≡ window.bits / 2 ^ (23 - index) = omega arith in ap (λ n. n % 2) whole) ∙ is_bit) in
     front_of-more 24 window.bits index 1 (omega arith) ∙ ap (λ b. seen window index ++ b) digit
 
 -- a code that begins what is seen is what is seen of its length
@@ -54,7 +87,8 @@ module _ (table : TableName) (place : ℕ) where
   -- ---- a run and the size of a level
 
   module _ (run size : ℕ) (code : List ℕ) (listed : coefficient_code table run size ≡ Some code) where
-    pub spells-pair : (negative : Bool) (bits : List ℕ) → place + run < 64 → bits ≡ code ++ flag negative ∷ [] → (coefficient_at table place).Spells (more (record { run = run; level = signed size negative })) bits []
+    pub spells-pair : (negative : Bool) (bits : List ℕ) → place + run < 64 → bits ≡ code ++ flag negative ∷ []
+        → (coefficient_at table place).Spells (more (record { run = run; level = signed size negative })) bits []
     spells-pair negative bits within split = (
       run_size run size,
       flag negative ∷ [],
@@ -67,7 +101,8 @@ module _ (table : TableName) (place : ℕ) where
     refuses-past bits past begins =
         inl (
           refl,
-          inr (inl (breaks (CoefficientCode table) (free-coefficient table) (run_size run size) code listed bits begins [] (rule BadEscape is_level ∷ []) (rule TooMany (is_within place)) refl (le-ltb (place + run) 64 past))),
+          inr (inl (breaks (CoefficientCode table) (free-coefficient table) (run_size run size) code listed bits begins []
+              (rule BadEscape is_level ∷ []) (rule TooMany (is_within place)) refl (le-ltb (place + run) 64 past))),
         )
 
     -- no bit is left for the sign
@@ -127,7 +162,8 @@ module _ {table : TableName} (is : IsCoefficients table) (place : ℕ) (window :
       )
 
 -- the end of block
-pub end-found : (table : TableName) (place : ℕ) (window : Window) (within : window.known ≤ 24) (len : ℕ) → Begins table (seen window window.known) END_OF_BLOCK len → IsFound table place window (EndOfBlock len)
+pub end-found : (table : TableName) (place : ℕ) (window : Window) (within : window.known ≤ 24) (len : ℕ)
+    → Begins table (seen window window.known) END_OF_BLOCK len → IsFound table place window (EndOfBlock len)
 end-found table place window within len b =
     let at = seen-code window b.code len within b.counted b.first in
     (at.0, subst (λ x. (coefficient_at table place).Spells (last tt) x []) (sym at.1) (spells-end table place b.code b.listed))

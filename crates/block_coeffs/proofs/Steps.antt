@@ -53,7 +53,8 @@ local-spelled {grammar = grammar} local value front (Some rest) s = anywhere loc
 
 -- what the window shows of a value was read once it is taken
 pub reads-found : {A : Type 0} (grammar : Grammar A) → IsLocal grammar → (value : A) (told after : Option (List ℕ)) (window : Window) (len place place_after : ℕ)
-    → IfSome told (ShowsFront window) → len ≤ window.known → grammar.Spells value (seen window len) [] → after ≡ without_bits told len → place_after ≡ place + len → ReadsFrom grammar value told after place place_after
+    → IfSome told (ShowsFront window) → len ≤ window.known → grammar.Spells value (seen window len) [] → after ≡ without_bits told len
+    → place_after ≡ place + len → ReadsFrom grammar value told after place place_after
 reads-found grammar local value told after window len place place_after shows le spelled left moved =
     let within = window.within in record {
       front = seen window len;
@@ -84,7 +85,8 @@ refused-at grammar refusal window bits behind place at shows le refused moved =
       moved = omega (arith, length-take behind bits);
     }
 
-explains-why : {A : Type 0} (grammar : Grammar A) (reason : Why) (bits : List ℕ) (place at : ℕ) → RefusedAt grammar (refusal_of reason) bits place at → ExplainsFrom grammar (refusal_told (fault_at reason at)) bits place
+explains-why : {A : Type 0} (grammar : Grammar A) (reason : Why) (bits : List ℕ) (place at : ℕ) → RefusedAt grammar (refusal_of reason) bits place at
+    → ExplainsFrom grammar (refusal_told (fault_at reason at)) bits place
 explains-why grammar why.NoCode bits place at r = r
 explains-why grammar why.TooMany bits place at r = r
 explains-why grammar why.BadEscape bits place at r = r

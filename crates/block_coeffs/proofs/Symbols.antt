@@ -131,7 +131,8 @@ begun-escape table place symbol bits same b = record {
   passing = λ fits. let here : nat_lt (place + 0) 64 ≡ true = ap (symbol_fits place) (sym same) ∙ fits in and_from (nat_lt (place + 0) 64) true here refl;
 }
 
-begun-run : {table : TableName} (place symbol : ℕ) (bits : List ℕ) → IsCoefficients table → (symbol ≡ END_OF_BLOCK → ⊥) → (symbol ≡ ESCAPE → ⊥) → BeginsCode table symbol bits → Begun table place symbol bits
+begun-run : {table : TableName} (place symbol : ℕ) (bits : List ℕ) → IsCoefficients table → (symbol ≡ END_OF_BLOCK → ⊥) → (symbol ≡ ESCAPE → ⊥)
+    → BeginsCode table symbol bits → Begun table place symbol bits
 begun-run {table} place symbol bits is no_end no_escape b = record {
   value = run_size (symbol / LEVELS_PER_RUN) (symbol % LEVELS_PER_RUN);
   code = b.code;
@@ -157,7 +158,8 @@ abbrev pub NoCodeStands : TableName → List ℕ → Type 0
 NoCodeStands table bits = (s : ℕ) (f : List ℕ) → code_in table s ≡ Some f → IsPrefix f bits → ⊥
 
 -- then a coefficient may stand there only where the bits begin the code of its symbol
-pub may-begin : (table : TableName) (bits : List ℕ) → NoCodeStands table bits → (rules : List (Rule Coefficient)) (m : MayStand (CoefficientCode table) rules bits) → BeginsCode table (symbol_of m.value) bits
+pub may-begin : (table : TableName) (bits : List ℕ) → NoCodeStands table bits
+    → (rules : List (Rule Coefficient)) (m : MayStand (CoefficientCode table) rules bits) → BeginsCode table (symbol_of m.value) bits
 may-begin table bits none rules m = by_cases m.agrees where
   f : (front : List ℕ) × (code_in table (symbol_of m.value) ≡ Some front) × IsPrefix front m.code
   f = fronts table m.value m.code m.coded

@@ -1,5 +1,38 @@
 -- Blocks that some bits spell can be written.
-use Rattle.std.proofs.Common.{◌≡◌, ℕ, suc, unsigned_abs, ◌+◌, ◌-◌, ◌^◌, ◌<◌, ◌≤◌, ◌&&◌, ◌==◌, List, [], ◌∷◌, ◌++◌, Option, Some, Bool, true, false, not, nat_lt, if◌then◌else◌, refl, sym, ap, subst, ◌∙◌, inl, inr, add-zero, arith}
+use Rattle.std.proofs.Common.{
+  ◌≡◌,
+  ℕ,
+  suc,
+  unsigned_abs,
+  ◌+◌,
+  ◌-◌,
+  ◌^◌,
+  ◌<◌,
+  ◌≤◌,
+  ◌&&◌,
+  ◌==◌,
+  List,
+  [],
+  ◌∷◌,
+  ◌++◌,
+  Option,
+  Some,
+  Bool,
+  true,
+  false,
+  not,
+  nat_lt,
+  if◌then◌else◌,
+  refl,
+  sym,
+  ap,
+  subst,
+  ◌∙◌,
+  inl,
+  inr,
+  add-zero,
+  arith,
+}
 use Rattle.std.proofs.lemmas.Bool.{and_parts, cases_lt, lt-ltb, le-ltb, ltb-true, eq-eqb, cases_eq}
 use Rattle.std.proofs.lemmas.Option.{none-some, same_Some}
 use Rattle.prefix_codes.specs.declared.table_name.TableName.TheVariants.{DcLuma, DcChroma}
@@ -14,7 +47,22 @@ use Rattle.picture_grammar.specs.Grammar.{SpellsList, optional}
 use Rattle.picture_grammar.specs.Grammar.Next.{more, last}
 use Rattle.picture_grammar.specs.Refusal.Refusal.{NoCode, TooMany, BadEscape}
 use Rattle.picture_grammar.specs.Element.{rule, element}
-use Rattle.picture_grammar.specs.Block.{dc_table, dc_coefficient, Coefficient, CoefficientCode, after_code, is_level, signed, escape_level, is_within, next_place, coefficient_table, coefficient, block, first_place}
+use Rattle.picture_grammar.specs.Block.{
+  dc_table,
+  dc_coefficient,
+  Coefficient,
+  CoefficientCode,
+  after_code,
+  is_level,
+  signed,
+  escape_level,
+  is_within,
+  next_place,
+  coefficient_table,
+  coefficient,
+  block,
+  first_place,
+}
 use Rattle.picture_grammar.specs.Block.Coefficient.{end_of_block, run_size, escape}
 use Rattle.picture_grammar.proofs.Codes.{coefficient_code-listed}
 use Rattle.picture_grammar.proofs.WrittenBlock.{unsigned_abs-signed, next_place-push}
@@ -68,7 +116,8 @@ module _ (way : BlockWay) (before : List RunLevel) where
 
   coefficient_stands : (pair : RunLevel) (bits middle : List ℕ) → (coefficient way before).Spells (more pair) bits middle → Stands pair
   coefficient_stands pair bits middle (c, m, s, t) = by_code c m s t where
-    by_code : (c : Coefficient) (m : List ℕ) → (element (CoefficientCode (coefficient_table way (next_place way before))) NoCode (rule TooMany (is_within (next_place way before)) ∷ rule BadEscape is_level ∷ [])).Spells c bits m
+    by_code : (c : Coefficient) (m : List ℕ) → (element (CoefficientCode (coefficient_table way (next_place way before))) NoCode
+        (rule TooMany (is_within (next_place way before)) ∷ rule BadEscape is_level ∷ [])).Spells c bits m
         → (after_code c).Spells (more pair) m middle → Stands pair
     by_code end_of_block m s (e, f) = absurd (let e' : more pair ≡ last tt = e in cc)
     by_code (run_size run size) m (code, listed, passing, split) (negative, m', s', (e, f)) =

@@ -1,5 +1,37 @@
 -- Blocks that some bits spell can be written.
-use Rattle.std.proofs.Common.{◌≡◌, ℕ, ℤ, unsigned_abs, ◌+◌, ◌^◌, ◌<◌, ◌≤◌, List, [], ◌∷◌, ◌++◌, Result, Bool, true, false, refl, w16, to_z, of_z, sym, ap, subst, ◌∙◌, add-one, length, get_or, drop, drop-cons, append_assoc, arith}
+use Rattle.std.proofs.Common.{
+  ◌≡◌,
+  ℕ,
+  ℤ,
+  unsigned_abs,
+  ◌+◌,
+  ◌^◌,
+  ◌<◌,
+  ◌≤◌,
+  List,
+  [],
+  ◌∷◌,
+  ◌++◌,
+  Result,
+  Bool,
+  true,
+  false,
+  refl,
+  w16,
+  to_z,
+  of_z,
+  sym,
+  ap,
+  subst,
+  ◌∙◌,
+  add-one,
+  length,
+  get_or,
+  drop,
+  drop-cons,
+  append_assoc,
+  arith,
+}
 use mir.Val.{bool_byte}
 use Rattle.std.proofs.lemmas.Int.{to_z-of_z, fits_signed_from_abs}
 use Rattle.std.proofs.lemmas.List.{drop_all}
@@ -48,7 +80,8 @@ module _ (way : BlockWay) (place i : ℕ) (pairs : List RunLevel) (done all : Li
     here = drop-cons pairs i default within ∙ ap (λ k. get_or pairs i default ∷ drop k pairs) (sym (add-one i))
 
     -- what is to be written with one more coefficient done
-    pub one_more : (done ++ written_coefficient (coefficient_table way place) (get_or pairs i default)) ++ written_coefficients way (place + ((get_or pairs i default).run + 1)) (drop (i + 1) pairs) ≡ all
+    pub one_more : (done ++ written_coefficient (coefficient_table way place) (get_or pairs i default))
+        ++ written_coefficients way (place + ((get_or pairs i default).run + 1)) (drop (i + 1) pairs) ≡ all
     one_more =
         append_assoc done (written_coefficient (coefficient_table way place) (get_or pairs i default)) (written_coefficients way (place + ((get_or pairs i default).run + 1)) (drop (i + 1) pairs))
         ∙ ap (λ left. done ++ written_coefficients way place left) (sym here) ∙ rest

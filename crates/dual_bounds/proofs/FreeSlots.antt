@@ -1,5 +1,45 @@
 -- The free slots of a window, counted by periods of the timetable.
-use Rattle.std.proofs.Common.{◌≡◌, ℕ, zero, suc, ◌+◌, ◌-◌, ◌*◌, ◌/◌, ◌%◌, ◌<◌, ◌≤◌, Bool, true, false, cond, eqb, leb, ltb, nat_le, ◌&&◌, length, min, Option, Some, None, is_none, if◌then◌else◌, refl, sym, ap, ◌∙◌, inl, inr, mul-le-mul_right, suc-mul, add-zero, div-add-mod', zero-mul, arith}
+use Rattle.std.proofs.Common.{
+  ◌≡◌,
+  ℕ,
+  zero,
+  suc,
+  ◌+◌,
+  ◌-◌,
+  ◌*◌,
+  ◌/◌,
+  ◌%◌,
+  ◌<◌,
+  ◌≤◌,
+  Bool,
+  true,
+  false,
+  cond,
+  eqb,
+  leb,
+  ltb,
+  nat_le,
+  ◌&&◌,
+  length,
+  min,
+  Option,
+  Some,
+  None,
+  is_none,
+  if◌then◌else◌,
+  refl,
+  sym,
+  ap,
+  ◌∙◌,
+  inl,
+  inr,
+  mul-le-mul_right,
+  suc-mul,
+  add-zero,
+  div-add-mod',
+  zero-mul,
+  arith,
+}
 use Rattle.std.specs.List.{range_with_len}
 use Rattle.std.specs.Int.{div_ceil}
 use Rattle.std.proofs.lemmas.Bool.{cases_lt, cases_eq, cond-true, cond-false, ne_eqb, eq-eqb, le-leb, lt-leb, lt-ltb, le-ltb, and_left, and_right}
@@ -27,7 +67,8 @@ free_place programs offset =
         | inr of_pmt ↦ ap is_none (cond-true (leb offset programs) (Some (Pmt (offset - 1))) pcr (le-leb offset programs of_pmt)) ∙ sym (le-ltb (2 * programs) offset (omega arith))
         | inl past ↦ ap is_none (cond-false (leb offset programs) (Some (Pmt (offset - 1))) pcr (lt-leb offset programs past)) ∙ elim (cases_lt (2 * programs) offset) as (λ
             _. is_none pcr ≡ ltb (2 * programs) offset) [
-              | inr of_pcr ↦ ap is_none (cond-true (leb offset (2 * programs)) (Some (Pcr (offset - programs - 1))) None (le-leb offset (2 * programs) of_pcr)) ∙ sym (le-ltb (2 * programs) offset of_pcr)
+              | inr of_pcr ↦ ap is_none (cond-true (leb offset (2 * programs)) (Some (Pcr (offset - programs - 1))) None
+                  (le-leb offset (2 * programs) of_pcr)) ∙ sym (le-ltb (2 * programs) offset of_pcr)
               | inl free ↦ ap is_none (cond-false (leb offset (2 * programs)) (Some (Pcr (offset - programs - 1))) None (lt-leb offset (2 * programs) free)) ∙ sym (lt-ltb (2 * programs) offset free)
             ]
       ]

@@ -1,5 +1,42 @@
 -- Laws of values and bounds: more versions fixed, windows in another order, none at all, and a branch.
-use Rattle.std.proofs.Common.{◌≡◌, ◌↔◌, ℕ, zero, suc, ◌*◌, ◌<◌, ◌≤◌, List, [], ◌∷◌, ◌++◌, length, map, get_or, set, fold, min, sum_by, Option, Some, None, slice_get, refl, ap, subst, ◌∙◌, mul-zero, arith, ℤ, pos, negsuc, ◌*ℤ◌, ◌≤ℤ◌, inl, inr}
+use Rattle.std.proofs.Common.{
+  ◌≡◌,
+  ◌↔◌,
+  ℕ,
+  zero,
+  suc,
+  ◌*◌,
+  ◌<◌,
+  ◌≤◌,
+  List,
+  [],
+  ◌∷◌,
+  ◌++◌,
+  length,
+  map,
+  get_or,
+  set,
+  fold,
+  min,
+  sum_by,
+  Option,
+  Some,
+  None,
+  slice_get,
+  refl,
+  ap,
+  subst,
+  ◌∙◌,
+  mul-zero,
+  arith,
+  ℤ,
+  pos,
+  negsuc,
+  ◌*ℤ◌,
+  ◌≤ℤ◌,
+  inl,
+  inr,
+}
 use lib.IntN.{zero-*ℤ}
 use Rattle.std.specs.List.{AllZip, zip}
 use Rattle.std.proofs.lemmas.Bool.{cases_Bool}

@@ -15,11 +15,14 @@ distribute true false false = refl
 distribute false b c = refl
 
 -- a test that also asks for one fact more
-any_and : (longer shorter : ℕ → Bool) (more : Bool) (n from : ℕ) → ((k : ℕ) → from ≤ k → k < from + n → longer k ≡ (shorter k && more)) → list_any longer (range_with_len from n) ≡ (list_any shorter (range_with_len from n) && more)
+any_and : (longer shorter : ℕ → Bool) (more : Bool) (n from : ℕ) → ((k : ℕ) → from ≤ k → k < from + n → longer k ≡ (shorter k && more))
+    → list_any longer (range_with_len from n) ≡ (list_any shorter (range_with_len from n) && more)
 any_and longer shorter more zero from same = refl
 any_and longer shorter more (suc n) from same =
     let here : longer from ≡ (shorter from && more) = same from (omega arith) (omega arith) in
-    let rest : list_any longer (range_with_len (from + 1) n) ≡ (list_any shorter (range_with_len (from + 1) n) && more) = any_and longer shorter more n (from + 1) (λ k b u. same k (omega arith) (omega arith)) in
+    let rest : list_any longer (range_with_len (from + 1) n)
+    ≡ (list_any shorter (range_with_len (from + 1) n) && more) = any_and longer shorter more n (from + 1)
+    (λ k b u. same k (omega arith) (omega arith)) in
     rw (here, rest) (distribute (shorter from) (list_any shorter (range_with_len (from + 1) n)) more)
 
 and_true : (a b : Bool) → (a && (b && true)) ≡ (a && b)

@@ -25,17 +25,22 @@ no_slice_at es at = by_code (start_code_at es at)
     by_code (Some value) is = no_slice value is
 
 -- at a header behind a slice the stream is cut
-pub cut_here : (es : List ℕ) (from at value : ℕ) (state : Bool) → from ≤ at → ((k : ℕ) → from ≤ k → k < at → is_start_code_at es k ≡ false) → start_code_at es at ≡ Some value → is_unit_start value ≡ true → state ≡ is_behind_slice es from → state ≡ true → is_unit_cut es at ≡ true
+pub cut_here : (es : List ℕ) (from at value : ℕ) (state : Bool) → from ≤ at → ((k : ℕ) → from ≤ k → k < at → is_start_code_at es k ≡ false)
+    → start_code_at es at ≡ Some value → is_unit_start value ≡ true → state ≡ is_behind_slice es from → state ≡ true → is_unit_cut es at ≡ true
 cut_here es from at value state le none code start kept behind =
     and_from _ _ (code_is is_unit_start es at value code ∙ start) (behind_same es from at le none ∙ sym kept ∙ behind)
 
 -- behind a start code: the state that its value leaves
-pub state_behind : (es : List ℕ) (from at value : ℕ) (state : Bool) → from ≤ at → ((k : ℕ) → from ≤ k → k < at → is_start_code_at es k ≡ false) → start_code_at es at ≡ Some value → state ≡ is_behind_slice es from → is_behind_slice es (at + 1) ≡ (is_slice value || (state && not (is_unit_start value)))
+pub state_behind : (es : List ℕ) (from at value : ℕ) (state : Bool) → from ≤ at → ((k : ℕ) → from ≤ k → k < at → is_start_code_at es k ≡ false)
+    → start_code_at es at ≡ Some value → state ≡ is_behind_slice es from
+    → is_behind_slice es (at + 1) ≡ (is_slice value || (state && not (is_unit_start value)))
 state_behind es from at value state le none code kept =
     behind_more es at ∙ rw (code_is is_slice es at value code, code_is is_unit_start es at value code, behind_same es from at le none, kept) refl
 
 -- no cut where the stream isn't cut at a start code, nor before it
-pub none_up_to : (es : List ℕ) (from at to : ℕ) → ((k : ℕ) → from ≤ k → k < at → is_unit_cut es k ≡ false) → ((k : ℕ) → at ≤ k → k < to → is_start_code_at es k ≡ false) → is_unit_cut es to ≡ false → (k : ℕ) → from ≤ k → k < to + 1 → is_unit_cut es k ≡ false
+pub none_up_to : (es : List ℕ) (from at to : ℕ) → ((k : ℕ) → from ≤ k → k < at → is_unit_cut es k ≡ false)
+    → ((k : ℕ) → at ≤ k → k < to → is_start_code_at es k ≡ false) → is_unit_cut es to ≡ false → (k : ℕ) → from ≤ k → k < to + 1
+    → is_unit_cut es k ≡ false
 none_up_to es from at to passed none here k begun upto = elim (cases_lt k at) [
   | inl before ↦ passed k begun before
   | inr behind ↦ elim (cases_lt k to) [
@@ -44,7 +49,8 @@ none_up_to es from at to passed none here k begun upto = elim (cases_lt k at) [
   ]
 ]
 
-pub no_cut_before_slice : (es : List ℕ) (from at : ℕ) (state : Bool) → from ≤ at → ((k : ℕ) → from ≤ k → k < at → is_start_code_at es k ≡ false) → state ≡ is_behind_slice es from → state ≡ false → is_unit_cut es at ≡ false
+pub no_cut_before_slice : (es : List ℕ) (from at : ℕ) (state : Bool) → from ≤ at → ((k : ℕ) → from ≤ k → k < at → is_start_code_at es k ≡ false)
+    → state ≡ is_behind_slice es from → state ≡ false → is_unit_cut es at ≡ false
 no_cut_before_slice es from at state le none kept ahead = and_right _ _ (behind_same es from at le none ∙ sym kept ∙ ahead)
 
 pub no_cut_elsewhere : (es : List ℕ) (at value : ℕ) → start_code_at es at ≡ Some value → is_unit_start value ≡ false → is_unit_cut es at ≡ false

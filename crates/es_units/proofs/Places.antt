@@ -53,10 +53,12 @@ none_in_range test (suc n) from none = rw (none from) (none_in_range test n (fro
 pub no_place : (test : ℕ → Bool) (end : ℕ) → ((at : ℕ) → test at ≡ false) → find test (places 0 end) ≡ None
 no_place test end none = none_in_range test (end - 0) 0 none
 
-pub filter_at : (test : ℕ → Bool) (from at end : ℕ) → from ≤ at → at < end → ((k : ℕ) → from ≤ k → k < at → test k ≡ false) → test at ≡ true → filter test (places from end) ≡ at ∷ filter test (places (at + 1) end)
+pub filter_at : (test : ℕ → Bool) (from at end : ℕ) → from ≤ at → at < end → ((k : ℕ) → from ≤ k → k < at → test k ≡ false) → test at ≡ true
+    → filter test (places from end) ≡ at ∷ filter test (places (at + 1) end)
 filter_at test from at end begun lt none is =
     filter_from test from at end begun (omega arith) none ∙ ap (filter test) (places_first at end lt) ∙ rw is refl
 
-pub filter_past : (test : ℕ → Bool) (from at end : ℕ) → from ≤ at → at < end → ((k : ℕ) → from ≤ k → k < at → test k ≡ false) → test at ≡ false → filter test (places from end) ≡ filter test (places (at + 1) end)
+pub filter_past : (test : ℕ → Bool) (from at end : ℕ) → from ≤ at → at < end → ((k : ℕ) → from ≤ k → k < at → test k ≡ false) → test at ≡ false
+    → filter test (places from end) ≡ filter test (places (at + 1) end)
 filter_past test from at end begun lt none is =
     filter_from test from at end begun (omega arith) none ∙ ap (filter test) (places_first at end lt) ∙ rw is refl

@@ -10,7 +10,8 @@ use Rattle.grammar_reading.specs.BitsRead.{PlacedRefusal, AdvancesFrom, IsSpelle
 -- ---- fronts and places
 
 -- two fronts, one behind the other
-both-left : (bits middle after : Option (List ℕ)) (f g : List ℕ) → bits ≡ option_map (λ rest. f ++ rest) middle → middle ≡ option_map (λ rest. g ++ rest) after → bits ≡ option_map (λ rest. (f ++ g) ++ rest) after
+both-left : (bits middle after : Option (List ℕ)) (f g : List ℕ) → bits ≡ option_map (λ rest. f ++ rest) middle
+    → middle ≡ option_map (λ rest. g ++ rest) after → bits ≡ option_map (λ rest. (f ++ g) ++ rest) after
 both-left bits middle None f g p q = p ∙ ap (option_map (λ rest. f ++ rest)) q
 both-left bits middle (Some rest) f g p q = p ∙ ap (option_map (λ x. f ++ x)) q ∙ ap Some (sym (append_assoc f g rest))
 
@@ -32,7 +33,8 @@ module _ {bits middle after : Option (List ℕ)} {place place_middle place_after
 pub advances-none : (bits : Option (List ℕ)) (place : ℕ) → AdvancesFrom bits bits place place
 advances-none bits place = record { front = []; left = no-front bits; moved = omega arith }
 
-pub reads-advances : {A : Type 0} {grammar : Grammar A} {value : A} {bits after : Option (List ℕ)} {place place_after : ℕ} → ReadsFrom grammar value bits after place place_after → AdvancesFrom bits after place place_after
+pub reads-advances : {A : Type 0} {grammar : Grammar A} {value : A} {bits after : Option (List ℕ)} {place place_after : ℕ}
+    → ReadsFrom grammar value bits after place place_after → AdvancesFrom bits after place place_after
 reads-advances r = record { front = r.front; left = r.left; moved = r.moved }
 
 -- ---- one thing behind another
@@ -42,7 +44,8 @@ abbrev pub StandsBefore : {A B : Type 0} → Grammar A → A → Grammar B → B
 StandsBefore first a second value = (f g rest other : List ℕ) → first.Spells a (f ++ rest) rest → second.Spells value (g ++ other) other → first.Spells a (f ++ (g ++ other)) (g ++ other)
 
 -- what spells a value of a grammar that doesn't look ahead does so before everything
-pub anywhere : {A : Type 0} {grammar : Grammar A} → IsLocal grammar → (value : A) (front rest following : List ℕ) → grammar.Spells value (front ++ rest) rest → grammar.Spells value (front ++ following) following
+pub anywhere : {A : Type 0} {grammar : Grammar A} → IsLocal grammar → (value : A) (front rest following : List ℕ)
+    → grammar.Spells value (front ++ rest) rest → grammar.Spells value (front ++ following) following
 anywhere {grammar = grammar} local value front rest following s =
     let (f, p, q) = local.anywhere value (front ++ rest) rest s in
     let same : f ≡ front = sym (append_cancel_right front f rest p) in
@@ -72,7 +75,8 @@ module _ {A B C : Type 0} (first : Grammar A) (second : Grammar B) (both : Gramm
     moved = both-moved r.front s.front place place_middle place_after r.moved s.moved;
   }
 
-pub reads-then : {A B : Type 0} {first : Grammar A} (next : A → Grammar B) {a : A} {value : B} {bits middle after : Option (List ℕ)} {place place_middle place_after : ℕ} → StandsBefore first a (next a) value
+pub reads-then : {A B : Type 0} {first : Grammar A} (next : A → Grammar B) {a : A} {value : B} {bits middle after : Option (List ℕ)}
+    {place place_middle place_after : ℕ} → StandsBefore first a (next a) value
     → ReadsFrom first a bits middle place place_middle → ReadsFrom (next a) value middle after place_middle place_after → ReadsFrom (first >>= next) value bits after place place_after
 reads-then {first = first} next {a} {value} before r s = reads-both first (next a) (first >>= next) a value value (λ bits middle rest u v. (a, middle, u, v)) before r s
 
@@ -97,7 +101,8 @@ module _ {A B C : Type 0} (first : Grammar A) (second : Grammar B) (both : Gramm
     moved = both-moved front r.front place place_middle said.at moved r.moved;
   }
 
-  explains-told : (told : Option PlacedRefusal) (bits middle : Option (List ℕ)) (place place_middle : ℕ) (front : List ℕ) → bits ≡ option_map (λ rest. front ++ rest) middle → IsSpelled first a front middle
+  explains-told : (told : Option PlacedRefusal) (bits middle : Option (List ℕ)) (place place_middle : ℕ) (front : List ℕ)
+      → bits ≡ option_map (λ rest. front ++ rest) middle → IsSpelled first a front middle
       → place_middle ≡ place + length front → IfSome middle (λ rest. ExplainsFrom second told rest place_middle) → IfSome bits (λ bits. ExplainsFrom both told bits place)
   explains-told told bits None place place_middle front left s moved e = subst (λ o. IfSome o (λ bits. ExplainsFrom both told bits place)) (sym left) tt
   explains-told None bits (Some rest) place place_middle front left s moved e = subst (λ o. IfSome o (λ bits. ExplainsFrom both None bits place)) (sym left) tt
@@ -119,7 +124,8 @@ reads-done value None place = record { front = []; spelled = ([], (refl, refl));
 reads-done value (Some bits) place = record { front = []; spelled = (refl, refl); left = refl; moved = omega arith }
 
 -- a value that another one is made of, as a record of its parts
-made-spelled : {A B : Type 0} (grammar : Grammar A) (make : A → B) (value : A) (after : Option (List ℕ)) (front : List ℕ) → IsSpelled grammar value front after → IsSpelled (grammar >>= λ a. done (make a)) (make value) front after
+made-spelled : {A B : Type 0} (grammar : Grammar A) (make : A → B) (value : A) (after : Option (List ℕ)) (front : List ℕ)
+    → IsSpelled grammar value front after → IsSpelled (grammar >>= λ a. done (make a)) (make value) front after
 made-spelled grammar make value None front (rest, s) = (rest, (value, rest, s, (refl, refl)))
 made-spelled grammar make value (Some rest) front s = (value, rest, s, (refl, refl))
 

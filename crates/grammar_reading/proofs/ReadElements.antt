@@ -1,5 +1,45 @@
 -- Numbers and flags of a grammar by the bits that a reader gives: read, refused by a rule, or cut by the end.
-use Rattle.std.proofs.Common.{◌≡◌, ◌==◌, ◌+◌, ◌-◌, ◌*◌, ◌^◌, ◌<◌, ◌≤◌, ℕ, zero, suc, List, [], ◌∷◌, ◌++◌, length, replicate, take, drop, Option, Some, None, IfSome, IfOk, Result, Ok, Err, Bool, true, false, refl, sym, ap, ap₂, subst, ◌∙◌, inl, inr, arith}
+use Rattle.std.proofs.Common.{
+  ◌≡◌,
+  ◌==◌,
+  ◌+◌,
+  ◌-◌,
+  ◌*◌,
+  ◌^◌,
+  ◌<◌,
+  ◌≤◌,
+  ℕ,
+  zero,
+  suc,
+  List,
+  [],
+  ◌∷◌,
+  ◌++◌,
+  length,
+  replicate,
+  take,
+  drop,
+  Option,
+  Some,
+  None,
+  IfSome,
+  IfOk,
+  Result,
+  Ok,
+  Err,
+  Bool,
+  true,
+  false,
+  refl,
+  sym,
+  ap,
+  ap₂,
+  subst,
+  ◌∙◌,
+  inl,
+  inr,
+  arith,
+}
 use Rattle.std.specs.Option.{option_map}
 use Rattle.std.proofs.lemmas.List.{length-append, length-replicate, take-append-drop}
 use Rattle.shelf_io.specs.declared.source.Source.{Ghosts}
@@ -60,7 +100,12 @@ code-cut Codes kind rules value code bits place short coded passing begun = reco
   moved = omega arith;
 } where
   few_bits : (front bits : List ℕ) → IsPrefix front bits → length front ≤ length bits
-  few_bits front bits first = omega (arith, ap length (sym (take-append-drop (length front) bits) ∙ ap (λ (x : List ℕ). x ++ drop (length front) bits) first), length-append front (drop (length front) bits))
+  few_bits front bits first = omega (
+    arith,
+    ap length (sym (take-append-drop (length front) bits)
+        ∙ ap (λ (x : List ℕ). x ++ drop (length front) bits) first),
+    length-append front (drop (length front) bits),
+  )
 
 -- ---- numbers of n bits (uimsbf)
 
@@ -86,7 +131,8 @@ pub explains-rule : (n value : ℕ) (told : Option (List ℕ)) (place : ℕ) (be
     → IfSome told (λ bits. ExplainsFrom (uimsbf n (before ++ broken ∷ after)) (Some (record { refusal = broken.refusal; at = place })) bits place)
 explains-rule n value None place before after broken front below passing fails = tt
 explains-rule n value (Some bits) place before after broken front below passing fails =
-    code-breaks (λ number code. (number < 2 ^ n) × (code ≡ bits_of n number)) End before after broken value (bits_of n value) bits place (free-number n) (below, refl) (number-first n value bits front) passing fails
+    code-breaks (λ number code. (number < 2 ^ n) × (code ≡ bits_of n number)) End before after broken value (bits_of n value) bits place
+    (free-number n) (below, refl) (number-first n value bits front) passing fails
 
 -- bits that end within a number, where one that begins with them passes the rules
 pub explains-cut : (n : ℕ) (told : Option (List ℕ)) (place : ℕ) (rules : List (Rule ℕ)) → IfSome told (λ bits. length bits < n)
@@ -94,7 +140,8 @@ pub explains-cut : (n : ℕ) (told : Option (List ℕ)) (place : ℕ) (rules : L
     → IfSome told (λ bits. ExplainsFrom (uimsbf n rules) (Some (record { refusal = End; at = place })) bits place)
 explains-cut n None place rules short some = tt
 explains-cut n (Some bits) place rules short (number, below, passing, begun) =
-    code-cut (λ number code. (number < 2 ^ n) × (code ≡ bits_of n number)) End rules number (bits_of n number) bits place (λ v c coded. omega (arith, short, ap length coded.1, length-bits_of n v)) (below, refl) passing begun
+    code-cut (λ number code. (number < 2 ^ n) × (code ≡ bits_of n number)) End rules number (bits_of n number) bits place
+    (λ v c coded. omega (arith, short, ap length coded.1, length-bits_of n v)) (below, refl) passing begun
 
 -- ---- flags, and marker bits
 
@@ -109,14 +156,16 @@ bit-flag value false e = subst (λ (v : ℕ). bits_of 1 v ≡ 0 ∷ []) e refl
 
 module _ (value : ℕ) (told after : Option (List ℕ)) (place place_after : ℕ) where
   -- what `bits(1)` gives is a flag of the grammar
-  pub reads-flag : (rules : List (Rule Bool)) (is_set : Bool) → flag is_set ≡ value → IfSome told (λ bits. IsFirstNumber 1 bits value) → after ≡ without_bits told 1 → place_after ≡ place + 1 → passes rules is_set ≡ true
+  pub reads-flag : (rules : List (Rule Bool)) (is_set : Bool) → flag is_set ≡ value → IfSome told (λ bits. IsFirstNumber 1 bits value)
+      → after ≡ without_bits told 1 → place_after ≡ place + 1 → passes rules is_set ≡ true
       → ReadsFrom (flag_where rules) is_set told after place place_after
   reads-flag rules is_set is front left moved passing =
       reads-code FlagCode End rules is_set (flag is_set ∷ []) refl told after place place_after passing
       (number-left 1 value told front ∙ ap₂ (λ (x : List ℕ) (o : Option (List ℕ)). option_map (λ rest. x ++ rest) o) (bit-flag value is_set is) (sym left)) moved
 
 -- a flag that breaks a rule
-pub explains-flag_rule : (value : ℕ) (told : Option (List ℕ)) (place : ℕ) (before after : List (Rule Bool)) (broken : Rule Bool) (is_set : Bool) → flag is_set ≡ value → IfSome told (λ bits. IsFirstNumber 1 bits value)
+pub explains-flag_rule : (value : ℕ) (told : Option (List ℕ)) (place : ℕ) (before after : List (Rule Bool)) (broken : Rule Bool) (is_set : Bool)
+    → flag is_set ≡ value → IfSome told (λ bits. IsFirstNumber 1 bits value)
     → passes before is_set ≡ true → broken.test is_set ≡ false
     → IfSome told (λ bits. ExplainsFrom (flag_where (before ++ broken ∷ after)) (Some (record { refusal = broken.refusal; at = place })) bits place)
 explains-flag_rule value None place before after broken is_set is front passing fails = tt
@@ -173,13 +222,15 @@ left-bits {S} {g} reader = by_bytes (g.left (source_of reader).now) where
   by_bytes (Some bytes) = AreBits-append (held_bits reader) (bit_list bytes) (AreBits-bits_of (bits_held reader) _) (AreBits-bit_list bytes)
 
 -- a number that a reader gives, where it gives one
-pub reads-answer : {E : Type 0} (result : Result ℕ E) (n : ℕ) (told after : Option (List ℕ)) (place place_after : ℕ) → IfOk result (λ value. IfSome told (λ bits. IsFirstNumber n bits value)) → IfOk result (λ value. value < 2 ^ n)
+pub reads-answer : {E : Type 0} (result : Result ℕ E) (n : ℕ) (told after : Option (List ℕ)) (place place_after : ℕ)
+    → IfOk result (λ value. IfSome told (λ bits. IsFirstNumber n bits value)) → IfOk result (λ value. value < 2 ^ n)
     → IfOk result (λ _. after ≡ without_bits told n) → IfOk result (λ _. place_after ≡ place + n) → IfOk result (λ number. ReadsFrom (uimsbf n []) number told after place place_after)
 reads-answer (Ok value) n told after place place_after front below left moved = reads-number n value told after place place_after [] front below left moved refl
 reads-answer (Err fault) n told after place place_after front below left moved = tt
 
 -- a bit that a reader gives, as a flag
-pub reads-bit : (value : ℕ) (told after : Option (List ℕ)) (place place_after : ℕ) → IfSome told (λ bits. IsFirstNumber 1 bits value) → value < 2 ^ 1 → after ≡ without_bits told 1 → place_after ≡ place + 1
+pub reads-bit : (value : ℕ) (told after : Option (List ℕ)) (place place_after : ℕ) → IfSome told (λ bits. IsFirstNumber 1 bits value) → value < 2 ^ 1
+    → after ≡ without_bits told 1 → place_after ≡ place + 1
     → ReadsFrom one_flag (value == 1) told after place place_after
 reads-bit value told after place place_after front below left moved = reads-flag value told after place place_after [] (value == 1) (of_bit value below) front left moved refl where
   of_bit : (value : ℕ) → value < 2 → flag (value == 1) ≡ value

@@ -205,7 +205,9 @@ too_long text long = inl (omega arith, refl)
 -- ---- what is stated
 
 abbrev program : Members
-program = member (codes "coarser") (array (item (integer (pos 17)) no_items)) (member (codes "file") (string (codes "a.ts")) (member (codes "number") (integer (pos 7)) (member (codes "program") (integer (pos 1)) no_members)))
+program = member (codes "coarser") (array (item (integer (pos 17)) no_items))
+    (member (codes "file") (string (codes "a.ts")) (member (codes "number") (integer (pos 7))
+    (member (codes "program") (integer (pos 1)) no_members)))
 
 abbrev document : Members
 document = member (codes "program") (array (item (table program) no_items)) (member (codes "slot") (integer (pos 4000)) no_members)
@@ -230,6 +232,7 @@ stated_job = record {
 }
 
 -- the file of the second program is the third one that the command names
-shared_file : refusals_of_files (codes "job.toml" ∷ codes "out.ts" ∷ codes "cert" ∷ []) 0 (record stated_program { file = codes "outs.ts" } ∷ record stated_program { file = codes "cert" } ∷ []) ≡ OfField (codes "program[1].file") ∷ []
+shared_file : refusals_of_files (codes "job.toml" ∷ codes "out.ts" ∷ codes "cert" ∷ []) 0
+    (record stated_program { file = codes "outs.ts" } ∷ record stated_program { file = codes "cert" } ∷ []) ≡ OfField (codes "program[1].file") ∷ []
 unfolding place_of_program digits
 shared_file = refl

@@ -4,7 +4,26 @@ use Rattle.serde_json.specs.View.{items_of}
 use Rattle.serde_json.specs.Written.{has_float, items_have_float}
 use Rattle.job_report.specs.declared.report.ProgramReport.{ProgramReport}
 use Rattle.job_report.specs.declared.report.Report.{Report}
-use Rattle.job_report.specs.declared.report.Report.TheVariants.{Plan, Run, Probe, Check, Gen, Usage, TableSyntax, TableLimit, JobSyntax, JobField, JobLimit, Source, Unschedulable, ReadFault, WriteFault, CertSyntax, CertFault, Missing}
+use Rattle.job_report.specs.declared.report.Report.TheVariants.{
+  Plan,
+  Run,
+  Probe,
+  Check,
+  Gen,
+  Usage,
+  TableSyntax,
+  TableLimit,
+  JobSyntax,
+  JobField,
+  JobLimit,
+  Source,
+  Unschedulable,
+  ReadFault,
+  WriteFault,
+  CertSyntax,
+  CertFault,
+  Missing,
+}
 use Rattle.job_report.specs.Report.{json_number, program_object, report_object}
 
 numbers_without_float : (numbers : List ℕ) → items_have_float (items_of (map json_number numbers)) ≡ false

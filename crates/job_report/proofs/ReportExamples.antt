@@ -3,7 +3,26 @@ use Rattle.std.proofs.Common.{◌≡◌, [], ◌∷◌, true, false, codes, refl
 use Rattle.std.specs.Fmt.{digits}
 use Rattle.serde_json.proofs.OnLiterals.{serde_json_on_literals}
 use Rattle.job_report.specs.declared.report.ProgramReport.{ProgramReport}
-use Rattle.job_report.specs.declared.report.Report.TheVariants.{Plan, Run, Probe, Check, Gen, Usage, TableSyntax, TableLimit, JobSyntax, JobField, JobLimit, Source, Unschedulable, ReadFault, WriteFault, CertSyntax, CertFault, Missing}
+use Rattle.job_report.specs.declared.report.Report.TheVariants.{
+  Plan,
+  Run,
+  Probe,
+  Check,
+  Gen,
+  Usage,
+  TableSyntax,
+  TableLimit,
+  JobSyntax,
+  JobField,
+  JobLimit,
+  Source,
+  Unschedulable,
+  ReadFault,
+  WriteFault,
+  CertSyntax,
+  CertFault,
+  Missing,
+}
 use Rattle.job_report.specs.Report.{report_line}
 
 usage : report_line Usage ≡ codes "{\"reason\":\"usage\",\"status\":2}\n"
@@ -81,6 +100,7 @@ missing = refl
 abbrev program : ProgramReport
 program = record { audio_bytes = 11800 ∷ []; choice = 0 ∷ 0 ∷ []; descriptors_dropped = 0; not_carried = 260 ∷ []; number = 1; pes_dropped = 0; rest = 0; units_dropped = 0 }
 
-run : report_line (Run 0 0 1 (program ∷ []) true 270) ≡ codes "{\"bound\":0,\"distortion\":0,\"nodes\":1,\"programs\":[{\"audio_bytes\":[11800],\"choice\":[0,0],\"descriptors_dropped\":0,\"not_carried\":[260],\"number\":1,\"pes_dropped\":0,\"rest\":0,\"units_dropped\":0}],\"search\":\"optimal\",\"slots\":270}\n"
+run : report_line (Run 0 0 1 (program ∷ []) true 270) ≡ codes
+    "{\"bound\":0,\"distortion\":0,\"nodes\":1,\"programs\":[{\"audio_bytes\":[11800],\"choice\":[0,0],\"descriptors_dropped\":0,\"not_carried\":[260],\"number\":1,\"pes_dropped\":0,\"rest\":0,\"units_dropped\":0}],\"search\":\"optimal\",\"slots\":270}\n"
 unfolding serde_json_on_literals digits
 run = refl

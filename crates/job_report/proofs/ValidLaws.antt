@@ -1,5 +1,37 @@
 -- The job that a document states is valid where nothing is wrong with the document.
-use Rattle.std.proofs.Common.{◌≡◌, ◌≢◌, ℕ, zero, suc, ◌≤◌, ◌==◌, Bool, true, false, not, ◌||◌, ◌++◌, List, [], ◌∷◌, length, codes, eqb, leb, Option, Some, None, Result, Ok, Err, refl, sym, subst, ap, arith}
+use Rattle.std.proofs.Common.{
+  ◌≡◌,
+  ◌≢◌,
+  ℕ,
+  zero,
+  suc,
+  ◌≤◌,
+  ◌==◌,
+  Bool,
+  true,
+  false,
+  not,
+  ◌||◌,
+  ◌++◌,
+  List,
+  [],
+  ◌∷◌,
+  length,
+  codes,
+  eqb,
+  leb,
+  Option,
+  Some,
+  None,
+  Result,
+  Ok,
+  Err,
+  refl,
+  sym,
+  subst,
+  ap,
+  arith,
+}
 use Rattle.std.specs.Prelude.{All, IfOk}
 use Rattle.std.specs.List.{AllPairs, flat_map, list_any, list_all}
 use Rattle.std.specs.List.Sorted.{IsStrictlyIncreasing}
@@ -7,11 +39,56 @@ use Rattle.std.proofs.lemmas.Bool.{and_parts, leb-true, true≢false}
 use Rattle.std.proofs.lemmas.List.Elements.{All-nil, All-cons, All-weaker}
 use Rattle.toml.specs.Data.{Data, string, integer, array, table, float, boolean, datetime, Members, get_member}
 use Rattle.version_table.specs.declared.limits.TheConstants.{SLOT_LEAST, SLOT_MOST, NODES_MOST, EVALUATIONS_MOST, PROGRAMS_MOST}
-use Rattle.job_report.specs.declared.limits.TheConstants.{START_MOST, START_DEFAULT, STREAM_ID_MOST, STREAM_ID_DEFAULT, NODES_DEFAULT, EVALUATIONS_DEFAULT, NUMBER_MOST, WEIGHT_MOST, WEIGHT_DEFAULT, COARSER_MOST, COARSER_DEFAULT, COARSENESS_LEAST, COARSENESS_MOST, DROP_MOST, PID_MOST}
+use Rattle.job_report.specs.declared.limits.TheConstants.{
+  START_MOST,
+  START_DEFAULT,
+  STREAM_ID_MOST,
+  STREAM_ID_DEFAULT,
+  NODES_DEFAULT,
+  EVALUATIONS_DEFAULT,
+  NUMBER_MOST,
+  WEIGHT_MOST,
+  WEIGHT_DEFAULT,
+  COARSER_MOST,
+  COARSER_DEFAULT,
+  COARSENESS_LEAST,
+  COARSENESS_MOST,
+  DROP_MOST,
+  PID_MOST,
+}
 use Rattle.job_report.specs.declared.job.ProgramJob.{ProgramJob}
 use Rattle.job_report.specs.declared.job.Job.{Job as JobValue}
-use Rattle.job_report.specs.Field.{required, job_fields, program_fields, number_of_program, values_in, list_of_items, is_integer, is_between, is_text, is_some_text, is_table, is_array_of, are_numbers, are_coarser, has_between, is_new_number}
-use Rattle.job_report.specs.Refusal.{FieldRefusal, refusals_of, refusals_of_field, refusals_of_stated, refusals_of_names, refusals_of_table, refusals_of_programs, place_of_program, programs_in, tables_among, stated_tables}
+use Rattle.job_report.specs.Field.{
+  required,
+  job_fields,
+  program_fields,
+  number_of_program,
+  values_in,
+  list_of_items,
+  is_integer,
+  is_between,
+  is_text,
+  is_some_text,
+  is_table,
+  is_array_of,
+  are_numbers,
+  are_coarser,
+  has_between,
+  is_new_number,
+}
+use Rattle.job_report.specs.Refusal.{
+  FieldRefusal,
+  refusals_of,
+  refusals_of_field,
+  refusals_of_stated,
+  refusals_of_names,
+  refusals_of_table,
+  refusals_of_programs,
+  place_of_program,
+  programs_in,
+  tables_among,
+  stated_tables,
+}
 use Rattle.job_report.specs.Job.{integer_of, array_of, IsProgramOf, AreProgramsOf, IsJobOf}
 use Rattle.job_report.specs.JobText.{SpellsJob}
 use Rattle.job_report.specs.declared.fault.JobFault.{JobFault}
@@ -218,9 +295,11 @@ valid_job document job none is =
     let six = six_right _ _ _ _ _ _ (none_before (flat_map (refusals_of_field [] document) job_fields) (refusals_of_names [] document job_fields) top) in
     let slot = required_right [] document (codes "slot") is_integer (is_between SLOT_LEAST SLOT_MOST) (integer_of job.slot) six.first is.slot in
     let start = optional_right [] document (codes "start") is_integer (is_between 0 START_MOST) (integer_of START_DEFAULT) (integer_of job.start) six.second is.start default_start in
-    let stream_id = optional_right [] document (codes "stream_id") is_integer (is_between 0 STREAM_ID_MOST) (integer_of STREAM_ID_DEFAULT) (integer_of job.stream_id) six.third is.stream_id default_stream_id in
+    let stream_id = optional_right [] document (codes "stream_id") is_integer (is_between 0 STREAM_ID_MOST) (integer_of STREAM_ID_DEFAULT)
+    (integer_of job.stream_id) six.third is.stream_id default_stream_id in
     let nodes = optional_right [] document (codes "nodes") is_integer (is_between 1 NODES_MOST) (integer_of NODES_DEFAULT) (integer_of job.nodes) six.fourth is.nodes default_nodes in
-    let evaluations = optional_right [] document (codes "evaluations") is_integer (is_between 0 EVALUATIONS_MOST) (integer_of EVALUATIONS_DEFAULT) (integer_of job.evaluations) six.fifth is.evaluations default_evaluations in
+    let evaluations = optional_right [] document (codes "evaluations") is_integer (is_between 0 EVALUATIONS_MOST) (integer_of EVALUATIONS_DEFAULT)
+    (integer_of job.evaluations) six.fifth is.evaluations default_evaluations in
     let count = stated_count document six.sixth in
     let same = programs_of (programs_in document) job.programs is.programs in
     let programs = valid_programs [] (programs_in document) job.programs (none_behind (refusals_of_table [] document job_fields) _ none) is.programs in

@@ -5,7 +5,26 @@ use Rattle.serde_json.specs.View.{items_of}
 use Rattle.serde_json.specs.Written.{compact_text}
 use Rattle.job_report.specs.declared.report.ProgramReport.{ProgramReport}
 use Rattle.job_report.specs.declared.report.Report.{Report}
-use Rattle.job_report.specs.declared.report.Report.TheVariants.{Plan, Run, Probe, Check, Gen, Usage, TableSyntax, TableLimit, JobSyntax, JobField, JobLimit, Source, Unschedulable, ReadFault, WriteFault, CertSyntax, CertFault, Missing}
+use Rattle.job_report.specs.declared.report.Report.TheVariants.{
+  Plan,
+  Run,
+  Probe,
+  Check,
+  Gen,
+  Usage,
+  TableSyntax,
+  TableLimit,
+  JobSyntax,
+  JobField,
+  JobLimit,
+  Source,
+  Unschedulable,
+  ReadFault,
+  WriteFault,
+  CertSyntax,
+  CertFault,
+  Missing,
+}
 
 -- ---- values
 

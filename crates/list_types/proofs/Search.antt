@@ -3,7 +3,8 @@ use Rattle.std.proofs.Common.{◌≡◌, ℕ, zero, suc, ◌+◌, ◌<◌, ◌�
 use Rattle.std.specs.List.{find, range_with_len}
 use Rattle.std.proofs.lemmas.Bool.{cases_eq}
 
-pub find_range : (test : ℕ → Bool) (n from found : ℕ) → from ≤ found → found < from + n → test found ≡ true → ((at : ℕ) → from ≤ at → at < found → test at ≡ false) → find test (range_with_len from n) ≡ Some found
+pub find_range : (test : ℕ → Bool) (n from found : ℕ) → from ≤ found → found < from + n → test found ≡ true
+    → ((at : ℕ) → from ≤ at → at < found → test at ≡ false) → find test (range_with_len from n) ≡ Some found
 find_range test zero from found begun upto is none = absurd (omega arith)
 find_range test (suc n) from found begun upto is none = elim (cases_eq from found) [
   | inl same ↦ (let here : test from ≡ true = subst (λ (k : ℕ). test k ≡ true) (sym same) is in rw here (ap Some same))

@@ -66,15 +66,19 @@ module _ {S : Type 0} {g : Ghosts S} (keeps_on : (x y z : S) → g.keeps x y →
   pub escape-read : (symbol : ℕ) → symbol ≡ 34 → Answers ⊥ (symbol_up_to Address left BadAddress BadAddress) (Ok symbol) middle new → Listed (address_code most) (escapes ++ tt ∷ []) old new
   escape-read symbol is a =
       let code : made_code symbol ≡ more tt = ap made_code is in
-      listed-more (address_code most) keeps_on escapes so_far tt (stands most escapes (more tt)) (subst (λ (v : Next (Unit {0}) ℕ). Answers ⊥ (address_code most escapes) (Ok v) middle new) code (code-ok symbol a))
+      listed-more (address_code most) keeps_on escapes so_far tt (stands most escapes (more tt))
+      (subst (λ (v : Next (Unit {0}) ℕ). Answers ⊥ (address_code most escapes) (Ok v) middle new) code (code-ok symbol a))
 
-  pub increment-read : (symbol increment : ℕ) → (symbol ≡ 34 → ⊥) → increment ≡ 33 * length escapes + symbol → Answers ⊥ (symbol_up_to Address left BadAddress BadAddress) (Ok symbol) middle new → Answers ⊥ (address_increment most) (Ok increment) old new
+  pub increment-read : (symbol increment : ℕ) → (symbol ≡ 34 → ⊥) → increment ≡ 33 * length escapes + symbol
+      → Answers ⊥ (symbol_up_to Address left BadAddress BadAddress) (Ok symbol) middle new → Answers ⊥ (address_increment most) (Ok increment) old new
   increment-read symbol increment other is a =
       let test : (symbol == 34) ≡ false = ne_eqb symbol 34 other in
       let code : made_code symbol ≡ last symbol = ap (λ (b : Bool). if b then more tt else last symbol) test in
-      let b = listed-end (address_code most) keeps_on escapes so_far symbol (stands most escapes (last symbol)) (subst (λ (v : Next (Unit {0}) ℕ). Answers ⊥ (address_code most escapes) (Ok v) middle new) code (code-ok symbol a)) in
+      let b = listed-end (address_code most) keeps_on escapes so_far symbol (stands most escapes (last symbol))
+      (subst (λ (v : Next (Unit {0}) ℕ). Answers ⊥ (address_code most escapes) (Ok v) middle new) code (code-ok symbol a)) in
       subst (λ n. Answers ⊥ (address_increment most) (Ok n) old new) (sym is)
-      (answers-as (many (address_code most)) (address_increment most) (λ codes. 33 * length codes.0 + codes.1) old new (λ v bits rest s. (v, rest, s, (refl, refl))) (λ bits others refusal r. inl r) (Ok (escapes, symbol)) b)
+      (answers-as (many (address_code most)) (address_increment most) (λ codes. 33 * length codes.0 + codes.1) old new
+      (λ v bits rest s. (v, rest, s, (refl, refl))) (λ bits others refusal r. inl r) (Ok (escapes, symbol)) b)
 
   pub increment-err : (fault : SliceFault) → Answers ⊥ (symbol_up_to Address left BadAddress BadAddress) (Err fault) middle new → Answers ⊥ (address_increment most) (Err fault) old new
   increment-err fault a = answers-first (many (address_code most)) (λ codes. done (33 * length codes.0 + codes.1)) (listed-err (address_code most) keeps_on escapes so_far (code-err fault a))

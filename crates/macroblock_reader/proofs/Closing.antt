@@ -1,5 +1,42 @@
 -- Where a slice is closed (ISO/IEC 13818-2, 6.2.4).
-use Rattle.std.proofs.Common.{◌≡◌, ◌⊎◌, ◌+◌, ◌≤◌, ◌==◌, nat_le, ℕ, List, [], ◌∷◌, ◌++◌, length, replicate, take, Option, Some, None, IfSome, IfOk, IfErr, IsNone, MatchResult, Result, Ok, Err, Bool, true, false, refl, sym, ap, subst, ◌∙◌, inl, inr, arith}
+use Rattle.std.proofs.Common.{
+  ◌≡◌,
+  ◌⊎◌,
+  ◌+◌,
+  ◌≤◌,
+  ◌==◌,
+  nat_le,
+  ℕ,
+  List,
+  [],
+  ◌∷◌,
+  ◌++◌,
+  length,
+  replicate,
+  take,
+  Option,
+  Some,
+  None,
+  IfSome,
+  IfOk,
+  IfErr,
+  IsNone,
+  MatchResult,
+  Result,
+  Ok,
+  Err,
+  Bool,
+  true,
+  false,
+  refl,
+  sym,
+  ap,
+  subst,
+  ◌∙◌,
+  inl,
+  inr,
+  arith,
+}
 use Rattle.std.proofs.lemmas.List.{length-take, take_all, take-append-le, take-replicate, replicate-append-replicate}
 use Rattle.std.proofs.lemmas.Bool.{cases_Bool, ne_eqb, leb-true, leb-false}
 use Rattle.shelf_io.specs.declared.source.Source.{Ghosts}
@@ -78,7 +115,9 @@ module _ (seq : SeqState) (coding : PicCoding) (first : Bool) (left : ℕ) where
         goes-on later (inr none) = none
 
   module _ (before : List Macroblock) (e : first ≡ (length before == 0)) (f : left ≡ columns_left seq before) where
-    pub next-read : (m : Macroblock) (bits after : Option (List ℕ)) (at at_after : ℕ) → ReadsFrom (macroblock coding first left) m bits after at at_after → ReadsFrom (next_macroblock seq coding before) (more m) bits after at at_after
+    pub next-read : (m : Macroblock) (bits after : Option (List ℕ)) (at at_after : ℕ)
+        → ReadsFrom (macroblock coding first left) m bits after at at_after
+        → ReadsFrom (next_macroblock seq coding before) (more m) bits after at at_after
     next-read m bits after at at_after r = record { front = r.front; spelled = by_bits after r.spelled; left = r.left; moved = r.moved } where
       by_bits : (after : Option (List ℕ)) → IsSpelled (macroblock coding first left) m r.front after → IsSpelled (next_macroblock seq coding before) (more m) r.front after
       by_bits None (rest, s) = (rest, next-spells before e f m (r.front ++ rest) rest s)
@@ -88,9 +127,16 @@ module _ (seq : SeqState) (coding : PicCoding) (first : Bool) (left : ℕ) where
         → IfSome bits (λ b. ExplainsFrom (macroblock coding first left) told b at) → IfSome bits (λ b. ExplainsFrom (next_macroblock seq coding before) told b at)
     next-explains told None at going x = tt
     next-explains None (Some bits) at going x = tt
-    next-explains (Some said) (Some bits) at going r = record { front = r.front; left = r.left; split = r.split; refused = next-refuses before e f bits r.left said.refusal going r.refused; moved = r.moved }
+    next-explains (Some said) (Some bits) at going r = record {
+      front = r.front;
+      left = r.left;
+      split = r.split;
+      refused = next-refuses before e f bits r.left said.refusal going r.refused;
+      moved = r.moved;
+    }
 
-  pub next-closed : (before : List Macroblock) → first ≡ (length before == 0) → first ≡ false → (bits after : Option (List ℕ)) (at at_after : ℕ) → IfSome bits ClosesSlice → after ≡ bits → at_after ≡ at
+  pub next-closed : (before : List Macroblock) → first ≡ (length before == 0) → first ≡ false → (bits after : Option (List ℕ)) (at at_after : ℕ)
+      → IfSome bits ClosesSlice → after ≡ bits → at_after ≡ at
       → ReadsFrom (next_macroblock seq coding before) (last tt) bits after at at_after
   next-closed [] e later bits after at at_after closes same moved = absurd (let never : true ≡ false = sym e ∙ later in cc)
   next-closed (b ∷ bs) e later bits after at at_after closes same moved =
@@ -101,7 +147,8 @@ module _ (seq : SeqState) (coding : PicCoding) (first : Bool) (left : ℕ) where
         here (Some rest) closes = record { front = []; spelled = inl (closes, (refl, refl)); left = refl; moved = omega arith }
 
 -- where the bits are told, the answer is theirs
-pub next-exact : {A T S : Type 0} {g : Ghosts S} (grammar : Grammar A) (found : T → A) (old new : BitReader S g) → IsExact grammar → (value : A) (rest : List ℕ) → BeginsWith grammar value old rest → (result : Result T SliceFault)
+pub next-exact : {A T S : Type 0} {g : Ghosts S} (grammar : Grammar A) (found : T → A) (old new : BitReader S g) → IsExact grammar
+    → (value : A) (rest : List ℕ) → BeginsWith grammar value old rest → (result : Result T SliceFault)
     → IfOk result (λ x. Reads grammar (found x) old new) → IfErr result (λ fault. Explains grammar old (refusal_told fault))
     → MatchResult result (λ x. (found x ≡ value) × (bits_left new ≡ Some rest)) (λ fault. IsNone (refusal_told fault))
 next-exact grammar found old new exact value rest comes (Ok x) r e = read-comes exact rest r comes

@@ -1,5 +1,38 @@
 -- Numbers, flags and codes of tables, as a reader of bits and windows gives them.
-use Rattle.std.proofs.Common.{◌≡◌, ◌==◌, ◌+◌, ◌-◌, ◌*◌, ◌^◌, ◌<◌, ◌≤◌, nat_le, ℕ, List, [], ◌∷◌, ◌++◌, length, replicate, Option, Some, None, IfSome, Ok, Err, true, not, refl, sym, ap, subst, ◌∙◌, inl, inr, arith}
+use Rattle.std.proofs.Common.{
+  ◌≡◌,
+  ◌==◌,
+  ◌+◌,
+  ◌-◌,
+  ◌*◌,
+  ◌^◌,
+  ◌<◌,
+  ◌≤◌,
+  nat_le,
+  ℕ,
+  List,
+  [],
+  ◌∷◌,
+  ◌++◌,
+  length,
+  replicate,
+  Option,
+  Some,
+  None,
+  IfSome,
+  Ok,
+  Err,
+  true,
+  not,
+  refl,
+  sym,
+  ap,
+  subst,
+  ◌∙◌,
+  inl,
+  inr,
+  arith,
+}
 use Rattle.std.specs.List.{list_all}
 use Rattle.std.proofs.lemmas.Bool.{and_from, and_parts, ne_eqb, leb-true}
 use Rattle.std.proofs.lemmas.List.{length-append, length-replicate}
@@ -62,7 +95,8 @@ answers-bit_fault grammar (bits.Outside outside) old new end advances failed mis
 -- ---- numbers with a rule
 
 -- bits that end within a number that isn't 0 begin one
-not_zero-completed : (n : ℕ) (front : List ℕ) → 0 < n → AreBits front → length front < n → (number : ℕ) × (number < 2 ^ n) × (passes (rule BadType (λ k. not (k == 0)) ∷ []) number ≡ true) × IsPrefix front (bits_of n number)
+not_zero-completed : (n : ℕ) (front : List ℕ) → 0 < n → AreBits front → length front < n → (number : ℕ) × (number < 2 ^ n)
+    × (passes (rule BadType (λ k. not (k == 0)) ∷ []) number ≡ true) × IsPrefix front (bits_of n number)
 not_zero-completed n front some are short =
     let zeros = replicate (n - 1 - length front) 0 in
     let filled = front ++ zeros in
@@ -91,7 +125,8 @@ explains-not_zero_cut n (Some bits) at some are short =
     explains-cut n (Some bits) at (rule BadType (λ k. not (k == 0)) ∷ []) short (not_zero-completed n bits some are short)
 
 module _ {S : Type 0} {g : Ghosts S} (n value : ℕ) (old new : BitReader S g)
-    (front : IfSome (bits_left old) (λ bits. IsFirstNumber n bits value)) (below : value < 2 ^ n) (left : bits_left new ≡ without_bits (bits_left old) n) (moved : place new ≡ place old + n) (keeps : KeepsSource old new) where
+    (front : IfSome (bits_left old) (λ bits. IsFirstNumber n bits value)) (below : value < 2 ^ n)
+    (left : bits_left new ≡ without_bits (bits_left old) n) (moved : place new ≡ place old + n) (keeps : KeepsSource old new) where
   abbrev not_zero : List (Rule ℕ)
   not_zero = rule BadType (λ k. not (k == 0)) ∷ []
 
@@ -193,12 +228,14 @@ pub symbol-most : (table : TableName) (most : ℕ) (kind past : Refusal) (symbol
 symbol-most table most kind past symbol bits rest (code, listed, passing, split) = leb-true symbol most (and_parts (nat_le symbol most) true passing).0
 
 -- what was spelled, whatever follows it
-pub of-answer : {M A S : Type 0} {g : Ghosts S} (grammar : Grammar A) (value : A) (old new : BitReader S g) → Answers M grammar (Ok value) old new → (bits : List ℕ) × (rest : List ℕ) × grammar.Spells value bits rest
+pub of-answer : {M A S : Type 0} {g : Ghosts S} (grammar : Grammar A) (value : A) (old new : BitReader S g) → Answers M grammar (Ok value) old new
+    → (bits : List ℕ) × (rest : List ℕ) × grammar.Spells value bits rest
 of-answer grammar value old new a = by_bits (bits_left new) a.ok.spelled where
   by_bits : (after : Option (List ℕ)) → IsSpelled grammar value a.ok.front after → (bits : List ℕ) × (rest : List ℕ) × grammar.Spells value bits rest
   by_bits None (rest, s) = (a.ok.front ++ rest, rest, s)
   by_bits (Some rest) s = (a.ok.front ++ rest, rest, s)
 
-pub answers-most : {S : Type 0} {g : Ghosts S} (table : TableName) (most : ℕ) (kind : Refusal) (symbol : ℕ) (old new : BitReader S g) → Answers ⊥ (symbol_up_to table most kind kind) (Ok symbol) old new → symbol ≤ most
+pub answers-most : {S : Type 0} {g : Ghosts S} (table : TableName) (most : ℕ) (kind : Refusal) (symbol : ℕ) (old new : BitReader S g)
+    → Answers ⊥ (symbol_up_to table most kind kind) (Ok symbol) old new → symbol ≤ most
 answers-most table most kind symbol old new a =
     let (bits, rest, s) = of-answer (symbol_up_to table most kind kind) symbol old new a in symbol-most table most kind kind symbol bits rest s

@@ -1,5 +1,37 @@
 -- Answers of readers put together, as the parts of a grammar are.
-use Rattle.std.proofs.Common.{◌≡◌, ℕ, ◌+◌, ◌-◌, ◌^◌, ◌≤◌, nat_lt, List, [], ◌++◌, length, Option, Some, None, IfSome, IsErrOf, Result, Ok, Err, Bool, true, if◌then◌else◌, refl, sym, ap, subst, ◌∙◌, inl, inr, arith, append_assoc}
+use Rattle.std.proofs.Common.{
+  ◌≡◌,
+  ℕ,
+  ◌+◌,
+  ◌-◌,
+  ◌^◌,
+  ◌≤◌,
+  nat_lt,
+  List,
+  [],
+  ◌++◌,
+  length,
+  Option,
+  Some,
+  None,
+  IfSome,
+  IsErrOf,
+  Result,
+  Ok,
+  Err,
+  Bool,
+  true,
+  if◌then◌else◌,
+  refl,
+  sym,
+  ap,
+  subst,
+  ◌∙◌,
+  inl,
+  inr,
+  arith,
+  append_assoc,
+}
 use Rattle.std.specs.Option.{option_map}
 use Rattle.std.proofs.lemmas.Bool.{cases_Bool, ltb-true, ltb-false}
 use Rattle.std.proofs.lemmas.List.{length-append}
@@ -35,7 +67,8 @@ rose-on a b c le le' rose few = elim (cases_Bool (nat_lt b (2 ^ 64 - 1))) [
 pub err-same : {A B E : Type 0} (x y : E) → IsErrOf {T = A} (Err x) y → IsErrOf {T = B} (Err x) y
 err-same x y e = let same : x ≡ y = cc in ap Err same
 
-local-any : {A : Type 0} {grammar : Grammar A} → IsLocal grammar → (value : A) (front : List ℕ) (after : Option (List ℕ)) → IsSpelled grammar value front after → (following : List ℕ) → grammar.Spells value (front ++ following) following
+local-any : {A : Type 0} {grammar : Grammar A} → IsLocal grammar → (value : A) (front : List ℕ) (after : Option (List ℕ))
+    → IsSpelled grammar value front after → (following : List ℕ) → grammar.Spells value (front ++ following) following
 local-any local value front None (rest, s) following = anywhere local value front rest following s
 local-any local value front (Some rest) s following = anywhere local value front rest following s
 
@@ -43,13 +76,15 @@ no-front : (bits : Option (List ℕ)) → bits ≡ option_map (λ (others : List
 no-front None = refl
 no-front (Some bits) = refl
 
-left-on : (bits middle after : Option (List ℕ)) (f h : List ℕ) → bits ≡ option_map (λ others. f ++ others) middle → middle ≡ option_map (λ others. h ++ others) after → bits ≡ option_map (λ others. (f ++ h) ++ others) after
+left-on : (bits middle after : Option (List ℕ)) (f h : List ℕ) → bits ≡ option_map (λ others. f ++ others) middle
+    → middle ≡ option_map (λ others. h ++ others) after → bits ≡ option_map (λ others. (f ++ h) ++ others) after
 left-on bits middle None f h p q = p ∙ ap (option_map (λ others. f ++ others)) q
 left-on bits middle (Some rest) f h p q = p ∙ ap (option_map (λ x. f ++ x)) q ∙ ap Some (sym (append_assoc f h rest))
 
 -- ---- one answer
 
-pub answers-read : {M A S : Type 0} {g : Ghosts S} (grammar : Grammar A) (value : A) (old new : BitReader S g) → Reads grammar value old new → KeepsSource old new → Answers M grammar (Ok value) old new
+pub answers-read : {M A S : Type 0} {g : Ghosts S} (grammar : Grammar A) (value : A) (old new : BitReader S g) → Reads grammar value old new
+    → KeepsSource old new → Answers M grammar (Ok value) old new
 answers-read grammar value old new r keeps = record {
   ok = r;
   refused = tt;
@@ -77,7 +112,8 @@ answers-told grammar fault said old new told explains advances keeps = record {
 
 -- the answer of another grammar, which spells and refuses what this one does
 pub answers-as : {M A B S : Type 0} {g : Ghosts S} (grammar : Grammar A) (other : Grammar B) (made : A → B) (old new : BitReader S g)
-    → ((v : A) (bits rest : List ℕ) → grammar.Spells v bits rest → other.Spells (made v) bits rest) → ((bits left : List ℕ) (refusal : Refusal) → grammar.Refuses bits refusal left → other.Refuses bits refusal left)
+    → ((v : A) (bits rest : List ℕ) → grammar.Spells v bits rest → other.Spells (made v) bits rest)
+    → ((bits left : List ℕ) (refusal : Refusal) → grammar.Refuses bits refusal left → other.Refuses bits refusal left)
     → (result : Result A SliceFault) → Answers M grammar result old new → Answers M other (answer_as made result) old new
 answers-as grammar other made old new spells refuses (Ok value) a = answers-read other (made value) old new (record {
   front = a.ok.front;
@@ -131,7 +167,8 @@ course-start whole reader keeps = record {
 pub course-advances : {A S : Type 0} {g : Ghosts S} {whole rest : Grammar A} {old now : BitReader S g} → Course whole rest old now → Advances old now
 course-advances c = record { front = c.front; left = c.left; moved = c.moved }
 
-pub course-on : {A B S : Type 0} {g : Ghosts S} {whole : Grammar B} {old middle new : BitReader S g} → ((x y z : S) → g.keeps x y → g.keeps y z → g.keeps x z) → (first : Grammar A) (next : A → Grammar B) → IsLocal first → {a : A}
+pub course-on : {A B S : Type 0} {g : Ghosts S} {whole : Grammar B} {old middle new : BitReader S g}
+    → ((x y z : S) → g.keeps x y → g.keeps y z → g.keeps x z) → (first : Grammar A) (next : A → Grammar B) → IsLocal first → {a : A}
     → Course whole (first >>= next) old middle → {M : Type 0} → Answers M first (Ok a) middle new → Course whole (next a) old new
 course-on {whole = whole} {old = old} {middle = m} {new = new} keeps_on first next local {a} c answer =
     let r = answer.ok in
@@ -146,7 +183,8 @@ course-on {whole = whole} {old = old} {middle = m} {new = new} keeps_on first ne
       keeps = keeps_then keeps_on c.keeps answer.keeps;
     }
 
-refused-told : {A : Type 0} (whole rest : Grammar A) (told : Option PlacedRefusal) (bits middle : Option (List ℕ)) (at at_middle : ℕ) (front : List ℕ) → bits ≡ option_map (λ others. front ++ others) middle → at_middle ≡ at + length front
+refused-told : {A : Type 0} (whole rest : Grammar A) (told : Option PlacedRefusal) (bits middle : Option (List ℕ)) (at at_middle : ℕ) (front : List ℕ)
+    → bits ≡ option_map (λ others. front ++ others) middle → at_middle ≡ at + length front
     → ((refusal : Refusal) (middle others : List ℕ) → rest.Refuses middle refusal others → whole.Refuses (front ++ middle) refusal others)
     → IfSome middle (λ b. ExplainsFrom rest told b at_middle) → IfSome bits (λ b. ExplainsFrom whole told b at)
 refused-told whole rest told bits None at at_middle front left moved refused e = subst (λ o. IfSome o (λ b. ExplainsFrom whole told b at)) (sym left) tt
@@ -160,11 +198,14 @@ refused-told whole rest (Some said) bits (Some middle) at at_middle front left m
       moved = omega (arith, r.moved, moved, length-append front r.front);
     })
 
-pub course-explains : {A S : Type 0} {g : Ghosts S} {whole rest : Grammar A} {old middle : BitReader S g} (told : Option PlacedRefusal) → Course whole rest old middle → Explains rest middle told → Explains whole old told
-course-explains {whole = whole} {rest = rest} {old = old} {middle = middle} told c e = refused-told whole rest told (bits_left old) (bits_left middle) (place old) (place middle) c.front c.left c.moved c.refused e
+pub course-explains : {A S : Type 0} {g : Ghosts S} {whole rest : Grammar A} {old middle : BitReader S g} (told : Option PlacedRefusal)
+    → Course whole rest old middle → Explains rest middle told → Explains whole old told
+course-explains {whole = whole} {rest = rest} {old = old} {middle = middle} told c e = refused-told whole rest told (bits_left old) (bits_left middle)
+    (place old) (place middle) c.front c.left c.moved c.refused e
 
 -- a part that isn't answered ends the whole
-pub course-fails : {A S : Type 0} {g : Ghosts S} {whole rest : Grammar A} {old middle new : BitReader S g} → ((x y z : S) → g.keeps x y → g.keeps y z → g.keeps x z) → {M N : Type 0} → (M → N) → {fault : SliceFault}
+pub course-fails : {A S : Type 0} {g : Ghosts S} {whole rest : Grammar A} {old middle new : BitReader S g}
+    → ((x y z : S) → g.keeps x y → g.keeps y z → g.keeps x z) → {M N : Type 0} → (M → N) → {fault : SliceFault}
     → Course whole rest old middle → Answers M rest (Err fault) middle new → Answers N whole (Err fault) old new
 course-fails {old = old} {middle = middle} {new = new} keeps_on may {fault} c a = record {
   ok = tt;
@@ -176,7 +217,8 @@ course-fails {old = old} {middle = middle} {new = new} keeps_on may {fault} c a 
   keeps = keeps_then keeps_on c.keeps a.keeps;
 }
 
-pub answers-first : {A B S : Type 0} {g : Ghosts S} {M : Type 0} {old new : BitReader S g} (first : Grammar A) (next : A → Grammar B) {fault : SliceFault} → Answers M first (Err fault) old new → Answers M (first >>= next) (Err fault) old new
+pub answers-first : {A B S : Type 0} {g : Ghosts S} {M : Type 0} {old new : BitReader S g} (first : Grammar A) (next : A → Grammar B)
+    {fault : SliceFault} → Answers M first (Err fault) old new → Answers M (first >>= next) (Err fault) old new
 answers-first {old = old} first next {fault} a = record {
   ok = tt;
   refused = explains-first first next (refusal_told fault) (bits_left old) (place old) a.refused;
@@ -187,7 +229,8 @@ answers-first {old = old} first next {fault} a = record {
   keeps = a.keeps;
 }
 
-pub course-err : {A B S : Type 0} {g : Ghosts S} {whole : Grammar B} {old middle new : BitReader S g} → ((x y z : S) → g.keeps x y → g.keeps y z → g.keeps x z) → (first : Grammar A) (next : A → Grammar B) → {M : Type 0} {fault : SliceFault}
+pub course-err : {A B S : Type 0} {g : Ghosts S} {whole : Grammar B} {old middle new : BitReader S g}
+    → ((x y z : S) → g.keeps x y → g.keeps y z → g.keeps x z) → (first : Grammar A) (next : A → Grammar B) → {M : Type 0} {fault : SliceFault}
     → Course whole (first >>= next) old middle → Answers M first (Err fault) middle new → Answers M whole (Err fault) old new
 course-err keeps_on first next c a = course-fails keeps_on (λ m. m) c (answers-first first next a)
 
@@ -204,7 +247,8 @@ course-end whole value {old} {new} c = answers-read whole value old new (record 
   by_bits (Some rest) = c.spelled value rest rest (refl, refl)
 
 -- the last part is answered as it is
-pub course-last : {M A B S : Type 0} {g : Ghosts S} {whole : Grammar B} {old middle new : BitReader S g} → ((x y z : S) → g.keeps x y → g.keeps y z → g.keeps x z) → (last : Grammar A) (made : A → B) → IsLocal last → (result : Result A SliceFault)
+pub course-last : {M A B S : Type 0} {g : Ghosts S} {whole : Grammar B} {old middle new : BitReader S g}
+    → ((x y z : S) → g.keeps x y → g.keeps y z → g.keeps x z) → (last : Grammar A) (made : A → B) → IsLocal last → (result : Result A SliceFault)
     → Course whole (last >>= λ v. done (made v)) old middle → Answers M last result middle new → Answers M whole (answer_as made result) old new
 course-last {whole = whole} keeps_on last made local (Ok value) c a = course-end whole (made value) (course-on keeps_on last (λ v. done (made v)) local c a)
 course-last keeps_on last made local (Err fault) c a = course-err keeps_on last (λ v. done (made v)) c a

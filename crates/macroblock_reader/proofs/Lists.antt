@@ -19,10 +19,12 @@ module _ {A B S : Type 0} {g : Ghosts S} (next : List A → Grammar (Next A B)) 
   listed-none reader keeps = record { reads = reads-none next (bits_left reader) (place reader); keeps = keeps }
 
   module _ (keeps_on : (x y z : S) → g.keeps x y → g.keeps y z → g.keeps x z) (values : List A) {old middle new : BitReader S g} (so_far : Listed next values old middle) where
-    pub listed-more : {M : Type 0} (value : A) → StandsBefore (several next) values (next values) (more value) → Answers M (next values) (Ok (more value)) middle new → Listed next (values ++ value ∷ []) old new
+    pub listed-more : {M : Type 0} (value : A) → StandsBefore (several next) values (next values) (more value)
+        → Answers M (next values) (Ok (more value)) middle new → Listed next (values ++ value ∷ []) old new
     listed-more value before a = record { reads = reads-more next before so_far.reads a.ok; keeps = keeps_then keeps_on so_far.keeps a.keeps }
 
-    pub listed-end : {M : Type 0} (end : B) → StandsBefore (several next) values (next values) (last end) → Answers M (next values) (Ok (last end)) middle new → Answers M (many next) (Ok (values, end)) old new
+    pub listed-end : {M : Type 0} (end : B) → StandsBefore (several next) values (next values) (last end)
+        → Answers M (next values) (Ok (last end)) middle new → Answers M (many next) (Ok (values, end)) old new
     listed-end end before a = answers-read (many next) (values, end) old new (reads-end next before so_far.reads a.ok) (keeps_then keeps_on so_far.keeps a.keeps)
 
     pub listed-err : {M : Type 0} {fault : SliceFault} → Answers M (next values) (Err fault) middle new → Answers M (many next) (Err fault) old new

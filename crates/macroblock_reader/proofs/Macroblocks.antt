@@ -1,5 +1,38 @@
 -- Macroblocks read part by part (ISO/IEC 13818-2, 6.2.5).
-use Rattle.std.proofs.Common.{◌≡◌, ◌==◌, ◌-◌, ◌^◌, ◌<◌, ℕ, zero, suc, not, List, [], ◌∷◌, length, Option, Some, None, IsNone, OnOk, IfErr, IsErrOf, MatchResult, Result, Ok, Err, Bool, false, if◌then◌else◌, slice_index, slice_index_or, ap, subst, arith}
+use Rattle.std.proofs.Common.{
+  ◌≡◌,
+  ◌==◌,
+  ◌-◌,
+  ◌^◌,
+  ◌<◌,
+  ℕ,
+  zero,
+  suc,
+  not,
+  List,
+  [],
+  ◌∷◌,
+  length,
+  Option,
+  Some,
+  None,
+  IsNone,
+  OnOk,
+  IfErr,
+  IsErrOf,
+  MatchResult,
+  Result,
+  Ok,
+  Err,
+  Bool,
+  false,
+  if◌then◌else◌,
+  slice_index,
+  slice_index_or,
+  ap,
+  subst,
+  arith,
+}
 use Rattle.std.specs.List.{AllByRecursion}
 use Rattle.shelf_io.specs.declared.source.Source.{Ghosts}
 use Rattle.bit_cursor.specs.declared.bit_reader.BitReader.{BitReader}
@@ -15,7 +48,24 @@ use Rattle.picture_grammar.specs.Grammar.{Grammar, done, ◌>>=◌, optional, wh
 use Rattle.picture_grammar.specs.Element.{vlclbf, uimsbf, one_flag, marker_bit, rule}
 use Rattle.picture_grammar.specs.Exact.{IsExact, IsLocal}
 use Rattle.picture_grammar.specs.Motion.{MotionFormat, motion_vector, motion_vectors}
-use Rattle.picture_grammar.specs.Macroblock.{address_code, address_increment, most_increment, macroblock_type, has_motion_type, usual_motion_type, motion_type, has_dct_type, dct_type, quantiser_scale_code, has_forward, has_concealment, f_codes, motion_format, blocks, macroblock}
+use Rattle.picture_grammar.specs.Macroblock.{
+  address_code,
+  address_increment,
+  most_increment,
+  macroblock_type,
+  has_motion_type,
+  usual_motion_type,
+  motion_type,
+  has_dct_type,
+  dct_type,
+  quantiser_scale_code,
+  has_forward,
+  has_concealment,
+  f_codes,
+  motion_format,
+  blocks,
+  macroblock,
+}
 use Rattle.picture_grammar.proofs.LocalLaws.{local-bind, local-element, local-done, local-optional, local-many}
 use Rattle.picture_laws.proofs.LocalHeaders.{local-when, local-repeated, local-uimsbf}
 use Rattle.grammar_reading.specs.BitsRead.{Reads, Explains, BeginsWith}
@@ -111,7 +161,8 @@ module _ {S : Type 0} {g : Ghosts S} {old new : BitReader S g} where
       (subst (λ (m : MotionFormat). Answers ⊥ (when stands (motion_vectors codes m) []) result old new) h a))
 
   pub marker-as : {stands stands' : Bool} (result : Result (Unit {0}) SliceFault) → stands ≡ stands'
-      → Answers ⊥ (optional stands (marker_bit BadType)) (answer_as (λ _. if stands then Some 1 else None) result) old new → Answers ⊥ (optional stands' (marker_bit BadType)) (answer_as (λ _. if stands' then Some 1 else None) result) old new
+      → Answers ⊥ (optional stands (marker_bit BadType)) (answer_as (λ _. if stands then Some 1 else None) result) old new
+      → Answers ⊥ (optional stands' (marker_bit BadType)) (answer_as (λ _. if stands' then Some 1 else None) result) old new
   marker-as result e a = subst (λ (b : Bool). Answers ⊥ (optional b (marker_bit BadType)) (answer_as (λ _. if b then Some 1 else None) result) old new) e a
 
 -- ---- the f_codes of a direction
@@ -124,7 +175,9 @@ below-at (x ∷ y ∷ []) (suc zero) two all lt = all.1.0
 below-at (x ∷ y ∷ []) (suc (suc i)) two all lt = absurd (omega (arith, lt))
 below-at (x ∷ y ∷ z ∷ xs) i two all lt = absurd (omega (arith, two))
 
-pub codes-below : (xs : List (List ℕ)) (d i : ℕ) → length xs ≡ 2 → AllByRecursion (λ codes. (length codes ≡ 2) × AllByRecursion (λ n. n < 2 ^ 4) codes) xs → d < 2 → i < 2 → slice_index (slice_index_or xs d []) i < 2 ^ 4
+pub codes-below : (xs : List (List ℕ)) (d i : ℕ) → length xs ≡ 2
+    → AllByRecursion (λ codes. (length codes ≡ 2) × AllByRecursion (λ n. n < 2 ^ 4) codes) xs → d < 2 → i < 2
+    → slice_index (slice_index_or xs d []) i < 2 ^ 4
 codes-below [] d i two all lt lt' = absurd (omega (arith, two))
 codes-below (x ∷ []) d i two all lt lt' = absurd (omega (arith, two))
 codes-below (x ∷ y ∷ []) zero i two all lt lt' = below-at x i all.0.0 all.0.1 lt'

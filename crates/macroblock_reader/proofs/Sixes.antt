@@ -27,14 +27,17 @@ use Rattle.macroblock_reader.proofs.Courses.{answers-read, rose-on, err-same}
 -- ---- one more of the items of a list
 
 module _ {I A : Type 0} (grammar : I → Grammar A) where
-  pub each-more : (is : List I) (i : I) (values : List A) (value : A) (bits middle rest : List ℕ) → (each is grammar).Spells values bits middle → (grammar i).Spells value middle rest → (each (is ++ i ∷ []) grammar).Spells (values ++ value ∷ []) bits rest
+  pub each-more : (is : List I) (i : I) (values : List A) (value : A) (bits middle rest : List ℕ) → (each is grammar).Spells values bits middle
+      → (grammar i).Spells value middle rest → (each (is ++ i ∷ []) grammar).Spells (values ++ value ∷ []) bits rest
   each-more [] i values value bits middle rest (e, f) s =
       (value, rest, subst (λ b. (grammar i).Spells value b rest) (sym f) s, ([], rest, (refl, refl), (ap (λ vs. vs ++ value ∷ []) e, refl)))
   each-more (j ∷ is) i values value bits middle rest (v, m, s, (vs, m', t, (e, f))) u =
       let others = each-more is i vs value m middle rest (subst (λ b. (each is grammar).Spells vs m b) f t) u in
       (v, m, s, (vs ++ value ∷ [], rest, others, (ap (λ ws. ws ++ value ∷ []) e, refl)))
 
-  pub each-refused : (is : List I) (i : I) (later : List I) (values : List A) (bits middle left : List ℕ) (refusal : Refusal) → (each is grammar).Spells values bits middle → (grammar i).Refuses middle refusal left → (each (is ++ i ∷ later) grammar).Refuses bits refusal left
+  pub each-refused : (is : List I) (i : I) (later : List I) (values : List A) (bits middle left : List ℕ) (refusal : Refusal)
+      → (each is grammar).Spells values bits middle → (grammar i).Refuses middle refusal left
+      → (each (is ++ i ∷ later) grammar).Refuses bits refusal left
   each-refused [] i later values bits middle left refusal (e, f) r = inl (subst (λ b. (grammar i).Refuses b refusal left) (sym f) r)
   each-refused (j ∷ is) i later values bits middle left refusal (v, m, s, (vs, m', t, (e, f))) r =
       inr (v, m, s, inl (each-refused is i later vs m middle left refusal (subst (λ b. (each is grammar).Spells vs m b) f t) r))
@@ -71,11 +74,14 @@ module _ {S : Type 0} {g : Ghosts S} (coding : PicCoding) (kind : Kind) (pattern
   pub blocks-none : (into : List Block) (reader : BitReader S g) → length into ≡ 6 → KeepsSource reader reader → BlocksRead coding kind pattern 0 into reader reader
   blocks-none into reader six keeps = record { six = six; reads = reads-done [] (bits_left reader) (place reader); keeps = keeps }
 
-  module _ (keeps_on : (x y z : S) → g.keeps x y → g.keeps y z → g.keeps x z) (i : ℕ) (into : List Block) {old middle new : BitReader S g} (so_far : BlocksRead coding kind pattern i into old middle) (within : i < 6) where
-    pub blocks-more : (next : ℕ) (b : Block) (after : List Block) → next ≡ i + 1 → take next after ≡ take i into ++ b ∷ [] → length after ≡ 6 → Answers ⊥ (block_at coding kind pattern i) (Ok b) middle new → BlocksRead coding kind pattern next after old new
+  module _ (keeps_on : (x y z : S) → g.keeps x y → g.keeps y z → g.keeps x z) (i : ℕ) (into : List Block) {old middle new : BitReader S g}
+      (so_far : BlocksRead coding kind pattern i into old middle) (within : i < 6) where
+    pub blocks-more : (next : ℕ) (b : Block) (after : List Block) → next ≡ i + 1 → take next after ≡ take i into ++ b ∷ [] → length after ≡ 6
+        → Answers ⊥ (block_at coding kind pattern i) (Ok b) middle new → BlocksRead coding kind pattern next after old new
     blocks-more next b after is front six a =
         let local = local-each (block_at coding kind pattern) (local-block_at coding kind pattern) (range_with_len 0 i) in
-        let r = reads-both (each (range_with_len 0 i) (block_at coding kind pattern)) (block_at coding kind pattern i) (each (range_with_len 0 i ++ i ∷ []) (block_at coding kind pattern)) (take i into) b (take i into ++ b ∷ [])
+        let r = reads-both (each (range_with_len 0 i) (block_at coding kind pattern)) (block_at coding kind pattern i)
+        (each (range_with_len 0 i ++ i ∷ []) (block_at coding kind pattern)) (take i into) b (take i into ++ b ∷ [])
         (each-more (block_at coding kind pattern) (range_with_len 0 i) i (take i into) b) (stands-before (block_at coding kind pattern i) (take i into) b local) so_far.reads a.ok in
         let suc-is : next ≡ suc i = omega arith in
         let range : range_with_len 0 next ≡ range_with_len 0 i ++ i ∷ [] = ap (range_with_len 0) suc-is ∙ range-more 0 i ∙ ap (λ x. range_with_len 0 i ++ x ∷ []) (from-zero i) in
@@ -93,7 +99,8 @@ module _ {S : Type 0} {g : Ghosts S} (coding : PicCoding) (kind : Kind) (pattern
         record {
           ok = tt;
           refused = subst (λ xs. Explains (each xs (block_at coding kind pattern)) old (refusal_told fault)) (sym range)
-              (explains-both (each (range_with_len 0 i) (block_at coding kind pattern)) (block_at coding kind pattern i) (each (range_with_len 0 i ++ i ∷ later) (block_at coding kind pattern)) (take i into)
+              (explains-both (each (range_with_len 0 i) (block_at coding kind pattern)) (block_at coding kind pattern i)
+              (each (range_with_len 0 i ++ i ∷ later) (block_at coding kind pattern)) (take i into)
               (each-refused (block_at coding kind pattern) (range_with_len 0 i) i later (take i into)) (refusal_told fault) so_far.reads a.refused);
           advances = advances-on (reads-advances so_far.reads) a.advances;
           failed = λ is. rose-on (faults_of old) (faults_of middle) (faults_of new) so_far.keeps.faults a.keeps.faults (a.failed (err-same _ _ is));

@@ -37,11 +37,13 @@ use Rattle.macroblock_reader.proofs.Courses.{answers-read, course-start, err-sam
 
 -- ---- answers
 
-pub answers-may : {A S : Type 0} {g : Ghosts S} {grammar : Grammar A} {result : Result A SliceFault} {old new : BitReader S g} → Answers ⊥ grammar result old new → Answers (Unit {0}) grammar result old new
+pub answers-may : {A S : Type 0} {g : Ghosts S} {grammar : Grammar A} {result : Result A SliceFault} {old new : BitReader S g}
+    → Answers ⊥ grammar result old new → Answers (Unit {0}) grammar result old new
 answers-may a = record { ok = a.ok; refused = a.refused; advances = a.advances; failed = a.failed; missing = a.missing; memory = λ is. tt; keeps = a.keeps }
 
 -- want of memory behind a part of a list
-pub listed-memory : {A B S : Type 0} {g : Ghosts S} (next : List A → Grammar (Next A B)) (values : List A) (old now : BitReader S g) → Listed next values old now → Answers (Unit {0}) (many next) (Err fault.OutOfMemory) old now
+pub listed-memory : {A B S : Type 0} {g : Ghosts S} (next : List A → Grammar (Next A B)) (values : List A) (old now : BitReader S g)
+    → Listed next values old now → Answers (Unit {0}) (many next) (Err fault.OutOfMemory) old now
 listed-memory next values old now l = record {
   ok = tt;
   refused = nothing (bits_left old);
@@ -119,7 +121,9 @@ pub local-information : IsLocal (many extra_information)
 local-information = local-many extra_information local-extra
 
 local-extension : IsLocal slice_extension
-local-extension = local-bind one_flag extension_1 (local-element _ _ _) (λ i. local-bind (uimsbf 7 []) (extension_2 i) (local-uimsbf 7 []) (λ r. local-bind (many extra_information) (extension_3 i r) local-information (λ b. local-done _)))
+local-extension = local-bind one_flag extension_1 (local-element _ _ _)
+    (λ i. local-bind (uimsbf 7 []) (extension_2 i) (local-uimsbf 7 [])
+    (λ r. local-bind (many extra_information) (extension_3 i r) local-information (λ b. local-done _)))
 
 pub local-info : IsLocal slice_info
 local-info = local-bind one_flag (λ extended. optional extended slice_extension) (local-element _ _ _) (λ extended. local-optional extended slice_extension local-extension)
@@ -162,7 +166,8 @@ module _ (seq : SeqState) (coding : PicCoding) where
 
 -- ---- the cursor's answer as one record
 
-pub next-answer : {S : Type 0} {g : Ghosts S} (grammar : Grammar (Next Macroblock (Unit {0}))) (m : Macroblock) (is_more is : Bool) → is_more ≡ is → (old new : BitReader S g) → Reads grammar (next_of m is_more) old new → KeepsSource old new
+pub next-answer : {S : Type 0} {g : Ghosts S} (grammar : Grammar (Next Macroblock (Unit {0}))) (m : Macroblock) (is_more is : Bool) → is_more ≡ is
+    → (old new : BitReader S g) → Reads grammar (next_of m is_more) old new → KeepsSource old new
     → Answers ⊥ grammar (Ok (next_of m is)) old new
 next-answer grammar m is_more is e old new r keeps = answers-read grammar (next_of m is) old new (subst (λ (b : Bool). Reads grammar (next_of m b) old new) e r) keeps
 

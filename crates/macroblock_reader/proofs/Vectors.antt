@@ -1,5 +1,50 @@
 -- Motion vectors (ISO/IEC 13818-2, 6.2.5.2).
-use Rattle.std.proofs.Common.{◌≡◌, ◌==◌, ◌⊎◌, ◌+◌, ◌-◌, ◌^◌, ◌%◌, ◌<◌, ◌≤◌, ℕ, zero, suc, ℤ, pos, negsuc, unsigned_abs, not, List, [], ◌∷◌, ◌++◌, length, take, drop, Option, Some, None, IfSome, Result, Ok, Err, Bool, true, false, if◌then◌else◌, slice_index, refl, sym, ap, subst, ◌∙◌, inl, inr, arith}
+use Rattle.std.proofs.Common.{
+  ◌≡◌,
+  ◌==◌,
+  ◌⊎◌,
+  ◌+◌,
+  ◌-◌,
+  ◌^◌,
+  ◌%◌,
+  ◌<◌,
+  ◌≤◌,
+  ℕ,
+  zero,
+  suc,
+  ℤ,
+  pos,
+  negsuc,
+  unsigned_abs,
+  not,
+  List,
+  [],
+  ◌∷◌,
+  ◌++◌,
+  length,
+  take,
+  drop,
+  Option,
+  Some,
+  None,
+  IfSome,
+  Result,
+  Ok,
+  Err,
+  Bool,
+  true,
+  false,
+  if◌then◌else◌,
+  slice_index,
+  refl,
+  sym,
+  ap,
+  subst,
+  ◌∙◌,
+  inl,
+  inr,
+  arith,
+}
 use Rattle.std.specs.Option.{option_map}
 use Rattle.std.proofs.lemmas.List.{take-append-drop, take_all, take-take}
 use Rattle.shelf_io.specs.declared.source.Source.{Ghosts}
@@ -56,7 +101,8 @@ dmvector-cut bits few = (
   )),
 )
 
-two-bits : (shown : ℕ) → shown < 4 → (shown < 2 → take 1 (bits_of 2 shown) ≡ 0 ∷ []) × (shown ≡ 2 → bits_of 2 shown ≡ 1 ∷ 0 ∷ []) × (shown ≡ 3 → bits_of 2 shown ≡ 1 ∷ 1 ∷ []) × (shown ≡ 2 → take 1 (bits_of 2 shown) ≡ 1 ∷ [])
+two-bits : (shown : ℕ) → shown < 4 → (shown < 2 → take 1 (bits_of 2 shown) ≡ 0 ∷ []) × (shown ≡ 2 → bits_of 2 shown ≡ 1 ∷ 0 ∷ [])
+    × (shown ≡ 3 → bits_of 2 shown ≡ 1 ∷ 1 ∷ []) × (shown ≡ 2 → take 1 (bits_of 2 shown) ≡ 1 ∷ [])
 unfolding bits_of
 two-bits zero lt = (λ _. refl, λ e. absurd (omega (arith, e)), λ e. absurd (omega (arith, e)), λ e. absurd (omega (arith, e)))
 two-bits (suc zero) lt = (λ _. refl, λ e. absurd (omega (arith, e)), λ e. absurd (omega (arith, e)), λ e. absurd (omega (arith, e)))
@@ -68,8 +114,10 @@ empty : (bits : List ℕ) → length bits ≡ 0 → bits ≡ []
 empty [] e = refl
 empty (bit ∷ bits) e = absurd (omega (arith, e))
 
-module _ {S : Type 0} {g : Ghosts S} (shown known : ℕ) (old : BitReader S g) (shows : IfSome (bits_left old) (λ bits. IsWindow 2 bits shown known)) (below : shown < 4) (unknown : shown % 2 ^ (2 - known) ≡ 0) where
-  cut-at : (told : Option (List ℕ)) (at : ℕ) → IfSome told (λ bits. IsWindow 2 bits shown known) → (known ≡ 0) ⊎ ((known ≡ 1) × (2 ≤ shown)) → IfSome told (λ bits. ExplainsFrom dmvector (Some (record { refusal = End; at = at })) bits at)
+module _ {S : Type 0} {g : Ghosts S} (shown known : ℕ) (old : BitReader S g) (shows : IfSome (bits_left old) (λ bits. IsWindow 2 bits shown known))
+    (below : shown < 4) (unknown : shown % 2 ^ (2 - known) ≡ 0) where
+  cut-at : (told : Option (List ℕ)) (at : ℕ) → IfSome told (λ bits. IsWindow 2 bits shown known) → (known ≡ 0) ⊎ ((known ≡ 1) × (2 ≤ shown))
+      → IfSome told (λ bits. ExplainsFrom dmvector (Some (record { refusal = End; at = at })) bits at)
   cut-at None at s few = tt
   cut-at (Some bits) at s few = record { front = []; left = bits; split = refl; refused = dmvector-cut bits (few-bits few); moved = omega arith } where
     few-bits : (known ≡ 0) ⊎ ((known ≡ 1) × (2 ≤ shown)) → (bits ≡ []) ⊎ (bits ≡ 1 ∷ [])
@@ -80,12 +128,15 @@ module _ {S : Type 0} {g : Ghosts S} (shown known : ℕ) (old : BitReader S g) (
         let is : shown ≡ 2 = omega (arith, below, ge, even) in
         inr (sym (take_all 2 bits (omega arith)) ∙ sym s.front ∙ ap (λ k. front_of 2 shown k) e ∙ (two-bits shown below).3 is)
 
-  pub dmvector-end : (at : ℕ) (new : BitReader S g) → at ≡ place old → (known ≡ 0) ⊎ ((known ≡ 1) × (2 ≤ shown)) → bits_left new ≡ bits_left old → place new ≡ place old → KeepsSource old new → Answers ⊥ dmvector (Err (fault.End at)) old new
+  pub dmvector-end : (at : ℕ) (new : BitReader S g) → at ≡ place old → (known ≡ 0) ⊎ ((known ≡ 1) × (2 ≤ shown)) → bits_left new ≡ bits_left old
+      → place new ≡ place old → KeepsSource old new → Answers ⊥ dmvector (Err (fault.End at)) old new
   dmvector-end at new is few left moved keeps =
       subst (λ p. Answers ⊥ dmvector (Err (fault.End p)) old new) (sym is)
-      (answers-told dmvector (fault.End (place old)) _ old new refl (cut-at (bits_left old) (place old) shows few) (advances-kept (bits_left old) (bits_left new) (place old) (place new) left moved) keeps)
+      (answers-told dmvector (fault.End (place old)) _ old new refl (cut-at (bits_left old) (place old) shows few)
+      (advances-kept (bits_left old) (bits_left new) (place old) (place new) left moved) keeps)
 
-  front-at : (told : Option (List ℕ)) (n : ℕ) (code : List ℕ) → IfSome told (λ bits. IsWindow 2 bits shown known) → n ≤ known → known ≤ 2 → take n (bits_of 2 shown) ≡ code → told ≡ option_map (λ rest. code ++ rest) (without_bits told n)
+  front-at : (told : Option (List ℕ)) (n : ℕ) (code : List ℕ) → IfSome told (λ bits. IsWindow 2 bits shown known) → n ≤ known → known ≤ 2
+      → take n (bits_of 2 shown) ≡ code → told ≡ option_map (λ rest. code ++ rest) (without_bits told n)
   front-at None n code s le few is = refl
   front-at (Some bits) n code s le few is =
       let front : take n bits ≡ code = sym (take-take n 2 bits (omega arith)) ∙ ap (take n) (sym s.front) ∙ take-take n known (bits_of 2 shown) le ∙ is in
@@ -174,23 +225,27 @@ local-one : {A : Type 0} (grammar : Grammar A) → IsLocal grammar → IsLocal (
 local-one grammar local = local-bind grammar (λ v. done [] >>= λ values. done (v ∷ values)) local (λ v. local-bind (done []) (λ values. done (v ∷ values)) (local-done _) (λ values. local-done _))
 
 module _ {A S : Type 0} {g : Ghosts S} (grammar : Grammar A) (old : BitReader S g) where
-  pub one-read : {M : Type 0} (two : Bool) (value : A) (new : BitReader S g) → two ≡ false → Answers M grammar (Ok value) old new → Answers M (repeated (if two then 2 else 1) grammar) (Ok (value ∷ [])) old new
+  pub one-read : {M : Type 0} (two : Bool) (value : A) (new : BitReader S g) → two ≡ false → Answers M grammar (Ok value) old new
+      → Answers M (repeated (if two then 2 else 1) grammar) (Ok (value ∷ [])) old new
   one-read {M} two value new e a =
       subst (λ (b : Bool). Answers M (repeated (if b then 2 else 1) grammar) (Ok (value ∷ [])) old new) (sym e)
       (answers-as grammar (repeated 1 grammar) (λ v. v ∷ []) old new (λ v bits rest s. (v, rest, s, ([], rest, (refl, refl), (refl, refl)))) (λ bits left refusal r. inl r) (Ok value) a)
 
-  pub none-read : {M : Type 0} (two : Bool) (refused : SliceFault) (new : BitReader S g) → Answers M grammar (Err refused) old new → Answers M (repeated (if two then 2 else 1) grammar) (Err refused) old new
+  pub none-read : {M : Type 0} (two : Bool) (refused : SliceFault) (new : BitReader S g) → Answers M grammar (Err refused) old new
+      → Answers M (repeated (if two then 2 else 1) grammar) (Err refused) old new
   none-read true refused new a = answers-first grammar (λ value. repeated 1 grammar >>= λ values. done (value ∷ values)) a
   none-read false refused new a = answers-first grammar (λ value. repeated 0 grammar >>= λ values. done (value ∷ values)) a
 
-  pub two-read : {M : Type 0} (keeps_on : (x y z : S) → g.keeps x y → g.keeps y z → g.keeps x z) → IsLocal grammar → (start : KeepsSource old old) → (two : Bool) (value : A) (middle new : BitReader S g) → two ≡ true → (result : Result A SliceFault)
+  pub two-read : {M : Type 0} (keeps_on : (x y z : S) → g.keeps x y → g.keeps y z → g.keeps x z) → IsLocal grammar → (start : KeepsSource old old)
+      → (two : Bool) (value : A) (middle new : BitReader S g) → two ≡ true → (result : Result A SliceFault)
       → Answers M grammar (Ok value) old middle → Answers M grammar result middle new → Answers M (repeated (if two then 2 else 1) grammar) (answer_as (λ other. value ∷ other ∷ []) result) old new
   two-read {M} keeps_on local start two value middle new e result a b =
       let c = course-on keeps_on grammar (λ v. repeated 1 grammar >>= λ values. done (v ∷ values)) local (course-start (repeated 2 grammar) old start) a in
       let second = answers-as grammar (repeated 1 grammar) (λ v. v ∷ []) middle new (λ v bits rest s. (v, rest, s, ([], rest, (refl, refl), (refl, refl)))) (λ bits left refusal r. inl r) result b in
       subst (λ (t : Bool). Answers M (repeated (if t then 2 else 1) grammar) (answer_as (λ other. value ∷ other ∷ []) result) old new) (sym e)
       (by_result keeps_on local result c second) where
-        by_result : (keeps_on : (x y z : S) → g.keeps x y → g.keeps y z → g.keeps x z) → IsLocal grammar → (result : Result A SliceFault) → Course (repeated 2 grammar) (repeated 1 grammar >>= λ values. done (value ∷ values)) old middle
+        by_result : (keeps_on : (x y z : S) → g.keeps x y → g.keeps y z → g.keeps x z) → IsLocal grammar → (result : Result A SliceFault)
+            → Course (repeated 2 grammar) (repeated 1 grammar >>= λ values. done (value ∷ values)) old middle
             → Answers M (repeated 1 grammar) (answer_as (λ v. v ∷ []) result) middle new → Answers M (repeated 2 grammar) (answer_as (λ other. value ∷ other ∷ []) result) old new
         by_result keeps_on local (Ok other) c s = course-last keeps_on (repeated 1 grammar) (λ values. value ∷ values) (local-one grammar local) (Ok (other ∷ [])) c s
         by_result keeps_on local (Err refused) c s = course-last keeps_on (repeated 1 grammar) (λ values. value ∷ values) (local-one grammar local) (Err refused) c s

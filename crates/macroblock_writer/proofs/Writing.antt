@@ -1,5 +1,33 @@
 -- What is still to be written, while it is written: of a list one item after the other, and behind a fault.
-use Rattle.std.proofs.Common.{◌≡◌, ℕ, suc, ◌+◌, ◌-◌, ◌<◌, ◌≤◌, List, ◌∷◌, ◌++◌, Result, Ok, Err, true, false, sym, ap, subst, ◌∙◌, add-one, length, get_or, drop, drop-cons, append_assoc, append-nil, arith}
+use Rattle.std.proofs.Common.{
+  ◌≡◌,
+  ℕ,
+  suc,
+  ◌+◌,
+  ◌-◌,
+  ◌<◌,
+  ◌≤◌,
+  List,
+  ◌∷◌,
+  ◌++◌,
+  Result,
+  Ok,
+  Err,
+  true,
+  false,
+  sym,
+  ap,
+  subst,
+  ◌∙◌,
+  add-one,
+  length,
+  get_or,
+  drop,
+  drop-cons,
+  append_assoc,
+  append-nil,
+  arith,
+}
 use Rattle.std.proofs.lemmas.List.{drop_all}
 use Rattle.std.specs.Result.{IsErr}
 use Rattle.std.specs.List.{flat_map, range_with_len, AllByRecursion}

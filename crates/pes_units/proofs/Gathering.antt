@@ -13,7 +13,8 @@ no_flag : (carried : CarriedPayload) → carried.payload.start ≡ false → is_
 no_flag carried flag = and_left carried.payload.start (nat_lt 0 (length carried.payload.bytes)) flag
 
 -- payloads without the flag go on with the packet before them
-goes_on : (others more : List CarriedPayload) → All (λ carried. carried.payload.start ≡ false) others → up_to_start (others ++ more) ≡ flat_map (λ carried. carried.payload.bytes) others ++ up_to_start more
+goes_on : (others more : List CarriedPayload) → All (λ carried. carried.payload.start ≡ false) others
+    → up_to_start (others ++ more) ≡ flat_map (λ carried. carried.payload.bytes) others ++ up_to_start more
 goes_on [] more flags = refl
 goes_on (carried ∷ others) more flags =
     let none : is_start carried.payload ≡ false = no_flag carried (flags 0 carried (omega arith)) in
@@ -58,7 +59,9 @@ gathered_again (packet ∷ packets) (pieces ∷ cuts) cut =
     let first = first_of packet cut.0.first in
     let rest = cut.0.others ++ joined cuts in
     let bytes : cut.0.first ++ up_to_start rest ≡ packet.bytes =
-    ap (λ (more : List ℕ). cut.0.first ++ more) (goes_on cut.0.others (joined cuts) cut.0.flags ∙ ap (λ (more : List ℕ). flat_map (λ (carried : CarriedPayload). carried.payload.bytes) cut.0.others ++ more) (ended packets cuts cut.1) ∙ append-nil (flat_map (λ (carried : CarriedPayload). carried.payload.bytes) cut.0.others)) ∙ sym cut.0.joined in
+    ap (λ (more : List ℕ). cut.0.first ++ more) (goes_on cut.0.others (joined cuts) cut.0.flags
+    ∙ ap (λ (more : List ℕ). flat_map (λ (carried : CarriedPayload). carried.payload.bytes) cut.0.others ++ more) (ended packets cuts cut.1)
+    ∙ append-nil (flat_map (λ (carried : CarriedPayload). carried.payload.bytes) cut.0.others)) ∙ sym cut.0.joined in
     ap gathered (cut_behind packet pieces (joined cuts) cut.0)
     ∙ ap (λ (start : Bool). cond start (record { at = first.at; bytes = first.payload.bytes ++ up_to_start rest } ∷ gathered rest) (gathered rest)) (starts packet cut.0.first cut.0.some)
     ∙ ap (λ (bytes : List ℕ). record { at = packet.at; bytes = bytes } ∷ gathered rest) bytes

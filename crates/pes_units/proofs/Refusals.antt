@@ -40,7 +40,8 @@ passes-header video bytes passes =
     }
 
 -- so does what a reader answers that answers the first fault, and else what is kept
-pub read-header : (video : Bool) (bytes : List ℕ) (read : Result PesHeader PesFault) → result_err read ≡ refusal video bytes → IfOk read (λ header. header ≡ fields_of bytes) → IfOk read (λ header. IsPesHeader video header bytes)
+pub read-header : (video : Bool) (bytes : List ℕ) (read : Result PesHeader PesFault) → result_err read ≡ refusal video bytes
+    → IfOk read (λ header. header ≡ fields_of bytes) → IfOk read (λ header. IsPesHeader video header bytes)
 read-header video bytes (Ok header) fault same =
     subst (λ (h : PesHeader). IsPesHeader video h bytes) (sym same) (passes-header video bytes (sym fault))
 read-header video bytes (Err e) fault same = tt

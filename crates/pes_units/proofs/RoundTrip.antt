@@ -12,7 +12,9 @@ use Rattle.pes_units.specs.VideoHeader.{AreInRange, IsBesidePts, spelled, time_w
 use Rattle.pes_units.proofs.TimeFields.{word_at, time_in, time_at-word}
 
 -- the five bytes of a number
-word-spelled : (bytes : List ℕ) (place n : ℕ) → n < 2 ^ 40 → get_or bytes place 0 ≡ n / 2 ^ 32 % 256 → get_or bytes (place + 1) 0 ≡ n / 2 ^ 24 % 256 → get_or bytes (place + 2) 0 ≡ n / 2 ^ 16 % 256 → get_or bytes (place + 3) 0 ≡ n / 2 ^ 8 % 256 → get_or bytes (place + 4) 0 ≡ n % 256 → word_at bytes place ≡ n
+word-spelled : (bytes : List ℕ) (place n : ℕ) → n < 2 ^ 40 → get_or bytes place 0 ≡ n / 2 ^ 32 % 256 → get_or bytes (place + 1) 0 ≡ n / 2 ^ 24 % 256
+    → get_or bytes (place + 2) 0 ≡ n / 2 ^ 16 % 256 → get_or bytes (place + 3) 0 ≡ n / 2 ^ 8 % 256 → get_or bytes (place + 4) 0 ≡ n % 256
+    → word_at bytes place ≡ n
 word-spelled bytes place n fits first second third fourth fifth = omega (arith, bits-five bytes place)
 
 module _ (which time : ℕ) (which_fits : which < 4) (time_fits : time < 2 ^ 33) where
@@ -93,7 +95,8 @@ both-read pts dts payload pts_fits dts_fits behind =
       followed = omega arith;
     }
 
-spelled-read : (pts dts : Option ℕ) (payload : List ℕ) → IfSome pts (λ n. n < 2 ^ 33) → IfSome dts (λ n. n < 2 ^ 33) → (IsSome dts → IsSome pts) → 0 < length payload → IsPesHeader true (read_of pts (written_dts pts dts)) (spelled pts (written_dts pts dts) ++ payload)
+spelled-read : (pts dts : Option ℕ) (payload : List ℕ) → IfSome pts (λ n. n < 2 ^ 33) → IfSome dts (λ n. n < 2 ^ 33) → (IsSome dts → IsSome pts)
+    → 0 < length payload → IsPesHeader true (read_of pts (written_dts pts dts)) (spelled pts (written_dts pts dts) ++ payload)
 spelled-read None dts payload pts_fits dts_fits beside behind = none-read payload behind
 spelled-read (Some pts) None payload pts_fits dts_fits beside behind = pts-read pts payload pts_fits behind
 spelled-read (Some pts) (Some dts) payload pts_fits dts_fits beside behind =

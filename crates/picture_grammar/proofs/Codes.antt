@@ -1,5 +1,45 @@
 -- No code of an element begins another one of it.
-use Rattle.std.proofs.Common.{◌≡◌, ℕ, zero, suc, ℤ, pos, negsuc, unsigned_abs, ◌+◌, ◌*◌, ◌^◌, ◌<◌, ◌≤◌, ◌⊎◌, ◌&&◌, List, [], ◌∷◌, ◌++◌, length, get_or, Option, Some, None, cond, append_assoc, Bool, true, false, nat_lt, refl, sym, ap, ap₂, subst, ◌∙◌, inl, inr, arith}
+use Rattle.std.proofs.Common.{
+  ◌≡◌,
+  ℕ,
+  zero,
+  suc,
+  ℤ,
+  pos,
+  negsuc,
+  unsigned_abs,
+  ◌+◌,
+  ◌*◌,
+  ◌^◌,
+  ◌<◌,
+  ◌≤◌,
+  ◌⊎◌,
+  ◌&&◌,
+  List,
+  [],
+  ◌∷◌,
+  ◌++◌,
+  length,
+  get_or,
+  Option,
+  Some,
+  None,
+  cond,
+  append_assoc,
+  Bool,
+  true,
+  false,
+  nat_lt,
+  refl,
+  sym,
+  ap,
+  ap₂,
+  subst,
+  ◌∙◌,
+  inl,
+  inr,
+  arith,
+}
 use Rattle.std.proofs.lemmas.Bool.{and_parts, ltb-true}
 use Rattle.std.proofs.lemmas.Option.{none-some}
 use Rattle.std.proofs.lemmas.List.{length-append, append_cancel_left}
@@ -98,13 +138,46 @@ free-dmvector v w c d (le, p) (le', q) begins =
 type_symbol-same : (v w : Kind) → type_symbol v ≡ type_symbol w → v ≡ w
 type_symbol-same v w e = λ i. record { quant = quant i; forward = forward i; backward = backward i; pattern = pattern i; intra = intra i } where
   quant : v.quant ≡ w.quant
-  quant = flag-same v.quant w.quant (omega (arith, flag-le v.quant, flag-le w.quant, flag-le v.forward, flag-le w.forward, flag-le v.backward, flag-le w.backward, flag-le v.pattern, flag-le w.pattern, flag-le v.intra, flag-le w.intra))
+  quant = flag-same v.quant w.quant (omega (
+    arith,
+    flag-le v.quant,
+    flag-le w.quant,
+    flag-le v.forward,
+    flag-le w.forward,
+    flag-le v.backward,
+    flag-le w.backward,
+    flag-le v.pattern,
+    flag-le w.pattern,
+    flag-le v.intra,
+    flag-le w.intra,
+  ))
 
   forward : v.forward ≡ w.forward
-  forward = flag-same v.forward w.forward (omega (arith, ap flag quant, flag-le v.forward, flag-le w.forward, flag-le v.backward, flag-le w.backward, flag-le v.pattern, flag-le w.pattern, flag-le v.intra, flag-le w.intra))
+  forward = flag-same v.forward w.forward (omega (
+    arith,
+    ap flag quant,
+    flag-le v.forward,
+    flag-le w.forward,
+    flag-le v.backward,
+    flag-le w.backward,
+    flag-le v.pattern,
+    flag-le w.pattern,
+    flag-le v.intra,
+    flag-le w.intra,
+  ))
 
   backward : v.backward ≡ w.backward
-  backward = flag-same v.backward w.backward (omega (arith, ap flag quant, ap flag forward, flag-le v.backward, flag-le w.backward, flag-le v.pattern, flag-le w.pattern, flag-le v.intra, flag-le w.intra))
+  backward = flag-same v.backward w.backward (omega (
+    arith,
+    ap flag quant,
+    ap flag forward,
+    flag-le v.backward,
+    flag-le w.backward,
+    flag-le v.pattern,
+    flag-le w.pattern,
+    flag-le v.intra,
+    flag-le w.intra,
+  ))
 
   pattern : v.pattern ≡ w.pattern
   pattern = flag-same v.pattern w.pattern (omega (arith, ap flag quant, ap flag forward, ap flag backward, flag-le v.pattern, flag-le w.pattern, flag-le v.intra, flag-le w.intra))
@@ -130,7 +203,8 @@ cond_found true o y e = (refl, e)
 cond_found false o y e = absurd (none-some y e)
 
 -- the code of a run and a level is one of the table, within the limits of runs and levels
-pub coefficient_code-listed : (table : TableName) (run size : ℕ) (code : List ℕ) → coefficient_code table run size ≡ Some code → (run < RUNS) × (0 < size) × (size < LEVELS_PER_RUN) × (code_in table (LEVELS_PER_RUN * run + size) ≡ Some code)
+pub coefficient_code-listed : (table : TableName) (run size : ℕ) (code : List ℕ) → coefficient_code table run size ≡ Some code → (run < RUNS)
+    × (0 < size) × (size < LEVELS_PER_RUN) × (code_in table (LEVELS_PER_RUN * run + size) ≡ Some code)
 unfolding coefficient_code
 coefficient_code-listed table run size code found =
     let parts = cond_found (nat_lt run RUNS && nat_lt 0 size && nat_lt size LEVELS_PER_RUN) (code_in table (LEVELS_PER_RUN * run + size)) code found in
@@ -143,7 +217,12 @@ pub fronts : (table : TableName) (v : Coefficient) (c : List ℕ) → Coefficien
 unfolding symbol_of
 fronts table end_of_block c p = (c, p, IsPrefix-self c)
 fronts table (run_size run size) c p = (c, (coefficient_code-listed table run size c p).3, IsPrefix-self c)
-fronts table (escape run level) c (front, listed, r, l, p) = (front, listed, subst (IsPrefix front) (sym (p ∙ append_assoc front (bits_of 6 run) (bits_of 12 level))) (IsPrefix-append front (bits_of 6 run ++ bits_of 12 level)))
+fronts table (escape run level) c (front, listed, r, l, p) = (
+  front,
+  listed,
+  subst (IsPrefix front) (sym (p ∙ append_assoc front (bits_of 6 run) (bits_of 12 level)))
+      (IsPrefix-append front (bits_of 6 run ++ bits_of 12 level)),
+)
 
 symbol-same : (table : TableName) (v w : Coefficient) (c d : List ℕ) → CoefficientCode table v c → CoefficientCode table w d → IsPrefix c d → symbol_of v ≡ symbol_of w
 symbol-same table v w c d p q begins =
@@ -180,7 +259,8 @@ coefficient-same table (escape run level) (escape run' level') c d (front, liste
     let fronts : Some front ≡ Some front' = sym listed ∙ listed' in
     let front-same : front ≡ front' = cc in
     let p' : c ≡ front ++ (bits_of 6 run ++ bits_of 12 level) = p ∙ append_assoc front (bits_of 6 run) (bits_of 12 level) in
-    let q' : d ≡ front ++ (bits_of 6 run' ++ bits_of 12 level') = q ∙ append_assoc front' (bits_of 6 run') (bits_of 12 level') ∙ ap (λ f. f ++ (bits_of 6 run' ++ bits_of 12 level')) (sym front-same) in
+    let q' : d ≡ front ++ (bits_of 6 run' ++ bits_of 12 level') = q ∙ append_assoc front' (bits_of 6 run') (bits_of 12 level')
+    ∙ ap (λ f. f ++ (bits_of 6 run' ++ bits_of 12 level')) (sym front-same) in
     let same : c ≡ d = IsPrefix-whole c d (ap length p' ∙ length-fields front run level ∙ sym (length-fields front run' level') ∙ sym (ap length q')) begins in
     let fields : bits_of 6 run ++ bits_of 12 level ≡ bits_of 6 run' ++ bits_of 12 level' =
     append_cancel_left front (bits_of 6 run ++ bits_of 12 level) (bits_of 6 run' ++ bits_of 12 level') (sym p' ∙ same ∙ q') in

@@ -139,7 +139,8 @@ exact-one_more {A} {B} grammar exact =
     exact-bind grammar another exact (λ value. exact-done (more value))
 
 module _ {A B : Type 0} (next : List A → Grammar (Next A B)) (exact : (before : List A) → IsExact (next before)) where
-  list_value : (before values others : List A) (end end' : B) (bits rest other : List ℕ) → SpellsList next before values end bits rest → SpellsList next before others end' bits other → (values ≡ others) × (end ≡ end') × (rest ≡ other)
+  list_value : (before values others : List A) (end end' : B) (bits rest other : List ℕ) → SpellsList next before values end bits rest
+      → SpellsList next before others end' bits other → (values ≡ others) × (end ≡ end') × (rest ≡ other)
   list_value before [] [] end end' bits rest other s t =
       let same = (exact before).one_value (last end) (last end') bits rest other s t in
       (refl, (let e = same.0 in cc), same.1)
@@ -153,7 +154,8 @@ module _ {A B : Type 0} (next : List A → Grammar (Next A B)) (exact : (before 
       let later = list_value (before ++ w ∷ []) vs ws end end' middle' rest other (moved (λ x m. SpellsList next (before ++ x ∷ []) vs end m rest) v w middle middle' (value, same.1) s') t' in
       (ap₂ (λ x xs. x ∷ xs) value later.0, later.1, later.2)
 
-  list_both : (before values others : List A) (end : B) (bits rest left : List ℕ) (refusal : Refusal) → SpellsList next before values end bits rest → RefusesAfter next before others bits refusal left → ⊥
+  list_both : (before values others : List A) (end : B) (bits rest left : List ℕ) (refusal : Refusal) → SpellsList next before values end bits rest
+      → RefusesAfter next before others bits refusal left → ⊥
   list_both before [] [] end bits rest left refusal s r = (exact before).not_both (last end) bits rest left refusal s r
   list_both before [] (w ∷ ws) end bits rest left refusal s (middle, t, r) =
       let same = (exact before).one_value (last end) (more w) bits rest middle s t in let e = same.0 in cc
@@ -163,7 +165,8 @@ module _ {A B : Type 0} (next : List A → Grammar (Next A B)) (exact : (before 
       let value : v ≡ w = (let e = same.0 in cc) in
       list_both (before ++ w ∷ []) vs ws end middle' rest left refusal (moved (λ x m. SpellsList next (before ++ x ∷ []) vs end m rest) v w middle middle' (value, same.1) s') r
 
-  list_refusal : (before values others : List A) (bits left other : List ℕ) (r s : Refusal) → RefusesAfter next before values bits r left → RefusesAfter next before others bits s other → (r ≡ s) × (left ≡ other)
+  list_refusal : (before values others : List A) (bits left other : List ℕ) (r s : Refusal) → RefusesAfter next before values bits r left
+      → RefusesAfter next before others bits s other → (r ≡ s) × (left ≡ other)
   list_refusal before [] [] bits left other r s p q = (exact before).one_refusal bits left other r s p q
   list_refusal before [] (w ∷ ws) bits left other r s p (middle, t, q) = absurd ((exact before).not_both (more w) bits middle left r t p)
   list_refusal before (v ∷ vs) [] bits left other r s (middle, t, p) q = absurd ((exact before).not_both (more v) bits middle other s t q)

@@ -10,10 +10,34 @@ use Rattle.picture_grammar.specs.Grammar.{optional, repeated}
 use Rattle.picture_grammar.specs.Element.{uimsbf, one_flag, rule}
 use Rattle.picture_grammar.specs.Exact.{IsExact}
 use Rattle.picture_grammar.specs.StartCode.{zero_bits, zero_bytes, start_code, only_zero_bytes}
-use Rattle.picture_grammar.specs.Headers.{Loaded, is_not_zero, old_f_code, matrix_if_loaded, sequence_header, sequence_extension, group_header, picture_header, picture_coding_extension, quant_matrix_extension}
+use Rattle.picture_grammar.specs.Headers.{
+  Loaded,
+  is_not_zero,
+  old_f_code,
+  matrix_if_loaded,
+  sequence_header,
+  sequence_extension,
+  group_header,
+  picture_header,
+  picture_coding_extension,
+  quant_matrix_extension,
+}
 use Rattle.picture_grammar.specs.Head.{unread, extension, extension_or_user_data, user_data_only, sequence_headers, sequence_part, group_part, picture_part, head}
 use Rattle.picture_grammar.specs.Picture.{whole_slice, next_slice, picture_unit}
-use Rattle.picture_grammar.proofs.GrammarLaws.{exact-done, exact-bind, exact-then, exact-optional, exact-when, exact-if_next, exact-at_bits, exact-ahead, exact-repeated, exact-one_more, exact-many, exact-with_bytes}
+use Rattle.picture_grammar.proofs.GrammarLaws.{
+  exact-done,
+  exact-bind,
+  exact-then,
+  exact-optional,
+  exact-when,
+  exact-if_next,
+  exact-at_bits,
+  exact-ahead,
+  exact-repeated,
+  exact-one_more,
+  exact-many,
+  exact-with_bytes,
+}
 use Rattle.picture_grammar.proofs.ElementLaws.{exact-element}
 use Rattle.picture_grammar.proofs.Codes.{free-behind}
 use Rattle.picture_grammar.proofs.PictureLaws.{exact-uimsbf, exact-flag_where}

@@ -1,5 +1,46 @@
 -- A block that some bits spell is spelled by its written spelling, whatever follows it.
-use Rattle.std.proofs.Common.{◌≡◌, ℕ, zero, suc, ℤ, pos, negsuc, neg_ℤ, unsigned_abs, ◌+◌, ◌-◌, ◌^◌, ◌<◌, ◌&&◌, List, [], ◌∷◌, ◌++◌, Option, Some, None, unwrap_or, Bool, true, false, cond, nat_lt, int_lt, if◌then◌else◌, refl, sym, ap, ap₂, subst, ◌∙◌, inl, inr, append_assoc, add-zero, arith}
+use Rattle.std.proofs.Common.{
+  ◌≡◌,
+  ℕ,
+  zero,
+  suc,
+  ℤ,
+  pos,
+  negsuc,
+  neg_ℤ,
+  unsigned_abs,
+  ◌+◌,
+  ◌-◌,
+  ◌^◌,
+  ◌<◌,
+  ◌&&◌,
+  List,
+  [],
+  ◌∷◌,
+  ◌++◌,
+  Option,
+  Some,
+  None,
+  unwrap_or,
+  Bool,
+  true,
+  false,
+  cond,
+  nat_lt,
+  int_lt,
+  if◌then◌else◌,
+  refl,
+  sym,
+  ap,
+  ap₂,
+  subst,
+  ◌∙◌,
+  inl,
+  inr,
+  append_assoc,
+  add-zero,
+  arith,
+}
 use Rattle.std.specs.Option.{option_map_or}
 use Rattle.std.proofs.lemmas.Bool.{and_parts, and_from, cases_lt, lt-ltb, le-ltb}
 use Rattle.std.proofs.lemmas.List.Sums.{sum_by-append}
@@ -16,7 +57,21 @@ use Rattle.picture_grammar.specs.Grammar.{SpellsList, optional}
 use Rattle.picture_grammar.specs.Grammar.Next.{more, last}
 use Rattle.picture_grammar.specs.Refusal.Refusal.{NoCode, TooMany, BadEscape}
 use Rattle.picture_grammar.specs.Element.{rule, passes, element}
-use Rattle.picture_grammar.specs.Block.{dc_table, dc_coefficient, Coefficient, CoefficientCode, after_code, is_level, signed, escape_level, is_within, next_place, coefficient_table, coefficient, block}
+use Rattle.picture_grammar.specs.Block.{
+  dc_table,
+  dc_coefficient,
+  Coefficient,
+  CoefficientCode,
+  after_code,
+  is_level,
+  signed,
+  escape_level,
+  is_within,
+  next_place,
+  coefficient_table,
+  coefficient,
+  block,
+}
 use Rattle.picture_grammar.specs.Block.Coefficient.{end_of_block, run_size, escape}
 use Rattle.picture_grammar.specs.Written.{code_for, if_any, written_dc, level_bits, written_escape, written_coefficient, written_coefficients, written_block}
 
@@ -90,7 +145,8 @@ module _ (way : BlockWay) (before : List RunLevel) where
       go (Some code) e = some code e
       go None e = none e
 
-    by_code : (c : Coefficient) (m : List ℕ) → (element (CoefficientCode (coefficient_table way (next_place way before))) NoCode (rule TooMany (is_within (next_place way before)) ∷ rule BadEscape is_level ∷ [])).Spells c bits m
+    by_code : (c : Coefficient) (m : List ℕ) → (element (CoefficientCode (coefficient_table way (next_place way before))) NoCode
+        (rule TooMany (is_within (next_place way before)) ∷ rule BadEscape is_level ∷ [])).Spells c bits m
         → (after_code c).Spells (more pair) m middle → Written pair other
     by_code end_of_block m s (e, f) = absurd (let e' : more pair ≡ last tt = e in cc)
     by_code (run_size run size) m (code, listed, passing, split) (negative, m', s', (e, f)) =
@@ -101,14 +157,16 @@ module _ (way : BlockWay) (before : List RunLevel) where
     by_code (escape run level) m (code, (front, listed, run_fits, level_fits, is), passing, split) (e, f) =
         let same : pair ≡ record { run = run; level = escape_level level } = cc in
         subst (λ p. Written p other) (sym same) (either (record { run = run; level = escape_level level })
-        (λ code' found. by_table (record { run = run; level = escape_level level }) code' other found (and_parts (nat_lt (next_place way before + run) 64) (is_level (escape run level) && true) passing).0)
+        (λ code' found. by_table (record { run = run; level = escape_level level }) code' other found
+        (and_parts (nat_lt (next_place way before + run) 64) (is_level (escape run level) && true) passing).0)
         (λ none. by_escape (record { run = run; level = escape_level level }) level front other none listed run_fits level_fits refl passing))
 
   -- and so is the end of block
   end_written : (bits middle other : List ℕ) → (coefficient way before).Spells (last tt) bits middle
       → (coefficient way before).Spells (last tt) (code_for (coefficient_table way (next_place way before)) END_OF_BLOCK ++ other) other
   end_written bits middle other (c, m, s, t) = by_code c m s t where
-    by_code : (c : Coefficient) (m : List ℕ) → (element (CoefficientCode (coefficient_table way (next_place way before))) NoCode (rule TooMany (is_within (next_place way before)) ∷ rule BadEscape is_level ∷ [])).Spells c bits m
+    by_code : (c : Coefficient) (m : List ℕ) → (element (CoefficientCode (coefficient_table way (next_place way before))) NoCode
+        (rule TooMany (is_within (next_place way before)) ∷ rule BadEscape is_level ∷ [])).Spells c bits m
         → (after_code c).Spells (last tt) m middle → (coefficient way before).Spells (last tt) (code_for (coefficient_table way (next_place way before)) END_OF_BLOCK ++ other) other
     by_code end_of_block m (code, listed, passing, split) (e, f) =
         (end_of_block, other, (code, listed, refl, ap (λ c. c ++ other) (code_for-listed (coefficient_table way (next_place way before)) END_OF_BLOCK code listed)), (refl, refl))

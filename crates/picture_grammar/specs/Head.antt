@@ -3,7 +3,22 @@ use Rattle.std.specs.Prelude.{◌%◌, ◌==◌, ◌||◌, ℕ, not, fold, Optio
 use Rattle.bit_lists.specs.Bits.{IsPrefix}
 use Rattle.syntax_types.specs.declared.picture.PicCoding.{PicCoding}
 use Rattle.syntax_types.specs.declared.picture.SeqState.{SeqState}
-use Rattle.stream_constants.specs.declared.start_codes.TheConstants.{PICTURE, USER_DATA, SEQUENCE_HEADER, EXTENSION, GROUP, SEQUENCE_EXTENSION, SEQUENCE_DISPLAY, QUANT_MATRIX, COPYRIGHT, SEQUENCE_SCALABLE, PICTURE_DISPLAY, PICTURE_CODING, SPATIAL_SCALABLE, TEMPORAL_SCALABLE}
+use Rattle.stream_constants.specs.declared.start_codes.TheConstants.{
+  PICTURE,
+  USER_DATA,
+  SEQUENCE_HEADER,
+  EXTENSION,
+  GROUP,
+  SEQUENCE_EXTENSION,
+  SEQUENCE_DISPLAY,
+  QUANT_MATRIX,
+  COPYRIGHT,
+  SEQUENCE_SCALABLE,
+  PICTURE_DISPLAY,
+  PICTURE_CODING,
+  SPATIAL_SCALABLE,
+  TEMPORAL_SCALABLE,
+}
 use Rattle.picture_grammar.specs.Refusal.Refusal.{BadHeader, NotMpeg2, Profile}
 use Rattle.picture_grammar.specs.Grammar.{Grammar, done, ◌>>=◌, ◌>>◌, optional, when, if_next, at_bits, ahead, many, Next, one_item_more}
 use Rattle.picture_grammar.specs.Grammar.Next.{more, last}

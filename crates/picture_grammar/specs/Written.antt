@@ -1,6 +1,35 @@
 -- How each part is written: the one spelling that has a code of the tables wherever there is one, and no more zero bits
 -- and bytes than there must be.
-use Rattle.std.specs.Prelude.{◌≡◌, ◌+◌, ◌-◌, ◌*◌, ◌/◌, ◌%◌, ◌^◌, ◌==◌, ℕ, ℤ, pos, negsuc, suc, unsigned_abs, int_lt, Option, Some, None, unwrap_or, List, [], ◌∷◌, ◌++◌, length, replicate, slice_index, slice_index_or, if◌then◌else◌}
+use Rattle.std.specs.Prelude.{
+  ◌≡◌,
+  ◌+◌,
+  ◌-◌,
+  ◌*◌,
+  ◌/◌,
+  ◌%◌,
+  ◌^◌,
+  ◌==◌,
+  ℕ,
+  ℤ,
+  pos,
+  negsuc,
+  suc,
+  unsigned_abs,
+  int_lt,
+  Option,
+  Some,
+  None,
+  unwrap_or,
+  List,
+  [],
+  ◌∷◌,
+  ◌++◌,
+  length,
+  replicate,
+  slice_index,
+  slice_index_or,
+  if◌then◌else◌,
+}
 use Rattle.std.specs.List.{flat_map, range_with_len}
 use Rattle.std.specs.Option.{option_map_or}
 use Rattle.bit_lists.specs.Bits.{bits_of}

@@ -185,7 +185,8 @@ module _ {A : Type 0} (Codes : A → List ℕ → Type 0) where
     right-rules before [] e es are =
         right-standing (before ++ []) e es (standing (e ∷ es) bits) (subst (λ (rs : List (Rule A)). AreCandidates rs bits (e ∷ es)) (sym (append-nil before)) are) (is-standing (e ∷ es) bits)
     right-rules before (r ∷ rs) e es are = by_cases (right-rules (before ++ r ∷ []) rs) (kept (λ (x : A × List ℕ). r.test x.0) (e ∷ es)) refl where
-      by_cases : ((k : A × List ℕ) (ks : List (A × List ℕ)) → AreCandidates (before ++ r ∷ []) bits (k ∷ ks) → IsRight (element Codes none_kind ((before ++ r ∷ []) ++ rs)) bits (by_rules rs (k ∷ ks) bits))
+      by_cases : ((k : A × List ℕ) (ks : List (A × List ℕ)) → AreCandidates (before ++ r ∷ []) bits (k ∷ ks)
+          → IsRight (element Codes none_kind ((before ++ r ∷ []) ++ rs)) bits (by_rules rs (k ∷ ks) bits))
           → (ks : List (A × List ℕ)) → kept (λ (x : A × List ℕ). r.test x.0) (e ∷ es) ≡ ks
           → IsRight (element Codes none_kind (before ++ r ∷ rs)) bits (elim ks [ [] ↦ refused r.refusal bits | k ∷ ks ↦ by_rules rs (k ∷ ks) bits ])
       by_cases later_rules [] same = (

@@ -149,7 +149,8 @@ module _ {A B : Type 0} (next : List A → Grammar (Next A B)) (decided : (befor
   right-list takes zero before bits le (found (more value) middle) (s, are) = absurd (omega (arith, takes.fewer before value bits middle s))
   right-list takes (suc steps) before bits le (found (more value) middle) (s, are) =
       right-first before value bits middle s (list_answer steps (before ++ value ∷ []) ((decided (before ++ value ∷ [])).answer middle))
-      (right-list takes steps (before ++ value ∷ []) middle (omega (arith, takes.fewer before value bits middle s)) ((decided (before ++ value ∷ [])).answer middle) ((decided (before ++ value ∷ [])).right middle are))
+      (right-list takes steps (before ++ value ∷ []) middle (omega (arith, takes.fewer before value bits middle s))
+      ((decided (before ++ value ∷ [])).answer middle) ((decided (before ++ value ∷ [])).right middle are))
 
   right-many : (bits : List ℕ) (answer : Answer (List A × B)) → IsRightList [] bits answer → IsRight (many next) bits answer
   right-many bits (found list rest) s = s

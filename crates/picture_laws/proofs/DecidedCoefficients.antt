@@ -1,5 +1,38 @@
 -- A coefficient decides all bits, by the codes that may stand there.
-use Rattle.std.proofs.Common.{◌≡◌, ℕ, ◌+◌, ◌*◌, ◌/◌, ◌%◌, ◌^◌, ◌<◌, ◌⊎◌, ◌&&◌, nat_lt, List, [], ◌∷◌, ◌++◌, map, Option, Some, None, Bool, true, cond, append_assoc, refl, sym, ap, ap₂, subst, ◌∙◌, inl, inr, arith}
+use Rattle.std.proofs.Common.{
+  ◌≡◌,
+  ℕ,
+  ◌+◌,
+  ◌*◌,
+  ◌/◌,
+  ◌%◌,
+  ◌^◌,
+  ◌<◌,
+  ◌⊎◌,
+  ◌&&◌,
+  nat_lt,
+  List,
+  [],
+  ◌∷◌,
+  ◌++◌,
+  map,
+  Option,
+  Some,
+  None,
+  Bool,
+  true,
+  cond,
+  append_assoc,
+  refl,
+  sym,
+  ap,
+  ap₂,
+  subst,
+  ◌∙◌,
+  inl,
+  inr,
+  arith,
+}
 use Rattle.std.proofs.lemmas.Bool.{and_parts, and_from, lt-ltb}
 use Rattle.std.proofs.lemmas.Nat.{pow_pos}
 use Rattle.std.proofs.Math.Nat.{mod-lt, div-add-mod, mul_comm}
@@ -139,7 +172,9 @@ module _ (table : TableName) (bits : List ℕ) (are : AreBits bits) where
   complete : (v : Coefficient) (c : List ℕ) → CoefficientCode table v c → Agrees c bits → In (v, c) (coefficient_candidates table bits)
   complete end_of_block c coded a =
       in-first (end_of_block, c) _ (escape_codes (code_in table ESCAPE) bits)
-      (in-kept (λ (e : Coefficient × List ℕ). agree e.1 bits) (end_of_block, c) _ (in-first (end_of_block, c) (end_codes (code_in table END_OF_BLOCK)) _ (end-complete c (code_in table END_OF_BLOCK) coded)) (agree-from c bits a))
+      (in-kept (λ (e : Coefficient × List ℕ). agree e.1 bits) (end_of_block, c) _
+      (in-first (end_of_block, c) (end_codes (code_in table END_OF_BLOCK)) _ (end-complete c (code_in table END_OF_BLOCK) coded))
+      (agree-from c bits a))
   complete (run_size run size) c coded a =
       let (r, z, s, listed) = coefficient_code-listed table run size c coded in
       let symbol = 64 * run + size in

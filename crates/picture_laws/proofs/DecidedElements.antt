@@ -1,5 +1,39 @@
 -- Each kind of element decides all bits, by the codes that may stand there.
-use Rattle.std.proofs.Common.{◌≡◌, ℕ, zero, suc, ℤ, pos, negsuc, unsigned_abs, ◌/◌, ◌%◌, ◌^◌, ◌<◌, ◌≤◌, nat_eq, List, [], ◌∷◌, ◌++◌, map, Some, slice_get, Bool, true, false, refl, sym, ap, subst, ◌∙◌, inl, inr, arith, eq-eqb}
+use Rattle.std.proofs.Common.{
+  ◌≡◌,
+  ℕ,
+  zero,
+  suc,
+  ℤ,
+  pos,
+  negsuc,
+  unsigned_abs,
+  ◌/◌,
+  ◌%◌,
+  ◌^◌,
+  ◌<◌,
+  ◌≤◌,
+  nat_eq,
+  List,
+  [],
+  ◌∷◌,
+  ◌++◌,
+  map,
+  Some,
+  slice_get,
+  Bool,
+  true,
+  false,
+  refl,
+  sym,
+  ap,
+  subst,
+  ◌∙◌,
+  inl,
+  inr,
+  arith,
+  eq-eqb,
+}
 use Rattle.std.proofs.lemmas.Bool.{eqb-true}
 use Rattle.bit_lists.specs.Bits.{bits_of}
 use Rattle.bit_lists.specs.Fields.{flag}
@@ -145,7 +179,8 @@ kind_of symbol = record {
   intra = nat_eq (symbol / INTRA % 2) 1;
 }
 
-is_kind : (quant forward backward pattern intra : Bool) → let kind : Kind = record { quant = quant; forward = forward; backward = backward; pattern = pattern; intra = intra } in kind_of (type_symbol kind) ≡ kind
+is_kind : (quant forward backward pattern intra : Bool) → let kind : Kind = record
+    { quant = quant; forward = forward; backward = backward; pattern = pattern; intra = intra } in kind_of (type_symbol kind) ≡ kind
 is_kind false false false false false = refl
 is_kind false false false false true = refl
 is_kind false false false true false = refl
@@ -200,7 +235,8 @@ module _ (table : TableName) where
       let flags_of = is_kind v.quant v.forward v.backward v.pattern v.intra in
       let there = in-kept (λ (e : Entry). nat_eq (type_symbol (kind_of e.0)) e.0) (type_symbol v, c) (entries table) (table-in table (type_symbol v) c listed)
       (eq-eqb (type_symbol (kind_of (type_symbol v))) (type_symbol v) (ap type_symbol flags_of)) in
-      subst (λ (k : Kind). In (k, c) kinds) flags_of (in-map (λ (e : Entry). (kind_of e.0, e.1)) (type_symbol v, c) (kept (λ (e : Entry). nat_eq (type_symbol (kind_of e.0)) e.0) (entries table)) there)
+      subst (λ (k : Kind). In (k, c) kinds) flags_of (in-map (λ (e : Entry). (kind_of e.0, e.1)) (type_symbol v, c)
+      (kept (λ (e : Entry). nat_eq (type_symbol (kind_of e.0)) e.0) (entries table)) there)
 
   abbrev pub decided-type : (none_kind : Refusal) → IsDecided (element IsType none_kind [])
   decided-type none_kind = decided-by IsType none_kind [] (of_all IsType kinds) (λ bits are. are-of_all IsType kinds kind-in in-kind bits)

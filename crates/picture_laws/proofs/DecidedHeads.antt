@@ -7,10 +7,33 @@ use Rattle.picture_grammar.specs.Refusal.Refusal.{BadHeader}
 use Rattle.picture_grammar.specs.Grammar.{optional, repeated}
 use Rattle.picture_grammar.specs.Element.{uimsbf, one_flag, rule}
 use Rattle.picture_grammar.specs.StartCode.{start_code_prefix, zero_bits, zero_bytes, start_code, only_zero_bytes}
-use Rattle.picture_grammar.specs.Headers.{Loaded, is_not_zero, old_f_code, matrix_if_loaded, sequence_header, sequence_extension, group_header, picture_header, picture_coding_extension, quant_matrix_extension}
+use Rattle.picture_grammar.specs.Headers.{
+  Loaded,
+  is_not_zero,
+  old_f_code,
+  matrix_if_loaded,
+  sequence_header,
+  sequence_extension,
+  group_header,
+  picture_header,
+  picture_coding_extension,
+  quant_matrix_extension,
+}
 use Rattle.picture_grammar.specs.Head.{unread, extension, extension_or_user_data, user_data_only, sequence_headers, sequence_part, group_part, picture_part, head}
 use Rattle.picture_laws.proofs.Answers.{IsDecided}
-use Rattle.picture_laws.proofs.Decided.{decided-done, decided-bind, decided-then, decided-optional, decided-when, decided-if_next, decided-at_bits, decided-ahead, decided-repeated, decided-one_more, decided-many}
+use Rattle.picture_laws.proofs.Decided.{
+  decided-done,
+  decided-bind,
+  decided-then,
+  decided-optional,
+  decided-when,
+  decided-if_next,
+  decided-at_bits,
+  decided-ahead,
+  decided-repeated,
+  decided-one_more,
+  decided-many,
+}
 use Rattle.picture_laws.proofs.DecidedElements.{decided-uimsbf, decided-flag_where, decided-behind}
 use Rattle.picture_laws.proofs.DecidedPictures.{decided-extra_information}
 use Rattle.picture_laws.proofs.Takes.{takes-extra_information}

@@ -15,7 +15,25 @@ use Rattle.picture_grammar.specs.Element.{uimsbf, one_flag, marker_bit, rule}
 use Rattle.picture_grammar.specs.Block.{Coefficient, dc_coefficient, after_code, coefficient, block}
 use Rattle.picture_grammar.specs.Block.Coefficient.{end_of_block, run_size, escape}
 use Rattle.picture_grammar.specs.Motion.{MotionFormat, vector_part, motion_vector, motion_vectors}
-use Rattle.picture_grammar.specs.Macroblock.{address_code, address_increment, motion_type, dct_type, quantiser_scale_code, has_motion_type, usual_motion_type, motion_format, has_dct_type, has_forward, has_concealment, f_codes, is_coded, block_way, no_block, blocks, macroblock}
+use Rattle.picture_grammar.specs.Macroblock.{
+  address_code,
+  address_increment,
+  motion_type,
+  dct_type,
+  quantiser_scale_code,
+  has_motion_type,
+  usual_motion_type,
+  motion_format,
+  has_dct_type,
+  has_forward,
+  has_concealment,
+  f_codes,
+  is_coded,
+  block_way,
+  no_block,
+  blocks,
+  macroblock,
+}
 use Rattle.picture_grammar.specs.Slice.{ClosesSlice, extra_information, slice_extension, slice_info, next_macroblock, slice}
 use Rattle.picture_laws.proofs.Answers.{IsDecided}
 use Rattle.picture_laws.proofs.Decided.{decided-done, decided-bind, decided-then, decided-optional, decided-when, decided-if_next, decided-repeated, decided-each, decided-one_more, decided-many}

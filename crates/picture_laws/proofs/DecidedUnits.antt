@@ -24,7 +24,25 @@ use Rattle.picture_laws.proofs.DecidedPictures.{decided-slice}
 use Rattle.picture_laws.proofs.DecidedHeads.{decided-zero_bits, decided-start_code, decided-only_zero_bytes, decided-head}
 use Rattle.picture_laws.proofs.TakesHeads.{takes-slices}
 use Rattle.picture_laws.proofs.Tested.{tested-zero}
-use Rattle.picture_laws.proofs.WholeBytes.{KeepsWhole, EndsWhole, keeps-done, keeps-ends, keeps-bind, ends-bind, ends-behind, keeps-optional, keeps-when, keeps-if_next, keeps-ahead, keeps-many, keeps-uimsbf, ends-zero_bits, keeps-start_code, bytes_of, bytes_of-right}
+use Rattle.picture_laws.proofs.WholeBytes.{
+  KeepsWhole,
+  EndsWhole,
+  keeps-done,
+  keeps-ends,
+  keeps-bind,
+  ends-bind,
+  ends-behind,
+  keeps-optional,
+  keeps-when,
+  keeps-if_next,
+  keeps-ahead,
+  keeps-many,
+  keeps-uimsbf,
+  ends-zero_bits,
+  keeps-start_code,
+  bytes_of,
+  bytes_of-right,
+}
 
 -- ---- a head ends at a whole byte
 
@@ -97,7 +115,8 @@ abbrev pub with_bytes_answer : {A : Type 0} → List ℕ → Answer A → Answer
 with_bytes_answer bits (found v rest) = let count = length bits - length rest in found (v, bytes_of (count / 8) (take count bits)) rest
 with_bytes_answer bits (refused r left) = refused r left
 
-taken-bytes : {A : Type 0} (grammar : Grammar A) (v : A) (bits rest : List ℕ) → AreBits bits → EndsWith bits rest → length bits % 8 ≡ 0 → length rest % 8 ≡ 0 → grammar.Spells v bits rest → AreBits rest
+taken-bytes : {A : Type 0} (grammar : Grammar A) (v : A) (bits rest : List ℕ) → AreBits bits → EndsWith bits rest → length bits % 8 ≡ 0
+    → length rest % 8 ≡ 0 → grammar.Spells v bits rest → AreBits rest
     → IsRight (with_spelling grammar) bits (with_bytes_answer bits (found v rest))
 taken-bytes grammar v bits rest are (front, split) whole whole' s are' =
     let count : length bits - length rest ≡ length front = omega (arith, ap length split, length-append front rest) in

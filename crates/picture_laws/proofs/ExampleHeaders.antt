@@ -87,7 +87,8 @@ unfolding answers
 high_and_other = said (decided-sequence_header (Some (state 720 480 5 112))) (header 720 577 5 1 112) refl
 
 -- a matrix entry 0
-zero_weight : (sequence_header None).Refuses (bits_of 12 720 ++ bits_of 12 576 ++ printed_bits "0010 0101 000000000000000000 1 0001110000 0 1 00001000 00000000 1") BadHeader (printed_bits "00000000 1")
+zero_weight : (sequence_header None).Refuses (bits_of 12 720 ++ bits_of 12 576
+    ++ printed_bits "0010 0101 000000000000000000 1 0001110000 0 1 00001000 00000000 1") BadHeader (printed_bits "00000000 1")
 unfolding answers
 zero_weight = said (decided-sequence_header None) (bits_of 12 720 ++ bits_of 12 576 ++ printed_bits "0010 0101 000000000000000000 1 0001110000 0 1 00001000 00000000 1") refl
 

@@ -95,7 +95,8 @@ unfolding answers decided-head
 long_head-spelled = (said (decided-head None) (bit_list (long_head ++ slice_bytes)) refl).0
 
 -- a scalable extension, which is of another profile, is refused at its identifier; so is one that may not stand behind a sequence header
-no_display_behind_picture : (head None).Refuses (bit_list (sequence_header_bytes 16 ++ sequence_extension_bytes ++ picture_header_bytes ++ coding_extension_bytes ++ display_bytes)) BadHeader (bit_list (0x2A ∷ 0x01 ∷ 0x02 ∷ 0x02 ∷ 0x00 ∷ []))
+no_display_behind_picture : (head None).Refuses (bit_list (sequence_header_bytes 16 ++ sequence_extension_bytes ++ picture_header_bytes
+    ++ coding_extension_bytes ++ display_bytes)) BadHeader (bit_list (0x2A ∷ 0x01 ∷ 0x02 ∷ 0x02 ∷ 0x00 ∷ []))
 unfolding answers decided-head
 no_display_behind_picture = said (decided-head None) (bit_list (sequence_header_bytes 16 ++ sequence_extension_bytes ++ picture_header_bytes ++ coding_extension_bytes ++ display_bytes)) refl
 

@@ -13,9 +13,36 @@ use Rattle.picture_grammar.specs.Element.{Rule, uimsbf, vlclbf, one_flag, marker
 use Rattle.picture_grammar.specs.Exact.{IsLocal}
 use Rattle.picture_grammar.specs.Block.{block}
 use Rattle.picture_grammar.specs.Motion.{MotionFormat, dmvector, has_residual, vector_part, motion_vector, motion_vectors}
-use Rattle.picture_grammar.specs.Macroblock.{address_code, address_increment, most_increment, has_motion_type, usual_motion_type, has_dct_type, quantiser_scale_code, has_forward, has_concealment, f_codes, motion_format, block_way, is_coded, no_block, blocks, macroblock}
+use Rattle.picture_grammar.specs.Macroblock.{
+  address_code,
+  address_increment,
+  most_increment,
+  has_motion_type,
+  usual_motion_type,
+  has_dct_type,
+  quantiser_scale_code,
+  has_forward,
+  has_concealment,
+  f_codes,
+  motion_format,
+  block_way,
+  is_coded,
+  no_block,
+  blocks,
+  macroblock,
+}
 use Rattle.picture_grammar.specs.Slice.{extra_information}
-use Rattle.picture_grammar.specs.Headers.{is_not_zero, matrix_if_loaded, sequence_header, sequence_extension, group_header, old_f_code, picture_header, picture_coding_extension, quant_matrix_extension}
+use Rattle.picture_grammar.specs.Headers.{
+  is_not_zero,
+  matrix_if_loaded,
+  sequence_header,
+  sequence_extension,
+  group_header,
+  old_f_code,
+  picture_header,
+  picture_coding_extension,
+  quant_matrix_extension,
+}
 use Rattle.picture_grammar.proofs.LocalLaws.{local-done, local-element, local-bind, local-optional, local-many, local-block}
 
 -- ---- headers don't look ahead
@@ -29,7 +56,9 @@ local-when false grammar absent local = local-done absent
 
 pub local-repeated : {A : Type 0} (n : ℕ) (grammar : Grammar A) → IsLocal grammar → IsLocal (repeated n grammar)
 local-repeated zero grammar local = local-done []
-local-repeated (suc n) grammar local = local-bind grammar (λ value. repeated n grammar >>= λ values. done (value ∷ values)) local (λ value. local-bind (repeated n grammar) (λ values. done (value ∷ values)) (local-repeated n grammar local) (λ values. local-done (value ∷ values)))
+local-repeated (suc n) grammar local = local-bind grammar (λ value. repeated n grammar >>= λ values. done (value ∷ values)) local
+    (λ value. local-bind (repeated n grammar) (λ values. done (value ∷ values)) (local-repeated n grammar local)
+    (λ values. local-done (value ∷ values)))
 
 pub local-uimsbf : (n : ℕ) (rules : List (Rule ℕ)) → IsLocal (uimsbf n rules)
 local-uimsbf n rules = local-element _ _ rules

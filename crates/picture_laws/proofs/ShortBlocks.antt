@@ -1,5 +1,35 @@
 -- Zero bits on end in blocks: at most 22, from 8 before a block to 1 behind it.
-use Rattle.std.proofs.Common.{◌≡◌, ◌≢◌, ◌==◌, ◌&&◌, ◌+◌, ◌-◌, ◌*◌, ◌^◌, ◌<◌, ◌≤◌, ℕ, not, nat_eq, nat_le, nat_lt, List, [], ◌∷◌, ◌++◌, Bool, true, false, if◌then◌else◌, refl, sym, subst, ◌∙◌, arith, eq-eqb}
+use Rattle.std.proofs.Common.{
+  ◌≡◌,
+  ◌≢◌,
+  ◌==◌,
+  ◌&&◌,
+  ◌+◌,
+  ◌-◌,
+  ◌*◌,
+  ◌^◌,
+  ◌<◌,
+  ◌≤◌,
+  ℕ,
+  not,
+  nat_eq,
+  nat_le,
+  nat_lt,
+  List,
+  [],
+  ◌∷◌,
+  ◌++◌,
+  Bool,
+  true,
+  false,
+  if◌then◌else◌,
+  refl,
+  sym,
+  subst,
+  ◌∙◌,
+  arith,
+  eq-eqb,
+}
 use Rattle.std.specs.List.{list_all}
 use Rattle.std.proofs.Math.Nat.{mod-eq_of_lt}
 use Rattle.std.proofs.lemmas.Bool.{and_parts, both_ways, not-true, leb-true}
@@ -16,10 +46,47 @@ use Rattle.picture_grammar.specs.Refusal.Refusal.{NoCode, TooMany, BadEscape}
 use Rattle.picture_grammar.specs.Grammar.{done, ◌>>=◌, optional, many, Next}
 use Rattle.picture_grammar.specs.Grammar.Next.{more, last}
 use Rattle.picture_grammar.specs.Element.{passes, element, vlclbf, uimsbf, one_flag, rule}
-use Rattle.picture_grammar.specs.Block.{dc_table, dc_coefficient, Coefficient, CoefficientCode, after_code, is_level, is_within, signed, escape_level, next_place, coefficient_table, coefficient, block}
+use Rattle.picture_grammar.specs.Block.{
+  dc_table,
+  dc_coefficient,
+  Coefficient,
+  CoefficientCode,
+  after_code,
+  is_level,
+  is_within,
+  signed,
+  escape_level,
+  next_place,
+  coefficient_table,
+  coefficient,
+  block,
+}
 use Rattle.picture_grammar.specs.Block.Coefficient.{end_of_block, run_size, escape}
 use Rattle.picture_grammar.proofs.Codes.{coefficient_code-listed}
-use Rattle.picture_laws.proofs.ZeroRuns.{AreShort, zeros_behind, IsShort, is_short_entry, short-append, behind-append, short-fewer, behind-fewer, any-short, any-behind, some-short, short-done, short-element, short-bind, short-weak, short-optional, short-many, short-uimsbf, behind_flag, short-flag, short-code, short-vlclbf}
+use Rattle.picture_laws.proofs.ZeroRuns.{
+  AreShort,
+  zeros_behind,
+  IsShort,
+  is_short_entry,
+  short-append,
+  behind-append,
+  short-fewer,
+  behind-fewer,
+  any-short,
+  any-behind,
+  some-short,
+  short-done,
+  short-element,
+  short-bind,
+  short-weak,
+  short-optional,
+  short-many,
+  short-uimsbf,
+  behind_flag,
+  short-flag,
+  short-code,
+  short-vlclbf,
+}
 
 -- a number that isn't 0
 pub some-number : (from n v : ℕ) → v < 2 ^ n → v ≢ 0 → from + n ≤ 23 → AreShort from (bits_of n v) × (zeros_behind from (bits_of n v) + 1 ≤ n)
@@ -55,7 +122,8 @@ behind_symbol symbol = if symbol == END_OF_BLOCK then 1 else (if symbol == ESCAP
 coefficient_entries : (way : BlockWay) (place : ℕ) → list_all (is_short_entry 11 behind_symbol) (entries (coefficient_table way place)) ≡ true
 unfolding tables
 coefficient_entries way place = by_flags way.intra way.vlc_one (place == 0) where
-  by_flags : (intra vlc_one first : Bool) → list_all (is_short_entry 11 behind_symbol) (entries (if intra then (if vlc_one then CoeffOne else CoeffZero) else (if first then CoeffFirst else CoeffZero))) ≡ true
+  by_flags : (intra vlc_one first : Bool) → list_all (is_short_entry 11 behind_symbol)
+      (entries (if intra then (if vlc_one then CoeffOne else CoeffZero) else (if first then CoeffFirst else CoeffZero))) ≡ true
   by_flags true true first = refl
   by_flags true false first = refl
   by_flags false vlc_one true = refl

@@ -1,5 +1,41 @@
 -- Zero bits on end in macroblocks: at most 22, from 14 before one to 14 behind it.
-use Rattle.std.proofs.Common.{◌≡◌, ◌≢◌, ◌⊎◌, ◌==◌, ◌||◌, ◌+◌, ◌-◌, ◌<◌, ◌≤◌, ℕ, zero, suc, ℤ, pos, negsuc, not, nat_eq, List, [], ◌∷◌, slice_index, None, Bool, true, false, cond, refl, sym, ap, subst, ◌∙◌, inl, inr, arith, eq-eqb}
+use Rattle.std.proofs.Common.{
+  ◌≡◌,
+  ◌≢◌,
+  ◌⊎◌,
+  ◌==◌,
+  ◌||◌,
+  ◌+◌,
+  ◌-◌,
+  ◌<◌,
+  ◌≤◌,
+  ℕ,
+  zero,
+  suc,
+  ℤ,
+  pos,
+  negsuc,
+  not,
+  nat_eq,
+  List,
+  [],
+  ◌∷◌,
+  slice_index,
+  None,
+  Bool,
+  true,
+  false,
+  cond,
+  refl,
+  sym,
+  ap,
+  subst,
+  ◌∙◌,
+  inl,
+  inr,
+  arith,
+  eq-eqb,
+}
 use Rattle.std.specs.List.{list_all, range_with_len, AllByRecursion}
 use Rattle.std.specs.Int.{bit_at}
 use Rattle.std.proofs.lemmas.Bool.{and_parts, both_ways, not-true, eqb-true}
@@ -15,10 +51,49 @@ use Rattle.picture_grammar.specs.Grammar.{Grammar, optional, when, many}
 use Rattle.picture_grammar.specs.Element.{vlclbf, uimsbf, one_flag, marker_bit, rule}
 use Rattle.picture_grammar.specs.Block.{block}
 use Rattle.picture_grammar.specs.Motion.{MotionFormat, dmvector, dmvector_code, has_residual, vector_part, motion_vector, motion_vectors}
-use Rattle.picture_grammar.specs.Macroblock.{address_code, address_increment, most_increment, type_table, type_symbol, macroblock_type, has_motion_type, usual_motion_type, has_dct_type, quantiser_scale_code, has_forward, has_concealment, f_codes, motion_format, block_way, is_coded, no_block, blocks, macroblock}
+use Rattle.picture_grammar.specs.Macroblock.{
+  address_code,
+  address_increment,
+  most_increment,
+  type_table,
+  type_symbol,
+  macroblock_type,
+  has_motion_type,
+  usual_motion_type,
+  has_dct_type,
+  quantiser_scale_code,
+  has_forward,
+  has_concealment,
+  f_codes,
+  motion_format,
+  block_way,
+  is_coded,
+  no_block,
+  blocks,
+  macroblock,
+}
 use Rattle.picture_grammar.specs.Picture.{IsFCode, IsCoding}
 use Rattle.picture_laws.specs.Spellable.{IsSpellable}
-use Rattle.picture_laws.proofs.ZeroRuns.{AreShort, zeros_behind, IsShort, is_short_entry, short-done, short-element, short-bind, short-weak, short-when, short-optional, short-repeated, short-each, short-many, short-uimsbf, behind_flag, short-flag, short-code, short-vlclbf}
+use Rattle.picture_laws.proofs.ZeroRuns.{
+  AreShort,
+  zeros_behind,
+  IsShort,
+  is_short_entry,
+  short-done,
+  short-element,
+  short-bind,
+  short-weak,
+  short-when,
+  short-optional,
+  short-repeated,
+  short-each,
+  short-many,
+  short-uimsbf,
+  behind_flag,
+  short-flag,
+  short-code,
+  short-vlclbf,
+}
 use Rattle.picture_laws.proofs.ShortBlocks.{some-number, short-block}
 use Rattle.picture_laws.proofs.MacroblockKinds.{HasKind, kind-of, short_types}
 
@@ -40,7 +115,8 @@ pub short-one_flag : (from most : ℕ) → from < 22 → from + 1 ≤ most → I
 short-one_flag from most lt le = short-weak from from (behind_flag from) (λ _. most) one_flag (omega arith) (λ v. flag-most from most v le) (short-flag from [] lt)
 
 -- what stands in some cases only
-short-stands : {A : Type 0} (from most : ℕ) (test : Bool) (grammar : Grammar A) (absent : A) → (test ≡ true → IsShort from (λ _. most) grammar) → IsShort from (λ _. cond test most from) (when test grammar absent)
+short-stands : {A : Type 0} (from most : ℕ) (test : Bool) (grammar : Grammar A) (absent : A) → (test ≡ true → IsShort from (λ _. most) grammar)
+    → IsShort from (λ _. cond test most from) (when test grammar absent)
 short-stands from most true grammar absent short = short refl
 short-stands from most false grammar absent short = short-done from (λ _. from) absent (omega arith)
 
@@ -169,7 +245,8 @@ behind_marker coding kind = cond (has_concealment coding kind) 0 (behind_backwar
 abbrev behind_pattern : PicCoding → Kind → ℕ
 behind_pattern coding kind = cond kind.pattern 4 (behind_marker coding kind)
 
-few-intra : (pattern conceals backward forward : Bool) → pattern ≡ false → backward ≡ false → forward ≡ false → cond pattern 4 (cond conceals 0 (cond backward 14 (cond (forward || conceals) 14 4))) ≤ 4
+few-intra : (pattern conceals backward forward : Bool) → pattern ≡ false → backward ≡ false → forward ≡ false
+    → cond pattern 4 (cond conceals 0 (cond backward 14 (cond (forward || conceals) 14 4))) ≤ 4
 few-intra true conceals backward forward p b f = absurd (let e : true ≡ false = p in cc)
 few-intra false true backward forward p b f = omega arith
 few-intra false false true forward p b f = absurd (let e : true ≡ false = b in cc)
@@ -177,7 +254,8 @@ few-intra false false false true p b f = absurd (let e : true ≡ false = f in c
 few-intra false false false false p b f = omega arith
 
 few-before_blocks : (coding : PicCoding) (kind : Kind) → HasKind coding kind → (kind.intra ≡ true) ⊎ (kind.pattern ≡ true) → behind_pattern coding kind ≤ 4
-few-before_blocks coding kind has (inl intra) = let (forward, backward, pattern) = has.alone intra in few-intra kind.pattern (has_concealment coding kind) kind.backward kind.forward pattern backward forward
+few-before_blocks coding kind has (inl intra) = let (forward, backward, pattern) = has.alone intra in few-intra kind.pattern
+    (has_concealment coding kind) kind.backward kind.forward pattern backward forward
 few-before_blocks coding kind has (inr pattern) = subst (λ (b : Bool). cond b 4 (behind_marker coding kind) ≤ 4) (sym pattern) (omega arith)
 
 none-absent : (test : Bool) (pattern : ℕ) → IsSpellable (when test (vlclbf Pattern BadPattern []) 0) pattern → test ≡ false → pattern ≡ 0
@@ -195,15 +273,23 @@ short-macroblock coding first columns_left is =
     let backward_most = cond-most kind.backward 14 (behind_forward coding kind) 14 (omega arith) forward_most in
     let marker_most = cond-most (has_concealment coding kind) 0 (behind_backward coding kind) 14 (omega arith) backward_most in
     let pattern_most = cond-most kind.pattern 4 (behind_marker coding kind) 14 (omega arith) marker_most in
-    short-bind 1 (λ _. 1) (λ _. 14) _ _ (short-when 1 (λ _. 1) (has_motion_type coding kind) (uimsbf 2 (rule BadType (λ number. not (number == 0)) ∷ [])) (usual_motion_type coding) (λ _. short-number 1 2 (omega arith)) (λ _. omega arith))
+    short-bind 1 (λ _. 1) (λ _. 14) _ _ (short-when 1 (λ _. 1) (has_motion_type coding kind)
+    (uimsbf 2 (rule BadType (λ number. not (number == 0)) ∷ [])) (usual_motion_type coding) (λ _. short-number 1 2 (omega arith))
+    (λ _. omega arith))
     (λ motion s3. short-bind 1 (λ _. 2) (λ _. 14) _ _ (short-when 1 (λ _. 2) (has_dct_type coding kind) one_flag false (λ _. short-one_flag 1 2 (omega arith) (omega arith)) (λ _. omega arith))
     (λ field_dct s4. short-bind 2 (λ _. 4) (λ _. 14) _ _ (short-optional 2 (λ _. 4) kind.quant quantiser_scale_code (λ _. short-number 2 5 (omega arith)) (λ _. omega arith))
     (λ code s5. short-bind 4 (λ _. behind_forward coding kind) (λ _. 14) _ _ (short-stands 4 14 (has_forward coding kind) (motion_vectors (f_codes coding 0) (motion_format coding motion)) []
     (λ stands. short-weak 14 4 (λ _. 14) (λ _. 14) _ (omega arith) (λ v. omega arith) (short-vectors (f_codes coding 0) (motion_format coding motion) (forward_codes coding kind is has stands))))
-    (λ forward s6. short-bind (behind_forward coding kind) (λ _. behind_backward coding kind) (λ _. 14) _ _ (short-stands (behind_forward coding kind) 14 kind.backward (motion_vectors (f_codes coding 1) (motion_format coding motion)) []
-    (λ stands. short-weak 14 (behind_forward coding kind) (λ _. 14) (λ _. 14) _ forward_most (λ v. omega arith) (short-vectors (f_codes coding 1) (motion_format coding motion) (backward_codes coding kind is has stands))))
-    (λ backward s7. short-bind (behind_backward coding kind) (λ _. behind_marker coding kind) (λ _. 14) _ _ (short-may_stand (behind_backward coding kind) 0 (has_concealment coding kind) (marker_bit BadType) (short-marker (behind_backward coding kind) (omega (arith, backward_most))))
+    (λ forward s6. short-bind (behind_forward coding kind) (λ _. behind_backward coding kind) (λ _. 14) _ _
+    (short-stands (behind_forward coding kind) 14 kind.backward (motion_vectors (f_codes coding 1) (motion_format coding motion)) []
+    (λ stands. short-weak 14 (behind_forward coding kind) (λ _. 14) (λ _. 14) _ forward_most (λ v. omega arith)
+    (short-vectors (f_codes coding 1) (motion_format coding motion) (backward_codes coding kind is has stands))))
+    (λ backward s7. short-bind (behind_backward coding kind) (λ _. behind_marker coding kind) (λ _. 14) _ _
+    (short-may_stand (behind_backward coding kind) 0 (has_concealment coding kind) (marker_bit BadType)
+    (short-marker (behind_backward coding kind) (omega (arith, backward_most))))
     (λ marker s8. short-bind (behind_marker coding kind) (λ _. behind_pattern coding kind) (λ _. 14) _ _ (short-stands (behind_marker coding kind) 4 kind.pattern (vlclbf Pattern BadPattern []) 0
     (λ stands. short-weak 14 (behind_marker coding kind) (λ _. 4) (λ _. 4) _ marker_most (λ v. omega arith) (short-vlclbf 14 (λ _. 4) Pattern BadPattern [] patterns_short)))
-    (λ pattern s9. short-bind (behind_pattern coding kind) (λ _. 14) (λ _. 14) _ _ (short-blocks coding kind pattern (behind_pattern coding kind) pattern_most (few-before_blocks coding kind has) (none-absent kind.pattern pattern s9))
+    (λ pattern s9. short-bind (behind_pattern coding kind) (λ _. 14) (λ _. 14) _ _
+    (short-blocks coding kind pattern (behind_pattern coding kind) pattern_most (few-before_blocks coding kind has)
+    (none-absent kind.pattern pattern s9))
     (λ blocks s10. short-done 14 (λ _. 14) _ (omega arith)))))))))))

@@ -1,5 +1,36 @@
 -- No start code prefix begins inside a slice.
-use Rattle.std.proofs.Common.{◌≡◌, ◌⊎◌, ◌<◌, ◌≤◌, ℕ, zero, suc, List, [], ◌∷◌, ◌++◌, length, replicate, drop, Option, Some, None, Bool, true, false, refl, sym, ap, subst, ◌∙◌, inl, inr, arith, append_assoc, append-nil}
+use Rattle.std.proofs.Common.{
+  ◌≡◌,
+  ◌⊎◌,
+  ◌<◌,
+  ◌≤◌,
+  ℕ,
+  zero,
+  suc,
+  List,
+  [],
+  ◌∷◌,
+  ◌++◌,
+  length,
+  replicate,
+  drop,
+  Option,
+  Some,
+  None,
+  Bool,
+  true,
+  false,
+  refl,
+  sym,
+  ap,
+  subst,
+  ◌∙◌,
+  inl,
+  inr,
+  arith,
+  append_assoc,
+  append-nil,
+}
 use Rattle.std.proofs.lemmas.Bool.{cases_lt}
 use Rattle.std.proofs.lemmas.List.{length-append, length-replicate, append_cancel_right}
 use Rattle.bit_lists.proofs.PrefixLemmas.{IsPrefix-split}
@@ -17,7 +48,23 @@ use Rattle.picture_grammar.specs.Picture.{IsCoding}
 use Rattle.picture_laws.proofs.Tested.{prefix-zeros}
 use Rattle.picture_laws.proofs.StartCodes.{zeros_before, parted}
 use Rattle.picture_laws.proofs.Tails.{suffix-one, led}
-use Rattle.picture_laws.proofs.ZeroRuns.{AreShort, zeros_behind, IsShort, short-done, short-bind, short-weak, short-optional, short-if_next, short-one_more, short-many, short-uimsbf, behind_flag, short-flag, short-behind, short-zeros}
+use Rattle.picture_laws.proofs.ZeroRuns.{
+  AreShort,
+  zeros_behind,
+  IsShort,
+  short-done,
+  short-bind,
+  short-weak,
+  short-optional,
+  short-if_next,
+  short-one_more,
+  short-many,
+  short-uimsbf,
+  behind_flag,
+  short-flag,
+  short-behind,
+  short-zeros,
+}
 use Rattle.picture_laws.proofs.ShortMacroblocks.{short-number, short-one_flag, short-macroblock}
 
 -- ---- the header of a slice
@@ -69,7 +116,8 @@ unfolding slice
 short-slice seq coding row is =
     short-bind 0 (λ _. 4) (λ _. 14) _ _ (short-number 0 5 (omega arith))
     (λ code s. short-bind 4 (λ _. 9) (λ _. 14) _ _ short-info
-    (λ info t. short-bind 9 (λ _. 14) (λ _. 14) _ _ (short-weak 14 9 (λ _. 14) (λ _. 14) _ (omega arith) (λ v. omega arith) (short-many 14 (λ _. 14) (next_macroblock seq coding) (λ v. omega arith) (short-next seq coding is)))
+    (λ info t. short-bind 9 (λ _. 14) (λ _. 14) _ _ (short-weak 14 9 (λ _. 14) (λ _. 14) _ (omega arith) (λ v. omega arith)
+    (short-many 14 (λ _. 14) (next_macroblock seq coding) (λ v. omega arith) (short-next seq coding is)))
     (λ found u. short-done 14 (λ _. 14) _ (omega arith))))
 
 list-closes : (seq : SeqState) (coding : PicCoding) (before values : List Macroblock) (bits rest : List ℕ) → SpellsList (next_macroblock seq coding) before values tt bits rest → ClosesSlice rest
@@ -98,7 +146,16 @@ none_soon k end after rest closes is split lt =
     let first : zeros_before rest ≡ k = led k end after rest is split in
     elim closes [
       | inl p ↦ omega (arith, first, lt, ap zeros_before (IsPrefix-split (replicate 23 0) rest p), zeros_before-more 23 (drop 23 rest))
-      | inr all ↦ omega (arith, first, ap zeros_before all ∙ zeros_before-all (length rest), ap length split, length-append end after, ap length is, length-append {A = ℕ} (replicate k 0) (1 ∷ []), length-replicate {A = ℕ} k 0)
+      | inr all ↦ omega (
+        arith,
+        first,
+        ap zeros_before all ∙ zeros_before-all (length rest),
+        ap length split,
+        length-append end after,
+        ap length is,
+        length-append {A = ℕ} (replicate k 0) (1 ∷ []),
+        length-replicate {A = ℕ} k 0,
+      )
     ]
 
 no_run : (before after : List ℕ) → AreShort 0 (before ++ start_code_prefix ++ after) → ⊥
@@ -122,7 +179,8 @@ no-code-in-slice seq coding row s inner rest before after is spelled e = elim (c
       let (front, p, short, le) = (short-slice seq coding row is).runs s (inner ++ rest) rest spelled in
       subst (AreShort 0) (append_cancel_right front inner rest (sym p)) short
 
-  cut : length before < length inner → (m : List ℕ) → rest ≡ m ++ after → ((n : List ℕ) × (inner ≡ before ++ n) × (start_code_prefix ≡ n ++ m)) ⊎ ((n : List ℕ) × (before ≡ inner ++ n) × (m ≡ n ++ start_code_prefix)) → ⊥
+  cut : length before < length inner → (m : List ℕ) → rest ≡ m ++ after → ((n : List ℕ) × (inner ≡ before ++ n) × (start_code_prefix ≡ n ++ m))
+      ⊎ ((n : List ℕ) × (before ≡ inner ++ n) × (m ≡ n ++ start_code_prefix)) → ⊥
   cut lt m r (inl (n, q, p)) = elim (suffix-one n m p) [
     | inl none ↦
         let whole : n ≡ start_code_prefix = sym (append-nil n) ∙ ap (λ (x : List ℕ). n ++ x) (sym none) ∙ sym p in
@@ -131,6 +189,7 @@ no-code-in-slice seq coding row s inner rest before after is spelled e = elim (c
   ]
   cut lt m r (inr (n, q, p)) = omega (arith, lt, ap length q, length-append inner n)
 
-  by_parts : length before < length inner → ((m : List ℕ) × (before ++ start_code_prefix ≡ inner ++ m) × (rest ≡ m ++ after)) ⊎ ((m : List ℕ) × (inner ≡ (before ++ start_code_prefix) ++ m) × (after ≡ m ++ rest)) → ⊥
+  by_parts : length before < length inner → ((m : List ℕ) × (before ++ start_code_prefix ≡ inner ++ m) × (rest ≡ m ++ after))
+      ⊎ ((m : List ℕ) × (inner ≡ (before ++ start_code_prefix) ++ m) × (after ≡ m ++ rest)) → ⊥
   by_parts lt (inl (m, q, r)) = cut lt m r (parted before start_code_prefix inner m q)
   by_parts lt (inr (m, q, r)) = no_run before m (subst (AreShort 0) q short)

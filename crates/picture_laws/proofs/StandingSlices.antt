@@ -1,5 +1,38 @@
 -- Each slice stands in its unit.
-use Rattle.std.proofs.Common.{◌≡◌, ◌⊎◌, ◌==◌, ◌||◌, ◌+◌, ◌-◌, ◌*◌, ◌%◌, ◌<◌, ◌≤◌, ℕ, List, [], ◌∷◌, ◌++◌, length, replicate, Option, Bool, true, false, refl, sym, ap, ap₂, subst, ◌∙◌, inl, inr, arith, append_assoc, append-nil}
+use Rattle.std.proofs.Common.{
+  ◌≡◌,
+  ◌⊎◌,
+  ◌==◌,
+  ◌||◌,
+  ◌+◌,
+  ◌-◌,
+  ◌*◌,
+  ◌%◌,
+  ◌<◌,
+  ◌≤◌,
+  ℕ,
+  List,
+  [],
+  ◌∷◌,
+  ◌++◌,
+  length,
+  replicate,
+  Option,
+  Bool,
+  true,
+  false,
+  refl,
+  sym,
+  ap,
+  ap₂,
+  subst,
+  ◌∙◌,
+  inl,
+  inr,
+  arith,
+  append_assoc,
+  append-nil,
+}
 use Rattle.std.proofs.lemmas.Bool.{cases_lt}
 use Rattle.std.proofs.lemmas.List.{length-append, length-replicate, nil_from_length}
 use Rattle.bit_lists.specs.Fields.{bit_list}
@@ -76,13 +109,16 @@ module _ (seq : SeqState) (coding : PicCoding) where
       let (n, split, fits, may) = code-taken BadHeader (λ byte. is_slice byte || byte == SEQUENCE_END) byte bits m code in
       by_code (is_slice byte) (byte == SEQUENCE_END) refl refl n split item m' t filling u e where
         by_code : (is end : Bool) → is_slice byte ≡ is → (byte == SEQUENCE_END) ≡ end → (n : ℕ) → bits ≡ replicate (8 * n) 0 ++ (start_code_bits byte ++ m) → (item : Option Slice) (m' : List ℕ)
-            → (optional is (whole_slice seq coding byte)).Spells item m m' → (filling : Option (List ℕ × Unit {0})) → (optional (byte == SEQUENCE_END) only_zero_bytes).Spells filling m' m'' → more s ≡ slice_or_end item
+            → (optional is (whole_slice seq coding byte)).Spells item m m' → (filling : Option (List ℕ × Unit {0}))
+            → (optional (byte == SEQUENCE_END) only_zero_bytes).Spells filling m' m'' → more s ≡ slice_or_end item
             → StandsBehind seq coding s bits × (length rest % 8 ≡ 0)
         by_code true end is ends n split item m' (s', m2, t, (d, d')) filling u e =
             let same : s ≡ s' = (let e' : more s ≡ more s' = e ∙ ap slice_or_end d in cc) in
             let none = subst (λ (c : Bool). (optional c only_zero_bytes).Spells filling m' m'') (code_other byte is) u in
-            let reached : m2 ≡ rest = d' ∙ none.1 ∙ f in
-            (subst (λ (x : Slice). StandsBehind seq coding x bits) (sym same) (whole_stands byte n s' bits m m2 is split t), subst (λ (b : List ℕ). length b % 8 ≡ 0) reached (whole_ends byte s' m m2 t))
+            let reached : m2 ≡ rest = d' ∙ none.1 ∙ f in (
+              subst (λ (x : Slice). StandsBehind seq coding x bits) (sym same) (whole_stands byte n s' bits m m2 is split t),
+              subst (λ (b : List ℕ). length b % 8 ≡ 0) reached (whole_ends byte s' m m2 t),
+            )
         by_code false end is ends n split item m' (d, d') filling u e = absurd (let e' : more s ≡ last true = e ∙ ap slice_or_end d in cc)
 
   list_stands : (before values : List Slice) (sequence_end : Bool) (bits rest : List ℕ) → SpellsList (next_slice seq coding) before values sequence_end bits rest → length bits % 8 ≡ 0
@@ -138,13 +174,15 @@ slices-stand before picture bytes earlier later s spelled among =
     (list_stands headers.0.0 headers.0.1 [] slices.0 slices.1 m m' t whole earlier later s (sym list ∙ among)) in
     let stands : StandsBehind picture.seq picture.coding s (bit_list bytes) =
     subst (StandsBehind picture.seq picture.coding s) (sym split)
-    (subst (λ (c : PicCoding). StandsBehind picture.seq c s (bit_list headers.1 ++ m)) (sym coding) (subst (λ (q : SeqState). StandsBehind q headers.0.1 s (bit_list headers.1 ++ m)) (sym seq) found)) in
+    (subst (λ (c : PicCoding). StandsBehind picture.seq c s (bit_list headers.1 ++ m)) (sym coding)
+    (subst (λ (q : SeqState). StandsBehind q headers.0.1 s (bit_list headers.1 ++ m)) (sym seq) found)) in
     record {
       front = stands.front;
       inner = stands.inner;
       rest = stands.rest;
       aligned = stands.aligned;
-      split = stands.split ∙ ap (λ (x : List ℕ). stands.front ++ x) (sym (append_assoc (start_code_bits (s.row + 1)) stands.inner stands.rest)) ∙ sym (four stands.front (start_code_bits (s.row + 1)) stands.inner stands.rest);
+      split = stands.split ∙ ap (λ (x : List ℕ). stands.front ++ x) (sym (append_assoc (start_code_bits (s.row + 1)) stands.inner stands.rest))
+          ∙ sym (four stands.front (start_code_bits (s.row + 1)) stands.inner stands.rest);
       spelled = stands.spelled;
       no_code = without_code picture.seq picture.coding is s (bit_list bytes) stands;
     } where

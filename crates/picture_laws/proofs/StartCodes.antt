@@ -1,5 +1,35 @@
 -- Where start codes stand, by the zeros before their first one.
-use Rattle.std.proofs.Common.{◌≡◌, ◌⊎◌, ℕ, zero, suc, ◌+◌, ◌*◌, ◌^◌, ◌<◌, ◌&&◌, nat_eq, List, [], ◌∷◌, ◌++◌, length, replicate, Bool, true, refl, sym, ap, ap₂, subst, ◌∙◌, inl, inr, arith, append_assoc}
+use Rattle.std.proofs.Common.{
+  ◌≡◌,
+  ◌⊎◌,
+  ℕ,
+  zero,
+  suc,
+  ◌+◌,
+  ◌*◌,
+  ◌^◌,
+  ◌<◌,
+  ◌&&◌,
+  nat_eq,
+  List,
+  [],
+  ◌∷◌,
+  ◌++◌,
+  length,
+  replicate,
+  Bool,
+  true,
+  refl,
+  sym,
+  ap,
+  ap₂,
+  subst,
+  ◌∙◌,
+  inl,
+  inr,
+  arith,
+  append_assoc,
+}
 use Rattle.std.proofs.lemmas.Bool.{and_parts, eqb-true}
 use Rattle.std.proofs.lemmas.List.{length-replicate, replicate-append-replicate}
 use Rattle.bit_lists.specs.Bits.{IsPrefix, bits_of}
@@ -26,7 +56,8 @@ zeros_before-one (suc n) bits = ap suc (zeros_before-one n bits)
 -- a start code behind zeros begins with as many zeros and 23
 pub opened : (n byte : ℕ) (rest : List ℕ) → replicate n 0 ++ (start_code_bits byte ++ rest) ≡ replicate (n + 23) 0 ++ 1 ∷ (bits_of 8 byte ++ rest)
 opened n byte rest =
-    ap (λ (b : List ℕ). replicate n 0 ++ b) (append_assoc start_code_prefix (bits_of 8 byte) rest ∙ ap (λ (b : List ℕ). b ++ (bits_of 8 byte ++ rest)) prefix-zeros ∙ append_assoc (replicate 23 0) (1 ∷ []) (bits_of 8 byte ++ rest))
+    ap (λ (b : List ℕ). replicate n 0 ++ b) (append_assoc start_code_prefix (bits_of 8 byte) rest
+    ∙ ap (λ (b : List ℕ). b ++ (bits_of 8 byte ++ rest)) prefix-zeros ∙ append_assoc (replicate 23 0) (1 ∷ []) (bits_of 8 byte ++ rest))
     ∙ sym (append_assoc (replicate n 0) (replicate 23 0) (1 ∷ (bits_of 8 byte ++ rest))) ∙ ap (λ (b : List ℕ). b ++ 1 ∷ (bits_of 8 byte ++ rest)) (replicate-append-replicate n 23 0)
 
 pub opened-zeros : (n byte : ℕ) (rest : List ℕ) → zeros_before (replicate n 0 ++ (start_code_bits byte ++ rest)) ≡ n + 23
@@ -40,7 +71,8 @@ parted (x ∷ a) b (y ∷ c) d e = longer (parted a b c d (let e' : x ∷ (a ++ 
   first : x ≡ y
   first = let e' : x ∷ (a ++ b) ≡ y ∷ (c ++ d) = e in cc
 
-  longer : ((m : List ℕ) × (c ≡ a ++ m) × (b ≡ m ++ d)) ⊎ ((m : List ℕ) × (a ≡ c ++ m) × (d ≡ m ++ b)) → ((m : List ℕ) × (y ∷ c ≡ (x ∷ a) ++ m) × (b ≡ m ++ d)) ⊎ ((m : List ℕ) × (x ∷ a ≡ (y ∷ c) ++ m) × (d ≡ m ++ b))
+  longer : ((m : List ℕ) × (c ≡ a ++ m) × (b ≡ m ++ d)) ⊎ ((m : List ℕ) × (a ≡ c ++ m) × (d ≡ m ++ b))
+      → ((m : List ℕ) × (y ∷ c ≡ (x ∷ a) ++ m) × (b ≡ m ++ d)) ⊎ ((m : List ℕ) × (x ∷ a ≡ (y ∷ c) ++ m) × (d ≡ m ++ b))
   longer (inl (m, f, g)) = inl (m, ap₂ (λ (z : ℕ) (zs : List ℕ). z ∷ zs) (sym first) f, g)
   longer (inr (m, f, g)) = inr (m, ap₂ (λ (z : ℕ) (zs : List ℕ). z ∷ zs) first f, g)
 
@@ -79,7 +111,8 @@ zeros-taken refusal before (v ∷ vs) bits rest (middle, inr (n, (byte, m, (code
     split ∙ ap₂ (λ (a b : List ℕ). a ++ b) zeros (f ∙ zeros-taken refusal (before ++ v ∷ []) vs middle rest t)
     ∙ sym (append_assoc (replicate 8 0) (replicate (8 * length vs) 0) rest) ∙ ap (λ (b : List ℕ). b ++ rest) (sym (more_zeros (length vs)))
 
-zeros-made : (refusal : Refusal) (before : List ℕ) (n : ℕ) (rest : List ℕ) → SpellsList (zero_item refusal) before (replicate n 0) tt (replicate (8 * n) 0 ++ (start_code_prefix ++ rest)) (start_code_prefix ++ rest)
+zeros-made : (refusal : Refusal) (before : List ℕ) (n : ℕ) (rest : List ℕ)
+    → SpellsList (zero_item refusal) before (replicate n 0) tt (replicate (8 * n) 0 ++ (start_code_prefix ++ rest)) (start_code_prefix ++ rest)
 zeros-made refusal before zero rest = inl (IsPrefix-append start_code_prefix rest, (refl, refl))
 zeros-made refusal before (suc n) rest =
     let later = replicate (8 * n) 0 ++ (start_code_prefix ++ rest) in
@@ -93,8 +126,13 @@ zeros-made refusal before (suc n) rest =
 
 pub code-taken : (refusal : Refusal) (may_come : ℕ → Bool) (byte : ℕ) (bits rest : List ℕ) → (start_code refusal may_come).Spells byte bits rest
     → (n : ℕ) × (bits ≡ replicate (8 * n) 0 ++ (start_code_bits byte ++ rest)) × (byte < 2 ^ 8) × (may_come byte ≡ true)
-code-taken refusal may_come byte bits rest (zeros, m, s, (code, (fits, is), passing, split)) =
-    (length zeros.0, zeros-taken refusal [] zeros.0 bits m s ∙ ap (λ (b : List ℕ). replicate (8 * length zeros.0) 0 ++ b) (split ∙ ap (λ (b : List ℕ). b ++ rest) is), fits, (and_parts (may_come byte) true passing).0)
+code-taken refusal may_come byte bits rest (zeros, m, s, (code, (fits, is), passing, split)) = (
+  length zeros.0,
+  zeros-taken refusal [] zeros.0 bits m s
+      ∙ ap (λ (b : List ℕ). replicate (8 * length zeros.0) 0 ++ b) (split ∙ ap (λ (b : List ℕ). b ++ rest) is),
+  fits,
+  (and_parts (may_come byte) true passing).0,
+)
 
 pub code-made : (refusal : Refusal) (may_come : ℕ → Bool) (byte n : ℕ) (rest : List ℕ) → byte < 2 ^ 8 → may_come byte ≡ true
     → (start_code refusal may_come).Spells byte (replicate (8 * n) 0 ++ (start_code_bits byte ++ rest)) rest

@@ -63,7 +63,8 @@ module _ {is_last : ℕ → Bool} {A B : Type 0} (next : List A → Grammar (Nex
         p ∙ ap (λ m. f ++ m) p' ∙ sym (append_assoc f g rest),
         λ other alike. (
           g ++ other,
-          subst (λ b. (next before).Spells (more value) b (g ++ other)) (sym (append_assoc f g other)) (q (g ++ other) (subst (λ m. AreAlike is_last m (g ++ other)) (sym p') (alike-behind is_last g rest other alike))),
+          subst (λ b. (next before).Spells (more value) b (g ++ other)) (sym (append_assoc f g other))
+              (q (g ++ other) (subst (λ m. AreAlike is_last m (g ++ other)) (sym p') (alike-behind is_last g rest other alike))),
           q' other alike,
         ),
       )
@@ -111,7 +112,8 @@ pub steady-comes : {is_last : ℕ → Bool} → {A : Type 0} (refusal : Refusal)
     → ((byte : ℕ) → IsSteady is_last (next byte)) → IsSteady is_last (if_next (StartCodeComes codes) (start_code refusal codes >>= next) (done absent))
 steady-comes {is_last} {A} refusal codes next absent none each = record { moved = moved } where
   moved : (v : A) (bits rest : List ℕ) → (if_next (StartCodeComes codes) (start_code refusal codes >>= next) (done absent)).Spells v bits rest
-      → (front : List ℕ) × (bits ≡ front ++ rest) × ((other : List ℕ) → AreAlike is_last rest other → (if_next (StartCodeComes codes) (start_code refusal codes >>= next) (done absent)).Spells v (front ++ other) other)
+      → (front : List ℕ) × (bits ≡ front ++ rest) × ((other : List ℕ) → AreAlike is_last rest other
+      → (if_next (StartCodeComes codes) (start_code refusal codes >>= next) (done absent)).Spells v (front ++ other) other)
   moved v bits rest (inl (c, s)) =
       let (f, p, q) = (steady-bind (start_code refusal codes) next (steady-start_code refusal codes) each).moved v bits rest s in
       (f, p, λ other alike. let t = q other alike in inl (comes-spelled refusal codes t.0 (f ++ other) t.1 t.2, t))
@@ -120,7 +122,9 @@ steady-comes {is_last} {A} refusal codes next absent none each = record { moved 
     f,
     λ other alike. inr (
       λ c.
-          n (subst (StartCodeComes codes) (sym (f ∙ alike.first)) (comes-moved is_last alike.old alike.new alike.old_tail alike.new_tail codes none alike.front (subst (StartCodeComes codes) alike.second c))),
+          n (subst (StartCodeComes codes) (sym (f ∙ alike.first))
+          (comes-moved is_last alike.old alike.new alike.old_tail alike.new_tail codes none alike.front
+          (subst (StartCodeComes codes) alike.second c))),
       (e, refl),
     ),
   )
@@ -136,7 +140,11 @@ unread_steady is_last before [] bits rest (inl (p, (e, f))) = (
   [],
   f,
   λ other alike.
-      inl (subst (IsPrefix start_code_prefix) (sym alike.second) (prefix-end is_last alike.old alike.new alike.old_tail alike.new_tail alike.front (subst (IsPrefix start_code_prefix) (f ∙ alike.first) p)), (refl, refl)),
+      inl (
+        subst (IsPrefix start_code_prefix) (sym alike.second)
+            (prefix-end is_last alike.old alike.new alike.old_tail alike.new_tail alike.front (subst (IsPrefix start_code_prefix) (f ∙ alike.first) p)),
+        (refl, refl),
+      ),
 )
 unread_steady is_last before [] bits rest (inr (n, (v, m, s, (e, f)))) = absurd (let e' : last tt ≡ more v = e in cc)
 unread_steady is_last before (v ∷ vs) bits rest (middle, inl (p, (e, f)), t) = absurd (let e' : more v ≡ last tt = e in cc)

@@ -13,7 +13,20 @@ use Rattle.picture_grammar.proofs.LocalLaws.{local-element}
 use Rattle.picture_laws.proofs.LocalHeaders.{local-sequence_header, local-sequence_extension, local-group_header, local-picture_header, local-picture_coding_extension, local-quant_matrix_extension}
 use Rattle.picture_laws.proofs.StartCodes.{code-taken, code-made}
 use Rattle.picture_laws.proofs.Tails.{AreAlike, IsTail, IsNewTail}
-use Rattle.picture_laws.proofs.Steady.{IsSteady, steady-local, steady-done, steady-bind, steady-then, steady-optional, steady-when, steady-many, steady-zero_bits, steady-start_code, steady-comes, steady-unread}
+use Rattle.picture_laws.proofs.Steady.{
+  IsSteady,
+  steady-local,
+  steady-done,
+  steady-bind,
+  steady-then,
+  steady-optional,
+  steady-when,
+  steady-many,
+  steady-zero_bits,
+  steady-start_code,
+  steady-comes,
+  steady-unread,
+}
 
 -- ---- start codes that aren't those before which a head is read the same
 
@@ -100,13 +113,15 @@ module _ {is_last : ℕ → Bool} (before : AreNoneBefore is_last) where
 
 -- A head is spelled before each first slice with its zero bytes, and before one with none.
 pub head-moved : (before : Option SeqState) (headers : SeqState × PicCoding) (bits rest : List ℕ) → (head before).Spells headers bits rest
-    → IsTail is_slice rest × (front : List ℕ) × (bits ≡ front ++ rest) × ((other : List ℕ) → IsNewTail is_slice other → length rest % 8 ≡ length other % 8 → (head before).Spells headers (front ++ other) other)
+    → IsTail is_slice rest × (front : List ℕ) × (bits ≡ front ++ rest)
+    × ((other : List ℕ) → IsNewTail is_slice other → length rest % 8 ≡ length other % 8 → (head before).Spells headers (front ++ other) other)
 unfolding head
 head-moved before headers bits rest (seq, m1, s1, (group, m2, s2, (found, m3, s3, (byte, m4, (kept, after, coming), (e, g))))) =
     let (n, split, fits, is) = code-taken BadHeader is_slice byte m3 after coming in
     let same : m3 ≡ rest = kept ∙ g in
     let tail : IsTail is_slice rest = record { zeros = n; byte = byte; rest = after; is_byte = fits; starts = is; split = sym same ∙ split } in
-    let (f, p, q) = (steady-bind (sequence_part before) (λ seq. group_part >> picture_part seq) (steady-sequence_part slices before) (λ seq. steady-then _ _ (steady-group_part slices) (steady-picture_part slices seq))).moved
+    let (f, p, q) = (steady-bind (sequence_part before) (λ seq. group_part >> picture_part seq) (steady-sequence_part slices before)
+    (λ seq. steady-then _ _ (steady-group_part slices) (steady-picture_part slices seq))).moved
     found bits m3 (seq, m1, s1, (group, m2, s2, s3)) in (
       tail,
       f,

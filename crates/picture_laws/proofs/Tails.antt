@@ -1,5 +1,36 @@
 -- Start codes before one of certain start codes, as that of the first slice, where another one of these stands there.
-use Rattle.std.proofs.Common.{◌≡◌, ◌⊎◌, ℕ, zero, suc, ◌+◌, ◌*◌, ◌%◌, ◌^◌, ◌<◌, ◌≤◌, List, [], ◌∷◌, ◌++◌, length, replicate, Bool, true, refl, sym, ap, ap₂, subst, ◌∙◌, inl, inr, arith, append_assoc, append-nil}
+use Rattle.std.proofs.Common.{
+  ◌≡◌,
+  ◌⊎◌,
+  ℕ,
+  zero,
+  suc,
+  ◌+◌,
+  ◌*◌,
+  ◌%◌,
+  ◌^◌,
+  ◌<◌,
+  ◌≤◌,
+  List,
+  [],
+  ◌∷◌,
+  ◌++◌,
+  length,
+  replicate,
+  Bool,
+  true,
+  refl,
+  sym,
+  ap,
+  ap₂,
+  subst,
+  ◌∙◌,
+  inl,
+  inr,
+  arith,
+  append_assoc,
+  append-nil,
+}
 use Rattle.std.proofs.lemmas.List.{length-append, append_cancel_left, nil_from_length}
 use Rattle.bit_lists.specs.Bits.{IsPrefix, bits_of}
 use Rattle.bit_lists.proofs.BitLemmas.{length-bits_of, bits_of-one}
@@ -74,7 +105,8 @@ zero-parts (suc n) (suc m ∷ bits) le = absurd (omega arith)
 
 one_byte : (b c : ℕ) (x y : List ℕ) → b < 2 ^ 8 → c < 2 ^ 8 → start_code_bits b ++ x ≡ start_code_bits c ++ y → b ≡ c
 one_byte b c x y lt lt' e =
-    let fields = append_cancel_left start_code_prefix (bits_of 8 b ++ x) (bits_of 8 c ++ y) (sym (append_assoc start_code_prefix (bits_of 8 b) x) ∙ e ∙ append_assoc start_code_prefix (bits_of 8 c) y) in
+    let fields = append_cancel_left start_code_prefix (bits_of 8 b ++ x) (bits_of 8 c ++ y)
+    (sym (append_assoc start_code_prefix (bits_of 8 b) x) ∙ e ∙ append_assoc start_code_prefix (bits_of 8 c) y) in
     bits_of-one 8 b c lt lt' (same_front (bits_of 8 b) (bits_of 8 c) x y (length-bits_of 8 b ∙ sym (length-bits_of 8 c)) fields)
 
 pub suffix-one : (front end : List ℕ) → start_code_prefix ≡ front ++ end → (end ≡ []) ⊎ ((k : ℕ) × (end ≡ replicate k 0 ++ 1 ∷ []) × (k + length front ≡ 23))
@@ -110,7 +142,8 @@ module _ (is_last : ℕ → Bool) (old new : List ℕ) (old_tail : IsTail is_las
       | inr (k, is, count) ↦
           let empty = nil_from_length f (omega (arith, led k m x old is g, zeros-old is_last old old_tail, count)) in
           subst (λ (y : List ℕ). IsPrefix start_code_prefix (y ++ new)) (sym empty)
-          (subst (IsPrefix start_code_prefix) (sym (new_tail.split ∙ append_assoc start_code_prefix (bits_of 8 new_tail.byte) new_tail.rest)) (IsPrefix-append start_code_prefix (bits_of 8 new_tail.byte ++ new_tail.rest)))
+          (subst (IsPrefix start_code_prefix) (sym (new_tail.split ∙ append_assoc start_code_prefix (bits_of 8 new_tail.byte) new_tail.rest))
+          (IsPrefix-append start_code_prefix (bits_of 8 new_tail.byte ++ new_tail.rest)))
     ]
     by_parts (inr (m, e, g)) = inner-prefix f m new e
 
@@ -122,7 +155,8 @@ module _ (is_last : ℕ → Bool) (old new : List ℕ) (old_tail : IsTail is_las
     last-absurd c rest lt is e = none c is (subst (λ (b : ℕ). is_last b ≡ true) (one_byte new_tail.byte c new_tail.rest rest new_tail.is_byte lt (sym new_tail.split ∙ e)) new_tail.starts)
 
     -- all but zeros of it stand before the last one
-    finish : (c : StartCodeComes codes (f ++ new)) (n m : List ℕ) → f ≡ replicate (8 * c.zeros) 0 ++ n → start_code_bits c.byte ≡ n ++ m → new ≡ m ++ c.rest → length m ≤ 8 → StartCodeComes codes (f ++ old)
+    finish : (c : StartCodeComes codes (f ++ new)) (n m : List ℕ) → f ≡ replicate (8 * c.zeros) 0 ++ n → start_code_bits c.byte ≡ n ++ m
+        → new ≡ m ++ c.rest → length m ≤ 8 → StartCodeComes codes (f ++ old)
     finish c n m e g h le =
         let few : length m ≤ zeros_before (m ++ c.rest) = omega (arith, le, zeros-new is_last new new_tail, ap zeros_before h) in
         let zeros = zero-front m c.rest few in
@@ -153,7 +187,8 @@ module _ (is_last : ℕ → Bool) (old new : List ℕ) (old_tail : IsTail is_las
       ]
       in_code n m e g h (inr (k, r, q)) = finish c n m e g h (omega (arith, ap length q, length-append k m, length-bits_of 8 c.byte))
 
-      in_zeros : (m : List ℕ) → new ≡ m ++ c.rest → ((n : List ℕ) × (f ≡ replicate (8 * c.zeros) 0 ++ n) × (start_code_bits c.byte ≡ n ++ m)) ⊎ ((n : List ℕ) × (replicate (8 * c.zeros) 0 ≡ f ++ n) × (m ≡ n ++ start_code_bits c.byte)) → StartCodeComes codes (f ++ old)
+      in_zeros : (m : List ℕ) → new ≡ m ++ c.rest → ((n : List ℕ) × (f ≡ replicate (8 * c.zeros) 0 ++ n) × (start_code_bits c.byte ≡ n ++ m))
+          ⊎ ((n : List ℕ) × (replicate (8 * c.zeros) 0 ≡ f ++ n) × (m ≡ n ++ start_code_bits c.byte)) → StartCodeComes codes (f ++ old)
       in_zeros m h (inl (n, e, g)) = in_code n m e g h (parted n m start_code_prefix (bits_of 8 c.byte) (sym g))
       in_zeros m h (inr (n, e, g)) =
           let zeros = end-zeros (8 * c.zeros) f n e in

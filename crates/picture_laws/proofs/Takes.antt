@@ -54,13 +54,16 @@ takes-element Codes none_kind rules some = record {
 }
 
 -- a list whose items do
-pub takes-list : {A B : Type 0} (next : List A → Grammar (Next A B)) → ((before : List A) (value : A) (bits middle : List ℕ) → (next before).Spells (more value) bits middle → length middle < length bits) → TakesBits next
+pub takes-list : {A B : Type 0} (next : List A → Grammar (Next A B))
+    → ((before : List A) (value : A) (bits middle : List ℕ) → (next before).Spells (more value) bits middle → length middle < length bits)
+    → TakesBits next
 takes-list next fewer = record { fewer = fewer }
 
 pub items-take : {A B : Type 0} (next : List A → Grammar (Next A B)) → ((before : List A) → Takes (next before)) → TakesBits next
 items-take next takes = record { fewer = λ before value bits middle s. (takes before).fewer (more value) bits middle s }
 
-list-front : {A B : Type 0} (next : List A → Grammar (Next A B)) → ((before : List A) → IsExact (next before)) → (before values : List A) (end : B) (bits rest : List ℕ) → SpellsList next before values end bits rest → EndsWith bits rest
+list-front : {A B : Type 0} (next : List A → Grammar (Next A B)) → ((before : List A) → IsExact (next before))
+    → (before values : List A) (end : B) (bits rest : List ℕ) → SpellsList next before values end bits rest → EndsWith bits rest
 list-front next exact before [] end bits rest s = (exact before).spelled_front (last end) bits rest s
 list-front next exact before (v ∷ vs) end bits rest (middle, s, t) =
     EndsWith-through bits middle rest ((exact before).spelled_front (more v) bits middle s) (list-front next exact (before ++ v ∷ []) vs end middle rest t)
@@ -142,7 +145,8 @@ takes-macroblock coding first columns_left =
     (λ pattern. exact-bind _ _ (exact-blocks coding kind pattern)
     (λ blocks. exact-done _))))))))))
 
-one_more-fewer : {A B : Type 0} (grammar : Grammar A) → Takes grammar → (value : A) (bits middle : List ℕ) → (one_item_more {A = A} {B = B} grammar).Spells (more value) bits middle → length middle < length bits
+one_more-fewer : {A B : Type 0} (grammar : Grammar A) → Takes grammar → (value : A) (bits middle : List ℕ)
+    → (one_item_more {A = A} {B = B} grammar).Spells (more value) bits middle → length middle < length bits
 one_more-fewer grammar takes value bits middle (a, m, s, (e, f)) = subst (λ (r : List ℕ). length r < length bits) f (takes.fewer a bits m s)
 
 pub takes-next_macroblock : (seq : SeqState) (coding : PicCoding) → TakesBits (next_macroblock seq coding)

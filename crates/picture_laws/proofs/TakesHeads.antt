@@ -40,8 +40,10 @@ takes-if_next {A} IsSuch then else takes other_takes = record { fewer = fewer } 
 takes-zero_byte : (refusal : Refusal) → Takes (zero_byte refusal)
 takes-zero_byte refusal = takes-uimsbf 8 _ (omega arith)
 
-pub takes-zero_bytes : (refusal : Refusal) → TakesBits (λ (before : List ℕ). if_next (IsPrefix start_code_prefix) (done {A = Next ℕ (Unit {0})} (last tt)) (zero_byte refusal >>= λ byte. done (more byte)))
-takes-zero_bytes refusal = takes-list _ (λ before value bits middle s. fewer-else (IsPrefix start_code_prefix) tt _ (takes-bind (zero_byte refusal) (λ byte. done (more byte)) (takes-zero_byte refusal) (λ byte. exact-done _)) value bits middle s)
+pub takes-zero_bytes : (refusal : Refusal) → TakesBits (λ (before : List ℕ). if_next (IsPrefix start_code_prefix)
+    (done {A = Next ℕ (Unit {0})} (last tt)) (zero_byte refusal >>= λ byte. done (more byte)))
+takes-zero_bytes refusal = takes-list _ (λ before value bits middle s. fewer-else (IsPrefix start_code_prefix) tt _
+    (takes-bind (zero_byte refusal) (λ byte. done (more byte)) (takes-zero_byte refusal) (λ byte. exact-done _)) value bits middle s)
 
 pub takes-start_code : (refusal : Refusal) (may_come : ℕ → Bool) → Takes (start_code refusal may_come)
 takes-start_code refusal may_come =
@@ -54,7 +56,8 @@ takes-only_zero_bytes = takes-list _ (λ before value bits middle s. fewer-else 
   later = takes-if_next _ _ _ (takes-bind _ _ (takes-start_code _ _) (λ byte. exact-done _)) (takes-bind _ _ (takes-zero_byte _) (λ byte. exact-done _))
 
 pub takes-unread : TakesBits (λ (before : List ℕ). if_next (IsPrefix start_code_prefix) (done {A = Next ℕ (Unit {0})} (last tt)) (one_item_more (uimsbf 8 [])))
-takes-unread = takes-list _ (λ before value bits middle s. fewer-else (IsPrefix start_code_prefix) tt _ (takes-bind (uimsbf 8 []) (λ byte. done (more byte)) (takes-uimsbf 8 [] (omega arith)) (λ byte. exact-done _)) value bits middle s)
+takes-unread = takes-list _ (λ before value bits middle s. fewer-else (IsPrefix start_code_prefix) tt _
+    (takes-bind (uimsbf 8 []) (λ byte. done (more byte)) (takes-uimsbf 8 [] (omega arith)) (λ byte. exact-done _)) value bits middle s)
 
 -- what comes where one of the start codes does
 abbrev one_extension : (ℕ → Bool) → (ℕ → Bool) → Grammar (Next Loaded (Unit {0}))

@@ -1,5 +1,44 @@
 -- What decides where a grammar looks ahead, as tests of bits.
-use Rattle.std.proofs.Common.{◌≡◌, ℕ, zero, suc, ◌+◌, ◌-◌, ◌*◌, ◌^◌, ◌<◌, ◌≤◌, ◌⊎◌, ◌&&◌, ◌||◌, nat_eq, nat_le, List, [], ◌∷◌, ◌++◌, length, get_or, take, drop, replicate, Bool, true, false, refl, sym, ap, ap₂, subst, ◌∙◌, inl, inr, arith, append_assoc, eq-eqb}
+use Rattle.std.proofs.Common.{
+  ◌≡◌,
+  ℕ,
+  zero,
+  suc,
+  ◌+◌,
+  ◌-◌,
+  ◌*◌,
+  ◌^◌,
+  ◌<◌,
+  ◌≤◌,
+  ◌⊎◌,
+  ◌&&◌,
+  ◌||◌,
+  nat_eq,
+  nat_le,
+  List,
+  [],
+  ◌∷◌,
+  ◌++◌,
+  length,
+  get_or,
+  take,
+  drop,
+  replicate,
+  Bool,
+  true,
+  false,
+  refl,
+  sym,
+  ap,
+  ap₂,
+  subst,
+  ◌∙◌,
+  inl,
+  inr,
+  arith,
+  append_assoc,
+  eq-eqb,
+}
 use Rattle.std.proofs.lemmas.Bool.{and_parts, and_from, eqb-true, both_ways, cases_Bool, leb-true, le-leb}
 use Rattle.std.proofs.lemmas.List.{length-append, length-take, length-replicate, take-append-drop, replicate-append-replicate}
 use Rattle.std.proofs.Math.Nat.{mod-eq_of_lt}
@@ -231,7 +270,14 @@ module _ (may_come : ℕ → Bool) where
       ∙ ap (λ x. replicate (8 * c.zeros) 0 ++ x) (append_assoc start_code_prefix (bits_of 8 c.byte) c.rest) in
       let others = start_code_prefix ++ (bits_of 8 c.byte ++ c.rest) in
       let many : c.zeros < length bits =
-      omega (arith, ap length split, length-append (replicate (8 * c.zeros) 0) others, length-replicate {A = ℕ} (8 * c.zeros) 0, length-append start_code_prefix (bits_of 8 c.byte ++ c.rest), length-bits_of 24 1) in
+      omega (
+        arith,
+        ap length split,
+        length-append (replicate (8 * c.zeros) 0) others,
+        length-replicate {A = ℕ} (8 * c.zeros) 0,
+        length-append start_code_prefix (bits_of 8 c.byte ++ c.rest),
+        length-bits_of 24 1,
+      ) in
       subst (λ b. comes may_come (length bits) b ≡ true) (sym split) (comes-at c.byte c.rest c.is_byte c.is_one c.zeros (length bits) many)
 
   abbrev pub tested-comes : IsTested (StartCodeComes may_come)

@@ -1,5 +1,38 @@
 -- Every unit is spelled by a picture or refused, in one way.
-use Rattle.std.proofs.Common.{◌≡◌, ◌==◌, ◌||◌, ◌&&◌, ℕ, ◌-◌, ◌*◌, ◌%◌, ◌<◌, ◌⊎◌, nat_eq, List, [], ◌∷◌, ◌++◌, length, Option, Some, None, Bool, true, false, refl, sym, ap, ap₂, subst, ◌∙◌, inl, inr, arith, eq-eqb}
+use Rattle.std.proofs.Common.{
+  ◌≡◌,
+  ◌==◌,
+  ◌||◌,
+  ◌&&◌,
+  ℕ,
+  ◌-◌,
+  ◌*◌,
+  ◌%◌,
+  ◌<◌,
+  ◌⊎◌,
+  nat_eq,
+  List,
+  [],
+  ◌∷◌,
+  ◌++◌,
+  length,
+  Option,
+  Some,
+  None,
+  Bool,
+  true,
+  false,
+  refl,
+  sym,
+  ap,
+  ap₂,
+  subst,
+  ◌∙◌,
+  inl,
+  inr,
+  arith,
+  eq-eqb,
+}
 use Rattle.std.proofs.lemmas.Bool.{and_parts, and_from, eqb-true, both_ways}
 use Rattle.std.proofs.lemmas.List.{length-append}
 use Rattle.std.specs.List.{flat_map, range_with_len}
@@ -46,7 +79,8 @@ zero-rest zeros bits rest s = zero-end [] zeros.0 bits rest s
 end-rest : (seq : SeqState) (coding : PicCoding) (end : Bool) (bits rest : List ℕ) → (later_slice seq coding).Spells (last end) bits rest → rest ≡ []
 end-rest seq coding end bits rest (byte, m, (zeros, m', s, (code, coded, passing, split)), (slice, m'', t, (zeros', m''', u, (e, f)))) =
     by_cases (is_slice byte) (byte == SEQUENCE_END) passing slice zeros' t u e where
-      by_cases : (slice_comes end_comes : Bool) → (slice_comes || end_comes) && true ≡ true → (item : Option Slice) (zeros : Option (List ℕ × Unit {0})) → (optional slice_comes (whole_slice seq coding byte)).Spells item m m''
+      by_cases : (slice_comes end_comes : Bool) → (slice_comes || end_comes) && true ≡ true
+          → (item : Option Slice) (zeros : Option (List ℕ × Unit {0})) → (optional slice_comes (whole_slice seq coding byte)).Spells item m m''
           → (optional end_comes only_zero_bytes).Spells zeros m'' m''' → last end ≡ slice_or_end item → rest ≡ []
       by_cases true b p (Some item) zeros t u e = absurd (let e' : last end ≡ more item = e in cc)
       by_cases true b p None zeros (value, n, t, (g, h)) u e = cc

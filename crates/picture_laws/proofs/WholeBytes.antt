@@ -84,7 +84,8 @@ pub keeps-start_code : (refusal : Refusal) (may_come : ℕ → Bool) → KeepsWh
 keeps-start_code refusal may_come = keeps-bind _ _ (keeps-zero_bytes refusal) (λ zeros. record {
   whole = λ v bits rest (code, coded, passing, split) w.
       let count : length bits ≡ 32 + length rest =
-      ap length split ∙ length-append code rest ∙ ap (λ k. k + length rest) (ap length coded.1 ∙ length-append (bits_of 24 1) (bits_of 8 v) ∙ ap₂ (λ m n. m + n) (length-bits_of 24 1) (length-bits_of 8 v)) in
+      ap length split ∙ length-append code rest ∙ ap (λ k. k + length rest)
+      (ap length coded.1 ∙ length-append (bits_of 24 1) (bits_of 8 v) ∙ ap₂ (λ m n. m + n) (length-bits_of 24 1) (length-bits_of 8 v)) in
       omega arith;
 })
 

@@ -1,5 +1,40 @@
 -- Every picture is written in bits, in whole bytes.
-use Rattle.std.proofs.Common.{◌≡◌, ◌==◌, ◌+◌, ◌-◌, ◌*◌, ◌/◌, ◌%◌, ℕ, zero, suc, ℤ, pos, negsuc, unsigned_abs, int_lt, nat_lt, List, [], ◌∷◌, ◌++◌, length, replicate, slice_index, slice_index_or, Option, Some, None, unwrap_or, Bool, true, false, if◌then◌else◌, refl, arith}
+use Rattle.std.proofs.Common.{
+  ◌≡◌,
+  ◌==◌,
+  ◌+◌,
+  ◌-◌,
+  ◌*◌,
+  ◌/◌,
+  ◌%◌,
+  ℕ,
+  zero,
+  suc,
+  ℤ,
+  pos,
+  negsuc,
+  unsigned_abs,
+  int_lt,
+  nat_lt,
+  List,
+  [],
+  ◌∷◌,
+  ◌++◌,
+  length,
+  replicate,
+  slice_index,
+  slice_index_or,
+  Option,
+  Some,
+  None,
+  unwrap_or,
+  Bool,
+  true,
+  false,
+  if◌then◌else◌,
+  refl,
+  arith,
+}
 use Rattle.std.specs.List.{flat_map, list_all, range_with_len}
 use Rattle.std.specs.Option.{option_map_or}
 use Rattle.std.proofs.lemmas.Bool.{and_parts, ltb-true}
@@ -32,7 +67,27 @@ use Rattle.picture_grammar.specs.StartCode.{start_code_prefix, start_code_bits}
 use Rattle.picture_grammar.specs.Block.{dc_table, coefficient_table, first_place}
 use Rattle.picture_grammar.specs.Motion.{has_residual, dmvector_code}
 use Rattle.picture_grammar.specs.Macroblock.{type_table, type_symbol, has_motion_type, has_dct_type, has_concealment, f_codes, is_coded, block_way, no_block}
-use Rattle.picture_grammar.specs.Written.{code_for, if_any, written_dc, level_bits, written_escape, written_coefficient, written_coefficients, written_block, written_increment, written_part, written_vector_part, written_vector, written_coded_block, written_macroblock, written_slice_info, written_slice, to_whole_bytes, written_picture, IsWritten}
+use Rattle.picture_grammar.specs.Written.{
+  code_for,
+  if_any,
+  written_dc,
+  level_bits,
+  written_escape,
+  written_coefficient,
+  written_coefficients,
+  written_block,
+  written_increment,
+  written_part,
+  written_vector_part,
+  written_vector,
+  written_coded_block,
+  written_macroblock,
+  written_slice_info,
+  written_slice,
+  to_whole_bytes,
+  written_picture,
+  IsWritten,
+}
 use Rattle.picture_grammar.proofs.Codes.{coefficient_code-listed}
 use Rattle.picture_laws.proofs.WholeBytes.{bytes_of, bytes_of-right}
 
@@ -104,7 +159,8 @@ bits-coefficient table pair = by_code (coefficient_code table pair.run (unsigned
 bits-coefficients : (way : BlockWay) (place : ℕ) (pairs : List RunLevel) → AreBits (written_coefficients way place pairs)
 bits-coefficients way place [] = bits-code_for _ _
 bits-coefficients way place (pair ∷ pairs) =
-    AreBits-append (written_coefficient (coefficient_table way place) pair) (written_coefficients way (place + (pair.run + 1)) pairs) (bits-coefficient _ pair) (bits-coefficients way (place + (pair.run + 1)) pairs)
+    AreBits-append (written_coefficient (coefficient_table way place) pair) (written_coefficients way (place + (pair.run + 1)) pairs)
+    (bits-coefficient _ pair) (bits-coefficients way (place + (pair.run + 1)) pairs)
 
 bits-block : (way : BlockWay) (b : Block) → AreBits (written_block way b)
 unfolding written_block
@@ -136,26 +192,35 @@ bits-dmvector (negsuc n) = (omega arith, (omega arith, tt))
 
 bits-vector_part : (codes : List ℕ) (vector : Vector) (part : ℕ) → AreBits (written_vector_part codes vector part)
 bits-vector_part codes vector part =
-    AreBits-append (written_part (slice_index codes part) (slice_index_or vector.code part (pos 0)) (slice_index vector.residual part)) (if_any (λ dual. dmvector_code (slice_index_or dual part (pos 0))) vector.dual)
-    (bits-part (slice_index codes part) (slice_index_or vector.code part (pos 0)) (slice_index vector.residual part)) (bits-any (λ dual. dmvector_code (slice_index_or dual part (pos 0))) vector.dual (λ dual. bits-dmvector _))
+    AreBits-append (written_part (slice_index codes part) (slice_index_or vector.code part (pos 0)) (slice_index vector.residual part))
+    (if_any (λ dual. dmvector_code (slice_index_or dual part (pos 0))) vector.dual)
+    (bits-part (slice_index codes part) (slice_index_or vector.code part (pos 0)) (slice_index vector.residual part))
+    (bits-any (λ dual. dmvector_code (slice_index_or dual part (pos 0))) vector.dual (λ dual. bits-dmvector _))
 
 bits-vector : (codes : List ℕ) (vector : Vector) → AreBits (written_vector codes vector)
 bits-vector codes vector =
     AreBits-append (if_any (λ field. flag field ∷ []) vector.select ++ written_vector_part codes vector 0) (written_vector_part codes vector 1)
-    (AreBits-append (if_any (λ field. flag field ∷ []) vector.select) (written_vector_part codes vector 0) (bits-any (λ (field : Bool). flag field ∷ []) vector.select bits-flag) (bits-vector_part codes vector 0)) (bits-vector_part codes vector 1)
+    (AreBits-append (if_any (λ field. flag field ∷ []) vector.select) (written_vector_part codes vector 0)
+    (bits-any (λ (field : Bool). flag field ∷ []) vector.select bits-flag) (bits-vector_part codes vector 0)) (bits-vector_part codes vector 1)
 
-bits-ten : (a b c d e f g h i j : List ℕ) → AreBits a → AreBits b → AreBits c → AreBits d → AreBits e → AreBits f → AreBits g → AreBits h → AreBits i → AreBits j → AreBits (a ++ b ++ c ++ d ++ e ++ f ++ g ++ h ++ i ++ j)
+bits-ten : (a b c d e f g h i j : List ℕ) → AreBits a → AreBits b → AreBits c → AreBits d → AreBits e → AreBits f → AreBits g → AreBits h → AreBits i
+    → AreBits j → AreBits (a ++ b ++ c ++ d ++ e ++ f ++ g ++ h ++ i ++ j)
 bits-ten a b c d e f g h i j pa pb pc pd pe pf pg ph pi pj =
     AreBits-append (a ++ b ++ c ++ d ++ e ++ f ++ g ++ h ++ i) j (AreBits-append (a ++ b ++ c ++ d ++ e ++ f ++ g ++ h) i (AreBits-append (a ++ b ++ c ++ d ++ e ++ f ++ g) h
-    (AreBits-append (a ++ b ++ c ++ d ++ e ++ f) g (AreBits-append (a ++ b ++ c ++ d ++ e) f (AreBits-append (a ++ b ++ c ++ d) e (AreBits-append (a ++ b ++ c) d (AreBits-append (a ++ b) c (AreBits-append a b pa pb) pc) pd) pe) pf) pg) ph) pi) pj
+    (AreBits-append (a ++ b ++ c ++ d ++ e ++ f) g (AreBits-append (a ++ b ++ c ++ d ++ e) f
+    (AreBits-append (a ++ b ++ c ++ d) e (AreBits-append (a ++ b ++ c) d (AreBits-append (a ++ b) c (AreBits-append a b pa pb) pc) pd) pe) pf) pg)
+    ph) pi) pj
 
 bits-macroblock : (coding : PicCoding) (m : Macroblock) → AreBits (written_macroblock coding m)
 unfolding written_macroblock
 bits-macroblock coding m = bits-ten _ _ _ _ _ _ _ _ _ _ (bits-increment (m.skipped_before + 1)) (bits-code_for (type_table coding) (type_symbol m.kind))
     (bits-if (has_motion_type coding m.kind) (bits_of 2 m.motion_type) (AreBits-bits_of 2 m.motion_type)) (bits-if (has_dct_type coding m.kind) (flag m.field_dct ∷ []) (bits-flag m.field_dct))
-    (bits-any (bits_of 5) m.code (AreBits-bits_of 5)) (bits-flat (written_vector (f_codes coding 0)) m.forward.items (bits-vector (f_codes coding 0))) (bits-flat (written_vector (f_codes coding 1)) m.backward.items (bits-vector (f_codes coding 1)))
+    (bits-any (bits_of 5) m.code (AreBits-bits_of 5)) (bits-flat (written_vector (f_codes coding 0)) m.forward.items (bits-vector (f_codes coding 0)))
+    (bits-flat (written_vector (f_codes coding 1)) m.backward.items (bits-vector (f_codes coding 1)))
     (bits-if (has_concealment coding m.kind) (1 ∷ []) (omega arith, tt)) (bits-if m.kind.pattern (code_for Pattern m.pattern) (bits-code_for Pattern m.pattern))
-    (bits-flat (written_coded_block coding m) (range_with_len 0 BLOCKS) (λ i. bits-if (is_coded m.kind m.pattern i) (written_block (block_way coding m.kind i) (slice_index_or m.blocks i no_block)) (bits-block _ _)))
+    (bits-flat (written_coded_block coding m) (range_with_len 0 BLOCKS)
+    (λ i. bits-if (is_coded m.kind m.pattern i) (written_block (block_way coding m.kind i) (slice_index_or m.blocks i no_block))
+    (bits-block _ _)))
 
 -- ---- slices and pictures
 
@@ -182,7 +247,8 @@ whole_of coding s = to_whole_bytes (start_code_bits (s.row + FIRST_SLICE) ++ wri
 bits-whole : (coding : PicCoding) (s : Slice) → AreBits (whole_of coding s)
 bits-whole coding s =
     let bits = start_code_bits (s.row + FIRST_SLICE) ++ written_slice coding s in
-    AreBits-append bits (replicate ((8 - length bits % 8) % 8) 0) (AreBits-append (start_code_bits (s.row + FIRST_SLICE)) (written_slice coding s) (bits-start_code _) (bits-slice coding s)) (AreBits-zeros _)
+    AreBits-append bits (replicate ((8 - length bits % 8) % 8) 0)
+    (AreBits-append (start_code_bits (s.row + FIRST_SLICE)) (written_slice coding s) (bits-start_code _) (bits-slice coding s)) (AreBits-zeros _)
 
 whole-flat : (coding : PicCoding) (slices : List Slice) → length (flat_map (whole_of coding) slices) % 8 ≡ 0
 whole-flat coding [] = refl

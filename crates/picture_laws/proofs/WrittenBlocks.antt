@@ -21,7 +21,8 @@ module _ {I A : Type 0} (grammar : I → Grammar A) where
   EachSpellable (i ∷ is) [] = ⊥
   EachSpellable (i ∷ is) (v ∷ vs) = IsSpellable (grammar i) v × EachSpellable is vs
 
-  each-made : (written : I → A → List ℕ) → ((i : I) → IsReadBack (grammar i) (written i)) → (is : List I) (values : List A) → EachSpellable is values → (bits : List ℕ) × (each is grammar).Spells values bits []
+  each-made : (written : I → A → List ℕ) → ((i : I) → IsReadBack (grammar i) (written i)) → (is : List I) (values : List A) → EachSpellable is values
+      → (bits : List ℕ) × (each is grammar).Spells values bits []
   each-made written back [] [] all = ([], (refl, refl))
   each-made written back [] (v ∷ vs) all = elim all [ ]
   each-made written back (i ∷ is) [] all = elim all [ ]

@@ -1,5 +1,48 @@
 -- A block is spelled by some bits where its coefficients are within its places and have levels that bits may say.
-use Rattle.std.proofs.Common.{◌≡◌, ◌⊎◌, ℕ, suc, ℤ, pos, negsuc, neg_ℤ, unsigned_abs, ◌+◌, ◌-◌, ◌<◌, ◌≤◌, ◌==◌, ◌&&◌, nat_eq, nat_lt, not, List, [], ◌∷◌, ◌++◌, length, Option, Some, None, Bool, true, false, cond, if◌then◌else◌, refl, sym, ap, subst, ◌∙◌, inl, inr, arith, append_assoc, append-nil, ◌≢◌}
+use Rattle.std.proofs.Common.{
+  ◌≡◌,
+  ◌⊎◌,
+  ℕ,
+  suc,
+  ℤ,
+  pos,
+  negsuc,
+  neg_ℤ,
+  unsigned_abs,
+  ◌+◌,
+  ◌-◌,
+  ◌<◌,
+  ◌≤◌,
+  ◌==◌,
+  ◌&&◌,
+  nat_eq,
+  nat_lt,
+  not,
+  List,
+  [],
+  ◌∷◌,
+  ◌++◌,
+  length,
+  Option,
+  Some,
+  None,
+  Bool,
+  true,
+  false,
+  cond,
+  if◌then◌else◌,
+  refl,
+  sym,
+  ap,
+  subst,
+  ◌∙◌,
+  inl,
+  inr,
+  arith,
+  append_assoc,
+  append-nil,
+  ◌≢◌,
+}
 use Rattle.std.specs.List.{AllByRecursion}
 use Rattle.std.proofs.lemmas.Bool.{and_parts, and_from, cases_Bool, cases_lt, lt-ltb, le-ltb, ltb-true, both_ways, eq-eqb, eqb-true, not-true}
 use Rattle.std.proofs.lemmas.List.Sums.{sum_by-append, sum_by-cons}
@@ -60,8 +103,13 @@ escaped : (level : ℤ) → IsLevel level → (level_bits level < 4096) × (esca
 escaped (pos n) (some, lt) = (omega arith, ap (λ (b : Bool). cond b (pos n) (neg_ℤ (pos (4096 - n)))) (lt-ltb n 2048 lt), omega arith, omega arith)
 escaped (negsuc n) (some, lt) =
     let large : 2048 ≤ 4096 - suc n = omega arith in
-    let back : 4096 - (4096 - suc n) ≡ suc n = omega arith in
-    (omega arith, ap (λ (b : Bool). cond b (pos (4096 - suc n)) (neg_ℤ (pos (4096 - (4096 - suc n))))) (le-ltb (4096 - suc n) 2048 large) ∙ ap (λ (k : ℕ). neg_ℤ (pos k)) back, omega arith, omega arith)
+    let back : 4096 - (4096 - suc n) ≡ suc n = omega arith in (
+      omega arith,
+      ap (λ (b : Bool). cond b (pos (4096 - suc n)) (neg_ℤ (pos (4096 - (4096 - suc n))))) (le-ltb (4096 - suc n) 2048 large)
+          ∙ ap (λ (k : ℕ). neg_ℤ (pos k)) back,
+      omega arith,
+      omega arith,
+    )
 
 differs : (m n : ℕ) → m ≢ n → not (nat_eq m n) ≡ true
 differs m n other = elim (cases_Bool (nat_eq m n)) [
@@ -166,7 +214,8 @@ apart : (m n : ℕ) → not (nat_eq m n) ≡ true → m ≢ n
 apart m n test = λ same. both_ways (nat_eq m n) (not-true (nat_eq m n) test) (eq-eqb m n same)
 
 module _ (way : BlockWay) where
-  one_spelled : (before : List RunLevel) (pair : RunLevel) (bits middle : List ℕ) → (coefficient way before).Spells (more pair) bits middle → (next_place way before + pair.run < 64) × IsLevel pair.level
+  one_spelled : (before : List RunLevel) (pair : RunLevel) (bits middle : List ℕ) → (coefficient way before).Spells (more pair) bits middle
+      → (next_place way before + pair.run < 64) × IsLevel pair.level
   one_spelled before pair bits middle (end_of_block, m, s, (e, f)) = absurd (let e' : more pair ≡ last tt = e in cc)
   one_spelled before pair bits middle (run_size run size, m, (code, coded, passing, split), (negative, m', s, (e, f))) =
       let same : pair ≡ record { run = run; level = signed size negative } = cc in

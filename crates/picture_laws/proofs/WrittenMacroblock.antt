@@ -1,5 +1,33 @@
 -- What is written of a macroblock whose parts some bits spell is read as that macroblock, whatever follows.
-use Rattle.std.proofs.Common.{◌≡◌, ℕ, suc, ◌+◌, ◌-◌, ◌==◌, not, List, [], ◌∷◌, ◌++◌, length, slice_index_or, Option, Some, None, Bool, true, false, if◌then◌else◌, refl, sym, ap, subst, ◌∙◌, arith, append_assoc}
+use Rattle.std.proofs.Common.{
+  ◌≡◌,
+  ℕ,
+  suc,
+  ◌+◌,
+  ◌-◌,
+  ◌==◌,
+  not,
+  List,
+  [],
+  ◌∷◌,
+  ◌++◌,
+  length,
+  slice_index_or,
+  Option,
+  Some,
+  None,
+  Bool,
+  true,
+  false,
+  if◌then◌else◌,
+  refl,
+  sym,
+  ap,
+  subst,
+  ◌∙◌,
+  arith,
+  append_assoc,
+}
 use Rattle.std.specs.List.{flat_map, range_with_len}
 use Rattle.bit_lists.specs.Bits.{bits_of}
 use Rattle.bit_lists.specs.Fields.{flag}
@@ -14,11 +42,49 @@ use Rattle.picture_grammar.specs.Refusal.Refusal.{BadType, BadPattern}
 use Rattle.picture_grammar.specs.Grammar.{Grammar, optional, when, each}
 use Rattle.picture_grammar.specs.Element.{vlclbf, one_flag, marker_bit, rule}
 use Rattle.picture_grammar.specs.Block.{block}
-use Rattle.picture_grammar.specs.Macroblock.{address_increment, most_increment, type_table, type_symbol, macroblock_type, motion_type, has_motion_type, usual_motion_type, dct_type, has_dct_type, quantiser_scale_code, has_forward, has_concealment, f_codes, motion_format, block_way, is_coded, no_block, blocks, macroblock}
+use Rattle.picture_grammar.specs.Macroblock.{
+  address_increment,
+  most_increment,
+  type_table,
+  type_symbol,
+  macroblock_type,
+  motion_type,
+  has_motion_type,
+  usual_motion_type,
+  dct_type,
+  has_dct_type,
+  quantiser_scale_code,
+  has_forward,
+  has_concealment,
+  f_codes,
+  motion_format,
+  block_way,
+  is_coded,
+  no_block,
+  blocks,
+  macroblock,
+}
 use Rattle.picture_grammar.specs.Written.{code_for, if_any, written_increment, written_vector, written_coded_block, written_block, written_macroblock}
 use Rattle.picture_grammar.proofs.WrittenBlock.{block_written, code_for-listed}
 use Rattle.picture_laws.specs.Spellable.{IsSpellable, HasSpellableParts}
-use Rattle.picture_laws.proofs.ReadBack.{SpellsAnywhere, IsReadBack, spellable, anywhere-code, anywhere-bind, anywhere-made, anywhere-done, anywhere-element, back-element, back-vlclbf, back-uimsbf, back-flag, back-when, back-optional, back-each, written_each}
+use Rattle.picture_laws.proofs.ReadBack.{
+  SpellsAnywhere,
+  IsReadBack,
+  spellable,
+  anywhere-code,
+  anywhere-bind,
+  anywhere-made,
+  anywhere-done,
+  anywhere-element,
+  back-element,
+  back-vlclbf,
+  back-uimsbf,
+  back-flag,
+  back-when,
+  back-optional,
+  back-each,
+  written_each,
+}
 use Rattle.picture_laws.proofs.WrittenParts.{back-increment, some-increment, back-vectors}
 
 -- ---- macroblock_modes() and the marker
@@ -76,7 +142,8 @@ anywhere-blocks : (coding : PicCoding) (m : Macroblock) → IsSpellable (blocks 
     → SpellsAnywhere (blocks coding m.kind m.pattern) m.blocks (flat_map (written_coded_block coding m) (range_with_len 0 BLOCKS))
 anywhere-blocks coding m s =
     let grammar = λ (i : ℕ). when (is_coded m.kind m.pattern i) (block (block_way coding m.kind i)) no_block in
-    anywhere-code (blocks coding m.kind m.pattern) m.blocks (written_each (written_or_none coding m.kind m.pattern) (range_with_len 0 6) m.blocks) (flat_map (written_coded_block coding m) (range_with_len 0 BLOCKS))
+    anywhere-code (blocks coding m.kind m.pattern) m.blocks (written_each (written_or_none coding m.kind m.pattern) (range_with_len 0 6) m.blocks)
+    (flat_map (written_coded_block coding m) (range_with_len 0 BLOCKS))
     (by_number (written_or_none coding m.kind m.pattern) m.blocks (length-each (range_with_len 0 6) grammar m.blocks s.bits s.rest s.spelled))
     ((back-each (range_with_len 0 6) grammar (written_or_none coding m.kind m.pattern)
     (back-block_where coding m.kind m.pattern)).again m.blocks s)
@@ -112,10 +179,14 @@ anywhere-macroblock coding first columns_left m parts =
     (anywhere-bind _ _ m.motion_type m (if has_motion_type coding m.kind then bits_of 2 m.motion_type else []) _ ((back-motion_type coding m.kind).again m.motion_type parts.motion_type)
     (anywhere-bind _ _ m.field_dct m (if has_dct_type coding m.kind then flag m.field_dct ∷ [] else []) _ ((back-dct_type coding m.kind).again m.field_dct parts.field_dct)
     (anywhere-bind _ _ m.code m (if_any (bits_of 5) m.code) _ ((back-optional m.kind.quant quantiser_scale_code (bits_of 5) (back-uimsbf 5 _)).again m.code parts.code)
-    (anywhere-bind _ _ m.forward.items m (flat_map (written_vector (f_codes coding 0)) m.forward.items) _ ((back-vectors (has_forward coding m.kind) (f_codes coding 0) (motion_format coding m.motion_type)).again m.forward.items parts.forward)
-    (anywhere-bind _ _ m.backward.items m (flat_map (written_vector (f_codes coding 1)) m.backward.items) _ ((back-vectors m.kind.backward (f_codes coding 1) (motion_format coding m.motion_type)).again m.backward.items parts.backward)
+    (anywhere-bind _ _ m.forward.items m (flat_map (written_vector (f_codes coding 0)) m.forward.items) _
+    ((back-vectors (has_forward coding m.kind) (f_codes coding 0) (motion_format coding m.motion_type)).again m.forward.items parts.forward)
+    (anywhere-bind _ _ m.backward.items m (flat_map (written_vector (f_codes coding 1)) m.backward.items) _
+    ((back-vectors m.kind.backward (f_codes coding 1) (motion_format coding m.motion_type)).again m.backward.items parts.backward)
     (anywhere-bind _ _ (marker (has_concealment coding m.kind)) m (if has_concealment coding m.kind then 1 ∷ [] else []) _ (anywhere-marker (has_concealment coding m.kind))
-    (anywhere-bind _ _ m.pattern m (if m.kind.pattern then code_for Pattern m.pattern else []) _ ((back-when m.kind.pattern (vlclbf Pattern BadPattern []) 0 (code_for Pattern) (back-vlclbf Pattern BadPattern [])).again m.pattern parts.pattern)
+    (anywhere-bind _ _ m.pattern m (if m.kind.pattern then code_for Pattern m.pattern else []) _
+    ((back-when m.kind.pattern (vlclbf Pattern BadPattern []) 0 (code_for Pattern) (back-vlclbf Pattern BadPattern [])).again m.pattern
+    parts.pattern)
     (anywhere-made (blocks coding m.kind m.pattern) (λ (blocks : List Block). record {
       skipped_before = m.skipped_before + 1 - 1;
       kind = m.kind;
@@ -131,7 +202,32 @@ anywhere-macroblock coding first columns_left m parts =
 pub parts-of_macroblock : (coding : PicCoding) (first : Bool) (columns_left : ℕ) (m : Macroblock) (bits rest : List ℕ) → (macroblock coding first columns_left).Spells m bits rest
     → HasSpellableParts coding first columns_left m
 unfolding macroblock
-parts-of_macroblock coding first columns_left m bits rest (increment, m1, s1, (kind, m2, s2, (motion, m3, s3, (field_dct, m4, s4, (code, m5, s5, (forward, m6, s6, (backward, m7, s7, (marked, m8, s8, (pattern, m9, s9, (blocks, m10, s10, (e, f))))))))))) =
+parts-of_macroblock coding first columns_left m bits rest (
+  increment,
+  m1,
+  s1,
+  (
+    kind,
+    m2,
+    s2,
+    (
+      motion,
+      m3,
+      s3,
+      (
+        field_dct,
+        m4,
+        s4,
+        (
+          code,
+          m5,
+          s5,
+          (forward, m6, s6, (backward, m7, s7, (marked, m8, s8, (pattern, m9, s9, (blocks, m10, s10, (e, f)))))),
+        ),
+      ),
+    ),
+  ),
+) =
     let some = some-increment (most_increment coding first columns_left) increment (spellable _ increment bits m1 s1) in
     let address : increment ≡ increment - 1 + 1 = omega (arith, some) in
     subst (HasSpellableParts coding first columns_left) (sym e) (record {

@@ -1,5 +1,48 @@
 -- What is written of a macroblock's address and vectors is read as these parts, whatever follows.
-use Rattle.std.proofs.Common.{◌≡◌, ℕ, zero, suc, ℤ, pos, ◌+◌, ◌-◌, ◌*◌, ◌/◌, ◌≤◌, ◌==◌, ◌&&◌, eq-eqb, nat_le, nat_eq, not, int_lt, List, [], ◌∷◌, ◌++◌, length, slice_index, slice_index_or, Option, Some, None, Bool, true, false, cond, if◌then◌else◌, refl, sym, ap, ap₂, ◌∙◌, inl, inr, arith, append_assoc}
+use Rattle.std.proofs.Common.{
+  ◌≡◌,
+  ℕ,
+  zero,
+  suc,
+  ℤ,
+  pos,
+  ◌+◌,
+  ◌-◌,
+  ◌*◌,
+  ◌/◌,
+  ◌≤◌,
+  ◌==◌,
+  ◌&&◌,
+  eq-eqb,
+  nat_le,
+  nat_eq,
+  not,
+  int_lt,
+  List,
+  [],
+  ◌∷◌,
+  ◌++◌,
+  length,
+  slice_index,
+  slice_index_or,
+  Option,
+  Some,
+  None,
+  Bool,
+  true,
+  false,
+  cond,
+  if◌then◌else◌,
+  refl,
+  sym,
+  ap,
+  ap₂,
+  ◌∙◌,
+  inl,
+  inr,
+  arith,
+  append_assoc,
+}
 use Rattle.std.specs.List.{flat_map, range_with_len, list_all}
 use Rattle.std.proofs.lemmas.Bool.{and_parts, eqb-true, cases_Bool, leb-true, le-ltb, both_ways}
 use Rattle.bit_lists.specs.Bits.{bits_of}
@@ -21,7 +64,23 @@ use Rattle.picture_grammar.specs.Macroblock.{escape_increment, address_code, add
 use Rattle.picture_grammar.specs.Written.{code_for, if_any, written_increment, written_part, written_vector}
 use Rattle.picture_grammar.proofs.WrittenBlock.{unsigned_abs-signed}
 use Rattle.picture_laws.specs.Spellable.{IsSpellable}
-use Rattle.picture_laws.proofs.ReadBack.{SpellsAnywhere, IsReadBack, spellable, anywhere-code, anywhere-value, anywhere-bind, anywhere-made, back-element, back-vlclbf, back-uimsbf, back-flag, back-when, back-optional, back-repeated, back-many}
+use Rattle.picture_laws.proofs.ReadBack.{
+  SpellsAnywhere,
+  IsReadBack,
+  spellable,
+  anywhere-code,
+  anywhere-value,
+  anywhere-bind,
+  anywhere-made,
+  back-element,
+  back-vlclbf,
+  back-uimsbf,
+  back-flag,
+  back-when,
+  back-optional,
+  back-repeated,
+  back-many,
+}
 
 -- ---- the address
 
@@ -129,7 +188,8 @@ written-part : (f_code size residual : ℕ) (negative : Bool)
     → written_part f_code (signed size negative) residual
     ≡ code_for Motion size ++ ((if not (size == 0) then flag negative ∷ [] else []) ++ (if has_residual f_code size then bits_of (f_code - 1) residual else []))
 written-part f_code size residual negative =
-    ap (λ (n : ℕ). code_for Motion n ++ (if n == 0 then [] else flag (int_lt (signed size negative) (pos 0)) ∷ []) ++ (if has_residual f_code n then bits_of (f_code - 1) residual else [])) (unsigned_abs-signed size negative)
+    ap (λ (n : ℕ). code_for Motion n ++ (if n == 0 then [] else flag (int_lt (signed size negative) (pos 0)) ∷ [])
+    ++ (if has_residual f_code n then bits_of (f_code - 1) residual else [])) (unsigned_abs-signed size negative)
     ∙ ap (λ (b : List ℕ). code_for Motion size ++ b ++ (if has_residual f_code size then bits_of (f_code - 1) residual else [])) (written-sign size negative)
     ∙ append_assoc (code_for Motion size) (if not (size == 0) then flag negative ∷ [] else []) (if has_residual f_code size then bits_of (f_code - 1) residual else [])
 

@@ -1,5 +1,44 @@
 -- What is written of a picture is read as that picture.
-use Rattle.std.proofs.Common.{◌≡◌, ◌⊎◌, ◌==◌, ◌||◌, ◌+◌, ◌-◌, ◌%◌, ◌<◌, ◌≤◌, ℕ, zero, suc, nat_le, nat_eq, List, [], ◌∷◌, ◌++◌, length, replicate, Option, Some, None, Bool, true, false, if◌then◌else◌, refl, sym, ap, ap₂, subst, ◌∙◌, inl, inr, arith, append_assoc, append-nil}
+use Rattle.std.proofs.Common.{
+  ◌≡◌,
+  ◌⊎◌,
+  ◌==◌,
+  ◌||◌,
+  ◌+◌,
+  ◌-◌,
+  ◌%◌,
+  ◌<◌,
+  ◌≤◌,
+  ℕ,
+  zero,
+  suc,
+  nat_le,
+  nat_eq,
+  List,
+  [],
+  ◌∷◌,
+  ◌++◌,
+  length,
+  replicate,
+  Option,
+  Some,
+  None,
+  Bool,
+  true,
+  false,
+  if◌then◌else◌,
+  refl,
+  sym,
+  ap,
+  ap₂,
+  subst,
+  ◌∙◌,
+  inl,
+  inr,
+  arith,
+  append_assoc,
+  append-nil,
+}
 use Rattle.std.specs.List.{flat_map, AllByRecursion}
 use Rattle.std.proofs.Math.Pow.{pow_pos}
 use Rattle.std.proofs.lemmas.Bool.{and_parts, cases_Bool, leb-true, eqb-true}
@@ -60,7 +99,14 @@ bits_to_byte n bits lt follows =
     (replicate n 0, (pow_pos (length (replicate n 0 ++ bits) % 8), sym (bits_of-zero n) ∙ ap (λ (k : ℕ). bits_of k 0) (sym count)), refl, refl)
 
 no_zeros : (byte : ℕ) (rest : List ℕ) → start_code_bits byte ++ rest ≡ replicate (length (start_code_bits byte ++ rest)) 0 → ⊥
-no_zeros byte rest e = omega (arith, opened-zeros 0 byte rest, ap zeros_before e ∙ zeros_before-all (length (start_code_bits byte ++ rest)), length-append (start_code_bits byte) rest, length-start_code byte)
+no_zeros byte rest e = omega (
+  arith,
+  opened-zeros 0 byte rest,
+  ap zeros_before e
+      ∙ zeros_before-all (length (start_code_bits byte ++ rest)),
+  length-append (start_code_bits byte) rest,
+  length-start_code byte,
+)
 
 -- the start code of a slice
 pub code_bounds : (byte : ℕ) → is_slice byte ≡ true → (1 ≤ byte) × (byte ≤ 175)
@@ -90,7 +136,8 @@ module _ (seq : SeqState) (coding : PicCoding) where
   fill s = (8 - length (start_code_bits (s.row + 1) ++ written_slice coding s) % 8) % 8
 
   split_whole : (s : Slice) (rest : List ℕ) → written_whole s ++ rest ≡ start_code_bits (s.row + 1) ++ (written_slice coding s ++ (replicate (fill s) 0 ++ rest))
-  split_whole s rest = append_assoc (start_code_bits (s.row + 1) ++ written_slice coding s) (replicate (fill s) 0) rest ∙ append_assoc (start_code_bits (s.row + 1)) (written_slice coding s) (replicate (fill s) 0 ++ rest)
+  split_whole s rest = append_assoc (start_code_bits (s.row + 1) ++ written_slice coding s) (replicate (fill s) 0) rest
+      ∙ append_assoc (start_code_bits (s.row + 1)) (written_slice coding s) (replicate (fill s) 0 ++ rest)
 
   whole_length : (s : Slice) → length (written_whole s) % 8 ≡ 0
   whole_length s = omega (arith, length-append (start_code_bits (s.row + 1) ++ written_slice coding s) (replicate (fill s) 0), length-replicate {A = ℕ} (fill s) 0)
@@ -124,7 +171,8 @@ module _ (seq : SeqState) (coding : PicCoding) where
       (s.row + 1, later, code-made BadHeader is_slice (s.row + 1) 0 later (let b = code_bounds (s.row + 1) has.1 in omega arith) has.1, (s, rest, whole_made s rest has follows, (refl, refl)))
   one_made (b ∷ bs) s rest has follows =
       let later = written_slice coding s ++ (replicate (fill s) 0 ++ rest) in
-      let code = code-made BadHeader (λ byte. is_slice byte || byte == SEQUENCE_END) (s.row + 1) 0 later (let b = code_bounds (s.row + 1) has.1 in omega arith) (ap (λ (c : Bool). c || (s.row + 1) == SEQUENCE_END) has.1) in
+      let code = code-made BadHeader (λ byte. is_slice byte || byte == SEQUENCE_END) (s.row + 1) 0 later
+      (let b = code_bounds (s.row + 1) has.1 in omega arith) (ap (λ (c : Bool). c || (s.row + 1) == SEQUENCE_END) has.1) in
       let item = subst (λ (c : Bool). (optional c (whole_slice seq coding (s.row + 1))).Spells (Some s) later rest) (sym has.1) (s, rest, whole_made s rest has follows, (refl, refl)) in
       let none = subst (λ (c : Bool). (optional c only_zero_bytes).Spells None rest rest) (sym (code_other (s.row + 1) has.1)) (refl, refl) in
       subst (λ (b' : List ℕ). (next_slice seq coding (b ∷ bs)).Spells (more s) b' rest) (sym (split_whole s rest))
@@ -168,7 +216,8 @@ module _ (seq : SeqState) (coding : PicCoding) where
         subst IsSpellableSlice (sym same) (whole_taken byte s' m m2 is t)
     by_code false is item m' (d, d') e = absurd (let e' : more s ≡ last true = e ∙ ap slice_or_end d in cc)
 
-  list_taken : (before slices : List Slice) (sequence_end : Bool) (bits rest : List ℕ) → SpellsList (next_slice seq coding) before slices sequence_end bits rest → AllByRecursion IsSpellableSlice slices
+  list_taken : (before slices : List Slice) (sequence_end : Bool) (bits rest : List ℕ)
+      → SpellsList (next_slice seq coding) before slices sequence_end bits rest → AllByRecursion IsSpellableSlice slices
   list_taken before [] sequence_end bits rest s = tt
   list_taken before (v ∷ vs) sequence_end bits rest (middle, s, t) = (one_taken before v bits middle s, list_taken (before ++ v ∷ []) vs sequence_end middle rest t)
 

@@ -1,5 +1,42 @@
 -- What is written of a slice is read as that slice, where what follows closes it.
-use Rattle.std.proofs.Common.{◌≡◌, ℕ, zero, suc, ◌+◌, ◌*◌, ◌^◌, ◌<◌, ◌==◌, ◌&&◌, nat_eq, nat_le, not, List, [], ◌∷◌, ◌++◌, length, replicate, take, Option, Some, None, Bool, true, false, refl, sym, ap, subst, ◌∙◌, inl, inr, arith, append_assoc, append-nil}
+use Rattle.std.proofs.Common.{
+  ◌≡◌,
+  ℕ,
+  zero,
+  suc,
+  ◌+◌,
+  ◌*◌,
+  ◌^◌,
+  ◌<◌,
+  ◌==◌,
+  ◌&&◌,
+  nat_eq,
+  nat_le,
+  not,
+  List,
+  [],
+  ◌∷◌,
+  ◌++◌,
+  length,
+  replicate,
+  take,
+  Option,
+  Some,
+  None,
+  Bool,
+  true,
+  false,
+  refl,
+  sym,
+  ap,
+  subst,
+  ◌∙◌,
+  inl,
+  inr,
+  arith,
+  append_assoc,
+  append-nil,
+}
 use Rattle.std.specs.List.{flat_map, list_all}
 use Rattle.std.proofs.lemmas.Bool.{and_parts, cases_Bool, leb-true, both_ways, eq-eqb, eqb-true, not-true}
 use Rattle.bit_lists.specs.Bits.{IsPrefix, bits_of, number_of}
@@ -36,7 +73,8 @@ after_flag another = optional another (uimsbf 8 []) >>= λ byte. done (more_of b
 
 pub extra-more : (before : List ℕ) (v : ℕ) → IsSpellable (extra_information before) (more v) → SpellsAnywhere (extra_information before) (more v) (1 ∷ bits_of 8 v)
 extra-more before v s = let (another, m, s1, (byte, m', t, (e, f))) = s.spelled in by_flag another byte m m' t e where
-  by_flag : (another : Bool) (byte : Option ℕ) (m m' : List ℕ) → (optional another (uimsbf 8 [])).Spells byte m m' → more v ≡ more_of byte → SpellsAnywhere (extra_information before) (more v) (1 ∷ bits_of 8 v)
+  by_flag : (another : Bool) (byte : Option ℕ) (m m' : List ℕ) → (optional another (uimsbf 8 [])).Spells byte m m' → more v ≡ more_of byte
+      → SpellsAnywhere (extra_information before) (more v) (1 ∷ bits_of 8 v)
   by_flag true byte m m' (number, m'', u, (d, d')) e =
       let value : v ≡ number = (let e' : more v ≡ more number = e ∙ ap more_of d in cc) in
       subst (λ (n : ℕ). SpellsAnywhere (extra_information before) (more n) (1 ∷ bits_of 8 n)) (sym value)
@@ -152,7 +190,8 @@ module _ (seq : SeqState) (coding : PicCoding) where
   one_written [] m following fits =
       (m, following, (anywhere-macroblock coding true (columns seq) m (subst (λ (n : ℕ). HasSpellableParts coding true n m) (sym (none_left seq)) fits)).before following, (refl, refl))
   one_written (b ∷ bs) m following fits =
-      let s = (anywhere-macroblock coding false (columns_left seq (b ∷ bs)) m (subst (λ (first : Bool). HasSpellableParts coding first (columns_left seq (b ∷ bs)) m) (behind b bs) fits)).before following in
+      let s = (anywhere-macroblock coding false (columns_left seq (b ∷ bs)) m
+      (subst (λ (first : Bool). HasSpellableParts coding first (columns_left seq (b ∷ bs)) m) (behind b bs) fits)).before following in
       inr (macroblock-closes coding false (columns_left seq (b ∷ bs)) m (written_macroblock coding m ++ following) following s, (m, following, s, (refl, refl)))
 
   list_fits : (before values : List Macroblock) (bits rest : List ℕ) → SpellsList (next_macroblock seq coding) before values tt bits rest
@@ -175,7 +214,8 @@ module _ (seq : SeqState) (coding : PicCoding) where
   list_written before (v ∷ vs) following each some closes =
       let later = flat_map (written_macroblock coding) vs ++ following in
       let same : before ++ v ∷ vs ≡ (before ++ v ∷ []) ++ vs = sym (append_assoc before (v ∷ []) vs) in
-      let split : flat_map (written_macroblock coding) (v ∷ vs) ++ following ≡ written_macroblock coding v ++ later = append_assoc (written_macroblock coding v) (flat_map (written_macroblock coding) vs) following in (
+      let split : flat_map (written_macroblock coding) (v ∷ vs) ++ following ≡ written_macroblock coding v
+      ++ later = append_assoc (written_macroblock coding v) (flat_map (written_macroblock coding) vs) following in (
         later,
         subst (λ (b : List ℕ). (next_macroblock seq coding before).Spells (more v) b later) (sym split)
             (one_written before v later (subst (λ (b : List Macroblock). Fits b v) (append-nil before) (each [] vs v refl))),
@@ -197,7 +237,8 @@ module _ (seq : SeqState) (coding : PicCoding) where
       let info = (back-info.again s.info has.info).before later in
       let code = ((back-uimsbf 5 _).again s.code has.code).before (written_slice_info s.info ++ later) in
       let split : bits_of 5 s.code ++ written_slice_info s.info ++ flat_map (written_macroblock coding) s.macroblocks ++ following ≡ bits_of 5 s.code ++ (written_slice_info s.info ++ later) =
-      append_assoc (bits_of 5 s.code ++ written_slice_info s.info) (flat_map (written_macroblock coding) s.macroblocks) following ∙ append_assoc (bits_of 5 s.code) (written_slice_info s.info) later in (
+      append_assoc (bits_of 5 s.code ++ written_slice_info s.info) (flat_map (written_macroblock coding) s.macroblocks) following
+      ∙ append_assoc (bits_of 5 s.code) (written_slice_info s.info) later in (
         s.code,
         written_slice_info s.info ++ later,
         subst (λ (b : List ℕ). quantiser_scale_code.Spells s.code b (written_slice_info s.info ++ later)) (sym split) code,

@@ -1,5 +1,39 @@
 -- Zero bits on end in what a grammar spells: never 23, from so many before to so many behind.
-use Rattle.std.proofs.Common.{◌≡◌, ◌&&◌, ◌+◌, ◌<◌, ◌≤◌, ◌≢◌, ℕ, zero, suc, nat_le, nat_lt, List, [], ◌∷◌, ◌++◌, length, replicate, Option, Some, None, Bool, true, false, cond, refl, sym, ap, subst, ◌∙◌, inl, inr, arith, append_assoc}
+use Rattle.std.proofs.Common.{
+  ◌≡◌,
+  ◌&&◌,
+  ◌+◌,
+  ◌<◌,
+  ◌≤◌,
+  ◌≢◌,
+  ℕ,
+  zero,
+  suc,
+  nat_le,
+  nat_lt,
+  List,
+  [],
+  ◌∷◌,
+  ◌++◌,
+  length,
+  replicate,
+  Option,
+  Some,
+  None,
+  Bool,
+  true,
+  false,
+  cond,
+  refl,
+  sym,
+  ap,
+  subst,
+  ◌∙◌,
+  inl,
+  inr,
+  arith,
+  append_assoc,
+}
 use Rattle.std.specs.List.{list_all}
 use Rattle.std.proofs.lemmas.Bool.{and_parts, leb-true, ltb-true}
 use Rattle.bit_lists.specs.Bits.{number_of}
@@ -113,11 +147,13 @@ short-weak from other to later grammar le each short = record {
       (f, p, short-fewer other from f le short_f, omega (arith, behind-fewer other from f le, le', each v));
 }
 
-pub short-when : {A : Type 0} (from : ℕ) (to : A → ℕ) (test : Bool) (grammar : Grammar A) (absent : A) → (test ≡ true → IsShort from to grammar) → (test ≡ false → from ≤ to absent) → IsShort from to (when test grammar absent)
+pub short-when : {A : Type 0} (from : ℕ) (to : A → ℕ) (test : Bool) (grammar : Grammar A) (absent : A) → (test ≡ true → IsShort from to grammar)
+    → (test ≡ false → from ≤ to absent) → IsShort from to (when test grammar absent)
 short-when from to true grammar absent short le = short refl
 short-when from to false grammar absent short le = short-done from to absent (le refl)
 
-pub short-optional : {A : Type 0} (from : ℕ) (to : Option A → ℕ) (test : Bool) (grammar : Grammar A) → (test ≡ true → IsShort from (λ v. to (Some v)) grammar) → (test ≡ false → from ≤ to None) → IsShort from to (optional test grammar)
+pub short-optional : {A : Type 0} (from : ℕ) (to : Option A → ℕ) (test : Bool) (grammar : Grammar A)
+    → (test ≡ true → IsShort from (λ v. to (Some v)) grammar) → (test ≡ false → from ≤ to None) → IsShort from to (optional test grammar)
 short-optional from to true grammar short le = short-bind from (λ v. to (Some v)) to grammar (λ value. done (Some value)) (short refl) (λ v s. short-done (to (Some v)) to (Some v) (omega arith))
 short-optional from to false grammar short le = short-done from to None (le refl)
 
@@ -131,13 +167,15 @@ pub short-repeated : {A : Type 0} (from n : ℕ) (grammar : Grammar A) → IsSho
 short-repeated from zero grammar short = short-done from (λ _. from) [] (omega arith)
 short-repeated from (suc n) grammar short =
     short-bind from (λ _. from) (λ _. from) grammar (λ value. repeated n grammar >>= λ values. done (value ∷ values)) short
-    (λ value s. short-bind from (λ _. from) (λ _. from) (repeated n grammar) (λ values. done (value ∷ values)) (short-repeated from n grammar short) (λ values t. short-done from (λ _. from) (value ∷ values) (omega arith)))
+    (λ value s. short-bind from (λ _. from) (λ _. from) (repeated n grammar) (λ values. done (value ∷ values)) (short-repeated from n grammar short)
+    (λ values t. short-done from (λ _. from) (value ∷ values) (omega arith)))
 
 pub short-each : {I A : Type 0} (from : ℕ) (is : List I) (grammar : I → Grammar A) → ((i : I) → IsShort from (λ _. from) (grammar i)) → IsShort from (λ _. from) (each is grammar)
 short-each from [] grammar short = short-done from (λ _. from) [] (omega arith)
 short-each from (i ∷ is) grammar short =
     short-bind from (λ _. from) (λ _. from) (grammar i) (λ value. each is grammar >>= λ values. done (value ∷ values)) (short i)
-    (λ value s. short-bind from (λ _. from) (λ _. from) (each is grammar) (λ values. done (value ∷ values)) (short-each from is grammar short) (λ values t. short-done from (λ _. from) (value ∷ values) (omega arith)))
+    (λ value s. short-bind from (λ _. from) (λ _. from) (each is grammar) (λ values. done (value ∷ values)) (short-each from is grammar short)
+    (λ values t. short-done from (λ _. from) (value ∷ values) (omega arith)))
 
 pub short-one_more : {A B : Type 0} (from : ℕ) (to : Next A B → ℕ) (grammar : Grammar A) → IsShort from (λ v. to (more v)) grammar → IsShort from to (one_item_more {A = A} {B = B} grammar)
 short-one_more {A} {B} from to grammar short =
@@ -199,5 +237,6 @@ short-code from to table symbol code all listed =
     let parts = and_parts (are_short from code) (nat_le (zeros_behind from code) (to symbol)) (code_in-passes (is_short_entry from to) table symbol code all listed) in
     (short-tested from code parts.0, leb-true (zeros_behind from code) (to symbol) parts.1)
 
-pub short-vlclbf : (from : ℕ) (to : ℕ → ℕ) (table : TableName) (refusal : Refusal) (rules : List (Rule ℕ)) → list_all (is_short_entry from to) (entries table) ≡ true → IsShort from to (vlclbf table refusal rules)
+pub short-vlclbf : (from : ℕ) (to : ℕ → ℕ) (table : TableName) (refusal : Refusal) (rules : List (Rule ℕ))
+    → list_all (is_short_entry from to) (entries table) ≡ true → IsShort from to (vlclbf table refusal rules)
 short-vlclbf from to table refusal rules all = short-element from to _ refusal rules (λ symbol code listed passing. short-code from to table symbol code all listed)

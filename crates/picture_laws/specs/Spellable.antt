@@ -20,7 +20,21 @@ use Rattle.stream_constants.specs.declared.start_codes.TheConstants.{FIRST_SLICE
 use Rattle.picture_grammar.specs.declared.escape.TheConstants.{LEVEL_BITS}
 use Rattle.picture_grammar.specs.Block.{dc_coefficient, next_place}
 use Rattle.picture_grammar.specs.Motion.{motion_vectors}
-use Rattle.picture_grammar.specs.Macroblock.{address_increment, most_increment, macroblock_type, motion_type, dct_type, quantiser_scale_code, has_forward, f_codes, motion_format, block_way, is_coded, no_block, blocks}
+use Rattle.picture_grammar.specs.Macroblock.{
+  address_increment,
+  most_increment,
+  macroblock_type,
+  motion_type,
+  dct_type,
+  quantiser_scale_code,
+  has_forward,
+  f_codes,
+  motion_format,
+  block_way,
+  is_coded,
+  no_block,
+  blocks,
+}
 use Rattle.picture_grammar.specs.Slice.{slice_info, columns_left}
 use Rattle.picture_grammar.specs.StartCode.{is_slice}
 use Rattle.picture_grammar.specs.Head.{head}

@@ -1,5 +1,37 @@
 -- What a sink got when a writer over it stopped or was finished, and what it got before.
-use Rattle.std.proofs.Common.{◌≡◌, ℕ, ◌-◌, ◌^◌, ◌<◌, ◌≤◌, ◌≢◌, List, [], ◌++◌, Result, Ok, Err, OnOk, OnErr, IsErrOf, IsErrAnd, IsErr, true, false, take, drop, sym, ap, subst, inl, inr, ◌∙◌, arith, append_assoc, append-nil}
+use Rattle.std.proofs.Common.{
+  ◌≡◌,
+  ℕ,
+  ◌-◌,
+  ◌^◌,
+  ◌<◌,
+  ◌≤◌,
+  ◌≢◌,
+  List,
+  [],
+  ◌++◌,
+  Result,
+  Ok,
+  Err,
+  OnOk,
+  OnErr,
+  IsErrOf,
+  IsErrAnd,
+  IsErr,
+  true,
+  false,
+  take,
+  drop,
+  sym,
+  ap,
+  subst,
+  inl,
+  inr,
+  ◌∙◌,
+  arith,
+  append_assoc,
+  append-nil,
+}
 use Rattle.std.proofs.lemmas.Bool.{cases_lt}
 use Rattle.shelf_io.specs.declared.fault.Fault.{Fault}
 use Rattle.shelf_io.specs.declared.fault.Fault.TheVariants.{Failed, Missing}

@@ -1,6 +1,42 @@
 -- The words of a table's codes are its codes: a test of each entry and of each word, computed for each table, and what it
 -- says of symbols.
-use Rattle.std.proofs.Common.{◌≡◌, ◌≢◌, ℕ, zero, suc, ◌+◌, ◌-◌, ◌*◌, ◌/◌, ◌%◌, ◌^◌, ◌<◌, ◌≤◌, Bool, true, false, ◌&&◌, ◌||◌, nat_eq, nat_lt, nat_le, List, length, Option, Some, None, refl, sym, ap, ap₂, subst, ◌∙◌, inl, inr, arith}
+use Rattle.std.proofs.Common.{
+  ◌≡◌,
+  ◌≢◌,
+  ℕ,
+  zero,
+  suc,
+  ◌+◌,
+  ◌-◌,
+  ◌*◌,
+  ◌/◌,
+  ◌%◌,
+  ◌^◌,
+  ◌<◌,
+  ◌≤◌,
+  Bool,
+  true,
+  false,
+  ◌&&◌,
+  ◌||◌,
+  nat_eq,
+  nat_lt,
+  nat_le,
+  List,
+  length,
+  Option,
+  Some,
+  None,
+  refl,
+  sym,
+  ap,
+  ap₂,
+  subst,
+  ◌∙◌,
+  inl,
+  inr,
+  arith,
+}
 use Rattle.std.specs.List.{list_all}
 use Rattle.std.specs.Prelude.{is_some, IfSome, IfNone}
 use Rattle.std.proofs.lemmas.Bool.{and_parts, and_from, or_cases, eqb-true, ltb-true, leb-true, cond-true, cond-false, cases_Bool, cases_lt, cases_eq, lt-ltb}
@@ -208,7 +244,8 @@ module _ (table : TableName) (tests : is_coefficients table ≡ true) (run size 
         let low : run < RUNS = ltb-true run RUNS parts.0 in
         let many : 0 < size = ltb-true 0 size rest.0 in
         let within : run_place run + size - 1 < run_place (run + 1) = ltb-true (run_place run + size - 1) (run_place (run + 1)) rest.1 in
-        let of_run = and_parts (all_below (λ below. is_some (code_in table (LEVELS_PER_RUN * run + (below + 1)))) (run_codes run)) (nat_lt (run_codes run) LEVELS_PER_RUN) (below_all (has_run table) RUNS run (runs_listed table tests) low) in
+        let of_run = and_parts (all_below (λ below. is_some (code_in table (LEVELS_PER_RUN * run + (below + 1)))) (run_codes run))
+        (nat_lt (run_codes run) LEVELS_PER_RUN) (below_all (has_run table) RUNS run (runs_listed table tests) low) in
         let few : run_codes run < LEVELS_PER_RUN = ltb-true (run_codes run) LEVELS_PER_RUN of_run.1 in
         let one : is_some (code_in table (LEVELS_PER_RUN * run + (size - 1 + 1))) ≡ true =
         below_all (λ below. is_some (code_in table (LEVELS_PER_RUN * run + (below + 1)))) (run_codes run) (size - 1) of_run.0 (omega arith) in
@@ -231,7 +268,8 @@ module _ (table : TableName) (tests : is_coefficients table ≡ true) (run size 
   abbrev is_within : Bool
   is_within = nat_lt run RUNS && nat_lt 0 size && nat_lt size LEVELS_PER_RUN
 
-  pub coefficient_code-some : 0 < length_in (code_word table (coefficient_place run size)) → (code : List ℕ) × (coefficient_code table run size ≡ Some code) × Holds code (code_word table (coefficient_place run size))
+  pub coefficient_code-some : 0 < length_in (code_word table (coefficient_place run size)) → (code : List ℕ)
+      × (coefficient_code table run size ≡ Some code) × Holds code (code_word table (coefficient_place run size))
   unfolding coefficient_code
   coefficient_code-some some =
       let listed = listed_place some in
@@ -253,7 +291,8 @@ module _ (table : TableName) (tests : is_coefficients table ≡ true) (run size 
     | inr other ↦ cond-false is_within (code_in table (LEVELS_PER_RUN * run + size)) None other
   ]
     where
-      by_cases : place_of table (LEVELS_PER_RUN * run + size) ≡ coefficient_place run size → (o : Option (List ℕ)) → code_in table (LEVELS_PER_RUN * run + size) ≡ o → code_in table (LEVELS_PER_RUN * run + size) ≡ None
+      by_cases : place_of table (LEVELS_PER_RUN * run + size) ≡ coefficient_place run size → (o : Option (List ℕ))
+          → code_in table (LEVELS_PER_RUN * run + size) ≡ o → code_in table (LEVELS_PER_RUN * run + size) ≡ None
       by_cases place None e = e
       by_cases place (Some code) e =
           let held = subst (λ p. Holds code (code_word table p)) place (word_holds table (LEVELS_PER_RUN * run + size) code e) in
@@ -313,7 +352,8 @@ module _ (table : TableName) (s : ℕ) where
 abbrev pub IsCodeOf : ℕ → Code → Type 0
 IsCodeOf word code = (0 < code.len) × (code.len ≡ length_in word) × (code.bits ≡ number_in word)
 
-module _ (word place : ℕ) (table : TableName) (is : word ≡ code_word table place) (listed : Option (List ℕ)) (some : 0 < length_in (code_word table place) → (code : List ℕ) × (listed ≡ Some code) × Holds code (code_word table place)) where
+module _ (word place : ℕ) (table : TableName) (is : word ≡ code_word table place) (listed : Option (List ℕ))
+    (some : 0 < length_in (code_word table place) → (code : List ℕ) × (listed ≡ Some code) × Holds code (code_word table place)) where
   read : 0 < length_in word → (code : List ℕ) × (listed ≡ Some code) × Holds code word
   read lt = subst (λ w. (code : List ℕ) × (listed ≡ Some code) × Holds code w) (sym is) (some (subst (λ w. 0 < length_in w) is lt))
 

@@ -29,7 +29,8 @@ are_coefficients first_is = refl
 are_coefficients one_is = refl
 
 -- A code that is neither the end of block nor the escape is that of a run and a level.
-pub coefficient_code-symbol : {table : TableName} (s : ℕ) (code : List ℕ) → IsCoefficients table → code_in table s ≡ Some code → s ≢ END_OF_BLOCK → s ≢ ESCAPE → coefficient_code table (s / LEVELS_PER_RUN) (s % LEVELS_PER_RUN) ≡ Some code
+pub coefficient_code-symbol : {table : TableName} (s : ℕ) (code : List ℕ) → IsCoefficients table → code_in table s ≡ Some code → s ≢ END_OF_BLOCK
+    → s ≢ ESCAPE → coefficient_code table (s / LEVELS_PER_RUN) (s % LEVELS_PER_RUN) ≡ Some code
 unfolding coefficient_code
 coefficient_code-symbol {table} s code is found no_end no_escape =
     let run = s / LEVELS_PER_RUN in

@@ -1,6 +1,52 @@
 -- The words of a table's levels answer which code begins a window: a test of each word, computed for each table, and what
 -- it says of windows.
-use Rattle.std.proofs.Common.{◌≡◌, ℕ, zero, suc, ◌+◌, ◌-◌, ◌*◌, ◌/◌, ◌%◌, ◌^◌, ◌<◌, ◌≤◌, ◌↔◌, Bool, true, false, not, ◌&&◌, ◌||◌, nat_eq, nat_lt, nat_le, List, [], ◌∷◌, length, take, drop, get_or, Option, Some, None, slice_get, refl, sym, ap, ap₂, subst, eq-eqb, ◌∙◌, inl, inr, arith, add-zero, zero-add}
+use Rattle.std.proofs.Common.{
+  ◌≡◌,
+  ℕ,
+  zero,
+  suc,
+  ◌+◌,
+  ◌-◌,
+  ◌*◌,
+  ◌/◌,
+  ◌%◌,
+  ◌^◌,
+  ◌<◌,
+  ◌≤◌,
+  ◌↔◌,
+  Bool,
+  true,
+  false,
+  not,
+  ◌&&◌,
+  ◌||◌,
+  nat_eq,
+  nat_lt,
+  nat_le,
+  List,
+  [],
+  ◌∷◌,
+  length,
+  take,
+  drop,
+  get_or,
+  Option,
+  Some,
+  None,
+  slice_get,
+  refl,
+  sym,
+  ap,
+  ap₂,
+  subst,
+  eq-eqb,
+  ◌∙◌,
+  inl,
+  inr,
+  arith,
+  add-zero,
+  zero-add,
+}
 use Rattle.std.specs.List.{list_all}
 use Rattle.std.proofs.lemmas.Bool.{and_parts, and_from, or_cases, eqb-true, ltb-true, leb-true, cond-true, cond-false, cases_Bool, not-true, both_ways, lt-ltb, le-ltb}
 use Rattle.std.proofs.Math.Nat.{div-div-eq-div-mul, mod-lt}
@@ -278,7 +324,8 @@ module _ (table : TableName) (window : ℕ) where
     unfolding is_first
     link_parts =
         let test = subst (λ b. is_first b (entries table) (second_of table) place word ≡ true) (le-ltb word LINK link) tested in
-        let parts = and_parts (nat_le more 16) (nat_le (number_in word + 2 ^ more) (length (second_of table)) && are_last (entries table) (8 + more) (place * 2 ^ more) (behind (second_of table) word)) test in
+        let parts = and_parts (nat_le more 16) (nat_le (number_in word + 2 ^ more) (length (second_of table))
+        && are_last (entries table) (8 + more) (place * 2 ^ more) (behind (second_of table) word)) test in
         let rest = and_parts (nat_le (number_in word + 2 ^ more) (length (second_of table))) (are_last (entries table) (8 + more) (place * 2 ^ more) (behind (second_of table) word)) parts.1 in
         (leb-true more 16 parts.0, leb-true (number_in word + 2 ^ more) (length (second_of table)) rest.0, rest.1)
 
@@ -368,7 +415,8 @@ module _ (table : TableName) (window known word number len : ℕ) (is : Answers 
   )
 
 -- ---- a link, by what the code has of it
-module _ (table : TableName) (window link more number : ℕ) (is : link ≡ get_or (first_of table) (window / 2 ^ 16 % 2 ^ 8) 0) (longer : LINK ≤ link) (more_is : more ≡ length_in link) (number_is : number ≡ number_in link) where
+module _ (table : TableName) (window link more number : ℕ) (is : link ≡ get_or (first_of table) (window / 2 ^ 16 % 2 ^ 8) 0) (longer : LINK ≤ link)
+    (more_is : more ≡ length_in link) (number_is : number ≡ number_in link) where
   leads : LINK ≤ get_or (first_of table) (window / 2 ^ 16 % 2 ^ 8) 0
   leads = subst (λ x. LINK ≤ x) is longer
 
@@ -388,6 +436,8 @@ module _ (table : TableName) (window link more number : ℕ) (is : link ≡ get_
 
   pub more_answers : Answers table (bits_of WINDOW_BITS window) (get_or (second_of table) (number + window / 2 ^ (16 - more) % 2 ^ more) 0)
   more_answers =
-      let at : number_in (get_or (first_of table) (window / 2 ^ 16 % 2 ^ 8) 0) + window / 2 ^ (16 - length_in (get_or (first_of table) (window / 2 ^ 16 % 2 ^ 8) 0)) % 2 ^ length_in (get_or (first_of table) (window / 2 ^ 16 % 2 ^ 8) 0)
+      let at : number_in (get_or (first_of table) (window / 2 ^ 16 % 2 ^ 8) 0)
+      + window / 2 ^ (16 - length_in (get_or (first_of table) (window / 2 ^ 16 % 2 ^ 8) 0)) % 2 ^ length_in
+      (get_or (first_of table) (window / 2 ^ 16 % 2 ^ 8) 0)
       ≡ number + window / 2 ^ (16 - more) % 2 ^ more = ap₂ (λ (x y : ℕ). x + window / 2 ^ (16 - y) % 2 ^ y) same_number same_more in
       subst (λ x. Answers table (bits_of 24 window) (get_or (second_of table) x 0)) at (second_answers table window leads)

@@ -6,7 +6,16 @@ use Rattle.prefix_codes.specs.declared.table_name.TableName.{TableName}
 use Rattle.prefix_codes.specs.declared.table_name.TableName.TheVariants.{Address, TypeI, TypeP, TypeB, Pattern, Motion, DcLuma, DcChroma, CoeffZero, CoeffFirst, CoeffOne}
 use Rattle.bit_lists.specs.Bits.{IsPrefix}
 use Rattle.prefix_codes.specs.Entry.{Entry, coefficient_symbol}
-use Rattle.prefix_codes.specs.MacroblockTables.{macroblock_address_increment, macroblock_type_i, macroblock_type_p, macroblock_type_b, coded_block_pattern, motion_code, dct_dc_size_luminance, dct_dc_size_chrominance}
+use Rattle.prefix_codes.specs.MacroblockTables.{
+  macroblock_address_increment,
+  macroblock_type_i,
+  macroblock_type_p,
+  macroblock_type_b,
+  coded_block_pattern,
+  motion_code,
+  dct_dc_size_luminance,
+  dct_dc_size_chrominance,
+}
 use Rattle.prefix_codes.specs.CoefficientTables.{dct_coefficients_zero, dct_coefficients_first, dct_coefficients_one}
 
 -- the entries of a table

@@ -43,7 +43,9 @@ true-false : true ≡ false → ⊥
 true-false is = cc
 
 -- a section that is read, and bytes behind its header
-pub sound-extended : (front : SectionFront) (bytes : List ℕ) (now : ArrayVec ℕ) → IsSound front → 3 ≤ length front.section.items → is_read front.section.items ≡ true → now.items ≡ front.section.items ++ bytes → length now.items ≤ 1024 → IsSound (record { section = now; passed = front.passed })
+pub sound-extended : (front : SectionFront) (bytes : List ℕ) (now : ArrayVec ℕ) → IsSound front → 3 ≤ length front.section.items
+    → is_read front.section.items ≡ true → now.items ≡ front.section.items ++ bytes → length now.items ≤ 1024
+    → IsSound (record { section = now; passed = front.passed })
 sound-extended front bytes now sound header read is fits =
     record {
       kept = λ _. ap is_read is ∙ is_read-append front.section.items bytes header ∙ read;
@@ -57,18 +59,29 @@ only-header : (front : SectionFront) → IsSound front → 3 ≤ length front.se
 only-header front sound header passed =
     ⊎_elim (λ more. absurd (true-false (sym (sound.kept more) ∙ passed))) (λ most. omega (arith, most, header)) (cases_lt 3 (length front.section.items))
 
-pub sound-passed : (front : SectionFront) (n : ℕ) → IsSound front → 3 ≤ length front.section.items → is_read front.section.items ≡ false → front.passed + n < 2 ^ 12 → IsSound (record { section = front.section; passed = front.passed + n })
+pub sound-passed : (front : SectionFront) (n : ℕ) → IsSound front → 3 ≤ length front.section.items → is_read front.section.items ≡ false
+    → front.passed + n < 2 ^ 12 → IsSound (record { section = front.section; passed = front.passed + n })
 sound-passed front n sound header passed few =
     record { kept = sound.kept; passed = λ _. (only-header front sound header passed, passed); size = sound.size; count = few }
 
-pub like-passed : (front : SectionFront) (bytes : List ℕ) (n : ℕ) → n ≡ length bytes → 3 ≤ length front.section.items → is_read front.section.items ≡ false → IsLike (front_bytes (record { section = front.section; passed = front.passed + n })) (front_bytes front ++ bytes)
+pub like-passed : (front : SectionFront) (bytes : List ℕ) (n : ℕ) → n ≡ length bytes → 3 ≤ length front.section.items
+    → is_read front.section.items ≡ false → IsLike (front_bytes (record { section = front.section; passed = front.passed + n }))
+    (front_bytes front ++ bytes)
 like-passed front bytes n is header passed =
     let items : List ℕ = front.section.items in
     let now : List ℕ = replicate (front.passed + n) 0 in
     let before : List ℕ = replicate front.passed 0 in
     let joined : (items ++ before) ++ bytes ≡ items ++ (before ++ bytes) = append_assoc items before bytes in
     record {
-      size = omega (arith, is, length-append items now, length-append (items ++ before) bytes, length-append items before, length-replicate {A = ℕ} (front.passed + n) 0, length-replicate {A = ℕ} front.passed 0);
+      size = omega (
+        arith,
+        is,
+        length-append items now,
+        length-append (items ++ before) bytes,
+        length-append items before,
+        length-replicate {A = ℕ} (front.passed + n) 0,
+        length-replicate {A = ℕ} front.passed 0,
+      );
       header = take-append-le 3 items now header ∙ sym (take-append-le 3 items (before ++ bytes) header) ∙ ap (λ (bs : List ℕ). take 3 bs) (sym joined);
       read = λ other. absurd (true-false (sym other ∙ ap is_read joined ∙ is_read-append items (before ++ bytes) header ∙ passed));
     }

@@ -1,5 +1,40 @@
 -- A long division leaves the remainder of Annex A.
-use Rattle.std.proofs.Common.{◌≡◌, ℕ, zero, suc, ◌+◌, ◌-◌, ◌*◌, ◌%◌, ◌^◌, ◌<◌, ◌≤◌, Bool, true, false, cond, List, [], ◌∷◌, ◌++◌, map, take, drop, replicate, refl, sym, ap, ap₂, ◌∙◌, subst, append_assoc, arith, ⊎_elim, lit<, zero-add}
+use Rattle.std.proofs.Common.{
+  ◌≡◌,
+  ℕ,
+  zero,
+  suc,
+  ◌+◌,
+  ◌-◌,
+  ◌*◌,
+  ◌%◌,
+  ◌^◌,
+  ◌<◌,
+  ◌≤◌,
+  Bool,
+  true,
+  false,
+  cond,
+  List,
+  [],
+  ◌∷◌,
+  ◌++◌,
+  map,
+  take,
+  drop,
+  replicate,
+  refl,
+  sym,
+  ap,
+  ap₂,
+  ◌∙◌,
+  subst,
+  append_assoc,
+  arith,
+  ⊎_elim,
+  lit<,
+  zero-add,
+}
 use Rattle.std.specs.Int.Bits.{bit_xor}
 use Rattle.std.proofs.lemmas.Bool.{cases_lt, lt-ltb, le-ltb}
 use Rattle.std.proofs.lemmas.Nat.{xor_block, xor_comm, xor_lt}
@@ -47,7 +82,8 @@ step-dividend front r bit low is =
 -- the polynomial takes the leading term away
 reduced-below : (y : ℕ) → 2 ^ 32 ≤ y → y < 2 ^ 33 → bit_xor y crc_polynomial < 2 ^ 32
 reduced-below y high low =
-    let split : bit_xor (1 * 2 ^ 32 + (y - 2 ^ 32)) (1 * 2 ^ 32 + 0x04C11DB7) ≡ bit_xor 1 1 * 2 ^ 32 + bit_xor (y - 2 ^ 32) 0x04C11DB7 = xor_block 32 1 1 (y - 2 ^ 32) 0x04C11DB7 (omega (arith, high, low)) (lit< tt) in
+    let split : bit_xor (1 * 2 ^ 32 + (y - 2 ^ 32)) (1 * 2 ^ 32 + 0x04C11DB7)
+    ≡ bit_xor 1 1 * 2 ^ 32 + bit_xor (y - 2 ^ 32) 0x04C11DB7 = xor_block 32 1 1 (y - 2 ^ 32) 0x04C11DB7 (omega (arith, high, low)) (lit< tt) in
     let is : 1 * 2 ^ 32 + (y - 2 ^ 32) ≡ y = omega (arith, high) in
     let below : bit_xor (y - 2 ^ 32) 0x04C11DB7 < 2 ^ 32 = xor_lt 32 (y - 2 ^ 32) 0x04C11DB7 (omega (arith, high, low)) (lit< tt) in
     let same : bit_xor y crc_polynomial ≡ bit_xor (y - 2 ^ 32) 0x04C11DB7 = ap (λ (n : ℕ). bit_xor n crc_polynomial) (sym is) ∙ split ∙ zero-add (bit_xor (y - 2 ^ 32) 0x04C11DB7) in
@@ -65,7 +101,8 @@ divided-step front r bit low is =
     (λ great.
     let goes : brought_down r bit ≡ bit_xor (2 * r + bit) crc_polynomial = ap (λ (fits : Bool). cond fits (2 * r + bit) (bit_xor (2 * r + bit) crc_polynomial)) (le-ltb (2 * r + bit) (2 ^ 32) great) in
     let more : bit_xor (multiple (is.quotient ++ true ∷ [])) (bit_xor (2 * r + bit) crc_polynomial) ≡ bit_xor (multiple is.quotient * 2 ^ 1) (2 * r + bit) =
-    ap₂ bit_xor (multiple-append is.quotient (true ∷ []) ∙ xor_comm (multiple is.quotient * 2 ^ 1) crc_polynomial) (xor_comm (2 * r + bit) crc_polynomial) ∙ xor_shared crc_polynomial (multiple is.quotient * 2 ^ 1) (2 * r + bit) in
+    ap₂ bit_xor (multiple-append is.quotient (true ∷ []) ∙ xor_comm (multiple is.quotient * 2 ^ 1) crc_polynomial)
+    (xor_comm (2 * r + bit) crc_polynomial) ∙ xor_shared crc_polynomial (multiple is.quotient * 2 ^ 1) (2 * r + bit) in
     let remainder : IsRemainder (bit_xor (2 * r + bit) crc_polynomial) (front ++ bit ∷ []) =
     record { quotient = is.quotient ++ true ∷ []; below = reduced-below (2 * r + bit) great (omega (arith, is.below, low)); dividend = dividend ∙ sym more } in
     subst (λ (n : ℕ). IsRemainder n (front ++ bit ∷ [])) (sym goes) remainder)

@@ -1,5 +1,36 @@
 -- What the definitions of the CRC say together.
-use Rattle.std.proofs.Common.{◌≡◌, inl, inr, ℕ, ◌+◌, ◌-◌, ◌*◌, ◌/◌, ◌%◌, ◌^◌, ◌<◌, ◌≤◌, ◌↔◌, Bool, false, List, [], ◌∷◌, ◌++◌, length, replicate, refl, sym, ap, ap₂, ◌∙◌, arith, lit<, length-append, subst}
+use Rattle.std.proofs.Common.{
+  ◌≡◌,
+  inl,
+  inr,
+  ℕ,
+  ◌+◌,
+  ◌-◌,
+  ◌*◌,
+  ◌/◌,
+  ◌%◌,
+  ◌^◌,
+  ◌<◌,
+  ◌≤◌,
+  ◌↔◌,
+  Bool,
+  false,
+  List,
+  [],
+  ◌∷◌,
+  ◌++◌,
+  length,
+  replicate,
+  refl,
+  sym,
+  ap,
+  ap₂,
+  ◌∙◌,
+  arith,
+  lit<,
+  length-append,
+  subst,
+}
 use Rattle.std.specs.Int.{w32, to_be_bytes}
 use Rattle.std.specs.Int.Bits.{bit_xor, xor_shifted, xor_zero_r}
 use Rattle.std.proofs.Math.Nat.{mul_assoc}
@@ -82,7 +113,8 @@ with_crc_is_right front bytes is =
     let size : length bytes ≡ length front + 4 = omega (arith, ap length is.joined, length-append front (to_be_bytes w32 crc)) in
     let place : 8 * length bytes - 32 ≡ 8 * length front = omega (arith, size) in
     let number : value bytes ≡ bit_xor (value front * 2 ^ 32) crc =
-    ap value is.joined ∙ value-append front (to_be_bytes w32 crc) ∙ ap (λ (x : ℕ). value front * 2 ^ 32 + x) (value-four crc is.crc_is.below) ∙ sym (xor_shifted (value front) 32 crc is.crc_is.below) in
+    ap value is.joined ∙ value-append front (to_be_bytes w32 crc) ∙ ap (λ (x : ℕ). value front * 2 ^ 32 + x) (value-four crc is.crc_is.below)
+    ∙ sym (xor_shifted (value front) 32 crc is.crc_is.below) in
     let exact : whole_dividend bytes ≡ multiple q =
     whole_dividend-is bytes (omega (arith, size))
     ∙ ap₂ (λ (x k : ℕ). bit_xor x (0xFFFFFFFF * 2 ^ k)) number place

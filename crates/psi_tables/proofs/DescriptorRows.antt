@@ -71,7 +71,8 @@ pub record HasRead (bytes rest kept : List ℕ) (dropped : ℕ) : Type 0 where
 pub read_none : (bytes : List ℕ) → HasRead bytes bytes [] 0
 read_none bytes = record { done = []; under_way = under_way_none IsDescriptor bytes; kept_is = refl; dropped_is = refl; room = omega arith; few = omega arith }
 
-pub read_kept : (bytes rest kept more : List ℕ) (dropped : ℕ) (front behind : List ℕ) → HasRead bytes rest kept dropped → rest ≡ front ++ behind → IsDescriptor front front → is_kept front ≡ true → more ≡ kept ++ front → length kept + length front ≤ 183 → HasRead bytes behind more dropped
+pub read_kept : (bytes rest kept more : List ℕ) (dropped : ℕ) (front behind : List ℕ) → HasRead bytes rest kept dropped → rest ≡ front ++ behind
+    → IsDescriptor front front → is_kept front ≡ true → more ≡ kept ++ front → length kept + length front ≤ 183 → HasRead bytes behind more dropped
 read_kept bytes rest kept more dropped front behind read split is keeps more_is room = record {
   done = read.done ++ front ∷ [];
   under_way = under_way_more IsDescriptor bytes rest read.done front front behind read.under_way split is;
@@ -81,7 +82,8 @@ read_kept bytes rest kept more dropped front behind read split is keeps more_is 
   few = omega (arith, read.few, ap length split, length-append front behind);
 }
 
-pub read_dropped : (bytes rest kept : List ℕ) (dropped : ℕ) (front behind : List ℕ) → HasRead bytes rest kept dropped → rest ≡ front ++ behind → IsDescriptor front front → is_kept front ≡ false → HasRead bytes behind kept (dropped + 1)
+pub read_dropped : (bytes rest kept : List ℕ) (dropped : ℕ) (front behind : List ℕ) → HasRead bytes rest kept dropped → rest ≡ front ++ behind
+    → IsDescriptor front front → is_kept front ≡ false → HasRead bytes behind kept (dropped + 1)
 read_dropped bytes rest kept dropped front behind read split is drops = record {
   done = read.done ++ front ∷ [];
   under_way = under_way_more IsDescriptor bytes rest read.done front front behind read.under_way split is;
@@ -92,10 +94,13 @@ read_dropped bytes rest kept dropped front behind read split is drops = record {
 }
 
 -- the rest of a row begins with a descriptor, where there is a rest
-pub next_descriptor : (bytes rest : List ℕ) (done xs : List (List ℕ)) → IsUnderWay IsDescriptor bytes rest done → IsItemRow IsDescriptor xs bytes → 0 < length rest → (front : List ℕ) × (behind : List ℕ) × (rest ≡ front ++ behind) × IsDescriptor front front × (ys : List (List ℕ)) × (xs ≡ done ++ front ∷ ys)
+pub next_descriptor : (bytes rest : List ℕ) (done xs : List (List ℕ)) → IsUnderWay IsDescriptor bytes rest done → IsItemRow IsDescriptor xs bytes
+    → 0 < length rest → (front : List ℕ) × (behind : List ℕ) × (rest ≡ front ++ behind) × IsDescriptor front front × (ys : List (List ℕ))
+    × (xs ≡ done ++ front ∷ ys)
 next_descriptor bytes rest done xs is row more = by_rest (under_way_rest IsDescriptor descriptors_told bytes rest done xs is row)
   where
-    by_rest : (ys : List (List ℕ)) × (xs ≡ done ++ ys) × IsItemRow IsDescriptor ys rest → (front : List ℕ) × (behind : List ℕ) × (rest ≡ front ++ behind) × IsDescriptor front front × (ys : List (List ℕ)) × (xs ≡ done ++ front ∷ ys)
+    by_rest : (ys : List (List ℕ)) × (xs ≡ done ++ ys) × IsItemRow IsDescriptor ys rest → (front : List ℕ) × (behind : List ℕ)
+        × (rest ≡ front ++ behind) × IsDescriptor front front × (ys : List (List ℕ)) × (xs ≡ done ++ front ∷ ys)
     by_rest ([], same, none) = absurd (omega (arith, more, ap length none))
     by_rest (y ∷ ys, same, found) =
         let y_is : y ≡ found.0 = found.3.bytes_are in

@@ -57,4 +57,20 @@ program_info_length-is bytes = omega (arith, bits-add bytes 20 4 8, bits-byte by
 -- ---- masks of the code
 
 -- what the code looks at, and what it finds
-pub ruleset elements = (table_id-is, section_length-is, table_id_extension-is, current_next_indicator-is, program_number-is, program_map_PID-is, descriptor_tag-is, descriptor_length-is, elementary_PID-is, ES_info_length-is, PCR_PID-is, program_info_length-is, and_1, and_15, and_31)
+pub ruleset elements = (
+  table_id-is,
+  section_length-is,
+  table_id_extension-is,
+  current_next_indicator-is,
+  program_number-is,
+  program_map_PID-is,
+  descriptor_tag-is,
+  descriptor_length-is,
+  elementary_PID-is,
+  ES_info_length-is,
+  PCR_PID-is,
+  program_info_length-is,
+  and_1,
+  and_15,
+  and_31,
+)

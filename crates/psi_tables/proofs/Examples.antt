@@ -65,7 +65,10 @@ abbrev pmt_map : ProgramMap
 pmt_map = record {
   number = 1;
   pcr_pid = 0x101;
-  streams = record { items = record { kind = 2; pid = 0x101; descriptors = record { items = [] } } ∷ record { kind = 3; pid = 0x102; descriptors = record { items = 0x0A ∷ 0x04 ∷ 0x65 ∷ 0x6E ∷ 0x67 ∷ 0x00 ∷ [] } } ∷ [] };
+  streams = record {
+    items = record { kind = 2; pid = 0x101; descriptors = record { items = [] } }
+        ∷ record { kind = 3; pid = 0x102; descriptors = record { items = 0x0A ∷ 0x04 ∷ 0x65 ∷ 0x6E ∷ 0x67 ∷ 0x00 ∷ [] } } ∷ [];
+  };
   dropped = 0;
 }
 

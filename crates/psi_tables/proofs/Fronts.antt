@@ -1,5 +1,38 @@
 -- What is found from bytes, by what is known of the section at their head.
-use Rattle.std.proofs.Common.{◌≡◌, ℕ, zero, suc, ◌+◌, ◌-◌, ◌<◌, ◌≤◌, ◌≢◌, Bool, true, false, cond, eqb, List, [], ◌∷◌, ◌++◌, length, take, Err, refl, sym, ap, ◌∙◌, append_assoc, arith, length-append, ◌⊎◌, inl, inr, ⊎_elim}
+use Rattle.std.proofs.Common.{
+  ◌≡◌,
+  ℕ,
+  zero,
+  suc,
+  ◌+◌,
+  ◌-◌,
+  ◌<◌,
+  ◌≤◌,
+  ◌≢◌,
+  Bool,
+  true,
+  false,
+  cond,
+  eqb,
+  List,
+  [],
+  ◌∷◌,
+  ◌++◌,
+  length,
+  take,
+  Err,
+  refl,
+  sym,
+  ap,
+  ◌∙◌,
+  append_assoc,
+  arith,
+  length-append,
+  ◌⊎◌,
+  inl,
+  inr,
+  ⊎_elim,
+}
 use Rattle.std.specs.Prelude.{nat_lt, nat_le, not, ◌&&◌, ◌||◌}
 use Rattle.std.proofs.lemmas.List.{append-nil, take-append-le, take_all}
 use Rattle.std.proofs.lemmas.Bool.{cases_lt, ne_eqb, leb-true, leb-false, ltb-false, lt-ltb, le-ltb, le-leb}
@@ -16,7 +49,9 @@ use Rattle.psi_tables.proofs.Headers.{table_id-append, section_length-append, ta
 abbrev pick : Bool → Bool → Bool → Bool → List Found → List Found
 pick short read bad more whole = cond (short || not read) [] (cond bad (Err BadSection ∷ []) (cond more [] whole))
 
-pick-same : (short other_short read bad more other_more : Bool) (whole other_whole : List Found) → short ≡ false → other_short ≡ false → (read ≡ true → bad ≡ false → (more ≡ other_more) × (whole ≡ other_whole)) → pick short read bad more whole ≡ pick other_short read bad other_more other_whole
+pick-same : (short other_short read bad more other_more : Bool) (whole other_whole : List Found) → short ≡ false → other_short ≡ false
+    → (read ≡ true → bad ≡ false → (more ≡ other_more) × (whole ≡ other_whole))
+    → pick short read bad more whole ≡ pick other_short read bad other_more other_whole
 pick-same true other_short read bad more other_more whole other_whole a b h = cc
 pick-same false true read bad more other_more whole other_whole a b h = cc
 pick-same false false false bad more other_more whole other_whole a b h = refl
@@ -104,9 +139,13 @@ found_at-append a x settled =
     let longer : 3 ≤ length (a ++ x) = omega (arith, length-append a x) in
     let whole : is_read a ≡ true → has_bad_length a ≡ false → section_size a ≤ length a = λ read good.
     settled-size a settled (ap (λ (r : Bool). r && has_bad_length a) read ∙ good) in
-    let tests : is_read a ≡ true → has_bad_length a ≡ false → (nat_lt (length (a ++ x)) (section_size a) ≡ nat_lt (length a) (section_size a)) × (checked (take (section_size a) (a ++ x)) ∷ [] ≡ checked (take (section_size a) a) ∷ []) = λ read good.
-    let fits : section_size a ≤ length a = whole read good in
-    (le-ltb (length (a ++ x)) (section_size a) (omega (arith, length-append a x)) ∙ sym (le-ltb (length a) (section_size a) fits), ap (λ (s : List ℕ). checked s ∷ []) (take-append-le (section_size a) a x fits)) in
+    let tests : is_read a ≡ true → has_bad_length a ≡ false → (nat_lt (length (a ++ x)) (section_size a) ≡ nat_lt (length a) (section_size a))
+    × (checked (take (section_size a) (a ++ x)) ∷ [] ≡ checked (take (section_size a) a) ∷ []) = λ read good.
+    let fits : section_size a ≤ length a = whole read good in (
+      le-ltb (length (a ++ x)) (section_size a) (omega (arith, length-append a x))
+          ∙ sym (le-ltb (length a) (section_size a) fits),
+      ap (λ (s : List ℕ). checked s ∷ []) (take-append-le (section_size a) a x fits),
+    ) in
     let renamed : found_at (a ++ x) ≡ pick (nat_lt (length (a ++ x)) 3) (is_read a) (has_bad_length a) (nat_lt (length (a ++ x)) (section_size a)) (checked (take (section_size a) (a ++ x)) ∷ []) =
     rw (table_id-append a x header, section_length-append a x header) refl in
     renamed ∙ pick-same (nat_lt (length (a ++ x)) 3) (nat_lt (length a) 3) (is_read a) (has_bad_length a) _ _ _ _ (le-ltb (length (a ++ x)) 3 longer) (le-ltb (length a) 3 header) tests
@@ -136,25 +175,32 @@ pub found_from-one : (byte : ℕ) (us next : List ℕ) → byte ≢ 255 → leng
 found_from-one byte us next no_stuffing within =
     let n : ℕ = section_size (byte ∷ us ++ next) - 1 in
     let none : found_from n us next ≡ [] = found_from-none n us next (omega (arith, within-append (byte ∷ us) next within)) in
-    ap (λ (stuffing : Bool). cond stuffing [] (found_at (byte ∷ us ++ next) ++ found_from n us next)) (ne_eqb byte 255 no_stuffing) ∙ ap (λ (found : List Found). found_at (byte ∷ us ++ next) ++ found) none ∙ append-nil (found_at (byte ∷ us ++ next))
+    ap (λ (stuffing : Bool). cond stuffing [] (found_at (byte ∷ us ++ next) ++ found_from n us next)) (ne_eqb byte 255 no_stuffing)
+    ∙ ap (λ (found : List Found). found_at (byte ∷ us ++ next) ++ found) none ∙ append-nil (found_at (byte ∷ us ++ next))
 
 -- a whole section and the bytes behind it
-pub found_from-whole : (byte : ℕ) (us behind next : List ℕ) → byte ≢ 255 → is_settled (byte ∷ us) ≡ true → length (byte ∷ us) ≡ section_size (byte ∷ us) → found_from 0 (byte ∷ us ++ behind) next ≡ found_at (byte ∷ us) ++ found_from 0 behind next
+pub found_from-whole : (byte : ℕ) (us behind next : List ℕ) → byte ≢ 255 → is_settled (byte ∷ us) ≡ true
+    → length (byte ∷ us) ≡ section_size (byte ∷ us) → found_from 0 (byte ∷ us ++ behind) next ≡ found_at (byte ∷ us) ++ found_from 0 behind next
 found_from-whole byte us behind next no_stuffing settled whole =
     let joined : byte ∷ us ++ behind ++ next ≡ byte ∷ us ++ (behind ++ next) = append_assoc (byte ∷ us) behind next in
     let n : ℕ = section_size (byte ∷ us ++ behind ++ next) - 1 in
-    let same_size : section_size (byte ∷ us ++ behind ++ next) ≡ section_size (byte ∷ us) = ap section_size joined ∙ section_size-append (byte ∷ us) (behind ++ next) (settled-header (byte ∷ us) settled) in
+    let same_size : section_size (byte ∷ us ++ behind ++ next) ≡ section_size (byte ∷ us) = ap section_size joined
+    ∙ section_size-append (byte ∷ us) (behind ++ next) (settled-header (byte ∷ us) settled) in
     let first : found_at (byte ∷ us ++ behind ++ next) ≡ found_at (byte ∷ us) = ap found_at joined ∙ found_at-append (byte ∷ us) (behind ++ next) settled in
     let others : found_from n (us ++ behind) next ≡ found_from 0 behind next = found_from-behind n 0 us behind next (omega (arith, same_size, whole)) in
-    ap (λ (stuffing : Bool). cond stuffing [] (found_at (byte ∷ us ++ behind ++ next) ++ found_from n (us ++ behind) next)) (ne_eqb byte 255 no_stuffing) ∙ ap (λ (found : List Found). found ++ found_from n (us ++ behind) next) first ∙ ap (λ (found : List Found). found_at (byte ∷ us) ++ found) others
+    ap (λ (stuffing : Bool). cond stuffing [] (found_at (byte ∷ us ++ behind ++ next) ++ found_from n (us ++ behind) next))
+    (ne_eqb byte 255 no_stuffing) ∙ ap (λ (found : List Found). found ++ found_from n (us ++ behind) next) first
+    ∙ ap (λ (found : List Found). found_at (byte ∷ us) ++ found) others
 
 -- an error at the head ends it
-pub found_from-error : (byte : ℕ) (us behind next : List ℕ) (fault : SectionFault) → byte ≢ 255 → is_settled (byte ∷ us) ≡ true → found_at (byte ∷ us) ≡ Err fault ∷ [] → until_error (found_from 0 (byte ∷ us ++ behind) next) ≡ Err fault ∷ []
+pub found_from-error : (byte : ℕ) (us behind next : List ℕ) (fault : SectionFault) → byte ≢ 255 → is_settled (byte ∷ us) ≡ true
+    → found_at (byte ∷ us) ≡ Err fault ∷ [] → until_error (found_from 0 (byte ∷ us ++ behind) next) ≡ Err fault ∷ []
 found_from-error byte us behind next fault no_stuffing settled error =
     let joined : byte ∷ us ++ behind ++ next ≡ byte ∷ us ++ (behind ++ next) = append_assoc (byte ∷ us) behind next in
     let n : ℕ = section_size (byte ∷ us ++ behind ++ next) - 1 in
     let first : found_at (byte ∷ us ++ behind ++ next) ≡ Err fault ∷ [] = ap found_at joined ∙ found_at-append (byte ∷ us) (behind ++ next) settled ∙ error in
-    ap (λ (stuffing : Bool). until_error (cond stuffing [] (found_at (byte ∷ us ++ behind ++ next) ++ found_from n (us ++ behind) next))) (ne_eqb byte 255 no_stuffing) ∙ ap (λ (found : List Found). until_error (found ++ found_from n (us ++ behind) next)) first
+    ap (λ (stuffing : Bool). until_error (cond stuffing [] (found_at (byte ∷ us ++ behind ++ next) ++ found_from n (us ++ behind) next)))
+    (ne_eqb byte 255 no_stuffing) ∙ ap (λ (found : List Found). until_error (found ++ found_from n (us ++ behind) next)) first
 
 -- ---- the same section
 
@@ -177,7 +223,8 @@ section_size-like a b like = ap (λ (n : ℕ). 3 + n) (section_length-same a b l
 like-cases : (a b : List ℕ) → IsLike a b → (a ≡ b) ⊎ ((3 ≤ length b) × (is_read b ≡ false))
 like-cases a b like =
     ⊎_elim (λ short. inl (like-short a b like short))
-    (λ header. elim (is_read b) as (λ (read : Bool). is_read b ≡ read → (a ≡ b) ⊎ ((3 ≤ length b) × (is_read b ≡ false))) [ true ↦ λ read. inl (like.read read) | false ↦ λ passed. inr (header, passed) ] refl) (cases_lt (length b) 3)
+    (λ header. elim (is_read b) as (λ (read : Bool). is_read b ≡ read → (a ≡ b) ⊎ ((3 ≤ length b) × (is_read b ≡ false)))
+    [ true ↦ λ read. inl (like.read read) | false ↦ λ passed. inr (header, passed) ] refl) (cases_lt (length b) 3)
 
 pub found_at-like : (a b x : List ℕ) → IsLike a b → found_at (a ++ x) ≡ found_at (b ++ x)
 found_at-like a b x like =
@@ -187,7 +234,9 @@ found_at-like a b x like =
     (like-cases a b like)
 
 -- bytes of a section that is passed over, and those behind
-found_from-other : (byte : ℕ) (us behind next : List ℕ) → 3 ≤ length (byte ∷ us) → is_read (byte ∷ us) ≡ false → length (byte ∷ us) ≤ section_size (byte ∷ us) → found_from 0 (byte ∷ us ++ behind) next ≡ cond (eqb byte 255) [] (found_from (section_size (byte ∷ us) - length (byte ∷ us)) behind next)
+found_from-other : (byte : ℕ) (us behind next : List ℕ) → 3 ≤ length (byte ∷ us) → is_read (byte ∷ us) ≡ false
+    → length (byte ∷ us) ≤ section_size (byte ∷ us) → found_from 0 (byte ∷ us ++ behind) next
+    ≡ cond (eqb byte 255) [] (found_from (section_size (byte ∷ us) - length (byte ∷ us)) behind next)
 found_from-other byte us behind next header passed within =
     let joined : byte ∷ us ++ behind ++ next ≡ byte ∷ us ++ (behind ++ next) = append_assoc (byte ∷ us) behind next in
     let n : ℕ = section_size (byte ∷ us ++ behind ++ next) - 1 in
@@ -196,13 +245,18 @@ found_from-other byte us behind next header passed within =
     let others : found_from n (us ++ behind) next ≡ found_from (section_size (byte ∷ us) - length (byte ∷ us)) behind next = found_from-behind n _ us behind next (omega (arith, same_size, within)) in
     ap (λ (found : List Found). cond (eqb byte 255) [] (found ++ found_from n (us ++ behind) next)) first ∙ ap (λ (found : List Found). cond (eqb byte 255) [] found) others
 
-both-other : (byte : ℕ) (us : List ℕ) (other : ℕ) (vs behind next : List ℕ) → IsLike (byte ∷ us) (other ∷ vs) → 3 ≤ length (other ∷ vs) → is_read (other ∷ vs) ≡ false → length (other ∷ vs) ≤ section_size (other ∷ vs) → found_from 0 (byte ∷ us ++ behind) next ≡ found_from 0 (other ∷ vs ++ behind) next
+both-other : (byte : ℕ) (us : List ℕ) (other : ℕ) (vs behind next : List ℕ) → IsLike (byte ∷ us) (other ∷ vs) → 3 ≤ length (other ∷ vs)
+    → is_read (other ∷ vs) ≡ false → length (other ∷ vs) ≤ section_size (other ∷ vs)
+    → found_from 0 (byte ∷ us ++ behind) next ≡ found_from 0 (other ∷ vs ++ behind) next
 both-other byte us other vs behind next like header passed within =
     let head : byte ≡ other = cc (like.header) in
     let size : section_size (byte ∷ us) ≡ section_size (other ∷ vs) = section_size-like (byte ∷ us) (other ∷ vs) like in
-    let left : found_from 0 (byte ∷ us ++ behind) next ≡ cond (eqb byte 255) [] (found_from (section_size (byte ∷ us) - length (byte ∷ us)) behind next) = found_from-other byte us behind next (omega (arith, like.size, header)) (is_read-like (byte ∷ us) (other ∷ vs) like ∙ passed) (omega (arith, like.size, size, within)) in
+    let left : found_from 0 (byte ∷ us ++ behind) next ≡ cond (eqb byte 255) []
+    (found_from (section_size (byte ∷ us) - length (byte ∷ us)) behind next) = found_from-other byte us behind next
+    (omega (arith, like.size, header)) (is_read-like (byte ∷ us) (other ∷ vs) like ∙ passed) (omega (arith, like.size, size, within)) in
     let m : section_size (byte ∷ us) - length (byte ∷ us) ≡ section_size (other ∷ vs) - length (other ∷ vs) = omega (arith, like.size, size) in
-    left ∙ ap (λ (id : ℕ). cond (eqb id 255) [] (found_from (section_size (byte ∷ us) - length (byte ∷ us)) behind next)) head ∙ ap (λ (k : ℕ). cond (eqb other 255) [] (found_from k behind next)) m ∙ sym (found_from-other other vs behind next header passed within)
+    left ∙ ap (λ (id : ℕ). cond (eqb id 255) [] (found_from (section_size (byte ∷ us) - length (byte ∷ us)) behind next)) head
+    ∙ ap (λ (k : ℕ). cond (eqb other 255) [] (found_from k behind next)) m ∙ sym (found_from-other other vs behind next header passed within)
 
 pub found_from-like : (a b behind next : List ℕ) → IsLike a b → length b ≤ section_size b → found_from 0 (a ++ behind) next ≡ found_from 0 (b ++ behind) next
 found_from-like a b behind next like within =
@@ -237,7 +291,9 @@ found_at-bad a settled bad =
 pub found_at-whole : (a : List ℕ) → is_settled a ≡ true → is_bad a ≡ false → is_read a ≡ true → length a ≤ section_size a → found_at a ≡ checked a ∷ []
 found_at-whole a settled good read within =
     let whole : take (section_size a) a ≡ a = take_all (section_size a) a within in
-    by_tests (nat_lt (length a) 3) (is_read a) (has_bad_length a) (nat_lt (length a) (section_size a)) (checked (take (section_size a) a) ∷ []) (le-ltb (length a) 3 (settled-header a settled)) read (bad-length (is_read a) (has_bad_length a) good read) (le-ltb (length a) (section_size a) (settled-size a settled good)) ∙ ap (λ (section : List ℕ). checked section ∷ []) whole
+    by_tests (nat_lt (length a) 3) (is_read a) (has_bad_length a) (nat_lt (length a) (section_size a)) (checked (take (section_size a) a) ∷ [])
+    (le-ltb (length a) 3 (settled-header a settled)) read (bad-length (is_read a) (has_bad_length a) good read)
+    (le-ltb (length a) (section_size a) (settled-size a settled good)) ∙ ap (λ (section : List ℕ). checked section ∷ []) whole
   where
     by_tests : (short read bad more : Bool) (all : List Found) → short ≡ false → read ≡ true → bad ≡ false → more ≡ false → pick short read bad more all ≡ all
     by_tests short read bad more all header is_read good there = rw (header, is_read, good, there) refl

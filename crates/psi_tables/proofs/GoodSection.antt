@@ -1,5 +1,38 @@
 -- Bytes that are one section with a right length and a right CRC.
-use Rattle.std.proofs.Common.{◌≡◌, ◌≢◌, ℕ, ◌<◌, ◌≤◌, ◌==◌, nat_lt, nat_le, Bool, true, false, not, cond, ◌||◌, List, [], ◌∷◌, ◌++◌, length, take, replicate, map, Ok, Err, refl, ap, ◌∙◌, arith, length-take, length-append, inl, inr}
+use Rattle.std.proofs.Common.{
+  ◌≡◌,
+  ◌≢◌,
+  ℕ,
+  ◌<◌,
+  ◌≤◌,
+  ◌==◌,
+  nat_lt,
+  nat_le,
+  Bool,
+  true,
+  false,
+  not,
+  cond,
+  ◌||◌,
+  List,
+  [],
+  ◌∷◌,
+  ◌++◌,
+  length,
+  take,
+  replicate,
+  map,
+  Ok,
+  Err,
+  refl,
+  ap,
+  ◌∙◌,
+  arith,
+  length-take,
+  length-append,
+  inl,
+  inr,
+}
 use Rattle.std.specs.Prelude.{slice_index}
 use Rattle.std.specs.List.{concat}
 use Rattle.std.proofs.Math.ListN.{get_or-append}
@@ -21,7 +54,9 @@ record IsGood (s : List ℕ) : Type 0 where
   pub sound : has_bad_length s ≡ false
   pub whole : section_size s ≡ length s
 
-found_whole : (unread bad short : Bool) (found : Found) (s : List ℕ) → cond unread [] (cond bad (Err BadSection ∷ []) (cond short [] (found ∷ []))) ≡ Ok s ∷ [] → (unread ≡ false) × ((bad ≡ false) × ((short ≡ false) × (found ≡ Ok s)))
+found_whole : (unread bad short : Bool) (found : Found) (s : List ℕ)
+    → cond unread [] (cond bad (Err BadSection ∷ []) (cond short [] (found ∷ []))) ≡ Ok s ∷ [] → (unread ≡ false)
+    × ((bad ≡ false) × ((short ≡ false) × (found ≡ Ok s)))
 found_whole true bad short found s is = absurd (cc)
 found_whole false true short found s is = absurd (cc)
 found_whole false false true found s is = absurd (cc)
@@ -51,7 +86,8 @@ no_stuffing s read stuffed = elim (or_cases (table_id s == 0) (table_id s == 2) 
 ]
 
 settled : (s : List ℕ) → IsGood s → is_settled s ≡ true
-settled s is = and_from (nat_le length_end (length s)) (is_bad s || nat_le (section_size s) (length s)) (le-leb length_end (length s) is.long) (or_right (is_bad s) (nat_le (section_size s) (length s)) (le-leb (section_size s) (length s) (omega (arith, is.whole))))
+settled s is = and_from (nat_le length_end (length s)) (is_bad s || nat_le (section_size s) (length s)) (le-leb length_end (length s) is.long)
+    (or_right (is_bad s) (nat_le (section_size s) (length s)) (le-leb (section_size s) (length s) (omega (arith, is.whole))))
 
 front_of : (s first rest : List ℕ) → s ≡ first ++ rest → 0 < length first → IsGood s → IsFront first
 front_of s first rest cut some is = record {
@@ -70,16 +106,19 @@ alone s n later found =
     let front : IsFront s = record { no_stuffing = no_stuffing s is.read; within = omega (arith, is.whole) } in
     by_bytes s is.long (section-alone s n front (settled s is) bad found later)
   where
-    by_bytes : (bytes : List ℕ) → 3 ≤ length bytes → sections_of (payloads_of (bytes ++ replicate n 0xFF) ++ later) ≡ Ok s ∷ sections_of later → sections_of (record { start = true; bytes = 0 ∷ (bytes ++ replicate n 0xFF) } ∷ later) ≡ Ok s ∷ sections_of later
+    by_bytes : (bytes : List ℕ) → 3 ≤ length bytes → sections_of (payloads_of (bytes ++ replicate n 0xFF) ++ later) ≡ Ok s ∷ sections_of later
+        → sections_of (record { start = true; bytes = 0 ∷ (bytes ++ replicate n 0xFF) } ∷ later) ≡ Ok s ∷ sections_of later
     by_bytes [] long same = absurd (omega arith)
     by_bytes (byte ∷ bytes) long same = same
 
 -- a section in pieces over several payloads
-pub in_pieces : (s first : List ℕ) (pieces : List (List ℕ)) (later : List Payload) → s ≡ first ++ concat pieces → 0 < length first → found_at s ≡ Ok s ∷ [] → sections_of (record { start = true; bytes = 0 ∷ first } ∷ (map going pieces ++ later)) ≡ Ok s ∷ sections_of later
+pub in_pieces : (s first : List ℕ) (pieces : List (List ℕ)) (later : List Payload) → s ≡ first ++ concat pieces → 0 < length first
+    → found_at s ≡ Ok s ∷ [] → sections_of (record { start = true; bytes = 0 ∷ first } ∷ (map going pieces ++ later)) ≡ Ok s ∷ sections_of later
 in_pieces s first pieces later cut some found =
     let is = good s found in
     by_bytes first some (section-in-pieces s first pieces cut some (front_of s first (concat pieces) cut some is) (settled s is) found later)
   where
-    by_bytes : (bytes : List ℕ) → 0 < length bytes → sections_of (payloads_of bytes ++ (map going pieces ++ later)) ≡ Ok s ∷ sections_of later → sections_of (record { start = true; bytes = 0 ∷ bytes } ∷ (map going pieces ++ later)) ≡ Ok s ∷ sections_of later
+    by_bytes : (bytes : List ℕ) → 0 < length bytes → sections_of (payloads_of bytes ++ (map going pieces ++ later)) ≡ Ok s ∷ sections_of later
+        → sections_of (record { start = true; bytes = 0 ∷ bytes } ∷ (map going pieces ++ later)) ≡ Ok s ∷ sections_of later
     by_bytes [] some same = absurd (omega arith)
     by_bytes (byte ∷ bytes) some same = same

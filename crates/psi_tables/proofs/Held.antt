@@ -33,9 +33,11 @@ found_in_all-alone held =
 -- ---- a builder that gives
 
 -- what is found from other bytes, and something without an error before it
-found_in_all-same : (v w : List ℕ) (g : List Found) → ((next : List ℕ) → found_from 0 v next ≡ g ++ found_from 0 w next) → (later : List Payload) → found_in_all (payloads_of v ++ later) ≡ g ++ found_in_all (payloads_of w ++ later)
+found_in_all-same : (v w : List ℕ) (g : List Found) → ((next : List ℕ) → found_from 0 v next ≡ g ++ found_from 0 w next) → (later : List Payload)
+    → found_in_all (payloads_of v ++ later) ≡ g ++ found_in_all (payloads_of w ++ later)
 found_in_all-same v w g same later =
-    found_in_all-held v later ∙ ap (λ (found : List Found). found ++ found_in_all later) (same (bytes_on later)) ∙ append_assoc g _ _ ∙ ap (λ (found : List Found). g ++ found) (sym (found_in_all-held w later))
+    found_in_all-held v later ∙ ap (λ (found : List Found). found ++ found_in_all later) (same (bytes_on later)) ∙ append_assoc g _ _
+    ∙ ap (λ (found : List Found). g ++ found) (sym (found_in_all-held w later))
 
 -- nothing is wrong with what was found before
 none-alone : (found g : List Found) → has_error g ≡ false → found ≡ g → has_error (until_error found) ≡ false
@@ -46,7 +48,8 @@ append-empty : (g found : List Found) → g ++ found ≡ [] → found ≡ []
 append-empty [] found is = is
 append-empty (f ∷ g) found is = cc
 
-pub held-same : (v w : List ℕ) (g : List Found) → has_error g ≡ false → ((next : List ℕ) → found_from 0 v next ≡ g ++ found_from 0 w next) → (later : List Payload) → sections_behind [] (payloads_of v ++ later) ≡ g ++ sections_behind [] (payloads_of w ++ later)
+pub held-same : (v w : List ℕ) (g : List Found) → has_error g ≡ false → ((next : List ℕ) → found_from 0 v next ≡ g ++ found_from 0 w next)
+    → (later : List Payload) → sections_behind [] (payloads_of v ++ later) ≡ g ++ sections_behind [] (payloads_of w ++ later)
 held-same [] [] g none same later = behind-same [] [] g none (found_in_all-same [] [] g same) later
 held-same [] (y ∷ w) g none same later =
     let all : [] ≡ g ++ found_from 0 (y ∷ w) [] = same [] in
@@ -58,7 +61,8 @@ held-same (x ∷ v) [] g none same later =
     behind-none [] (held_as x v) later (none-alone _ g none alone) ∙ behind-same (held_as x v ∷ []) [] g none (found_in_all-same (x ∷ v) [] g same) later
 held-same (x ∷ v) (y ∷ w) g none same later = next-same [] [] (held_as x v) (held_as y w) g none (found_in_all-same (x ∷ v) (y ∷ w) g same) later
 
-pub held-error : (v : List ℕ) (fault : SectionFault) → until_error (found_from 0 v []) ≡ Err fault ∷ [] → (later : List Payload) → sections_behind [] (payloads_of v ++ later) ≡ Err fault ∷ sections_behind [] later
+pub held-error : (v : List ℕ) (fault : SectionFault) → until_error (found_from 0 v []) ≡ Err fault ∷ [] → (later : List Payload)
+    → sections_behind [] (payloads_of v ++ later) ≡ Err fault ∷ sections_behind [] later
 held-error [] fault found later = cc
 held-error (x ∷ v) fault found later = behind-error [] (held_as x v) fault later (ap until_error (found_in_all-alone (x ∷ v)) ∙ found)
 
@@ -69,9 +73,12 @@ pub behind-held : (u : List ℕ) (later : List Payload) → found_from 0 u [] �
 behind-held [] later none = refl
 behind-held (x ∷ u) later none = behind-none [] (held_as x u) later (none-alone _ [] refl (found_in_all-alone (x ∷ u) ∙ none))
 
-fed-on : (u : List ℕ) (p : Payload) (v : List ℕ) → ((later : List Payload) → found_in_all (payloads_of u ++ p ∷ later) ≡ found_in_all (payloads_of v ++ later)) → (later : List Payload) → sections_behind (payloads_of u) (p ∷ later) ≡ sections_behind [] (payloads_of v ++ later)
+fed-on : (u : List ℕ) (p : Payload) (v : List ℕ) → ((later : List Payload)
+    → found_in_all (payloads_of u ++ p ∷ later) ≡ found_in_all (payloads_of v ++ later)) → (later : List Payload)
+    → sections_behind (payloads_of u) (p ∷ later) ≡ sections_behind [] (payloads_of v ++ later)
 fed-on u p [] all later =
-    let joined : (more : List Payload) → found_in_all ((payloads_of u ++ p ∷ []) ++ more) ≡ found_in_all more = λ (more : List Payload). ap found_in_all (append_assoc (payloads_of u) (p ∷ []) more) ∙ all more in
+    let joined : (more : List Payload) → found_in_all ((payloads_of u ++ p ∷ []) ++ more)
+    ≡ found_in_all more = λ (more : List Payload). ap found_in_all (append_assoc (payloads_of u) (p ∷ []) more) ∙ all more in
     behind-none (payloads_of u) p later (none-alone _ [] refl (all [])) ∙ behind-same (payloads_of u ++ p ∷ []) [] [] refl joined later
 fed-on u p (y ∷ v) all later = next-same (payloads_of u) [] p (held_as y v) [] refl all later
 
@@ -81,13 +88,19 @@ found_alone u none =
     ap (sections_behind []) (sym (append-nil (payloads_of u))) ∙ behind-held u [] none ∙ ap until_error (found_in_all-alone u ∙ none)
 
 -- a payload and the bytes held before it, by the bytes that are held behind it
-pub fed-same : (u : List ℕ) (p : Payload) (v : List ℕ) → found_from 0 u [] ≡ [] → ((later : List Payload) → found_from 0 u (bytes_on (p ∷ later)) ++ found_in p (bytes_on later) ≡ found_from 0 v (bytes_on later)) → (later : List Payload) → sections_behind [] (payloads_of u ++ p ∷ later) ≡ sections_behind [] (payloads_of v ++ later)
+pub fed-same : (u : List ℕ) (p : Payload) (v : List ℕ) → found_from 0 u [] ≡ []
+    → ((later : List Payload) → found_from 0 u (bytes_on (p ∷ later)) ++ found_in p (bytes_on later) ≡ found_from 0 v (bytes_on later))
+    → (later : List Payload) → sections_behind [] (payloads_of u ++ p ∷ later) ≡ sections_behind [] (payloads_of v ++ later)
 fed-same u p v none same later =
     let all : (more : List Payload) → found_in_all (payloads_of u ++ p ∷ more) ≡ found_in_all (payloads_of v ++ more) = λ (more : List Payload).
-    found_in_all-held u (p ∷ more) ∙ sym (append_assoc (found_from 0 u (bytes_on (p ∷ more))) (found_in p (bytes_on more)) (found_in_all more)) ∙ ap (λ (found : List Found). found ++ found_in_all more) (same more) ∙ sym (found_in_all-held v more) in
+    found_in_all-held u (p ∷ more) ∙ sym (append_assoc (found_from 0 u (bytes_on (p ∷ more))) (found_in p (bytes_on more)) (found_in_all more))
+    ∙ ap (λ (found : List Found). found ++ found_in_all more) (same more) ∙ sym (found_in_all-held v more) in
     behind-held u (p ∷ later) none ∙ fed-on u p v all later
 
-pub fed-error : (u : List ℕ) (p : Payload) (fault : SectionFault) → found_from 0 u [] ≡ [] → until_error (found_from 0 u (bytes_on (p ∷ [])) ++ found_in p []) ≡ Err fault ∷ [] → (later : List Payload) → sections_behind [] (payloads_of u ++ p ∷ later) ≡ Err fault ∷ sections_behind [] later
+pub fed-error : (u : List ℕ) (p : Payload) (fault : SectionFault) → found_from 0 u [] ≡ []
+    → until_error (found_from 0 u (bytes_on (p ∷ [])) ++ found_in p []) ≡ Err fault ∷ [] → (later : List Payload)
+    → sections_behind [] (payloads_of u ++ p ∷ later) ≡ Err fault ∷ sections_behind [] later
 fed-error u p fault none found later =
-    let all : found_in_all (payloads_of u ++ p ∷ []) ≡ found_from 0 u (bytes_on (p ∷ [])) ++ found_in p [] = found_in_all-held u (p ∷ []) ∙ ap (λ (fs : List Found). found_from 0 u (bytes_on (p ∷ [])) ++ fs) (append-nil (found_in p [])) in
+    let all : found_in_all (payloads_of u ++ p ∷ []) ≡ found_from 0 u (bytes_on (p ∷ [])) ++ found_in p [] = found_in_all-held u (p ∷ [])
+    ∙ ap (λ (fs : List Found). found_from 0 u (bytes_on (p ∷ [])) ++ fs) (append-nil (found_in p [])) in
     behind-held u (p ∷ later) none ∙ behind-error (payloads_of u) p fault later (ap until_error all ∙ found)

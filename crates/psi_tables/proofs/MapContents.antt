@@ -44,7 +44,9 @@ pub record IsCut (content info streams : List ℕ) : Type 0 where
   pub streams_are : streams ≡ drop (4 + program_info_length content) content
 
 -- as the code cuts it
-pub cut_at : (content head rest info streams : List ℕ) (n : ℕ) → ((i : ℕ) → get_or content i 0 < 256) → head ≡ take 4 content → rest ≡ drop 4 content → 4 ≤ length content → n ≡ bit_and (get_or head 2 0) 15 * 256 + get_or head 3 0 → n ≤ length rest → info ≡ take n rest → streams ≡ drop n rest → IsCut content info streams
+pub cut_at : (content head rest info streams : List ℕ) (n : ℕ) → ((i : ℕ) → get_or content i 0 < 256) → head ≡ take 4 content → rest ≡ drop 4 content
+    → 4 ≤ length content → n ≡ bit_and (get_or head 2 0) 15 * 256 + get_or head 3 0 → n ≤ length rest → info ≡ take n rest → streams ≡ drop n rest
+    → IsCut content info streams
 cut_at content head rest info streams n bytes head_is rest_is long n_is within info_is streams_are =
     let at : (i : ℕ) → i < 4 → get_or head i 0 ≡ get_or content i 0 = λ i low. ap (λ (xs : List ℕ). get_or xs i 0) head_is ∙ get_or-take 4 content i 0 low in
     let same : n ≡ program_info_length content = omega (arith, n_is, program_info_length-is content, at 2 (omega arith), at 3 (omega arith), and_15 (get_or head 2 0), bytes 3) in
@@ -60,7 +62,10 @@ pcr_at content head pcr bytes head_is pcr_is =
     omega (arith, pcr_is, PCR_PID-is content, at 0 (omega arith), at 1 (omega arith), and_31 (get_or head 0 0), bytes 1)
 
 -- what its parts say, the content says
-pub content_says : (content info streams : List ℕ) (program : ProgramMap) (descriptors : List (List ℕ)) (infos : List StreamInfo) → IsCut content info streams → program.pcr_pid ≡ PCR_PID content → IsItemRow IsDescriptor descriptors info → IsItemRow IsStreamInfo infos streams → program.streams.items ≡ map stream_of infos → program.dropped ≡ length descriptors + sum_by (λ i. count_dropped i.descriptors) infos → IsMapContent program content
+pub content_says : (content info streams : List ℕ) (program : ProgramMap) (descriptors : List (List ℕ)) (infos : List StreamInfo)
+    → IsCut content info streams → program.pcr_pid ≡ PCR_PID content → IsItemRow IsDescriptor descriptors info → IsItemRow IsStreamInfo infos streams
+    → program.streams.items ≡ map stream_of infos → program.dropped ≡ length descriptors + sum_by (λ i. count_dropped i.descriptors) infos
+    → IsMapContent program content
 content_says content info streams program descriptors infos cut pcr descriptors_are streams_are kept dropped = record {
   pcr = pcr;
   room = cut.room;
@@ -75,7 +80,8 @@ content_says content info streams program descriptors infos cut pcr descriptors_
 -- a content says one thing of a program at most
 pub one_map : (p q : ProgramMap) (content : List ℕ) → IsMapContent p content → IsMapContent q content → p.number ≡ q.number → p ≡ q
 one_map p q content first second numbers =
-    let infos : first.streams ≡ second.streams = same_row IsStreamInfo streams_told first.streams second.streams (drop (4 + program_info_length content) content) first.streams_are second.streams_are in
+    let infos : first.streams ≡ second.streams = same_row IsStreamInfo streams_told first.streams second.streams
+    (drop (4 + program_info_length content) content) first.streams_are second.streams_are in
     let descriptors : first.descriptors ≡ second.descriptors =
     same_row IsDescriptor descriptors_told first.descriptors second.descriptors (take (program_info_length content) (drop 4 content)) first.descriptors_are second.descriptors_are in
     let pcrs : p.pcr_pid ≡ q.pcr_pid = first.pcr ∙ sym second.pcr in

@@ -26,7 +26,8 @@ together before (p ∷ first) later good =
     let same : has_error (found_in_all ((before ++ p ∷ []) ++ first)) ≡ false = ap (λ (payloads : List Payload). has_error (found_in_all payloads)) joined ∙ good in
     let longer = all-longer (before ++ p ∷ []) first in
     let here : has_error (found_in_all (before ++ p ∷ [])) ≡ false = front-good (found_in_all (before ++ p ∷ [])) longer.0 (sym (ap has_error longer.1) ∙ same) in
-    behind-none before p (first ++ later) (until_error-has (found_in_all (before ++ p ∷ [])) ∙ here) ∙ together (before ++ p ∷ []) first later same ∙ ap (λ (payloads : List Payload). sections_behind payloads later) joined
+    behind-none before p (first ++ later) (until_error-has (found_in_all (before ++ p ∷ [])) ∙ here) ∙ together (before ++ p ∷ []) first later same
+    ∙ ap (λ (payloads : List Payload). sections_behind payloads later) joined
 
 -- where no error is found, the sections are what is found
 pub sections-good : (payloads : List Payload) → has_error (found_in_all payloads) ≡ false → sections_of payloads ≡ found_in_all payloads
@@ -43,7 +44,8 @@ found_in_all-going [] later = refl
 found_in_all-going (p ∷ ps) later = found_in_all-going ps later
 
 -- however a section's bytes are cut, they give it, and what follows is read as if it stood alone
-pub section-in-pieces : (s first : List ℕ) (ps : List (List ℕ)) → s ≡ first ++ concat ps → 0 < length first → IsFront first → is_settled s ≡ true → found_at s ≡ Ok s ∷ [] → (later : List Payload) → sections_of (payloads_of first ++ (map going ps ++ later)) ≡ Ok s ∷ sections_of later
+pub section-in-pieces : (s first : List ℕ) (ps : List (List ℕ)) → s ≡ first ++ concat ps → 0 < length first → IsFront first → is_settled s ≡ true
+    → found_at s ≡ Ok s ∷ [] → (later : List Payload) → sections_of (payloads_of first ++ (map going ps ++ later)) ≡ Ok s ∷ sections_of later
 unfolding sections_of
 section-in-pieces s first ps cut some front settled found later =
     let pieces : List Payload = payloads_of first ++ map going ps in

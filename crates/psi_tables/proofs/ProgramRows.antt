@@ -1,5 +1,39 @@
 -- Rows of programs in a program association section.
-use Rattle.std.proofs.Common.{◌≡◌, ◌≢◌, ℕ, zero, suc, ◌+◌, ◌*◌, ◌/◌, ◌%◌, ◌<◌, ◌≤◌, Bool, true, false, cond, List, [], ◌∷◌, ◌++◌, length, get_or, take, drop, refl, sym, ap, ap₂, subst, ◌∙◌, arith, length-append, length-take, length-drop}
+use Rattle.std.proofs.Common.{
+  ◌≡◌,
+  ◌≢◌,
+  ℕ,
+  zero,
+  suc,
+  ◌+◌,
+  ◌*◌,
+  ◌/◌,
+  ◌%◌,
+  ◌<◌,
+  ◌≤◌,
+  Bool,
+  true,
+  false,
+  cond,
+  List,
+  [],
+  ◌∷◌,
+  ◌++◌,
+  length,
+  get_or,
+  take,
+  drop,
+  refl,
+  sym,
+  ap,
+  ap₂,
+  subst,
+  ◌∙◌,
+  arith,
+  length-append,
+  length-take,
+  length-drop,
+}
 use Rattle.std.specs.Prelude.{bit_and, ◌==◌, Some, None}
 use Rattle.std.specs.List.{find}
 use Rattle.std.specs.Option.{option_map}
@@ -81,7 +115,8 @@ head_pid : (rest front behind : List ℕ) (pid : ℕ) → ((i : ℕ) → get_or 
 head_pid rest front behind pid bytes head pid_is = omega (arith, pid_is, program_map_PID-is front, and_31 (get_or front 2 0), head.at 3 (omega arith), bytes 3)
 
 -- a program with another number is passed
-pub passed_more : (content rest front behind : List ℕ) (number found : ℕ) → HasPassed content rest number → front ≡ take 4 rest → behind ≡ drop 4 rest → 4 ≤ length rest → found ≡ get_or front 0 0 * 256 + get_or front 1 0 → found ≢ number → HasPassed content behind number
+pub passed_more : (content rest front behind : List ℕ) (number found : ℕ) → HasPassed content rest number → front ≡ take 4 rest → behind ≡ drop 4 rest
+    → 4 ≤ length rest → found ≡ get_or front 0 0 * 256 + get_or front 1 0 → found ≢ number → HasPassed content behind number
 unfolding program_of
 passed_more content rest front behind number found passed front_is behind_is long found_is differs =
     let program : ℕ × ℕ = program_of front in
@@ -96,7 +131,10 @@ passed_more content rest front behind number found passed front_is behind_is lon
     }
 
 -- the first program with the number
-pub found_there : (content rest front behind : List ℕ) (number pid : ℕ) (programs : List (ℕ × ℕ)) → HasPassed content rest number → IsItemRow IsProgram programs content → front ≡ take 4 rest → behind ≡ drop 4 rest → 4 ≤ length rest → number ≡ get_or front 0 0 * 256 + get_or front 1 0 → pid ≡ bit_and (get_or front 2 0) 31 * 256 + get_or front 3 0 → Some pid ≡ option_map (λ program. program.1) (find (λ program. program.0 == number) programs)
+pub found_there : (content rest front behind : List ℕ) (number pid : ℕ) (programs : List (ℕ × ℕ)) → HasPassed content rest number
+    → IsItemRow IsProgram programs content → front ≡ take 4 rest → behind ≡ drop 4 rest → 4 ≤ length rest
+    → number ≡ get_or front 0 0 * 256 + get_or front 1 0 → pid ≡ bit_and (get_or front 2 0) 31 * 256 + get_or front 3 0
+    → Some pid ≡ option_map (λ program. program.1) (find (λ program. program.0 == number) programs)
 unfolding program_of
 found_there content rest front behind number pid programs passed row front_is behind_is long number_is pid_is =
     let program : ℕ × ℕ = program_of front in
@@ -106,11 +144,14 @@ found_there content rest front behind number pid programs passed row front_is be
     let whole : programs ≡ passed.done ++ program ∷ first.0 = behind_row.1 ∙ ap (λ (ys : List (ℕ × ℕ)). passed.done ++ ys) first.1 in
     let passes : (program.0 == number) ≡ true = eq-eqb program.0 number (head_number rest front behind number passed.bytes head number_is) in
     let found : find (λ p. p.0 == number) programs ≡ Some program =
-    ap (find (λ p. p.0 == number)) whole ∙ find_behind (λ p. p.0 == number) passed.done (program ∷ first.0) passed.other ∙ ap (λ (b : Bool). cond b (Some program) (find (λ p. p.0 == number) first.0)) passes in
+    ap (find (λ p. p.0 == number)) whole ∙ find_behind (λ p. p.0 == number) passed.done (program ∷ first.0) passed.other
+    ∙ ap (λ (b : Bool). cond b (Some program) (find (λ p. p.0 == number) first.0)) passes in
     ap Some (sym (head_pid rest front behind pid passed.bytes head pid_is)) ∙ ap (option_map (λ p. p.1)) (sym found)
 
 -- no program has it
-pub found_nowhere : (content rest : List ℕ) (number : ℕ) (programs : List (ℕ × ℕ)) → HasPassed content rest number → IsItemRow IsProgram programs content → length rest < 4 → None ≡ option_map (λ program. program.1) (find (λ program. program.0 == number) programs)
+pub found_nowhere : (content rest : List ℕ) (number : ℕ) (programs : List (ℕ × ℕ)) → HasPassed content rest number
+    → IsItemRow IsProgram programs content → length rest < 4
+    → None ≡ option_map (λ program. program.1) (find (λ program. program.0 == number) programs)
 found_nowhere content rest number programs passed row short =
     let behind = under_way_rest IsProgram programs_told content rest passed.done programs passed.under_way row in
     let none : find (λ p. p.0 == number) programs ≡ None = ap (find (λ p. p.0 == number)) behind.1 ∙ find_behind (λ p. p.0 == number) passed.done behind.0 passed.other ∙ nothing behind.0 behind.2 in

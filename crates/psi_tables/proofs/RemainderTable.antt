@@ -1,5 +1,36 @@
 -- The table of remainders, each entry against a division in eight steps.
-use Rattle.std.proofs.Common.{ap₂, add-zero, zero-add, subst, ◌≡◌, ℕ, zero, suc, ◌+◌, ◌*◌, ◌/◌, ◌%◌, ◌^◌, ◌<◌, Bool, true, false, cond, List, [], ◌∷◌, ◌++◌, length, get_or, replicate, refl, sym, ap, ◌∙◌, arith}
+use Rattle.std.proofs.Common.{
+  ap₂,
+  add-zero,
+  zero-add,
+  subst,
+  ◌≡◌,
+  ℕ,
+  zero,
+  suc,
+  ◌+◌,
+  ◌*◌,
+  ◌/◌,
+  ◌%◌,
+  ◌^◌,
+  ◌<◌,
+  Bool,
+  true,
+  false,
+  cond,
+  List,
+  [],
+  ◌∷◌,
+  ◌++◌,
+  length,
+  get_or,
+  replicate,
+  refl,
+  sym,
+  ap,
+  ◌∙◌,
+  arith,
+}
 use Rattle.std.specs.Prelude.{◌==◌, ◌&&◌, nat_lt}
 use Rattle.std.specs.Int.Bits.{bit_xor, xor_assoc, xor_shifted, xor_zero_r}
 use Rattle.std.proofs.lemmas.Bool.{and_parts, ltb-true, eqb-true}
@@ -58,7 +89,9 @@ entry_is byte low = one_passes byte (get_or REMAINDERS byte 0) low
 -- ---- one more byte behind
 
 -- the register's high byte goes through the table, and the rest is shifted
-pub with_byte : (crc byte entry : ℕ) (bytes : List ℕ) → byte < 256 → IsCrcOf crc bytes → IsRemainder entry (bits_of_byte (bit_xor (crc / 2 ^ 24) byte) ++ replicate 32 0) → IsCrcOf (bit_xor (crc % 2 ^ 24 * 2 ^ 8) entry) (bytes ++ byte ∷ [])
+pub with_byte : (crc byte entry : ℕ) (bytes : List ℕ) → byte < 256 → IsCrcOf crc bytes
+    → IsRemainder entry (bits_of_byte (bit_xor (crc / 2 ^ 24) byte) ++ replicate 32 0)
+    → IsCrcOf (bit_xor (crc % 2 ^ 24 * 2 ^ 8) entry) (bytes ++ byte ∷ [])
 with_byte crc byte entry bytes low is entry_is =
     let first : ℕ = bit_xor (crc / 2 ^ 24) byte in
     let rest : ℕ = crc % 2 ^ 24 * 2 ^ 8 in

@@ -32,7 +32,8 @@ IsRow-push spells (x ∷ xs) y a b row more =
     (row.0, row.1 ++ b, ap (λ (bytes : List ℕ). bytes ++ b) row.2 ∙ append_assoc row.0 row.1 b, row.3, IsRow-push spells xs y row.1 b row.4 more)
 
 -- a row that begins with an item's bytes begins with the item
-pub IsRow-first : {A : Type 0} (spells : A → List ℕ → Type 0) → IsTold spells → (x : A) (xs : List A) (front behind : List ℕ) → spells x front → IsItemRow spells xs (front ++ behind) → (ys : List A) × (xs ≡ x ∷ ys) × IsItemRow spells ys behind
+pub IsRow-first : {A : Type 0} (spells : A → List ℕ → Type 0) → IsTold spells → (x : A) (xs : List A) (front behind : List ℕ) → spells x front
+    → IsItemRow spells xs (front ++ behind) → (ys : List A) × (xs ≡ x ∷ ys) × IsItemRow spells ys behind
 IsRow-first spells told x [] front behind is row = absurd (omega (arith, told.some x front is, ap length row, length-append front behind))
 IsRow-first {A} spells told x (y ∷ ys) front behind is row =
     let parts = same_parts front row.0 behind row.1 row.2 (told.ends x y front row.0 behind row.1 row.2 is row.3) in
@@ -50,7 +51,8 @@ pub under_way_none : {A : Type 0} (spells : A → List ℕ → Type 0) (bytes : 
 under_way_none spells bytes = record { taken = []; row = refl; joined = refl }
 
 -- one item more
-pub under_way_more : {A : Type 0} (spells : A → List ℕ → Type 0) (bytes rest : List ℕ) (done : List A) (x : A) (front behind : List ℕ) → IsUnderWay spells bytes rest done → rest ≡ front ++ behind → spells x front → IsUnderWay spells bytes behind (done ++ x ∷ [])
+pub under_way_more : {A : Type 0} (spells : A → List ℕ → Type 0) (bytes rest : List ℕ) (done : List A) (x : A) (front behind : List ℕ)
+    → IsUnderWay spells bytes rest done → rest ≡ front ++ behind → spells x front → IsUnderWay spells bytes behind (done ++ x ∷ [])
 under_way_more spells bytes rest done x front behind is split more = record {
   taken = is.taken ++ front;
   row = IsRow-push spells done x is.taken front is.row more;
@@ -63,7 +65,8 @@ under_way_all spells bytes rest done is none =
     subst (IsItemRow spells done) (sym (is.joined ∙ ap (λ (xs : List ℕ). is.taken ++ xs) (nil_from_length rest none) ∙ append-nil is.taken)) is.row
 
 -- a row of all the bytes goes on with a row of the rest
-pub row_of_rest : {A : Type 0} (spells : A → List ℕ → Type 0) → IsTold spells → (done xs : List A) (taken rest : List ℕ) → IsItemRow spells done taken → IsItemRow spells xs (taken ++ rest) → (ys : List A) × (xs ≡ done ++ ys) × IsItemRow spells ys rest
+pub row_of_rest : {A : Type 0} (spells : A → List ℕ → Type 0) → IsTold spells → (done xs : List A) (taken rest : List ℕ) → IsItemRow spells done taken
+    → IsItemRow spells xs (taken ++ rest) → (ys : List A) × (xs ≡ done ++ ys) × IsItemRow spells ys rest
 row_of_rest spells told [] xs taken rest first row = (xs, refl, subst (λ (front : List ℕ). IsItemRow spells xs (front ++ rest)) first row)
 row_of_rest {A} spells told (x ∷ done) xs taken rest first row =
     let bytes : taken ++ rest ≡ first.0 ++ (first.1 ++ rest) = ap (λ (front : List ℕ). front ++ rest) first.2 ∙ append_assoc first.0 first.1 rest in
@@ -71,7 +74,8 @@ row_of_rest {A} spells told (x ∷ done) xs taken rest first row =
     let others = row_of_rest spells told done one.0 first.1 rest first.4 one.2 in
     (others.0, one.1 ∙ ap (λ (ys : List A). x ∷ ys) others.1, others.2)
 
-pub under_way_rest : {A : Type 0} (spells : A → List ℕ → Type 0) → IsTold spells → (bytes rest : List ℕ) (done xs : List A) → IsUnderWay spells bytes rest done → IsItemRow spells xs bytes → (ys : List A) × (xs ≡ done ++ ys) × IsItemRow spells ys rest
+pub under_way_rest : {A : Type 0} (spells : A → List ℕ → Type 0) → IsTold spells → (bytes rest : List ℕ) (done xs : List A)
+    → IsUnderWay spells bytes rest done → IsItemRow spells xs bytes → (ys : List A) × (xs ≡ done ++ ys) × IsItemRow spells ys rest
 under_way_rest spells told bytes rest done xs is row = row_of_rest spells told done xs is.taken rest is.row (subst (IsItemRow spells xs) is.joined row)
 
 -- no bytes are a row of nothing
@@ -80,7 +84,8 @@ row_of_none spells told [] bytes none row = refl
 row_of_none spells told (x ∷ xs) bytes none row = absurd (omega (arith, told.some x row.0 row.3, none, ap length row.2, length-append row.0 row.1))
 
 -- bytes are one row at most
-pub one_row : {A : Type 0} (spells : A → List ℕ → Type 0) → IsTold spells → (bytes rest : List ℕ) (done xs : List A) → IsUnderWay spells bytes rest done → length rest ≡ 0 → IsItemRow spells xs bytes → xs ≡ done
+pub one_row : {A : Type 0} (spells : A → List ℕ → Type 0) → IsTold spells → (bytes rest : List ℕ) (done xs : List A)
+    → IsUnderWay spells bytes rest done → length rest ≡ 0 → IsItemRow spells xs bytes → xs ≡ done
 one_row {A} spells told bytes rest done xs is none row =
     let behind = under_way_rest spells told bytes rest done xs is row in
     behind.1 ∙ ap (λ (ys : List A). done ++ ys) (row_of_none spells told behind.0 rest none behind.2) ∙ append-nil done

@@ -1,5 +1,39 @@
 -- What is held of a section, before and behind bytes that are taken.
-use Rattle.std.proofs.Common.{◌≡◌, ℕ, zero, suc, ◌+◌, ◌-◌, ◌<◌, ◌≤◌, ◌≢◌, Bool, true, false, cond, List, [], ◌∷◌, ◌++◌, length, get_or, take, drop, Err, refl, sym, ap, ◌∙◌, subst, append_assoc, arith, length-append, length-drop, drop-cons, ⊎_elim}
+use Rattle.std.proofs.Common.{
+  ◌≡◌,
+  ℕ,
+  zero,
+  suc,
+  ◌+◌,
+  ◌-◌,
+  ◌<◌,
+  ◌≤◌,
+  ◌≢◌,
+  Bool,
+  true,
+  false,
+  cond,
+  List,
+  [],
+  ◌∷◌,
+  ◌++◌,
+  length,
+  get_or,
+  take,
+  drop,
+  Err,
+  refl,
+  sym,
+  ap,
+  ◌∙◌,
+  subst,
+  append_assoc,
+  arith,
+  length-append,
+  length-drop,
+  drop-cons,
+  ⊎_elim,
+}
 use Rattle.std.specs.Prelude.{slice_index, min, not, ◌&&◌, ◌||◌, nat_lt}
 use Rattle.std.proofs.lemmas.List.{append-nil, take-append-drop, take_all, get_or-take, length-take-le, drop-drop}
 use Rattle.std.proofs.Math.Seq.{take-add}
@@ -9,7 +43,24 @@ use Rattle.psi_tables.specs.Sections.{Found, is_read, has_bad_length, section_si
 use Rattle.psi_tables.specs.Private.SectionFront.{is_bad, is_settled, IsFront, IsLike, IsHeld, IsSound, TakesIn, ReadsOn, front_bytes, missing_bytes}
 use Rattle.psi_tables.specs.declared.section_front.SectionFront.{SectionFront}
 use Rattle.psi_tables.proofs.Headers.{get_or-header}
-use Rattle.psi_tables.proofs.Fronts.{section_size-append, is_bad-append, is_bad-like, unsettled-good, found_at-unsettled, settled-header, settled-size, unsettled-size, found_at-passed, found_at-append, found_at-like, found_from-one, found_from-whole, found_from-error, found_from-like, section_size-like}
+use Rattle.psi_tables.proofs.Fronts.{
+  section_size-append,
+  is_bad-append,
+  is_bad-like,
+  unsettled-good,
+  found_at-unsettled,
+  settled-header,
+  settled-size,
+  unsettled-size,
+  found_at-passed,
+  found_at-append,
+  found_at-like,
+  found_from-one,
+  found_from-whole,
+  found_from-error,
+  found_from-like,
+  section_size-like,
+}
 
 -- ---- the lemmas on fronts, for any that holds bytes
 
@@ -48,8 +99,11 @@ taken-found a bytes n now taken next =
     elim (is_settled now) as (λ (settled : Bool). is_settled now ≡ settled → found_at (a ++ (bytes ++ next)) ≡ found_at (now ++ next)) [
       | true ↦ λ settled.
           let joined : a ++ (bytes ++ next) ≡ (a ++ take n bytes) ++ (drop n bytes ++ next) =
-          ap (λ (bs : List ℕ). a ++ (bs ++ next)) (sym (take-append-drop n bytes)) ∙ ap (λ (bs : List ℕ). a ++ bs) (append_assoc (take n bytes) (drop n bytes) next) ∙ sym (append_assoc a (take n bytes) (drop n bytes ++ next)) in
-          ap found_at joined ∙ sym (found_at-like now (a ++ take n bytes) (drop n bytes ++ next) taken.like) ∙ found_at-append now (drop n bytes ++ next) settled ∙ sym (found_at-append now next settled)
+          ap (λ (bs : List ℕ). a ++ (bs ++ next)) (sym (take-append-drop n bytes))
+          ∙ ap (λ (bs : List ℕ). a ++ bs) (append_assoc (take n bytes) (drop n bytes) next)
+          ∙ sym (append_assoc a (take n bytes) (drop n bytes ++ next)) in
+          ap found_at joined ∙ sym (found_at-like now (a ++ take n bytes) (drop n bytes ++ next) taken.like)
+          ∙ found_at-append now (drop n bytes ++ next) settled ∙ sym (found_at-append now next settled)
       | false ↦ λ unsettled.
           let all : take n bytes ≡ bytes = take_all n bytes (omega (arith, taken.all unsettled)) in
           ap found_at (sym (append_assoc a bytes next)) ∙ ap (λ (bs : List ℕ). found_at ((a ++ bs) ++ next)) (sym all) ∙ sym (found_at-like now (a ++ take n bytes) next taken.like)
@@ -61,7 +115,8 @@ taken-same a bytes n now held front taken next =
     front-one a (bytes ++ next) held front ∙ taken-found a bytes n now taken next ∙ sym (front-one now next (taken-held a bytes n now held taken) (taken-front a bytes n now held front taken))
 
 -- nothing, where it is passed over
-pub taken-passed : (a bytes : List ℕ) (n : ℕ) (now : List ℕ) → 0 < length a → IsFront a → TakesIn a bytes n now → is_settled now ≡ true → is_read now ≡ false → (next : List ℕ) → found_from 0 a (bytes ++ next) ≡ []
+pub taken-passed : (a bytes : List ℕ) (n : ℕ) (now : List ℕ) → 0 < length a → IsFront a → TakesIn a bytes n now → is_settled now ≡ true
+    → is_read now ≡ false → (next : List ℕ) → found_from 0 a (bytes ++ next) ≡ []
 taken-passed a bytes n now held front taken settled passed next =
     front-one a (bytes ++ next) held front ∙ taken-found a bytes n now taken next ∙ found_at-append now next settled ∙ found_at-passed now passed
 
@@ -86,7 +141,8 @@ begun-same bytes n now taken next =
     let within : length (take n bytes) ≤ section_size (take n bytes) = omega (arith, taken.like.size, taken.within, section_size-like now (take n bytes) taken.like) in
     ap (λ (bs : List ℕ). found_from 0 bs next) (sym (take-append-drop n bytes)) ∙ sym (found_from-like now (take n bytes) (drop n bytes) next taken.like within)
 
-pub begun-passed : (bytes : List ℕ) (n : ℕ) (now : List ℕ) → IsFront now → TakesIn [] bytes n now → is_settled now ≡ true → is_read now ≡ false → (next : List ℕ) → found_from 0 bytes next ≡ found_from 0 (drop n bytes) next
+pub begun-passed : (bytes : List ℕ) (n : ℕ) (now : List ℕ) → IsFront now → TakesIn [] bytes n now → is_settled now ≡ true → is_read now ≡ false
+    → (next : List ℕ) → found_from 0 bytes next ≡ found_from 0 (drop n bytes) next
 begun-passed bytes n now front taken settled passed next =
     let good : is_bad now ≡ false = ap (λ (read : Bool). read && has_bad_length now) passed in
     begun-same bytes n now taken next ∙ front-whole now (drop n bytes) next front settled good ∙ ap (λ (found : List Found). found ++ found_from 0 (drop n bytes) next) (found_at-passed now passed)
@@ -102,7 +158,9 @@ missing-within b whole =
     elim (nat_lt (length b) 3 || is_bad b) as (λ (none : Bool). cond none 0 (section_size b - length b) ≤ section_size b - length b) [ true ↦ omega arith | false ↦ omega arith ]
 
 -- bytes of the header, and of what is missing then
-pub takes_in : (a bytes : List ℕ) (h : ℕ) (b : List ℕ) (k : ℕ) (now : List ℕ) → is_settled a ≡ false → h ≤ length bytes → b ≡ a ++ take h bytes → (length b < 3 → h ≡ length bytes) → (0 < h → length b ≤ 3) → k ≡ min (missing_bytes b) (length bytes - h) → IsLike now (b ++ take k (drop h bytes)) → TakesIn a bytes (h + k) now
+pub takes_in : (a bytes : List ℕ) (h : ℕ) (b : List ℕ) (k : ℕ) (now : List ℕ) → is_settled a ≡ false → h ≤ length bytes → b ≡ a ++ take h bytes
+    → (length b < 3 → h ≡ length bytes) → (0 < h → length b ≤ 3) → k ≡ min (missing_bytes b) (length bytes - h)
+    → IsLike now (b ++ take k (drop h bytes)) → TakesIn a bytes (h + k) now
 takes_in a bytes h b k now unsettled bound is all header more like =
     let x : List ℕ = take k (drop h bytes) in
     let size_x : length x ≡ k = omega (arith, length-take-le k (drop h bytes) (omega (arith, length-drop h bytes))) in
@@ -116,7 +174,10 @@ takes_in a bytes h b k now unsettled bound is all header more like =
     record {
       bound = omega arith;
       like = subst (λ (c : List ℕ). IsLike now c) joined like;
-      all = λ not_yet. ⊎_elim (λ few. omega (arith, short few, all few)) (λ whole. let missing : missing_bytes b ≡ section_size b - length b = missing-good b whole (good not_yet whole) in omega (arith, missing, same_size whole, unsettled-size now not_yet)) (cases_lt (length b) 3);
+      all = λ not_yet. ⊎_elim (λ few. omega (arith, short few, all few))
+          (λ whole. let missing : missing_bytes b ≡ section_size b
+          - length b = missing-good b whole (good not_yet whole) in omega (arith, missing, same_size whole, unsettled-size now not_yet))
+          (cases_lt (length b) 3);
       within = ⊎_elim (λ few. omega (arith, short few)) (λ whole. omega (arith, missing-within b whole, same_size whole)) (cases_lt (length b) 3);
     }
   where
@@ -160,24 +221,34 @@ begun-taken bytes at n front now passed taken =
     let all : rest_from bytes at ≡ drop at bytes = take_all (length bytes - at) (drop at bytes) (omega (arith, length-drop at bytes)) in
     subst (λ (before : List ℕ). TakesIn before (drop at bytes) n now) passed.empty (subst (λ (rest : List ℕ). TakesIn (front_bytes front) rest n now) all taken)
 
-begun-is : (bytes : List ℕ) (at n : ℕ) (front : SectionFront) (now : List ℕ) → PassesOver bytes at front → at < length bytes → get_or bytes at 0 ≢ 255 → TakesIn (front_bytes front) (rest_from bytes at) n now → IsFront now
+begun-is : (bytes : List ℕ) (at n : ℕ) (front : SectionFront) (now : List ℕ) → PassesOver bytes at front → at < length bytes → get_or bytes at 0 ≢ 255
+    → TakesIn (front_bytes front) (rest_from bytes at) n now → IsFront now
 begun-is bytes at n front now passed within no_stuffing taken =
     begun-front (get_or bytes at 0) (drop (suc at) bytes) n now no_stuffing (subst (λ (bs : List ℕ). TakesIn [] bs n now) (drop-cons bytes at 0 within) (begun-taken bytes at n front now passed taken))
 
 drop-on : (at n : ℕ) (bytes : List ℕ) → drop n (drop at bytes) ≡ drop (at + n) bytes
 drop-on at n bytes = drop-drop n at bytes
 
-pub begins-read : (bytes : List ℕ) (at n : ℕ) (front now : SectionFront) → PassesOver bytes at front → at < length bytes → get_or bytes at 0 ≢ 255 → TakesIn (front_bytes front) (rest_from bytes at) n (front_bytes now) → IsSound now → is_settled (front_bytes now) && not (is_read (front_bytes now)) ≡ false → ReadsOn bytes (at + n) now
+pub begins-read : (bytes : List ℕ) (at n : ℕ) (front now : SectionFront) → PassesOver bytes at front → at < length bytes → get_or bytes at 0 ≢ 255
+    → TakesIn (front_bytes front) (rest_from bytes at) n (front_bytes now) → IsSound now
+    → is_settled (front_bytes now) && not (is_read (front_bytes now)) ≡ false → ReadsOn bytes (at + n) now
 begins-read bytes at n front now passed within no_stuffing taken sound read =
     let t : TakesIn [] (drop at bytes) n (front_bytes now) = begun-taken bytes at n front (front_bytes now) passed taken in
     record {
       bound = omega (arith, t.bound, length-drop at bytes);
-      held = record { sound = sound; front_is = begun-is bytes at n front (front_bytes now) passed within no_stuffing taken; read = not-passed-over (is_settled (front_bytes now)) (is_read (front_bytes now)) read };
+      held = record {
+        sound = sound;
+        front_is = begun-is bytes at n front (front_bytes now) passed within no_stuffing taken;
+        read = not-passed-over
+            (is_settled (front_bytes now)) (is_read (front_bytes now)) read;
+      };
       all = λ unsettled. omega (arith, t.all unsettled, within, length-drop at bytes);
       same = λ (next : List ℕ). passed.same next ∙ begun-same (drop at bytes) n (front_bytes now) t next ∙ ap (λ (bs : List ℕ). found_from 0 (front_bytes now ++ bs) next) (drop-on at n bytes);
     }
 
-pub begins-passed : (bytes : List ℕ) (at n : ℕ) (front : SectionFront) (now : List ℕ) (cleared : SectionFront) → PassesOver bytes at front → at < length bytes → get_or bytes at 0 ≢ 255 → TakesIn (front_bytes front) (rest_from bytes at) n now → is_settled now && not (is_read now) ≡ true → IsHeld cleared → front_bytes cleared ≡ [] → PassesOver bytes (at + n) cleared
+pub begins-passed : (bytes : List ℕ) (at n : ℕ) (front : SectionFront) (now : List ℕ) (cleared : SectionFront) → PassesOver bytes at front
+    → at < length bytes → get_or bytes at 0 ≢ 255 → TakesIn (front_bytes front) (rest_from bytes at) n now
+    → is_settled now && not (is_read now) ≡ true → IsHeld cleared → front_bytes cleared ≡ [] → PassesOver bytes (at + n) cleared
 begins-passed bytes at n front now cleared passed within no_stuffing taken over held empty =
     let t : TakesIn [] (drop at bytes) n now = begun-taken bytes at n front now passed taken in
     let tests = passed-over (is_settled now) (is_read now) over in
@@ -185,7 +256,9 @@ begins-passed bytes at n front now cleared passed within no_stuffing taken over 
       bound = omega (arith, t.bound, length-drop at bytes);
       held = held;
       empty = empty;
-      same = λ (next : List ℕ). passed.same next ∙ begun-passed (drop at bytes) n now (begun-is bytes at n front now passed within no_stuffing taken) t tests.0 tests.1 next ∙ ap (λ (bs : List ℕ). found_from 0 bs next) (drop-on at n bytes);
+      same = λ (next : List ℕ). passed.same next ∙ begun-passed (drop at bytes) n now
+          (begun-is bytes at n front now passed within no_stuffing taken) t tests.0 tests.1 next
+          ∙ ap (λ (bs : List ℕ). found_from 0 bs next) (drop-on at n bytes);
     }
 
 -- nothing is found of what isn't settled

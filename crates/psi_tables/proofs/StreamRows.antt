@@ -1,5 +1,33 @@
 -- Rows of streams in a program map, and what is kept of them.
-use Rattle.std.proofs.Common.{◌≡◌, ℕ, ◌+◌, ◌*◌, ◌%◌, ◌<◌, ◌≤◌, List, [], ◌∷◌, ◌++◌, All, length, get_or, take, drop, map, refl, sym, ap, ap₂, subst, ◌∙◌, arith, length-append, length-take, length-drop}
+use Rattle.std.proofs.Common.{
+  ◌≡◌,
+  ℕ,
+  ◌+◌,
+  ◌*◌,
+  ◌%◌,
+  ◌<◌,
+  ◌≤◌,
+  List,
+  [],
+  ◌∷◌,
+  ◌++◌,
+  All,
+  length,
+  get_or,
+  take,
+  drop,
+  map,
+  refl,
+  sym,
+  ap,
+  ap₂,
+  subst,
+  ◌∙◌,
+  arith,
+  length-append,
+  length-take,
+  length-drop,
+}
 use Rattle.std.specs.Prelude.{Option, Some}
 use Rattle.std.specs.Option.{unwrap_or}
 use Rattle.std.specs.List.{sum_by}
@@ -59,15 +87,20 @@ streams_told = record {
 }
 
 -- the rest of a row begins with a stream, where there is a rest
-pub next_info : (bytes rest : List ℕ) (done xs : List StreamInfo) → IsUnderWay IsStreamInfo bytes rest done → IsItemRow IsStreamInfo xs bytes → 0 < length rest → (front : List ℕ) × (behind : List ℕ) × (rest ≡ front ++ behind) × (info : StreamInfo) × IsStreamInfo info front × (ys : List StreamInfo) × (xs ≡ done ++ info ∷ ys)
+pub next_info : (bytes rest : List ℕ) (done xs : List StreamInfo) → IsUnderWay IsStreamInfo bytes rest done → IsItemRow IsStreamInfo xs bytes
+    → 0 < length rest → (front : List ℕ) × (behind : List ℕ) × (rest ≡ front ++ behind) × (info : StreamInfo) × IsStreamInfo info front
+    × (ys : List StreamInfo) × (xs ≡ done ++ info ∷ ys)
 next_info bytes rest done xs is row more = by_rest (under_way_rest IsStreamInfo streams_told bytes rest done xs is row)
   where
-    by_rest : (ys : List StreamInfo) × (xs ≡ done ++ ys) × IsItemRow IsStreamInfo ys rest → (front : List ℕ) × (behind : List ℕ) × (rest ≡ front ++ behind) × (info : StreamInfo) × IsStreamInfo info front × (ys : List StreamInfo) × (xs ≡ done ++ info ∷ ys)
+    by_rest : (ys : List StreamInfo) × (xs ≡ done ++ ys) × IsItemRow IsStreamInfo ys rest → (front : List ℕ) × (behind : List ℕ)
+        × (rest ≡ front ++ behind) × (info : StreamInfo) × IsStreamInfo info front × (ys : List StreamInfo) × (xs ≡ done ++ info ∷ ys)
     by_rest ([], same, none) = absurd (omega (arith, more, ap length none))
     by_rest (y ∷ ys, same, found) = (found.0, found.1, found.2, y, found.3, ys, same)
 
 -- it is the stream of the bytes that were split off
-pub next_info_of : (bytes rest front behind : List ℕ) (done xs : List StreamInfo) → IsUnderWay IsStreamInfo bytes rest done → IsItemRow IsStreamInfo xs bytes → rest ≡ front ++ behind → length front ≡ 5 + ES_info_length front → (info : StreamInfo) × IsStreamInfo info front × (ys : List StreamInfo) × (xs ≡ done ++ info ∷ ys)
+pub next_info_of : (bytes rest front behind : List ℕ) (done xs : List StreamInfo) → IsUnderWay IsStreamInfo bytes rest done
+    → IsItemRow IsStreamInfo xs bytes → rest ≡ front ++ behind → length front ≡ 5 + ES_info_length front → (info : StreamInfo)
+    × IsStreamInfo info front × (ys : List StreamInfo) × (xs ≡ done ++ info ∷ ys)
 next_info_of bytes rest front behind done xs is row split size =
     let next = next_info bytes rest done xs is row (omega (arith, ap length split, length-append front behind, size)) in
     let parts = same_parts next.0 front next.1 behind (sym next.2 ∙ split) (info_ends next.0 front next.1 behind (sym next.2 ∙ split) next.4.size size) in
@@ -96,7 +129,9 @@ streams_none bytes = record {
   few = omega arith;
 }
 
-pub streams_more : (bytes rest : List ℕ) (streams : List Stream) (dropped : ℕ) (front behind : List ℕ) (info : StreamInfo) → HasReadStreams bytes rest streams dropped → rest ≡ front ++ behind → IsStreamInfo info front → IsKeepable info → length streams < 64 → HasReadStreams bytes behind (streams ++ stream_of info ∷ []) (dropped + count_dropped info.descriptors)
+pub streams_more : (bytes rest : List ℕ) (streams : List Stream) (dropped : ℕ) (front behind : List ℕ) (info : StreamInfo)
+    → HasReadStreams bytes rest streams dropped → rest ≡ front ++ behind → IsStreamInfo info front → IsKeepable info → length streams < 64
+    → HasReadStreams bytes behind (streams ++ stream_of info ∷ []) (dropped + count_dropped info.descriptors)
 streams_more bytes rest streams dropped front behind info read split is keeps room = record {
   done = read.done ++ info ∷ [];
   under_way = under_way_more IsStreamInfo bytes rest read.done info front behind read.under_way split is;
@@ -116,7 +151,9 @@ pub same_pair : {A B : Type 0} (a c : A) (b d : B) → ◌≡◌ {A = Option (A 
 same_pair {A} {B} a c b d same = (ap (λ (o : Option (A × B)). (unwrap_or o (a, b)).0) same, ap (λ (o : Option (A × B)). (unwrap_or o (a, b)).1) same)
 
 -- a stream by its fields
-pub stream_is : (stream : Stream) (dropped : ℕ) (info : StreamInfo) → stream.kind ≡ info.stream_type → stream.pid ≡ info.elementary_PID → stream.descriptors.items ≡ kept_bytes info.descriptors → dropped ≡ count_dropped info.descriptors → ◌≡◌ {A = Option (Stream × ℕ)} (Some (stream, dropped)) (Some (stream_of info, count_dropped info.descriptors))
+pub stream_is : (stream : Stream) (dropped : ℕ) (info : StreamInfo) → stream.kind ≡ info.stream_type → stream.pid ≡ info.elementary_PID
+    → stream.descriptors.items ≡ kept_bytes info.descriptors → dropped ≡ count_dropped info.descriptors
+    → ◌≡◌ {A = Option (Stream × ℕ)} (Some (stream, dropped)) (Some (stream_of info, count_dropped info.descriptors))
 stream_is stream dropped info kinds pids descriptors counts =
     ap₂ (λ (k p : ℕ). Some (record { kind = k; pid = p; descriptors = stream.descriptors }, dropped)) kinds pids
     ∙ ap₂ (λ (xs : List ℕ) (n : ℕ). Some (record { kind = info.stream_type; pid = info.elementary_PID; descriptors = record { items = xs } }, n)) descriptors counts

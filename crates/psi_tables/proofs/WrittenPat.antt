@@ -31,7 +31,8 @@ pub record IsSectionOf (table extension : ℕ) (body bytes : List ℕ) : Type 0 
   pub whole : IsWholeSection bytes
   pub content_is : content bytes ≡ body
 
-pub section_says : (table extension : ℕ) (body bytes : List ℕ) → table < 256 → extension < 2 ^ 16 → length body ≤ 1000 → IsWithCrc (written_header table (9 + length body) extension ++ body) bytes → IsSectionOf table extension body bytes
+pub section_says : (table extension : ℕ) (body bytes : List ℕ) → table < 256 → extension < 2 ^ 16 → length body ≤ 1000
+    → IsWithCrc (written_header table (9 + length body) extension ++ body) bytes → IsSectionOf table extension body bytes
 section_says table extension body bytes table_low extension_low small is =
     let header : List ℕ = written_header table (9 + length body) extension in
     let crc : List ℕ = to_be_bytes w32 is.crc in
@@ -65,7 +66,9 @@ program_says program number_low pid_low = record {
   pid = omega (arith, program_map_PID-is (written_program program));
 }
 
-pub written_pat_is : (stream_id : ℕ) (programs : List (ℕ × ℕ)) (bytes : List ℕ) → stream_id < 2 ^ 16 → length programs ≤ 8 → All (λ program. program.0 < 2 ^ 16) programs → All (λ program. program.1 < 2 ^ 13) programs → IsWithCrc (written_pat stream_id programs) bytes → IsPat programs bytes
+pub written_pat_is : (stream_id : ℕ) (programs : List (ℕ × ℕ)) (bytes : List ℕ) → stream_id < 2 ^ 16 → length programs ≤ 8
+    → All (λ program. program.0 < 2 ^ 16) programs → All (λ program. program.1 < 2 ^ 13) programs → IsWithCrc (written_pat stream_id programs) bytes
+    → IsPat programs bytes
 written_pat_is stream_id programs bytes id_low few numbers pids is =
     let body : List ℕ = flat_map written_program programs in
     let size : length body ≡ 4 * length programs = length-written_programs programs in
@@ -73,5 +76,6 @@ written_pat_is stream_id programs bytes id_low few numbers pids is =
     record {
       current = says.header.current;
       whole = says.whole;
-      programs_are = subst (IsItemRow IsProgram programs) (sym says.content_is) (row_written IsProgram written_program programs (λ k d within. program_says (get_or programs k d) (numbers k d within) (pids k d within)));
+      programs_are = subst (IsItemRow IsProgram programs) (sym says.content_is)
+          (row_written IsProgram written_program programs (λ k d within. program_says (get_or programs k d) (numbers k d within) (pids k d within)));
     }

@@ -52,7 +52,8 @@ stream_says stream is kind_low fits =
     )
 
 abbrev StreamsSay : List Stream → Type 0
-StreamsSay streams = (infos : List StreamInfo) × IsItemRow IsStreamInfo infos (flat_map written_stream streams) × (streams ≡ map stream_of infos) × (sum_by (λ (i : StreamInfo). count_dropped i.descriptors) infos ≡ 0)
+StreamsSay streams = (infos : List StreamInfo) × IsItemRow IsStreamInfo infos (flat_map written_stream streams) × (streams ≡ map stream_of infos)
+    × (sum_by (λ (i : StreamInfo). count_dropped i.descriptors) infos ≡ 0)
 
 streams_say : (streams : List Stream) → All StreamSays streams → StreamsSay streams
 streams_say [] each = ([], refl, refl, refl)
@@ -79,7 +80,9 @@ written_has_room program few = record {
 
 -- ---- sections
 
-pub written_pmt_is : (program : ProgramMap) (bytes : List ℕ) → program.number < 2 ^ 16 → All (λ stream. stream.kind < 256) program.streams.items → IsWritableMap program → HasRoom (without_dropped program) → length (written_streams program) ≤ 183 → IsWithCrc (written_pmt program) bytes → IsPmt (without_dropped program) bytes
+pub written_pmt_is : (program : ProgramMap) (bytes : List ℕ) → program.number < 2 ^ 16 → All (λ stream. stream.kind < 256) program.streams.items
+    → IsWritableMap program → HasRoom (without_dropped program) → length (written_streams program) ≤ 183 → IsWithCrc (written_pmt program) bytes
+    → IsPmt (without_dropped program) bytes
 written_pmt_is program bytes number_low kinds writable room few is =
     let streams : List ℕ = written_streams program in
     let body : List ℕ = written_pid program.pcr_pid ++ written_length 0 ++ streams in
@@ -97,5 +100,6 @@ written_pmt_is program bytes number_low kinds writable room few is =
       current = says.header.current;
       whole = says.whole;
       number = sym says.header.extension_is;
-      content_is = subst (IsMapContent (without_dropped program)) (sym says.content_is) (content_says body [] streams (without_dropped program) [] infos.0 cut pcr refl infos.1 infos.2 (omega (arith, infos.3)));
+      content_is = subst (IsMapContent (without_dropped program)) (sym says.content_is)
+          (content_says body [] streams (without_dropped program) [] infos.0 cut pcr refl infos.1 infos.2 (omega (arith, infos.3)));
     }

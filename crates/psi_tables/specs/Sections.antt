@@ -1,5 +1,36 @@
 -- The sections in the payloads of one PID (ISO/IEC 13818-1, 2.4.4), as a list for any list of payloads.
-use Rattle.std.specs.Prelude.{◌≡◌, ℕ, zero, suc, ◌+◌, ◌-◌, ◌*◌, ◌^◌, ◌==◌, nat_lt, nat_le, bit_xor, Bool, false, not, ◌||◌, List, [], ◌∷◌, ◌++◌, length, take, drop, replicate, slice_index, Result, Ok, Err, is_err, if◌then◌else◌}
+use Rattle.std.specs.Prelude.{
+  ◌≡◌,
+  ℕ,
+  zero,
+  suc,
+  ◌+◌,
+  ◌-◌,
+  ◌*◌,
+  ◌^◌,
+  ◌==◌,
+  nat_lt,
+  nat_le,
+  bit_xor,
+  Bool,
+  false,
+  not,
+  ◌||◌,
+  List,
+  [],
+  ◌∷◌,
+  ◌++◌,
+  length,
+  take,
+  drop,
+  replicate,
+  slice_index,
+  Result,
+  Ok,
+  Err,
+  is_err,
+  if◌then◌else◌,
+}
 use Rattle.std.specs.List.{list_any}
 use Rattle.psi_tables.specs.declared.section.TheConstants.{SECTION_LENGTH_LEAST, SECTION_LENGTH_MOST}
 use Rattle.bit_lists.specs.Fields.{bit_list}

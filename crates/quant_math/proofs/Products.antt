@@ -24,7 +24,9 @@ scaled_bound d w s size w_small s_small =
     omega (arith, product, mul-le-mul (weighted_bound d w size w_small) s_small)
 
 -- a product, divided and clamped by the code
-pub saturated_quotient : (r computed product : ℤ) → r ≡ int_max (negsuc 2047) (int_min (to_z w64 (of_z w64 (int_div (to_z w64 (of_z w64 computed)) (pos 32)))) (pos 2047)) → to_z w64 (of_z w64 computed) ≡ product → FitsSigned w64 product → r ≡ saturation_of (int_div product (pos 32))
+pub saturated_quotient : (r computed product : ℤ) → r ≡ int_max (negsuc 2047)
+    (int_min (to_z w64 (of_z w64 (int_div (to_z w64 (of_z w64 computed)) (pos 32)))) (pos 2047)) → to_z w64 (of_z w64 computed) ≡ product
+    → FitsSigned w64 product → r ≡ saturation_of (int_div product (pos 32))
 saturated_quotient r computed product clamped same fits =
     clamped
     ∙ ap (λ x. saturation_of (to_z w64 (of_z w64 (int_div x (pos 32))))) same

@@ -90,7 +90,8 @@ module _ (seq : SeqState) (coding : PicCoding) (way : BlockWay) (code : ℕ) (bl
   no_coefficients numbers place all zeros few levels = record {
     all = all;
     small = λ p. subst (λ (z : ℤ). unsigned_abs z ≤ 2048) (sym (zeros p)) (omega arith);
-    before = λ p below. zeros p ∙ sym (ap (λ level. coefficient level p) (levels p ∙ level_before place p block.pairs.items below) ∙ coefficient_of-zero (weight_at seq coding way.intra p) (scale_of coding code) way.intra);
+    before = λ p below. zeros p ∙ sym (ap (λ level. coefficient level p) (levels p ∙ level_before place p block.pairs.items below)
+        ∙ coefficient_of-zero (weight_at seq coding way.intra p) (scale_of coding code) way.intra);
     behind = λ p above. zeros p;
     levels = λ p above. levels p;
   }

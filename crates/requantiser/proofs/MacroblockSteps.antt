@@ -1,5 +1,37 @@
 -- One more macroblock of a slice.
-use Rattle.std.proofs.Common.{◌≡◌, ℕ, suc, ◌+◌, ◌-◌, ◌<◌, ◌≤◌, Option, Some, None, List, [], ◌∷◌, ◌++◌, Bool, true, false, refl, sym, ◌∙◌, ap, arith, length, drop, get_or, append_assoc, append-nil, drop-cons, add-one, length-drop, unwrap_or}
+use Rattle.std.proofs.Common.{
+  ◌≡◌,
+  ℕ,
+  suc,
+  ◌+◌,
+  ◌-◌,
+  ◌<◌,
+  ◌≤◌,
+  Option,
+  Some,
+  None,
+  List,
+  [],
+  ◌∷◌,
+  ◌++◌,
+  Bool,
+  true,
+  false,
+  refl,
+  sym,
+  ◌∙◌,
+  ap,
+  arith,
+  length,
+  drop,
+  get_or,
+  append_assoc,
+  append-nil,
+  drop-cons,
+  add-one,
+  length-drop,
+  unwrap_or,
+}
 use Rattle.std.specs.Prelude.{◌==◌, ◌&&◌, not, is_some, option_and_then, if◌then◌else◌}
 use Rattle.std.specs.Option.{option_to_list}
 use Rattle.std.specs.List.{sum_by}

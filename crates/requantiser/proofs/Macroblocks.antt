@@ -1,5 +1,35 @@
 -- What the walk makes of a macroblock is what the version has there, and nothing else is.
-use Rattle.std.proofs.Common.{◌≡◌, ◌≢◌, ℕ, ◌+◌, ◌<◌, pos, Option, Some, None, List, [], ◌∷◌, Bool, true, false, refl, sym, ◌∙◌, ap, ap₂, subst, ◌⊎◌, inl, inr, arith, length, unwrap_or, get_or, option_map}
+use Rattle.std.proofs.Common.{
+  ◌≡◌,
+  ◌≢◌,
+  ℕ,
+  ◌+◌,
+  ◌<◌,
+  pos,
+  Option,
+  Some,
+  None,
+  List,
+  [],
+  ◌∷◌,
+  Bool,
+  true,
+  false,
+  refl,
+  sym,
+  ◌∙◌,
+  ap,
+  ap₂,
+  subst,
+  ◌⊎◌,
+  inl,
+  inr,
+  arith,
+  length,
+  unwrap_or,
+  get_or,
+  option_map,
+}
 use Rattle.std.specs.Prelude.{◌==◌, ◌&&◌, ◌||◌, not, is_some, slice_index_or, slice_set, find, if◌then◌else◌}
 use Rattle.std.specs.Int.{int_signum}
 use Rattle.std.specs.List.{range_with_len}
@@ -90,7 +120,8 @@ module _ (seq : SeqState) (coding : PicCoding) (kind : Kind) (code mapped : ℕ)
       get_or_default (coarsened_blocks seq coding kind code mapped blocks) k d no_block below
       ∙ empty_block (get_or (coarsened_blocks seq coding kind code mapped blocks) k no_block)
       (ap (λ b. let block : Block = b in block.dc) (get_or-coarsened blocks k within) ∙ no_dc k within)
-      (All-get_or (λ b. is_empty_block b ≡ true) (coarsened_blocks seq coding kind code mapped blocks) k no_block below (AllPass-from_list_all is_empty_block (coarsened_blocks seq coding kind code mapped blocks) empty))
+      (All-get_or (λ b. is_empty_block b ≡ true) (coarsened_blocks seq coding kind code mapped blocks) k no_block below
+      (AllPass-from_list_all is_empty_block (coarsened_blocks seq coding kind code mapped blocks) empty))
       ∙ sym (get_or-replicate BLOCKS k no_block d within))
 
 -- ---- the coefficient that is kept
@@ -147,7 +178,8 @@ module _ (coding : PicCoding) (from : Macroblock) (non_intra : from.kind.intra �
   kept_at shape index first =
       let block : Block = slice_index_or from.blocks index no_block in
       let found = first_level block.pairs.items (shape.begins non_intra index first.below first.passes) in
-      let same : block ≡ record { dc = None; pairs = record { items = block.pairs.items } } = ap (λ d. let b : Block = record { dc = d; pairs = record { items = block.pairs.items } } in b) (shape.no_dc non_intra index first.below) in
+      let same : block ≡ record { dc = None; pairs = record { items = block.pairs.items } } = ap
+      (λ d. let b : Block = record { dc = d; pairs = record { items = block.pairs.items } } in b) (shape.no_dc non_intra index first.below) in
       record {
         index = index;
         place = found.0;
@@ -241,7 +273,8 @@ pub same_coded_blocks : (seq : SeqState) (coding : PicCoding) (in_force mapped :
 same_coded_blocks seq coding in_force mapped from a b (inl p) (inl q) = same_blocks seq coding from.kind in_force mapped from.blocks a b p.0 q.0
 same_coded_blocks seq coding in_force mapped from a b (inl p) (inr q) = absurd (p.1 q.0)
 same_coded_blocks seq coding in_force mapped from a b (inr p) (inl q) = absurd (q.1 p.0)
-same_coded_blocks seq coding in_force mapped from a b (inr p) (inr q) = let emptied : IsEmptiedWithoutMotion seq coding in_force mapped from = p.0 in same_kept coding from emptied.non_intra a b p.1 q.1
+same_coded_blocks seq coding in_force mapped from a b (inr p)
+    (inr q) = let emptied : IsEmptiedWithoutMotion seq coding in_force mapped from = p.0 in same_kept coding from emptied.non_intra a b p.1 q.1
 
 abbrev pub behind_skipped : ℕ → Macroblock → Macroblock
 behind_skipped skipped m = record m { skipped_before = skipped }

@@ -1,5 +1,39 @@
 -- What the walk makes of a macroblock stands within its blocks too.
-use Rattle.std.proofs.Common.{◌≡◌, ℕ, zero, suc, ◌+◌, ◌*◌, ◌<◌, ◌≤◌, ℤ, pos, negsuc, unsigned_abs, Option, Some, None, List, [], ◌∷◌, Bool, true, false, refl, sym, ◌∙◌, ap, subst, ◌⊎◌, inl, inr, arith, length, get_or, option_map}
+use Rattle.std.proofs.Common.{
+  ◌≡◌,
+  ℕ,
+  zero,
+  suc,
+  ◌+◌,
+  ◌*◌,
+  ◌<◌,
+  ◌≤◌,
+  ℤ,
+  pos,
+  negsuc,
+  unsigned_abs,
+  Option,
+  Some,
+  None,
+  List,
+  [],
+  ◌∷◌,
+  Bool,
+  true,
+  false,
+  refl,
+  sym,
+  ◌∙◌,
+  ap,
+  subst,
+  ◌⊎◌,
+  inl,
+  inr,
+  arith,
+  length,
+  get_or,
+  option_map,
+}
 use Rattle.std.specs.Prelude.{◌==◌, ◌&&◌, not, slice_index_or, if◌then◌else◌}
 use Rattle.std.specs.Int.{int_signum}
 use Rattle.std.proofs.lemmas.Bool.{cases_Bool, cases_eq, and_parts, not-true}
@@ -17,7 +51,21 @@ use Rattle.syntax_types.specs.declared.picture.SeqState.{SeqState}
 use Rattle.picture_grammar.specs.Macroblock.{block_way, no_block}
 use Rattle.requantiser.specs.Blocks.{no_blocks}
 use Rattle.requantiser.specs.Private.Shapes.{FitBlock, IsMeasured}
-use Rattle.requantiser.specs.Private.Walk.{mapped_code, new_level, coarsened_pairs, coarsened_block, coarsened_blocks, first_of, first_coded, kept_blocks, is_coded_without_motion, are_empty, with_blocks, made_blocks, coarsened_macroblock}
+use Rattle.requantiser.specs.Private.Walk.{
+  mapped_code,
+  new_level,
+  coarsened_pairs,
+  coarsened_block,
+  coarsened_blocks,
+  first_of,
+  first_coded,
+  kept_blocks,
+  is_coded_without_motion,
+  are_empty,
+  with_blocks,
+  made_blocks,
+  coarsened_macroblock,
+}
 use Rattle.requantiser.proofs.Macroblocks.{get_or-coarsened, coarsened_macroblock-made}
 
 -- ---- levels don't grow
@@ -106,7 +154,8 @@ module _ (seq : SeqState) (coding : PicCoding) (code mapped : ℕ) (from : Macro
           (first_fits start block.pairs.items (measured.blocks first (omega arith))))
       at i below (inr there) =
           subst (λ (b : Block). FitBlock (if from.kind.intra then 1 else 0) b.pairs.items)
-          (sym (get_or-set_other no_blocks (first_coded from) i (first_of (slice_index_or from.blocks (first_coded from) no_block)) no_block there ∙ get_or-replicate BLOCKS i no_block no_block below)) tt
+          (sym (get_or-set_other no_blocks (first_coded from) i (first_of (slice_index_or from.blocks (first_coded from) no_block)) no_block there
+          ∙ get_or-replicate BLOCKS i no_block no_block below)) tt
 
   made_fit : (inner : Bool) (blocks : List Block) → made_blocks seq coding inner code mapped from ≡ Some blocks → FitBlocks from.kind.intra blocks
   made_fit inner blocks made = by_test (is_coded_without_motion from.kind && are_empty coarser) inner refl made

@@ -1,6 +1,42 @@
 -- One more coefficient of a block.
 use mir.Val.{bool_byte}
-use Rattle.std.proofs.Common.{◌≡◌, ℕ, ◌+◌, ◌<◌, ◌≤◌, Bool, ℤ, length-append, unsigned_abs, ◌^◌, ◌⊎◌, w16, to_z, of_z, List, [], ◌∷◌, ◌++◌, true, false, refl, sym, ◌∙◌, ap, subst, inl, inr, arith, length, drop, get_or, append_assoc, drop-cons, add-one, append-nil}
+use Rattle.std.proofs.Common.{
+  ◌≡◌,
+  ℕ,
+  ◌+◌,
+  ◌<◌,
+  ◌≤◌,
+  Bool,
+  ℤ,
+  length-append,
+  unsigned_abs,
+  ◌^◌,
+  ◌⊎◌,
+  w16,
+  to_z,
+  of_z,
+  List,
+  [],
+  ◌∷◌,
+  ◌++◌,
+  true,
+  false,
+  refl,
+  sym,
+  ◌∙◌,
+  ap,
+  subst,
+  inl,
+  inr,
+  arith,
+  length,
+  drop,
+  get_or,
+  append_assoc,
+  drop-cons,
+  add-one,
+  append-nil,
+}
 use Rattle.std.specs.Prelude.{◌==◌, if◌then◌else◌}
 use Rattle.std.proofs.lemmas.Bool.{cases_Bool}
 use Rattle.std.proofs.lemmas.Int.{to_z-of_z, fits_signed_from_abs}

@@ -1,6 +1,35 @@
 -- The pattern of blocks, one after the other.
 use mir.Val.{bool_byte}
-use Rattle.std.proofs.Common.{◌≡◌, ℕ, suc, ◌+◌, ◌-◌, ◌*◌, ◌^◌, ◌<◌, ◌≤◌, List, [], ◌∷◌, Bool, true, false, refl, sym, ◌∙◌, ap, ap₂, arith, length, drop, get_or, drop-cons, add-one, length-drop, pow-suc}
+use Rattle.std.proofs.Common.{
+  ◌≡◌,
+  ℕ,
+  suc,
+  ◌+◌,
+  ◌-◌,
+  ◌*◌,
+  ◌^◌,
+  ◌<◌,
+  ◌≤◌,
+  List,
+  [],
+  ◌∷◌,
+  Bool,
+  true,
+  false,
+  refl,
+  sym,
+  ◌∙◌,
+  ap,
+  ap₂,
+  arith,
+  length,
+  drop,
+  get_or,
+  drop-cons,
+  add-one,
+  length-drop,
+  pow-suc,
+}
 use Rattle.std.specs.Prelude.{◌==◌, not, map}
 use Rattle.std.proofs.lemmas.Bool.{ne_eqb}
 use Rattle.std.proofs.lemmas.List.{drop_all, length-map}

@@ -14,7 +14,18 @@ use Rattle.requantiser.specs.Macroblocks.{IsCoarserAt}
 use Rattle.requantiser.specs.Places.{item_at}
 use Rattle.requantiser.specs.Slices.{macroblock_at, end_column, is_inner, code_before, IsCoarserSlice}
 use Rattle.requantiser.specs.Private.Shapes.{HasShape}
-use Rattle.requantiser.specs.Private.Walk.{mapped_code, is_none, is_coded_without_motion, are_empty, with_blocks, kept_blocks, coarsened_blocks, coarsened_macroblock, coarsened_macroblocks, coarsened_slice}
+use Rattle.requantiser.specs.Private.Walk.{
+  mapped_code,
+  is_none,
+  is_coded_without_motion,
+  are_empty,
+  with_blocks,
+  kept_blocks,
+  coarsened_blocks,
+  coarsened_macroblock,
+  coarsened_macroblocks,
+  coarsened_slice,
+}
 use Rattle.requantiser.proofs.MappedCodes.{mapped_code-is, one_mapped}
 use Rattle.requantiser.proofs.Macroblocks.{behind_skipped, SameButSkipped, coarsened_macroblock-is, one_coarser_at}
 use Rattle.requantiser.proofs.Places.{item_at-here, item_at-there, item_at-before, BothOrNone, same_items}
@@ -121,10 +132,12 @@ module _ (seq : SeqState) (coding : PicCoding) (m : ℕ) where
 
   -- a macroblock of the coarser picture stands behind the skipped ones and those that were skipped before
   pub gap-walk : (inner : Bool) (code before skipped : ℕ) (from to : Macroblock) → coarsened_macroblock seq coding m inner code before skipped from ≡ Some to → to.skipped_before ≡ skipped
-  gap-walk inner code before skipped from to made = by_test (is_coded_without_motion from.kind && are_empty (coarsened_blocks seq coding from.kind code (mapped_code coding.q_scale_type m code) from.blocks)) inner made
+  gap-walk inner code before skipped from to made = by_test (is_coded_without_motion from.kind
+      && are_empty (coarsened_blocks seq coding from.kind code (mapped_code coding.q_scale_type m code) from.blocks)) inner made
     where
       by_test : (t i : Bool) → elim t [
-        | false ↦ Some (with_blocks coding (mapped_code coding.q_scale_type m code) before skipped from (coarsened_blocks seq coding from.kind code (mapped_code coding.q_scale_type m code) from.blocks))
+        | false ↦ Some (with_blocks coding (mapped_code coding.q_scale_type m code) before skipped from
+            (coarsened_blocks seq coding from.kind code (mapped_code coding.q_scale_type m code) from.blocks))
         | true ↦ elim i [ true ↦ None | false ↦ Some (with_blocks coding (mapped_code coding.q_scale_type m code) before skipped from (kept_blocks from)) ]
       ] ≡ Some to → to.skipped_before ≡ skipped
       by_test false i made = ap skipped_of (sym made)
@@ -226,9 +239,12 @@ module _ (seq : SeqState) (coding : PicCoding) (m : ℕ) where
       by_place same (inr (inr behind)) =
           at_same (inner column) (inner column) _ _ _ _ _ _ _ _
           refl (sym (code_from-behind code place from later column behind))
-          (sym (code_from-behind before start to _ column (omega arith) ∙ ap (λ n. code_from (unwrap_or to.code before) (n + 1) (walk false (unwrap_or from.code code) (unwrap_or to.code before) 0 later) column) same))
+          (sym (code_from-behind before start to _ column (omega arith)
+          ∙ ap (λ n. code_from (unwrap_or to.code before) (n + 1)
+          (walk false (unwrap_or from.code code) (unwrap_or to.code before) 0 later) column) same))
           (sym (item_at-there gap_of place column from later (λ h. absurd (omega arith))))
-          (sym (item_at-there gap_of start column to _ (λ h. absurd (omega arith)) ∙ ap (λ n. item_at gap_of (n + 1) (walk false (unwrap_or from.code code) (unwrap_or to.code before) 0 later) column) same))
+          (sym (item_at-there gap_of start column to _ (λ h. absurd (omega arith))
+          ∙ ap (λ n. item_at gap_of (n + 1) (walk false (unwrap_or from.code code) (unwrap_or to.code before) 0 later) column) same))
           rest
 
   -- at each column stands what must
@@ -270,7 +286,8 @@ module _ (seq : SeqState) (coding : PicCoding) (m : ℕ) where
     code_of-same (Some x) (Some y) code both = ap (λ m. let macroblock : Macroblock = m in unwrap_or macroblock.code code) (both 0)
 
     both_at : (column : ℕ) → code_before a column ≡ code_before b column → BothOrNone gap_of SameButSkipped (macroblock_at a column) (macroblock_at b column)
-    both_at column same = one_coarser_at seq coding m (is_inner from column) (code_before from column) (code_before b column) (macroblock_at from column) (macroblock_at a column) (macroblock_at b column)
+    both_at column same = one_coarser_at seq coding m (is_inner from column) (code_before from column) (code_before b column)
+        (macroblock_at from column) (macroblock_at a column) (macroblock_at b column)
         (subst (λ code. IsCoarserAt seq coding m (is_inner from column) (code_before from column) code (macroblock_at from column) (macroblock_at a column)) same (p.macroblocks column))
         (q.macroblocks column)
 

@@ -1,5 +1,43 @@
 -- Macroblocks of a version that some bits spell.
-use Rattle.std.proofs.Common.{◌≡◌, ◌≢◌, ◌⊎◌, ◌+◌, ◌-◌, ◌<◌, ◌==◌, ◌&&◌, ◌||◌, ℕ, zero, suc, ℤ, pos, negsuc, unsigned_abs, not, Option, Some, None, List, [], ◌∷◌, length, Bool, true, false, if◌then◌else◌, refl, sym, ◌∙◌, ap, subst, inl, inr, arith, get_or}
+use Rattle.std.proofs.Common.{
+  ◌≡◌,
+  ◌≢◌,
+  ◌⊎◌,
+  ◌+◌,
+  ◌-◌,
+  ◌<◌,
+  ◌==◌,
+  ◌&&◌,
+  ◌||◌,
+  ℕ,
+  zero,
+  suc,
+  ℤ,
+  pos,
+  negsuc,
+  unsigned_abs,
+  not,
+  Option,
+  Some,
+  None,
+  List,
+  [],
+  ◌∷◌,
+  length,
+  Bool,
+  true,
+  false,
+  if◌then◌else◌,
+  refl,
+  sym,
+  ◌∙◌,
+  ap,
+  subst,
+  inl,
+  inr,
+  arith,
+  get_or,
+}
 use Rattle.std.specs.Prelude.{slice_index_or, slice_set, is_some}
 use Rattle.std.specs.Int.{bit_at, int_signum}
 use Rattle.std.specs.List.{AllByRecursion}
@@ -21,7 +59,21 @@ use Rattle.picture_grammar.specs.Grammar.{optional, when}
 use Rattle.picture_grammar.specs.Element.{vlclbf, one_flag}
 use Rattle.picture_grammar.specs.Block.{dc_coefficient}
 use Rattle.picture_grammar.specs.Motion.{motion_vectors}
-use Rattle.picture_grammar.specs.Macroblock.{address_increment, most_increment, macroblock_type, motion_type, dct_type, has_dct_type, has_forward, f_codes, motion_format, quantiser_scale_code, block_way, is_coded, no_block}
+use Rattle.picture_grammar.specs.Macroblock.{
+  address_increment,
+  most_increment,
+  macroblock_type,
+  motion_type,
+  dct_type,
+  has_dct_type,
+  has_forward,
+  f_codes,
+  motion_format,
+  quantiser_scale_code,
+  block_way,
+  is_coded,
+  no_block,
+}
 use Rattle.picture_laws.specs.Spellable.{IsSpellable, IsSpellableBlock, AreSpellableBlocks, HasSpellableParts}
 use Rattle.picture_laws.proofs.WrittenBlocks.{of_blocks, blocks-of}
 use Rattle.requantiser.specs.Blocks.{IsCoarserBlock, AreCoarserBlocks, no_blocks, block_of_one}

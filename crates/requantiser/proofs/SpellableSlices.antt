@@ -1,5 +1,40 @@
 -- Slices of a version that some bits spell.
-use Rattle.std.proofs.Common.{◌≡◌, ◌⊎◌, ◌+◌, ◌-◌, ◌<◌, ◌≤◌, ◌==◌, ◌&&◌, ℕ, min, not, Option, Some, None, List, [], ◌∷◌, ◌++◌, length, unwrap_or, Bool, true, false, if◌then◌else◌, refl, sym, ◌∙◌, ap, subst, inl, inr, arith, append_assoc, append-nil}
+use Rattle.std.proofs.Common.{
+  ◌≡◌,
+  ◌⊎◌,
+  ◌+◌,
+  ◌-◌,
+  ◌<◌,
+  ◌≤◌,
+  ◌==◌,
+  ◌&&◌,
+  ℕ,
+  min,
+  not,
+  Option,
+  Some,
+  None,
+  List,
+  [],
+  ◌∷◌,
+  ◌++◌,
+  length,
+  unwrap_or,
+  Bool,
+  true,
+  false,
+  if◌then◌else◌,
+  refl,
+  sym,
+  ◌∙◌,
+  ap,
+  subst,
+  inl,
+  inr,
+  arith,
+  append_assoc,
+  append-nil,
+}
 use Rattle.std.specs.List.{sum_by}
 use Rattle.std.proofs.lemmas.Bool.{ne_eqb}
 use Rattle.std.proofs.lemmas.List.{length-append}

@@ -1,5 +1,42 @@
 -- Macroblocks that some bits spell have the shape that the walk needs.
-use Rattle.std.proofs.Common.{◌≡◌, ◌≢◌, ℕ, zero, suc, ℤ, pos, unsigned_abs, ◌+◌, ◌-◌, ◌^◌, ◌<◌, ◌&&◌, Option, Some, None, List, [], ◌∷◌, ◌++◌, Bool, true, false, nat_lt, refl, sym, ◌∙◌, ap, subst, inl, inr, length, get_or, add-zero, zero-add, arith}
+use Rattle.std.proofs.Common.{
+  ◌≡◌,
+  ◌≢◌,
+  ℕ,
+  zero,
+  suc,
+  ℤ,
+  pos,
+  unsigned_abs,
+  ◌+◌,
+  ◌-◌,
+  ◌^◌,
+  ◌<◌,
+  ◌&&◌,
+  Option,
+  Some,
+  None,
+  List,
+  [],
+  ◌∷◌,
+  ◌++◌,
+  Bool,
+  true,
+  false,
+  nat_lt,
+  refl,
+  sym,
+  ◌∙◌,
+  ap,
+  subst,
+  inl,
+  inr,
+  length,
+  get_or,
+  add-zero,
+  zero-add,
+  arith,
+}
 use Rattle.std.specs.Prelude.{◌==◌, ◌||◌, not, find, is_some, if◌then◌else◌}
 use Rattle.std.specs.Int.{bit_at}
 use Rattle.std.specs.List.{range_with_len}
@@ -25,7 +62,21 @@ use Rattle.picture_grammar.specs.Refusal.Refusal.{NoCode, TooMany, BadEscape, Ba
 use Rattle.picture_grammar.specs.Grammar.{Grammar, SpellsList, optional, when, each}
 use Rattle.picture_grammar.specs.Grammar.Next.{more, last}
 use Rattle.picture_grammar.specs.Element.{rule, element, vlclbf}
-use Rattle.picture_grammar.specs.Block.{dc_coefficient, Coefficient, CoefficientCode, after_code, is_level, signed, escape_level, is_within, next_place, coefficient_table, coefficient, block, first_place}
+use Rattle.picture_grammar.specs.Block.{
+  dc_coefficient,
+  Coefficient,
+  CoefficientCode,
+  after_code,
+  is_level,
+  signed,
+  escape_level,
+  is_within,
+  next_place,
+  coefficient_table,
+  coefficient,
+  block,
+  first_place,
+}
 use Rattle.picture_grammar.specs.Block.Coefficient.{end_of_block, run_size, escape}
 use Rattle.picture_grammar.specs.Macroblock.{block_way, is_coded, no_block, quantiser_scale_code, macroblock}
 use Rattle.picture_grammar.proofs.Codes.{coefficient_code-listed}
@@ -63,7 +114,8 @@ module _ (way : BlockWay) (before : List RunLevel) where
 
   coefficient_stands : (pair : RunLevel) (bits middle : List ℕ) → (coefficient way before).Spells (more pair) bits middle → Stands pair
   coefficient_stands pair bits middle (c, m, s, t) = by_code c m s t where
-    by_code : (c : Coefficient) (m : List ℕ) → (element (CoefficientCode (coefficient_table way (next_place way before))) NoCode (rule TooMany (is_within (next_place way before)) ∷ rule BadEscape is_level ∷ [])).Spells c bits m
+    by_code : (c : Coefficient) (m : List ℕ) → (element (CoefficientCode (coefficient_table way (next_place way before))) NoCode
+        (rule TooMany (is_within (next_place way before)) ∷ rule BadEscape is_level ∷ [])).Spells c bits m
         → (after_code c).Spells (more pair) m middle → Stands pair
     by_code end_of_block m s (e, f) = absurd (let e' : more pair ≡ last tt = e in cc)
     by_code (run_size run size) m (code, listed, passing, split) (negative, m', s', (e, f)) =
@@ -83,7 +135,8 @@ module _ (way : BlockWay) (before : List RunLevel) where
   -- behind some coefficients there may be the end of block; the table of the first one has none
   ends : (bits rest : List ℕ) → (coefficient way before).Spells (last tt) bits rest → (code : List ℕ) × (code_in (coefficient_table way (next_place way before)) END_OF_BLOCK ≡ Some code)
   ends bits rest (c, m, s, t) = by_code c m s t where
-    by_code : (c : Coefficient) (m : List ℕ) → (element (CoefficientCode (coefficient_table way (next_place way before))) NoCode (rule TooMany (is_within (next_place way before)) ∷ rule BadEscape is_level ∷ [])).Spells c bits m
+    by_code : (c : Coefficient) (m : List ℕ) → (element (CoefficientCode (coefficient_table way (next_place way before))) NoCode
+        (rule TooMany (is_within (next_place way before)) ∷ rule BadEscape is_level ∷ [])).Spells c bits m
         → (after_code c).Spells (last tt) m rest → (code : List ℕ) × (code_in (coefficient_table way (next_place way before)) END_OF_BLOCK ≡ Some code)
     by_code end_of_block m (code, listed, passing, split) t = (code, listed)
     by_code (run_size run size) m s (negative, m', s', (e, f)) = absurd (let e' : last tt ≡ more (record { run = run; level = signed size negative }) = e in cc)
@@ -214,7 +267,8 @@ spelled-walkable coding first columns_left v bits rest
 
     each_block : (i : ℕ) → i < BLOCKS → IsBlockOf kind pattern i (get_or blocks i no_block)
     each_block i below = subst (λ k. IsBlockOf kind pattern k (get_or blocks i no_block)) (get_or-range_with_len 0 BLOCKS i 0 below ∙ zero-add i)
-        (each_passes grammar (IsBlockOf kind pattern) (λ i b bits rest s. block-is coding kind pattern i (is_coded kind pattern i) b bits rest refl s) (range_with_len 0 BLOCKS) blocks m9 m10 s10 0 no_block i
+        (each_passes grammar (IsBlockOf kind pattern) (λ i b bits rest s. block-is coding kind pattern i (is_coded kind pattern i) b bits rest refl s)
+        (range_with_len 0 BLOCKS) blocks m9 m10 s10 0 no_block i
         (omega (arith, length-range_with_len 0 BLOCKS)))
 
 pub walkable : (coding : PicCoding) (m : Macroblock) → IsSpelledMacroblock coding m → IsWalkable m

@@ -69,7 +69,9 @@ raster_weights : (weights : List ℕ) → AreWeights weights → AreWeights (in_
 raster_weights weights are = (
   length-map-range_with_len (λ index. slice_index weights (unwrap_or (position (λ x. x == index) zigzag_scan) 0)) 0 64,
   all_map (λ index. slice_index weights (unwrap_or (position (λ x. x == index) zigzag_scan) 0)) (range_with_len 0 64)
-      (λ index. at_place weights (unwrap_or (position (λ x. x == index) zigzag_scan) 0) (let below : unwrap_or (position (λ x. x == index) zigzag_scan) 0 < 64 = place_within (position (λ x. x == index) zigzag_scan) index refl in omega (arith, below, are.0)) are.1),
+      (λ index. at_place weights (unwrap_or (position (λ x. x == index) zigzag_scan) 0)
+      (let below : unwrap_or (position (λ x. x == index) zigzag_scan) 0
+      < 64 = place_within (position (λ x. x == index) zigzag_scan) index refl in omega (arith, below, are.0)) are.1),
 )
 
 matrix_or-weights : (found : Option (List ℕ)) (matrix : List ℕ) → AreLoaded found → AreWeights matrix → AreWeights (matrix_or found matrix)
@@ -95,8 +97,37 @@ pub record IsUsable (seq : SeqState) : Type 0 where
   pub width : seq.width ≤ WIDTH_MOST
 
 header_is : (before : Option SeqState) (seq : SeqState) (bits rest : List ℕ) → (sequence_header before).Spells seq bits rest → IsUsable seq
-header_is before seq bits rest
-    (width, m1, (code, coded, passing, split), (height, m2, s2, (aspect, m3, s3, (rate, m4, s4, (bit_rate, m5, s5, (marker, m6, s6, (vbv, m7, s7, (constrained, m8, s8, (intra, m9, s9, (non_intra, m10, s10, (e, f))))))))))) =
+header_is before seq bits rest (
+  width,
+  m1,
+  (code, coded, passing, split),
+  (
+    height,
+    m2,
+    s2,
+    (
+      aspect,
+      m3,
+      s3,
+      (
+        rate,
+        m4,
+        s4,
+        (
+          bit_rate,
+          m5,
+          s5,
+          (
+            marker,
+            m6,
+            s6,
+            (vbv, m7, s7, (constrained, m8, s8, (intra, m9, s9, (non_intra, m10, s10, (e, f))))),
+          ),
+        ),
+      ),
+    ),
+  ),
+) =
     let sizes = and_parts (nat_le WIDTH_LEAST width) (nat_le width WIDTH_MOST) (and_parts (is_from_to WIDTH_LEAST WIDTH_MOST width) _ passing).0 in
     subst IsUsable (sym e) (record {
       weights = record {

@@ -42,7 +42,8 @@ last_increment most symbol n escapes code false listed passing e =
     let is : n ≡ symbol = cc in
     record { some = omega (arith, symbol_some symbol code listed, is); within = omega (arith, leb-true (escape_increment * escapes + symbol) most passing, is) }
 
-increments : (most n : ℕ) (before escapes : List (Unit {0})) (bits rest : List ℕ) → SpellsList (address_code most) before escapes n bits rest → IsIncrement most (escape_increment * length (before ++ escapes) + n)
+increments : (most n : ℕ) (before escapes : List (Unit {0})) (bits rest : List ℕ) → SpellsList (address_code most) before escapes n bits rest
+    → IsIncrement most (escape_increment * length (before ++ escapes) + n)
 increments most n before [] bits rest (symbol, m, (code, listed, passing, split), (e, f)) =
     subst (λ (xs : List (Unit {0})). IsIncrement most (escape_increment * length xs + n)) (sym (append-nil before))
     (last_increment most symbol n (length before) code (symbol == ADDRESS_ESCAPE) listed (and_parts (nat_le (escape_increment * length before + symbol) most) true passing).0 e)

@@ -29,17 +29,37 @@ grows_by_one n = grind (arith, nat_tests)
 
 pub read_causes : {T : Type 0} (r : Result T Fault) (old new : ShelfCounts) → new ≡ counts_after_read old r → ReadCauses (IsErrOf r Failed) (IsErrOf r Missing) old new
 read_causes (Ok n) old new is = rw is record { failed_rose = λ e. cc; missing_rose = λ e. cc; faults_grow = omega arith; same_write_faults = refl; absences_grow = omega arith }
-read_causes (Err Failed) old new is = rw is record { failed_rose = λ e. rose_by_one old.faults; missing_rose = λ e. cc; faults_grow = grows_by_one old.faults; same_write_faults = refl; absences_grow = omega arith }
-read_causes (Err Missing) old new is = rw is record { failed_rose = λ e. cc; missing_rose = λ e. rose_by_one old.absences; faults_grow = omega arith; same_write_faults = refl; absences_grow = grows_by_one old.absences }
+read_causes (Err Failed) old new is = rw is record {
+  failed_rose = λ e. rose_by_one old.faults;
+  missing_rose = λ e. cc;
+  faults_grow = grows_by_one
+      old.faults;
+  same_write_faults = refl;
+  absences_grow = omega arith;
+}
+read_causes (Err Missing) old new is = rw is record {
+  failed_rose = λ e. cc;
+  missing_rose = λ e. rose_by_one old.absences;
+  faults_grow = omega arith;
+  same_write_faults = refl;
+  absences_grow = grows_by_one old.absences;
+}
 read_causes (Err OutOfMemory) old new is = rw is record { failed_rose = λ e. cc; missing_rose = λ e. cc; faults_grow = omega arith; same_write_faults = refl; absences_grow = omega arith }
 
 pub write_causes : {T : Type 0} (r : Result T Fault) (old new : ShelfCounts) → r ≢ Err Missing → new ≡ counts_after_write old r → WriteCauses (IsErrOf r Failed) (IsErrOf r Missing) old new
 write_causes (Ok n) old new never is = rw is record { failed_rose = λ e. cc; never_missing = never; same_faults = refl; write_faults_grow = omega arith; same_absences = refl }
-write_causes (Err Failed) old new never is = rw is record { failed_rose = λ e. rose_by_one old.write_faults; never_missing = never; same_faults = refl; write_faults_grow = grows_by_one old.write_faults; same_absences = refl }
+write_causes (Err Failed) old new never is = rw is record {
+  failed_rose = λ e. rose_by_one old.write_faults;
+  never_missing = never;
+  same_faults = refl;
+  write_faults_grow = grows_by_one old.write_faults;
+  same_absences = refl;
+}
 write_causes (Err Missing) old new never is = absurd (never refl)
 write_causes (Err OutOfMemory) old new never is = rw is record { failed_rose = λ e. cc; never_missing = never; same_faults = refl; write_faults_grow = omega arith; same_absences = refl }
 
-pub put_causes : {K T : Type 0} (faults : K → ℕ) (r : Result T Fault) (old new : K) → r ≢ Err Missing → faults new ≡ faults_after_put (faults old) r → SinkCauses faults (IsErrOf r Failed) (IsErrOf r Missing) old new
+pub put_causes : {K T : Type 0} (faults : K → ℕ) (r : Result T Fault) (old new : K) → r ≢ Err Missing → faults new ≡ faults_after_put (faults old) r
+    → SinkCauses faults (IsErrOf r Failed) (IsErrOf r Missing) old new
 put_causes faults (Ok n) old new never is = record { failed_rose = λ e. cc; never_missing = never; faults_grow = omega arith }
 put_causes faults (Err Failed) old new never is =
     let rose : Rose (faults old) (faults new) = rw is (rose_by_one (faults old)) in

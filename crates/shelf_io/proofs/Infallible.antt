@@ -1,5 +1,34 @@
 -- A take that always answers Ok meets what a source promises.
-use Rattle.std.proofs.Common.{◌≡◌, ◌≤◌, ◌+◌, ◌-◌, ◌^◌, min, ℕ, List, [], ◌∷◌, Option, Some, cond, is_some, slice_get, Result, Ok, Err, IfOk, OnErr, IsOkAnd, length, drop, subst, ap, refl, arith, length-drop}
+use Rattle.std.proofs.Common.{
+  ◌≡◌,
+  ◌≤◌,
+  ◌+◌,
+  ◌-◌,
+  ◌^◌,
+  min,
+  ℕ,
+  List,
+  [],
+  ◌∷◌,
+  Option,
+  Some,
+  cond,
+  is_some,
+  slice_get,
+  Result,
+  Ok,
+  Err,
+  IfOk,
+  OnErr,
+  IsOkAnd,
+  length,
+  drop,
+  subst,
+  ap,
+  refl,
+  arith,
+  length-drop,
+}
 use Rattle.shelf_io.specs.declared.fault.Fault.{Fault}
 use Rattle.shelf_io.specs.Buffer.{CopiesFront}
 use Rattle.shelf_io.specs.Source.{Takes}
@@ -15,7 +44,8 @@ on_err (Err e) P Q h = absurd h
 pub never_err : {T : Type 0} (r : Result T Fault) (e : Fault) (P : T → Type 0) → IsOkAnd r P → r ≡ Err e → ⊥
 never_err r e P h is = subst (λ x. IsOkAnd x P) is h
 
-pub takes : (r : Result ℕ Fault) (old new before after : List ℕ) → length old ≤ 2 ^ 60 → IsOkAnd r (CopiesFront old before after) → IsOkAnd r (λ n. new ≡ drop n old) → IfOk r (Takes (Some old) (Some new) (min (length old) (2 ^ 60)) (min (length new) (2 ^ 60)))
+pub takes : (r : Result ℕ Fault) (old new before after : List ℕ) → length old ≤ 2 ^ 60 → IsOkAnd r (CopiesFront old before after)
+    → IsOkAnd r (λ n. new ≡ drop n old) → IfOk r (Takes (Some old) (Some new) (min (length old) (2 ^ 60)) (min (length new) (2 ^ 60)))
 takes (Ok n) old new before after fits fills rest = record {
   rest = ap Some rest;
   fewer = simp (rest, length-drop) (fewer fits fills.within);
@@ -29,6 +59,8 @@ pub one_byte : (old : List ℕ) → length old ≤ 2 ^ 60 → Takes (Some old) (
 one_byte [] fits = record { rest = refl; fewer = omega arith }
 one_byte (byte ∷ bytes) fits = record { rest = refl; fewer = omega arith }
 
-pub takes_byte : (r : Result (Option ℕ) Fault) (old new : List ℕ) → length old ≤ 2 ^ 60 → IsOkAnd r (λ byte. byte ≡ slice_get old 0) → new ≡ drop 1 old → IfOk r (λ byte. Takes (Some old) (Some new) (min (length old) (2 ^ 60)) (min (length new) (2 ^ 60)) (cond (is_some byte) 1 0))
+pub takes_byte : (r : Result (Option ℕ) Fault) (old new : List ℕ) → length old ≤ 2 ^ 60 → IsOkAnd r (λ byte. byte ≡ slice_get old 0)
+    → new ≡ drop 1 old → IfOk r (λ byte. Takes (Some old) (Some new) (min (length old) (2 ^ 60)) (min (length new) (2 ^ 60))
+    (cond (is_some byte) 1 0))
 takes_byte (Ok byte) old new fits first rest = rw (first, rest) (one_byte old fits)
 takes_byte (Err e) old new fits first rest = absurd first

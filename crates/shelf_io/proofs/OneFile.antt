@@ -1,5 +1,43 @@
 -- One file of a shelf, as a source and as a sink.
-use Rattle.std.proofs.Common.{◌≡◌, ℕ, ◌+◌, ◌-◌, ◌<◌, ◌≤◌, List, [], ◌++◌, Option, None, Some, Result, Ok, Err, Bool, true, false, true≢false, cond, IfOk, OnErr, IfSome, IsSome, IsSomeAnd, unwrap_or, length, take, drop, min, refl, ap, sym, subst, ◌∙◌, arith, append_assoc}
+use Rattle.std.proofs.Common.{
+  ◌≡◌,
+  ℕ,
+  ◌+◌,
+  ◌-◌,
+  ◌<◌,
+  ◌≤◌,
+  List,
+  [],
+  ◌++◌,
+  Option,
+  None,
+  Some,
+  Result,
+  Ok,
+  Err,
+  Bool,
+  true,
+  false,
+  true≢false,
+  cond,
+  IfOk,
+  OnErr,
+  IfSome,
+  IsSome,
+  IsSomeAnd,
+  unwrap_or,
+  length,
+  take,
+  drop,
+  min,
+  refl,
+  ap,
+  sym,
+  subst,
+  ◌∙◌,
+  arith,
+  append_assoc,
+}
 use Rattle.std.proofs.lemmas.List.{take-take, take-append-drop, drop-take, drop-drop, length-take}
 use Rattle.std.proofs.lemmas.Option.{none-some, same_Some}
 use Rattle.std.specs.Ordering.{nat_cmp, eq_by_cmp}
@@ -53,9 +91,11 @@ one_content files new name content held same is = same_map nat_list_cmp_total (s
 
     at_each : (q : List ℕ) (b : Bool) → eq_by_cmp (slice_cmp nat_cmp) q name ≡ b → get new q ≡ cond b (Some content) (get files q)
     at_each q true e = ap (get new) (slice_cmp-IsAntisymmetric nat_cmp-IsAntisymmetric q name ((Equal-is _).0 e)) ∙ there (get new name) held ∙ ap Some is
-    at_each q false e = ap (λ b. cond b None (get new q)) (sym e) ∙ sym (get-remove nat_list_cmp_total new name q) ∙ ap (λ m. get m q) same ∙ get-remove nat_list_cmp_total files name q ∙ ap (λ b. cond b None (get files q)) e
+    at_each q false e = ap (λ b. cond b None (get new q)) (sym e) ∙ sym (get-remove nat_list_cmp_total new name q) ∙ ap (λ m. get m q) same
+        ∙ get-remove nat_list_cmp_total files name q ∙ ap (λ b. cond b None (get files q)) e
 
-content_written : (told new : Option Files) (name bytes : List ℕ) → FileIsHeld new name → others new name ≡ others told name → written_to new name ≡ with_bytes (written_to told name) bytes → new ≡ with_more told name bytes
+content_written : (told new : Option Files) (name bytes : List ℕ) → FileIsHeld new name → others new name ≡ others told name
+    → written_to new name ≡ with_bytes (written_to told name) bytes → new ≡ with_more told name bytes
 content_written None None name bytes held same is = refl
 content_written None (Some files) name bytes held same is = absurd (none-some _ (sym same))
 content_written (Some files) None name bytes held same is = absurd (none-some _ same)
@@ -64,7 +104,10 @@ content_written (Some files) (Some new) name bytes held same is =
     ap Some (one_content files new name (content_of files name ++ bytes) held (same_Some _ _ same) content)
 
 -- what went through a Writing to a held file was added to its end, and every other file stays
-pub writing_adds : {K : Type 0} (files : K → Option Files) (counts : K → ShelfCounts) (asked : K → List ℕ → ℕ) (old new : Writing K) (name bytes : List ℕ) → old.name.now ≡ name → KeepsOthers files counts asked old new → FileIsHeld (files old.shelf.now) name → written_to (files new.shelf.now) new.name.now ≡ with_bytes (written_to (files old.shelf.now) old.name.now) bytes → files new.shelf.now ≡ with_more (files old.shelf.now) name bytes
+pub writing_adds : {K : Type 0} (files : K → Option Files) (counts : K → ShelfCounts) (asked : K → List ℕ → ℕ) (old new : Writing K)
+    (name bytes : List ℕ) → old.name.now ≡ name → KeepsOthers files counts asked old new → FileIsHeld (files old.shelf.now) name
+    → written_to (files new.shelf.now) new.name.now ≡ with_bytes (written_to (files old.shelf.now) old.name.now) bytes
+    → files new.shelf.now ≡ with_more (files old.shelf.now) name bytes
 writing_adds files counts asked old new name bytes named keeps held written =
     let renamed : new.name.now ≡ name = keeps.same_name ∙ named in
     content_written (files old.shelf.now) (files new.shelf.now) name bytes
@@ -72,15 +115,18 @@ writing_adds files counts asked old new name bytes named keeps held written =
     (ap (others (files new.shelf.now)) (sym renamed) ∙ keeps.same_others ∙ ap (others (files old.shelf.now)) named)
     (ap (written_to (files new.shelf.now)) (sym renamed) ∙ written ∙ ap (λ n. with_bytes (written_to (files old.shelf.now) n) bytes) named)
 
-pub put_told : (r : Result ℕ Fault) (told new : Option Files) (name piece : List ℕ) → IfOk r (λ n. new ≡ with_more told name (take n piece)) → IfOk r (λ n. written_to new name ≡ with_bytes (written_to told name) (take n piece))
+pub put_told : (r : Result ℕ Fault) (told new : Option Files) (name piece : List ℕ) → IfOk r (λ n. new ≡ with_more told name (take n piece))
+    → IfOk r (λ n. written_to new name ≡ with_bytes (written_to told name) (take n piece))
 put_told (Ok n) told new name piece ok = ap (λ t. written_to t name) ok ∙ written_to-with_more told name (take n piece)
 put_told (Err e) told new name piece ok = tt
 
-pub put_others : (r : Result ℕ Fault) (told new : Option Files) (name piece : List ℕ) → IfOk r (λ n. new ≡ with_more told name (take n piece)) → OnErr r (new ≡ told) → others new name ≡ others told name
+pub put_others : (r : Result ℕ Fault) (told new : Option Files) (name piece : List ℕ) → IfOk r (λ n. new ≡ with_more told name (take n piece))
+    → OnErr r (new ≡ told) → others new name ≡ others told name
 put_others (Ok n) told new name piece ok err = ap (λ t. others t name) ok ∙ others-with_more told name (take n piece)
 put_others (Err e) told new name piece ok err = ap (λ t. others t name) err
 
-pub put_held : (r : Result ℕ Fault) (told new : Option Files) (name piece : List ℕ) → IfOk r (λ n. new ≡ with_more told name (take n piece)) → OnErr r (new ≡ told) → FileIsHeld told name → FileIsHeld new name
+pub put_held : (r : Result ℕ Fault) (told new : Option Files) (name piece : List ℕ) → IfOk r (λ n. new ≡ with_more told name (take n piece))
+    → OnErr r (new ≡ told) → FileIsHeld told name → FileIsHeld new name
 put_held (Ok n) told new name piece ok err held = rw ok (FileIsHeld-with_more told name (take n piece))
 put_held (Err e) told new name piece ok err held = rw err held
 
@@ -94,7 +140,8 @@ seam xs n size h =
     ∙ take-append-drop (size - n) (drop n xs)
 
 -- what went to the front of a part of a buffer went to the front of the buffer
-fills_part : (rest buf room after : List ℕ) (m size n : ℕ) → size ≡ min (length buf) m → n ≤ size → after ≡ room ++ drop size buf → CopiesFront rest (take size buf) room n → CopiesFront (take m rest) buf after n
+fills_part : (rest buf room after : List ℕ) (m size n : ℕ) → size ≡ min (length buf) m → n ≤ size → after ≡ room ++ drop size buf
+    → CopiesFront rest (take size buf) room n → CopiesFront (take m rest) buf after n
 fills_part rest buf room after m size n is few joined fills =
     let front : take n (take m rest) ≡ take n rest = take-take n m rest (omega arith) in
     record {
@@ -117,10 +164,13 @@ content_holds P None h = absurd h
 content_holds P (Some content) h = h
 
 -- a read of a part of the buffer takes from what is left of the file
-pub reading_fills : (told : Option Files) (name buf room after : List ℕ) (place size n : ℕ) → size ≡ min (length buf) (most_from place) → n ≤ size → after ≡ room ++ drop size buf → IfTold told name (λ content. CopiesFront (drop place content) (take size buf) room n) → IfSome (left_from told name place) (λ bytes. CopiesFront bytes buf after n)
+pub reading_fills : (told : Option Files) (name buf room after : List ℕ) (place size n : ℕ) → size ≡ min (length buf) (most_from place) → n ≤ size
+    → after ≡ room ++ drop size buf → IfTold told name (λ content. CopiesFront (drop place content) (take size buf) room n)
+    → IfSome (left_from told name place) (λ bytes. CopiesFront bytes buf after n)
 reading_fills None name buf room after place size n is few joined held = tt
 reading_fills (Some files) name buf room after place size n is few joined held =
-    fills_part (drop place (content_of files name)) buf room after (most_from place) size n is few joined (content_holds (λ content. CopiesFront (drop place content) (take size buf) room n) (get files name) held)
+    fills_part (drop place (content_of files name)) buf room after (most_from place) size n is few joined
+    (content_holds (λ content. CopiesFront (drop place content) (take size buf) room n) (get files name) held)
 
 later : (content : List ℕ) (place n : ℕ) → n ≤ most_from place → take (most_from (place + n)) (drop (place + n) content) ≡ drop n (take (most_from place) (drop place content))
 later content place n h =

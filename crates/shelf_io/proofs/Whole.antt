@@ -1,5 +1,33 @@
 -- Files that are read or written in several calls.
-use Rattle.std.proofs.Common.{◌≡◌, ℕ, ◌-◌, ◌<◌, ◌≤◌, List, [], ◌++◌, Option, None, Some, Bool, true, false, cond, IsSomeAnd, unwrap_or, length, take, drop, refl, ap, sym, ◌∙◌, arith, length-drop, length-take-le}
+use Rattle.std.proofs.Common.{
+  ◌≡◌,
+  ℕ,
+  ◌-◌,
+  ◌<◌,
+  ◌≤◌,
+  List,
+  [],
+  ◌++◌,
+  Option,
+  None,
+  Some,
+  Bool,
+  true,
+  false,
+  cond,
+  IsSomeAnd,
+  unwrap_or,
+  length,
+  take,
+  drop,
+  refl,
+  ap,
+  sym,
+  ◌∙◌,
+  arith,
+  length-drop,
+  length-take-le,
+}
 use Rattle.std.proofs.Math.Seq.{take-add}
 use Rattle.std.proofs.lemmas.List.{take_at}
 use Rattle.std.specs.Ordering.{nat_cmp, eq_by_cmp}
@@ -30,11 +58,15 @@ content_of-insert files name content =
     ∙ ap (λ b. cond b (Some content) (get files name)) ((eq_by_cmp_equiv nat_list_cmp_total).refl name))
 
 -- n bytes that a read gave, at the end of what stands before them
-pub adds_next : (content old new before after : List ℕ) (at n : ℕ) → at ≡ length old → 0 < length before → new ≡ old ++ take n after → CopiesFront (drop at content) before after n → AddsNext old new n content
+pub adds_next : (content old new before after : List ℕ) (at n : ℕ) → at ≡ length old → 0 < length before → new ≡ old ++ take n after
+    → CopiesFront (drop at content) before after n → AddsNext old new n content
 adds_next content old new before after at n place room added fills front =
     let bytes : take n after ≡ take n (drop (length old) content) =
-    ap (take n) fills.front ∙ take_at _ (drop n before) n (length-take-le n (drop at content) fills.within) ∙ ap (λ place. take n (drop place content)) place in
-    (added ∙ ap (λ more. old ++ more) bytes ∙ ap (λ front. front ++ take n (drop (length old) content)) front ∙ sym (take-add (length old) n content), at_end (length-drop at content) fills.progress place room)
+    ap (take n) fills.front ∙ take_at _ (drop n before) n (length-take-le n (drop at content) fills.within) ∙ ap (λ place. take n (drop place content)) place in (
+      added ∙ ap (λ more. old ++ more) bytes ∙ ap (λ front. front ++ take n (drop (length old) content)) front
+          ∙ sym (take-add (length old) n content),
+      at_end (length-drop at content) fills.progress place room,
+    )
   where
     at_end : length (drop at content) ≡ length content - at → (0 < length before → 0 < length (drop at content) → 0 < n) → at ≡ length old → 0 < length before → n ≡ 0 → length content ≤ length old
     at_end rest progress place room none = grind arith

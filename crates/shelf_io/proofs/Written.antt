@@ -24,6 +24,7 @@ twice : (told : Told) (piece : List ℕ) (k n : ℕ) → with_bytes (with_bytes 
 twice told piece k n = with_bytes-twice told (take k piece) (take n (drop k piece)) ∙ ap (with_bytes told) (sym (take-add k n piece))
 
 -- to add the first k bytes of a piece and then the first n of the rest is to add the first k + n
-pub with_bytes_twice : (told mid new : Told) (piece : List ℕ) (k n : ℕ) → n ≤ length piece - k → mid ≡ with_bytes told (take k piece) → new ≡ with_bytes mid (take n (take (length piece - k) (drop k piece))) → new ≡ with_bytes told (take (k + n) piece)
+pub with_bytes_twice : (told mid new : Told) (piece : List ℕ) (k n : ℕ) → n ≤ length piece - k → mid ≡ with_bytes told (take k piece)
+    → new ≡ with_bytes mid (take n (take (length piece - k) (drop k piece))) → new ≡ with_bytes told (take (k + n) piece)
 with_bytes_twice told mid new piece k n h before then =
     then ∙ ap (with_bytes mid) (take_rest piece k n h) ∙ ap (λ was. with_bytes was (take n (drop k piece))) before ∙ twice told piece k n

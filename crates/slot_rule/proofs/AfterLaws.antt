@@ -20,7 +20,9 @@ NoneLate-in_time states end now stream work packet row d row_is now_is work_is i
     let packets_are : packet' ≡ packet = cc same in
     let there : slice_get states stream ≡ Some late.state = ap (λ k. slice_get states k) (sym numbers_are) ∙ late.there in
     let state_is : get_or states stream d ≡ late.state = same_Some _ _ (sym (slice_get-get_or states stream d (slice_get_within states stream late.state there)) ∙ there) in
-    let is_late : SUBTICKS_PER_TICK * packet.due < (end + margin_subticks) + mb_or_tb_of_state late.state end = subst (λ (p : QueuedPacket). SUBTICKS_PER_TICK * p.due < (end + margin_subticks) + mb_or_tb_of_state late.state end) packets_are late.late in
+    let is_late : SUBTICKS_PER_TICK * packet.due < (end + margin_subticks)
+    + mb_or_tb_of_state late.state end = subst (λ (p : QueuedPacket). SUBTICKS_PER_TICK * p.due
+    < (end + margin_subticks) + mb_or_tb_of_state late.state end) packets_are late.late in
     let work_is' : work ≡ mb_or_tb_of_state late.state end = work_is ∙ ap₂ mb_or_tb_of_state state_is now_is in
     absurd (omega arith)
 

@@ -1,5 +1,41 @@
 -- The states over one slot: packets that are gone are left out, the row brings work, work is done.
-use Rattle.std.proofs.Common.{◌≡◌, ℕ, ◌+◌, ◌-◌, ◌*◌, ◌<◌, ◌≤◌, ◌⊎◌, false, List, [], ◌∷◌, ◌++◌, length, map, get_or, slice_get, count_by, Some, None, refl, sym, ap, subst, ◌∙◌, inl, inr, cond, max, add-zero, mul-zero, mul-one, le_trans, mul-le-mul_right, arith}
+use Rattle.std.proofs.Common.{
+  ◌≡◌,
+  ℕ,
+  ◌+◌,
+  ◌-◌,
+  ◌*◌,
+  ◌<◌,
+  ◌≤◌,
+  ◌⊎◌,
+  false,
+  List,
+  [],
+  ◌∷◌,
+  ◌++◌,
+  length,
+  map,
+  get_or,
+  slice_get,
+  count_by,
+  Some,
+  None,
+  refl,
+  sym,
+  ap,
+  subst,
+  ◌∙◌,
+  inl,
+  inr,
+  cond,
+  max,
+  add-zero,
+  mul-zero,
+  mul-one,
+  le_trans,
+  mul-le-mul_right,
+  arith,
+}
 use Rattle.std.proofs.lemmas.Bool.{cases_eq, cases_lt}
 use Rattle.std.proofs.lemmas.List.{length_push, length-map, get_or-map, same_lists}
 use Rattle.std.proofs.lemmas.Option.{slice_get-get_or, slice_get_within}
@@ -83,7 +119,8 @@ pub HasRun-release : (table : Table) (choice : List ℕ) (rows : List Row) (olds
 HasRun-release table choice rows olds news changes run = (
   record {
     follows = run.follows;
-    queues = same_queues table choice olds news changes.as_many (λ stream old new there there'. ap (λ (s : QueueState). s.items) (changes.each stream old new there there').releases.changed) ∙ run.queues;
+    queues = same_queues table choice olds news changes.as_many
+        (λ stream old new there there'. ap (λ (s : QueueState). s.items) (changes.each stream old new there there').releases.changed) ∙ run.queues;
     places = same_places olds news changes.as_many (λ stream old new there there'. ap (λ (s : QueueState). s.items) (changes.each stream old new there there').releases.changed)
         ∙ run.places;
     tracks = λ stream new there.
@@ -121,7 +158,9 @@ Brings-nothing table choice rows row stream state tracks other packets payload =
       keeps = tracks.keeps;
       sent = tracks.sent ∙ sym count;
       gone = tracks.gone;
-      tb = tracks.tb ∙ (let e : tb_work table.slot stream state.kind rows ≡ tb_work table.slot stream state.kind rows + PACKET_BYTES * tb_subticks state.kind * packets_in stream state.kind row = rw brought (sym (add-zero _)) in e);
+      tb = tracks.tb ∙ (let e : tb_work table.slot stream state.kind rows
+          ≡ tb_work table.slot stream state.kind rows + PACKET_BYTES * tb_subticks state.kind
+          * packets_in stream state.kind row = rw brought (sym (add-zero _)) in e);
       mb = tracks.mb ∙ (let e : mb_work table.slot stream rows ≡ mb_work table.slot stream rows + MB_SUBTICKS * payload_in stream row = rw payload (sym (add-zero _)) in e);
     }
 
@@ -130,7 +169,8 @@ pub pcr_cases : (kind : QueueKind) (program stream : ℕ)
     → (HasPcr kind program × (packets_in stream kind (Reserved (Pcr program)) ≡ 1)) ⊎ ((HasPcr kind program → ⊥) × (packets_in stream kind (Reserved (Pcr program)) ≡ 0))
 pcr_cases Audio program stream = inr ((λ has. has), refl)
 pcr_cases (Video number vbv) program stream =
-    elim (cases_eq number program) as (λ _. ((number ≡ program) × (packets_in stream (Video number vbv) (Reserved (Pcr program)) ≡ 1)) ⊎ ((number ≡ program → ⊥) × (packets_in stream (Video number vbv) (Reserved (Pcr program)) ≡ 0))) [
+    elim (cases_eq number program) as (λ _. ((number ≡ program) × (packets_in stream (Video number vbv) (Reserved (Pcr program)) ≡ 1))
+    ⊎ ((number ≡ program → ⊥) × (packets_in stream (Video number vbv) (Reserved (Pcr program)) ≡ 0))) [
       | inl same ↦ inl (same, packets_in-pcr stream number vbv program (sym same))
       | inr apart ↦ inr (apart, packets_in-other_pcr stream number vbv program (λ e. apart (sym e)))
     ]
@@ -174,7 +214,8 @@ pub Brings-pcr : (table : Table) (choice : List ℕ) (rows : List Row) (program 
 Brings-pcr table choice rows program stream old new takes tracks =
     elim (pcr_cases old.kind program stream) as (λ _. Brings table choice rows (Reserved (Pcr program)) stream new) [
       | inl own ↦ subst (λ (s : QueueState). Brings table choice rows (Reserved (Pcr program)) stream s) (sym (takes.own own.0)) (Brings-own_pcr table choice rows program stream old own.1 tracks)
-      | inr other ↦ subst (λ (s : QueueState). Brings table choice rows (Reserved (Pcr program)) stream s) (sym (takes.other other.0)) (Brings-nothing table choice rows (Reserved (Pcr program)) stream old tracks refl other.1 refl)
+      | inr other ↦ subst (λ (s : QueueState). Brings table choice rows (Reserved (Pcr program)) stream s) (sym (takes.other other.0))
+          (Brings-nothing table choice rows (Reserved (Pcr program)) stream old tracks refl other.1 refl)
     ]
 
 -- a packet of the stream
@@ -183,7 +224,15 @@ pub Brings-packet : (table : Table) (choice : List ℕ) (rows : List Row) (strea
     → Tracks table choice rows stream old → Brings table choice rows (Carries stream packet) stream new
 Brings-packet table choice rows stream packet old new sends tracks =
     let row : Row = Carries stream packet in
-    let after : QueueState = record old { tb_empty = max old.tb_empty (subtick_after table.slot rows) + PACKET_BYTES * tb_subticks old.kind; mb_empty = max old.mb_empty (subtick_after table.slot rows) + MB_SUBTICKS * packet.payload; sent = old.sent + 1; head = new.head; held = old.held + packet.payload } in
+    let after : QueueState = record old {
+      tb_empty = max old.tb_empty (subtick_after table.slot rows) + PACKET_BYTES
+          * tb_subticks old.kind;
+      mb_empty = max old.mb_empty (subtick_after table.slot rows) + MB_SUBTICKS * packet.payload;
+      sent = old.sent
+          + 1;
+      head = new.head;
+      held = old.held + packet.payload;
+    } in
     let one : packets_in stream old.kind (Carries stream packet) ≡ 1 = packets_in-carried stream stream old.kind packet refl in
     let payload : payload_in stream (Carries stream packet) ≡ packet.payload = payload_in-carried stream stream packet refl in
     let brought : PACKET_BYTES * tb_subticks old.kind ≡ PACKET_BYTES * tb_subticks old.kind * packets_in stream old.kind (Carries stream packet) = rw one (sym (mul-one _)) in

@@ -22,7 +22,8 @@ use Rattle.slot_rule.proofs.RuleQueues.{units_in, queues_in, queues_from-push, l
 -- the units of the first programs are no more than all
 all_units_of_front : (rows : List ProgramRow) (p : ℕ) → length (units_in (take p rows)) ≤ length (units_in rows)
 all_units_of_front rows p =
-    let split : units_in rows ≡ units_in (take p rows) ++ units_in (drop p rows) = ap units_in (sym (take-append-drop p rows)) ∙ flat_map-append (λ (row : ProgramRow). row.units) (take p rows) (drop p rows) in
+    let split : units_in rows ≡ units_in (take p rows) ++ units_in (drop p rows) = ap units_in (sym (take-append-drop p rows))
+    ∙ flat_map-append (λ (row : ProgramRow). row.units) (take p rows) (drop p rows) in
     omega (arith, ap (λ (units : List CodedUnit). length units) split, length-append (units_in (take p rows)) (units_in (drop p rows)))
 
 pub all_units_more : (rows : List ProgramRow) (p : ℕ) (d : ProgramRow) → p < length rows
@@ -43,7 +44,8 @@ pub place_of_program : (table : Table) (choice : List ℕ) (p first : ℕ) → I
     → first ≡ length (units_in (take p table.programs)) → IsPlace table choice (Units p first)
 place_of_program table choice p first valid fits within first_is =
     let long : length choice ≡ length (units_of table) = AllZip-long HasVersion (units_of table) choice fits in
-    let sizes : HasSizes (program_at table p).units (drop (length (units_in (take p table.programs))) choice) = HasSizes-at_program table choice p (record { vbv = 0; units = []; audios = [] }) valid fits within in
+    let sizes : HasSizes (program_at table p).units (drop (length (units_in (take p table.programs))) choice) = HasSizes-at_program table choice p
+    (record { vbv = 0; units = []; audios = [] }) valid fits within in
     (within, omega (arith, all_units_of_front table.programs p), subst (λ n. HasSizes (program_at table p).units (drop n choice)) (sym first_is) sizes)
 
 -- there is room for the streams of the next program
@@ -67,7 +69,8 @@ queues_more table choice p first olds news within first_is queues added =
     added ∙ ap (λ (s : List Queue). s ++ queues_in p row (drop first choice)) queues
     ∙ ap (λ n. queues_from 0 (take p table.programs) choice ++ queues_in p row (drop n choice)) first_is
     ∙ ap (λ n. queues_from 0 (take p table.programs) choice ++ queues_in n row (drop (length (units_in (take p table.programs))) choice)) (sym number)
-    ∙ sym (ap (λ (rows : List ProgramRow). queues_from 0 rows choice) (take_more table.programs p (record { vbv = 0; units = []; audios = [] }) within) ∙ queues_from-push 0 (take p table.programs) row choice)
+    ∙ sym (ap (λ (rows : List ProgramRow). queues_from 0 rows choice)
+    (take_more table.programs p (record { vbv = 0; units = []; audios = [] }) within) ∙ queues_from-push 0 (take p table.programs) row choice)
 
 -- ---- where their packets stand
 -- the places of one more program

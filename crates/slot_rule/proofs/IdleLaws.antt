@@ -60,7 +60,8 @@ module _ (table : Table) (choice : List ℕ) (valid : IsValidTable table) (fits 
         rows = rows ++ Empty ∷ [];
         slots_are = length_push rows Empty ∙ ap (λ k. k + 1) reached.slots_are;
         run = after;
-        in_time = no_miss_found table choice valid fits n run run Empty reached step.0 after (NoneLate-other states (SUBTICKS_PER_TICK * ((n + 1) * table.slot)) Empty (λ stream packet e. cc)) idle.in_time;
+        in_time = no_miss_found table choice valid fits n run run Empty reached step.0 after
+            (NoneLate-other states (SUBTICKS_PER_TICK * ((n + 1) * table.slot)) Empty (λ stream packet e. cc)) idle.in_time;
       }
 
   idle_more : (n count : ℕ) → n + count ≤ TIME_SLOTS_MOST → Reached table choice n run

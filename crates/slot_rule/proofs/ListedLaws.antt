@@ -46,7 +46,9 @@ Listed-first table choice run first = record {
   left = inl refl;
 }
 
-module _ (table : Table) (choice : List ℕ) (valid : IsValidTable table) (fits : Fits table choice) (n : ℕ) (olds news : RunState) (row : Row) (sent : List Sent) (last : Sent) (listed : Listed table choice n olds sent) (next : IsNext table choice listed.reached.rows row) (run : IsRun table choice (listed.reached.rows ++ row ∷ []) news) (shows : IsWhatStands news.states.items row last) where
+module _ (table : Table) (choice : List ℕ) (valid : IsValidTable table) (fits : Fits table choice) (n : ℕ) (olds news : RunState) (row : Row)
+    (sent : List Sent) (last : Sent) (listed : Listed table choice n olds sent) (next : IsNext table choice listed.reached.rows row)
+    (run : IsRun table choice (listed.reached.rows ++ row ∷ []) news) (shows : IsWhatStands news.states.items row last) where
   -- what is listed once the slot is run
   sent_more : sent ++ last ∷ [] ≡ map (sent_of (queues_of table choice)) (listed.reached.rows ++ row ∷ [])
   sent_more =
@@ -65,7 +67,9 @@ module _ (table : Table) (choice : List ℕ) (valid : IsValidTable table) (fits 
           in_time = no_miss_found table choice valid fits n olds news row listed.reached next run tells.0 tells.1;
         };
         sent_is = sent_more;
-        left = inr (λ all_sent. all_sent head.0 first.state.kind head.1 (head_from_state table choice (listed.reached.rows ++ row ∷ []) news.states.items run.states head.0 first.state head.1 first.there first.head));
+        left = inr (λ all_sent. all_sent head.0 first.state.kind head.1
+            (head_from_state table choice (listed.reached.rows ++ row ∷ []) news.states.items run.states head.0 first.state head.1 first.there
+            first.head));
       }
 
   carries_or_none : AllSent (queues_of table choice) (listed.reached.rows ++ row ∷ [])

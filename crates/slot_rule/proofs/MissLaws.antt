@@ -1,5 +1,39 @@
 -- What the states after a row tell of misses, said of the rows; and the states before the first slot.
-use Rattle.std.proofs.Common.{◌≡◌, ℕ, ◌+◌, ◌-◌, ◌*◌, ◌<◌, ◌≤◌, ◌⊎◌, Bool, false, cond, All, List, [], ◌∷◌, ◌++◌, length, map, count_by, slice_get, Some, None, refl, sym, ap, subst, ◌∙◌, inl, inr, zero-le, le_refl, mul-le-mul_left, arith}
+use Rattle.std.proofs.Common.{
+  ◌≡◌,
+  ℕ,
+  ◌+◌,
+  ◌-◌,
+  ◌*◌,
+  ◌<◌,
+  ◌≤◌,
+  ◌⊎◌,
+  Bool,
+  false,
+  cond,
+  All,
+  List,
+  [],
+  ◌∷◌,
+  ◌++◌,
+  length,
+  map,
+  count_by,
+  slice_get,
+  Some,
+  None,
+  refl,
+  sym,
+  ap,
+  subst,
+  ◌∙◌,
+  inl,
+  inr,
+  zero-le,
+  le_refl,
+  mul-le-mul_left,
+  arith,
+}
 use Rattle.std.proofs.Math.Nat.{zero-sub}
 use Rattle.std.proofs.lemmas.List.{length_push, same_from_push}
 use Rattle.std.proofs.lemmas.List.Sums.{sum_by-append}
@@ -61,9 +95,12 @@ HasRun-first table choice states queues places first = record {
 -- ---- after a row
 mb_or_tb_work-is : (table : Table) (choice : List ℕ) (rows : List Row) (stream : ℕ) (state : QueueState) → Tracks table choice rows stream state
     → (kind : QueueKind) → state.kind ≡ kind → mb_or_tb_work table.slot stream kind rows ≡ mb_or_tb_of_state state (subtick_after table.slot rows)
-mb_or_tb_work-is table choice rows stream state tracks (Video program vbv) e = sym (ap (λ (k : QueueKind). mb_or_tb_of_kind k (state.tb_empty - subtick_after table.slot rows) (state.mb_empty - subtick_after table.slot rows)) e ∙ tracks.mb)
+mb_or_tb_work-is table choice rows stream state tracks (Video program vbv) e = sym
+    (ap (λ (k : QueueKind). mb_or_tb_of_kind k (state.tb_empty - subtick_after table.slot rows) (state.mb_empty - subtick_after table.slot rows)) e
+    ∙ tracks.mb)
 mb_or_tb_work-is table choice rows stream state tracks Audio e =
-    sym (ap (λ (k : QueueKind). mb_or_tb_of_kind k (state.tb_empty - subtick_after table.slot rows) (state.mb_empty - subtick_after table.slot rows)) e ∙ tracks.tb ∙ ap (λ (k : QueueKind). tb_work table.slot stream k rows) e)
+    sym (ap (λ (k : QueueKind). mb_or_tb_of_kind k (state.tb_empty - subtick_after table.slot rows) (state.mb_empty - subtick_after table.slot rows))
+    e ∙ tracks.tb ∙ ap (λ (k : QueueKind). tb_work table.slot stream k rows) e)
 
 module _ (table : Table) (choice : List ℕ) (rows : List Row) (row : Row) (states : List QueueState) (run : HasRun table choice (rows ++ row ∷ []) states) (next : IsNext table choice rows row) where
   -- the kind of a stream that is said of a head packet is that of its state
@@ -145,7 +182,8 @@ carries_last table choice rows (Carries s p) states run stream packet is sent = 
 carries_last table choice rows Empty states run stream packet is sent =
     absurd (carries_cases (queues_of table choice) rows Empty stream is.state.kind packet refl (head_from_state table choice rows states run stream is.state packet is.there is.head) sent)
 carries_last table choice rows (Reserved reserved) states run stream packet is sent =
-    absurd (carries_cases (queues_of table choice) rows (Reserved reserved) stream is.state.kind packet refl (head_from_state table choice rows states run stream is.state packet is.there is.head) sent)
+    absurd (carries_cases (queues_of table choice) rows (Reserved reserved) stream is.state.kind packet refl
+    (head_from_state table choice rows states run stream is.state packet is.there is.head) sent)
 
 -- where no stream has a head packet, none is overdue
 pub NoneOverdue-from_none : (states : List QueueState) (time : ℕ) → IsFirstHead Passes states None → NoneOverdue states time
@@ -176,7 +214,9 @@ subtick_after-push : (table : Table) (rows : List Row) (row : Row) (n : ℕ) →
 subtick_after-push table rows row n slots_are = ap (λ (k : ℕ). SUBTICKS_PER_TICK * (k * table.slot)) (length_push rows row ∙ ap (λ k. k + 1) slots_are)
 
 -- what is found after one more slot
-module _ (table : Table) (choice : List ℕ) (valid : IsValidTable table) (fits : Fits table choice) (n : ℕ) (olds news : RunState) (row : Row) (reached : Reached table choice n olds) (next : IsNext table choice reached.rows row) (run : IsRun table choice (reached.rows ++ row ∷ []) news) where
+module _ (table : Table) (choice : List ℕ) (valid : IsValidTable table) (fits : Fits table choice) (n : ℕ) (olds news : RunState) (row : Row)
+    (reached : Reached table choice n olds) (next : IsNext table choice reached.rows row)
+    (run : IsRun table choice (reached.rows ++ row ∷ []) news) where
   pub miss_found : (miss : Miss) → TellsAfter news.states.items (SUBTICKS_PER_TICK * ((n + 1) * table.slot)) row n (Missed miss) → IsFirstMiss table choice miss
   miss_found miss tells =
       let time : ℕ = SUBTICKS_PER_TICK * ((n + 1) * table.slot) in
@@ -200,7 +240,8 @@ module _ (table : Table) (choice : List ℕ) (valid : IsValidTable table) (fits 
   no_miss_found none_late none_overdue =
       let at : SUBTICKS_PER_TICK * ((n + 1) * table.slot) ≡ subtick_after table.slot (reached.rows ++ row ∷ []) = sym (subtick_after-push table reached.rows row n reached.slots_are) in
       NoMiss-push table.slot (queues_of table choice) reached.rows row reached.in_time
-      (NoneMisses-from_states table choice reached.rows row news.states.items run.states next (subst (λ (t : ℕ). NoneLate news.states.items t row) at none_late) (subst (λ (t : ℕ). NoneOverdue news.states.items t) at none_overdue))
+      (NoneMisses-from_states table choice reached.rows row news.states.items run.states next
+      (subst (λ (t : ℕ). NoneLate news.states.items t row) at none_late) (subst (λ (t : ℕ). NoneOverdue news.states.items t) at none_overdue))
 
   pub schedule_found : TellsAfter news.states.items (SUBTICKS_PER_TICK * ((n + 1) * table.slot)) row n After.AllSent → IsSchedule table choice (reached.rows ++ row ∷ [])
   schedule_found tells = record {

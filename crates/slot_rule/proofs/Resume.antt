@@ -61,7 +61,9 @@ KeepsPlace-same packets packets' state same keeps =
 count-front : (stream : ℕ) (before after : List Row) → count_by (is_of stream) before ≤ count_by (is_of stream) (before ++ after)
 count-front stream before after = (let total = sum_by-append (λ r. cond (is_of stream r) 1 0) before after in omega arith)
 
-module _ (table : Table) (choice choice' : List ℕ) (rows : List Row) (states : List QueueState) (run : HasRun table choice rows states) (queues' : map (queue_of table choice') states ≡ queues_of table choice') (same : (stream : ℕ) (state : QueueState) → slice_get states stream ≡ Some state → SameSoFar table choice choice' state) where
+module _ (table : Table) (choice choice' : List ℕ) (rows : List Row) (states : List QueueState) (run : HasRun table choice rows states)
+    (queues' : map (queue_of table choice') states ≡ queues_of table choice')
+    (same : (stream : ℕ) (state : QueueState) → slice_get states stream ≡ Some state → SameSoFar table choice choice' state) where
   -- the packet of a queue after a front of the rows
   at_front : (before after : List Row) (stream : ℕ) (state : QueueState) → slice_get states stream ≡ Some state → rows ≡ before ++ after
       → slice_get (packets_at table choice' state.items) (count_by (is_of stream) before) ≡ slice_get (packets_at table choice state.items) (count_by (is_of stream) before)

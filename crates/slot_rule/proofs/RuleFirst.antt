@@ -1,5 +1,40 @@
 -- The first in order of the head packets that pass a test.
-use Rattle.std.proofs.Common.{◌≡◌, ℕ, zero, suc, ◌+◌, ◌<◌, ◌≤◌, ◌⊎◌, Bool, true, leb, List, [], ◌∷◌, count_by, slice_get, nat_le, if◌then◌else◌, Option, Some, None, refl, sym, ap, subst, ◌∙◌, inl, inr, zero-add, add-zero, leb-true, leb-false, le_of_eq, arith}
+use Rattle.std.proofs.Common.{
+  ◌≡◌,
+  ℕ,
+  zero,
+  suc,
+  ◌+◌,
+  ◌<◌,
+  ◌≤◌,
+  ◌⊎◌,
+  Bool,
+  true,
+  leb,
+  List,
+  [],
+  ◌∷◌,
+  count_by,
+  slice_get,
+  nat_le,
+  if◌then◌else◌,
+  Option,
+  Some,
+  None,
+  refl,
+  sym,
+  ap,
+  subst,
+  ◌∙◌,
+  inl,
+  inr,
+  zero-add,
+  add-zero,
+  leb-true,
+  leb-false,
+  le_of_eq,
+  arith,
+}
 use Rattle.std.specs.Option.{option_and_then}
 use Rattle.std.proofs.lemmas.Bool.{cond_both, cond-true}
 use Rattle.std.proofs.lemmas.Option.{same_Some, none-some, option_and_then_some, cond_some}

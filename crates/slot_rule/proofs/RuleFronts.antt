@@ -1,5 +1,37 @@
 -- What holds at each element of a list, of the elements before it and of the element: at no element, of one more, and of a front.
-use Rattle.std.proofs.Common.{◌≡◌, ℕ, ◌+◌, ◌<◌, ◌⊎◌, List, [], ◌∷◌, ◌++◌, length, get_or, take, drop, refl, sym, ap, subst₂, ◌∙◌, inl, inr, append_assoc, append-nil, subst, suc, ◌-◌, ◌≤◌, Some, None, slice_get, length-drop, arith}
+use Rattle.std.proofs.Common.{
+  ◌≡◌,
+  ℕ,
+  ◌+◌,
+  ◌<◌,
+  ◌⊎◌,
+  List,
+  [],
+  ◌∷◌,
+  ◌++◌,
+  length,
+  get_or,
+  take,
+  drop,
+  refl,
+  sym,
+  ap,
+  subst₂,
+  ◌∙◌,
+  inl,
+  inr,
+  append_assoc,
+  append-nil,
+  subst,
+  suc,
+  ◌-◌,
+  ◌≤◌,
+  Some,
+  None,
+  slice_get,
+  length-drop,
+  arith,
+}
 use Rattle.std.proofs.lemmas.Option.{slice_get-get_or, slice_get_past}
 use Rattle.std.proofs.lemmas.List.{same_from_push, take-append-drop, drop_more}
 

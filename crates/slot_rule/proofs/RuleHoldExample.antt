@@ -1,5 +1,42 @@
 -- A worked example: a packet may go no sooner than a second before it is gone.
-use Rattle.std.proofs.Common.{◌≡◌, ℕ, zero, suc, ◌+◌, ◌-◌, ◌*◌, ◌<◌, ◌≤◌, List, [], ◌∷◌, ◌++◌, All, length, count_by, slice_get, get_or, Option, Some, None, refl, sym, ap, subst, ◌∙◌, inl, inr, add-zero, le_of_eq, map, cond, zero-le, ◌/◌, lit≤, arith}
+use Rattle.std.proofs.Common.{
+  ◌≡◌,
+  ℕ,
+  zero,
+  suc,
+  ◌+◌,
+  ◌-◌,
+  ◌*◌,
+  ◌<◌,
+  ◌≤◌,
+  List,
+  [],
+  ◌∷◌,
+  ◌++◌,
+  All,
+  length,
+  count_by,
+  slice_get,
+  get_or,
+  Option,
+  Some,
+  None,
+  refl,
+  sym,
+  ap,
+  subst,
+  ◌∙◌,
+  inl,
+  inr,
+  add-zero,
+  le_of_eq,
+  map,
+  cond,
+  zero-le,
+  ◌/◌,
+  lit≤,
+  arith,
+}
 use Rattle.std.proofs.lemmas.Bool.{cases_lt, cases_eq}
 use Rattle.std.proofs.lemmas.List.{length_push, same_from_push}
 use Rattle.std.proofs.lemmas.List.Elements.{All-nil, All-push, All-map, All-head, All-tail}
@@ -69,7 +106,8 @@ head_is : (rows : List Row) (stream : ℕ) (kind : QueueKind) (packet : QueuedPa
 head_is rows zero kind packet (packets, got, head) =
     let same : ◌≡◌ {A = Queue} (record { kind = Video 0 112; packets = piece_of 0 54000000 0 184 ∷ [] }) (record { kind = kind; packets = packets }) = same_Some _ _ got in
     let list : piece_of 0 54000000 0 184 ∷ [] ≡ packets = ap (λ (s : Queue). s.packets) same in
-    let head' : slice_get (piece_of 0 54000000 0 184 ∷ []) (count_by (is_of 0) rows) ≡ Some packet = subst (λ (ps : List QueuedPacket). slice_get ps (count_by (is_of 0) rows) ≡ Some packet) (sym list) head in
+    let head' : slice_get (piece_of 0 54000000 0 184 ∷ []) (count_by (is_of 0) rows)
+    ≡ Some packet = subst (λ (ps : List QueuedPacket). slice_get ps (count_by (is_of 0) rows) ≡ Some packet) (sym list) head in
     let none : count_by (is_of 0) rows ≡ 0 = (let within : count_by (is_of 0) rows < 1 = slice_get_within (piece_of 0 54000000 0 184 ∷ []) (count_by (is_of 0) rows) packet head' in omega arith) in
     (refl, sym (ap (λ (s : Queue). s.kind) same), sym (same_Some (piece_of 0 54000000 0 184) packet (subst (λ n. slice_get (piece_of 0 54000000 0 184 ∷ []) n ≡ Some packet) none head')), none)
 head_is rows (suc stream) kind packet (packets, got, head) = absurd (none-some _ got)
@@ -138,7 +176,8 @@ quiet_in_time (suc n) fits = NoMiss-push 27000 (queues_of long_table (0 ∷ []))
 transport_none : (rows : List Row) → tb_work 27000 0 (Video 0 112) rows ≡ 0
 transport_none rows =
     let f : Row → ℕ = λ row. PACKET_BYTES * tb_subticks (Video 0 112) * packets_in 0 (Video 0 112) row in
-    waiting-none (slot_subticks 27000) (map f rows) (All-map (λ work. work ≤ slot_subticks 27000) f rows (λ k d within. (let one = packets_in-le 0 (Video 0 112) (get_or rows k d) in omega (arith, one))))
+    waiting-none (slot_subticks 27000) (map f rows) (All-map (λ work. work ≤ slot_subticks 27000) f rows
+    (λ k d within. (let one = packets_in-le 0 (Video 0 112) (get_or rows k d) in omega (arith, one))))
 
 quiet_payload : (row : Row) → IsQuiet row → payload_in 0 row ≡ 0
 quiet_payload (Reserved sent) still = refl
@@ -163,12 +202,15 @@ multiplex_none n =
 
 outstanding_none : (n time : ℕ) → outstanding 0 time (quiet n) ≡ 0
 outstanding_none n time =
-    let total : outstanding 0 time (quiet n) ≤ length (quiet n) * 0 = sum_by-le (outstanding_in 0 time) 0 (quiet n) (λ k d within. quiet_outstanding time (get_or (quiet n) k d) (quiet-each n k d within)) in
+    let total : outstanding 0 time (quiet n) ≤ length (quiet n)
+    * 0 = sum_by-le (outstanding_in 0 time) 0 (quiet n)
+    (λ k d within. quiet_outstanding time (get_or (quiet n) k d) (quiet-each n k d within)) in
     omega arith
 
 count_none : (n : ℕ) → count_by (is_of 0) (quiet n) ≡ 0
 count_none n =
-    let total : count_by (is_of 0) (quiet n) ≤ length (quiet n) * 0 = sum_by-le (λ row. cond (is_of 0 row) 1 0) 0 (quiet n) (λ k d within. quiet_count (get_or (quiet n) k d) (quiet-each n k d within)) in
+    let total : count_by (is_of 0) (quiet n) ≤ length (quiet n)
+    * 0 = sum_by-le (λ row. cond (is_of 0 row) 1 0) 0 (quiet n) (λ k d within. quiet_count (get_or (quiet n) k d) (quiet-each n k d within)) in
     omega arith
 
 -- the rows in which the packet stands last

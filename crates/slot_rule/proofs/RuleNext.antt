@@ -1,5 +1,39 @@
 -- The row after some rows, and the miss after it, computed from the definitions.
-use Rattle.std.proofs.Common.{◌≡◌, ℕ, ◌+◌, ◌*◌, ◌<◌, ◌⊎◌, Bool, true, ◌&&◌, ltb, List, [], ◌∷◌, ◌++◌, length, slice_get, nat_le, nat_lt, if◌then◌else◌, Option, Some, None, refl, sym, ap, subst, ◌∙◌, inl, inr, leb-true, le-leb, ltb-true, lt-ltb}
+use Rattle.std.proofs.Common.{
+  ◌≡◌,
+  ℕ,
+  ◌+◌,
+  ◌*◌,
+  ◌<◌,
+  ◌⊎◌,
+  Bool,
+  true,
+  ◌&&◌,
+  ltb,
+  List,
+  [],
+  ◌∷◌,
+  ◌++◌,
+  length,
+  slice_get,
+  nat_le,
+  nat_lt,
+  if◌then◌else◌,
+  Option,
+  Some,
+  None,
+  refl,
+  sym,
+  ap,
+  subst,
+  ◌∙◌,
+  inl,
+  inr,
+  leb-true,
+  le-leb,
+  ltb-true,
+  lt-ltb,
+}
 use Rattle.std.specs.Option.{option_and_then, option_or}
 use Rattle.std.proofs.lemmas.Bool.{and_parts, and_from, cond-true}
 use Rattle.std.proofs.lemmas.List.{same_from_push}
@@ -129,12 +163,16 @@ late_in-some slot programs queues before (Reserved sent) found is e = absurd (no
 late_in-some slot programs queues before Empty found is e = absurd (none-some found e)
 late_in-some slot programs queues before (Carries stream packet) found is e =
     let rows = before ++ Carries stream packet ∷ [] in
-    option_and_then_some (λ (s : Queue). if nat_lt (SUBTICKS_PER_TICK * packet.due) (end_with_margin slot (before ++ Carries stream packet ∷ []) + mb_or_tb_work slot stream s.kind (before ++ Carries stream packet ∷ [])) then Some (stream, packet) else None)
+    option_and_then_some (λ (s : Queue). if nat_lt (SUBTICKS_PER_TICK * packet.due)
+    (end_with_margin slot (before ++ Carries stream packet ∷ []) + mb_or_tb_work slot stream s.kind (before ++ Carries stream packet ∷ [])) then
+    Some (stream, packet) else None)
     (slice_get queues stream) found e
     (λ s got passed.
     let parts = cond_some (ltb (SUBTICKS_PER_TICK * packet.due) (end_with_margin slot rows + mb_or_tb_work slot stream s.kind rows)) (stream, packet) found passed in
     let same : record { kind = is.1.kind; packets = is.1.head.0 } ≡ s = same_Some _ _ (sym is.1.head.1 ∙ got) in
-    let late : SUBTICKS_PER_TICK * packet.due < end_with_margin slot rows + mb_or_tb_work slot stream s.kind rows = ltb-true (SUBTICKS_PER_TICK * packet.due) (end_with_margin slot rows + mb_or_tb_work slot stream s.kind rows) parts.0 in
+    let late : SUBTICKS_PER_TICK * packet.due < end_with_margin slot rows
+    + mb_or_tb_work slot stream s.kind rows = ltb-true (SUBTICKS_PER_TICK * packet.due)
+    (end_with_margin slot rows + mb_or_tb_work slot stream s.kind rows) parts.0 in
     subst (λ (f : ℕ × QueuedPacket). SentLate slot queues (before ++ Carries stream packet ∷ []) f.0 f.1) parts.1
     (record {
       before = before;
@@ -150,8 +188,11 @@ late_in-none slot queues before row stream packet none late =
     let rows = before ++ row ∷ [] in
     let last : row ≡ Carries stream packet = (same_from_push before late.before row (Carries stream packet) late.went).1 in
     let found : late_in slot queues rows (Carries stream packet) ≡ Some (stream, packet) =
-    ap (λ (o : Option Queue). option_and_then (λ (s : Queue). if nat_lt (SUBTICKS_PER_TICK * packet.due) (end_with_margin slot rows + mb_or_tb_work slot stream s.kind rows) then Some (stream, packet) else None) o) late.head.1
-    ∙ cond-true (ltb (SUBTICKS_PER_TICK * packet.due) (end_with_margin slot rows + mb_or_tb_work slot stream late.kind rows)) (Some (stream, packet)) None (lt-ltb (SUBTICKS_PER_TICK * packet.due) (end_with_margin slot rows + mb_or_tb_work slot stream late.kind rows) late.late) in
+    ap (λ (o : Option Queue). option_and_then (λ (s : Queue). if nat_lt (SUBTICKS_PER_TICK * packet.due)
+    (end_with_margin slot rows + mb_or_tb_work slot stream s.kind rows) then Some (stream, packet) else None) o) late.head.1
+    ∙ cond-true (ltb (SUBTICKS_PER_TICK * packet.due) (end_with_margin slot rows + mb_or_tb_work slot stream late.kind rows))
+    (Some (stream, packet)) None (lt-ltb (SUBTICKS_PER_TICK * packet.due)
+    (end_with_margin slot rows + mb_or_tb_work slot stream late.kind rows) late.late) in
     none-some (stream, packet) (sym none ∙ ap (late_in slot queues rows) last ∙ found)
 
 overdue_first : (slot : ℕ) (queues : List Queue) (rows : List Row) (found : ℕ × QueuedPacket)

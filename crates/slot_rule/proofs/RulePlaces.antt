@@ -1,5 +1,41 @@
 -- Where a packet stands in a video stream, and the packet after it.
-use Rattle.std.proofs.Common.{◌≡◌, ℕ, zero, suc, min, ◌+◌, ◌-◌, ◌*◌, ◌<◌, ◌≤◌, ◌⊎◌, ltb, List, ◌∷◌, length, get_or, drop, slice_get, slice_index, nat_lt, if◌then◌else◌, Option, Some, None, refl, sym, ap, subst, ◌∙◌, inl, inr, lt-ltb, le-ltb, add-one, arith}
+use Rattle.std.proofs.Common.{
+  ◌≡◌,
+  ℕ,
+  zero,
+  suc,
+  min,
+  ◌+◌,
+  ◌-◌,
+  ◌*◌,
+  ◌<◌,
+  ◌≤◌,
+  ◌⊎◌,
+  ltb,
+  List,
+  ◌∷◌,
+  length,
+  get_or,
+  drop,
+  slice_get,
+  slice_index,
+  nat_lt,
+  if◌then◌else◌,
+  Option,
+  Some,
+  None,
+  refl,
+  sym,
+  ap,
+  subst,
+  ◌∙◌,
+  inl,
+  inr,
+  lt-ltb,
+  le-ltb,
+  add-one,
+  arith,
+}
 use Rattle.std.specs.Option.{option_and_then, option_or}
 use Rattle.std.proofs.lemmas.Bool.{cases_lt, cond-true, cond-false}
 use Rattle.std.proofs.lemmas.Option.{slice_get_past, slice_get_cases, slice_get_within, same_Some, get_or_from_slice_get}
@@ -107,10 +143,16 @@ unit_cases : (units : List CodedUnit) (choice : List ℕ) (n k : ℕ) → HasSiz
     ⊎ ((packet_at units choice n 0 ≡ None) × (length (packets_from 0 units choice) ≤ k))
 unfolding starts_at
 unit_cases units choice n k sizes from =
-    (elim (slice_get_cases units n).1 as (λ _. ((packet : QueuedPacket) × (packet_at units choice n 0 ≡ Some packet) × StandsAt units choice k packet) ⊎ ((packet_at units choice n 0 ≡ None) × (length (packets_from 0 units choice) ≤ k))) [
+    (elim (slice_get_cases units n).1 as (λ _. ((packet : QueuedPacket) × (packet_at units choice n 0 ≡ Some packet) × StandsAt units choice k packet)
+    ⊎ ((packet_at units choice n 0 ≡ None) × (length (packets_from 0 units choice) ≤ k))) [
       | inl at ↦
           (let stands = starts_at units choice n k at.0 sizes at.2 from in
-          inl (piece_of n at.0.due 0 (min PAYLOAD_BYTES stands.left), packet_at-is units choice n 0 at.0 at.2 ∙ unit_piece-some n at.0 (slice_index choice n) 0 stands.left stands.bytes stands.some_left, stands))
+          inl (
+            piece_of n at.0.due 0 (min PAYLOAD_BYTES stands.left),
+            packet_at-is units choice n 0 at.0 at.2
+                ∙ unit_piece-some n at.0 (slice_index choice n) 0 stands.left stands.bytes stands.some_left,
+            stands,
+          ))
       | inr past ↦ inr (packet_at-past units choice n 0 past.0, (drop_none (packets_from 0 units choice) k (from ∙ packets_from-all n n units (drop n choice) past.0)).0)
     ])
 
@@ -119,7 +161,8 @@ after_cases : (units : List CodedUnit) (choice : List ℕ) (k : ℕ) (packet : Q
     → ((next : QueuedPacket) × (packet_after units choice packet ≡ Some next) × StandsAt units choice (k + 1) next)
     ⊎ ((packet_after units choice packet ≡ None) × (length (packets_from 0 units choice) ≤ k + 1))
 after_cases units choice k packet sizes at =
-    (elim (cases_lt PAYLOAD_BYTES at.left) as (λ _. ((next : QueuedPacket) × (packet_after units choice packet ≡ Some next) × StandsAt units choice (k + 1) next) ⊎ ((packet_after units choice packet ≡ None) × (length (packets_from 0 units choice) ≤ k + 1))) [
+    (elim (cases_lt PAYLOAD_BYTES at.left) as (λ _. ((next : QueuedPacket) × (packet_after units choice packet ≡ Some next)
+    × StandsAt units choice (k + 1) next) ⊎ ((packet_after units choice packet ≡ None) × (length (packets_from 0 units choice) ≤ k + 1))) [
       | inl large ↦
           (let next = piece_of packet.item at.unit.due (packet.piece + 1) (min PAYLOAD_BYTES (at.left - PAYLOAD_BYTES)) in
           let bytes : (version_at at.unit (slice_index choice packet.item)).bytes ≡ PAYLOAD_BYTES * (packet.piece + 1) + (at.left - PAYLOAD_BYTES) = omega (arith, at.bytes) in
@@ -127,14 +170,20 @@ after_cases units choice k packet sizes at =
           inl (
             next,
             ap (λ (o : Option QueuedPacket). option_or o (packet_at units choice (packet.item + 1) 0))
-                (packet_at-is units choice packet.item (packet.piece + 1) at.unit at.unit_is ∙ unit_piece-some packet.item at.unit (slice_index choice packet.item) (packet.piece + 1) (at.left - PAYLOAD_BYTES) bytes (omega arith)),
+                (packet_at-is units choice packet.item (packet.piece + 1) at.unit at.unit_is
+                ∙ unit_piece-some packet.item at.unit (slice_index choice packet.item) (packet.piece + 1) (at.left - PAYLOAD_BYTES) bytes
+                (omega arith)),
             record { unit = at.unit; within = at.within; unit_is = at.unit_is; left = at.left - PAYLOAD_BYTES; bytes = bytes; some_left = omega arith; packet_is = refl; from_here = rest.2 },
           ))
       | inr small ↦
           (let rest = drop_next (packets_from 0 units choice) k _ _ (at.from_here ∙ video_from-last packet.item packet.piece at.unit.due at.left units choice small) in
-          let none : packet_at units choice packet.item (packet.piece + 1) ≡ None = packet_at-is units choice packet.item (packet.piece + 1) at.unit at.unit_is ∙ unit_piece-none packet.item at.unit (slice_index choice packet.item) (packet.piece + 1) (omega (arith, at.bytes)) in
+          let none : packet_at units choice packet.item (packet.piece + 1)
+          ≡ None = packet_at-is units choice packet.item (packet.piece + 1) at.unit at.unit_is
+          ∙ unit_piece-none packet.item at.unit (slice_index choice packet.item) (packet.piece + 1) (omega (arith, at.bytes)) in
           let first : packet_after units choice packet ≡ packet_at units choice (packet.item + 1) 0 = ap (λ (o : Option QueuedPacket). option_or o (packet_at units choice (packet.item + 1) 0)) none in
-          (elim (unit_cases units choice (packet.item + 1) (k + 1) sizes rest.2) as (λ _. ((next : QueuedPacket) × (packet_after units choice packet ≡ Some next) × StandsAt units choice (k + 1) next) ⊎ ((packet_after units choice packet ≡ None) × (length (packets_from 0 units choice) ≤ k + 1))) [
+          (elim (unit_cases units choice (packet.item + 1) (k + 1) sizes rest.2) as
+          (λ _. ((next : QueuedPacket) × (packet_after units choice packet ≡ Some next) × StandsAt units choice (k + 1) next)
+          ⊎ ((packet_after units choice packet ≡ None) × (length (packets_from 0 units choice) ≤ k + 1))) [
             | inl next ↦ inl (next.0, first ∙ next.1, next.2)
             | inr past ↦ inr (first ∙ past.0, past.1)
           ]))

@@ -1,5 +1,41 @@
 -- The streams of a table: which stands where, how many there are, and what each keeps.
-use Rattle.std.proofs.Common.{◌≡◌, ℕ, suc, ◌+◌, ◌*◌, ◌^◌, ◌<◌, ◌≤◌, List, [], ◌∷◌, ◌++◌, All, length, map, get_or, take, drop, sum_by, slice_get, Some, refl, sym, ap, ap₂, subst, ◌∙◌, append_assoc, append-nil, zero-add, add-zero, zero-le, count_by, eqb, arith}
+use Rattle.std.proofs.Common.{
+  ◌≡◌,
+  ℕ,
+  suc,
+  ◌+◌,
+  ◌*◌,
+  ◌^◌,
+  ◌<◌,
+  ◌≤◌,
+  List,
+  [],
+  ◌∷◌,
+  ◌++◌,
+  All,
+  length,
+  map,
+  get_or,
+  take,
+  drop,
+  sum_by,
+  slice_get,
+  Some,
+  refl,
+  sym,
+  ap,
+  ap₂,
+  subst,
+  ◌∙◌,
+  append_assoc,
+  append-nil,
+  zero-add,
+  add-zero,
+  zero-le,
+  count_by,
+  eqb,
+  arith,
+}
 use Rattle.std.specs.List.{enumerate_from, flat_map, AllZip}
 use Rattle.std.specs.List.Sorted.{IsNonDecreasingBy, IsNonDecreasing}
 use Rattle.std.proofs.lemmas.Option.{slice_get_within, get_or_from_slice_get}
@@ -42,7 +78,8 @@ queues_from-append program (first ∷ rows) more choice =
     ap (λ (others : List Queue). queues_in program first choice ++ others)
     (queues_from-append (program + 1) rows more (drop (length first.units) choice)
     ∙ ap₂ (λ p versions. queues_from (program + 1) rows (drop (length first.units) choice) ++ queues_from p more versions) number units)
-    ∙ sym (append_assoc (queues_in program first choice) (queues_from (program + 1) rows (drop (length first.units) choice)) (queues_from (program + suc (length rows)) more (drop (length (units_in (first ∷ rows))) choice)))
+    ∙ sym (append_assoc (queues_in program first choice) (queues_from (program + 1) rows (drop (length first.units) choice))
+    (queues_from (program + suc (length rows)) more (drop (length (units_in (first ∷ rows))) choice)))
 
 -- one more program
 pub queues_from-push : (program : ℕ) (rows : List ProgramRow) (row : ProgramRow) (choice : List ℕ)
@@ -61,7 +98,8 @@ length-queues_from program (row ∷ rows) choice =
 -- a valid table has at most nine streams for each of eight programs
 pub queues_of-few : (table : Table) (choice : List ℕ) → IsValidTable table → length (queues_of table choice) ≤ PROGRAMS_MOST * (1 + AUDIOS_MOST)
 queues_of-few table choice valid =
-    let each : All (λ row. suc (length row.audios) ≤ 1 + AUDIOS_MOST) table.programs = All-weaker (IsValidProgram table.slot) (λ row. suc (length row.audios) ≤ 1 + AUDIOS_MOST) (λ row h. omega (arith, h.few_audios)) table.programs valid.programs in
+    let each : All (λ row. suc (length row.audios) ≤ 1 + AUDIOS_MOST) table.programs = All-weaker (IsValidProgram table.slot)
+    (λ row. suc (length row.audios) ≤ 1 + AUDIOS_MOST) (λ row h. omega (arith, h.few_audios)) table.programs valid.programs in
     let total : sum_by (λ row. suc (length row.audios)) table.programs ≤ length table.programs * (1 + AUDIOS_MOST) = sum_by-le (λ row. suc (length row.audios)) (1 + AUDIOS_MOST) table.programs each in
     omega (arith, length-queues_from 0 table.programs choice, valid.few_programs)
 
@@ -188,7 +226,8 @@ queues_from-valid slot program (row ∷ rows) choice valid fits few few_packets 
     (All-cons (IsValidStream slot) (video_of program row choice) (map audio_of row.audios)
     (IsValidStream-video slot program row choice here (HasSizes-from_fits slot row.units (units_in rows) choice here.units fits) (omega arith))
     (audios_valid slot row.audios here.audios (omega arith)))
-    (queues_from-valid slot (program + 1) rows (drop (length row.units) choice) (All-tail (IsValidProgram slot) row rows valid) (fits_rest row.units (units_in rows) choice fits) (omega arith) (omega arith))
+    (queues_from-valid slot (program + 1) rows (drop (length row.units) choice) (All-tail (IsValidProgram slot) row rows valid)
+    (fits_rest row.units (units_in rows) choice fits) (omega arith) (omega arith))
 
 -- the streams of a valid table under a choice that fits are valid
 pub queues_of-valid : (table : Table) (choice : List ℕ) → IsValidTable table → Fits table choice → All (IsValidStream table.slot) (queues_of table choice)
@@ -207,7 +246,8 @@ HasSizes-at_program table choice p d valid fits within =
     let row = get_or table.programs p d in
     let rest = drop (p + 1) table.programs in
     let split : units_of table ≡ units_in (take p table.programs) ++ (row.units ++ units_in rest) =
-    ap units_in (sym (take-append-drop p table.programs) ∙ ap (λ more. take p table.programs ++ more) (drop_more table.programs p d within)) ∙ flat_map-append (λ (r : ProgramRow). r.units) (take p table.programs) (row ∷ rest) in
+    ap units_in (sym (take-append-drop p table.programs) ∙ ap (λ more. take p table.programs ++ more) (drop_more table.programs p d within))
+    ∙ flat_map-append (λ (r : ProgramRow). r.units) (take p table.programs) (row ∷ rest) in
     HasSizes-from_fits table.slot row.units (units_in rest) (choice_from table.programs p choice) (valid.programs p d within).units
     (fits_rest (units_in (take p table.programs)) (row.units ++ units_in rest) choice (subst (λ (units : List CodedUnit). AllZip HasVersion units choice) split fits))
 

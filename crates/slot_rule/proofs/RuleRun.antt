@@ -36,7 +36,8 @@ TellsRun table choice (Missed earlier last found) =
 step_cases : (table : Table) (choice : List ℕ) (slots : ℕ) (rows : List Row) (row : Row) (found : Option (ℕ × QueuedPacket))
     → FollowRule table choice rows → NoMiss table.slot (queues_of table choice) rows
     → IsNext table choice rows row → TellsMiss table.slot (queues_of table choice) rows row found
-    → (FollowRule table choice (rows ++ row ∷ []) → NoMiss table.slot (queues_of table choice) (rows ++ row ∷ []) → TellsRun table choice (run table.slot (length table.programs) (queues_of table choice) slots (rows ++ row ∷ [])))
+    → (FollowRule table choice (rows ++ row ∷ []) → NoMiss table.slot (queues_of table choice) (rows ++ row ∷ [])
+    → TellsRun table choice (run table.slot (length table.programs) (queues_of table choice) slots (rows ++ row ∷ [])))
     → TellsRun table choice (elim found [
       | Some found ↦ Missed rows row found
       | None ↦ run table.slot (length table.programs) (queues_of table choice) slots (rows ++ row ∷ [])

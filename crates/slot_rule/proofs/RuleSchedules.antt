@@ -48,7 +48,8 @@ slots_of-longer : (table : Table) (choice : List ℕ) (stream : ℕ) (rows rows'
     → slots_of stream 0 rows ≡ slots_of stream 0 rows'
 slots_of-longer table choice stream rows rows' s s' fits =
     let longer : rows' ≡ rows ++ drop (length rows) rows' = FollowRule-longer table choice rows rows' s.follows s'.follows fits in
-    let none : CarryNone stream (drop (length rows) rows') = CarryNone-after_all table choice stream rows s.sent (drop (length rows) rows') (subst (λ (list : List Row). FollowRule table choice list) longer s'.follows) in
+    let none : CarryNone stream (drop (length rows) rows') = CarryNone-after_all table choice stream rows s.sent (drop (length rows) rows')
+    (subst (λ (list : List Row). FollowRule table choice list) longer s'.follows) in
     sym (slots_of-append stream 0 rows (drop (length rows) rows') none) ∙ ap (slots_of stream 0) (sym longer)
 
 -- each packet stands in one slot, whichever rows are the schedule

@@ -1,5 +1,57 @@
 -- The packets of a stream that stand in the rows, and their bytes that are still in the decoder.
-use Rattle.std.proofs.Common.{◌≡◌, ℕ, zero, suc, ◌+◌, ◌-◌, ◌<◌, ◌≤◌, false, cond, eqb, ltb, eq-eqb, ne_eqb, List, [], ◌∷◌, ◌++◌, length, get_or, take, drop, count_by, sum_by, slice_get, Some, nat_lt, ◌==◌, if◌then◌else◌, refl, sym, ap, subst, ◌∙◌, inl, inr, append-nil, add-zero, zero-add, zero-le, le_trans, lt_of_lt_of_le, length-take, ap₂, lt-ltb, le-ltb, arith, All, length-drop, mul-le-mul_right, ◌*◌}
+use Rattle.std.proofs.Common.{
+  ◌≡◌,
+  ℕ,
+  zero,
+  suc,
+  ◌+◌,
+  ◌-◌,
+  ◌<◌,
+  ◌≤◌,
+  false,
+  cond,
+  eqb,
+  ltb,
+  eq-eqb,
+  ne_eqb,
+  List,
+  [],
+  ◌∷◌,
+  ◌++◌,
+  length,
+  get_or,
+  take,
+  drop,
+  count_by,
+  sum_by,
+  slice_get,
+  Some,
+  nat_lt,
+  ◌==◌,
+  if◌then◌else◌,
+  refl,
+  sym,
+  ap,
+  subst,
+  ◌∙◌,
+  inl,
+  inr,
+  append-nil,
+  add-zero,
+  zero-add,
+  zero-le,
+  le_trans,
+  lt_of_lt_of_le,
+  length-take,
+  ap₂,
+  lt-ltb,
+  le-ltb,
+  arith,
+  All,
+  length-drop,
+  mul-le-mul_right,
+  ◌*◌,
+}
 use Rattle.std.specs.List.{flat_map}
 use Rattle.std.specs.List.Sorted.{IsNonDecreasingBy}
 use Rattle.std.proofs.lemmas.Bool.{cases_eq, cases_Bool, cond-true, cond-false}
@@ -60,7 +112,15 @@ SentFirst-carried : (stream : ℕ) (packets : List QueuedPacket) (rows : List Ro
 SentFirst-carried stream packets rows packet (fits, same) got =
     let within : count_by (is_of stream) rows < length packets = slice_get_within packets (count_by (is_of stream) rows) packet got in (
       rw (count-carried stream stream packet rows refl) (omega arith),
-      rw (packets_sent-push stream rows (Carries stream packet), packet_of-carried stream stream packet refl, count-carried stream stream packet rows refl, same) (sym (take_more packets (count_by (is_of stream) rows) packet within ∙ ap (λ p. take (count_by (is_of stream) rows) packets ++ p ∷ []) (get_or_from_slice_get packets (count_by (is_of stream) rows) packet packet got))),
+      rw (
+        packets_sent-push stream rows (Carries stream packet),
+        packet_of-carried stream stream packet refl,
+        count-carried stream stream packet rows refl,
+        same,
+      )
+          (sym (take_more packets (count_by (is_of stream) rows) packet within
+          ∙ ap (λ p. take (count_by (is_of stream) rows) packets ++ p ∷ [])
+          (get_or_from_slice_get packets (count_by (is_of stream) rows) packet packet got))),
     )
 
 SentFirst-same : (stream : ℕ) (packets : List QueuedPacket) (rows : List Row) (row : Row)
@@ -91,7 +151,8 @@ pub FollowRule-sent : (table : Table) (choice : List ℕ) (stream : ℕ) (kind :
     → (rows : List Row) → FollowRule table choice rows → SentFirst stream packets rows
 FollowRule-sent table choice stream kind packets got =
     by_push (λ rows. FollowRule table choice rows → SentFirst stream packets rows) (λ follows. (zero-le, refl))
-    (λ rows row first follows. SentFirst-row table choice stream kind packets rows row got (FollowRule-last table choice rows row follows) (first (FollowRule-front table choice rows (row ∷ []) follows)))
+    (λ rows row first follows. SentFirst-row table choice stream kind packets rows row got (FollowRule-last table choice rows row follows)
+    (first (FollowRule-front table choice rows (row ∷ []) follows)))
 
 -- ---- the bytes that are still in the decoder
 -- the payload of a packet that is gone later than a time

@@ -1,5 +1,38 @@
 -- At most one packet, row, list of rows, schedule and miss stands in the slot rule.
-use Rattle.std.proofs.Common.{◌≡◌, ℕ, zero, suc, ◌+◌, ◌<◌, ◌≤◌, ◌⊎◌, cond, List, [], ◌∷◌, ◌++◌, length, get_or, take, drop, count_by, slice_get, Some, refl, sym, ap, subst, ◌∙◌, inl, inr, append_assoc, add-one, le_refl, le_of_eq, arith}
+use Rattle.std.proofs.Common.{
+  ◌≡◌,
+  ℕ,
+  zero,
+  suc,
+  ◌+◌,
+  ◌<◌,
+  ◌≤◌,
+  ◌⊎◌,
+  cond,
+  List,
+  [],
+  ◌∷◌,
+  ◌++◌,
+  length,
+  get_or,
+  take,
+  drop,
+  count_by,
+  slice_get,
+  Some,
+  refl,
+  sym,
+  ap,
+  subst,
+  ◌∙◌,
+  inl,
+  inr,
+  append_assoc,
+  add-one,
+  le_refl,
+  le_of_eq,
+  arith,
+}
 use Rattle.std.proofs.lemmas.Bool.{cases_lt}
 use Rattle.std.proofs.lemmas.Option.{same_Some, slice_get_within, slice_get-get_or}
 use Rattle.std.proofs.lemmas.List.{take_all, take_more_same, take-append-drop, same_from_push, length_push}
@@ -51,7 +84,8 @@ FollowRule-take_same table choice rows rows' follows follows' (suc n) fits fits'
     let same : take n rows ≡ take n rows' = FollowRule-take_same table choice rows rows' follows follows' n (omega arith) (omega arith) in
     let row : IsNext table choice (take n rows) (get_or rows n Empty) = FollowRule-at table choice rows follows n Empty fits in
     let row' : IsNext table choice (take n rows') (get_or rows' n Empty) = FollowRule-at table choice rows' follows' n Empty fits' in
-    rw (← add-one) (take_more_same rows rows' n Empty fits fits' same (IsRow-same table.slot (length table.programs) (queues_of table choice) (take n rows') (get_or rows n Empty) (get_or rows' n Empty)
+    rw (← add-one) (take_more_same rows rows' n Empty fits fits' same
+    (IsRow-same table.slot (length table.programs) (queues_of table choice) (take n rows') (get_or rows n Empty) (get_or rows' n Empty)
     (subst (λ (before : List Row). IsNext table choice before (get_or rows n Empty)) same row) row'))
 
 -- two lists that follow the rule agree as far as the shorter one goes
@@ -100,7 +134,8 @@ pub Misses-all_sent : (slot : ℕ) (queues : List Queue) (rows more : List Row) 
     → AllSent queues rows → Misses slot queues ((rows ++ more) ++ last ∷ []) stream packet → ⊥
 Misses-all_sent slot queues rows more last stream packet sent (inl late) =
     let before : rows ++ more ≡ late.before = (same_from_push (rows ++ more) late.before last (Carries stream packet) late.went).0 in
-    let head : (earlier : QueuedPacket) × IsHead queues rows stream late.kind earlier = IsHead-before queues rows more stream late.kind packet (subst (λ (front : List Row). IsHead queues front stream late.kind packet) (sym before) late.head) in
+    let head : (earlier : QueuedPacket) × IsHead queues rows stream late.kind earlier = IsHead-before queues rows more stream late.kind packet
+    (subst (λ (front : List Row). IsHead queues front stream late.kind packet) (sym before) late.head) in
     sent stream late.kind head.0 head.1
 Misses-all_sent slot queues rows more last stream packet sent (inr over) =
     let head : (earlier : QueuedPacket) × IsHead queues rows stream over.1.kind earlier = IsHead-before queues rows (more ++ last ∷ []) stream over.1.kind packet
@@ -114,7 +149,8 @@ pub miss_after : (table : Table) (choice : List ℕ) (rows earlier : List Row) (
 miss_after table choice rows earlier last stream packet follows none follows' misses =
     elim (cases_lt (length earlier) (length rows)) as (λ _. length rows ≤ length earlier) [
       | inl short ↦
-          (let longer : rows ≡ (earlier ++ last ∷ []) ++ drop (length (earlier ++ last ∷ [])) rows = FollowRule-longer table choice (earlier ++ last ∷ []) rows follows' follows (rw length_push (omega arith)) in
+          (let longer : rows ≡ (earlier ++ last ∷ []) ++ drop (length (earlier ++ last ∷ [])) rows = FollowRule-longer table choice
+          (earlier ++ last ∷ []) rows follows' follows (rw length_push (omega arith)) in
           absurd (none earlier last (drop (length (earlier ++ last ∷ [])) rows) stream packet (longer ∙ append_assoc earlier (last ∷ []) (drop (length (earlier ++ last ∷ [])) rows)) misses))
       | inr fits ↦ fits
     ]
@@ -142,9 +178,12 @@ IsFirstMiss-same table choice miss miss' first first' =
     let fits' : length first'.earlier ≤ length first.earlier =
     miss_after table choice first'.earlier first.earlier first.last miss.stream first.packet follows' first'.in_time first.follows first.misses in
     let equal : length first.earlier ≡ length first'.earlier = omega arith in
-    let rows : first.earlier ++ first.last ∷ [] ≡ first'.earlier ++ first'.last ∷ [] = FollowRule-unique table choice (first.earlier ++ first.last ∷ []) (first'.earlier ++ first'.last ∷ []) first.follows first'.follows
+    let rows : first.earlier ++ first.last ∷ [] ≡ first'.earlier
+    ++ first'.last ∷ [] = FollowRule-unique table choice (first.earlier ++ first.last ∷ [])
+    (first'.earlier ++ first'.last ∷ []) first.follows first'.follows
     (length_push first.earlier first.last ∙ ap (λ (n : ℕ). n + 1) equal ∙ sym (length_push first'.earlier first'.last)) in
-    let same : (miss.stream ≡ miss'.stream) × (first.packet ≡ first'.packet) = Misses-same table.slot (queues_of table choice) (first'.earlier ++ first'.last ∷ []) miss.stream miss'.stream first.packet first'.packet
+    let same : (miss.stream ≡ miss'.stream) × (first.packet ≡ first'.packet) = Misses-same table.slot (queues_of table choice)
+    (first'.earlier ++ first'.last ∷ []) miss.stream miss'.stream first.packet first'.packet
     (subst (λ (all : List Row). Misses table.slot (queues_of table choice) all miss.stream first.packet) rows first.misses) first'.misses in
     Miss-same miss miss' same.0 (first.unit_is ∙ ap (λ (packet : QueuedPacket). packet.item) same.1 ∙ sym first'.unit_is) (first.slot_is ∙ equal ∙ sym first'.slot_is)
     (first.due_is ∙ ap (λ (packet : QueuedPacket). packet.due) same.1 ∙ sym first'.due_is)

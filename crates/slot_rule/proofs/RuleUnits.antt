@@ -1,5 +1,38 @@
 -- The packets of a coded picture: their sizes, their sum, and those from a place on.
-use Rattle.std.proofs.Common.{◌≡◌, ℕ, zero, suc, min, ◌+◌, ◌-◌, ◌*◌, ◌/◌, ◌<◌, ◌≤◌, List, [], ◌∷◌, ◌++◌, All, length, map, get_or, drop, replicate, sum, sum_by, refl, sym, ap, ap₂, ◌∙◌, inl, inr, add-zero, arith}
+use Rattle.std.proofs.Common.{
+  ◌≡◌,
+  ℕ,
+  zero,
+  suc,
+  min,
+  ◌+◌,
+  ◌-◌,
+  ◌*◌,
+  ◌/◌,
+  ◌<◌,
+  ◌≤◌,
+  List,
+  [],
+  ◌∷◌,
+  ◌++◌,
+  All,
+  length,
+  map,
+  get_or,
+  drop,
+  replicate,
+  sum,
+  sum_by,
+  refl,
+  sym,
+  ap,
+  ap₂,
+  ◌∙◌,
+  inl,
+  inr,
+  add-zero,
+  arith,
+}
 use Rattle.std.specs.List.{enumerate_from}
 use Rattle.std.proofs.lemmas.Bool.{cases_lt}
 use Rattle.std.proofs.lemmas.List.{length-append, length-map, length-replicate, get_or_append_left, get_or-replicate, get_or_at, get_or-map}
@@ -113,7 +146,8 @@ get_or-unit_rest item piece due left i d within =
     let fits : i < length (payloads left) = omega (arith, length-unit_rest item piece due left, length-payloads left) in
     let fits' : i < length (enumerate_from piece (payloads left)) = rw length-enumerate_from fits in
     get_or-map (λ (n, payload). piece_of item due n payload) (enumerate_from piece (payloads left)) i (0, 0) d fits'
-    ∙ ap (λ (at : ℕ × ℕ). piece_of item due at.0 at.1) (get_or-enumerate_from piece (payloads left) i (0, 0) fits) ∙ ap (λ (payload : ℕ). piece_of item due (piece + i) payload) (get_or-payloads left i fits)
+    ∙ ap (λ (at : ℕ × ℕ). piece_of item due at.0 at.1) (get_or-enumerate_from piece (payloads left) i (0, 0) fits)
+    ∙ ap (λ (payload : ℕ). piece_of item due (piece + i) payload) (get_or-payloads left i fits)
 
 -- the pieces of a unit are fewer than its bytes
 pub unit_rest-pieces : (item due bytes : ℕ) → 1 ≤ bytes → All (λ packet. packet.piece < bytes) (unit_rest item 0 due bytes)

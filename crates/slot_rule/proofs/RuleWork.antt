@@ -1,5 +1,34 @@
 -- The work that waits in a buffer after one more row.
-use Rattle.std.proofs.Common.{◌≡◌, ℕ, ◌+◌, ◌-◌, ◌*◌, eqb, eq-eqb, ne_eqb, List, [], ◌∷◌, ◌++◌, length, map, max, sum, refl, arith, All, get_or, true, false, zero-le, zero-add, add-zero, ◌≤◌, Bool, cond}
+use Rattle.std.proofs.Common.{
+  ◌≡◌,
+  ℕ,
+  ◌+◌,
+  ◌-◌,
+  ◌*◌,
+  eqb,
+  eq-eqb,
+  ne_eqb,
+  List,
+  [],
+  ◌∷◌,
+  ◌++◌,
+  length,
+  map,
+  max,
+  sum,
+  refl,
+  arith,
+  All,
+  get_or,
+  true,
+  false,
+  zero-le,
+  zero-add,
+  add-zero,
+  ◌≤◌,
+  Bool,
+  cond,
+}
 use Rattle.std.proofs.lemmas.Bool.{cond-true, cond-false}
 use Rattle.std.proofs.lemmas.List.{length_push, map_push, length-map}
 use Rattle.std.proofs.lemmas.List.Sums.{sum_by_push, sum_by-cons, sum_by-le}
@@ -91,14 +120,17 @@ pub tb_work-bound : (slot stream : ℕ) (kind : QueueKind) (rows : List Row) →
 tb_work-bound slot stream kind rows =
     let f : Row → ℕ = λ row. PACKET_BYTES * tb_subticks kind * packets_in stream kind row in
     rw (← length-map rows f)
-    (waiting-bound (slot_subticks slot) (PACKET_BYTES * AUDIO_TB_SUBTICKS) (map f rows) (All-map (λ work. work ≤ PACKET_BYTES * AUDIO_TB_SUBTICKS) f rows (λ k d within. transport_in-le stream kind (get_or rows k d))))
+    (waiting-bound (slot_subticks slot) (PACKET_BYTES * AUDIO_TB_SUBTICKS) (map f rows)
+    (All-map (λ work. work ≤ PACKET_BYTES * AUDIO_TB_SUBTICKS) f rows (λ k d within. transport_in-le stream kind (get_or rows k d))))
 
 pub mb_work-bound : (slot stream : ℕ) (rows : List Row) → All (λ row. payload_in stream row ≤ PAYLOAD_BYTES) rows
     → mb_work slot stream rows ≤ length rows * (PAYLOAD_BYTES * MB_SUBTICKS)
 mb_work-bound slot stream rows each =
     let f : Row → ℕ = λ row. MB_SUBTICKS * payload_in stream row in
     rw (← length-map rows f)
-    (waiting-bound (slot_subticks slot) (PAYLOAD_BYTES * MB_SUBTICKS) (map f rows) (All-map (λ work. work ≤ PAYLOAD_BYTES * MB_SUBTICKS) f rows (λ k d within. (let small : payload_in stream (get_or rows k d) ≤ PAYLOAD_BYTES = each k d within in omega arith))))
+    (waiting-bound (slot_subticks slot) (PAYLOAD_BYTES * MB_SUBTICKS) (map f rows)
+    (All-map (λ work. work ≤ PAYLOAD_BYTES * MB_SUBTICKS) f rows
+    (λ k d within. (let small : payload_in stream (get_or rows k d) ≤ PAYLOAD_BYTES = each k d within in omega arith))))
 
 -- where no row brings more work than drains in a slot, none waits
 pub waiting-none : (drain : ℕ) (works : List ℕ) → All (λ work. work ≤ drain) works → waiting drain works ≡ 0

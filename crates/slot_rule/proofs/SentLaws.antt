@@ -1,5 +1,49 @@
 -- What stands in the slots of a schedule names programs and packets of the table.
-use Rattle.std.proofs.Common.{◌≡◌, ℕ, zero, suc, ◌+◌, ◌-◌, ◌*◌, ◌<◌, ◌≤◌, ◌%◌, ◌⊎◌, Bool, true, false, eqb, leb, List, [], ◌∷◌, ◌++◌, length, get_or, take, drop, slice_get, Option, Some, None, nat_le, if◌then◌else◌, refl, sym, ap, ap₂, subst, ◌∙◌, inl, inr, add-zero, zero-add, zero-le, count_by, arith}
+use Rattle.std.proofs.Common.{
+  ◌≡◌,
+  ℕ,
+  zero,
+  suc,
+  ◌+◌,
+  ◌-◌,
+  ◌*◌,
+  ◌<◌,
+  ◌≤◌,
+  ◌%◌,
+  ◌⊎◌,
+  Bool,
+  true,
+  false,
+  eqb,
+  leb,
+  List,
+  [],
+  ◌∷◌,
+  ◌++◌,
+  length,
+  get_or,
+  take,
+  drop,
+  slice_get,
+  Option,
+  Some,
+  None,
+  nat_le,
+  if◌then◌else◌,
+  refl,
+  sym,
+  ap,
+  ap₂,
+  subst,
+  ◌∙◌,
+  inl,
+  inr,
+  add-zero,
+  zero-add,
+  zero-le,
+  count_by,
+  arith,
+}
 use Rattle.std.specs.Option.{option_map}
 use Rattle.std.proofs.lemmas.Bool.{cases_lt, eqb-false, leb-true, leb-false}
 use Rattle.std.proofs.lemmas.List.{drop-drop, get_or_append_left, get_or-append_right, length-append, length-map}
@@ -127,7 +171,8 @@ module _ (table : Table) (choice : List ℕ) (valid : IsValidTable table) (fits 
       let versions = choice_from table.programs program choice in
       let within : program < length table.programs = slice_get_within table.programs program row row_is in
       let sizes : HasSizes row.units (choice_from table.programs program choice) =
-      subst (λ (r : ProgramRow). HasSizes r.units (choice_from table.programs program choice)) (get_or_from_slice_get table.programs program row row row_is) (HasSizes-at_program table choice program row valid fits within) in
+      subst (λ (r : ProgramRow). HasSizes r.units (choice_from table.programs program choice))
+      (get_or_from_slice_get table.programs program row row row_is) (HasSizes-at_program table choice program row valid fits within) in
       let at = StandsAt-from_get row.units versions sizes k packet got in
       record { program = program; row = row; row_is = row_is; number = number; queue = queue; unit = at.unit; unit_is = at.unit_is; piece_within = omega (arith, at.bytes, at.some_left) }
 
@@ -159,7 +204,8 @@ module _ (table : Table) (choice : List ℕ) (valid : IsValidTable table) (fits 
       let place = queue_place 0 table.programs choice stream queue head.1 in
       elim place.which as (λ _. IsOfTable table choice (piece_sent kind stream packet)) [
         | inl video ↦
-            (let is : queue ≡ video_of place.program place.row (choice_from table.programs place.program choice) = video.1 ∙ ap (λ n. video_of n place.row (choice_from table.programs place.program choice)) (zero-add place.program) in
+            (let is : queue ≡ video_of place.program place.row (choice_from table.programs place.program choice) = video.1
+            ∙ ap (λ n. video_of n place.row (choice_from table.programs place.program choice)) (zero-add place.program) in
             subst (λ (k : QueueKind). IsOfTable table choice (piece_sent k stream packet)) (sym (ap (λ (q : Queue). q.kind) is))
             (piece_of_table place.program place.row stream (count_by (is_of stream) rows) packet place.row_is video.0 (head.1 ∙ ap Some is)
             (ap (λ (q : Queue). slice_get q.packets (count_by (is_of stream) rows)) (sym is) ∙ head.2)))
@@ -197,12 +243,14 @@ module _ (table : Table) (choice : List ℕ) (valid : IsValidTable table) (fits 
   pub slots_of_table : (list : SlotList) → IsSlotList table choice list → (n : ℕ) (sent : Sent) → slice_get list.rows n ≡ Some sent → IsOfTable table choice sent
   slots_of_table list is n sent there =
       let queues = queues_of table choice in
-      let mapped : option_map (sent_of queues) (slice_get is.rows n) ≡ Some sent = sym (slice_get-map (sent_of queues) is.rows n) ∙ ap (λ (rows : List Sent). slice_get rows n) (sym is.rows_are) ∙ there in
+      let mapped : option_map (sent_of queues) (slice_get is.rows n) ≡ Some sent = sym (slice_get-map (sent_of queues) is.rows n)
+      ∙ ap (λ (rows : List Sent). slice_get rows n) (sym is.rows_are) ∙ there in
       elim (slice_get_cases is.rows n).1 as (λ _. IsOfTable table choice sent) [
         | inl at ↦
             (let within : n < length is.rows = slice_get_within is.rows n at.0 at.2 in
             let row_is : get_or is.rows n at.0 ≡ at.0 = get_or_from_slice_get is.rows n at.0 at.0 at.2 in
-            let next : IsNext table choice (take n is.rows) at.0 = subst (λ (r : Row). IsNext table choice (take n is.rows) r) row_is (FollowRule-at table choice is.rows is.schedule.follows n at.0 within) in
+            let next : IsNext table choice (take n is.rows) at.0 = subst (λ (r : Row). IsNext table choice (take n is.rows) r) row_is
+            (FollowRule-at table choice is.rows is.schedule.follows n at.0 within) in
             subst (λ (s : Sent). IsOfTable table choice s) (same_Some (sent_of queues at.0) sent (sym (ap (option_map (sent_of queues)) at.2) ∙ mapped)) (row_of_table (take n is.rows) at.0 next))
         | inr past ↦ absurd (none-some sent (sym (ap (option_map (sent_of queues)) past.1) ∙ mapped))
       ]

@@ -44,7 +44,9 @@ HasBrought-reserved : (table : Table) (choice : List ℕ) (rows : List Row) (sen
     → Reserves sent (subtick_after table.slot rows) olds news
     → HasBrought table choice rows (Reserved sent) news
 HasBrought-reserved table choice rows (Pcr program) olds news run reserves = record {
-  queues = same_queues table choice olds news reserves.as_many (λ stream old new there there'. TakesPcr-items program (subtick_after table.slot rows) stream old new (reserves.each stream old new there there')) ∙ run.queues;
+  queues = same_queues table choice olds news reserves.as_many
+      (λ stream old new there there'. TakesPcr-items program (subtick_after table.slot rows) stream old new
+      (reserves.each stream old new there there')) ∙ run.queues;
   places = same_places olds news reserves.as_many
       (λ stream old new there there'. TakesPcr-items program (subtick_after table.slot rows) stream old new (reserves.each stream old new there there')) ∙ run.places;
   brings = λ stream new there.
@@ -86,10 +88,12 @@ HasBrought-packet table choice rows s packet olds news run sends = record {
         let was : slice_get olds stream ≡ Some old = slice_get-get_or olds stream new within in
         let there_own : slice_get olds s ≡ Some old = ap (λ k. slice_get olds k) (sym own) ∙ was in
         let there_own' : slice_get news s ≡ Some new = ap (λ k. slice_get news k) (sym own) ∙ there in
-        subst (λ k. Brings table choice rows (Carries s packet) k new) (sym own) (Brings-packet table choice rows s packet old new (sends.own old new there_own there_own') (run.tracks s old there_own)))
+        subst (λ k. Brings table choice rows (Carries s packet) k new) (sym own)
+        (Brings-packet table choice rows s packet old new (sends.own old new there_own there_own') (run.tracks s old there_own)))
     | inr other ↦
         (let apart : s ≡ stream → ⊥ = λ e. other (sym e) in
-        Brings-nothing table choice rows (Carries s packet) stream new (run.tracks stream new (sym (sends.others stream other) ∙ there)) (ne_eqb s stream apart) (packets_in-other stream s new.kind packet apart) (payload_in-other stream s packet apart))
+        Brings-nothing table choice rows (Carries s packet) stream new (run.tracks stream new (sym (sends.others stream other) ∙ there))
+        (ne_eqb s stream apart) (packets_in-other stream s new.kind packet apart) (payload_in-other stream s packet apart))
   ];
 }
 
@@ -102,7 +106,12 @@ free_slot table choice valid fits rows (Carries stream packet) olds news run res
 free_slot table choice valid fits rows Empty olds news run rest free (none, same) = (
   (free, NothingGoes-from_none table choice valid fits rows olds run rest none),
   subst (λ (states : List QueueState). HasBrought table choice rows Empty states) (sym same)
-      (record { queues = run.queues; places = run.places; brings = λ stream state there. Brings-nothing table choice rows Empty stream state (run.tracks stream state there) refl (packets_in-empty stream state.kind) refl }),
+      (record {
+        queues = run.queues;
+        places = run.places;
+        brings = λ stream state there. Brings-nothing table choice rows Empty stream state
+            (run.tracks stream state there) refl (packets_in-empty stream state.kind) refl;
+      }),
 )
 free_slot table choice valid fits rows (Reserved sent) olds news run rest free fills = absurd fills
 

@@ -1,5 +1,37 @@
 -- The list of slots of a choice: how many there are, what they show, and that there is one list.
-use Rattle.std.proofs.Common.{◌≡◌, ℕ, ◌+◌, ◌*◌, ◌/◌, ◌<◌, ◌≤◌, ◌⊎◌, List, [], ◌∷◌, ◌++◌, length, map, take, drop, get_or, slice_get, Some, refl, sym, ap, ap₂, subst, ◌∙◌, inl, inr, append_assoc, length-append, mul-le-mul_right, arith}
+use Rattle.std.proofs.Common.{
+  ◌≡◌,
+  ℕ,
+  ◌+◌,
+  ◌*◌,
+  ◌/◌,
+  ◌<◌,
+  ◌≤◌,
+  ◌⊎◌,
+  List,
+  [],
+  ◌∷◌,
+  ◌++◌,
+  length,
+  map,
+  take,
+  drop,
+  get_or,
+  slice_get,
+  Some,
+  refl,
+  sym,
+  ap,
+  ap₂,
+  subst,
+  ◌∙◌,
+  inl,
+  inr,
+  append_assoc,
+  length-append,
+  mul-le-mul_right,
+  arith,
+}
 use Rattle.std.proofs.Math.Nat.{le_antisymm}
 use Rattle.std.proofs.lemmas.Nat.{div_below, le-div}
 use Rattle.std.proofs.lemmas.Bool.{cases_lt}
@@ -64,7 +96,12 @@ some_period table valid = le-div 1 period_ticks table.slot (omega (arith, valid.
 pub IsSlotCount-at : (period slots : ℕ) (before : List Row) (row : Row) (more : List Row) → 1 ≤ period → slots ≡ (length before / period + 1) * period
     → length (before ++ row ∷ more) ≡ slots → (length before ≡ 0) ⊎ CarriesPacket row → IsSlotCount period (before ++ row ∷ more) slots
 IsSlotCount-at period slots before row more some whole ends last = record {
-  passes = record { positive = omega (arith, past); multiple = (length before / period + 1, whole); greater = λ n r there carries. subst (λ k. n < k) ends (slice_get_within (before ++ row ∷ more) n r there) };
+  passes = record {
+    positive = omega (arith, past);
+    multiple = (length before / period + 1, whole);
+    greater = λ n r there carries. subst
+        (λ k. n < k) ends (slice_get_within (before ++ row ∷ more) n r there);
+  };
   least = λ other passes.
       (let q = passes.multiple.0 in
       let sent : length before < other = sent_before other passes last in
@@ -106,7 +143,8 @@ IsSlotList-filled table choice before row last rows list some last_is schedule c
       rows = front ++ idle;
       schedule = IsSchedule-idle table choice front schedule fills.idle;
       count = subst (λ (all : List Row). IsSlotCount (period table.slot) all list.slots) (sym split)
-          (IsSlotCount-at (period table.slot) list.slots before row idle some (fills.whole ∙ ap (λ n. (n / period table.slot + 1) * period table.slot) (sym last_is)) (ap length (sym split) ∙ ends) carries);
+          (IsSlotCount-at (period table.slot) list.slots before row idle some
+          (fills.whole ∙ ap (λ n. (n / period table.slot + 1) * period table.slot) (sym last_is)) (ap length (sym split) ∙ ends) carries);
       one_each = ends;
       rows_are = fills.rows_are ∙ ap₂ (λ (a b : List Sent). a ++ b) rows_are shown ∙ sym (map-append (sent_of queues) front idle);
     }
@@ -130,7 +168,8 @@ carries_within table choice rows rows' s s' n row there carries =
           let size : length front ≡ n = length-take-le n rows' (omega arith) in
           let longer : front ≡ rows ++ drop (length rows) front =
           FollowRule-longer table choice rows front s.follows (FollowRule-take table choice n rows' s'.follows) (omega arith) in
-          let sent : AllSent (queues_of table choice) front = subst (λ (all : List Row). AllSent (queues_of table choice) all) (sym longer) (AllSent-more (queues_of table choice) rows (drop (length rows) front) s.sent) in
+          let sent : AllSent (queues_of table choice) front = subst (λ (all : List Row). AllSent (queues_of table choice) all) (sym longer)
+          (AllSent-more (queues_of table choice) rows (drop (length rows) front) s.sent) in
           let is : get_or rows' n row ≡ row = same_Some _ _ (sym (slice_get-get_or rows' n row within) ∙ there) in
           let next : IsNext table choice front row = subst (λ (r : Row). IsNext table choice front r) is (FollowRule-at table choice rows' s'.follows n row within) in
           absurd (none_carried table choice front row sent next carries))

@@ -1,5 +1,39 @@
 -- The packets of a queue stand in the slots of a schedule in its order, each once.
-use Rattle.std.proofs.Common.{◌≡◌, ℕ, ◌%◌, ◌≤◌, Bool, true, false, eqb, leb, eq-eqb, ne_eqb, if◌then◌else◌, List, [], ◌∷◌, ◌++◌, length, map, slice_get, count_by, nat_le, ◌-◌, ◌*◌, Option, Some, None, refl, sym, ap, ap₂, ◌∙◌, inl, inr}
+use Rattle.std.proofs.Common.{
+  ◌≡◌,
+  ℕ,
+  ◌%◌,
+  ◌≤◌,
+  Bool,
+  true,
+  false,
+  eqb,
+  leb,
+  eq-eqb,
+  ne_eqb,
+  if◌then◌else◌,
+  List,
+  [],
+  ◌∷◌,
+  ◌++◌,
+  length,
+  map,
+  slice_get,
+  count_by,
+  nat_le,
+  ◌-◌,
+  ◌*◌,
+  Option,
+  Some,
+  None,
+  refl,
+  sym,
+  ap,
+  ap₂,
+  ◌∙◌,
+  inl,
+  inr,
+}
 use Rattle.std.specs.List.{filter}
 use Rattle.std.proofs.lemmas.Bool.{cases_eq}
 use Rattle.std.proofs.lemmas.List.{map-append, map_push, take_all}

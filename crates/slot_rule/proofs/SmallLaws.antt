@@ -21,7 +21,8 @@ use Rattle.slot_rule.proofs.RuleQueues.{IsLimited, IsValidStream, IsValidStream-
 use Rattle.slot_rule.proofs.RuleWork.{tb_work-bound, mb_work-bound}
 use Rattle.slot_rule.proofs.TrackLaws.{stream_there}
 
-module _ (table : Table) (choice : List ℕ) (valid : IsValidTable table) (fits : Fits table choice) (rows : List Row) (states : List QueueState) (run : HasRun table choice rows states) (few : length rows ≤ TIME_SLOTS_MOST) where
+module _ (table : Table) (choice : List ℕ) (valid : IsValidTable table) (fits : Fits table choice) (rows : List Row) (states : List QueueState)
+    (run : HasRun table choice rows states) (few : length rows ≤ TIME_SLOTS_MOST) where
   pub states_few : length states < 2 ^ 32
   states_few =
       let many : length states ≡ length (queues_of table choice) = sym (length-map states (queue_of table choice)) ∙ ap (λ (s : List Queue). length s) run.queues in
@@ -29,7 +30,8 @@ module _ (table : Table) (choice : List ℕ) (valid : IsValidTable table) (fits 
 
   limited : (stream : ℕ) (state : QueueState) → slice_get states stream ≡ Some state → All (IsLimited table.slot) (queue_of table choice state).packets
   limited stream state there =
-      let stream_valid : IsValidStream table.slot (queue_of table choice state) = IsValidStream-at table choice stream (queue_of table choice state) valid fits (stream_there table choice states run.queues stream state there) in
+      let stream_valid : IsValidStream table.slot (queue_of table choice state) = IsValidStream-at table choice stream
+      (queue_of table choice state) valid fits (stream_there table choice states run.queues stream state there) in
       stream_valid.each
 
   head_limited : (stream : ℕ) (state : QueueState) (packet : QueuedPacket) → slice_get states stream ≡ Some state → state.head ≡ Some packet → IsLimited table.slot packet
@@ -43,7 +45,8 @@ module _ (table : Table) (choice : List ℕ) (valid : IsValidTable table) (fits 
       let tb = tb_work-bound table.slot stream state.kind rows in
       let mb = mb_work-bound table.slot stream rows (FollowRule-payloads table choice stream rows valid fits run.follows) in
       let sent : state.sent ≤ length rows = omega (arith, tracks.sent, count_by-le-length (is_of stream) rows) in
-      let payloads : All (λ packet. packet.payload ≤ PAYLOAD_BYTES) packets = All-weaker (IsLimited table.slot) (λ packet. packet.payload ≤ PAYLOAD_BYTES) (λ packet h. h.payload) packets (limited stream state there) in
+      let payloads : All (λ packet. packet.payload ≤ PAYLOAD_BYTES) packets = All-weaker (IsLimited table.slot)
+      (λ packet. packet.payload ≤ PAYLOAD_BYTES) (λ packet h. h.payload) packets (limited stream state there) in
       let ends : length rows * table.slot ≤ TIME_SLOTS_MOST * SLOT_MOST = le_trans (mul-le-mul_right table.slot few) (mul-le-mul_left TIME_SLOTS_MOST valid.slot_most) in
       let held = held-le state.gone state.sent PAYLOAD_BYTES packets payloads in
       record {
@@ -66,7 +69,8 @@ module _ (table : Table) (choice : List ℕ) (valid : IsValidTable table) (fits 
       let tracks = run.tracks stream state there in
       record {
         place = tracks.place;
-        numbered = All-weaker (IsLimited table.slot) IsNumbered (λ packet h. record { item = h.item; piece = h.piece; payload = h.payload }) (queue_of table choice state).packets (limited stream state there);
+        numbered = All-weaker (IsLimited table.slot) IsNumbered (λ packet h. record { item = h.item; piece = h.piece; payload = h.payload })
+            (queue_of table choice state).packets (limited stream state there);
         keeps = tracks.keeps;
       }
 

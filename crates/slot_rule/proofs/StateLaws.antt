@@ -21,7 +21,8 @@ KeepsPlace-send packets old packet next tb mb keeps head next_is =
       head = next_is;
       order = omega arith;
       oldest = keeps.oldest;
-      held = ap (λ n. n + packet.payload) keeps.held ∙ sym (held-push old.gone old.sent packets packet keeps.order within ∙ ap (λ (p : QueuedPacket). held_bytes old.gone old.sent packets + p.payload) here);
+      held = ap (λ n. n + packet.payload) keeps.held ∙ sym (held-push old.gone old.sent packets packet keeps.order within
+          ∙ ap (λ (p : QueuedPacket). held_bytes old.gone old.sent packets + p.payload) here);
     }
 
 -- the oldest packet that is held is gone

@@ -111,7 +111,8 @@ AllHoldNoneGone table choice start states =
     (stream : ℕ) (state : QueueState) → slice_get states stream ≡ Some state → HoldsNoneGone (queue_of table choice state).packets start state
 
 -- ---- what goes in a free slot
-module _ (table : Table) (choice : List ℕ) (valid : IsValidTable table) (fits : Fits table choice) (rows : List Row) (states : List QueueState) (run : HasRun table choice rows states) (rest : AllHoldNoneGone table choice (length rows * table.slot) states) where
+module _ (table : Table) (choice : List ℕ) (valid : IsValidTable table) (fits : Fits table choice) (rows : List Row) (states : List QueueState)
+    (run : HasRun table choice rows states) (rest : AllHoldNoneGone table choice (length rows * table.slot) states) where
   -- a head packet that is permitted by the definitions is by its stream's state
   passes : (stream : ℕ) (kind : QueueKind) (packet : QueuedPacket) → IsHead (queues_of table choice) rows stream kind packet → IsPermitted table.slot rows stream kind packet
       → (state : QueueState) × (slice_get states stream ≡ Some state) × (state.head ≡ Some packet) × Permits state packet (length rows * table.slot)
@@ -120,7 +121,8 @@ module _ (table : Table) (choice : List ℕ) (valid : IsValidTable table) (fits 
         found.0,
         found.1,
         found.3,
-        IsPermitted-to_state table choice valid fits rows states run stream found.0 packet found.1 (rest stream found.0 found.1) (subst (λ (k : QueueKind). IsPermitted table.slot rows stream k packet) (sym found.2) permitted),
+        IsPermitted-to_state table choice valid fits rows states run stream found.0 packet found.1 (rest stream found.0 found.1)
+            (subst (λ (k : QueueKind). IsPermitted table.slot rows stream k packet) (sym found.2) permitted),
       )
 
   pub Goes-from_first : (stream : ℕ) (packet : QueuedPacket) → IsFirst (PassesAt (length rows * table.slot)) states stream packet

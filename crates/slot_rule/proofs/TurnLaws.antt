@@ -25,7 +25,8 @@ use Rattle.slot_rule.proofs.Places.{slice_get-take, slice_get_of_front}
 at_insert : {X : Type 0} (xs : List X) (i : ℕ) (y d : X) (k : ℕ) → i ≤ length xs
     → ((k < i) × (get_or (insert xs i y) k d ≡ get_or xs k d)) ⊎ (((k ≡ i) × (get_or (insert xs i y) k d ≡ y)) ⊎ ((i < k) × (get_or (insert xs i y) k d ≡ get_or xs (k - 1) d)))
 at_insert {X} xs i y d k fits =
-    elim (cases_lt k i) as (λ _. ((k < i) × (get_or (insert xs i y) k d ≡ get_or xs k d)) ⊎ (((k ≡ i) × (get_or (insert xs i y) k d ≡ y)) ⊎ ((i < k) × (get_or (insert xs i y) k d ≡ get_or xs (k - 1) d)))) [
+    elim (cases_lt k i) as (λ _. ((k < i) × (get_or (insert xs i y) k d ≡ get_or xs k d))
+    ⊎ (((k ≡ i) × (get_or (insert xs i y) k d ≡ y)) ⊎ ((i < k) × (get_or (insert xs i y) k d ≡ get_or xs (k - 1) d)))) [
       | inl below ↦ inl (below, get_or-insert_below xs i y d k below fits)
       | inr from ↦ inr (elim (cases_eq k i) as (λ _. ((k ≡ i) × (get_or (insert xs i y) k d ≡ y)) ⊎ ((i < k) × (get_or (insert xs i y) k d ≡ get_or xs (k - 1) d))) [
         | inl same ↦ inl (same, ap (λ n. get_or (insert xs i y) n d) same ∙ get_or-insert_at xs i y d fits)
@@ -117,10 +118,11 @@ pub AddsTurn-insert : (turns : List Turn) (place : ℕ) (turn : Turn) → place 
 AddsTurn-insert turns place turn fits = record {
   longer = length-insert turns place turn fits;
   added = (place, omega (arith, length-insert turns place turn fits), get_or-insert_at turns place turn turn fits);
-  kept = λ other has. elim (Contains-append_cases (take place turns) (drop place turns) other (subst (λ list. Contains list other) (sym (take-append-drop place turns)) has)) as (λ _. Contains (insert turns place turn) other) [
-    | inl left ↦ Contains-append_left (take place turns) (turn ∷ drop place turns) other left
-    | inr right ↦ Contains-append_right (take place turns) (turn ∷ drop place turns) other (Contains-append_right (turn ∷ []) (drop place turns) other right)
-  ];
+  kept = λ other has. elim (Contains-append_cases (take place turns) (drop place turns) other
+      (subst (λ list. Contains list other) (sym (take-append-drop place turns)) has)) as (λ _. Contains (insert turns place turn) other) [
+        | inl left ↦ Contains-append_left (take place turns) (turn ∷ drop place turns) other left
+        | inr right ↦ Contains-append_right (take place turns) (turn ∷ drop place turns) other (Contains-append_right (turn ∷ []) (drop place turns) other right)
+      ];
   each = λ other has. elim (Contains-append_cases (take place turns) (turn ∷ drop place turns) other has) as (λ _. (other ≡ turn) ⊎ Contains turns other) [
     | inl left ↦ inr (subst (λ list. Contains list other) (take-append-drop place turns) (Contains-append_left (take place turns) (drop place turns) other left))
     | inr rest ↦ elim (Contains-append_cases (turn ∷ []) (drop place turns) other rest) as (λ _. (other ≡ turn) ⊎ Contains turns other) [
@@ -212,10 +214,12 @@ PassesTurn-same turns place turn packet order got due =
       added = λ packet' e. subst (λ (p : QueuedPacket). Contains turns (turn_of turn.stream p)) (same_Some packet packet' e)
           (place, there, get_or_from_slice_get turns place turn (turn_of turn.stream packet) got ∙ sym is);
       kept = λ other apart has. has;
-      each = λ other (k, within, at). elim (cases_eq k place) as (λ _. ((p : QueuedPacket) × (Some packet ≡ Some p) × (other ≡ turn_of turn.stream p)) ⊎ ((other.stream ≡ turn.stream → ⊥) × Contains turns other)) [
-        | inl same ↦ inl (packet, refl, sym at ∙ ap (λ n. get_or turns n other) same ∙ get_or_from_slice_get turns place turn other got ∙ sym is)
-        | inr apart ↦ inr (apart_at turns place k turn other order got within at apart, (k, within, at))
-      ];
+      each = λ other (k, within, at). elim (cases_eq k place) as
+          (λ _. ((p : QueuedPacket) × (Some packet ≡ Some p) × (other ≡ turn_of turn.stream p))
+          ⊎ ((other.stream ≡ turn.stream → ⊥) × Contains turns other)) [
+            | inl same ↦ inl (packet, refl, sym at ∙ ap (λ n. get_or turns n other) same ∙ get_or_from_slice_get turns place turn other got ∙ sym is)
+            | inr apart ↦ inr (apart_at turns place k turn other order got within at apart, (k, within, at))
+          ];
     }
   where
     apart_at : (turns : List Turn) (place k : ℕ) (turn other : Turn) → IsTurnOrder turns → slice_get turns place ≡ Some turn → k < length turns

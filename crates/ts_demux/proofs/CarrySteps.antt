@@ -1,5 +1,35 @@
 -- The streams that are carried, one stream further.
-use Rattle.std.proofs.Common.{◌≡◌, ℕ, zero, suc, ◌+◌, ◌<◌, ◌≤◌, ◌==◌, Bool, true, false, cond, ◌||◌, List, [], ◌∷◌, ◌++◌, length, take, drop, get_or, Some, None, refl, sym, ap, ◌∙◌, append_assoc, arith}
+use Rattle.std.proofs.Common.{
+  ◌≡◌,
+  ℕ,
+  zero,
+  suc,
+  ◌+◌,
+  ◌<◌,
+  ◌≤◌,
+  ◌==◌,
+  Bool,
+  true,
+  false,
+  cond,
+  ◌||◌,
+  List,
+  [],
+  ◌∷◌,
+  ◌++◌,
+  length,
+  take,
+  drop,
+  get_or,
+  Some,
+  None,
+  refl,
+  sym,
+  ap,
+  ◌∙◌,
+  append_assoc,
+  arith,
+}
 use Rattle.std.proofs.lemmas.Bool.Decides.{nat_tests}
 use Rattle.std.proofs.lemmas.List.{map-append, append-nil}
 use Rattle.std.specs.List.{remove}
@@ -57,8 +87,11 @@ video_here xs i d within test before =
     let next = drop_next xs i d within in
     record {
       within = within;
-      video = λ e. before.video ∙ ap video_of (drop_next xs i e within) ∙ ap (λ (b : Bool). cond b (Some (get_or xs i e)) (video_of (drop (i + 1) xs))) (ap is_video (same_there xs i d e within) ∙ test);
-      others = before.others ∙ ap (λ (ys : List Stream). take i xs ++ without_video ys) next ∙ ap (λ (b : Bool). take i xs ++ cond b (drop (i + 1) xs) (get_or xs i d ∷ without_video (drop (i + 1) xs))) test ∙ ap (λ (n : ℕ). take i xs ++ drop n xs) (next_is i);
+      video = λ e. before.video ∙ ap video_of (drop_next xs i e within)
+          ∙ ap (λ (b : Bool). cond b (Some (get_or xs i e)) (video_of (drop (i + 1) xs))) (ap is_video (same_there xs i d e within) ∙ test);
+      others = before.others ∙ ap (λ (ys : List Stream). take i xs ++ without_video ys) next
+          ∙ ap (λ (b : Bool). take i xs ++ cond b (drop (i + 1) xs) (get_or xs i d ∷ without_video (drop (i + 1) xs))) test
+          ∙ ap (λ (n : ℕ). take i xs ++ drop n xs) (next_is i);
     }
   where
     next_is : (n : ℕ) → n + 1 ≡ suc n
@@ -94,7 +127,9 @@ pub carries : (drop_pids : List ℕ) (carried streams rest all : List Stream) (s
 carries drop_pids carried streams rest all s is test same =
     let one : audios_of drop_pids (pids_in carried) streams ≡ s ∷ audios_of drop_pids (pids_in carried ++ s.pid ∷ []) rest =
     ap (audios_of drop_pids (pids_in carried)) is ∙ ap (λ (b : Bool). cond b (s ∷ audios_of drop_pids (pids_in carried ++ s.pid ∷ []) rest) (audios_of drop_pids (pids_in carried) rest)) test in
-    append_assoc carried (s ∷ []) (audios_of drop_pids (pids_in (carried ++ s ∷ [])) rest) ∙ ap (λ (pids : List ℕ). carried ++ s ∷ audios_of drop_pids pids rest) (pids_more carried s) ∙ ap (λ (xs : List Stream). carried ++ xs) (sym one) ∙ same
+    append_assoc carried (s ∷ []) (audios_of drop_pids (pids_in (carried ++ s ∷ [])) rest)
+    ∙ ap (λ (pids : List ℕ). carried ++ s ∷ audios_of drop_pids pids rest) (pids_more carried s)
+    ∙ ap (λ (xs : List Stream). carried ++ xs) (sym one) ∙ same
 
 pub carries_others : (drop_pids : List ℕ) (carried streams rest : List Stream) (others all : List ℕ) (s : Stream) → streams ≡ s ∷ rest → is_carried drop_pids (pids_in carried) s ≡ true →
     others ++ others_of drop_pids (pids_in carried) streams ≡ all → others ++ others_of drop_pids (pids_in (carried ++ s ∷ [])) rest ≡ all

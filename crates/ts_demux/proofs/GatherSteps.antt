@@ -1,5 +1,41 @@
 -- Gatherers of some PIDs, one gatherer or one packet further.
-use Rattle.std.proofs.Common.{◌≡◌, ◌≢◌, ℕ, zero, suc, ◌+◌, ◌*◌, ◌<◌, ◌≤◌, ◌==◌, ◌⊎◌, inl, inr, Bool, true, false, ◌||◌, List, [], ◌∷◌, ◌++◌, length, map, take, get_or, set, slice_get, Some, Ok, refl, sym, ap, ◌∙◌, subst, arith}
+use Rattle.std.proofs.Common.{
+  ◌≡◌,
+  ◌≢◌,
+  ℕ,
+  zero,
+  suc,
+  ◌+◌,
+  ◌*◌,
+  ◌<◌,
+  ◌≤◌,
+  ◌==◌,
+  ◌⊎◌,
+  inl,
+  inr,
+  Bool,
+  true,
+  false,
+  ◌||◌,
+  List,
+  [],
+  ◌∷◌,
+  ◌++◌,
+  length,
+  map,
+  take,
+  get_or,
+  set,
+  slice_get,
+  Some,
+  Ok,
+  refl,
+  sym,
+  ap,
+  ◌∙◌,
+  subst,
+  arith,
+}
 use Rattle.std.proofs.lemmas.Bool.{cases_lt}
 use Rattle.std.proofs.lemmas.Option.{same_Some, slice_get-get_or, slice_get_within}
 use Rattle.std.proofs.lemmas.Bool.Decides.{nat_tests}
@@ -87,7 +123,8 @@ among_there (g ∷ gs) pid is = by_test (among_there gs pid) (g.pid == pid) refl
 there_among : (gs : List PesGatherer) (k : ℕ) (g : PesGatherer) → slice_get gs k ≡ Some g → is_among (gatherer_pids gs) g.pid ≡ true
 there_among [] k g there = absurd cc
 there_among (x ∷ gs) zero g there =
-    let same : x ≡ g = cc in ap (λ (p : ℕ). (p == g.pid) || is_among (gatherer_pids gs) g.pid) (ap (λ (h : PesGatherer). h.pid) same) ∙ ap (λ (b : Bool). b || is_among (gatherer_pids gs) g.pid) (itself g.pid)
+    let same : x ≡ g = cc in ap (λ (p : ℕ). (p == g.pid) || is_among (gatherer_pids gs) g.pid) (ap (λ (h : PesGatherer). h.pid) same)
+    ∙ ap (λ (b : Bool). b || is_among (gatherer_pids gs) g.pid) (itself g.pid)
   where
     itself : (p : ℕ) → (p == p) ≡ true
     itself p = grind (arith, nat_tests)
@@ -113,7 +150,8 @@ all_taken file n i bytes olds news bytes_are sync first all all_olds = (
     by_pid : (fault : DemuxFault) (pid : ℕ) (found : PidFault) → is_among (gatherer_pids olds) pid ≡ true → HasPidFault file pid 0 n found → ⊥
     by_pid fault pid found among has =
         let there = among_there olds pid among in
-        first.sound there.at there.gatherer (omega (arith, slice_get_within olds there.at there.gatherer there.there)) there.there found (subst (λ (p : ℕ). HasPidFault file p 0 n found) (sym there.pid_is) has)
+        first.sound there.at there.gatherer (omega (arith, slice_get_within olds there.at there.gatherer there.there)) there.there found
+        (subst (λ (p : ℕ). HasPidFault file p 0 n found) (sym there.pid_is) has)
 
 pub one_fault : (file : List ℕ) (n i : ℕ) (olds news : List PesGatherer) (d : PesGatherer) (fault : DemuxFault) → FirstGather file n i olds news → i < length news →
     (fault ≡ OutOfMemory) ⊎ ((found : PidFault) × HasPidFault file (get_or news i d).pid 0 n found × (fault ≡ of_pid (188 * n) found)) →

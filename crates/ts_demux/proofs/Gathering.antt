@@ -1,5 +1,39 @@
 -- The PES packets that a PID carries, one payload further.
-use Rattle.std.proofs.Common.{◌≡◌, ℕ, ◌+◌, ◌*◌, ◌<◌, inl, Bool, true, false, cond, ◌&&◌, nat_lt, List, [], ◌∷◌, ◌++◌, length, map, Option, Some, None, Result, Ok, Err, IfErr, OnOk, refl, sym, ap, ◌∙◌, subst, append_assoc, arith}
+use Rattle.std.proofs.Common.{
+  ◌≡◌,
+  ℕ,
+  ◌+◌,
+  ◌*◌,
+  ◌<◌,
+  inl,
+  Bool,
+  true,
+  false,
+  cond,
+  ◌&&◌,
+  nat_lt,
+  List,
+  [],
+  ◌∷◌,
+  ◌++◌,
+  length,
+  map,
+  Option,
+  Some,
+  None,
+  Result,
+  Ok,
+  Err,
+  IfErr,
+  OnOk,
+  refl,
+  sym,
+  ap,
+  ◌∙◌,
+  subst,
+  append_assoc,
+  arith,
+}
 use Rattle.std.proofs.lemmas.Bool.Decides.{nat_tests}
 use Rattle.std.proofs.lemmas.List.{append-nil}
 use Rattle.payload_lists.specs.Payload.{CarriedPayload, is_start}
@@ -136,7 +170,8 @@ pub gathers_nothing : (file : List ℕ) (n : ℕ) (bytes : List ℕ) (gatherer a
 gathers_nothing file n bytes gatherer after bytes_are of_pid pid begun whole own none behind gathers = record {
   order = rw (begun, whole) gathers.order;
   packets = rw (pid, pieces_with file gatherer.pid n bytes bytes_are of_pid) behind;
-  units = rw (begun, whole, own, pid) (gathers.units ∙ sym (ap units_in (pieces_with file gatherer.pid n bytes bytes_are of_pid) ∙ ap units_of (none ∙ append-nil (carried (pieces_of file gatherer.pid 0 n)))));
+  units = rw (begun, whole, own, pid) (gathers.units ∙ sym (ap units_in (pieces_with file gatherer.pid n bytes bytes_are of_pid)
+      ∙ ap units_of (none ∙ append-nil (carried (pieces_of file gatherer.pid 0 n)))));
 }
 
 -- one that carries a payload
@@ -149,13 +184,16 @@ pub gathers_more : (file : List ℕ) (n : ℕ) (bytes : List ℕ) (gatherer betw
     } ∷ []) ≡ carried (pieces_of file gatherer.pid 0 n) ++ record { at = 188 * n; payload = record { start = start; bytes = payload } } ∷ [] →
     IsBehind (pieces_of file gatherer.pid 0 n ++ record { at = 188 * n; bytes = bytes } ∷ []) between.packets →
     gathered_of between ≡ gathered_of gatherer → between.pid ≡ gatherer.pid →
-    OnOk result (gathered_of after ≡ gathered_more (gathered_of between) (188 * n) start payload) → OnOk result (IsInOrder after) → OnOk result (IsSame between after) → IfErr result (λ (fault : DemuxFault). fault ≡ OutOfMemory) →
+    OnOk result (gathered_of after ≡ gathered_more (gathered_of between) (188 * n) start payload) → OnOk result (IsInOrder after)
+    → OnOk result (IsSame between after) → IfErr result (λ (fault : DemuxFault). fault ≡ OutOfMemory) →
     ((found : PidFault) → HasPidFault file gatherer.pid 0 n found → ⊥) → Gathers file n gatherer → GathersMore file n gatherer result after
 gathers_more file n bytes gatherer between after start payload (Err fault) bytes_are of_pid some one behind same pid ok order kept memory sound gathers = inl memory
 gathers_more file n bytes gatherer between after start payload (Ok _) bytes_are of_pid some one behind same pid ok order kept memory sound gathers =
     let pid_is : after.pid ≡ gatherer.pid = kept.pid ∙ pid in
     let now : units_in (pieces_of file gatherer.pid 0 (n + 1)) ≡ gathered_more (units_in (pieces_of file gatherer.pid 0 n)) (188 * n) start payload =
-    ap units_in (pieces_with file gatherer.pid n bytes bytes_are of_pid) ∙ ap units_of one ∙ units_more (carried (pieces_of file gatherer.pid 0 n)) (record { at = 188 * n; payload = record { start = start; bytes = payload } }) some in (
+    ap units_in (pieces_with file gatherer.pid n bytes bytes_are of_pid) ∙ ap units_of one
+    ∙ units_more (carried (pieces_of file gatherer.pid 0 n))
+    (record { at = 188 * n; payload = record { start = start; bytes = payload } }) some in (
       record {
         order = order;
         packets = rw (pid_is, kept.packets, pieces_with file gatherer.pid n bytes bytes_are of_pid) behind;

@@ -1,5 +1,42 @@
 -- What a PID carries from a packet on, by the first packet.
-use Rattle.std.proofs.Common.{◌≡◌, ℕ, zero, suc, ◌+◌, ◌-◌, ◌*◌, ◌/◌, ◌<◌, ◌≤◌, nat_lt, Bool, true, false, cond, List, [], ◌∷◌, ◌++◌, length, map, filter, drop, Option, Some, None, is_none, refl, sym, ap, subst, ◌∙◌, length-append, length-drop, length-take, arith}
+use Rattle.std.proofs.Common.{
+  ◌≡◌,
+  ℕ,
+  zero,
+  suc,
+  ◌+◌,
+  ◌-◌,
+  ◌*◌,
+  ◌/◌,
+  ◌<◌,
+  ◌≤◌,
+  nat_lt,
+  Bool,
+  true,
+  false,
+  cond,
+  List,
+  [],
+  ◌∷◌,
+  ◌++◌,
+  length,
+  map,
+  filter,
+  drop,
+  Option,
+  Some,
+  None,
+  is_none,
+  refl,
+  sym,
+  ap,
+  subst,
+  ◌∙◌,
+  length-append,
+  length-drop,
+  length-take,
+  arith,
+}
 use Rattle.std.specs.Prelude.{option_and_then, ◌==◌}
 use Rattle.std.specs.List.{flat_map, filter_map, cons_option, range_with_len}
 use Rattle.std.specs.Option.{option_map}
@@ -29,23 +66,32 @@ joined last packets = bytes_of (not_repeated_behind last packets)
 
 -- ---- the first packet of several
 
-by_found : (at : ℕ) (found : Option PacketRecord) (others : List PlacedPacket) → filter has_payload (cons_option (option_map (placed_at at) found) others) ≡ cons_option (option_map (placed_at at) (option_and_then with_payload found)) (filter has_payload others)
+by_found : (at : ℕ) (found : Option PacketRecord) (others : List PlacedPacket)
+    → filter has_payload (cons_option (option_map (placed_at at) found) others)
+    ≡ cons_option (option_map (placed_at at) (option_and_then with_payload found)) (filter has_payload others)
 by_found at None others = refl
 by_found at (Some packet) others = by_size (nat_lt 0 (length packet.payload))
   where
-    by_size : (some : Bool) → cond some (placed_at at packet ∷ filter has_payload others) (filter has_payload others) ≡ cons_option (option_map (placed_at at) (cond some (Some packet) None)) (filter has_payload others)
+    by_size : (some : Bool) → cond some (placed_at at packet ∷ filter has_payload others) (filter has_payload others)
+        ≡ cons_option (option_map (placed_at at) (cond some (Some packet) None)) (filter has_payload others)
     by_size true = refl
     by_size false = refl
 
-by_pid : (is : Bool) (file : List ℕ) (n : ℕ) (ns : List ℕ) → payload_packets (map (piece file) (cond is (n ∷ ns) ns)) ≡ cons_option (option_map (placed_at (188 * n)) (cond is (option_and_then with_payload (packet_of (piece_at file n))) None)) (payload_packets (map (piece file) ns))
+by_pid : (is : Bool) (file : List ℕ) (n : ℕ) (ns : List ℕ) → payload_packets (map (piece file) (cond is (n ∷ ns) ns))
+    ≡ cons_option (option_map (placed_at (188 * n)) (cond is (option_and_then with_payload (packet_of (piece_at file n))) None))
+    (payload_packets (map (piece file) ns))
 by_pid true file n ns = by_found (188 * n) (packet_of (piece_at file n)) (filter_map placed (map (piece file) ns))
 by_pid false file n ns = refl
 
-first_of_range : (file : List ℕ) (pid n : ℕ) (ns : List ℕ) → payload_packets (map (piece file) (filter (is_of_pid file pid) (n ∷ ns))) ≡ cons_option (option_map (placed_at (188 * n)) (payload_packet pid (piece_at file n))) (payload_packets (map (piece file) (filter (is_of_pid file pid) ns)))
+first_of_range : (file : List ℕ) (pid n : ℕ) (ns : List ℕ) → payload_packets (map (piece file) (filter (is_of_pid file pid) (n ∷ ns)))
+    ≡ cons_option (option_map (placed_at (188 * n)) (payload_packet pid (piece_at file n)))
+    (payload_packets (map (piece file) (filter (is_of_pid file pid) ns)))
 first_of_range file pid n ns = by_pid (is_of_pid file pid n) file n (filter (is_of_pid file pid) ns)
 
 first_piece : (file : List ℕ) (pid next : ℕ) → next < piece_count file →
-    payload_packets (pieces_of file pid next (piece_count file)) ≡ cons_option (option_map (placed_at (188 * next)) (payload_packet pid (piece_at file next))) (payload_packets (pieces_of file pid (next + 1) (piece_count file)))
+    payload_packets (pieces_of file pid next (piece_count file))
+    ≡ cons_option (option_map (placed_at (188 * next)) (payload_packet pid (piece_at file next)))
+    (payload_packets (pieces_of file pid (next + 1) (piece_count file)))
 first_piece file pid next within =
     let more : piece_count file - next ≡ suc (piece_count file - (next + 1)) = omega arith in
     ap (λ (k : ℕ). payload_packets (map (piece file) (filter (is_of_pid file pid) (range_with_len next k)))) more
@@ -57,16 +103,20 @@ not_repeated_at : (at : ℕ) (packet : PacketRecord) (others : List PlacedPacket
 not_repeated_at at packet [] = refl
 not_repeated_at at packet (y ∷ others) = refl
 
-first_joined : (last : Option PacketRecord) (at : ℕ) (packet : PacketRecord) (others : List PlacedPacket) → joined last (placed_at at packet ∷ others) ≡ cond (repeats last packet) [] packet.payload ++ joined (Some packet) others
+first_joined : (last : Option PacketRecord) (at : ℕ) (packet : PacketRecord) (others : List PlacedPacket)
+    → joined last (placed_at at packet ∷ others) ≡ cond (repeats last packet) [] packet.payload ++ joined (Some packet) others
 first_joined None at packet others = ap (λ (behind : List PlacedPacket). packet.payload ++ bytes_of behind) (not_repeated_at at packet others)
 first_joined (Some last) at packet others = by_again (is_repeat packet last)
   where
-    by_again : (again : Bool) → bytes_of (cond again (not_repeated (placed_at at packet) others) (placed_at at packet ∷ not_repeated (placed_at at packet) others)) ≡ cond again [] packet.payload ++ bytes_of (not_repeated (placed_at 0 packet) others)
+    by_again : (again : Bool) → bytes_of (cond again (not_repeated (placed_at at packet) others)
+        (placed_at at packet ∷ not_repeated (placed_at at packet) others)) ≡ cond again [] packet.payload
+        ++ bytes_of (not_repeated (placed_at 0 packet) others)
     by_again true = ap bytes_of (not_repeated_at at packet others)
     by_again false = ap (λ (behind : List PlacedPacket). packet.payload ++ bytes_of behind) (not_repeated_at at packet others)
 
 -- a packet that carries nothing for the PID
-pub adds_nothing : (file : List ℕ) (pid next : ℕ) (last : Option Packet) → next < piece_count file → payload_packet pid (piece_at file next) ≡ None → payload_behind file pid next last ≡ payload_behind file pid (next + 1) last
+pub adds_nothing : (file : List ℕ) (pid next : ℕ) (last : Option Packet) → next < piece_count file → payload_packet pid (piece_at file next) ≡ None
+    → payload_behind file pid next last ≡ payload_behind file pid (next + 1) last
 adds_nothing file pid next last within none =
     ap (joined (option_map record_of last))
     (first_piece file pid next within
@@ -81,13 +131,15 @@ adds file pid next last packet within is =
     ∙ first_joined (option_map record_of last) (188 * next) (record_of packet) (payload_packets (pieces_of file pid (next + 1) (piece_count file)))
 
 -- a packet that comes again
-pub adds_repeat : (file : List ℕ) (pid next : ℕ) (last : Option Packet) (packet : Packet) → next < piece_count file → payload_packet pid (piece_at file next) ≡ Some (record_of packet) → repeats (option_map record_of last) (record_of packet) ≡ true →
+pub adds_repeat : (file : List ℕ) (pid next : ℕ) (last : Option Packet) (packet : Packet) → next < piece_count file
+    → payload_packet pid (piece_at file next) ≡ Some (record_of packet) → repeats (option_map record_of last) (record_of packet) ≡ true →
     payload_behind file pid next last ≡ payload_behind file pid (next + 1) (Some packet)
 adds_repeat file pid next last packet within is again =
     adds file pid next last packet within is ∙ ap (λ (b : Bool). cond b [] packet.payload.now ++ payload_behind file pid (next + 1) (Some packet)) again
 
 -- a packet that doesn't
-pub adds_payload : (file : List ℕ) (pid next : ℕ) (last : Option Packet) (packet : Packet) → next < piece_count file → payload_packet pid (piece_at file next) ≡ Some (record_of packet) → repeats (option_map record_of last) (record_of packet) ≡ false →
+pub adds_payload : (file : List ℕ) (pid next : ℕ) (last : Option Packet) (packet : Packet) → next < piece_count file
+    → payload_packet pid (piece_at file next) ≡ Some (record_of packet) → repeats (option_map record_of last) (record_of packet) ≡ false →
     payload_behind file pid next last ≡ packet.payload.now ++ payload_behind file pid (next + 1) (Some packet)
 adds_payload file pid next last packet within is again =
     adds file pid next last packet within is ∙ ap (λ (b : Bool). cond b [] packet.payload.now ++ payload_behind file pid (next + 1) (Some packet)) again
@@ -149,7 +201,9 @@ payload_fits pid bytes packet = by_test (packet_identifier bytes == pid) (packet
     by_test true (Some found) of e = by_size found (nat_lt 0 (length found.payload)) of e
 
 -- one packet adds at most its length
-few : (last : Option PacketRecord) (at : ℕ) (found : Option PacketRecord) (others : List PlacedPacket) (most : ℕ) → ((packet : PacketRecord) → found ≡ Some packet → length packet.payload ≤ 188) → ((last : Option PacketRecord) → length (joined last others) ≤ most) →
+few : (last : Option PacketRecord) (at : ℕ) (found : Option PacketRecord) (others : List PlacedPacket) (most : ℕ)
+    → ((packet : PacketRecord) → found ≡ Some packet → length packet.payload ≤ 188)
+    → ((last : Option PacketRecord) → length (joined last others) ≤ most) →
     length (joined last (cons_option (option_map (placed_at at) found) others)) ≤ 188 + most
 few last at None others most each behind = omega (arith, behind last)
 few last at (Some packet) others most each behind =
@@ -165,8 +219,11 @@ few_of_range file pid n zero (Some last) = omega arith
 few_of_range file pid n (suc k) last =
     let each : (packet : PacketRecord) → payload_packet pid (piece_at file n) ≡ Some packet → length packet.payload ≤ 188 =
     λ packet is. omega (arith, payload_fits pid (piece_at file n) packet is, length-take 188 (drop (n * 188) file)) in
-    let one : length (joined last (cons_option (option_map (placed_at (188 * n)) (payload_packet pid (piece_at file n))) (payload_packets (map (piece file) (filter (is_of_pid file pid) (range_with_len (n + 1) k)))))) ≤ 188 + 188 * k =
-    few last (188 * n) (payload_packet pid (piece_at file n)) (payload_packets (map (piece file) (filter (is_of_pid file pid) (range_with_len (n + 1) k)))) (188 * k) each (few_of_range file pid (n + 1) k) in
+    let one : length (joined last (cons_option (option_map (placed_at (188 * n)) (payload_packet pid (piece_at file n)))
+    (payload_packets (map (piece file) (filter (is_of_pid file pid) (range_with_len (n + 1) k)))))) ≤ 188 + 188 * k =
+    few last (188 * n) (payload_packet pid (piece_at file n))
+    (payload_packets (map (piece file) (filter (is_of_pid file pid) (range_with_len (n + 1) k)))) (188 * k) each
+    (few_of_range file pid (n + 1) k) in
     let all : length (joined last (payload_packets (map (piece file) (filter (is_of_pid file pid) (range_with_len n (suc k)))))) ≤ 188 + 188 * k =
     subst (λ (packets : List PlacedPacket). length (joined last packets) ≤ 188 + 188 * k) (sym (first_of_range file pid n (range_with_len (n + 1) k))) one in
     omega arith

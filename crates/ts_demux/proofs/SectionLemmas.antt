@@ -28,7 +28,9 @@ drop_front (x ∷ xs) ys = drop_front xs ys
 -- a piece is taken whose payload is fed
 pub takes_payload : (before : List Piece) (piece : Piece) (reader after : SectionReader) (payload : Payload) →
     Waits before [] reader → payloads_in (before ++ piece ∷ []) ≡ payloads_in before ++ payload ∷ [] → IsBehind (before ++ piece ∷ []) after.packets →
-    ((fed : List Payload) (given : List Found) (held now : List Payload) (payload : Payload) → GivesInTurn fed given held → ((later : List Payload) → sections_of (now ++ later) ≡ sections_of (held ++ payload ∷ later)) → GivesInTurn (fed ++ payload ∷ []) given now) →
+    ((fed : List Payload) (given : List Found) (held now : List Payload) (payload : Payload) → GivesInTurn fed given held
+    → ((later : List Payload) → sections_of (now ++ later) ≡ sections_of (held ++ payload ∷ later)) → GivesInTurn (fed ++ payload ∷ []) given now)
+    →
     ((later : List Payload) → sections_of (after.builder ++ later) ≡ sections_of (reader.builder ++ payload ∷ later)) →
     Waits (before ++ piece ∷ []) (added_by before piece) after
 takes_payload before piece reader after payload waits more behind law fed =
@@ -66,7 +68,8 @@ payloads_behind before piece taken is =
 pub reads_next : (before : List Piece) (waiting : List Found) (result : Option (Result (ArrayVec ℕ) SectionFault)) (reader after : SectionReader) →
     IfNone result (sections_of reader.builder ≡ []) → IfNone result (after.builder ≡ reader.builder) →
     IfSome result (λ (found : Result (ArrayVec ℕ) SectionFault). (later : List Payload) → sections_of (reader.builder ++ later) ≡ found_of found ∷ sections_of (after.builder ++ later)) →
-    ((fed : List Payload) (given : List Found) (held now : List Payload) (found : Found) → GivesInTurn fed given held → ((later : List Payload) → sections_of (held ++ later) ≡ found ∷ sections_of (now ++ later)) → GivesInTurn fed (given ++ found ∷ []) now) →
+    ((fed : List Payload) (given : List Found) (held now : List Payload) (found : Found) → GivesInTurn fed given held
+    → ((later : List Payload) → sections_of (held ++ later) ≡ found ∷ sections_of (now ++ later)) → GivesInTurn fed (given ++ found ∷ []) now) →
     after.packets ≡ reader.packets → Waits before waiting reader → ReadsNext before waiting result after
 reads_next before waiting None reader after none same found law packets waits = (
   sym waits.waiting_is ∙ none,
@@ -87,7 +90,8 @@ reads_next before waiting (Some read) reader after none same found law packets w
 -- and fewer wait
 pub reads_fewer : (result : Option (Result (ArrayVec ℕ) SectionFault)) (old new : List Payload) →
     IfSome result (λ (found : Result (ArrayVec ℕ) SectionFault). (later : List Payload) → sections_of (old ++ later) ≡ found_of found ∷ sections_of (new ++ later)) →
-    ((held now : List Payload) (found : Found) → ((later : List Payload) → sections_of (held ++ later) ≡ found ∷ sections_of (now ++ later)) → length (sections_of held) ≡ length (sections_of now) + 1) →
+    ((held now : List Payload) (found : Found) → ((later : List Payload) → sections_of (held ++ later) ≡ found ∷ sections_of (now ++ later))
+    → length (sections_of held) ≡ length (sections_of now) + 1) →
     IfSome result (λ (_ : Result (ArrayVec ℕ) SectionFault). length (sections_of new) < length (sections_of old))
 reads_fewer None old new found law = tt
 reads_fewer (Some read) old new found law = omega (arith, law old new (found_of read) found)

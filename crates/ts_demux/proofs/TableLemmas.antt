@@ -1,5 +1,40 @@
 -- What is quiet and known one section, or one packet, further.
-use Rattle.std.proofs.Common.{◌≡◌, ◌≢◌, ℕ, zero, suc, ◌+◌, ◌-◌, ◌<◌, ◌≤◌, ◌==◌, ◌⊎◌, inl, inr, Bool, true, false, cond, List, [], ◌∷◌, ◌++◌, length, drop, map, filter, slice_get, Some, None, refl, sym, ap, ◌∙◌, subst, arith}
+use Rattle.std.proofs.Common.{
+  ◌≡◌,
+  ◌≢◌,
+  ℕ,
+  zero,
+  suc,
+  ◌+◌,
+  ◌-◌,
+  ◌<◌,
+  ◌≤◌,
+  ◌==◌,
+  ◌⊎◌,
+  inl,
+  inr,
+  Bool,
+  true,
+  false,
+  cond,
+  List,
+  [],
+  ◌∷◌,
+  ◌++◌,
+  length,
+  drop,
+  map,
+  filter,
+  slice_get,
+  Some,
+  None,
+  refl,
+  sym,
+  ap,
+  ◌∙◌,
+  subst,
+  arith,
+}
 use Rattle.std.proofs.lemmas.Bool.Decides.{nat_tests}
 use Rattle.std.specs.Prelude.{nat_le}
 use Rattle.std.specs.List.{range_with_len}
@@ -92,7 +127,8 @@ pieces_behind file pid from n is behind of_pid =
     let last : from + (n - from) ≡ n = omega arith in
     ap (λ (k : ℕ). map (piece file) (filter (is_of_pid file pid) (range_with_len from k))) count
     ∙ ap (λ (ks : List ℕ). map (piece file) (filter (is_of_pid file pid) ks)) (range_more from (n - from) ∙ ap (λ (k : ℕ). range_with_len from (n - from) ++ k ∷ []) last)
-    ∙ ap (map (piece file)) (filter_last (is_of_pid file pid) (range_with_len from (n - from)) n ∙ ap (λ (b : Bool). filter (is_of_pid file pid) (range_with_len from (n - from)) ++ cond b (n ∷ []) []) of_pid)
+    ∙ ap (map (piece file)) (filter_last (is_of_pid file pid) (range_with_len from (n - from)) n
+    ∙ ap (λ (b : Bool). filter (is_of_pid file pid) (range_with_len from (n - from)) ++ cond b (n ∷ []) []) of_pid)
     ∙ map_last (piece file) (filter (is_of_pid file pid) (range_with_len from (n - from))) (cond is (n ∷ []) [])
     ∙ ap (λ (ps : List Piece). pieces_of file pid from n ++ ps) (by_test is)
   where
@@ -144,7 +180,8 @@ pieces_other file pid from n of_pid = by_place (nat_le from n) refl
 -- a packet of another PID completes none
 pub none_there : (file : List ℕ) (pid from n k : ℕ) (found : Found) → is_of_pid file pid n ≡ false → IsSection file pid from n k found → ⊥
 none_there file pid from n k found of_pid is =
-    let none : sections_at file pid from n ≡ [] = ap (λ (ps : List Piece). drop (length (sections_in (pieces_of file pid from n))) (sections_in ps)) (pieces_other file pid from n of_pid) ∙ drop_all (sections_in (pieces_of file pid from n)) in
+    let none : sections_at file pid from n ≡ [] = ap (λ (ps : List Piece). drop (length (sections_in (pieces_of file pid from n))) (sections_in ps))
+    (pieces_other file pid from n of_pid) ∙ drop_all (sections_in (pieces_of file pid from n)) in
     let stands : slice_get (sections_at file pid from n) k ≡ Some found = is.stands in
     let empty : None ≡ Some found = subst (λ (xs : List Found). slice_get xs k ≡ Some found) none stands in
     absurd cc

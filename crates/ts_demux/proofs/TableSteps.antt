@@ -12,7 +12,33 @@ use Rattle.psi_tables.specs.Sections.{Found}
 use Rattle.ts_demux.specs.declared.table_walk.Known.{Known}
 use Rattle.ts_demux.specs.declared.table_walk.Known.TheVariants.{Nothing, OtherPrograms, MapOn}
 use Rattle.ts_demux.specs.Faults.{of_pid}
-use Rattle.ts_demux.specs.Tables.{pat_pid, piece, HasPidFault, IsBefore, IsSection, Names, TakesPat, pmt_from, IsPmtSection, IsBadPat, IsBadPmt, IsMapOf, HasPat, HasProgram, IsPatSection, Stop, StopsAt, no_sync, pat_packet, pmt_packet, pat_section, pmt_section, map_section, NothingStops, sections_at}
+use Rattle.ts_demux.specs.Tables.{
+  pat_pid,
+  piece,
+  HasPidFault,
+  IsBefore,
+  IsSection,
+  Names,
+  TakesPat,
+  pmt_from,
+  IsPmtSection,
+  IsBadPat,
+  IsBadPmt,
+  IsMapOf,
+  HasPat,
+  HasProgram,
+  IsPatSection,
+  Stop,
+  StopsAt,
+  no_sync,
+  pat_packet,
+  pmt_packet,
+  pat_section,
+  pmt_section,
+  map_section,
+  NothingStops,
+  sections_at,
+}
 use Rattle.ts_demux.specs.Private.TableWalk.{IsQuiet, IsUnnamed, IsWithoutPat, IsNamed, IsKnown, NamesNone, IsKnownBehind, is_on_pat_pid}
 use Rattle.ts_demux.proofs.TableLemmas.{further, next_packet, ordered, rank_before, before_rank, later, behind_before, of_one, of_no_other, none_there, same_section, none_behind}
 
@@ -61,7 +87,8 @@ first_map file program n pid from stop named sync other of_pid passes (pmt_packe
     let same = named.only packet index found takes in
     let from_same : packet + 1 ≡ from = ap (λ (p : ℕ). p + 1) same.0 ∙ sym named.from_is in
     let fault_there : pid_fault (pieces_of file pid from n) (piece file n) ≡ Some fault =
-    subst (λ (f : ℕ). pid_fault (pieces_of file pid f n) (piece file n) ≡ Some fault) from_same (subst (λ (p : ℕ). pid_fault (pieces_of file p (packet + 1) n) (piece file n) ≡ Some fault) same.2 has.fault_is) in
+    subst (λ (f : ℕ). pid_fault (pieces_of file pid f n) (piece file n) ≡ Some fault) from_same
+    (subst (λ (p : ℕ). pid_fault (pieces_of file p (packet + 1) n) (piece file n) ≡ Some fault) same.2 has.fault_is) in
     let e : None ≡ Some fault = sym passes ∙ fault_there in
     absurd cc
 first_map file program n pid from stop named sync other of_pid passes (pat_section k found fault rank is bad stop_is) = absurd (omega arith)
@@ -221,7 +248,8 @@ named_now file program n k pid from section unnamed here names from_is alone = r
         | inl before ↦ absurd (unnamed_takes file program n (k + 1) m j other unnamed takes (before_rank m j n k before))
         | inr behind ↦ elim behind [
           | inl same ↦
-              let there : IsSection file pat_pid 0 n k takes.found = subst (λ (i : ℕ). IsSection file pat_pid 0 n i takes.found) same.1 (subst (λ (i : ℕ). IsSection file pat_pid 0 i j takes.found) same.0 takes.section) in
+              let there : IsSection file pat_pid 0 n k takes.found = subst (λ (i : ℕ). IsSection file pat_pid 0 n i takes.found) same.1
+              (subst (λ (i : ℕ). IsSection file pat_pid 0 i j takes.found) same.0 takes.section) in
               (same.0, same.1, alone other (subst (λ (f : Found). Names program f other) (same_section file pat_pid 0 n k takes.found (Ok section) there here) takes.names))
           | inr after ↦ absurd (takes.first n k pid (Ok section) after here names)
         ]

@@ -19,11 +19,47 @@ use Rattle.ts_demux.specs.declared.table_walk.Reading.{Reading}
 use Rattle.ts_demux.specs.declared.table_walk.Reading.TheVariants.{AllRead, GoesOn, Map}
 use Rattle.ts_demux.specs.declared.table_walk.TableWalk.{TableWalk}
 use Rattle.ts_demux.specs.Faults.{of_pid, of_section}
-use Rattle.ts_demux.specs.Tables.{pat_pid, piece, IsSection, IsBadPat, IsBadPmt, IsMapOf, refuse, take, no_sync, pat_packet, pmt_packet, pat_section, pmt_section, map_section, StopsFirst, IsTablesFault, sections_in, sections_at}
+use Rattle.ts_demux.specs.Tables.{
+  pat_pid,
+  piece,
+  IsSection,
+  IsBadPat,
+  IsBadPmt,
+  IsMapOf,
+  refuse,
+  take,
+  no_sync,
+  pat_packet,
+  pmt_packet,
+  pat_section,
+  pmt_section,
+  map_section,
+  StopsFirst,
+  IsTablesFault,
+  sections_in,
+  sections_at,
+}
 use Rattle.ts_demux.specs.Private.SectionReader.{Waits, added_by, TakesPiece, ReadsNext}
 use Rattle.ts_demux.specs.Private.TableWalk.{IsNamed, IsKnown, IsMapReader, IsBetween, IsInPat, IsInMap, Reads, IsKnownBehind, ReadsPat, ReadsMap, IsOnMapPid, is_on_pat_pid, is_map_on, missing_of}
 use Rattle.ts_demux.proofs.TableLemmas.{pieces_more, pieces_other, pieces_none, of_no_other, none_there, next_there, none_behind, stops, quiet_further, quiet_next}
-use Rattle.ts_demux.proofs.TableSteps.{first_pat, first_map, pat_passes, pat_pmt_section, map_passes, map_pmt_section, named_more, known_more, first_known, known_next, pat_ends, map_ends, other_ends, nothing_stops, no_pat, no_program}
+use Rattle.ts_demux.proofs.TableSteps.{
+  first_pat,
+  first_map,
+  pat_passes,
+  pat_pmt_section,
+  map_passes,
+  map_pmt_section,
+  named_more,
+  known_more,
+  first_known,
+  known_next,
+  pat_ends,
+  map_ends,
+  other_ends,
+  nothing_stops,
+  no_pat,
+  no_program,
+}
 
 -- ---- the sections of a packet of PID 0
 
@@ -82,7 +118,8 @@ pat_goes_on file n walk section known after within reads says on_pat =
       of_pid = within.of_pid;
       done = within.done + 1;
       waiting = reads.0;
-      quiet = quiet_further file walk.program n (within.done + 1) within.quiet (λ stop. pat_passes file walk.program n within.done walk.known (Ok section.items) stop within.known within.of_pid there says.0 on_pat);
+      quiet = quiet_further file walk.program n (within.done + 1) within.quiet
+          (λ stop. pat_passes file walk.program n within.done walk.known (Ok section.items) stop within.known within.of_pid there says.0 on_pat);
       known = known_more file walk.program n within.done section.items walk.known known within.known there says.1;
       pat = reads.2;
       waiting_is = (next_there (sections_at file pat_pid 0 n) within.done (Ok section.items) reads.0 (within.waiting_is ∙ reads.1)).1;
@@ -104,10 +141,13 @@ pat_map_read file n walk section known after (Ok AllRead) within reads says on s
 pat_map_read file n walk section known after (Ok GoesOn) within reads says on says_map = (pat_goes_on file n walk section known after within reads says (λ _. says_map), refl)
 pat_map_read file n walk section known after (Ok (Map map)) within reads says on says_map =
     stops file walk.program n (within.done + 1) (take map) within.quiet
-    (map_section within.done (Ok section.items) map refl (pat_pmt_section file walk.program n within.done walk.known (Ok section.items) within.known on (pat_there file n walk (Ok section) after within reads)) says_map refl)
+    (map_section within.done (Ok section.items) map refl (pat_pmt_section file walk.program n within.done walk.known
+    (Ok section.items) within.known on (pat_there file n walk (Ok section) after within reads)) says_map refl)
 pat_map_read file n walk section known after (Err fault) within reads says on says_map =
     stops file walk.program n (within.done + 1) (refuse fault) within.quiet
-    (pmt_section within.done (Ok section.items) says_map.0 refl (pat_pmt_section file walk.program n within.done walk.known (Ok section.items) within.known on (pat_there file n walk (Ok section) after within reads)) says_map.1 (ap refuse says_map.2))
+    (pmt_section within.done (Ok section.items) says_map.0 refl
+    (pat_pmt_section file walk.program n within.done walk.known (Ok section.items) within.known on
+    (pat_there file n walk (Ok section) after within reads)) says_map.1 (ap refuse says_map.2))
 
 -- ---- the sections of a packet of the PMT's PID
 
@@ -125,8 +165,12 @@ pub map_all_read : (file : List ℕ) (n : ℕ) (walk : TableWalk) (after : Secti
 map_all_read file n walk after within reads =
     let end : drop within.done (sections_at file within.pid within.from n) ≡ [] = within.waiting_is ∙ reads.0 in
     record {
-      quiet = quiet_next file walk.program n (within.done + 1) within.quiet (λ j stop less is. map_ends file walk.program n within.done within.pid within.from j stop within.named within.other within.of_pid end less is);
-      known = known_next file walk.program n (within.done + 1) walk.known (known_is file walk.program n (within.done + 1) within.pid within.from walk.known within.known_is within.named) (λ j found less is. none_there file pat_pid 0 n j found (of_no_other file within.pid pat_pid n within.of_pid within.other) is);
+      quiet = quiet_next file walk.program n (within.done + 1) within.quiet
+          (λ j stop less is. map_ends file walk.program n within.done within.pid within.from j stop within.named within.other within.of_pid end less
+          is);
+      known = known_next file walk.program n (within.done + 1) walk.known
+          (known_is file walk.program n (within.done + 1) within.pid within.from walk.known within.known_is within.named)
+          (λ j found less is. none_there file pat_pid 0 n j found (of_no_other file within.pid pat_pid n within.of_pid within.other) is);
       pat = within.pat;
       map = subst (λ (k : Known). IsMapReader file (n + 1) k after) (sym within.known_is) (λ other. (omega (arith, within.behind), reads.1));
     }
@@ -153,7 +197,9 @@ map_read file n walk section after (Ok GoesOn) within reads says = (
     behind = within.behind;
     done = within.done + 1;
     waiting = reads.0;
-    quiet = quiet_further file walk.program n (within.done + 1) within.quiet (λ stop. map_passes file walk.program n within.done within.pid within.from (Ok section.items) stop within.named within.other within.of_pid (map_there file n walk (Ok section) after within reads) says.0 says.1);
+    quiet = quiet_further file walk.program n (within.done + 1) within.quiet
+        (λ stop. map_passes file walk.program n within.done within.pid within.from (Ok section.items) stop within.named within.other within.of_pid
+        (map_there file n walk (Ok section) after within reads) says.0 says.1);
     named = named_more file walk.program n (within.done + 1) within.pid within.from within.named;
     map = reads.2;
     waiting_is = (next_there (sections_at file within.pid within.from n) within.done (Ok section.items) reads.0 (within.waiting_is ∙ reads.1)).1;
@@ -163,10 +209,12 @@ map_read file n walk section after (Ok GoesOn) within reads says = (
 )
 map_read file n walk section after (Ok (Map map)) within reads says =
     stops file walk.program n (within.done + 1) (take map) within.quiet
-    (map_section within.done (Ok section.items) map refl (map_pmt_section file walk.program n within.done within.pid within.from (Ok section.items) within.named within.other (map_there file n walk (Ok section) after within reads)) says refl)
+    (map_section within.done (Ok section.items) map refl (map_pmt_section file walk.program n within.done within.pid within.from
+    (Ok section.items) within.named within.other (map_there file n walk (Ok section) after within reads)) says refl)
 map_read file n walk section after (Err fault) within reads says =
     stops file walk.program n (within.done + 1) (refuse fault) within.quiet
-    (pmt_section within.done (Ok section.items) says.0 refl (map_pmt_section file walk.program n within.done within.pid within.from (Ok section.items) within.named within.other (map_there file n walk (Ok section) after within reads)) says.1 (ap refuse says.2))
+    (pmt_section within.done (Ok section.items) says.0 refl (map_pmt_section file walk.program n within.done within.pid within.from
+    (Ok section.items) within.named within.other (map_there file n walk (Ok section) after within reads)) says.1 (ap refuse says.2))
 
 -- ---- a packet begins
 
@@ -199,7 +247,8 @@ pat_begins file n walk bytes after within bytes_are sync of_pid between takes = 
   of_pid = of_pid;
   done = 0;
   waiting = sections_at file pat_pid 0 n;
-  quiet = quiet_further file walk.program n 0 between.quiet (λ stop. first_pat file walk.program n stop (subst (λ (b : List ℕ). sync_byte b ≡ 0x47) bytes_are sync) of_pid (fault_there file pat_pid 0 n bytes None bytes_are takes.0));
+  quiet = quiet_further file walk.program n 0 between.quiet (λ stop. first_pat file walk.program n stop
+      (subst (λ (b : List ℕ). sync_byte b ≡ 0x47) bytes_are sync) of_pid (fault_there file pat_pid 0 n bytes None bytes_are takes.0));
   known = first_known file walk.program n walk.known between.known;
   pat = waits_there file pat_pid 0 n bytes after (omega arith) of_pid bytes_are takes.1;
   waiting_is = refl;
@@ -238,7 +287,9 @@ map_begins file n walk (MapOn pid from) bytes after is within bytes_are sync on 
       behind = stands.0;
       done = 0;
       waiting = sections_at file pid from n;
-      quiet = quiet_further file walk.program n 0 between.quiet (λ stop. first_map file walk.program n pid from stop named (subst (λ (b : List ℕ). sync_byte b ≡ 0x47) bytes_are sync) on.0 on.1 (fault_there file pid from n bytes None bytes_are taken.0));
+      quiet = quiet_further file walk.program n 0 between.quiet
+          (λ stop. first_map file walk.program n pid from stop named (subst (λ (b : List ℕ). sync_byte b ≡ 0x47) bytes_are sync) on.0 on.1
+          (fault_there file pid from n bytes None bytes_are taken.0));
       named = named_more file walk.program n 0 pid from named;
       map = waits_there file pid from n bytes after stands.0 on.1 bytes_are taken.1;
       waiting_is = refl;
@@ -247,7 +298,8 @@ map_begins file n walk (MapOn pid from) bytes after is within bytes_are sync on 
 
 pub map_refuses_packet : (file : List ℕ) (n : ℕ) (walk : TableWalk) (known : Known) (bytes : List ℕ) (fault : PidFault) (after : SectionReader) → walk.known ≡ known →
     n < piece_count file → bytes ≡ piece_at file n → IsOnMapPid file n known → IsBetween file n walk →
-    ((before : List Piece) (at : ℕ) → Waits before [] walk.map → TakesPiece before (record { at = at; bytes = bytes }) (Err fault) after) → StopsFirst file walk.program (refuse (of_pid (188 * n) fault))
+    ((before : List Piece) (at : ℕ) → Waits before [] walk.map → TakesPiece before (record { at = at; bytes = bytes }) (Err fault) after)
+    → StopsFirst file walk.program (refuse (of_pid (188 * n) fault))
 map_refuses_packet file n walk Nothing bytes fault after is within bytes_are on between takes = absurd on
 map_refuses_packet file n walk OtherPrograms bytes fault after is within bytes_are on between takes = absurd on
 map_refuses_packet file n walk (MapOn pid from) bytes fault after is within bytes_are on between takes =

@@ -96,6 +96,10 @@ pub data IsRefused (file : List ℕ) (program : ℕ) (drop : List ℕ) (fault : 
   tables : PACKET_BYTES ≤ length file → IsTablesFault file program fault → IsRefused file program drop fault
   no_video : (whole : ProgramMap) → PACKET_BYTES ≤ length file → HasMap file program whole → video_of whole.streams.items ≡ None → fault ≡ NoVideo 0 → IsRefused file program drop fault
   audios : (carried_map : ProgramMap) (others : List ℕ) → HasCarriedMap file program drop carried_map others → HasManyStreams carried_map → fault ≡ ProgramLimit 0 → IsRefused file program drop fault
-  long_map : (carried_map : ProgramMap) (others : List ℕ) → HasCarriedMap file program drop carried_map others → length carried_map.streams.items ≤ 1 + most_audios → PACKET_SECTION_BYTES < pmt_length carried_map → fault ≡ PmtTooLong 0 → IsRefused file program drop fault
-  streams : (carried_map : ProgramMap) (others : List ℕ) → HasCarriedMap file program drop carried_map others → length carried_map.streams.items ≤ 1 + most_audios → pmt_length carried_map ≤ PACKET_SECTION_BYTES → IsFirstStreamFault file (pids_of carried_map) fault → IsRefused file program drop fault
+  long_map : (carried_map : ProgramMap) (others : List ℕ) → HasCarriedMap file program drop carried_map others
+      → length carried_map.streams.items ≤ 1 + most_audios → PACKET_SECTION_BYTES < pmt_length carried_map → fault ≡ PmtTooLong 0
+      → IsRefused file program drop fault
+  streams : (carried_map : ProgramMap) (others : List ℕ) → HasCarriedMap file program drop carried_map others
+      → length carried_map.streams.items ≤ 1 + most_audios → pmt_length carried_map ≤ PACKET_SECTION_BYTES
+      → IsFirstStreamFault file (pids_of carried_map) fault → IsRefused file program drop fault
   memory : fault ≡ OutOfMemory → IsRefused file program drop fault

@@ -121,9 +121,12 @@ pub data Stop : Type 0 where
 pub data StopsAt (file : List ℕ) (program n rank : ℕ) (stop : Stop) : Type 0 where
   no_sync : rank ≡ 0 → HasNoSync file n → stop ≡ refuse (Sync (PACKET_BYTES * n)) → StopsAt file program n rank stop
   pat_packet : (fault : PidFault) → rank ≡ 0 → HasPidFault file pat_pid 0 n fault → stop ≡ refuse (of_pid (PACKET_BYTES * n) fault) → StopsAt file program n rank stop
-  pmt_packet : (packet index pid : ℕ) (fault : PidFault) → rank ≡ 0 → TakesPat file program packet index pid → pid ≢ pat_pid → HasPidFault file pid (packet + 1) n fault → stop ≡ refuse (of_pid (PACKET_BYTES * n) fault) → StopsAt file program n rank stop
-  pat_section : (k : ℕ) (found : Found) (fault : SectionFault) → rank ≡ k + 1 → IsSection file pat_pid 0 n k found → IsBadPat found fault → stop ≡ refuse (of_section (PACKET_BYTES * n) fault) → StopsAt file program n rank stop
-  pmt_section : (k : ℕ) (found : Found) (fault : SectionFault) → rank ≡ k + 1 → IsPmtSection file program n k found → IsBadPmt found fault → stop ≡ refuse (of_section (PACKET_BYTES * n) fault) → StopsAt file program n rank stop
+  pmt_packet : (packet index pid : ℕ) (fault : PidFault) → rank ≡ 0 → TakesPat file program packet index pid → pid ≢ pat_pid
+      → HasPidFault file pid (packet + 1) n fault → stop ≡ refuse (of_pid (PACKET_BYTES * n) fault) → StopsAt file program n rank stop
+  pat_section : (k : ℕ) (found : Found) (fault : SectionFault) → rank ≡ k + 1 → IsSection file pat_pid 0 n k found → IsBadPat found fault
+      → stop ≡ refuse (of_section (PACKET_BYTES * n) fault) → StopsAt file program n rank stop
+  pmt_section : (k : ℕ) (found : Found) (fault : SectionFault) → rank ≡ k + 1 → IsPmtSection file program n k found → IsBadPmt found fault
+      → stop ≡ refuse (of_section (PACKET_BYTES * n) fault) → StopsAt file program n rank stop
   map_section : (k : ℕ) (found : Found) (map : ProgramMap) → rank ≡ k + 1 → IsPmtSection file program n k found → IsMapOf program found map → stop ≡ take map → StopsAt file program n rank stop
 
 -- the first of all that could end it

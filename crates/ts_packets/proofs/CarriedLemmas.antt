@@ -1,5 +1,42 @@
 -- What packets carry, and what is the last of them, one packet further.
-use Rattle.std.proofs.Common.{◌≡◌, ℕ, ◌+◌, ◌<◌, ◌≤◌, Bool, true, false, not, cond, ◌&&◌, nat_lt, ◌==◌, List, [], ◌∷◌, ◌++◌, length, drop, map, filter, Option, Some, None, Result, Ok, Err, IfOk, IfSome, refl, sym, ap, ◌∙◌, subst, arith, length-drop}
+use Rattle.std.proofs.Common.{
+  ◌≡◌,
+  ℕ,
+  ◌+◌,
+  ◌<◌,
+  ◌≤◌,
+  Bool,
+  true,
+  false,
+  not,
+  cond,
+  ◌&&◌,
+  nat_lt,
+  ◌==◌,
+  List,
+  [],
+  ◌∷◌,
+  ◌++◌,
+  length,
+  drop,
+  map,
+  filter,
+  Option,
+  Some,
+  None,
+  Result,
+  Ok,
+  Err,
+  IfOk,
+  IfSome,
+  refl,
+  sym,
+  ap,
+  ◌∙◌,
+  subst,
+  arith,
+  length-drop,
+}
 use Rattle.std.specs.Str.{bytes_eq}
 use Rattle.std.proofs.lemmas.Bool.{and_from, eq-eqb}
 use Rattle.std.proofs.lemmas.Slice.Eq.{bytes_eq-Decides}
@@ -44,12 +81,15 @@ last-append o (y ∷ xs) x = last-append (Some y) xs x
 repeats : Option PlacedPacket → PlacedPacket → Bool
 repeats last x = option_map_or (λ (before : PlacedPacket). is_repeat x.packet before.packet) last false
 
-not_repeated-append : (before : PlacedPacket) (xs : List PlacedPacket) (x : PlacedPacket) → not_repeated before (xs ++ x ∷ []) ≡ not_repeated before xs ++ cond (is_repeat x.packet (last_of before xs).packet) [] (x ∷ [])
+not_repeated-append : (before : PlacedPacket) (xs : List PlacedPacket) (x : PlacedPacket)
+    → not_repeated before (xs ++ x ∷ []) ≡ not_repeated before xs ++ cond (is_repeat x.packet (last_of before xs).packet) [] (x ∷ [])
 unfolding last_of
 not_repeated-append before [] x = refl
 not_repeated-append before (y ∷ xs) x = by_test (is_repeat y.packet before.packet) (not_repeated-append y xs x)
   where
-    by_test : (again : Bool) → not_repeated y (xs ++ x ∷ []) ≡ not_repeated y xs ++ cond (is_repeat x.packet (last_of y xs).packet) [] (x ∷ []) → cond again (not_repeated y (xs ++ x ∷ [])) (y ∷ not_repeated y (xs ++ x ∷ [])) ≡ cond again (not_repeated y xs) (y ∷ not_repeated y xs) ++ cond (is_repeat x.packet (last_of y xs).packet) [] (x ∷ [])
+    by_test : (again : Bool) → not_repeated y (xs ++ x ∷ []) ≡ not_repeated y xs ++ cond (is_repeat x.packet (last_of y xs).packet) [] (x ∷ [])
+        → cond again (not_repeated y (xs ++ x ∷ [])) (y ∷ not_repeated y (xs ++ x ∷ [])) ≡ cond again (not_repeated y xs) (y ∷ not_repeated y xs)
+        ++ cond (is_repeat x.packet (last_of y xs).packet) [] (x ∷ [])
     by_test true same = same
     by_test false same = ap (λ (zs : List PlacedPacket). y ∷ zs) same
 
@@ -63,13 +103,17 @@ without-append (y ∷ xs) x =
 -- ---- one piece more
 
 -- a piece that is no packet, or one without payload, carries nothing
-pub carried_nothing : (before : List Piece) (piece : Piece) → payload_packets (piece ∷ []) ≡ [] → (carried (before ++ piece ∷ []) ≡ carried before) × (last_payload (before ++ piece ∷ []) ≡ last_payload before)
+pub carried_nothing : (before : List Piece) (piece : Piece) → payload_packets (piece ∷ []) ≡ [] → (carried (before ++ piece ∷ []) ≡ carried before)
+    × (last_payload (before ++ piece ∷ []) ≡ last_payload before)
 carried_nothing before piece none =
     let same : payload_packets (before ++ piece ∷ []) ≡ payload_packets before =
     payload_packets-append before (piece ∷ []) ∙ ap (λ (more : List PlacedPacket). payload_packets before ++ more) none ∙ append-nil (payload_packets before) in
     (ap (λ (packets : List PlacedPacket). map carried_by (without_repeats packets)) same, ap (last_or None) same)
 
-pub carried_more : (before : List Piece) (piece : Piece) (x : PlacedPacket) → payload_packets (piece ∷ []) ≡ x ∷ [] → (carried (before ++ piece ∷ []) ≡ carried before ++ map carried_by (cond (option_map_or (λ (last : PlacedPacket). is_repeat x.packet last.packet) (last_payload before) false) [] (x ∷ []))) × (last_payload (before ++ piece ∷ []) ≡ Some x)
+pub carried_more : (before : List Piece) (piece : Piece) (x : PlacedPacket) → payload_packets (piece ∷ []) ≡ x ∷ []
+    → (carried (before ++ piece ∷ []) ≡ carried before ++ map carried_by
+    (cond (option_map_or (λ (last : PlacedPacket). is_repeat x.packet last.packet) (last_payload before) false) [] (x ∷ [])))
+    × (last_payload (before ++ piece ∷ []) ≡ Some x)
 unfolding repeats
 carried_more before piece x one =
     let more : payload_packets (before ++ piece ∷ []) ≡ payload_packets before ++ x ∷ [] =
@@ -85,7 +129,8 @@ carried_more before piece x one =
 pub packets_none : (piece : Piece) → packet_of piece.bytes ≡ None → payload_packets (piece ∷ []) ≡ []
 packets_none piece none = ap (λ (found : Option PacketRecord). filter has_payload (cons_option (option_map (λ (packet : PacketRecord). placed_at piece.at packet) found) [])) none
 
-pub packets_one : (piece : Piece) (packet : PacketRecord) → packet_of piece.bytes ≡ Some packet → payload_packets (piece ∷ []) ≡ cond (nat_lt 0 (length packet.payload)) (placed_at piece.at packet ∷ []) []
+pub packets_one : (piece : Piece) (packet : PacketRecord) → packet_of piece.bytes ≡ Some packet
+    → payload_packets (piece ∷ []) ≡ cond (nat_lt 0 (length packet.payload)) (placed_at piece.at packet ∷ []) []
 packets_one piece packet is = ap (λ (found : Option PacketRecord). filter has_payload (cons_option (option_map (λ (packet : PacketRecord). placed_at piece.at packet) found) [])) is
 
 some_there : (before : List Piece) (piece : Piece) → is_none_there (before ++ piece ∷ []) ≡ false
@@ -93,14 +138,17 @@ some_there [] piece = refl
 some_there (_ ∷ _) piece = refl
 
 -- a reader behind a piece that carries nothing
-pub behind_nothing : (before : List Piece) (piece : Piece) (reader next : PidReader) → IsBehind before reader → payload_packets (piece ∷ []) ≡ [] → next.is_first ≡ false → next.last ≡ reader.last → IsBehind (before ++ piece ∷ []) next
+pub behind_nothing : (before : List Piece) (piece : Piece) (reader next : PidReader) → IsBehind before reader → payload_packets (piece ∷ []) ≡ []
+    → next.is_first ≡ false → next.last ≡ reader.last → IsBehind (before ++ piece ∷ []) next
 behind_nothing before piece reader next behind none first last = record {
   first = first ∙ sym (some_there before piece);
   last = ap (option_map record_of) last ∙ behind.last ∙ sym (ap (option_map (λ (placed : PlacedPacket). placed.packet)) (carried_nothing before piece none).1);
 }
 
 -- a reader behind a packet with payload
-pub behind_packet : (before : List Piece) (piece : Piece) (packet : PacketRecord) (next : PidReader) → payload_packets (piece ∷ []) ≡ placed_at piece.at packet ∷ [] → next.is_first ≡ false → option_map record_of next.last ≡ Some packet → IsBehind (before ++ piece ∷ []) next
+pub behind_packet : (before : List Piece) (piece : Piece) (packet : PacketRecord) (next : PidReader)
+    → payload_packets (piece ∷ []) ≡ placed_at piece.at packet ∷ [] → next.is_first ≡ false → option_map record_of next.last ≡ Some packet
+    → IsBehind (before ++ piece ∷ []) next
 behind_packet before piece packet next one first last = record {
   first = first ∙ sym (some_there before piece);
   last = last ∙ sym (ap (option_map (λ (placed : PlacedPacket). placed.packet)) (carried_more before piece (placed_at piece.at packet) one).1);
@@ -114,27 +162,37 @@ carried_at-is : (at : ℕ) (taken : Option Packet) → carried_at at taken ≡ c
 carried_at-is at None = refl
 carried_at-is at (Some packet) = refl
 
-repeat_of : (packet : PacketRecord) (last : Option PlacedPacket) → option_map_or (is_repeat packet) (option_map (λ (p : PlacedPacket). p.packet) last) false ≡ option_map_or (λ (p : PlacedPacket). is_repeat packet p.packet) last false
+repeat_of : (packet : PacketRecord) (last : Option PlacedPacket)
+    → option_map_or (is_repeat packet) (option_map (λ (p : PlacedPacket). p.packet) last) false
+    ≡ option_map_or (λ (p : PlacedPacket). is_repeat packet p.packet) last false
 repeat_of packet None = refl
 repeat_of packet (Some p) = refl
 
 -- what is taken of a packet is what it adds to what is carried
-pub carried_taken : (before : List Piece) (piece : Piece) (packet : PacketRecord) (last : Option PacketRecord) (taken : Option Packet) → packet_of piece.bytes ≡ Some packet → last ≡ option_map (λ (p : PlacedPacket). p.packet) (last_payload before) → option_map record_of taken ≡ taken_packet packet last → carried (before ++ piece ∷ []) ≡ carried before ++ carried_at piece.at taken
+pub carried_taken : (before : List Piece) (piece : Piece) (packet : PacketRecord) (last : Option PacketRecord) (taken : Option Packet)
+    → packet_of piece.bytes ≡ Some packet → last ≡ option_map (λ (p : PlacedPacket). p.packet) (last_payload before)
+    → option_map record_of taken ≡ taken_packet packet last → carried (before ++ piece ∷ []) ≡ carried before ++ carried_at piece.at taken
 carried_taken before piece packet last taken is last_is taken_is =
     by_payload (nat_lt 0 (length packet.payload)) refl (option_map_or (λ (p : PlacedPacket). is_repeat packet p.packet) (last_payload before) false) refl
   where
     again_is : option_map_or (is_repeat packet) last false ≡ option_map_or (λ (p : PlacedPacket). is_repeat packet p.packet) (last_payload before) false
     again_is = ap (λ (last : Option PacketRecord). option_map_or (is_repeat packet) last false) last_is ∙ repeat_of packet (last_payload before)
 
-    taken_of : (some again : Bool) → nat_lt 0 (length packet.payload) ≡ some → option_map_or (λ (p : PlacedPacket). is_repeat packet p.packet) (last_payload before) false ≡ again → carried_at piece.at taken ≡ carried_of piece.at (cond (some && not again) (Some packet) None)
+    taken_of : (some again : Bool) → nat_lt 0 (length packet.payload) ≡ some
+        → option_map_or (λ (p : PlacedPacket). is_repeat packet p.packet) (last_payload before) false ≡ again
+        → carried_at piece.at taken ≡ carried_of piece.at (cond (some && not again) (Some packet) None)
     taken_of some again some_is again' =
-        carried_at-is piece.at taken ∙ ap (carried_of piece.at) (taken_is ∙ ap (λ (b : Bool). cond (nat_lt 0 (length packet.payload) && not b) (Some packet) None) (again_is ∙ again') ∙ ap (λ (b : Bool). cond (b && not again) (Some packet) None) some_is)
+        carried_at-is piece.at taken ∙ ap (carried_of piece.at)
+        (taken_is ∙ ap (λ (b : Bool). cond (nat_lt 0 (length packet.payload) && not b) (Some packet) None) (again_is ∙ again')
+        ∙ ap (λ (b : Bool). cond (b && not again) (Some packet) None) some_is)
 
     by_again : (again : Bool) → carried before ++ map carried_by (cond again [] (placed_at piece.at packet ∷ [])) ≡ carried before ++ carried_of piece.at (cond (true && not again) (Some packet) None)
     by_again true = refl
     by_again false = refl
 
-    by_payload : (some : Bool) → nat_lt 0 (length packet.payload) ≡ some → (again : Bool) → option_map_or (λ (p : PlacedPacket). is_repeat packet p.packet) (last_payload before) false ≡ again → carried (before ++ piece ∷ []) ≡ carried before ++ carried_at piece.at taken
+    by_payload : (some : Bool) → nat_lt 0 (length packet.payload) ≡ some → (again : Bool)
+        → option_map_or (λ (p : PlacedPacket). is_repeat packet p.packet) (last_payload before) false ≡ again
+        → carried (before ++ piece ∷ []) ≡ carried before ++ carried_at piece.at taken
     by_payload false some_is again again_is =
         (carried_nothing before piece (packets_one piece packet is ∙ ap (λ (b : Bool). cond b (placed_at piece.at packet ∷ []) []) some_is)).0
         ∙ sym (ap (λ (more : List CarriedPayload). carried before ++ more) (taken_of false again some_is again_is) ∙ append-nil (carried before))
@@ -167,11 +225,13 @@ payload_size packet bytes is = subst (λ (p : PacketRecord). length p.payload �
     by_field false n size = omega (arith, length-drop 4 bytes)
 
 -- what is taken has some payload, and no more than that
-pub taken_fits : (packet : PacketRecord) (last : Option PacketRecord) (taken : Option Packet) → length packet.payload ≤ 184 → option_map record_of taken ≡ taken_packet packet last → IfSome taken (λ (p : Packet). (0 < length p.payload.now) × (length p.payload.now ≤ 184))
+pub taken_fits : (packet : PacketRecord) (last : Option PacketRecord) (taken : Option Packet) → length packet.payload ≤ 184
+    → option_map record_of taken ≡ taken_packet packet last → IfSome taken (λ (p : Packet). (0 < length p.payload.now) × (length p.payload.now ≤ 184))
 taken_fits packet last None size is = tt
 taken_fits packet last (Some p) size is = by_test (nat_lt 0 (length packet.payload)) refl (not (option_map_or (is_repeat packet) last false)) is
   where
-    by_test : (some : Bool) → nat_lt 0 (length packet.payload) ≡ some → (new : Bool) → Some (record_of p) ≡ cond (some && new) (Some packet) None → (0 < length p.payload.now) × (length p.payload.now ≤ 184)
+    by_test : (some : Bool) → nat_lt 0 (length packet.payload) ≡ some → (new : Bool) → Some (record_of p) ≡ cond (some && new) (Some packet) None
+        → (0 < length p.payload.now) × (length p.payload.now ≤ 184)
     by_test true some_is true e =
         let same : record_of p ≡ packet = cc in
         let count : length p.payload.now ≡ length packet.payload = ap (λ (r : PacketRecord). length r.payload) same in
@@ -187,7 +247,8 @@ not_repeated-same a b [] same = refl
 not_repeated-same a b (y ∷ ys) same = ap (λ (packet : PacketRecord). cond (is_repeat y.packet packet) (not_repeated y ys) (y ∷ not_repeated y ys)) same
 
 repeats_itself : (packet : PacketRecord) → is_repeat packet packet ≡ true
-repeats_itself packet = and_from (packet.counter == packet.counter) (bytes_eq packet.payload packet.payload) (eq-eqb packet.counter packet.counter refl) ((bytes_eq-Decides packet.payload packet.payload).1 refl)
+repeats_itself packet = and_from (packet.counter == packet.counter) (bytes_eq packet.payload packet.payload)
+    (eq-eqb packet.counter packet.counter refl) ((bytes_eq-Decides packet.payload packet.payload).1 refl)
 
 again_from : (x y : PlacedPacket) (ys : List PlacedPacket) → y.packet ≡ x.packet → not_repeated x (y ∷ ys) ≡ not_repeated x ys
 again_from x y ys same =
@@ -203,16 +264,21 @@ again_in [] x y ys same = ap (λ (zs : List PlacedPacket). x ∷ zs) (again_from
 again_in (z ∷ xs) x y ys same = ap (λ (zs : List PlacedPacket). z ∷ zs) (again_behind z x y xs ys same)
 
 -- a packet that is sent twice, one behind the other, carries its payload once
-pub sent_twice : (before after : List Piece) (first second : Piece) (packet : PacketRecord) → packet_of first.bytes ≡ Some packet → packet_of second.bytes ≡ Some packet → carried (before ++ first ∷ second ∷ after) ≡ carried (before ++ first ∷ after)
+pub sent_twice : (before after : List Piece) (first second : Piece) (packet : PacketRecord) → packet_of first.bytes ≡ Some packet
+    → packet_of second.bytes ≡ Some packet → carried (before ++ first ∷ second ∷ after) ≡ carried (before ++ first ∷ after)
 sent_twice before after first second packet first_is second_is =
     ap (λ (packets : List PlacedPacket). map carried_by (without_repeats packets))
     (payload_packets-append before (first ∷ second ∷ after)
-    ∙ ap (λ (more : List PlacedPacket). payload_packets before ++ more) (payload_packets-append (first ∷ []) (second ∷ after) ∙ ap (λ (more : List PlacedPacket). payload_packets (first ∷ []) ++ more) (payload_packets-append (second ∷ []) after)))
+    ∙ ap (λ (more : List PlacedPacket). payload_packets before ++ more)
+    (payload_packets-append (first ∷ []) (second ∷ after)
+    ∙ ap (λ (more : List PlacedPacket). payload_packets (first ∷ []) ++ more) (payload_packets-append (second ∷ []) after)))
     ∙ by_payload (nat_lt 0 (length packet.payload)) (packets_one first packet first_is) (packets_one second packet second_is)
     ∙ ap (λ (packets : List PlacedPacket). map carried_by (without_repeats packets))
     (sym (payload_packets-append before (first ∷ after) ∙ ap (λ (more : List PlacedPacket). payload_packets before ++ more) (payload_packets-append (first ∷ []) after)))
   where
     by_payload : (some : Bool) → payload_packets (first ∷ []) ≡ cond some (placed_at first.at packet ∷ []) [] → payload_packets (second ∷ []) ≡ cond some (placed_at second.at packet ∷ []) [] →
-        map carried_by (without_repeats (payload_packets before ++ (payload_packets (first ∷ []) ++ (payload_packets (second ∷ []) ++ payload_packets after)))) ≡ map carried_by (without_repeats (payload_packets before ++ (payload_packets (first ∷ []) ++ payload_packets after)))
+        map carried_by (without_repeats (payload_packets before
+        ++ (payload_packets (first ∷ []) ++ (payload_packets (second ∷ []) ++ payload_packets after))))
+        ≡ map carried_by (without_repeats (payload_packets before ++ (payload_packets (first ∷ []) ++ payload_packets after)))
     by_payload true one two = rw (one, two) (ap (map carried_by) (again_in (payload_packets before) (placed_at first.at packet) (placed_at second.at packet) (payload_packets after) refl))
     by_payload false one two = rw (one, two) refl

@@ -1,7 +1,16 @@
 -- The elements of a packet, by the bytes that hold them.
 use Rattle.std.proofs.Common.{◌≡◌, ℕ, ◌+◌, ◌*◌, ◌/◌, ◌%◌, ◌^◌, List, get_or, refl, arith}
 use Rattle.ts_packets.specs.AdaptationField.{discontinuity_indicator, pcr_flag, program_clock_reference_base, program_clock_reference_extension}
-use Rattle.ts_packets.specs.Packet.{sync_byte, transport_error_indicator, payload_unit_start_indicator, packet_identifier, transport_scrambling_control, adaptation_field_control, continuity_counter, adaptation_field_length}
+use Rattle.ts_packets.specs.Packet.{
+  sync_byte,
+  transport_error_indicator,
+  payload_unit_start_indicator,
+  packet_identifier,
+  transport_scrambling_control,
+  adaptation_field_control,
+  continuity_counter,
+  adaptation_field_length,
+}
 use Rattle.bit_lists.proofs.FieldLemmas.{bits-byte, bits-add}
 use Rattle.bit_lists.proofs.MaskLemmas.{and_128, and_192, and_64, and_32, and_16, and_511, and_15, and_31}
 
@@ -39,7 +48,9 @@ discontinuity_indicator-is bytes = bits-byte bytes 0 1 0 0 7 refl refl
 pub pcr_flag-is : (bytes : List ℕ) → pcr_flag bytes ≡ get_or bytes 0 0 / 16 % 2
 pcr_flag-is bytes = bits-byte bytes 3 1 0 3 4 refl refl
 
-pub program_clock_reference_base-is : (bytes : List ℕ) → program_clock_reference_base bytes ≡ get_or bytes 1 0 % 256 * 2 ^ 25 + get_or bytes 2 0 % 256 * 2 ^ 17 + get_or bytes 3 0 % 256 * 2 ^ 9 + get_or bytes 4 0 % 256 * 2 + get_or bytes 5 0 / 128 % 2
+pub program_clock_reference_base-is : (bytes : List ℕ) → program_clock_reference_base bytes
+    ≡ get_or bytes 1 0 % 256 * 2 ^ 25 + get_or bytes 2 0 % 256 * 2 ^ 17 + get_or bytes 3 0 % 256 * 2 ^ 9 + get_or bytes 4 0 % 256 * 2
+    + get_or bytes 5 0 / 128 % 2
 program_clock_reference_base-is bytes = omega (
   arith,
   bits-add bytes 8 8 25,
@@ -59,4 +70,25 @@ program_clock_reference_extension-is bytes = omega (arith, bits-add bytes 47 1 8
 -- ---- masks of the code
 
 -- what the code looks at, and what it finds
-pub ruleset elements = (sync_byte-is, transport_error_indicator-is, payload_unit_start_indicator-is, packet_identifier-is, transport_scrambling_control-is, adaptation_field_control-is, continuity_counter-is, adaptation_field_length-is, discontinuity_indicator-is, pcr_flag-is, program_clock_reference_base-is, program_clock_reference_extension-is, and_128, and_64, and_32, and_16, and_192, and_31, and_15, and_511)
+pub ruleset elements = (
+  sync_byte-is,
+  transport_error_indicator-is,
+  payload_unit_start_indicator-is,
+  packet_identifier-is,
+  transport_scrambling_control-is,
+  adaptation_field_control-is,
+  continuity_counter-is,
+  adaptation_field_length-is,
+  discontinuity_indicator-is,
+  pcr_flag-is,
+  program_clock_reference_base-is,
+  program_clock_reference_extension-is,
+  and_128,
+  and_64,
+  and_32,
+  and_16,
+  and_192,
+  and_31,
+  and_15,
+  and_511,
+)

@@ -9,7 +9,24 @@ use Rattle.ts_packets.specs.declared.adaptation_field.AdaptationField.{Adaptatio
 use Rattle.ts_packets.specs.declared.packet_fault.PacketFault.{PacketFault}
 use Rattle.ts_packets.specs.declared.packet_fault.PacketFault.TheVariants.{Sync, ErrorFlag, Scrambled, BadField}
 use Rattle.ts_packets.specs.AdaptationField.{field_of, is_too_short}
-use Rattle.ts_packets.specs.Packet.{PacketRecord, sync_byte, packet_identifier, payload_unit_start_indicator, continuity_counter, adaptation_field_control, adaptation_field_length, has_field, field_bytes, is_length_allowed, has_fault, IsFieldSound, IsPacket, fields_of, refusal, packet_of}
+use Rattle.ts_packets.specs.Packet.{
+  PacketRecord,
+  sync_byte,
+  packet_identifier,
+  payload_unit_start_indicator,
+  continuity_counter,
+  adaptation_field_control,
+  adaptation_field_length,
+  has_field,
+  field_bytes,
+  is_length_allowed,
+  has_fault,
+  IsFieldSound,
+  IsPacket,
+  fields_of,
+  refusal,
+  packet_of,
+}
 use Rattle.ts_packets.specs.Private.Packet.{HasFieldAndPayload}
 use Rattle.ts_packets.proofs.Elements.{transport_error_indicator-is, continuity_counter-is, pcr_flag-is, elements}
 
@@ -62,13 +79,17 @@ packet-found packet bytes is = ap (λ (fault : Option PacketFault). cond (is_non
 -- ---- what the code finds
 
 -- where there is payload alone
-pub payload_alone : (bytes payload : List ℕ) → has_field bytes ≡ false → is_length_allowed (adaptation_field_control bytes) (adaptation_field_length bytes) ≡ true → payload ≡ drop 4 bytes → HasFieldAndPayload bytes None payload
+pub payload_alone : (bytes payload : List ℕ) → has_field bytes ≡ false
+    → is_length_allowed (adaptation_field_control bytes) (adaptation_field_length bytes) ≡ true → payload ≡ drop 4 bytes
+    → HasFieldAndPayload bytes None payload
 payload_alone bytes payload none allowed is = (rw (allowed, none, pcr_flag-is []) refl, rw none refl, rw none is)
 
 -- where there is a field, with room for its PCR
-pub field_first : (bytes : List ℕ) (size : ℕ) (part : List ℕ) (field : AdaptationField) (payload : List ℕ) → has_field bytes ≡ true → is_length_allowed (adaptation_field_control bytes) (adaptation_field_length bytes) ≡ true → adaptation_field_length bytes ≡ size →
+pub field_first : (bytes : List ℕ) (size : ℕ) (part : List ℕ) (field : AdaptationField) (payload : List ℕ) → has_field bytes ≡ true
+    → is_length_allowed (adaptation_field_control bytes) (adaptation_field_length bytes) ≡ true → adaptation_field_length bytes ≡ size →
     part ≡ take size (drop 5 bytes) → (is_too_short part ≡ false) × (field ≡ field_of part) → payload ≡ drop (5 + size) bytes → HasFieldAndPayload bytes (Some field) payload
-field_first bytes size part field payload some allowed size-is part-is found payload-is = (rw (allowed, some, size-is, ← part-is) found.0, rw (some, size-is, ← part-is) (ap Some found.1), rw (some, size-is) payload-is)
+field_first bytes size part field payload some allowed size-is part-is found
+    payload-is = (rw (allowed, some, size-is, ← part-is) found.0, rw (some, size-is, ← part-is) (ap Some found.1), rw (some, size-is) payload-is)
 
 -- a field that was read
 pub field_found : (too_short : Bool) (found field : AdaptationField) → Some field ≡ cond too_short None (Some found) → (too_short ≡ false) × (field ≡ found)
@@ -79,7 +100,8 @@ field_found false found field e = (refl, cc)
 abbrev pub record_from : ℕ → Bool → ℕ → Option AdaptationField → List ℕ → PacketRecord
 record_from pid start counter field payload = record { pid = pid; start = start; counter = counter; field = field; payload = payload }
 
-pub same_record : {pid pid' counter counter' : ℕ} {start start' : Bool} {field field' : Option AdaptationField} {payload payload' : List ℕ} → pid ≡ pid' → start ≡ start' → counter ≡ counter' → field ≡ field' → payload ≡ payload' →
+pub same_record : {pid pid' counter counter' : ℕ} {start start' : Bool} {field field' : Option AdaptationField} {payload payload' : List ℕ}
+    → pid ≡ pid' → start ≡ start' → counter ≡ counter' → field ≡ field' → payload ≡ payload' →
     record_from pid start counter field payload ≡ record_from pid' start' counter' field' payload'
 same_record pid-is start-is counter-is field-is payload-is = cc
 

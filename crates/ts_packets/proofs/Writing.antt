@@ -1,5 +1,33 @@
 -- What is written is header, field and payload side by side.
-use Rattle.std.proofs.Common.{◌≡◌, ℕ, zero, suc, ◌+◌, ◌-◌, ◌≤◌, List, [], ◌++◌, Bool, Option, Some, None, is_some, if◌then◌else◌, replicate, length, take, drop, refl, ap, ◌∙◌, length-append, length-take, length-drop, arith}
+use Rattle.std.proofs.Common.{
+  ◌≡◌,
+  ℕ,
+  zero,
+  suc,
+  ◌+◌,
+  ◌-◌,
+  ◌≤◌,
+  List,
+  [],
+  ◌++◌,
+  Bool,
+  Option,
+  Some,
+  None,
+  is_some,
+  if◌then◌else◌,
+  replicate,
+  length,
+  take,
+  drop,
+  refl,
+  ap,
+  ◌∙◌,
+  length-append,
+  length-take,
+  length-drop,
+  arith,
+}
 use Rattle.std.proofs.lemmas.List.{drop_all, drop-drop, append-nil, length-replicate}
 use Rattle.std.proofs.lemmas.Slice.{take-put_mid}
 use borrow.Rule.Slice.PartMut.{put_mid}
@@ -29,12 +57,14 @@ length-written_field : (field : AdaptationField) (n : ℕ) → least_length fiel
 length-written_field field n room = omega (arith, length-written_field_bytes field n room)
 
 -- payload behind a header
-pub written-alone : (packet : PacketRecord) (old into tail : List ℕ) → packet.field ≡ None → length packet.payload ≡ 184 → length old ≡ 188 → into ≡ written_header packet ++ drop 4 old → tail ≡ packet.payload →
+pub written-alone : (packet : PacketRecord) (old into tail : List ℕ) → packet.field ≡ None → length packet.payload ≡ 184 → length old ≡ 188
+    → into ≡ written_header packet ++ drop 4 old → tail ≡ packet.payload →
     put_mid (188 - length packet.payload) (188 - (188 - length packet.payload)) into tail ≡ written packet
 written-alone packet old into tail no_field size old_size into-is tail-is =
     let at : 4 ≡ 188 - length packet.payload = omega arith in
     let front : take (188 - length packet.payload) into ≡ written_header packet = rw (into-is, ← at) refl in
-    let fits : length into ≤ 188 - length packet.payload + (188 - (188 - length packet.payload)) = omega (arith, ap length into-is, length-append (written_header packet) (drop 4 old), length-drop 4 old) in
+    let fits : length into ≤ 188 - length packet.payload + (188 - (188 - length packet.payload)) = omega
+    (arith, ap length into-is, length-append (written_header packet) (drop 4 old), length-drop 4 old) in
     put_tail _ _ into _ tail front fits ∙ rw (tail-is, no_field) refl
 
 -- payload behind a header and a field
@@ -46,7 +76,17 @@ written-beside packet field old into part tail some size old_size part-is into-i
     let part_size : length part ≡ 183 - length packet.payload + 1 = ap length part-is ∙ length-written_field field (183 - length packet.payload) (omega arith) in
     let base : List ℕ = written_header packet ++ drop 4 old in
     let base_size : length base ≡ 188 = omega (arith, length-append (written_header packet) (drop 4 old), length-drop 4 old) in
-    let front : take (188 - length packet.payload) into ≡ written_header packet ++ part = rw into-is (take-put_mid 4 (188 - length packet.payload - 4) base part (188 - length packet.payload) (omega arith) (omega arith)) in
+    let front : take (188 - length packet.payload) into ≡ written_header packet
+    ++ part = rw into-is (take-put_mid 4 (188 - length packet.payload - 4) base part (188 - length packet.payload) (omega arith) (omega arith))
+    in
     let fits : length into ≤ 188 - length packet.payload + (188 - (188 - length packet.payload)) =
-    omega (arith, ap length into-is, length-append (take 4 base) (part ++ drop (188 - length packet.payload - 4) (drop 4 base)), length-append part (drop (188 - length packet.payload - 4) (drop 4 base)), length-take 4 base, length-drop (188 - length packet.payload - 4) (drop 4 base), length-drop 4 base) in
+    omega (
+      arith,
+      ap length into-is,
+      length-append (take 4 base) (part ++ drop (188 - length packet.payload - 4) (drop 4 base)),
+      length-append part (drop (188 - length packet.payload - 4) (drop 4 base)),
+      length-take 4 base,
+      length-drop (188 - length packet.payload - 4) (drop 4 base),
+      length-drop 4 base,
+    ) in
     put_tail _ _ into _ tail front fits ∙ rw (tail-is, part-is, some) refl

@@ -3,7 +3,18 @@ use Rattle.std.proofs.Common.{◌≡◌, ℕ, zero, suc, ◌+◌, ◌-◌, ◌*�
 use Rattle.std.specs.Prelude.{◌==◌}
 use Rattle.bit_lists.specs.Fields.{flag}
 use Rattle.ts_packets.specs.declared.adaptation_field.AdaptationField.{AdaptationField}
-use Rattle.ts_packets.specs.AdaptationField.{pcr_flag, program_clock_reference_base, program_clock_reference_extension, ticks_of, field_of, IsPcrInRange, least_length, written_pcr, written_flags, written_field_bytes}
+use Rattle.ts_packets.specs.AdaptationField.{
+  pcr_flag,
+  program_clock_reference_base,
+  program_clock_reference_extension,
+  ticks_of,
+  field_of,
+  IsPcrInRange,
+  least_length,
+  written_pcr,
+  written_flags,
+  written_field_bytes,
+}
 use Rattle.ts_packets.proofs.Elements.{discontinuity_indicator-is, pcr_flag-is, program_clock_reference_base-is, program_clock_reference_extension-is}
 
 -- a flag is one bit, and says what it was written from
@@ -36,7 +47,8 @@ same_field : {discontinuity discontinuity' : Bool} {pcr pcr' : Option ℕ} → d
 same_field discontinuity-is pcr-is = cc
 
 -- by cases on what the field says and on its length
-field_of-parts : (discontinuity : Bool) (pcr : Option ℕ) (n : ℕ) → least_length (field_from discontinuity pcr) ≤ n → IsPcrInRange (field_from discontinuity pcr) → field_of (written_field_bytes (field_from discontinuity pcr) n) ≡ field_from discontinuity pcr
+field_of-parts : (discontinuity : Bool) (pcr : Option ℕ) (n : ℕ) → least_length (field_from discontinuity pcr) ≤ n
+    → IsPcrInRange (field_from discontinuity pcr) → field_of (written_field_bytes (field_from discontinuity pcr) n) ≡ field_from discontinuity pcr
 field_of-parts true None zero room below = absurd (omega arith)
 field_of-parts false None zero room below = same_field (rw (discontinuity_indicator-is []) refl) (rw (pcr_flag-is []) refl)
 field_of-parts discontinuity None (suc n) room below =

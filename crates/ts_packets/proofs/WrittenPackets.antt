@@ -6,8 +6,36 @@ use Rattle.std.proofs.lemmas.List.{take_at, drop_at, drop-drop}
 use Rattle.bit_lists.specs.Fields.{flag}
 use Rattle.ts_packets.specs.declared.adaptation_field.AdaptationField.{AdaptationField}
 use Rattle.ts_packets.specs.AdaptationField.{field_of, IsPcrInRange, least_length, written_field_bytes, written_field}
-use Rattle.ts_packets.specs.Packet.{PacketRecord, sync_byte, transport_error_indicator, payload_unit_start_indicator, packet_identifier, transport_scrambling_control, adaptation_field_control, adaptation_field_length, continuity_counter, has_field, field_bytes, IsPacket, IsPayloadLength, IsWritable, written, written_header, written_control}
-use Rattle.ts_packets.proofs.Elements.{sync_byte-is, transport_error_indicator-is, payload_unit_start_indicator-is, packet_identifier-is, transport_scrambling_control-is, adaptation_field_control-is, continuity_counter-is, adaptation_field_length-is, pcr_flag-is}
+use Rattle.ts_packets.specs.Packet.{
+  PacketRecord,
+  sync_byte,
+  transport_error_indicator,
+  payload_unit_start_indicator,
+  packet_identifier,
+  transport_scrambling_control,
+  adaptation_field_control,
+  adaptation_field_length,
+  continuity_counter,
+  has_field,
+  field_bytes,
+  IsPacket,
+  IsPayloadLength,
+  IsWritable,
+  written,
+  written_header,
+  written_control,
+}
+use Rattle.ts_packets.proofs.Elements.{
+  sync_byte-is,
+  transport_error_indicator-is,
+  payload_unit_start_indicator-is,
+  packet_identifier-is,
+  transport_scrambling_control-is,
+  adaptation_field_control-is,
+  continuity_counter-is,
+  adaptation_field_length-is,
+  pcr_flag-is,
+}
 use Rattle.ts_packets.proofs.Refusals.{allowed, same_record}
 use Rattle.ts_packets.proofs.Writing.{length-written_field_bytes}
 use Rattle.ts_packets.proofs.WrittenFields.{flag_below, flag_tells, field_of-written, pcr-written}
@@ -60,14 +88,17 @@ alone packet pid_fits counter_fits none size =
       error = says.error;
       scrambling = says.scrambling;
       control = record {
-        length_is = allowed (adaptation_field_control bytes) (adaptation_field_length bytes) (omega (arith, adaptation_field_control-is bytes)) (λ reserved. absurd (omega (arith, control-is, reserved))) (λ is. absurd (omega (arith, control-is, is))) (λ is. absurd (omega (arith, control-is, is)));
+        length_is = allowed (adaptation_field_control bytes) (adaptation_field_length bytes) (omega (arith, adaptation_field_control-is bytes))
+            (λ reserved. absurd (omega (arith, control-is, reserved))) (λ is. absurd (omega (arith, control-is, is)))
+            (λ is. absurd (omega (arith, control-is, is)));
         pcr = λ flagged. absurd (omega (arith, pcr_flag-is [], rw control-is at flagged));
       };
       fields = same_record (sym says.pid) (sym says.start) (sym says.counter) (rw control-is none) (rw control-is refl);
     }
 
 -- a field, and payload behind it
-beside : (packet : PacketRecord) (field : AdaptationField) (n : ℕ) → packet.pid < 2 ^ 13 → packet.counter < 2 ^ 4 → packet.field ≡ Some field → IsPcrInRange field → least_length field ≤ n → n + length packet.payload ≡ 183 →
+beside : (packet : PacketRecord) (field : AdaptationField) (n : ℕ) → packet.pid < 2 ^ 13 → packet.counter < 2 ^ 4 → packet.field ≡ Some field
+    → IsPcrInRange field → least_length field ≤ n → n + length packet.payload ≡ 183 →
     IsPacket packet (written_header packet ++ (n ∷ (written_field_bytes field n ++ packet.payload)))
 beside packet field n pid_fits counter_fits some below room size =
     let behind : List ℕ = written_field_bytes field n ++ packet.payload in
@@ -86,7 +117,10 @@ beside packet field n pid_fits counter_fits some below room size =
       error = says.error;
       scrambling = says.scrambling;
       control = record {
-        length_is = allowed (adaptation_field_control bytes) (adaptation_field_length bytes) (omega (arith, adaptation_field_control-is bytes)) (λ reserved. absurd (omega (arith, control-is, reserved))) (λ is. omega (arith, length-is, size, control-is, is, payload_flag (length packet.payload))) (λ is. omega (arith, length-is, size, control-is, is, payload_flag (length packet.payload)));
+        length_is = allowed (adaptation_field_control bytes) (adaptation_field_length bytes) (omega (arith, adaptation_field_control-is bytes))
+            (λ reserved. absurd (omega (arith, control-is, reserved)))
+            (λ is. omega (arith, length-is, size, control-is, is, payload_flag (length packet.payload)))
+            (λ is. omega (arith, length-is, size, control-is, is, payload_flag (length packet.payload)));
         pcr = λ flagged. omega (arith, ap length field-is, field_size, pcr-written field n room (rw field-is at flagged));
       };
       fields = same_record (sym says.pid) (sym says.start) (sym says.counter)

@@ -1,5 +1,33 @@
 -- The adaptation field (ISO/IEC 13818-1, 2.4.3.4 and 2.4.3.5), as the bytes behind its length byte.
-use Rattle.std.specs.Prelude.{ℕ, zero, suc, ◌+◌, ◌-◌, ◌*◌, ◌/◌, ◌%◌, ◌^◌, ◌<◌, ◌==◌, nat_lt, Bool, ◌&&◌, List, [], ◌∷◌, ◌++◌, length, drop, replicate, Option, Some, None, is_some, IfSome, if◌then◌else◌}
+use Rattle.std.specs.Prelude.{
+  ℕ,
+  zero,
+  suc,
+  ◌+◌,
+  ◌-◌,
+  ◌*◌,
+  ◌/◌,
+  ◌%◌,
+  ◌^◌,
+  ◌<◌,
+  ◌==◌,
+  nat_lt,
+  Bool,
+  ◌&&◌,
+  List,
+  [],
+  ◌∷◌,
+  ◌++◌,
+  length,
+  drop,
+  replicate,
+  Option,
+  Some,
+  None,
+  is_some,
+  IfSome,
+  if◌then◌else◌,
+}
 use Rattle.std.specs.Int.{w64, to_be_bytes}
 use Rattle.stream_constants.specs.declared.clock.TheConstants.{TICKS_PER_TIME_UNIT}
 use Rattle.ts_packets.specs.declared.adaptation_field.AdaptationField.{AdaptationField}

@@ -1,5 +1,36 @@
 -- A transport packet (ISO/IEC 13818-1, 2.4.3.2 and 2.4.3.3).
-use Rattle.std.specs.Prelude.{◌≡◌, ℕ, ◌+◌, ◌-◌, ◌*◌, ◌^◌, ◌<◌, ◌≤◌, ◌==◌, nat_lt, nat_le, Bool, true, not, ◌&&◌, ◌||◌, List, [], ◌∷◌, ◌++◌, length, take, drop, Option, Some, None, is_some, is_none, IfSome, if◌then◌else◌}
+use Rattle.std.specs.Prelude.{
+  ◌≡◌,
+  ℕ,
+  ◌+◌,
+  ◌-◌,
+  ◌*◌,
+  ◌^◌,
+  ◌<◌,
+  ◌≤◌,
+  ◌==◌,
+  nat_lt,
+  nat_le,
+  Bool,
+  true,
+  not,
+  ◌&&◌,
+  ◌||◌,
+  List,
+  [],
+  ◌∷◌,
+  ◌++◌,
+  length,
+  take,
+  drop,
+  Option,
+  Some,
+  None,
+  is_some,
+  is_none,
+  IfSome,
+  if◌then◌else◌,
+}
 use Rattle.std.specs.List.{find}
 use Rattle.std.specs.Int.{w32, to_be_bytes}
 use Rattle.ts_packets.specs.declared.adaptation_field.AdaptationField.{AdaptationField}

@@ -1,5 +1,39 @@
 -- An audio stream's bytes are in B before they are removed, and none is held too long.
-use Rattle.std.proofs.Common.{◌≡◌, ℕ, suc, ◌+◌, ◌*◌, ◌<◌, ◌≤◌, eqb, eq-eqb, List, [], ◌∷◌, ◌++◌, length, replicate, take, count_by, sum_by, map, slice_get, Some, refl, sym, ap, subst, subst₂, ◌∙◌, inl, inr, append-nil, append_assoc, take_all, arith}
+use Rattle.std.proofs.Common.{
+  ◌≡◌,
+  ℕ,
+  suc,
+  ◌+◌,
+  ◌*◌,
+  ◌<◌,
+  ◌≤◌,
+  eqb,
+  eq-eqb,
+  List,
+  [],
+  ◌∷◌,
+  ◌++◌,
+  length,
+  replicate,
+  take,
+  count_by,
+  sum_by,
+  map,
+  slice_get,
+  Some,
+  refl,
+  sym,
+  ap,
+  subst,
+  subst₂,
+  ◌∙◌,
+  inl,
+  inr,
+  append-nil,
+  append_assoc,
+  take_all,
+  arith,
+}
 use Rattle.std.specs.List.{AllZip}
 use Rattle.std.proofs.lemmas.Bool.{cases_Bool, cases_lt, eqb-true, eqb-false, cond-true}
 use Rattle.std.proofs.lemmas.Grind.{flat_map-append}
@@ -132,7 +166,8 @@ timely-one slot stream headers rows row packet one own_packet payload_is fits fr
     zip_before (last_departure t free come) due packet.payload own_passes (kept-most (last_departure t free come) is_payload (parts_of arrival) leave (departures-by t free come)) end_early
     (length-kept_whole arrival leave fits leave_all ∙ payload_is) in
     let short : AllZip (λ come gone. gone ≤ come + hold_subticks) own_comes (replicate packet.payload gone) =
-    zip_within start hold_subticks gone packet.payload own_comes (kept-rises is_payload start (parts_of arrival) come (spaced-from start start (byte_subticks slot) PACKET_BYTES (omega arith))) gone_soon
+    zip_within start hold_subticks gone packet.payload own_comes
+    (kept-rises is_payload start (parts_of arrival) come (spaced-from start start (byte_subticks slot) PACKET_BYTES (omega arith))) gone_soon
     (length-kept_whole arrival come fits come_all ∙ payload_is) in
     record {
       has = has_parts-one slot stream Audio headers rows row one fits timely.has;
@@ -231,7 +266,8 @@ audio_in_time table choice stream packets headers rows removals number valid fit
     let early : AllZip (λ pass wanted. pass < wanted) pass (wanted_of_each Audio headers packets) =
     subst (λ ps. AllZip (λ pass wanted. pass < wanted) (passes table.slot stream Audio headers rows) (wanted_of_each Audio headers ps)) sent times.early in
     let x = SUBTICKS_PER_TICK * less.removal.due in
-    let before : came x (removed removals) ≤ came_before x pass = came-before x pass (removed removals) (zip_before-then pass (wanted_of_each Audio headers packets) (removed removals) early allowed.wanted) in
+    let before : came x (removed removals) ≤ came_before x pass = came-before x pass (removed removals)
+    (zip_before-then pass (wanted_of_each Audio headers packets) (removed removals) early allowed.wanted) in
     let fewer : came_before x pass < sum_by (λ r. r.bytes) (take (number + 1) removals) = less.fewer in
     let taken : sum_by (λ r. r.bytes) (take (suc number) removals) ≤ came x (removed removals) =
     taken-by 0 number removals less.removal (Spaced-from_order (map (λ r. r.due) removals) allowed.in_order) less.one_of in

@@ -52,7 +52,8 @@ row_late stream time x headers (Reserved sent) from = omega arith
 row_late stream time x headers Empty from = omega arith
 row_late stream time x headers (Carries s packet) from =
     elim (cases_Bool (eqb s stream))
-    as (λ _. length (gone_of_each Audio headers (packet_of stream (Carries s packet))) ≤ came x (gone_of_each Audio headers (packet_of stream (Carries s packet))) + outstanding_in stream time (Carries s packet)) [
+    as (λ _. length (gone_of_each Audio headers (packet_of stream (Carries s packet)))
+    ≤ came x (gone_of_each Audio headers (packet_of stream (Carries s packet))) + outstanding_in stream time (Carries s packet)) [
       | inl same ↦ rw same (packet_late time x headers packet from)
       | inr other ↦ rw other (omega arith)
     ]

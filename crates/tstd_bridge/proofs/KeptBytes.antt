@@ -26,8 +26,11 @@ came-replicate x at (suc count) has = omega (arith, came-yes x at (replicate cou
 pub departures-from : (s l first step count : ℕ) → Spaced 0 first (departures s l (spaced first step count))
 unfolding departures spaced
 departures-from s l first step zero = tt
-departures-from s l first step (suc count) =
-    (omega arith, Spaced-rises s (max first l + s) (max first l + s) (departures s (max first l + s) (spaced (first + step) step count)) (omega arith) (departures-spaced s (max first l + s) (spaced (first + step) step count)))
+departures-from s l first step (suc count) = (
+  omega arith,
+  Spaced-rises s (max first l + s) (max first l + s) (departures s (max first l + s) (spaced (first + step) step count)) (omega arith)
+      (departures-spaced s (max first l + s) (spaced (first + step) step count)),
+)
 
 -- ---- entries of bytes that are kept
 pub kept-append : (test : PacketPart → Bool) (ps qs : List PacketPart) (xs ys : List ℕ) → length ps ≡ length xs → kept test (ps ++ qs) (xs ++ ys) ≡ kept test ps xs ++ kept test qs ys

@@ -88,10 +88,15 @@ free-one slot stream program vbv headers rows row one small fits quick before =
     (omega (arith, before.free, work)) (omega (arith, work)) (omega (arith, work, small)) in
     record {
       has = has_parts-one slot stream (Video program vbv) headers rows row one fits before.has;
-      free = rw (passes-one slot stream (Video program vbv) headers rows row one before.has, last_departure-append MB_SUBTICKS 0 (passes slot stream (Video program vbv) headers rows) own, length_push rows row) after;
+      free = rw (
+        passes-one slot stream (Video program vbv) headers rows row one before.has,
+        last_departure-append MB_SUBTICKS 0 (passes slot stream (Video program vbv) headers rows) own,
+        length_push rows row,
+      ) after;
     }
 
-free-carried : (table : Table) (choice : List ℕ) (stream s program vbv : ℕ) (packets : List QueuedPacket) (headers : Headers) (rows : List Row) (packet : QueuedPacket) → IsValidTable table → Fits table choice
+free-carried : (table : Table) (choice : List ℕ) (stream s program vbv : ℕ) (packets : List QueuedPacket) (headers : Headers) (rows : List Row)
+    (packet : QueuedPacket) → IsValidTable table → Fits table choice
     → slice_get (queues_of table choice) stream ≡ Some (record { kind = Video program vbv; packets = packets }) → AreWithin headers packets
     → s ≡ stream → Goes table.slot (queues_of table choice) rows s packet
     → IsFreeSoon table.slot stream program vbv headers rows → IsFreeSoon table.slot stream program vbv headers (rows ++ Carries s packet ∷ [])
@@ -115,18 +120,29 @@ free-row : (table : Table) (choice : List ℕ) (stream program vbv : ℕ) (packe
     → slice_get (queues_of table choice) stream ≡ Some (record { kind = Video program vbv; packets = packets }) → AreWithin headers packets
     → FollowRule table choice rows → IsNext table choice rows row → IsFreeSoon table.slot stream program vbv headers rows → IsFreeSoon table.slot stream program vbv headers (rows ++ row ∷ [])
 free-row table choice stream program vbv packets headers rows Empty valid fits there within follows next before = free-none table.slot stream program vbv headers rows Empty refl refl before
-free-row table choice stream program vbv packets headers rows (Reserved Null) valid fits there within follows next before = free-none table.slot stream program vbv headers rows (Reserved Null) refl refl before
-free-row table choice stream program vbv packets headers rows (Reserved Pat) valid fits there within follows next before = free-none table.slot stream program vbv headers rows (Reserved Pat) refl refl before
-free-row table choice stream program vbv packets headers rows (Reserved (Pmt p)) valid fits there within follows next before = free-none table.slot stream program vbv headers rows (Reserved (Pmt p)) refl refl before
-free-row table choice stream program vbv packets headers rows (Reserved (VideoPiece a b c)) valid fits there within follows next before = free-none table.slot stream program vbv headers rows (Reserved (VideoPiece a b c)) refl refl before
-free-row table choice stream program vbv packets headers rows (Reserved (AudioPiece a b)) valid fits there within follows next before = free-none table.slot stream program vbv headers rows (Reserved (AudioPiece a b)) refl refl before
+free-row table choice stream program vbv packets headers rows
+    (Reserved Null) valid fits there within follows next before = free-none table.slot stream program vbv headers rows
+    (Reserved Null) refl refl before
+free-row table choice stream program vbv packets headers rows
+    (Reserved Pat) valid fits there within follows next before = free-none table.slot stream program vbv headers rows (Reserved Pat) refl refl before
+free-row table choice stream program vbv packets headers rows
+    (Reserved (Pmt p)) valid fits there within follows next before = free-none table.slot stream program vbv headers rows
+    (Reserved (Pmt p)) refl refl before
+free-row table choice stream program vbv packets headers rows
+    (Reserved (VideoPiece a b c)) valid fits there within follows next before = free-none table.slot stream program vbv headers rows
+    (Reserved (VideoPiece a b c)) refl refl before
+free-row table choice stream program vbv packets headers rows
+    (Reserved (AudioPiece a b)) valid fits there within follows next before = free-none table.slot stream program vbv headers rows
+    (Reserved (AudioPiece a b)) refl refl before
 free-row table choice stream program vbv packets headers rows (Reserved (Pcr p)) valid fits there within follows next before =
     elim (cases_Bool (eqb p program)) as (λ _. IsFreeSoon table.slot stream program vbv headers (rows ++ Reserved (Pcr p) ∷ [])) [
       | inl same ↦
           (let place : IsPcrPlace (length table.programs) program (length rows % period table.slot) =
           subst (λ q. IsPcrPlace (length table.programs) q (length rows % period table.slot)) (eqb-true p program same) (pcr_place (length table.programs) (length rows % period table.slot) p next) in
           let room = video_room_after table choice stream program vbv packets rows valid there follows in
-          let little : tb_work table.slot stream (Video program vbv) rows ≤ video_room - 3 * slot_subticks table.slot = room.after_two (omega (arith, place.after, place.within)) (omega (arith, place.place)) place.within in
+          let little : tb_work table.slot stream (Video program vbv) rows
+          ≤ video_room - 3 * slot_subticks table.slot = room.after_two (omega (arith, place.after, place.within))
+          (omega (arith, place.place)) place.within in
           free-one table.slot stream program vbv headers rows (Reserved (Pcr p)) (packets_in-pcr stream program vbv p (eqb-true p program same)) (omega arith) (omega arith, omega arith)
           (omega (arith, tb_free-most table.slot stream (Video program vbv) headers rows, little, valid.slot_least)) before)
       | inr other ↦ free-none table.slot stream program vbv headers rows (Reserved (Pcr p)) (packets_in-other_pcr stream program vbv p (eqb-false p program other)) refl before

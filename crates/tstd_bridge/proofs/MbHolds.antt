@@ -84,7 +84,9 @@ soon-pcr slot stream program vbv headers rows row one none fits has before =
     let own = packet_passes slot stream (Video program vbv) headers rows row in
     let empty : own ≡ [] = nil_from_length own (own_size slot stream program vbv headers rows row fits ∙ none) in
     let same : passes slot stream (Video program vbv) headers (rows ++ row ∷ []) ≡ passes slot stream (Video program vbv) headers rows =
-    passes-one slot stream (Video program vbv) headers rows row one has ∙ ap (λ more. passes slot stream (Video program vbv) headers rows ++ more) empty ∙ append-nil (passes slot stream (Video program vbv) headers rows) in
+    passes-one slot stream (Video program vbv) headers rows row one has
+    ∙ ap (λ more. passes slot stream (Video program vbv) headers rows ++ more) empty
+    ∙ append-nil (passes slot stream (Video program vbv) headers rows) in
     rw same before
 
 soon-one : (slot stream program vbv : ℕ) (headers : Headers) (rows : List Row) (row : Row) → vbv ≤ VBV_MOST → packets_in stream (Video program vbv) row ≡ 1 → payload_in stream row ≤ PAYLOAD_BYTES
@@ -101,13 +103,15 @@ soon-one slot stream program vbv headers rows row level one small fits free gate
     let work = mb_gate vbv + mb_delay in
     let size : length own ≡ payload_in stream row = own_size slot stream program vbv headers rows row fits in
     let low : Spaced 0 start own =
-    kept-rises is_payload start (parts_of (arrival_of stream (length rows) headers row)) (departures VIDEO_TB_SUBTICKS tb come) (departures-from VIDEO_TB_SUBTICKS tb start (byte_subticks slot) PACKET_BYTES) in
+    kept-rises is_payload start (parts_of (arrival_of stream (length rows) headers row)) (departures VIDEO_TB_SUBTICKS tb come)
+    (departures-from VIDEO_TB_SUBTICKS tb start (byte_subticks slot) PACKET_BYTES) in
     let soon : EachWithin delay (departures MB_SUBTICKS mb own) own =
     departures-late MB_SUBTICKS mb start work delay own low (omega (arith, free.free, gate)) (omega (arith, size, small, level)) in
     rw (passes-one slot stream (Video program vbv) headers rows row one free.has, departures-append MB_SUBTICKS 0 pass own)
     (EachWithin-append delay (departures MB_SUBTICKS 0 pass) pass (departures MB_SUBTICKS mb own) own before soon)
 
-soon-carried : (table : Table) (choice : List ℕ) (stream s program vbv : ℕ) (packets : List QueuedPacket) (headers : Headers) (rows : List Row) (packet : QueuedPacket) → IsValidTable table → Fits table choice
+soon-carried : (table : Table) (choice : List ℕ) (stream s program vbv : ℕ) (packets : List QueuedPacket) (headers : Headers) (rows : List Row)
+    (packet : QueuedPacket) → IsValidTable table → Fits table choice
     → slice_get (queues_of table choice) stream ≡ Some (record { kind = Video program vbv; packets = packets }) → AreWithin headers packets
     → s ≡ stream → Goes table.slot (queues_of table choice) rows s packet → IsFreeSoon table.slot stream program vbv headers rows
     → PassesSoon table.slot stream program vbv headers rows → PassesSoon table.slot stream program vbv headers (rows ++ Carries s packet ∷ [])
@@ -134,11 +138,17 @@ soon-row : (table : Table) (choice : List ℕ) (stream program vbv : ℕ) (packe
     → IsNext table choice rows row → IsFreeSoon table.slot stream program vbv headers rows
     → PassesSoon table.slot stream program vbv headers rows → PassesSoon table.slot stream program vbv headers (rows ++ row ∷ [])
 soon-row table choice stream program vbv packets headers rows Empty valid fits there within next free before = soon-none table.slot stream program vbv headers rows Empty refl before
-soon-row table choice stream program vbv packets headers rows (Reserved Null) valid fits there within next free before = soon-none table.slot stream program vbv headers rows (Reserved Null) refl before
+soon-row table choice stream program vbv packets headers rows
+    (Reserved Null) valid fits there within next free before = soon-none table.slot stream program vbv headers rows (Reserved Null) refl before
 soon-row table choice stream program vbv packets headers rows (Reserved Pat) valid fits there within next free before = soon-none table.slot stream program vbv headers rows (Reserved Pat) refl before
-soon-row table choice stream program vbv packets headers rows (Reserved (Pmt p)) valid fits there within next free before = soon-none table.slot stream program vbv headers rows (Reserved (Pmt p)) refl before
-soon-row table choice stream program vbv packets headers rows (Reserved (VideoPiece a b c)) valid fits there within next free before = soon-none table.slot stream program vbv headers rows (Reserved (VideoPiece a b c)) refl before
-soon-row table choice stream program vbv packets headers rows (Reserved (AudioPiece a b)) valid fits there within next free before = soon-none table.slot stream program vbv headers rows (Reserved (AudioPiece a b)) refl before
+soon-row table choice stream program vbv packets headers rows
+    (Reserved (Pmt p)) valid fits there within next free before = soon-none table.slot stream program vbv headers rows (Reserved (Pmt p)) refl before
+soon-row table choice stream program vbv packets headers rows
+    (Reserved (VideoPiece a b c)) valid fits there within next free before = soon-none table.slot stream program vbv headers rows
+    (Reserved (VideoPiece a b c)) refl before
+soon-row table choice stream program vbv packets headers rows
+    (Reserved (AudioPiece a b)) valid fits there within next free before = soon-none table.slot stream program vbv headers rows
+    (Reserved (AudioPiece a b)) refl before
 soon-row table choice stream program vbv packets headers rows (Reserved (Pcr p)) valid fits there within next free before =
     elim (cases_Bool (eqb p program)) as (λ _. PassesSoon table.slot stream program vbv headers (rows ++ Reserved (Pcr p) ∷ [])) [
       | inl same ↦

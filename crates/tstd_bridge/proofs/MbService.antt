@@ -65,7 +65,8 @@ latest_work-kept test (part ∷ parts) q t l come step (suc count) busy end payl
           rw passes
           (omega (
             arith,
-            work_here q (max come l + t) (length (kept test parts (departures t (max come l + t) (spaced (come + step) step count)))) payload t busy end most few' under soon (served-here t l come step count busy end served),
+            work_here q (max come l + t) (length (kept test parts (departures t (max come l + t) (spaced (come + step) step count)))) payload t busy
+                end most few' under soon (served-here t l come step count busy end served),
             latest_work-kept test parts q t (max come l + t) (come + step) step count busy end payload most next (omega (arith, few')) under soon,
           )))
       | inr fails ↦ rw fails (latest_work-kept test parts q t (max come l + t) (come + step) step count busy end payload most next (few_dropped fails few) under soon)
@@ -84,7 +85,8 @@ pub last_departure-kept : (test : PacketPart → Bool) (parts : List PacketPart)
     → length (kept test parts (departures t l (spaced come step count))) ≡ payload → free + q * payload ≤ most → busy + q * payload ≤ most → end + t + q * payload ≤ most
     → last_departure q free (kept test parts (departures t l (spaced come step count))) ≤ most
 last_departure-kept test parts q free t l come step count busy end payload most served as_many own under soon =
-    let closed : last_departure q free (kept test parts (departures t l (spaced come step count))) ≡ max (free + q * payload) (latest_work q (kept test parts (departures t l (spaced come step count)))) =
+    let closed : last_departure q free (kept test parts (departures t l (spaced come step count)))
+    ≡ max (free + q * payload) (latest_work q (kept test parts (departures t l (spaced come step count)))) =
     rw (last_departure-is q free (kept test parts (departures t l (spaced come step count))), as_many) refl in
     omega (arith, closed, own, latest_work-kept test parts q t l come step count busy end payload most served (omega (arith, as_many)) under soon)
 

@@ -97,7 +97,8 @@ rows-one slot program rows row long one low after =
       | inr wraps ↦ absurd (omega (arith, wraps.1, low, long.slots))
     ])
 
-rows-pmt : (table : Table) (choice : List ℕ) (program p : ℕ) (rows : List Row) → IsValidTable table → IsLong table.slot → eqb p program ≡ true → IsPmtPlace (length table.programs) p (length rows % period table.slot)
+rows-pmt : (table : Table) (choice : List ℕ) (program p : ℕ) (rows : List Row) → IsValidTable table → IsLong table.slot → eqb p program ≡ true
+    → IsPmtPlace (length table.programs) p (length rows % period table.slot)
     → RowsAreServed table.slot program rows → RowsAreServed table.slot program (rows ++ Reserved (Pmt p) ∷ [])
 rows-pmt table choice program p rows valid long same place before =
     let slot = table.slot in

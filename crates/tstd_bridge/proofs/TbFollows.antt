@@ -138,7 +138,8 @@ room_push table choice stream program vbv packets rows row valid there next room
     elim (cases_lt 0 (packets_in stream (Video program vbv) row)) as (λ _. RoomAfter table stream program vbv (rows ++ row ∷ [])) [
       | inr nothing ↦
           (let none : packets_in stream (Video program vbv) row ≡ 0 = omega arith in
-          room_none (slot_subticks slot) programs program offset (length (rows ++ row ∷ []) % period slot) (tb_work slot stream (Video program vbv) rows) (tb_work slot stream (Video program vbv) (rows ++ row ∷ []))
+          room_none (slot_subticks slot) programs program offset (length (rows ++ row ∷ []) % period slot)
+          (tb_work slot stream (Video program vbv) rows) (tb_work slot stream (Video program vbv) (rows ++ row ∷ []))
           step (tb_work-none slot stream (Video program vbv) rows row none) room)
       | inl some ↦
           (let one : packets_in stream (Video program vbv) row ≡ 1 = omega (arith, packets_in-le stream (Video program vbv) row) in

@@ -53,7 +53,8 @@ tb_free-most slot stream kind headers =
               let work = tb_work slot stream kind rows in
               let t = tb_subticks kind in
               let busy : free ≤ first + work = omega (arith, before) in
-              let packet : last_departure t free (spaced first (byte_subticks slot) PACKET_BYTES) ≤ (first + byte_subticks slot * PACKET_BYTES) + ((work + t * PACKET_BYTES) - byte_subticks slot * PACKET_BYTES) =
+              let packet : last_departure t free (spaced first (byte_subticks slot) PACKET_BYTES)
+              ≤ (first + byte_subticks slot * PACKET_BYTES) + ((work + t * PACKET_BYTES) - byte_subticks slot * PACKET_BYTES) =
               last_departure-packet t free first (byte_subticks slot) PACKET_BYTES work busy in
               rw (
                 bytes_come-one slot stream kind headers rows row one,

@@ -141,7 +141,8 @@ video_clean table choice rows stream program vbv packets headers removals (Overf
     let within : AreWithin headers packets = AreWithin-from_data headers packets leave in
     let times : IsInTime table.slot stream program vbv headers rows = in_time table choice stream program vbv packets headers rows valid fits there within leave schedule.follows schedule.in_time in
     let sent : packets_sent stream rows ≡ packets = all_sent table choice stream (Video program vbv) packets rows there schedule.follows schedule.sent in
-    one_of_three (transport_buffer table.slot (VideoBuffers vbv) arrivals) (multiplexing_buffer table.slot vbv arrivals removals) (elementary_buffer table.slot vbv arrivals removals) at is.place is.buffer
+    one_of_three (transport_buffer table.slot (VideoBuffers vbv) arrivals) (multiplexing_buffer table.slot vbv arrivals removals)
+    (elementary_buffer table.slot vbv arrivals removals) at is.place is.buffer
     (tb_holds table.slot stream (Video program vbv) headers rows (finds_little table choice stream (Video program vbv) packets rows valid there schedule.follows) at)
     (mb_holds table choice stream program vbv packets headers rows removals at valid fits schedule there within
     (moves_are table.slot stream program vbv headers packets rows removals sent allowed times) times)

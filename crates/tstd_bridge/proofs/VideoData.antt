@@ -39,7 +39,8 @@ pub data_goes-none : (slot stream program vbv : ℕ) (headers : Headers) (rows :
     → data_goes slot stream program vbv headers (rows ++ row ∷ []) ≡ data_goes slot stream program vbv headers rows
 data_goes-none slot stream program vbv headers rows row none = ap (λ arrivals. data_of slot arrivals) (arrivals_from-none stream (Video program vbv) headers rows row none)
 
-pub data_goes-one : (slot stream program vbv : ℕ) (headers : Headers) (rows : List Row) (row : Row) → packets_in stream (Video program vbv) row ≡ 1 → HasParts slot stream (Video program vbv) headers rows
+pub data_goes-one : (slot stream program vbv : ℕ) (headers : Headers) (rows : List Row) (row : Row) → packets_in stream (Video program vbv) row ≡ 1
+    → HasParts slot stream (Video program vbv) headers rows
     → data_goes slot stream program vbv headers (rows ++ row ∷ []) ≡ data_goes slot stream program vbv headers rows ++ packet_data slot stream program vbv headers rows row
 data_goes-one slot stream program vbv headers rows row one has =
     let arrivals = arrivals_from 0 stream (Video program vbv) headers rows in
@@ -66,7 +67,8 @@ packet_data-rises slot stream program vbv headers rows row =
     let start = PACKET_BYTES * length rows * byte_subticks slot in
     let come = spaced start (byte_subticks slot) PACKET_BYTES in
     let tb = tb_free slot stream (Video program vbv) headers rows in
-    kept-rises is_data start (parts_of (arrival_of stream (length rows) headers row)) (departures VIDEO_TB_SUBTICKS tb come) (departures-from VIDEO_TB_SUBTICKS tb start (byte_subticks slot) PACKET_BYTES)
+    kept-rises is_data start (parts_of (arrival_of stream (length rows) headers row)) (departures VIDEO_TB_SUBTICKS tb come)
+    (departures-from VIDEO_TB_SUBTICKS tb start (byte_subticks slot) PACKET_BYTES)
 
 -- ---- when MB would pass it on
 -- where EB always has room
@@ -85,14 +87,17 @@ moves_free-soon slot stream program vbv headers rows =
     let arrivals = arrivals_from 0 stream (Video program vbv) headers rows in
     data_soon MB_SUBTICKS 0 0 (parts arrivals) (departures VIDEO_TB_SUBTICKS 0 (arrives slot arrivals)) (omega arith)
 
-pub free_moves-one : (slot stream program vbv : ℕ) (headers : Headers) (rows : List Row) (row : Row) → packets_in stream (Video program vbv) row ≡ 1 → HasParts slot stream (Video program vbv) headers rows
+pub free_moves-one : (slot stream program vbv : ℕ) (headers : Headers) (rows : List Row) (row : Row) → packets_in stream (Video program vbv) row ≡ 1
+    → HasParts slot stream (Video program vbv) headers rows
     → free_moves slot stream program vbv headers (rows ++ row ∷ []) ≡ free_moves slot stream program vbv headers rows ++ packet_moves slot stream program vbv headers rows row
 free_moves-one slot stream program vbv headers rows row one has =
     ap (λ comes. departures MB_SUBTICKS 0 comes) (data_goes-one slot stream program vbv headers rows row one has)
     ∙ departures-append MB_SUBTICKS 0 (data_goes slot stream program vbv headers rows) (packet_data slot stream program vbv headers rows row)
 
-pub moves_free-one : (slot stream program vbv : ℕ) (headers : Headers) (rows : List Row) (row : Row) → packets_in stream (Video program vbv) row ≡ 1 → HasParts slot stream (Video program vbv) headers rows
-    → moves_free slot stream program vbv headers (rows ++ row ∷ []) ≡ last_departure MB_SUBTICKS (moves_free slot stream program vbv headers rows) (packet_data slot stream program vbv headers rows row)
+pub moves_free-one : (slot stream program vbv : ℕ) (headers : Headers) (rows : List Row) (row : Row) → packets_in stream (Video program vbv) row ≡ 1
+    → HasParts slot stream (Video program vbv) headers rows
+    → moves_free slot stream program vbv headers (rows ++ row ∷ [])
+    ≡ last_departure MB_SUBTICKS (moves_free slot stream program vbv headers rows) (packet_data slot stream program vbv headers rows row)
 moves_free-one slot stream program vbv headers rows row one has =
     ap (λ comes. last_departure MB_SUBTICKS 0 comes) (data_goes-one slot stream program vbv headers rows row one has)
     ∙ last_departure-append MB_SUBTICKS 0 (data_goes slot stream program vbv headers rows) (packet_data slot stream program vbv headers rows row)
@@ -109,7 +114,8 @@ packet_moves-rise slot stream program vbv headers rows row =
     departures-low MB_SUBTICKS (moves_free slot stream program vbv headers rows) (PACKET_BYTES * length rows * byte_subticks slot) (packet_data slot stream program vbv headers rows row)
     (packet_data-rises slot stream program vbv headers rows row)
 
-pub data_goes-pcr : (slot stream program vbv : ℕ) (headers : Headers) (rows : List Row) (row : Row) → packets_in stream (Video program vbv) row ≡ 1 → HasParts slot stream (Video program vbv) headers rows
+pub data_goes-pcr : (slot stream program vbv : ℕ) (headers : Headers) (rows : List Row) (row : Row) → packets_in stream (Video program vbv) row ≡ 1
+    → HasParts slot stream (Video program vbv) headers rows
     → HasHeaderWithin (arrival_of stream (length rows) headers row) → payload_in stream row ≡ 0
     → data_goes slot stream program vbv headers (rows ++ row ∷ []) ≡ data_goes slot stream program vbv headers rows
 data_goes-pcr slot stream program vbv headers rows row one has fits none =

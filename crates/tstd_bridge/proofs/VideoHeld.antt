@@ -101,10 +101,12 @@ short-one slot stream program vbv headers rows row count gone one own_gone count
     record {
       has = has_parts-one slot stream (Video program vbv) headers rows row one fits before.has;
       short = rw (same, same_gone)
-          (AllZip-append (λ come gone. gone ≤ come + hold_subticks) (data_comes slot stream program vbv headers rows) (data_gones stream program vbv headers rows) own (replicate count gone) before.short short);
+          (AllZip-append (λ come gone. gone ≤ come + hold_subticks) (data_comes slot stream program vbv headers rows)
+          (data_gones stream program vbv headers rows) own (replicate count gone) before.short short);
     }
 
-short-carried : (table : Table) (choice : List ℕ) (stream s program vbv : ℕ) (packets : List QueuedPacket) (headers : Headers) (rows : List Row) (packet : QueuedPacket) → IsValidTable table → Fits table choice
+short-carried : (table : Table) (choice : List ℕ) (stream s program vbv : ℕ) (packets : List QueuedPacket) (headers : Headers) (rows : List Row)
+    (packet : QueuedPacket) → IsValidTable table → Fits table choice
     → slice_get (queues_of table choice) stream ≡ Some (record { kind = Video program vbv; packets = packets }) → AreWithin headers packets
     → s ≡ stream → Goes table.slot (queues_of table choice) rows s packet
     → IsShort table.slot stream program vbv headers rows → IsShort table.slot stream program vbv headers (rows ++ Carries s packet ∷ [])
@@ -132,11 +134,18 @@ short-row : (table : Table) (choice : List ℕ) (stream program vbv : ℕ) (pack
     → slice_get (queues_of table choice) stream ≡ Some (record { kind = Video program vbv; packets = packets }) → AreWithin headers packets
     → IsNext table choice rows row → IsShort table.slot stream program vbv headers rows → IsShort table.slot stream program vbv headers (rows ++ row ∷ [])
 short-row table choice stream program vbv packets headers rows Empty valid fits there within next before = short-none table.slot stream program vbv headers rows Empty refl refl before
-short-row table choice stream program vbv packets headers rows (Reserved Null) valid fits there within next before = short-none table.slot stream program vbv headers rows (Reserved Null) refl refl before
-short-row table choice stream program vbv packets headers rows (Reserved Pat) valid fits there within next before = short-none table.slot stream program vbv headers rows (Reserved Pat) refl refl before
-short-row table choice stream program vbv packets headers rows (Reserved (Pmt p)) valid fits there within next before = short-none table.slot stream program vbv headers rows (Reserved (Pmt p)) refl refl before
-short-row table choice stream program vbv packets headers rows (Reserved (VideoPiece a b c)) valid fits there within next before = short-none table.slot stream program vbv headers rows (Reserved (VideoPiece a b c)) refl refl before
-short-row table choice stream program vbv packets headers rows (Reserved (AudioPiece a b)) valid fits there within next before = short-none table.slot stream program vbv headers rows (Reserved (AudioPiece a b)) refl refl before
+short-row table choice stream program vbv packets headers rows
+    (Reserved Null) valid fits there within next before = short-none table.slot stream program vbv headers rows (Reserved Null) refl refl before
+short-row table choice stream program vbv packets headers rows
+    (Reserved Pat) valid fits there within next before = short-none table.slot stream program vbv headers rows (Reserved Pat) refl refl before
+short-row table choice stream program vbv packets headers rows
+    (Reserved (Pmt p)) valid fits there within next before = short-none table.slot stream program vbv headers rows (Reserved (Pmt p)) refl refl before
+short-row table choice stream program vbv packets headers rows
+    (Reserved (VideoPiece a b c)) valid fits there within next before = short-none table.slot stream program vbv headers rows
+    (Reserved (VideoPiece a b c)) refl refl before
+short-row table choice stream program vbv packets headers rows
+    (Reserved (AudioPiece a b)) valid fits there within next before = short-none table.slot stream program vbv headers rows
+    (Reserved (AudioPiece a b)) refl refl before
 short-row table choice stream program vbv packets headers rows (Reserved (Pcr p)) valid fits there within next before =
     elim (cases_Bool (eqb p program)) as (λ _. IsShort table.slot stream program vbv headers (rows ++ Reserved (Pcr p) ∷ [])) [
       | inl same ↦
@@ -160,7 +169,8 @@ video_not_old table choice stream program vbv packets headers rows removals at v
     let all : IsShort table.slot stream program vbv headers rows =
     by_push (λ rows. FollowRule table choice rows → IsShort table.slot stream program vbv headers rows) (λ follows. short-nil table.slot stream program vbv headers)
     (λ rows row before follows.
-    short-row table choice stream program vbv packets headers rows row valid fits there within (FollowRule-last table choice rows row follows) (before (FollowRule-front table choice rows (row ∷ []) follows)))
+    short-row table choice stream program vbv packets headers rows row valid fits there within (FollowRule-last table choice rows row follows)
+    (before (FollowRule-front table choice rows (row ∷ []) follows)))
     rows schedule.follows in
     let sent : packets_sent stream rows ≡ packets = all_sent table choice stream (Video program vbv) packets rows there schedule.follows schedule.sent in
     let come = data_comes table.slot stream program vbv headers rows in

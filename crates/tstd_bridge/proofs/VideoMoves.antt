@@ -1,5 +1,34 @@
 -- A video's data is in EB before it is wanted, and EB holds no more than its size, if MB doesn't wait for EB.
-use Rattle.std.proofs.Common.{◌≡◌, ℕ, ◌+◌, ◌-◌, ◌*◌, ◌<◌, ◌≤◌, eqb, eq-eqb, List, [], ◌∷◌, ◌++◌, length, replicate, count_by, slice_get, Some, refl, sym, ap, subst₂, ◌∙◌, inl, inr, append-nil, length-append, arith}
+use Rattle.std.proofs.Common.{
+  ◌≡◌,
+  ℕ,
+  ◌+◌,
+  ◌-◌,
+  ◌*◌,
+  ◌<◌,
+  ◌≤◌,
+  eqb,
+  eq-eqb,
+  List,
+  [],
+  ◌∷◌,
+  ◌++◌,
+  length,
+  replicate,
+  count_by,
+  slice_get,
+  Some,
+  refl,
+  sym,
+  ap,
+  subst₂,
+  ◌∙◌,
+  inl,
+  inr,
+  append-nil,
+  length-append,
+  arith,
+}
 use Rattle.std.specs.List.{AllZip}
 use Rattle.std.proofs.lemmas.Bool.{cases_Bool, eqb-true, eqb-false, cond-true}
 use Rattle.std.proofs.lemmas.List.{length-replicate}
@@ -39,7 +68,20 @@ use Rattle.tstd_bridge.proofs.Gone.{gate-step}
 use Rattle.tstd_bridge.proofs.KeptBytes.{parts-push}
 use Rattle.tstd_bridge.proofs.MbFree.{IsFreeSoon, free_soon}
 use Rattle.tstd_bridge.proofs.MbHeaders.{HaveDataBehind, behind-append, behind-packet}
-use Rattle.tstd_bridge.proofs.VideoData.{data_goes, packet_data, data_goes-none, data_goes-pcr, length-packet_data, free_moves, moves_free, packet_moves, moves_free-soon, free_moves-one, moves_free-one, packet_moves-rise}
+use Rattle.tstd_bridge.proofs.VideoData.{
+  data_goes,
+  packet_data,
+  data_goes-none,
+  data_goes-pcr,
+  length-packet_data,
+  free_moves,
+  moves_free,
+  packet_moves,
+  moves_free-soon,
+  free_moves-one,
+  moves_free-one,
+  packet_moves-rise,
+}
 use Rattle.tstd_bridge.proofs.VideoGone.{data_wanted, data_gone, data_wanted-push, data_gone-push, data_gone-late}
 use Rattle.tstd_bridge.proofs.ZipLaws.{AllZip-append, zip_before, departures-by}
 
@@ -106,10 +148,12 @@ time-one slot stream program vbv headers rows row packet one own_packet payload_
     let free = moves_free slot stream program vbv headers rows in
     let own_moves = packet_moves slot stream program vbv headers rows row in
     let fits : HasHeaderWithin (arrival_of stream (length rows) headers row) = (omega (arith, some, header_is, payload_is), omega (arith, payload_is, small)) in
-    let same_gone : data_gone stream program vbv headers (rows ++ row ∷ []) ≡ data_gone stream program vbv headers rows ++ replicate (packet.payload - headers packet) (SUBTICKS_PER_TICK * packet.gone) =
+    let same_gone : data_gone stream program vbv headers (rows ++ row ∷ []) ≡ data_gone stream program vbv headers rows
+    ++ replicate (packet.payload - headers packet) (SUBTICKS_PER_TICK * packet.gone) =
     data_gone-push stream program vbv headers rows row ∙ ap (λ packets. data_gone stream program vbv headers rows ++ gone_of_each (Video program vbv) headers packets) own_packet
     ∙ ap (λ more. data_gone stream program vbv headers rows ++ more) (append-nil (replicate (packet.payload - headers packet) (SUBTICKS_PER_TICK * packet.gone))) in
-    let same_wanted : data_wanted stream program vbv headers (rows ++ row ∷ []) ≡ data_wanted stream program vbv headers rows ++ replicate (packet.payload - headers packet) (SUBTICKS_PER_TICK * packet.due) =
+    let same_wanted : data_wanted stream program vbv headers (rows ++ row ∷ []) ≡ data_wanted stream program vbv headers rows
+    ++ replicate (packet.payload - headers packet) (SUBTICKS_PER_TICK * packet.due) =
     data_wanted-push stream program vbv headers rows row ∙ ap (λ packets. data_wanted stream program vbv headers rows ++ wanted_of_each (Video program vbv) headers packets) own_packet
     ∙ ap (λ more. data_wanted stream program vbv headers rows ++ more) (append-nil (replicate (packet.payload - headers packet) (SUBTICKS_PER_TICK * packet.due))) in
     let more : free_moves slot stream program vbv headers (rows ++ row ∷ []) ≡ free_moves slot stream program vbv headers rows ++ packet_moves slot stream program vbv headers rows row =
@@ -132,7 +176,8 @@ time-one slot stream program vbv headers rows row packet one own_packet payload_
     }
 
 -- ---- the rows of a schedule
-time-carried : (table : Table) (choice : List ℕ) (stream s program vbv : ℕ) (packets : List QueuedPacket) (headers : Headers) (rows : List Row) (packet : QueuedPacket) → IsValidTable table → Fits table choice
+time-carried : (table : Table) (choice : List ℕ) (stream s program vbv : ℕ) (packets : List QueuedPacket) (headers : Headers) (rows : List Row)
+    (packet : QueuedPacket) → IsValidTable table → Fits table choice
     → slice_get (queues_of table choice) stream ≡ Some (record { kind = Video program vbv; packets = packets }) → LeaveData headers packets
     → s ≡ stream → Goes table.slot (queues_of table choice) rows s packet → NoMiss table.slot (queues_of table choice) (rows ++ Carries s packet ∷ [])
     → IsFreeSoon table.slot stream program vbv headers rows → IsFreeSoon table.slot stream program vbv headers (rows ++ Carries s packet ∷ [])
@@ -165,11 +210,21 @@ time-row : (table : Table) (choice : List ℕ) (stream program vbv : ℕ) (packe
     → IsFreeSoon table.slot stream program vbv headers rows → IsFreeSoon table.slot stream program vbv headers (rows ++ row ∷ [])
     → IsInTime table.slot stream program vbv headers rows → IsInTime table.slot stream program vbv headers (rows ++ row ∷ [])
 time-row table choice stream program vbv packets headers rows Empty valid fits there leave next none free after before = time-none table.slot stream program vbv headers rows Empty refl refl before
-time-row table choice stream program vbv packets headers rows (Reserved Null) valid fits there leave next none free after before = time-none table.slot stream program vbv headers rows (Reserved Null) refl refl before
-time-row table choice stream program vbv packets headers rows (Reserved Pat) valid fits there leave next none free after before = time-none table.slot stream program vbv headers rows (Reserved Pat) refl refl before
-time-row table choice stream program vbv packets headers rows (Reserved (Pmt p)) valid fits there leave next none free after before = time-none table.slot stream program vbv headers rows (Reserved (Pmt p)) refl refl before
-time-row table choice stream program vbv packets headers rows (Reserved (VideoPiece a b c)) valid fits there leave next none free after before = time-none table.slot stream program vbv headers rows (Reserved (VideoPiece a b c)) refl refl before
-time-row table choice stream program vbv packets headers rows (Reserved (AudioPiece a b)) valid fits there leave next none free after before = time-none table.slot stream program vbv headers rows (Reserved (AudioPiece a b)) refl refl before
+time-row table choice stream program vbv packets headers rows
+    (Reserved Null) valid fits there leave next none free after before = time-none table.slot stream program vbv headers rows
+    (Reserved Null) refl refl before
+time-row table choice stream program vbv packets headers rows
+    (Reserved Pat) valid fits there leave next none free after before = time-none table.slot stream program vbv headers rows
+    (Reserved Pat) refl refl before
+time-row table choice stream program vbv packets headers rows
+    (Reserved (Pmt p)) valid fits there leave next none free after before = time-none table.slot stream program vbv headers rows
+    (Reserved (Pmt p)) refl refl before
+time-row table choice stream program vbv packets headers rows
+    (Reserved (VideoPiece a b c)) valid fits there leave next none free after before = time-none table.slot stream program vbv headers rows
+    (Reserved (VideoPiece a b c)) refl refl before
+time-row table choice stream program vbv packets headers rows
+    (Reserved (AudioPiece a b)) valid fits there leave next none free after before = time-none table.slot stream program vbv headers rows
+    (Reserved (AudioPiece a b)) refl refl before
 time-row table choice stream program vbv packets headers rows (Reserved (Pcr p)) valid fits there leave next none free after before =
     elim (cases_Bool (eqb p program)) as (λ _. IsInTime table.slot stream program vbv headers (rows ++ Reserved (Pcr p) ∷ [])) [
       | inl same ↦

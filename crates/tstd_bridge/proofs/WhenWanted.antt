@@ -40,7 +40,8 @@ zip_copies : (count x y : ℕ) → x ≤ y → AllZip (λ a b. a ≤ b) (replica
 zip_copies zero x y le = tt
 zip_copies (suc count) x y le = (le, zip_copies count x y le)
 
-when_wanted : (kind : QueueKind) (headers : Headers) (packets : List QueuedPacket) → AllZip (λ wanted at. wanted ≤ at) (wanted_of_each kind headers packets) (removed (removals_when_wanted kind headers packets))
+when_wanted : (kind : QueueKind) (headers : Headers) (packets : List QueuedPacket)
+    → AllZip (λ wanted at. wanted ≤ at) (wanted_of_each kind headers packets) (removed (removals_when_wanted kind headers packets))
 unfolding removed
 when_wanted kind headers [] = tt
 when_wanted kind headers (packet ∷ packets) =

@@ -9,7 +9,24 @@ use Rattle.tstd_model.specs.declared.passing.Wanted.{Wanted}
 use Rattle.tstd_model.specs.declared.passing.Wanted.TheVariants.{Payload, DataAlone}
 use Rattle.tstd_model.specs.Instants.{departures, departures_into}
 use Rattle.tstd_model.specs.PacketBytes.{Arrival, PacketPart, HasHeaderWithin, parts, byte_subticks, arrives, kept, with_headers}
-use Rattle.tstd_model.specs.Decoder.{BufferKind, Video, Audio, System, Removal, tb_subticks, leave_tb, payload_passes, data_passes, removed, eb_bytes, eb_rooms, moves, transport_buffer, is_removed, completes}
+use Rattle.tstd_model.specs.Decoder.{
+  BufferKind,
+  Video,
+  Audio,
+  System,
+  Removal,
+  tb_subticks,
+  leave_tb,
+  payload_passes,
+  data_passes,
+  removed,
+  eb_bytes,
+  eb_rooms,
+  moves,
+  transport_buffer,
+  is_removed,
+  completes,
+}
 use Rattle.tstd_model.specs.Faults.{TstdFault, hold_subticks}
 use Rattle.tstd_model.specs.Private.Cursors.{Gives, bytes_of_all, passed, instants_of, parts_in, bytes_with, is_wanted}
 use Rattle.tstd_model.specs.Private.Scans.{RemovedByte, taken_from, first_over, first_late, first_old}
@@ -171,7 +188,9 @@ filter-none (part ∷ ps) = filter-none ps
 pub system_old-is : (slot : ℕ) (kind : BufferKind) (arrivals : List Arrival) (removals : List Removal) → kind ≡ System → None ≡ old_found slot kind arrivals removals
 unfolding first_old
 system_old-is slot kind arrivals removals kind_is =
-    sym (ap (λ k. old_found slot k arrivals removals) kind_is ∙ ap (λ (l : List PacketPart). first_old hold_subticks l (kept (is_removed System) (parts arrivals) (arrives slot arrivals)) (removed removals)) (filter-none (parts arrivals)))
+    sym (ap (λ k. old_found slot k arrivals removals) kind_is
+    ∙ ap (λ (l : List PacketPart). first_old hold_subticks l (kept (is_removed System) (parts arrivals) (arrives slot arrivals))
+    (removed removals)) (filter-none (parts arrivals)))
 
 -- ---- the last packet
 pub below-last : (least k : ℕ) (arrivals : List Arrival) (last : Arrival) → Rising least (map (λ a. a.slot_no) arrivals) → suc k ≡ length arrivals → slice_get arrivals k ≡ Some last

@@ -81,7 +81,8 @@ Decided slot kind arrivals removals fault =
 
 -- four full packets in a row: TB holds 393 bytes at most, and all is there in time
 four_packets : IsFirstOrNone 1080 (Video 112) (packets_each 184 1 0 4) (removal 60000 736) None
-unfolding first_over first_late is_held first_old taken_from spaced departures departures_into parts_of parts arrives_in arrives kept with_headers leave_tb payload_passes data_passes removed eb_rooms moves
+unfolding first_over first_late is_held first_old taken_from spaced departures departures_into parts_of parts arrives_in arrives kept with_headers
+    leave_tb payload_passes data_passes removed eb_rooms moves
 four_packets = first_fault-rises 1080 (Video 112) (packets_each 184 1 0 4) (removal 60000 736) None (packets_each-rise 184 1 0 4 0 (omega arith) (omega arith)) (omega arith, tt) decided
   where
     decided : Decided 1080 (Video 112) (packets_each 184 1 0 4) (removal 60000 736) None
@@ -89,15 +90,18 @@ four_packets = first_fault-rises 1080 (Video 112) (packets_each 184 1 0 4) (remo
 
 -- eight of them: byte 41 of slot 5 is the 513th in TB
 eight_packets : IsFirstOrNone 1080 (Video 112) (packets_each 184 1 0 8) (removal 60000 1472) (Some (Overflow 5297400))
-unfolding first_over first_late is_held first_old taken_from spaced departures departures_into parts_of parts arrives_in arrives kept with_headers leave_tb payload_passes data_passes removed eb_rooms moves
-eight_packets = first_fault-rises 1080 (Video 112) (packets_each 184 1 0 8) (removal 60000 1472) (Some (Overflow 5297400)) (packets_each-rise 184 1 0 8 0 (omega arith) (omega arith)) (omega arith, tt) decided
+unfolding first_over first_late is_held first_old taken_from spaced departures departures_into parts_of parts arrives_in arrives kept with_headers
+    leave_tb payload_passes data_passes removed eb_rooms moves
+eight_packets = first_fault-rises 1080 (Video 112) (packets_each 184 1 0 8) (removal 60000 1472) (Some (Overflow 5297400))
+    (packets_each-rise 184 1 0 8 0 (omega arith) (omega arith)) (omega arith, tt) decided
   where
     decided : Decided 1080 (Video 112) (packets_each 184 1 0 8) (removal 60000 1472) (Some (Overflow 5297400))
     decided = (refl, tt, tt)
 
 -- a byte that comes one tick before it is removed
 removal_in_time : IsFirstOrNone 1128 Audio (packet 0 0 1) (removal 20305 1) None
-unfolding first_over first_late is_held first_old taken_from spaced departures departures_into parts_of parts arrives_in arrives kept with_headers leave_tb payload_passes data_passes removed eb_rooms moves
+unfolding first_over first_late is_held first_old taken_from spaced departures departures_into parts_of parts arrives_in arrives kept with_headers
+    leave_tb payload_passes data_passes removed eb_rooms moves
 removal_in_time = first_fault-rises 1128 Audio (packet 0 0 1) (removal 20305 1) None (omega arith, tt) (omega arith, tt) decided
   where
     decided : Decided 1128 Audio (packet 0 0 1) (removal 20305 1) None
@@ -105,7 +109,8 @@ removal_in_time = first_fault-rises 1128 Audio (packet 0 0 1) (removal 20305 1) 
 
 -- a removal at the very instant at which its byte comes finds nothing
 removal_too_early : IsFirstOrNone 1128 Audio (packet 0 0 1) (removal 20304 1) (Some (Late 0))
-unfolding first_over first_late is_held first_old taken_from spaced departures departures_into parts_of parts arrives_in arrives kept with_headers leave_tb payload_passes data_passes removed eb_rooms moves
+unfolding first_over first_late is_held first_old taken_from spaced departures departures_into parts_of parts arrives_in arrives kept with_headers
+    leave_tb payload_passes data_passes removed eb_rooms moves
 removal_too_early = first_fault-rises 1128 Audio (packet 0 0 1) (removal 20304 1) (Some (Late 0)) (omega arith, tt) (omega arith, tt) decided
   where
     decided : Decided 1128 Audio (packet 0 0 1) (removal 20304 1) (Some (Late 0))
@@ -113,7 +118,8 @@ removal_too_early = first_fault-rises 1128 Audio (packet 0 0 1) (removal 20304 1
 
 -- a removal of two bytes, of which one comes
 bytes_that_never_come : IsFirstOrNone 1128 Audio (packet 0 0 1) (removal 25000 2) (Some (Late 0))
-unfolding first_over first_late is_held first_old taken_from spaced departures departures_into parts_of parts arrives_in arrives kept with_headers leave_tb payload_passes data_passes removed eb_rooms moves
+unfolding first_over first_late is_held first_old taken_from spaced departures departures_into parts_of parts arrives_in arrives kept with_headers
+    leave_tb payload_passes data_passes removed eb_rooms moves
 bytes_that_never_come = first_fault-rises 1128 Audio (packet 0 0 1) (removal 25000 2) (Some (Late 0)) (omega arith, tt) (omega arith, tt) decided
   where
     decided : Decided 1128 Audio (packet 0 0 1) (removal 25000 2) (Some (Late 0))
@@ -121,7 +127,8 @@ bytes_that_never_come = first_fault-rises 1128 Audio (packet 0 0 1) (removal 250
 
 -- a byte that is held a second exactly
 held_a_second : IsFirstOrNone 1128 Audio (packet 0 0 1) (removal 27001122 1) None
-unfolding first_over first_late is_held first_old taken_from spaced departures departures_into parts_of parts arrives_in arrives kept with_headers leave_tb payload_passes data_passes removed eb_rooms moves
+unfolding first_over first_late is_held first_old taken_from spaced departures departures_into parts_of parts arrives_in arrives kept with_headers
+    leave_tb payload_passes data_passes removed eb_rooms moves
 held_a_second = first_fault-rises 1128 Audio (packet 0 0 1) (removal 27001122 1) None (omega arith, tt) (omega arith, tt) decided
   where
     decided : Decided 1128 Audio (packet 0 0 1) (removal 27001122 1) None
@@ -129,7 +136,8 @@ held_a_second = first_fault-rises 1128 Audio (packet 0 0 1) (removal 27001122 1)
 
 -- one that is held a tick longer, found at the first subtick past the limit
 held_longer : IsFirstOrNone 1128 Audio (packet 0 0 1) (removal 27001123 1) (Some (Old 25381054681))
-unfolding first_over first_late is_held first_old taken_from spaced departures departures_into parts_of parts arrives_in arrives kept with_headers leave_tb payload_passes data_passes removed eb_rooms moves
+unfolding first_over first_late is_held first_old taken_from spaced departures departures_into parts_of parts arrives_in arrives kept with_headers
+    leave_tb payload_passes data_passes removed eb_rooms moves
 held_longer = first_fault-rises 1128 Audio (packet 0 0 1) (removal 27001123 1) (Some (Old 25381054681)) (omega arith, tt) (omega arith, tt) decided
   where
     decided : Decided 1128 Audio (packet 0 0 1) (removal 27001123 1) (Some (Old 25381054681))
@@ -137,7 +145,8 @@ held_longer = first_fault-rises 1128 Audio (packet 0 0 1) (removal 27001123 1) (
 
 -- one that is never removed
 never_removed : IsFirstOrNone 1128 Audio (packet 0 0 1) [] (Some (Old 25381054681))
-unfolding first_over first_late is_held first_old taken_from spaced departures departures_into parts_of parts arrives_in arrives kept with_headers leave_tb payload_passes data_passes removed eb_rooms moves
+unfolding first_over first_late is_held first_old taken_from spaced departures departures_into parts_of parts arrives_in arrives kept with_headers
+    leave_tb payload_passes data_passes removed eb_rooms moves
 never_removed = first_fault-rises 1128 Audio (packet 0 0 1) [] (Some (Old 25381054681)) (omega arith, tt) tt decided
   where
     decided : Decided 1128 Audio (packet 0 0 1) [] (Some (Old 25381054681))
@@ -145,7 +154,8 @@ never_removed = first_fault-rises 1128 Audio (packet 0 0 1) [] (Some (Old 253810
 
 -- a byte of a PES header may stay
 header_never_removed : IsFirstOrNone 1128 Audio (packet 0 1 1) [] None
-unfolding first_over first_late is_held first_old taken_from spaced departures departures_into parts_of parts arrives_in arrives kept with_headers leave_tb payload_passes data_passes removed eb_rooms moves
+unfolding first_over first_late is_held first_old taken_from spaced departures departures_into parts_of parts arrives_in arrives kept with_headers
+    leave_tb payload_passes data_passes removed eb_rooms moves
 header_never_removed = first_fault-rises 1128 Audio (packet 0 1 1) [] None (omega arith, tt) tt decided
   where
     decided : Decided 1128 Audio (packet 0 1 1) [] None
@@ -153,7 +163,8 @@ header_never_removed = first_fault-rises 1128 Audio (packet 0 1 1) [] None (omeg
 
 -- a removal that finds too little at the instant at which TB is over its size: the removal is said
 late_goes_first : IsFirstOrNone 1128 (Video 112) (packets_each 184 1 0 8) (removal 6138 1472) (Some (Late 0))
-unfolding first_over first_late is_held first_old taken_from spaced departures departures_into parts_of parts arrives_in arrives kept with_headers leave_tb payload_passes data_passes removed eb_rooms moves
+unfolding first_over first_late is_held first_old taken_from spaced departures departures_into parts_of parts arrives_in arrives kept with_headers
+    leave_tb payload_passes data_passes removed eb_rooms moves
 late_goes_first = first_fault-rises 1128 (Video 112) (packets_each 184 1 0 8) (removal 6138 1472) (Some (Late 0)) (packets_each-rise 184 1 0 8 0 (omega arith) (omega arith)) (omega arith, tt) decided
   where
     decided : Decided 1128 (Video 112) (packets_each 184 1 0 8) (removal 6138 1472) (Some (Late 0))
@@ -161,15 +172,18 @@ late_goes_first = first_fault-rises 1128 (Video 112) (packets_each 184 1 0 8) (r
 
 -- one tick later: TB
 overflow_before_late : IsFirstOrNone 1128 (Video 112) (packets_each 184 1 0 8) (removal 6139 1472) (Some (Overflow 5769720))
-unfolding first_over first_late is_held first_old taken_from spaced departures departures_into parts_of parts arrives_in arrives kept with_headers leave_tb payload_passes data_passes removed eb_rooms moves
-overflow_before_late = first_fault-rises 1128 (Video 112) (packets_each 184 1 0 8) (removal 6139 1472) (Some (Overflow 5769720)) (packets_each-rise 184 1 0 8 0 (omega arith) (omega arith)) (omega arith, tt) decided
+unfolding first_over first_late is_held first_old taken_from spaced departures departures_into parts_of parts arrives_in arrives kept with_headers
+    leave_tb payload_passes data_passes removed eb_rooms moves
+overflow_before_late = first_fault-rises 1128 (Video 112) (packets_each 184 1 0 8) (removal 6139 1472) (Some (Overflow 5769720))
+    (packets_each-rise 184 1 0 8 0 (omega arith) (omega arith)) (omega arith, tt) decided
   where
     decided : Decided 1128 (Video 112) (packets_each 184 1 0 8) (removal 6139 1472) (Some (Overflow 5769720))
     decided = (refl, omega arith, tt)
 
 -- nine packets of sections: the main buffer leaks enough
 system_full : IsFirstOrNone 1080 System (packets_each 184 38 0 9) [] None
-unfolding first_over first_late is_held first_old taken_from spaced departures departures_into parts_of parts arrives_in arrives kept with_headers leave_tb payload_passes data_passes removed eb_rooms moves
+unfolding first_over first_late is_held first_old taken_from spaced departures departures_into parts_of parts arrives_in arrives kept with_headers
+    leave_tb payload_passes data_passes removed eb_rooms moves
 system_full = first_fault-rises 1080 System (packets_each 184 38 0 9) [] None (packets_each-rise 184 38 0 9 0 (omega arith) (omega arith)) tt decided
   where
     decided : Decided 1080 System (packets_each 184 38 0 9) [] None
@@ -177,7 +191,8 @@ system_full = first_fault-rises 1080 System (packets_each 184 38 0 9) [] None (p
 
 -- the tenth is too much for it
 system_over : IsFirstOrNone 1080 System (packets_each 184 38 0 10) [] (Some (Overflow 351868320))
-unfolding first_over first_late is_held first_old taken_from spaced departures departures_into parts_of parts arrives_in arrives kept with_headers leave_tb payload_passes data_passes removed eb_rooms moves
+unfolding first_over first_late is_held first_old taken_from spaced departures departures_into parts_of parts arrives_in arrives kept with_headers
+    leave_tb payload_passes data_passes removed eb_rooms moves
 system_over = first_fault-rises 1080 System (packets_each 184 38 0 10) [] (Some (Overflow 351868320)) (packets_each-rise 184 38 0 10 0 (omega arith) (omega arith)) tt decided
   where
     decided : Decided 1080 System (packets_each 184 38 0 10) [] (Some (Overflow 351868320))
@@ -185,25 +200,31 @@ system_over = first_fault-rises 1080 System (packets_each 184 38 0 10) [] (Some 
 
 -- audio's main buffer with all its 3,584 bytes
 audio_full : IsFirstOrNone 1080 Audio (packets_each 184 19 0 19 ++ packet 361 0 88) (removal 500000 3584) None
-unfolding first_over first_late is_held first_old taken_from spaced departures departures_into parts_of parts arrives_in arrives kept with_headers leave_tb payload_passes data_passes removed eb_rooms moves
-audio_full = first_fault-rises 1080 Audio (packets_each 184 19 0 19 ++ packet 361 0 88) (removal 500000 3584) None (then-rise 184 19 0 19 0 361 0 88 (omega arith) (omega arith) (omega arith)) (omega arith, tt) decided
+unfolding first_over first_late is_held first_old taken_from spaced departures departures_into parts_of parts arrives_in arrives kept with_headers
+    leave_tb payload_passes data_passes removed eb_rooms moves
+audio_full = first_fault-rises 1080 Audio (packets_each 184 19 0 19 ++ packet 361 0 88) (removal 500000 3584) None
+    (then-rise 184 19 0 19 0 361 0 88 (omega arith) (omega arith) (omega arith)) (omega arith, tt) decided
   where
     decided : Decided 1080 Audio (packets_each 184 19 0 19 ++ packet 361 0 88) (removal 500000 3584) None
     decided = (refl, refl, refl)
 
 -- one byte more
 audio_over : IsFirstOrNone 1080 Audio (packets_each 184 19 0 19 ++ packet 361 0 89) (removal 500000 3585) (Some (Overflow 385572960))
-unfolding first_over first_late is_held first_old taken_from spaced departures departures_into parts_of parts arrives_in arrives kept with_headers leave_tb payload_passes data_passes removed eb_rooms moves
-audio_over = first_fault-rises 1080 Audio (packets_each 184 19 0 19 ++ packet 361 0 89) (removal 500000 3585) (Some (Overflow 385572960)) (then-rise 184 19 0 19 0 361 0 89 (omega arith) (omega arith) (omega arith)) (omega arith, tt) decided
+unfolding first_over first_late is_held first_old taken_from spaced departures departures_into parts_of parts arrives_in arrives kept with_headers
+    leave_tb payload_passes data_passes removed eb_rooms moves
+audio_over = first_fault-rises 1080 Audio (packets_each 184 19 0 19 ++ packet 361 0 89) (removal 500000 3585) (Some (Overflow 385572960))
+    (then-rise 184 19 0 19 0 361 0 89 (omega arith) (omega arith) (omega arith)) (omega arith, tt) decided
   where
     decided : Decided 1080 Audio (packets_each 184 19 0 19 ++ packet 361 0 89) (removal 500000 3585) (Some (Overflow 385572960))
     decided = (refl, tt, tt)
 
 -- where nothing is removed, EB of 2,048 bytes fills, and the other 160 bytes wait in MB
 eb_fills : bytes_in (elementary_buffer 2000 1 (packets_each 184 1 0 12) []) 100000000 ≡ 2048
-unfolding first_over first_late is_held first_old taken_from spaced departures departures_into parts_of parts arrives_in arrives kept with_headers leave_tb payload_passes data_passes removed eb_rooms moves
+unfolding first_over first_late is_held first_old taken_from spaced departures departures_into parts_of parts arrives_in arrives kept with_headers
+    leave_tb payload_passes data_passes removed eb_rooms moves
 eb_fills = refl
 
 mb_waits : bytes_in (multiplexing_buffer 2000 1 (packets_each 184 1 0 12) []) 100000000 ≡ 160
-unfolding first_over first_late is_held first_old taken_from spaced departures departures_into parts_of parts arrives_in arrives kept with_headers leave_tb payload_passes data_passes removed eb_rooms moves
+unfolding first_over first_late is_held first_old taken_from spaced departures departures_into parts_of parts arrives_in arrives kept with_headers
+    leave_tb payload_passes data_passes removed eb_rooms moves
 mb_waits = refl

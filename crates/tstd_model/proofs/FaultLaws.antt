@@ -7,7 +7,26 @@ use Rattle.stream_constants.specs.declared.clock.TheConstants.{SUBTICKS_PER_TICK
 use Rattle.stream_constants.specs.declared.decoder.TheConstants.{MB_SUBTICKS, SYSTEM_SUBTICKS, TB_BYTES}
 use Rattle.tstd_model.specs.Instants.{came, departures, departures_into}
 use Rattle.tstd_model.specs.PacketBytes.{Arrival, is_payload, parts, arrives, kept}
-use Rattle.tstd_model.specs.Decoder.{BufferKind, Video, Audio, System, Removal, DecoderBuffer, IsOverfull, tb_subticks, leave_tb, payload_passes, data_passes, removed, eb_bytes, eb_rooms, moves, transport_buffer, is_removed, completes}
+use Rattle.tstd_model.specs.Decoder.{
+  BufferKind,
+  Video,
+  Audio,
+  System,
+  Removal,
+  DecoderBuffer,
+  IsOverfull,
+  tb_subticks,
+  leave_tb,
+  payload_passes,
+  data_passes,
+  removed,
+  eb_bytes,
+  eb_rooms,
+  moves,
+  transport_buffer,
+  is_removed,
+  completes,
+}
 use Rattle.tstd_model.specs.Faults.{TstdFault, Overflow, Late, Old, Overflows, FindsLess, HeldPastLimit, hold_subticks, IsFault, instant_of, FaultGoesBefore, IsFirstFault, IsFirstOrNone}
 use Rattle.tstd_model.specs.Private.Scans.{RemovedByte}
 use Rattle.tstd_model.specs.Private.Server.{Spaced}
@@ -133,7 +152,8 @@ overflow_tb slot (Video vbv) arrivals removals x over = record { place = 0; buff
 overflow_tb slot Audio arrivals removals x over = record { place = 0; buffer = transport_buffer slot Audio arrivals; one_of = refl; over = over }
 overflow_tb slot System arrivals removals x over = record { place = 0; buffer = transport_buffer slot System arrivals; one_of = refl; over = over }
 
-overflow_main : (slot : ℕ) (kind : BufferKind) (arrivals : List Arrival) (removals : List Removal) (x : ℕ) → IsOverfull (main_buffer slot kind arrivals removals) x → Overflows slot kind arrivals removals x
+overflow_main : (slot : ℕ) (kind : BufferKind) (arrivals : List Arrival) (removals : List Removal) (x : ℕ)
+    → IsOverfull (main_buffer slot kind arrivals removals) x → Overflows slot kind arrivals removals x
 overflow_main slot (Video vbv) arrivals removals x over = record { place = 1; buffer = main_buffer slot (Video vbv) arrivals removals; one_of = refl; over = over }
 overflow_main slot Audio arrivals removals x over = record { place = 1; buffer = main_buffer slot Audio arrivals removals; one_of = refl; over = over }
 overflow_main slot System arrivals removals x over = record { place = 1; buffer = main_buffer slot System arrivals removals; one_of = refl; over = over }

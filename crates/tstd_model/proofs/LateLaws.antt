@@ -1,5 +1,38 @@
 -- Which removal finds less than it takes, found by walking over the instants at which bytes complete and are taken.
-use Rattle.std.proofs.Common.{◌≡◌, ℕ, zero, suc, ◌+◌, ◌*◌, ◌<◌, ◌≤◌, ltb, leb, cond, List, [], ◌∷◌, ◌++◌, take, replicate, map, refl, ◌∙◌, ap, arith, inl, inr, Option, Some, None, slice_get, sum_by, count_by, subst, add-one}
+use Rattle.std.proofs.Common.{
+  ◌≡◌,
+  ℕ,
+  zero,
+  suc,
+  ◌+◌,
+  ◌*◌,
+  ◌<◌,
+  ◌≤◌,
+  ltb,
+  leb,
+  cond,
+  List,
+  [],
+  ◌∷◌,
+  ◌++◌,
+  take,
+  replicate,
+  map,
+  refl,
+  ◌∙◌,
+  ap,
+  arith,
+  inl,
+  inr,
+  Option,
+  Some,
+  None,
+  slice_get,
+  sum_by,
+  count_by,
+  subst,
+  add-one,
+}
 use Rattle.std.proofs.lemmas.Bool.{cases_lt, le-leb, lt-leb, lt-ltb, le-ltb, cond-true, cond-false}
 use Rattle.std.proofs.lemmas.Option.{same_Some}
 use Rattle.std.proofs.lemmas.List.Sums.{sum_by-cons, sum_by-append}

@@ -6,7 +6,18 @@
 use Rattle.std.specs.Prelude.{ℕ, ◌-◌, ◌*◌, ◌<◌, ◌≤◌, List, [], ◌∷◌, ◌++◌, replicate, Bool, false}
 use Rattle.std.specs.List.{flat_map}
 use Rattle.stream_constants.specs.declared.clock.TheConstants.{SUBTICKS_PER_TICK}
-use Rattle.stream_constants.specs.declared.decoder.TheConstants.{TB_BYTES, VIDEO_TB_SUBTICKS, AUDIO_TB_SUBTICKS, SYSTEM_TB_SUBTICKS, MB_SUBTICKS, EB_UNIT_BYTES, VIDEO_BYTES, AUDIO_BYTES, SYSTEM_BYTES, SYSTEM_SUBTICKS}
+use Rattle.stream_constants.specs.declared.decoder.TheConstants.{
+  TB_BYTES,
+  VIDEO_TB_SUBTICKS,
+  AUDIO_TB_SUBTICKS,
+  SYSTEM_TB_SUBTICKS,
+  MB_SUBTICKS,
+  EB_UNIT_BYTES,
+  VIDEO_BYTES,
+  AUDIO_BYTES,
+  SYSTEM_BYTES,
+  SYSTEM_SUBTICKS,
+}
 use Rattle.stream_constants.specs.declared.main_level.TheConstants.{VBV_MOST}
 pub use Rattle.tstd_model.specs.declared.decoder_input.BufferKind.{BufferKind}
 pub use Rattle.tstd_model.specs.declared.decoder_input.BufferKind.TheVariants.{Video, Audio, System}

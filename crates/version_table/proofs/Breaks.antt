@@ -37,7 +37,8 @@ pub one_break : (lines : List Line) (a b : Limit) → BreakFirst lines a → Bre
 one_break lines a b f g =
     elim (places f.before f.line f.after g.before g.line g.after (sym f.parts ∙ g.parts)) [
       | inl same ↦
-          let moved : first_limit g.before g.line ≡ Some a = subst (λ (l : Line). first_limit g.before l ≡ Some a) same.line (subst (λ (ls : List Line). first_limit ls f.line ≡ Some a) same.before f.broken) in
+          let moved : first_limit g.before g.line ≡ Some a = subst (λ (l : Line). first_limit g.before l ≡ Some a) same.line
+          (subst (λ (ls : List Line). first_limit ls f.line ≡ Some a) same.before f.broken) in
           let other = g.broken in
           cc
       | inr (inl first) ↦
@@ -75,8 +76,11 @@ break_here lines line a kept broken = record { before = lines; line = line; afte
 pub kept_or_broken : (before lines : List Line) → KeepLimits before → KeepLimits (before ++ lines) ⊎ ((a : Limit) × BreakFirst (before ++ lines) a)
 kept_or_broken before [] kept = inl (subst KeepLimits (sym (append-nil before)) kept)
 kept_or_broken before (line ∷ lines) kept =
-    by (first_limit before line) refl (λ here. subst (λ (ls : List Line). KeepLimits ls ⊎ ((a : Limit) × BreakFirst ls a)) (append_assoc before (line ∷ []) lines) (kept_or_broken (before ++ line ∷ []) lines (kept_push before line kept here)))
+    by (first_limit before line) refl (λ here. subst (λ (ls : List Line). KeepLimits ls ⊎ ((a : Limit) × BreakFirst ls a))
+    (append_assoc before (line ∷ []) lines) (kept_or_broken (before ++ line ∷ []) lines (kept_push before line kept here)))
   where
-    by : (o : Option Limit) → first_limit before line ≡ o → (first_limit before line ≡ None → KeepLimits (before ++ line ∷ lines) ⊎ ((a : Limit) × BreakFirst (before ++ line ∷ lines) a)) → KeepLimits (before ++ line ∷ lines) ⊎ ((a : Limit) × BreakFirst (before ++ line ∷ lines) a)
+    by : (o : Option Limit) → first_limit before line ≡ o → (first_limit before line ≡ None → KeepLimits (before ++ line ∷ lines)
+        ⊎ ((a : Limit) × BreakFirst (before ++ line ∷ lines) a)) → KeepLimits (before ++ line ∷ lines)
+        ⊎ ((a : Limit) × BreakFirst (before ++ line ∷ lines) a)
     by (Some a) broken go = inr (a, record { before = before; line = line; after = lines; parts = refl; kept = kept; broken = broken })
     by None here go = go here

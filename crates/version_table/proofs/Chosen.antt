@@ -128,7 +128,8 @@ AppendsEach-more R units i unit k old new newer lt is so_far here appended = (
 )
 
 -- numbers for one more program
-pub AllZip-more : (R : CodedUnit → ℕ → Type 0) (programs : List ProgramRow) (i : ℕ) (program : ProgramRow) (units : List CodedUnit) (old new : List ℕ) → i < length programs → program ≡ get_or programs i program
+pub AllZip-more : (R : CodedUnit → ℕ → Type 0) (programs : List ProgramRow) (i : ℕ) (program : ProgramRow) (units : List CodedUnit) (old new : List ℕ)
+    → i < length programs → program ≡ get_or programs i program
     → units ≡ program.units → AllZip R (flat_map (λ p. p.units) (take i programs)) old → AppendsEach R units old new → AllZip R (flat_map (λ p. p.units) (take (i + 1) programs)) new
 AllZip-more R programs i program units old new lt is units-is so_far added =
     let front = flat_map (λ (p : ProgramRow). p.units) (take i programs) in

@@ -75,12 +75,24 @@ count_push p lines line = sum_by_push (λ (l : Line). cond (p l) 1 0) lines line
 pub programs_in_audios : (audios : List (List AudioPacket)) → count_by is_program (flat_map lines_of_audio audios) ≡ 0
 programs_in_audios [] = refl
 programs_in_audios (packets ∷ audios) =
-    omega (arith, count-append is_program (lines_of_audio packets) (flat_map lines_of_audio audios), count-cons is_program Audio (map line_of_packet packets), count_none is_program line_of_packet (λ _. refl) packets, programs_in_audios audios)
+    omega (
+      arith,
+      count-append is_program (lines_of_audio packets) (flat_map lines_of_audio audios),
+      count-cons is_program Audio (map line_of_packet packets),
+      count_none is_program line_of_packet (λ _. refl) packets,
+      programs_in_audios audios,
+    )
 
 pub audios_in_audios : (audios : List (List AudioPacket)) → count_by is_audio (flat_map lines_of_audio audios) ≡ length audios
 audios_in_audios [] = refl
 audios_in_audios (packets ∷ audios) =
-    omega (arith, count-append is_audio (lines_of_audio packets) (flat_map lines_of_audio audios), count-cons is_audio Audio (map line_of_packet packets), count_none is_audio line_of_packet (λ _. refl) packets, audios_in_audios audios)
+    omega (
+      arith,
+      count-append is_audio (lines_of_audio packets) (flat_map lines_of_audio audios),
+      count-cons is_audio Audio (map line_of_packet packets),
+      count_none is_audio line_of_packet (λ _. refl) packets,
+      audios_in_audios audios,
+    )
 
 -- a program has one line of its own kind
 pub programs_in_program : (program : ProgramRow) → count_by is_program (lines_of_program program) ≡ 1

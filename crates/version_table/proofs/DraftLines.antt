@@ -14,7 +14,19 @@ use Rattle.version_table.specs.Lines.{line_of_unit, line_of_packet, lines_of_aud
 use Rattle.version_table.specs.Order.{last_line}
 use Rattle.version_table.specs.Limits.{is_program, is_audio, audios_here, slot_of, rises}
 use Rattle.version_table.specs.Private.Draft.{Allows, head_of, open_program, lines_of_draft, IsTidy, IsDraft}
-use Rattle.version_table.proofs.Counts.{last_line-append, last_line_push, last_parts, last_none, count-append, count-cons, count_none, programs_in_audios, programs_in_programs, audios_in_audios, audios_here_program}
+use Rattle.version_table.proofs.Counts.{
+  last_line-append,
+  last_line_push,
+  last_parts,
+  last_none,
+  count-append,
+  count-cons,
+  count_none,
+  programs_in_audios,
+  programs_in_programs,
+  audios_in_audios,
+  audios_here_program,
+}
 
 pub slot_of_units : (draft : Draft) → slot_of (lines_of_draft stages.Units draft) ≡ draft.slot
 unfolding lines_of_draft
@@ -53,7 +65,8 @@ last_packet_line : (draft : Draft) → last_line (lines_of_draft stages.Packets 
 unfolding lines_of_draft
 last_packet_line draft = last_line-append (head_of draft ++ flat_map lines_of_program draft.programs ++ open_program draft) Audio (map line_of_packet draft.packets)
 
-pub last_packet_some : (draft : Draft) (packet : AudioPacket) → slice_get draft.packets (length draft.packets - 1) ≡ Some packet → last_line (lines_of_draft stages.Packets draft) ≡ Some (line_of_packet packet)
+pub last_packet_some : (draft : Draft) (packet : AudioPacket) → slice_get draft.packets (length draft.packets - 1) ≡ Some packet
+    → last_line (lines_of_draft stages.Packets draft) ≡ Some (line_of_packet packet)
 last_packet_some draft packet last = last_packet_line draft ∙ last_of_map line_of_packet Audio draft.packets packet last
 
 pub last_packet_none : (draft : Draft) → slice_get draft.packets (length draft.packets - 1) ≡ None → last_line (lines_of_draft stages.Packets draft) ≡ Some Audio
@@ -93,7 +106,14 @@ program_count_open stages.Units draft allows open_now =
     omega (arith, count-append is_program front (open_program draft), programs_in_head draft, programs_in_open draft)
 program_count_open stages.Packets draft allows open_now =
     let front = head_of draft ++ flat_map lines_of_program draft.programs in
-    omega (arith, count-append is_program (front ++ open_program draft) (lines_of_audio draft.packets), count-append is_program front (open_program draft), programs_in_head draft, programs_in_open draft, programs_in_stream draft)
+    omega (
+      arith,
+      count-append is_program (front ++ open_program draft) (lines_of_audio draft.packets),
+      count-append is_program front (open_program draft),
+      programs_in_head draft,
+      programs_in_open draft,
+      programs_in_stream draft,
+    )
 
 audios_in_units : (draft : Draft) → audios_here (lines_of_draft stages.Units draft) ≡ length draft.audios
 unfolding lines_of_draft
@@ -104,7 +124,12 @@ audios_in_units draft =
     let units = count_none is_program line_of_unit (λ _. refl) draft.units in
     let no_programs : count_by is_program behind ≡ 0 = omega (arith, programs_in_audios draft.audios) in
     audios_here_program front draft.vbv behind no_programs
-    ∙ omega (arith, count-append is_audio (map line_of_unit draft.units) (flat_map lines_of_audio draft.audios), count_none is_audio line_of_unit (λ _. refl) draft.units, audios_in_audios draft.audios)
+    ∙ omega (
+      arith,
+      count-append is_audio (map line_of_unit draft.units) (flat_map lines_of_audio draft.audios),
+      count_none is_audio line_of_unit (λ _. refl) draft.units,
+      audios_in_audios draft.audios,
+    )
 
 pub audio_count_packets : (draft : Draft) → audios_here (lines_of_draft stages.Packets draft) ≡ length draft.audios + 1
 unfolding lines_of_draft
@@ -115,9 +140,24 @@ audio_count_packets draft =
     let stream = lines_of_audio draft.packets in
     let behind = units ++ audios ++ stream in
     let no_programs : count_by is_program behind ≡ 0 =
-    omega (arith, count-append is_program (units ++ audios) stream, count-append is_program units audios, count_none is_program line_of_unit (λ _. refl) draft.units, programs_in_audios draft.audios, programs_in_stream draft) in
+    omega (
+      arith,
+      count-append is_program (units ++ audios) stream,
+      count-append is_program units audios,
+      count_none is_program line_of_unit (λ _. refl) draft.units,
+      programs_in_audios draft.audios,
+      programs_in_stream draft,
+    ) in
     ap audios_here (append_assoc front (open_program draft) stream) ∙ audios_here_program front draft.vbv behind no_programs
-    ∙ omega (arith, count-append is_audio (units ++ audios) stream, count-append is_audio units audios, count_none is_audio line_of_unit (λ _. refl) draft.units, audios_in_audios draft.audios, count-cons is_audio Audio (map line_of_packet draft.packets), count_none is_audio line_of_packet (λ _. refl) draft.packets)
+    ∙ omega (
+      arith,
+      count-append is_audio (units ++ audios) stream,
+      count-append is_audio units audios,
+      count_none is_audio line_of_unit (λ _. refl) draft.units,
+      audios_in_audios draft.audios,
+      count-cons is_audio Audio (map line_of_packet draft.packets),
+      count_none is_audio line_of_packet (λ _. refl) draft.packets,
+    )
 
 pub no_audios : (draft : Draft) → IsDraft stages.Units draft → draft.audios ≡ []
 unfolding IsTidy

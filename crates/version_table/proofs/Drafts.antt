@@ -16,7 +16,21 @@ use Rattle.version_table.specs.declared.table.AudioPacket.{AudioPacket}
 use Rattle.version_table.specs.declared.table.ProgramRow.{ProgramRow}
 use Rattle.version_table.specs.Lines.{stated, line_of_unit, line_of_packet, lines_of_audio, lines_of_program, lines_of_table}
 use Rattle.version_table.specs.Limits.{is_unit, is_packet}
-use Rattle.version_table.specs.Private.Draft.{Allows, stage_after, head_of, open_program, lines_of_draft, IsTidy, IsDraft, AddsLine, with_audio_closed, with_program_closed, kept, with_unit, with_packet}
+use Rattle.version_table.specs.Private.Draft.{
+  Allows,
+  stage_after,
+  head_of,
+  open_program,
+  lines_of_draft,
+  IsTidy,
+  IsDraft,
+  AddsLine,
+  with_audio_closed,
+  with_program_closed,
+  kept,
+  with_unit,
+  with_packet,
+}
 
 -- the counts of a line more
 adds_line : (stage : Stage) (old : Draft) (line : Line) (new : Draft) → IsDraft stage old → IsTidy (stage_after line) new
@@ -25,8 +39,10 @@ adds_line : (stage : Stage) (old : Draft) (line : Line) (new : Draft) → IsDraf
 adds_line stage old line new was tidy lines units packets = record {
   draft = record {
     tidy = tidy;
-    unit_count = units ∙ ap (λ (n : ℕ). n + cond (is_unit line) 1 0) was.unit_count ∙ sym (ap (count_by is_unit) lines ∙ sum_by_push (λ (l : Line). cond (is_unit l) 1 0) (lines_of_draft stage old) line);
-    packet_count = packets ∙ ap (λ (n : ℕ). n + cond (is_packet line) 1 0) was.packet_count ∙ sym (ap (count_by is_packet) lines ∙ sum_by_push (λ (l : Line). cond (is_packet l) 1 0) (lines_of_draft stage old) line);
+    unit_count = units ∙ ap (λ (n : ℕ). n + cond (is_unit line) 1 0) was.unit_count
+        ∙ sym (ap (count_by is_unit) lines ∙ sum_by_push (λ (l : Line). cond (is_unit l) 1 0) (lines_of_draft stage old) line);
+    packet_count = packets ∙ ap (λ (n : ℕ). n + cond (is_packet line) 1 0) was.packet_count
+        ∙ sym (ap (count_by is_packet) lines ∙ sum_by_push (λ (l : Line). cond (is_packet l) 1 0) (lines_of_draft stage old) line);
   };
   lines = lines;
 }
@@ -67,7 +83,8 @@ one_audio_more audios packets =
     flat_map-append lines_of_audio audios (packets ∷ []) ∙ ap (λ (lines : List Line). flat_map lines_of_audio audios ++ lines) (append-nil (lines_of_audio packets))
 
 -- the lines of a draft are those of its whole programs once the open one is closed
-pub program_closed_lines : (draft : Draft) (stage : Stage) → Allows stage (Program 0) → IsTidy stage draft → lines_of_draft stages.Programs (with_program_closed stage draft) ≡ lines_of_draft stage draft
+pub program_closed_lines : (draft : Draft) (stage : Stage) → Allows stage (Program 0) → IsTidy stage draft
+    → lines_of_draft stages.Programs (with_program_closed stage draft) ≡ lines_of_draft stage draft
 unfolding lines_of_draft IsTidy
 program_closed_lines draft stages.Programs allows tidy = refl
 program_closed_lines draft stages.Units allows tidy =
@@ -83,7 +100,8 @@ program_closed_lines draft stages.Packets allows tidy =
 program_closed_lines draft stage allows tidy = absurd allows
 
 -- a program behind the whole ones
-program_lines : (draft : Draft) (vbv : ℕ) → (draft.units ≡ []) → (draft.audios ≡ []) → lines_of_draft stages.Units (record draft { vbv = vbv }) ≡ lines_of_draft stages.Programs draft ++ Program vbv ∷ []
+program_lines : (draft : Draft) (vbv : ℕ) → (draft.units ≡ []) → (draft.audios ≡ [])
+    → lines_of_draft stages.Units (record draft { vbv = vbv }) ≡ lines_of_draft stages.Programs draft ++ Program vbv ∷ []
 unfolding lines_of_draft
 program_lines draft vbv no_units no_audios = rw (no_units, no_audios) refl
 
@@ -95,7 +113,8 @@ adds_program_closed stage draft closed vbv was lines no_units no_audios no_packe
     adds_line stage draft (Program vbv) (record closed { vbv = vbv }) was (no_audios, no_packets)
     (program_lines closed vbv no_units no_audios ∙ ap (λ (ls : List Line). ls ++ Program vbv ∷ []) lines) (omega (arith, units)) (omega (arith, packets))
 
-pub adds_program : (draft : Draft) (stage : Stage) (vbv : ℕ) → Allows stage (Program vbv) → IsDraft stage draft → AddsLine stage draft (Program vbv) (record (with_program_closed stage draft) { vbv = vbv })
+pub adds_program : (draft : Draft) (stage : Stage) (vbv : ℕ) → Allows stage (Program vbv) → IsDraft stage draft
+    → AddsLine stage draft (Program vbv) (record (with_program_closed stage draft) { vbv = vbv })
 unfolding IsTidy
 adds_program draft stages.Programs vbv allows was =
     adds_program_closed stages.Programs draft draft vbv was refl was.tidy.0 was.tidy.1 was.tidy.2 refl refl
@@ -112,19 +131,22 @@ pub stated_kept : (versions : List StatedVersion) → map stated (map kept versi
 stated_kept [] = refl
 stated_kept (version ∷ versions) = ap (λ (rest : List StatedVersion). version ∷ rest) (stated_kept versions)
 
-pub adds_unit : (draft : Draft) (stage : Stage) (due : ℕ) (versions : ArrayVec StatedVersion) → Allows stage (UnitLine due versions) → IsDraft stage draft → AddsLine stage draft (UnitLine due versions) (with_unit draft due versions.items)
+pub adds_unit : (draft : Draft) (stage : Stage) (due : ℕ) (versions : ArrayVec StatedVersion) → Allows stage (UnitLine due versions)
+    → IsDraft stage draft → AddsLine stage draft (UnitLine due versions) (with_unit draft due versions.items)
 unfolding IsTidy lines_of_draft
 adds_unit draft stages.Units due versions allows was =
     let unit : CodedUnit = record { due = due; versions = record { items = map kept versions.items } } in
     let same : line_of_unit unit ≡ UnitLine due versions = ap (λ (items : List StatedVersion). UnitLine due (record { items = items })) (stated_kept versions.items) in
-    let more : map line_of_unit (draft.units ++ unit ∷ []) ≡ map line_of_unit draft.units ++ UnitLine due versions ∷ [] = map_push line_of_unit draft.units unit ∙ ap (λ (l : Line). map line_of_unit draft.units ++ l ∷ []) same in
+    let more : map line_of_unit (draft.units ++ unit ∷ []) ≡ map line_of_unit draft.units
+    ++ UnitLine due versions ∷ [] = map_push line_of_unit draft.units unit ∙ ap (λ (l : Line). map line_of_unit draft.units ++ l ∷ []) same in
     let units = map line_of_unit draft.units in
     let behind = λ (audios : List (List AudioPacket)). flat_map lines_of_audio audios in
     let open_now : open_program (with_unit draft due versions.items) ≡ open_program draft ++ UnitLine due versions ∷ [] =
     ap (λ (audios : List (List AudioPacket)). Program draft.vbv ∷ map line_of_unit (draft.units ++ unit ∷ []) ++ behind audios) was.tidy.0
     ∙ append-nil (Program draft.vbv ∷ map line_of_unit (draft.units ++ unit ∷ []))
     ∙ ap (λ (lines : List Line). Program draft.vbv ∷ lines) more
-    ∙ sym (ap (λ (audios : List (List AudioPacket)). (Program draft.vbv ∷ units ++ behind audios) ++ UnitLine due versions ∷ []) was.tidy.0 ∙ ap (λ (lines : List Line). lines ++ UnitLine due versions ∷ []) (append-nil (Program draft.vbv ∷ units))) in
+    ∙ sym (ap (λ (audios : List (List AudioPacket)). (Program draft.vbv ∷ units ++ behind audios) ++ UnitLine due versions ∷ []) was.tidy.0
+    ∙ ap (λ (lines : List Line). lines ++ UnitLine due versions ∷ []) (append-nil (Program draft.vbv ∷ units))) in
     let front = head_of draft ++ flat_map lines_of_program draft.programs in
     adds_line stages.Units draft (UnitLine due versions) (with_unit draft due versions.items) was was.tidy
     (ap (λ (lines : List Line). front ++ lines) open_now ∙ sym (append_assoc front (open_program draft) (UnitLine due versions ∷ []))) refl (omega arith)
@@ -143,16 +165,20 @@ adds_audio draft stages.Packets allows was =
     let closed : open_program (with_audio_closed stages.Packets draft) ≡ open_program draft ++ lines_of_audio draft.packets =
     ap (λ (lines : List Line). units ++ lines) (one_audio_more draft.audios draft.packets) ∙ sym (append_assoc units (flat_map lines_of_audio draft.audios) (lines_of_audio draft.packets)) in
     adds_line stages.Packets draft Audio (with_audio_closed stages.Packets draft) was tt
-    (ap (λ (lines : List Line). front ++ lines ++ Audio ∷ []) closed ∙ ap (λ (lines : List Line). lines ++ Audio ∷ []) (sym (append_assoc front (open_program draft) (lines_of_audio draft.packets)))) (omega arith) (omega arith)
+    (ap (λ (lines : List Line). front ++ lines ++ Audio ∷ []) closed
+    ∙ ap (λ (lines : List Line). lines ++ Audio ∷ []) (sym (append_assoc front (open_program draft) (lines_of_audio draft.packets))))
+    (omega arith) (omega arith)
 adds_audio draft stage allows was = absurd allows
 
-pub adds_packet : (draft : Draft) (stage : Stage) (due gone bytes : ℕ) → Allows stage (Packet due gone bytes) → IsDraft stage draft → AddsLine stage draft (Packet due gone bytes) (with_packet draft due gone bytes)
+pub adds_packet : (draft : Draft) (stage : Stage) (due gone bytes : ℕ) → Allows stage (Packet due gone bytes) → IsDraft stage draft
+    → AddsLine stage draft (Packet due gone bytes) (with_packet draft due gone bytes)
 unfolding IsTidy lines_of_draft
 adds_packet draft stages.Packets due gone bytes allows was =
     let packet : AudioPacket = record { due = due; gone = gone; bytes = bytes } in
     let front = head_of draft ++ flat_map lines_of_program draft.programs ++ open_program draft in
     adds_line stages.Packets draft (Packet due gone bytes) (with_packet draft due gone bytes) was tt
-    (ap (λ (lines : List Line). front ++ Audio ∷ lines) (map_push line_of_packet draft.packets packet) ∙ sym (append_assoc front (lines_of_audio draft.packets) (Packet due gone bytes ∷ []))) (omega arith) refl
+    (ap (λ (lines : List Line). front ++ Audio ∷ lines) (map_push line_of_packet draft.packets packet)
+    ∙ sym (append_assoc front (lines_of_audio draft.packets) (Packet due gone bytes ∷ []))) (omega arith) refl
 adds_packet draft stage due gone bytes allows was = absurd allows
 
 -- a draft without lines

@@ -108,14 +108,25 @@ read_out : (fuel : ℕ) (text : List ℕ) (before : List Line) (rest : List ℕ)
 read_out zero text before [] few parts opening = record { lines = before; rest = []; parts = parts; opening = opening; stuck = stuck_at_end before }
 read_out zero text before (c ∷ rest) few parts opening = absurd (omega arith)
 read_out (suc fuel) text before rest few parts opening =
-    by (line_at (stage_of before) rest) refl (λ line behind may is. read_out fuel text (before ++ line ∷ []) behind (omega (arith, ap length is, length-append (text_of_line line) behind, line_some line)) (parts ∙ text_push before line rest behind is) (opening_push before line opening may))
+    by (line_at (stage_of before) rest) refl (λ line behind may is. read_out fuel text (before ++ line ∷ []) behind
+    (omega (arith, ap length is, length-append (text_of_line line) behind, line_some line)) (parts ∙ text_push before line rest behind is)
+    (opening_push before line opening may))
   where
     by : (o : Option (Line × List ℕ)) → line_at (stage_of before) rest ≡ o → ((line : Line) (behind : List ℕ) → MayStand before line → rest ≡ text_of_line line ++ behind → ReadOut text) → ReadOut text
     by None none go = record { lines = before; rest = rest; parts = parts; opening = opening; stuck = stuck_from_none before rest none }
     by (Some x) read go = let (may, is) = may_from_read before rest x.1 x.0 read in go x.0 x.1 may is
 
-pub syntax_at : (text : List ℕ) (lines : List Line) (rest : List ℕ) → text ≡ text_of_lines lines ++ rest → IsOpening lines → Stuck lines rest → (IsForm lines → rest ≡ [] → ⊥) → IsSyntaxRefusal text (length lines + 1)
-syntax_at text lines rest parts opening stuck owed = record { before = lines; rest = rest; parts = parts; opening = opening; number = refl; no_line = λ line more may e. stuck line more may e; owed = owed }
+pub syntax_at : (text : List ℕ) (lines : List Line) (rest : List ℕ) → text ≡ text_of_lines lines ++ rest → IsOpening lines → Stuck lines rest
+    → (IsForm lines → rest ≡ [] → ⊥) → IsSyntaxRefusal text (length lines + 1)
+syntax_at text lines rest parts opening stuck owed = record {
+  before = lines;
+  rest = rest;
+  parts = parts;
+  opening = opening;
+  number = refl;
+  no_line = λ line more may e. stuck line more may e;
+  owed = owed;
+}
 
 -- lines that have the form of a text are those of a table, or break a limit
 form_reading : (text : List ℕ) (lines : List Line) → length text ≤ TABLE_TEXT_MOST → text ≡ text_of_lines lines → IsForm lines → (reading : TextReading) × IsRead text reading
@@ -128,7 +139,8 @@ form_reading text lines short parts form =
       | inr broken ↦ (RefusedFor broken.0, inr (short, record { lines = lines; spelled = parts; form = form; first = broken.1 }))
     ]
 
-out_reading : (text : List ℕ) → length text ≤ TABLE_TEXT_MOST → (lines : List Line) (rest : List ℕ) → text ≡ text_of_lines lines ++ rest → IsOpening lines → Stuck lines rest → (reading : TextReading) × IsRead text reading
+out_reading : (text : List ℕ) → length text ≤ TABLE_TEXT_MOST → (lines : List Line) (rest : List ℕ) → text ≡ text_of_lines lines ++ rest
+    → IsOpening lines → Stuck lines rest → (reading : TextReading) × IsRead text reading
 out_reading text short lines (c ∷ rest) parts opening stuck = (RefusedAt (length lines + 1), (short, syntax_at text lines (c ∷ rest) parts opening stuck (λ form none. absurd cc)))
 out_reading text short lines [] parts opening stuck =
     elim (cases_lt (length lines) 4) [

@@ -34,7 +34,8 @@ unfolding tests_of
 least_slot = refl
 
 -- a ninth program is one too many, whatever its buffer is
-ninth_program : first_limit (Title ∷ Slot 4000 ∷ Nodes 1 ∷ Evaluations 0 ∷ Program 1 ∷ Program 1 ∷ Program 1 ∷ Program 1 ∷ Program 1 ∷ Program 1 ∷ Program 1 ∷ Program 1 ∷ []) (Program 0) ≡ Some limits.Programs
+ninth_program : first_limit (Title ∷ Slot 4000 ∷ Nodes 1 ∷ Evaluations 0 ∷ Program 1 ∷ Program 1 ∷ Program 1 ∷ Program 1 ∷ Program 1 ∷ Program 1
+    ∷ Program 1 ∷ Program 1 ∷ []) (Program 0) ≡ Some limits.Programs
 unfolding tests_of
 ninth_program = refl
 
@@ -44,6 +45,8 @@ unfolding tests_of
 early_packet = refl
 
 -- equal due times of units
-equal_dues : first_limit (Title ∷ Slot 4000 ∷ Nodes 1 ∷ Evaluations 0 ∷ Program 112 ∷ UnitLine 10 (record { items = record { bytes = 1; distortion = 0 } ∷ [] }) ∷ []) (UnitLine 10 (record { items = record { bytes = 1; distortion = 0 } ∷ [] })) ≡ Some limits.Due
+equal_dues : first_limit (Title ∷ Slot 4000 ∷ Nodes 1 ∷ Evaluations 0 ∷ Program 112
+    ∷ UnitLine 10 (record { items = record { bytes = 1; distortion = 0 } ∷ [] }) ∷ [])
+    (UnitLine 10 (record { items = record { bytes = 1; distortion = 0 } ∷ [] })) ≡ Some limits.Due
 unfolding tests_of
 equal_dues = refl

@@ -3,7 +3,18 @@ use Rattle.std.proofs.Common.{◌≡◌, ℕ, ◌<◌, ◌≤◌, Bool, true, fa
 use Rattle.std.specs.List.{flat_map}
 use Rattle.std.proofs.lemmas.Bool.{and_parts, and_from, leb-true, le-leb, ltb-true, lt-ltb}
 use Rattle.std.proofs.lemmas.List.Elements.{All-nil, All-cons, All-head, All-tail}
-use Rattle.version_table.specs.declared.limits.TheConstants.{SLOT_LEAST, SLOT_MOST, NODES_MOST, EVALUATIONS_MOST, PROGRAMS_MOST, AUDIOS_MOST, UNITS_MOST, VERSION_BYTES_MOST, DISTORTION_LIMIT, TEXT_AUDIO_PACKETS_MOST}
+use Rattle.version_table.specs.declared.limits.TheConstants.{
+  SLOT_LEAST,
+  SLOT_MOST,
+  NODES_MOST,
+  EVALUATIONS_MOST,
+  PROGRAMS_MOST,
+  AUDIOS_MOST,
+  UNITS_MOST,
+  VERSION_BYTES_MOST,
+  DISTORTION_LIMIT,
+  TEXT_AUDIO_PACKETS_MOST,
+}
 use Rattle.stream_constants.specs.declared.packets.TheConstants.{PAYLOAD_BYTES}
 use Rattle.stream_constants.specs.declared.main_level.TheConstants.{VBV_MOST}
 use Rattle.version_table.specs.declared.fault.Limit.{Limit}
@@ -12,7 +23,23 @@ use Rattle.version_table.specs.declared.line.Line.{Line}
 use Rattle.version_table.specs.declared.line.Line.TheVariants.{Title, Slot, Nodes, Evaluations, Program, Unit as UnitLine, Audio, Packet}
 use Rattle.version_table.specs.declared.line.StatedVersion.{StatedVersion}
 use Rattle.version_table.specs.Order.{last_line}
-use Rattle.version_table.specs.Limits.{Test, test, version_tests, tests_of, first_failing, first_limit, is_program, is_unit, is_packet, is_in_range, audios_here, time_most, rises, packet_due, packet_gone}
+use Rattle.version_table.specs.Limits.{
+  Test,
+  test,
+  version_tests,
+  tests_of,
+  first_failing,
+  first_limit,
+  is_program,
+  is_unit,
+  is_packet,
+  is_in_range,
+  audios_here,
+  time_most,
+  rises,
+  packet_due,
+  packet_gone,
+}
 
 -- a version within the limits
 pub record KeepsVersion (version : StatedVersion) : Type 0 where
@@ -123,7 +150,8 @@ versions_pass : (versions : List StatedVersion) → All KeepsVersion versions �
 versions_pass [] each = refl
 versions_pass (version ∷ versions) each =
     let here = All-head KeepsVersion version versions each in
-    rw (is_within-true 1 VERSION_BYTES_MOST version.bytes here.some here.bytes, lt-ltb version.distortion DISTORTION_LIMIT here.distortion) (versions_pass versions (All-tail KeepsVersion version versions each))
+    rw (is_within-true 1 VERSION_BYTES_MOST version.bytes here.some here.bytes, lt-ltb version.distortion DISTORTION_LIMIT here.distortion)
+    (versions_pass versions (All-tail KeepsVersion version versions each))
 
 pub keeps_to : (before : List Line) (line : Line) → Keeps before line → first_limit before line ≡ None
 unfolding tests_of
@@ -140,6 +168,7 @@ keeps_to before (Packet due gone bytes) h =
     rw (
       lt-ltb (count_by is_packet before) TEXT_AUDIO_PACKETS_MOST h.packets,
       is_within-true (packet_due (last_line before)) (time_most before) due h.dues h.due_most,
-      and_from (is_in_range due (time_most before) gone) (nat_le (packet_gone (last_line before)) gone) (is_within-true due (time_most before) gone h.gone_least h.gone_most) (le-leb (packet_gone (last_line before)) gone h.gones),
+      and_from (is_in_range due (time_most before) gone) (nat_le (packet_gone (last_line before)) gone)
+          (is_within-true due (time_most before) gone h.gone_least h.gone_most) (le-leb (packet_gone (last_line before)) gone h.gones),
       is_within-true 1 PAYLOAD_BYTES bytes h.some h.bytes_most,
     ) refl

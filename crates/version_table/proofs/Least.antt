@@ -33,7 +33,9 @@ least-le (n ∷ numbers) (suc k) lt = fold-min-le n numbers k (omega arith)
 pub least_distortion-le : (unit : CodedUnit) (k : ℕ) → HasVersion unit k → least_distortion unit ≤ (version_at unit k).distortion
 least_distortion-le unit k has =
     let versions = unit.versions.items in
-    let at : get_or (map (λ (version : Version). version.distortion) versions) k 0 ≡ (version_at unit k).distortion = get_or-map (λ (version : Version). version.distortion) versions k (record { bytes = 0; distortion = 0 }) 0 has in
+    let at : get_or (map (λ (version : Version). version.distortion) versions) k 0
+    ≡ (version_at unit k).distortion = get_or-map (λ (version : Version). version.distortion) versions k
+    (record { bytes = 0; distortion = 0 }) 0 has in
     omega (arith, at, least-le (map (λ (version : Version). version.distortion) versions) k (omega (arith, length-map versions (λ (version : Version). version.distortion))))
 
 least-le-chosen : (units : List CodedUnit) (choice : List ℕ) → AllZip HasVersion units choice → sum (map least_distortion units) ≤ sum (chosen_distortions units choice)

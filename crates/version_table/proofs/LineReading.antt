@@ -1,5 +1,50 @@
 -- A line that may stand at a place is read there, and nothing else is.
-use Rattle.std.proofs.Common.{◌≡◌, ℕ, zero, suc, ◌-◌, ◌^◌, ◌<◌, ◌≤◌, ◌&&◌, ◌==◌, ◌⊎◌, nat_lt, false, List, [], ◌∷◌, ◌++◌, length, get_or, take, drop, codes, All, Option, Some, None, decimal, refl, sym, ap, subst, ◌∙◌, append_assoc, arith, inl, inr, lit≤, lt-ltb, le-ltb, eq-eqb, ne_eqb, drop_at, take-append-drop, get_or-take}
+use Rattle.std.proofs.Common.{
+  ◌≡◌,
+  ℕ,
+  zero,
+  suc,
+  ◌-◌,
+  ◌^◌,
+  ◌<◌,
+  ◌≤◌,
+  ◌&&◌,
+  ◌==◌,
+  ◌⊎◌,
+  nat_lt,
+  false,
+  List,
+  [],
+  ◌∷◌,
+  ◌++◌,
+  length,
+  get_or,
+  take,
+  drop,
+  codes,
+  All,
+  Option,
+  Some,
+  None,
+  decimal,
+  refl,
+  sym,
+  ap,
+  subst,
+  ◌∙◌,
+  append_assoc,
+  arith,
+  inl,
+  inr,
+  lit≤,
+  lt-ltb,
+  le-ltb,
+  eq-eqb,
+  ne_eqb,
+  drop_at,
+  take-append-drop,
+  get_or-take,
+}
 use Rattle.std.specs.List.{flat_map}
 use Rattle.std.specs.Option.{option_map_or}
 use Rattle.std.specs.Str.Parse.{digits_value}
@@ -87,7 +132,11 @@ number_line_sound word text rest n e =
     let end_is = after_sound line_end m.1 behind end_read in
     let whole : text ≡ (word ++ decimal m.0 ++ line_end) ++ behind =
     word_is ∙ ap (λ (t : List ℕ). word ++ t) (number.parts ∙ ap (λ (t : List ℕ). decimal m.0 ++ t) end_is) ∙ sym (three_parts word (decimal m.0) line_end behind) in
-    record { stated = subst IsStated n_is number.stated; parts = whole ∙ ap (λ (k : ℕ). (word ++ decimal k ++ line_end) ++ behind) n_is ∙ ap (λ (t : List ℕ). (word ++ decimal n ++ line_end) ++ t) rest_is }
+    record {
+      stated = subst IsStated n_is number.stated;
+      parts = whole ∙ ap (λ (k : ℕ). (word ++ decimal k ++ line_end) ++ behind) n_is
+          ∙ ap (λ (t : List ℕ). (word ++ decimal n ++ line_end) ++ t) rest_is;
+    }
 
 -- ---- versions
 
@@ -177,7 +226,8 @@ versions_sound zero text rest versions e =
       | inr some ↦ absurd cc
     ]
 versions_sound (suc most) text rest versions e =
-    elim (map_or_cases (λ front. version_at front >>= λ version. versions_at most version.1 >>= λ others. Some (version.0 ∷ others.0, others.1)) (after (codes " ") text) (Some ([], text)) (versions, rest) e) [
+    elim (map_or_cases (λ front. version_at front >>= λ version. versions_at most version.1 >>= λ others. Some (version.0 ∷ others.0, others.1))
+    (after (codes " ") text) (Some ([], text)) (versions, rest) e) [
       | inl none ↦
           let (versions_is, rest_is) = same_parts [] versions text rest none.1 in
           subst (λ (vs : List StatedVersion). AreVersionTexts (suc most) text vs rest) versions_is (record { few = omega arith; each = All-nil IsStatedVersion; parts = rest_is })

@@ -76,7 +76,8 @@ behind_versions : (rest : List ℕ) → Ends (line_end ++ rest)
 unfolding after
 behind_versions rest = record { digit = lit≤ tt; space = refl }
 
-unit_again : (due : ℕ) (versions : ArrayVec StatedVersion) (rest : List ℕ) → HasSyntax (UnitLine due versions) → unit_at (text_of_line (UnitLine due versions) ++ rest) ≡ Some (UnitLine due versions, rest)
+unit_again : (due : ℕ) (versions : ArrayVec StatedVersion) (rest : List ℕ) → HasSyntax (UnitLine due versions)
+    → unit_at (text_of_line (UnitLine due versions) ++ rest) ≡ Some (UnitLine due versions, rest)
 unfolding unit_at HasSyntax text_of_line
 unit_again due versions rest syntax =
     let others = flat_map text_of_version versions.items ++ (line_end ++ rest) in
@@ -108,7 +109,8 @@ unit_sound text rest line e =
     let not_none = eqb-false (length versions.0) 0 some in
     let parts : text ≡ text_of_line made ++ behind =
     after_sound (codes "unit ") text front word_read
-    ∙ ap (λ (t : List ℕ). codes "unit " ++ t) (number.parts ∙ ap (λ (t : List ℕ). decimal due.0 ++ t) (texts.parts ∙ ap (λ (t : List ℕ). flat_map text_of_version versions.0 ++ t) (after_sound line_end versions.1 behind end_read)))
+    ∙ ap (λ (t : List ℕ). codes "unit " ++ t) (number.parts ∙ ap (λ (t : List ℕ). decimal due.0 ++ t)
+    (texts.parts ∙ ap (λ (t : List ℕ). flat_map text_of_version versions.0 ++ t) (after_sound line_end versions.1 behind end_read)))
     ∙ sym (four_parts (codes "unit ") (decimal due.0) (flat_map text_of_version versions.0) line_end behind) in
     let whole : IsLineAt stages.Units text made behind = record { allows = tt; syntax = (number.stated, omega arith, texts.few, texts.each); parts = parts } in
     subst (λ (t : List ℕ). IsLineAt stages.Units text line t) rest_is (subst (λ (l : Line). IsLineAt stages.Units text l behind) line_is whole)
@@ -184,12 +186,18 @@ line_again stages.Slot (Slot ticks) rest allows syntax = ap (option_map (λ n. (
 line_again stages.Nodes (Nodes n) rest allows syntax = ap (option_map (λ n. (Nodes n.0, n.1))) (number_line_again (codes "nodes ") n rest syntax)
 line_again stages.Evaluations (Evaluations n) rest allows syntax = ap (option_map (λ n. (Evaluations n.0, n.1))) (number_line_again (codes "evaluations ") n rest syntax)
 line_again stages.Programs (Program vbv) rest allows syntax = program_again vbv rest syntax
-line_again stages.Units (UnitLine due versions) rest allows syntax = ap (λ (o : Option (Line × List ℕ)). option_or o (stream_at (text_of_line (UnitLine due versions) ++ rest))) (unit_again due versions rest syntax)
+line_again stages.Units (UnitLine due versions) rest allows syntax = ap
+    (λ (o : Option (Line × List ℕ)). option_or o (stream_at (text_of_line (UnitLine due versions) ++ rest))) (unit_again due versions rest syntax)
 line_again stages.Units Audio rest allows syntax = ap (λ (o : Option (Line × List ℕ)). option_or o (stream_at (text_of_line Audio ++ rest))) (audio_no_unit rest) ∙ audio_again rest
-line_again stages.Units (Program vbv) rest allows syntax = ap (λ (o : Option (Line × List ℕ)). option_or o (stream_at (text_of_line (Program vbv) ++ rest))) (program_no_unit vbv rest) ∙ program_in_stream vbv rest syntax
-line_again stages.Packets (Packet due gone bytes) rest allows syntax = ap (λ (o : Option (Line × List ℕ)). option_or o (stream_at (text_of_line (Packet due gone bytes) ++ rest))) (packet_again due gone bytes rest syntax)
+line_again stages.Units (Program vbv) rest allows syntax = ap
+    (λ (o : Option (Line × List ℕ)). option_or o (stream_at (text_of_line (Program vbv) ++ rest))) (program_no_unit vbv rest)
+    ∙ program_in_stream vbv rest syntax
+line_again stages.Packets (Packet due gone bytes) rest allows syntax = ap
+    (λ (o : Option (Line × List ℕ)). option_or o (stream_at (text_of_line (Packet due gone bytes) ++ rest))) (packet_again due gone bytes rest syntax)
 line_again stages.Packets Audio rest allows syntax = ap (λ (o : Option (Line × List ℕ)). option_or o (stream_at (text_of_line Audio ++ rest))) (audio_no_packet rest) ∙ audio_again rest
-line_again stages.Packets (Program vbv) rest allows syntax = ap (λ (o : Option (Line × List ℕ)). option_or o (stream_at (text_of_line (Program vbv) ++ rest))) (program_no_packet vbv rest) ∙ program_in_stream vbv rest syntax
+line_again stages.Packets (Program vbv) rest allows syntax = ap
+    (λ (o : Option (Line × List ℕ)). option_or o (stream_at (text_of_line (Program vbv) ++ rest))) (program_no_packet vbv rest)
+    ∙ program_in_stream vbv rest syntax
 line_again stage line rest allows syntax = absurd allows
 
 or_cases : {A : Type 0} (o p : Option A) (y : A) → option_or o p ≡ Some y → (o ≡ Some y) ⊎ (p ≡ Some y)
@@ -209,11 +217,17 @@ record IsWordLine (stage : Stage) (word : List ℕ) (make : ℕ → Line) : Type
   syntax : (n : ℕ) → IsStated n → HasSyntax (make n)
   text : (n : ℕ) → text_of_line (make n) ≡ word ++ decimal n ++ line_end
 
-word_sound : (stage : Stage) (word : List ℕ) (make : ℕ → Line) → IsWordLine stage word make → (text rest : List ℕ) (line : Line) → option_map {U = Line × List ℕ} (λ n. (make n.0, n.1)) (number_line word text) ≡ Some (line, rest) → IsLineAt stage text line rest
+word_sound : (stage : Stage) (word : List ℕ) (make : ℕ → Line) → IsWordLine stage word make → (text rest : List ℕ) (line : Line)
+    → option_map {U = Line × List ℕ} (λ n. (make n.0, n.1)) (number_line word text) ≡ Some (line, rest) → IsLineAt stage text line rest
 word_sound stage word make is text rest line e =
     map_some _ (number_line word text) _ e λ n read same.
     let number = number_line_sound word text n.1 n.0 read in
-    let whole : IsLineAt stage text (make n.0) n.1 = record { allows = is.allows n.0; syntax = is.syntax n.0 number.stated; parts = number.parts ∙ ap (λ (t : List ℕ). t ++ n.1) (sym (is.text n.0)) } in
+    let whole : IsLineAt stage text (make n.0) n.1 = record {
+      allows = is.allows n.0;
+      syntax = is.syntax n.0 number.stated;
+      parts = number.parts
+          ∙ ap (λ (t : List ℕ). t ++ n.1) (sym (is.text n.0));
+    } in
     subst (λ (x : Line × List ℕ). IsLineAt stage text x.0 x.1) same whole
 
 slot_line : IsWordLine stages.Slot (codes "slot ") Slot

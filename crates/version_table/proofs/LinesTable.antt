@@ -44,10 +44,13 @@ one_unit_kept slot more unit good =
       due = keeps.time;
       some_version = omega (arith, good.0.1.1);
       few_versions = omega (arith, good.0.1.2);
-      versions = All-weaker (λ v. KeepsVersion (stated v)) IsValidVersion (λ v h. record { some_bytes = h.some; bytes = h.bytes; distortion = h.distortion }) versions (All-from_map KeepsVersion stated versions keeps.each);
+      versions = All-weaker (λ v. KeepsVersion (stated v)) IsValidVersion
+          (λ v h. record { some_bytes = h.some; bytes = h.bytes; distortion = h.distortion }) versions
+          (All-from_map KeepsVersion stated versions keeps.each);
     }
 
-units_kept : (slot : ℕ) (more : List Line) (units : List CodedUnit) → Walk Good (behind slot more) (map line_of_unit units) → count_by is_unit (behind slot more) ≤ UNITS_MOST → UnitsKept slot (behind slot more) units
+units_kept : (slot : ℕ) (more : List Line) (units : List CodedUnit) → Walk Good (behind slot more) (map line_of_unit units)
+    → count_by is_unit (behind slot more) ≤ UNITS_MOST → UnitsKept slot (behind slot more) units
 units_kept slot more [] walk few = record { each = All-nil (IsValidUnit slot); first = tt; rising = tt; few = omega arith }
 units_kept slot more (unit ∷ units) walk few =
     let before = behind slot more in
@@ -63,7 +66,8 @@ units_kept slot more (unit ∷ units) walk few =
       few = omega (arith, rest.few);
     }
   where
-    risen : (units : List CodedUnit) → RisesTo (last_line (behind slot (more ++ line_of_unit unit ∷ []))) units → Adjacent ◌<◌ (map (λ c. c.due) units) → Adjacent ◌<◌ (unit.due ∷ map (λ c. c.due) units)
+    risen : (units : List CodedUnit) → RisesTo (last_line (behind slot (more ++ line_of_unit unit ∷ []))) units
+        → Adjacent ◌<◌ (map (λ c. c.due) units) → Adjacent ◌<◌ (unit.due ∷ map (λ c. c.due) units)
     risen [] first rising = tt
     risen (other ∷ units) first rising =
         let after : rises (Some (line_of_unit unit)) other.due ≡ true = sym (ap (λ (last : Option Line). rises last other.due) (last_line_push (behind slot more) (line_of_unit unit))) ∙ first in
@@ -78,7 +82,8 @@ record PacketsKept (slot : ℕ) (before : List Line) (packets : List AudioPacket
   gones : Adjacent ◌≤◌ (map (λ packet. packet.gone) packets)
   few : count_by is_packet before + length packets ≤ TEXT_AUDIO_PACKETS_MOST
 
-packets_kept : (slot : ℕ) (more : List Line) (packets : List AudioPacket) → Walk Good (behind slot more) (map line_of_packet packets) → count_by is_packet (behind slot more) ≤ TEXT_AUDIO_PACKETS_MOST → PacketsKept slot (behind slot more) packets
+packets_kept : (slot : ℕ) (more : List Line) (packets : List AudioPacket) → Walk Good (behind slot more) (map line_of_packet packets)
+    → count_by is_packet (behind slot more) ≤ TEXT_AUDIO_PACKETS_MOST → PacketsKept slot (behind slot more) packets
 packets_kept slot more [] walk few = record { each = All-nil (IsValidPacket slot); first = tt; dues = tt; gones = tt; few = omega arith }
 packets_kept slot more (packet ∷ packets) walk few =
     let before = behind slot more in
@@ -95,13 +100,15 @@ packets_kept slot more (packet ∷ packets) walk few =
       few = omega (arith, rest.few);
     }
   where
-    dues_go_on : (packets : List AudioPacket) → ComesTo (last_line (behind slot (more ++ line_of_packet packet ∷ []))) packets → Adjacent ◌≤◌ (map (λ p. p.due) packets) → Adjacent ◌≤◌ (packet.due ∷ map (λ p. p.due) packets)
+    dues_go_on : (packets : List AudioPacket) → ComesTo (last_line (behind slot (more ++ line_of_packet packet ∷ []))) packets
+        → Adjacent ◌≤◌ (map (λ p. p.due) packets) → Adjacent ◌≤◌ (packet.due ∷ map (λ p. p.due) packets)
     dues_go_on [] first dues = tt
     dues_go_on (other ∷ packets) first dues =
         let last = last_line_push (behind slot more) (line_of_packet packet) in
         (omega (arith, ap packet_due last, first.0), dues)
 
-    gones_go_on : (packets : List AudioPacket) → ComesTo (last_line (behind slot (more ++ line_of_packet packet ∷ []))) packets → Adjacent ◌≤◌ (map (λ p. p.gone) packets) → Adjacent ◌≤◌ (packet.gone ∷ map (λ p. p.gone) packets)
+    gones_go_on : (packets : List AudioPacket) → ComesTo (last_line (behind slot (more ++ line_of_packet packet ∷ []))) packets
+        → Adjacent ◌≤◌ (map (λ p. p.gone) packets) → Adjacent ◌≤◌ (packet.gone ∷ map (λ p. p.gone) packets)
     gones_go_on [] first gones = tt
     gones_go_on (other ∷ packets) first gones =
         let last = last_line_push (behind slot more) (line_of_packet packet) in
@@ -157,7 +164,9 @@ program_kept slot more program walk few_units few_packets =
     let none_yet : audios_here (begun ++ units) ≡ 0 = audios_here-append begun units no_program ∙ omega (arith, no_audios, count_none is_audio line_of_unit (λ _. refl) program.units) in
     let unit_count = count_push is_unit before line in
     let packet_count = count_push is_packet before line in
-    let packets_behind : count_by is_packet (begun ++ units) ≡ count_by is_packet before = omega (arith, count-append is_packet begun units, count_none is_packet line_of_unit (λ _. refl) program.units) in
+    let packets_behind : count_by is_packet (begun ++ units)
+    ≡ count_by is_packet before = omega (arith, count-append is_packet begun units, count_none is_packet line_of_unit (λ _. refl) program.units)
+    in
     let unit_facts = units_kept slot (more ++ line ∷ []) program.units front (omega arith) in
     let audio_facts = audios_kept slot (more ++ line ∷ [] ++ units) program.audios others (omega arith) (omega arith) in
     record {
@@ -189,7 +198,8 @@ programs_kept slot more (program ∷ programs) walk few few_units few_packets =
     let (front, others) = walk_parts Good before lines (flat_map lines_of_program programs) walk in
     let here = program_kept slot more program front few_units few_packets in
     let adds = program_adds before program in
-    let rest = programs_kept slot (more ++ lines) programs others (omega (arith, adds.programs, here.few)) (omega (arith, adds.units, here.few_units)) (omega (arith, adds.packets, here.few_packets)) in
+    let rest = programs_kept slot (more ++ lines) programs others (omega (arith, adds.programs, here.few)) (omega (arith, adds.units, here.few_units))
+    (omega (arith, adds.packets, here.few_packets)) in
     record {
       each = All-cons (IsValidProgram slot) program programs here.valid rest.each;
       few = omega (arith, rest.few, adds.programs);

@@ -60,9 +60,13 @@ abbrev pub Walk : (List Line → Line → Type 0) → List Line → List Line �
 Walk R before [] = Unit {0}
 Walk R before (line ∷ lines) = R before line × Walk R (before ++ line ∷ []) lines
 
-pub walk_from : (R : List Line → Line → Type 0) (before lines : List Line) → ((front : List Line) (line : Line) (behind : List Line) → before ++ lines ≡ front ++ line ∷ behind → R front line) → Walk R before lines
+pub walk_from : (R : List Line → Line → Type 0) (before lines : List Line)
+    → ((front : List Line) (line : Line) (behind : List Line) → before ++ lines ≡ front ++ line ∷ behind → R front line) → Walk R before lines
 walk_from R before [] each = tt
-walk_from R before (line ∷ lines) each = (each before line lines refl, walk_from R (before ++ line ∷ []) lines (λ front l behind e. each front l behind (sym (append_assoc before (line ∷ []) lines) ∙ e)))
+walk_from R before (line ∷ lines) each = (
+  each before line lines refl,
+  walk_from R (before ++ line ∷ []) lines (λ front l behind e. each front l behind (sym (append_assoc before (line ∷ []) lines) ∙ e)),
+)
 
 walk_at : (R : List Line → Line → Type 0) (before lines front : List Line) (line : Line) (behind : List Line) → Walk R before lines → lines ≡ front ++ line ∷ behind → R (before ++ front) line
 walk_at R before lines [] line behind walk e =

@@ -65,7 +65,8 @@ few_lines (line ∷ lines) = omega (arith, ap length (flat_map-cons text_of_line
 pub few_read : (text : List ℕ) (reader : Reader) (rest : List ℕ) → ReadTo text reader rest → reader.lines + length rest ≤ length text
 few_read text reader rest at = omega (arith, at.lines, few_lines at.before, ap length at.parts, length-append (text_of_lines at.before) rest)
 
-tested_next : (o : Option Limit) (before : List Line) (line : Line) (old new : Reader) → Tested o old.stage old before → TestsLine o old line new → new.stage ≡ stage_after line → Tested new.limit new.stage new (before ++ line ∷ [])
+tested_next : (o : Option Limit) (before : List Line) (line : Line) (old new : Reader) → Tested o old.stage old before → TestsLine o old line new
+    → new.stage ≡ stage_after line → Tested new.limit new.stage new (before ++ line ∷ [])
 tested_next (Some limit) before line old new broken tests stage = rw tests (break_push before line limit broken)
 tested_next None before line old new whole tests stage = by new.limit refl
   where
@@ -78,7 +79,8 @@ tested_next None before line old new whole tests stage = by new.limit refl
         let adds = tests.1 is in
         rw stage (record { kept = kept_push before line whole.kept (sym found ∙ is); drafted = adds.draft; lines = adds.lines ∙ ap (λ (ls : List Line). ls ++ line ∷ []) whole.lines })
 
-pub read_next : (text : List ℕ) (old new : Reader) (rest behind : List ℕ) (line : Line) → ReadTo text old rest → line_at old.stage rest ≡ Some (line, behind) → TakesLine old line new → ReadTo text new behind
+pub read_next : (text : List ℕ) (old new : Reader) (rest behind : List ℕ) (line : Line) → ReadTo text old rest
+    → line_at old.stage rest ≡ Some (line, behind) → TakesLine old line new → ReadTo text new behind
 read_next text old new rest behind line at read takes =
     let (may, is) = may_from_read at.before rest behind line (ap (λ (s : Stage). line_at s rest) (sym at.stage) ∙ read) in
     record {
@@ -100,7 +102,8 @@ read_drafted text reader rest at = drafted_when reader.limit reader at.before at
 -- ---- the answers
 
 -- no line comes
-pub read_no_line : (text : List ℕ) (reader : Reader) (rest : List ℕ) → length text ≤ TABLE_TEXT_MOST → ReadTo text reader rest → 1 ≤ length rest → line_at reader.stage rest ≡ None → IsRead text (RefusedAt (reader.lines + 1))
+pub read_no_line : (text : List ℕ) (reader : Reader) (rest : List ℕ) → length text ≤ TABLE_TEXT_MOST → ReadTo text reader rest → 1 ≤ length rest
+    → line_at reader.stage rest ≡ None → IsRead text (RefusedAt (reader.lines + 1))
 read_no_line text reader rest short at some none =
     let stuck = stuck_from_none at.before rest (ap (λ (s : Stage). line_at s rest) (sym at.stage) ∙ none) in
     let refusal = syntax_at text at.before rest at.parts at.opening stuck (λ form nil. omega (arith, ap length nil)) in
@@ -111,25 +114,29 @@ pub record Answered (text : List ℕ) (answer : Result Table TableFault) : Type 
   pub table : IfOk answer (λ t. IsRead text (Holds t))
   pub refusal : IfErr answer (IsFaultOf text)
 
-table_answer : (text : List ℕ) (before : List Line) (answer : Result Table TableFault) → length text ≤ TABLE_TEXT_MOST → text ≡ text_of_lines before → IsForm before → KeepLimits before → IsTableOf before answer → Answered text answer
+table_answer : (text : List ℕ) (before : List Line) (answer : Result Table TableFault) → length text ≤ TABLE_TEXT_MOST → text ≡ text_of_lines before
+    → IsForm before → KeepLimits before → IsTableOf before answer → Answered text answer
 table_answer text before (Ok table) short parts form kept is =
     let valid = kept_table table (subst IsForm (sym is) form) (subst KeepLimits (sym is) kept) in
     record { table = (short, valid, parts ∙ ap text_of_lines (sym is)); refusal = tt }
 table_answer text before (Err fault) short parts form kept is = record { table = tt; refusal = subst (IsFaultOf text) (sym is) tt }
 
-limit_answer : (text : List ℕ) (before : List Line) (limit : Limit) (answer : Result Table TableFault) → length text ≤ TABLE_TEXT_MOST → text ≡ text_of_lines before → IsForm before → BreakFirst before limit → IsRefusedFor limit answer → Answered text answer
+limit_answer : (text : List ℕ) (before : List Line) (limit : Limit) (answer : Result Table TableFault) → length text ≤ TABLE_TEXT_MOST
+    → text ≡ text_of_lines before → IsForm before → BreakFirst before limit → IsRefusedFor limit answer → Answered text answer
 limit_answer text before limit (Ok table) short parts form broken refused = absurd refused
 limit_answer text before limit (Err (TableSyntax n)) short parts form broken refused = absurd refused
 limit_answer text before limit (Err OutOfMemory) short parts form broken refused = absurd refused
 limit_answer text before limit (Err (TableLimit name)) short parts form broken refused =
     record { table = tt; refusal = (limit, inr (short, record { lines = before; spelled = parts; form = form; first = broken }), refused) }
 
-whole_answer : (o : Option Limit) (text : List ℕ) (reader : Reader) (before : List Line) (answer : Result Table TableFault) → length text ≤ TABLE_TEXT_MOST → text ≡ text_of_lines before → IsForm before → Tested o reader.stage reader before
+whole_answer : (o : Option Limit) (text : List ℕ) (reader : Reader) (before : List Line) (answer : Result Table TableFault)
+    → length text ≤ TABLE_TEXT_MOST → text ≡ text_of_lines before → IsForm before → Tested o reader.stage reader before
     → MatchOption o (IsTableOf (lines_of_draft reader.stage reader.draft) answer) (λ limit. IsRefusedFor limit answer) → Answered text answer
 whole_answer None text reader before answer short parts form whole is = table_answer text before answer short parts form whole.kept (subst (λ (ls : List Line). IsTableOf ls answer) whole.lines is)
 whole_answer (Some limit) text reader before answer short parts form broken is = limit_answer text before limit answer short parts form broken is
 
-pub read_end : (text : List ℕ) (reader : Reader) (rest : List ℕ) (answer : Result Table TableFault) → length text ≤ TABLE_TEXT_MOST → ReadTo text reader rest → rest ≡ [] → Finishes reader answer → Answered text answer
+pub read_end : (text : List ℕ) (reader : Reader) (rest : List ℕ) (answer : Result Table TableFault) → length text ≤ TABLE_TEXT_MOST
+    → ReadTo text reader rest → rest ≡ [] → Finishes reader answer → Answered text answer
 read_end text reader rest answer short at none finishes = by (is_whole reader.stage) refl
   where
     parts : text ≡ text_of_lines at.before

@@ -39,7 +39,12 @@ version_size version valid =
 versions_size : (versions : List Version) → All IsValidVersion versions → length (flat_map text_of_version (map stated versions)) ≤ 24 * length versions
 versions_size [] valid = omega arith
 versions_size (version ∷ versions) valid =
-    omega (arith, length-append (text_of_version (stated version)) (flat_map text_of_version (map stated versions)), version_size version (All-head IsValidVersion version versions valid), versions_size versions (All-tail IsValidVersion version versions valid))
+    omega (
+      arith,
+      length-append (text_of_version (stated version)) (flat_map text_of_version (map stated versions)),
+      version_size version (All-head IsValidVersion version versions valid),
+      versions_size versions (All-tail IsValidVersion version versions valid),
+    )
 
 unit_size : (slot : ℕ) (unit : CodedUnit) → slot ≤ SLOT_MOST → IsValidUnit slot unit → length (text_of_line (line_of_unit unit)) ≤ 210
 unfolding text_of_line
@@ -89,18 +94,29 @@ size-cons line lines = ap length (flat_map-cons text_of_line line lines) ∙ len
 units_size : (slot : ℕ) (units : List CodedUnit) → slot ≤ SLOT_MOST → All (IsValidUnit slot) units → length (text_of_lines (map line_of_unit units)) ≤ 210 * length units
 units_size slot [] small valid = omega arith
 units_size slot (unit ∷ units) small valid =
-    omega (arith, size-cons (line_of_unit unit) (map line_of_unit units), unit_size slot unit small (All-head (IsValidUnit slot) unit units valid), units_size slot units small (All-tail (IsValidUnit slot) unit units valid))
+    omega (
+      arith,
+      size-cons (line_of_unit unit) (map line_of_unit units),
+      unit_size slot unit small (All-head (IsValidUnit slot) unit units valid),
+      units_size slot units small (All-tail (IsValidUnit slot) unit units valid),
+    )
 
 packets_size : (slot : ℕ) (packets : List AudioPacket) → slot ≤ SLOT_MOST → All (IsValidPacket slot) packets → length (text_of_lines (map line_of_packet packets)) ≤ 37 * length packets
 packets_size slot [] small valid = omega arith
 packets_size slot (packet ∷ packets) small valid =
-    omega (arith, size-cons (line_of_packet packet) (map line_of_packet packets), packet_size slot packet small (All-head (IsValidPacket slot) packet packets valid), packets_size slot packets small (All-tail (IsValidPacket slot) packet packets valid))
+    omega (
+      arith,
+      size-cons (line_of_packet packet) (map line_of_packet packets),
+      packet_size slot packet small (All-head (IsValidPacket slot) packet packets valid),
+      packets_size slot packets small (All-tail (IsValidPacket slot) packet packets valid),
+    )
 
 audio_line_size : length (text_of_line Audio) ≡ 6
 unfolding text_of_line
 audio_line_size = refl
 
-audios_size : (slot : ℕ) (audios : List (List AudioPacket)) → slot ≤ SLOT_MOST → All (IsValidAudio slot) audios → length (text_of_lines (flat_map lines_of_audio audios)) ≤ 6 * length audios + 37 * length (packets_of audios)
+audios_size : (slot : ℕ) (audios : List (List AudioPacket)) → slot ≤ SLOT_MOST → All (IsValidAudio slot) audios
+    → length (text_of_lines (flat_map lines_of_audio audios)) ≤ 6 * length audios + 37 * length (packets_of audios)
 audios_size slot [] small valid = omega arith
 audios_size slot (packets ∷ audios) small valid =
     let here = All-head (IsValidAudio slot) packets audios valid in
@@ -118,7 +134,8 @@ program_line_size : (vbv : ℕ) → vbv < 10 ^ 3 → length (text_of_line (Progr
 unfolding text_of_line
 program_line_size vbv small = word_line_size (codes "program ") vbv 3 (omega arith) small (omega arith)
 
-program_size : (slot : ℕ) (program : ProgramRow) → slot ≤ SLOT_MOST → IsValidProgram slot program → length (text_of_lines (lines_of_program program)) ≤ 60 + 210 * length program.units + 37 * length (packets_of program.audios)
+program_size : (slot : ℕ) (program : ProgramRow) → slot ≤ SLOT_MOST → IsValidProgram slot program
+    → length (text_of_lines (lines_of_program program)) ≤ 60 + 210 * length program.units + 37 * length (packets_of program.audios)
 program_size slot program small valid =
     let units = map line_of_unit program.units in
     omega (

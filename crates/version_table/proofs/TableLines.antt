@@ -60,7 +60,8 @@ unit_syntax slot unit small valid =
 
 unit_versions : (slot : ℕ) (unit : CodedUnit) → IsValidUnit slot unit → All KeepsVersion (map stated unit.versions.items)
 unit_versions slot unit valid =
-    All-map KeepsVersion stated unit.versions.items (All-weaker IsValidVersion (λ v. KeepsVersion (stated v)) (λ v h. record { some = h.some_bytes; bytes = h.bytes; distortion = h.distortion }) unit.versions.items valid.versions)
+    All-map KeepsVersion stated unit.versions.items (All-weaker IsValidVersion (λ v. KeepsVersion (stated v))
+    (λ v h. record { some = h.some_bytes; bytes = h.bytes; distortion = h.distortion }) unit.versions.items valid.versions)
 
 units_good : (slot : ℕ) (more : List Line) (units : List CodedUnit) → slot ≤ SLOT_MOST → stage_of (behind slot more) ≡ stages.Units → All (IsValidUnit slot) units
     → RisesTo (last_line (behind slot more)) units → Adjacent ◌<◌ (map (λ unit. unit.due) units) → count_by is_unit (behind slot more) + length units ≤ UNITS_MOST
@@ -119,7 +120,8 @@ packets_good slot more (packet ∷ packets) small at valid first dues gones few 
           (tail_of ◌≤◌ packet.due (map (λ p. p.due) packets) dues) (tail_of ◌≤◌ packet.gone (map (λ p. p.gone) packets) gones) (omega arith),
     )
   where
-    next : (packets : List AudioPacket) → Adjacent ◌≤◌ (packet.due ∷ map (λ p. p.due) packets) → Adjacent ◌≤◌ (packet.gone ∷ map (λ p. p.gone) packets) → ComesTo (last_line (behind slot (more ++ line_of_packet packet ∷ []))) packets
+    next : (packets : List AudioPacket) → Adjacent ◌≤◌ (packet.due ∷ map (λ p. p.due) packets)
+        → Adjacent ◌≤◌ (packet.gone ∷ map (λ p. p.gone) packets) → ComesTo (last_line (behind slot (more ++ line_of_packet packet ∷ []))) packets
     next [] dues gones = tt
     next (other ∷ packets) dues gones =
         let last = last_line_push (behind slot more) (line_of_packet packet) in
@@ -152,7 +154,8 @@ stream_good slot more packets small allows valid audios few =
     let count = count_push is_packet before Audio in
     let first : ComesTo (last_line (behind slot (more ++ Audio ∷ []))) packets = begins packets in (
       ((allows_follows (last_line before) Audio allows, tt), audios),
-      packets_good slot (more ++ Audio ∷ []) packets small (stage_of_push before Audio) valid.each first (steady_adjacent (map (λ p. p.due) packets) valid.dues) (steady_adjacent (map (λ p. p.gone) packets) valid.gones) (omega arith),
+      packets_good slot (more ++ Audio ∷ []) packets small (stage_of_push before Audio) valid.each first
+          (steady_adjacent (map (λ p. p.due) packets) valid.dues) (steady_adjacent (map (λ p. p.gone) packets) valid.gones) (omega arith),
     )
   where
     begins : (packets : List AudioPacket) → ComesTo (last_line (behind slot (more ++ Audio ∷ []))) packets
@@ -162,7 +165,9 @@ stream_good slot more packets small allows valid audios few =
         (omega (arith, ap packet_due last), omega (arith, ap packet_gone last))
 
 audios_good : (slot : ℕ) (more : List Line) (audios : List (List AudioPacket)) → slot ≤ SLOT_MOST → Allows (stage_of (behind slot more)) Audio → All (IsValidAudio slot) audios
-    → audios_here (behind slot more) + length audios ≤ AUDIOS_MOST → count_by is_packet (behind slot more) + length (packets_of audios) ≤ TEXT_AUDIO_PACKETS_MOST → Walk Good (behind slot more) (flat_map lines_of_audio audios)
+    → audios_here (behind slot more) + length audios ≤ AUDIOS_MOST
+    → count_by is_packet (behind slot more) + length (packets_of audios) ≤ TEXT_AUDIO_PACKETS_MOST
+    → Walk Good (behind slot more) (flat_map lines_of_audio audios)
 audios_good slot more [] small allows valid few few_packets = tt
 audios_good slot more (packets ∷ audios) small allows valid few few_packets =
     let before = behind slot more in
@@ -174,7 +179,8 @@ audios_good slot more (packets ∷ audios) small allows valid few few_packets =
     let more_audios = audios_in_stream before packets in
     walk_append Good before stream (flat_map lines_of_audio audios)
     (stream_good slot more packets small allows here (omega arith) (omega arith))
-    (audios_good slot (more ++ stream) audios small (subst (λ (s : Stage). Allows s Audio) (sym (stage_stream before packets)) tt) (All-tail (IsValidAudio slot) packets audios valid) (omega arith) (omega arith))
+    (audios_good slot (more ++ stream) audios small (subst (λ (s : Stage). Allows s Audio) (sym (stage_stream before packets)) tt)
+    (All-tail (IsValidAudio slot) packets audios valid) (omega arith) (omega arith))
 
 -- ---- programs
 
@@ -186,7 +192,13 @@ packets_in_audios (packets ∷ audios) =
 units_in_audios : (audios : List (List AudioPacket)) → count_by is_unit (flat_map lines_of_audio audios) ≡ 0
 units_in_audios [] = refl
 units_in_audios (packets ∷ audios) =
-    omega (arith, count-append is_unit (lines_of_audio packets) (flat_map lines_of_audio audios), count-cons is_unit Audio (map line_of_packet packets), count_none is_unit line_of_packet (λ _. refl) packets, units_in_audios audios)
+    omega (
+      arith,
+      count-append is_unit (lines_of_audio packets) (flat_map lines_of_audio audios),
+      count-cons is_unit Audio (map line_of_packet packets),
+      count_none is_unit line_of_packet (λ _. refl) packets,
+      units_in_audios audios,
+    )
 
 -- a program may come behind streams
 stage_audios : (before : List Line) (audios : List (List AudioPacket)) → Allows (stage_of before) Audio → Allows (stage_of (before ++ flat_map lines_of_audio audios)) Audio
@@ -213,9 +225,30 @@ program_adds before program =
     let front = Program program.vbv ∷ map line_of_unit program.units in
     let audios = flat_map lines_of_audio program.audios in
     record {
-      units = omega (arith, count-append is_unit before (front ++ audios), count-append is_unit front audios, count-cons is_unit (Program program.vbv) (map line_of_unit program.units), count_each is_unit line_of_unit (λ _. refl) program.units, units_in_audios program.audios);
-      packets = omega (arith, count-append is_packet before (front ++ audios), count-append is_packet front audios, count-cons is_packet (Program program.vbv) (map line_of_unit program.units), count_none is_packet line_of_unit (λ _. refl) program.units, packets_in_audios program.audios);
-      programs = omega (arith, count-append is_program before (front ++ audios), count-append is_program front audios, count-cons is_program (Program program.vbv) (map line_of_unit program.units), count_none is_program line_of_unit (λ _. refl) program.units, programs_in_audios program.audios);
+      units = omega (
+        arith,
+        count-append is_unit before (front ++ audios),
+        count-append is_unit front audios,
+        count-cons is_unit (Program program.vbv) (map line_of_unit program.units),
+        count_each is_unit line_of_unit (λ _. refl) program.units,
+        units_in_audios program.audios,
+      );
+      packets = omega (
+        arith,
+        count-append is_packet before (front ++ audios),
+        count-append is_packet front audios,
+        count-cons is_packet (Program program.vbv) (map line_of_unit program.units),
+        count_none is_packet line_of_unit (λ _. refl) program.units,
+        packets_in_audios program.audios,
+      );
+      programs = omega (
+        arith,
+        count-append is_program before (front ++ audios),
+        count-append is_program front audios,
+        count-cons is_program (Program program.vbv) (map line_of_unit program.units),
+        count_none is_program line_of_unit (λ _. refl) program.units,
+        programs_in_audios program.audios,
+      );
     }
 
 program_good : (slot : ℕ) (more : List Line) (program : ProgramRow) → slot ≤ SLOT_MOST → Allows (stage_of (behind slot more)) (Program 0) → IsValidProgram slot program
@@ -234,7 +267,9 @@ program_good slot more program small allows valid few few_units few_packets =
     let none_yet : audios_here (begun ++ units) ≡ 0 = audios_here-append begun units no_program ∙ omega (arith, no_audios, count_none is_audio line_of_unit (λ _. refl) program.units) in
     let unit_count = count_push is_unit before line in
     let packet_count = count_push is_packet before line in
-    let packets_behind : count_by is_packet (begun ++ units) ≡ count_by is_packet before = omega (arith, count-append is_packet begun units, count_none is_packet line_of_unit (λ _. refl) program.units) in
+    let packets_behind : count_by is_packet (begun ++ units)
+    ≡ count_by is_packet before = omega (arith, count-append is_packet begun units, count_none is_packet line_of_unit (λ _. refl) program.units)
+    in
     let keeps : Keeps before line = record { programs = few; some = valid.some_vbv; vbv_most = valid.vbv } in (
       ((allows_follows (last_line before) line (any_program (stage_of before) program.vbv allows), omega (arith, valid.vbv)), keeps),
       walk_append Good begun units (flat_map lines_of_audio program.audios)
@@ -276,7 +311,8 @@ programs_good slot more (program ∷ programs) small allows valid few few_units 
     let packets = length-append (packets_of program.audios) (packets_in programs) in
     walk_append Good before lines (flat_map lines_of_program programs)
     (program_good slot more program small allows (All-head (IsValidProgram slot) program programs valid) (omega arith) (omega arith) (omega arith))
-    (programs_good slot (more ++ lines) programs small (stage_program before program) (All-tail (IsValidProgram slot) program programs valid) (omega (arith, adds.programs)) (omega (arith, adds.units)) (omega (arith, adds.packets)))
+    (programs_good slot (more ++ lines) programs small (stage_program before program) (All-tail (IsValidProgram slot) program programs valid)
+    (omega (arith, adds.programs)) (omega (arith, adds.units)) (omega (arith, adds.packets)))
 
 table_good : (table : Table) → IsTextTable table → Walk Good [] (lines_of_table table)
 unfolding HasSyntax MayFollow

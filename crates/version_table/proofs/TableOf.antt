@@ -31,7 +31,8 @@ unit_of due versions = record { due = due; versions = record { items = map kept 
 
 abbrev pub parts_of : List Line → Parts
 parts_of [] = record { units = []; packets = []; audios = []; programs = [] }
-parts_of (Program vbv ∷ lines) = let rest = parts_of lines in record { units = []; packets = []; audios = []; programs = record { vbv = vbv; units = rest.units; audios = rest.audios } ∷ rest.programs }
+parts_of (Program vbv ∷ lines) = let rest = parts_of lines in record
+    { units = []; packets = []; audios = []; programs = record { vbv = vbv; units = rest.units; audios = rest.audios } ∷ rest.programs }
 parts_of (UnitLine due versions ∷ lines) = let rest = parts_of lines in record rest { units = unit_of due versions ∷ rest.units }
 parts_of (Audio ∷ lines) = let rest = parts_of lines in record rest { packets = []; audios = rest.packets ∷ rest.audios }
 parts_of (Packet due gone bytes ∷ lines) = let rest = parts_of lines in record rest { packets = record { due = due; gone = gone; bytes = bytes } ∷ rest.packets }
@@ -50,7 +51,8 @@ parts_packets : (packets : List AudioPacket) (lines : List Line) → parts_of (m
 parts_packets [] lines = refl
 parts_packets (packet ∷ packets) lines = ap (λ (p : Parts). record p { packets = packet ∷ p.packets }) (parts_packets packets lines)
 
-parts_audios : (audios : List (List AudioPacket)) (lines : List Line) → (parts_of lines).packets ≡ [] → parts_of (flat_map lines_of_audio audios ++ lines) ≡ record (parts_of lines) { audios = audios ++ (parts_of lines).audios }
+parts_audios : (audios : List (List AudioPacket)) (lines : List Line) → (parts_of lines).packets ≡ []
+    → parts_of (flat_map lines_of_audio audios ++ lines) ≡ record (parts_of lines) { audios = audios ++ (parts_of lines).audios }
 parts_audios [] lines none = refl
 parts_audios (packets ∷ audios) lines none =
     let others = flat_map lines_of_audio audios ++ lines in
@@ -73,7 +75,8 @@ parts_units (unit ∷ units) lines =
 abbrev only_programs : List ProgramRow → Parts
 only_programs programs = record { units = []; packets = []; audios = []; programs = programs }
 
-parts_program : (program : ProgramRow) (lines : List Line) (programs : List ProgramRow) → parts_of lines ≡ only_programs programs → parts_of (lines_of_program program ++ lines) ≡ only_programs (program ∷ programs)
+parts_program : (program : ProgramRow) (lines : List Line) (programs : List ProgramRow) → parts_of lines ≡ only_programs programs
+    → parts_of (lines_of_program program ++ lines) ≡ only_programs (program ∷ programs)
 parts_program program lines programs is =
     let audios = flat_map lines_of_audio program.audios in
     let no_packets : (parts_of lines).packets ≡ [] = ap (λ (p : Parts). p.packets) is in
@@ -170,10 +173,20 @@ spelled_at stages.Units (Program vbv ∷ lines) follow = record { packets = refl
 spelled_at stages.Packets (Program vbv ∷ lines) follow = record { units = refl; spelled = program_spelled vbv lines (spelled_at stages.Units lines follow.1) }
 spelled_at stages.Units (UnitLine due versions ∷ lines) follow =
     let rest = spelled_at stages.Units lines follow.1 in
-    record { packets = rest.packets; spelled = ap (λ (ls : List Line). UnitLine due versions ∷ ls) rest.spelled ∙ ap (λ (l : Line). l ∷ (map line_of_unit (parts_of lines).units ++ (flat_map lines_of_audio (parts_of lines).audios ++ flat_map lines_of_program (parts_of lines).programs))) (sym (unit_line due versions)) }
+    record {
+      packets = rest.packets;
+      spelled = ap (λ (ls : List Line). UnitLine due versions ∷ ls) rest.spelled
+          ∙ ap (λ (l : Line). l ∷ (map line_of_unit (parts_of lines).units
+          ++ (flat_map lines_of_audio (parts_of lines).audios ++ flat_map lines_of_program (parts_of lines).programs))) (sym (unit_line due versions));
+    }
 spelled_at stages.Units (Audio ∷ lines) follow =
     let rest = spelled_at stages.Packets lines follow.1 in
-    record { packets = refl; spelled = audio_spelled lines rest ∙ ap (λ (us : List CodedUnit). map line_of_unit us ++ (flat_map lines_of_audio (parts_of (Audio ∷ lines)).audios ++ flat_map lines_of_program (parts_of lines).programs)) (sym rest.units) }
+    record {
+      packets = refl;
+      spelled = audio_spelled lines rest
+          ∙ ap (λ (us : List CodedUnit). map line_of_unit us ++
+          (flat_map lines_of_audio (parts_of (Audio ∷ lines)).audios ++ flat_map lines_of_program (parts_of lines).programs)) (sym rest.units);
+    }
 spelled_at stages.Packets (Audio ∷ lines) follow =
     let rest = spelled_at stages.Packets lines follow.1 in
     record { units = rest.units; spelled = audio_spelled lines rest }

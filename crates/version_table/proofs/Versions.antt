@@ -9,7 +9,8 @@ use Rattle.version_table.specs.Private.Reading.{◌>>=◌, Read, after, version_
 abbrev pub with_front : List StatedVersion → Read (List StatedVersion) → Read (List StatedVersion)
 with_front front read = read >>= λ x. Some (front ++ x.0, x.1)
 
-regroup : (front : List StatedVersion) (version : StatedVersion) (read : Read (List StatedVersion)) → with_front front (read >>= λ x. Some (version ∷ x.0, x.1)) ≡ with_front (front ++ version ∷ []) read
+regroup : (front : List StatedVersion) (version : StatedVersion) (read : Read (List StatedVersion))
+    → with_front front (read >>= λ x. Some (version ∷ x.0, x.1)) ≡ with_front (front ++ version ∷ []) read
 regroup front version None = refl
 regroup front version (Some x) = ap (λ (versions : List StatedVersion). Some (versions, x.1)) (simp append_assoc)
 

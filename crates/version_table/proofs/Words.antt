@@ -21,7 +21,8 @@ after_by_front (b ∷ word) (c ∷ text) =
     ∙ sym (cond_and (eqb c b) (pointwise eqb (take (length word) text) word) (Some (drop (length word) text)) None)
 
 pub after_from_strip : (word text : List ℕ) (r : Option (Bor (List ℕ)))
-    → MatchOption r (pointwise eqb (take (length word) text) word ≡ false) (λ x. (pointwise eqb (take (length word) text) word ≡ true) × (x.now ≡ drop (length word) text) × (length x.now + length word ≡ length text))
+    → MatchOption r (pointwise eqb (take (length word) text) word ≡ false)
+    (λ x. (pointwise eqb (take (length word) text) word ≡ true) × (x.now ≡ drop (length word) text) × (length x.now + length word ≡ length text))
     → option_copied r ≡ after word text
 after_from_strip word text None h = sym (after_by_front word text ∙ ap (λ (b : Bool). cond b (Some (drop (length word) text)) None) h)
 after_from_strip word text (Some x) h =

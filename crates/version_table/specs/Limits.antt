@@ -1,7 +1,19 @@
 -- Which limits the lines of a table text keep.
 use Rattle.std.specs.Prelude.{◌≡◌, ℕ, ◌*◌, Bool, true, false, not, ◌&&◌, nat_lt, nat_le, if◌then◌else◌, List, [], ◌∷◌, ◌++◌, count_by, reverse, codes, Option, Some, None}
 use Rattle.std.specs.List.{flat_map, take_while}
-use Rattle.version_table.specs.declared.limits.TheConstants.{SLOT_LEAST, SLOT_MOST, NODES_MOST, EVALUATIONS_MOST, PROGRAMS_MOST, AUDIOS_MOST, UNITS_MOST, VERSION_BYTES_MOST, DISTORTION_LIMIT, TIME_SLOTS_MOST, TEXT_AUDIO_PACKETS_MOST}
+use Rattle.version_table.specs.declared.limits.TheConstants.{
+  SLOT_LEAST,
+  SLOT_MOST,
+  NODES_MOST,
+  EVALUATIONS_MOST,
+  PROGRAMS_MOST,
+  AUDIOS_MOST,
+  UNITS_MOST,
+  VERSION_BYTES_MOST,
+  DISTORTION_LIMIT,
+  TIME_SLOTS_MOST,
+  TEXT_AUDIO_PACKETS_MOST,
+}
 use Rattle.stream_constants.specs.declared.packets.TheConstants.{PAYLOAD_BYTES}
 use Rattle.stream_constants.specs.declared.main_level.TheConstants.{VBV_MOST}
 use Rattle.version_table.specs.declared.fault.Limit.{Limit}

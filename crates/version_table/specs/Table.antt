@@ -2,7 +2,20 @@
 use Rattle.std.specs.Prelude.{ℕ, ◌*◌, ◌<◌, ◌≤◌, List, length, map, All}
 use Rattle.std.specs.List.{flat_map}
 use Rattle.std.specs.List.Sorted.{IsNonDecreasing, IsStrictlyIncreasing}
-use Rattle.version_table.specs.declared.limits.TheConstants.{SLOT_LEAST, SLOT_MOST, NODES_MOST, EVALUATIONS_MOST, PROGRAMS_MOST, AUDIOS_MOST, UNITS_MOST, VERSIONS_MOST, VERSION_BYTES_MOST, DISTORTION_LIMIT, TIME_SLOTS_MOST, AUDIO_PACKETS_LIMIT}
+use Rattle.version_table.specs.declared.limits.TheConstants.{
+  SLOT_LEAST,
+  SLOT_MOST,
+  NODES_MOST,
+  EVALUATIONS_MOST,
+  PROGRAMS_MOST,
+  AUDIOS_MOST,
+  UNITS_MOST,
+  VERSIONS_MOST,
+  VERSION_BYTES_MOST,
+  DISTORTION_LIMIT,
+  TIME_SLOTS_MOST,
+  AUDIO_PACKETS_LIMIT,
+}
 use Rattle.stream_constants.specs.declared.packets.TheConstants.{PAYLOAD_BYTES}
 use Rattle.stream_constants.specs.declared.main_level.TheConstants.{VBV_MOST}
 use Rattle.version_table.specs.declared.table.Version.{Version}

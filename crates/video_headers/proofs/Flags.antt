@@ -1,5 +1,39 @@
 -- Flags by their bits as numbers.
-use Rattle.std.proofs.Common.{◌≡◌, ℕ, zero, suc, ◌<◌, ◌+◌, ◌==◌, ◌&&◌, List, [], ◌∷◌, ◌++◌, length, Option, Some, None, IfSome, Result, Ok, Err, IsErrAnd, Bool, true, false, refl, sym, ap, ap₂, subst, ◌∙◌, inl, inr, arith}
+use Rattle.std.proofs.Common.{
+  ◌≡◌,
+  ℕ,
+  zero,
+  suc,
+  ◌<◌,
+  ◌+◌,
+  ◌==◌,
+  ◌&&◌,
+  List,
+  [],
+  ◌∷◌,
+  ◌++◌,
+  length,
+  Option,
+  Some,
+  None,
+  IfSome,
+  Result,
+  Ok,
+  Err,
+  IsErrAnd,
+  Bool,
+  true,
+  false,
+  refl,
+  sym,
+  ap,
+  ap₂,
+  subst,
+  ◌∙◌,
+  inl,
+  inr,
+  arith,
+}
 use Rattle.shelf_io.specs.declared.source.Source.{Ghosts}
 use Rattle.bit_lists.specs.Bits.{bits_of}
 use Rattle.bit_lists.specs.Fields.{flag}
@@ -90,7 +124,16 @@ splits [] after broken (s ∷ ss) (kind, test, same) = record { front = []; here
 splits (r ∷ before) after broken [] same = absurd same
 splits (r ∷ before) after broken (s ∷ ss) (kind, test, same) =
     let h = splits before after broken ss same in
-    record { front = s ∷ h.front; here = h.here; back = h.back; order = ap (λ (xs : List (Rule Bool)). s ∷ xs) h.order; fronts = (kind, test, h.fronts); firsts = (kind, test, h.firsts); kind = h.kind }
+    record {
+      front = s ∷ h.front;
+      here = h.here;
+      back = h.back;
+      order = ap
+          (λ (xs : List (Rule Bool)). s ∷ xs) h.order;
+      fronts = (kind, test, h.fronts);
+      firsts = (kind, test, h.firsts);
+      kind = h.kind;
+    }
 
 refused-flag : (bits : List ℕ) (rs : List (Rule ℕ)) (ss : List (Rule Bool)) (none kind : Refusal) → AreSame rs ss → IsRefused (NumberCode 1) none rs bits kind → IsRefused FlagCode none ss bits kind
 refused-flag bits rs ss none kind same (inl (n, e)) = inl ((λ m. n (may-number bits [] [] tt m)), e)
@@ -148,7 +191,8 @@ module _ {S : Type 0} {g : Ghosts S} {old new : BitReader S g} where
   pub answers-flag : (bit : ℕ) → bit < 2 → ((rules : List (Rule ℕ)) → AreRules 1 [] rules → AnswersBits (uimsbf 1 rules) (Ok bit) old new) → AnswersBits (flag_where []) (Ok (bit == 1)) old new
   answers-flag bit below a = answers-bit [] [] tt bit below (a [] tt)
 
-  pub answers-no_flag : {e : HeadFault} (result : Result Bool HeadFault) → IsErrAnd result (λ f. f ≡ e) → ((rules : List (Rule ℕ)) → AreRules 1 [] rules → AnswersBits (uimsbf 1 rules) (Err e) old new) → AnswersBits (flag_where []) result old new
+  pub answers-no_flag : {e : HeadFault} (result : Result Bool HeadFault) → IsErrAnd result (λ f. f ≡ e)
+      → ((rules : List (Rule ℕ)) → AreRules 1 [] rules → AnswersBits (uimsbf 1 rules) (Err e) old new) → AnswersBits (flag_where []) result old new
   answers-no_flag result is a = answers-no_bit [] [] tt result is (a [] tt)
 
   pub answers-limited_flag : (l : Limit) (r : Rule Bool) → IsFlagRule l r → (bit : ℕ) → bit < 2 → ((rules : List (Rule ℕ)) → AreRules 1 (l ∷ []) rules → AnswersBits (uimsbf 1 rules) (Ok bit) old new)

@@ -1,5 +1,43 @@
 -- Numbers within limits: which numbers the bits left may begin, and which limit leaves none of them.
-use Rattle.std.proofs.Common.{◌≡◌, ℕ, ◌+◌, ◌-◌, ◌*◌, ◌/◌, ◌%◌, ◌^◌, ◌<◌, ◌≤◌, ◌⊎◌, nat_le, nat_lt, max, min, List, [], ◌∷◌, ◌++◌, length, take, Option, Some, None, Bool, true, false, refl, sym, ap, subst, ◌∙◌, inl, inr, arith, append_assoc, append-nil}
+use Rattle.std.proofs.Common.{
+  ◌≡◌,
+  ℕ,
+  ◌+◌,
+  ◌-◌,
+  ◌*◌,
+  ◌/◌,
+  ◌%◌,
+  ◌^◌,
+  ◌<◌,
+  ◌≤◌,
+  ◌⊎◌,
+  nat_le,
+  nat_lt,
+  max,
+  min,
+  List,
+  [],
+  ◌∷◌,
+  ◌++◌,
+  length,
+  take,
+  Option,
+  Some,
+  None,
+  Bool,
+  true,
+  false,
+  refl,
+  sym,
+  ap,
+  subst,
+  ◌∙◌,
+  inl,
+  inr,
+  arith,
+  append_assoc,
+  append-nil,
+}
 use Rattle.std.proofs.lemmas.Bool.{and_parts, and_from, leb-true, le-leb, ltb-true, ltb-false, cases_lt}
 use Rattle.std.proofs.lemmas.Nat.{div-mul-add}
 use Rattle.std.proofs.Math.Nat.{div-lt_iff_lt-mul, div-add-mod, div-add-mod', mod-lt, mul-le-mul_right}
@@ -80,41 +118,42 @@ module _ (n : ℕ) (bits : List ℕ) where
   limited before [] [] low high are is = subst (λ (rs : List (Rule ℕ)). Says rs None) (sym (append-nil before)) (may-stand before low high are)
   limited before (r ∷ rs) [] low high are is = absurd is
   limited before [] (l ∷ ls) low high are is = absurd is
-  limited before (r ∷ rs) (l ∷ ls) low high are (kind, test, is) = by_test (limited (before ++ r ∷ []) rs ls (max low l.least) (min high l.most)) (nat_lt (min high l.most) (max low l.least)) refl where
-    by_test : (AreLeft n bits (before ++ r ∷ []) (max low l.least) (min high l.most) → AreRules n ls rs → Says ((before ++ r ∷ []) ++ rs) (first_broken (max low l.least) (min high l.most) ls))
-        → (b : Bool) → nat_lt (min high l.most) (max low l.least) ≡ b → Says (before ++ r ∷ rs) (broken_or b l.otherwise (first_broken (max low l.least) (min high l.most) ls))
-    by_test later true e = record {
-      before = before;
-      broken = r;
-      after = rs;
-      order = refl;
-      so_far = may-stand before low high are;
-      none = λ m.
-          let both = last-rule before r m.value m.passing in
-          let agrees : Agrees n bits m.value = subst (λ (c : List ℕ). IsPrefix c bits ⊎ IsPrefix bits c) m.coded.1 m.agrees in
-          let inside = are.inside m.value m.coded.0 both.0 agrees in
-          let limit = within l.least l.most m.value (sym (test m.value m.coded.0) ∙ both.1) in
-          let lt = ltb-true (min high l.most) (max low l.least) e in
-          omega (arith, inside.0, inside.1, limit.0, limit.1, lt);
-      named = sym kind;
-    }
-    by_test later false e =
-        let ge = ltb-false (min high l.most) (max low l.least) e in
-        subst (λ (xs : List (Rule ℕ)). Says xs (first_broken (max low l.least) (min high l.most) ls)) (append_assoc before (r ∷ []) rs)
-        (later (record {
-          some = omega (arith, ge);
-          below = let b = are.below in omega (arith, b);
-          inside = λ v lt p agrees.
-              let both = last-rule before r v p in
-              let inside = are.inside v lt both.0 agrees in
-              let limit = within l.least l.most v (sym (test v lt) ∙ both.1) in
-              (omega (arith, inside.0, limit.0), omega (arith, inside.1, limit.1));
-          outside = λ v a b.
-              let is = are.outside v (omega (arith, a)) (omega (arith, b)) in
-              let high_below = are.below in
-              let lt : v < 2 ^ n = omega (arith, b, high_below) in
-              (with-rule before r v is.0 (test v lt ∙ is-within l.least l.most v (omega (arith, a)) (omega (arith, b))), is.1);
-        }) is)
+  limited before (r ∷ rs) (l ∷ ls) low high are (kind, test, is) = by_test (limited (before ++ r ∷ []) rs ls (max low l.least) (min high l.most))
+      (nat_lt (min high l.most) (max low l.least)) refl where
+        by_test : (AreLeft n bits (before ++ r ∷ []) (max low l.least) (min high l.most) → AreRules n ls rs → Says ((before ++ r ∷ []) ++ rs) (first_broken (max low l.least) (min high l.most) ls))
+            → (b : Bool) → nat_lt (min high l.most) (max low l.least) ≡ b → Says (before ++ r ∷ rs) (broken_or b l.otherwise (first_broken (max low l.least) (min high l.most) ls))
+        by_test later true e = record {
+          before = before;
+          broken = r;
+          after = rs;
+          order = refl;
+          so_far = may-stand before low high are;
+          none = λ m.
+              let both = last-rule before r m.value m.passing in
+              let agrees : Agrees n bits m.value = subst (λ (c : List ℕ). IsPrefix c bits ⊎ IsPrefix bits c) m.coded.1 m.agrees in
+              let inside = are.inside m.value m.coded.0 both.0 agrees in
+              let limit = within l.least l.most m.value (sym (test m.value m.coded.0) ∙ both.1) in
+              let lt = ltb-true (min high l.most) (max low l.least) e in
+              omega (arith, inside.0, inside.1, limit.0, limit.1, lt);
+          named = sym kind;
+        }
+        by_test later false e =
+            let ge = ltb-false (min high l.most) (max low l.least) e in
+            subst (λ (xs : List (Rule ℕ)). Says xs (first_broken (max low l.least) (min high l.most) ls)) (append_assoc before (r ∷ []) rs)
+            (later (record {
+              some = omega (arith, ge);
+              below = let b = are.below in omega (arith, b);
+              inside = λ v lt p agrees.
+                  let both = last-rule before r v p in
+                  let inside = are.inside v lt both.0 agrees in
+                  let limit = within l.least l.most v (sym (test v lt) ∙ both.1) in
+                  (omega (arith, inside.0, limit.0), omega (arith, inside.1, limit.1));
+              outside = λ v a b.
+                  let is = are.outside v (omega (arith, a)) (omega (arith, b)) in
+                  let high_below = are.below in
+                  let lt : v < 2 ^ n = omega (arith, b, high_below) in
+                  (with-rule before r v is.0 (test v lt ∙ is-within l.least l.most v (omega (arith, a)) (omega (arith, b))), is.1);
+            }) is)
 
 -- ---- what a window shows
 
@@ -162,7 +201,9 @@ module _ (n : ℕ) (bits : List ℕ) (number known last : ℕ) (shows : IsWindow
         let shown : take known (bits_of n number) ≡ take n bits = shows.front in
         record {
           some = omega (arith, last_is);
-          below = last-below part (2 ^ n) (2 ^ known) number some filled' (ap (λ (k : ℕ). 2 ^ k) (let e : n ≡ known + (n - known) = omega (arith, few) in e) ∙ pow-add 2 known (n - known) ∙ ap (λ (k : ℕ). 2 ^ known * k) (sym is)) below last last_is;
+          below = last-below part (2 ^ n) (2 ^ known) number some filled'
+              (ap (λ (k : ℕ). 2 ^ k) (let e : n ≡ known + (n - known) = omega (arith, few) in e) ∙ pow-add 2 known (n - known)
+              ∙ ap (λ (k : ℕ). 2 ^ known * k) (sym is)) below last last_is;
           inside = λ v lt p a.
               let same : bits_of known (v / 2 ^ (n - known)) ≡ bits_of known (number / 2 ^ (n - known)) = sym (front v) ∙ agreeing v a ∙ sym shown ∙ front number in
               let high : v / 2 ^ (n - known) ≡ number / 2 ^ (n - known) = bits_of-one known _ _ (high-below v lt) (high-below number below) same in

@@ -76,7 +76,8 @@ rose_later a b c first then rose small = elim (cases_lt b (2 ^ 64 - 1)) [
   | inr full ↦ omega arith
 ]
 
-gives-bind : {A B W : Type 0} {first : Grammar A} (next : A → Grammar B) (a : A) (value : W → B) (result : Result W HeadFault) {from : ℕ → List ℕ → Type 0} (to : ℕ → List ℕ → Type 0) (last : W → ℕ → List ℕ → Type 0)
+gives-bind : {A B W : Type 0} {first : Grammar A} (next : A → Grammar B) (a : A) (value : W → B) (result : Result W HeadFault)
+    {from : ℕ → List ℕ → Type 0} (to : ℕ → List ℕ → Type 0) (last : W → ℕ → List ℕ → Type 0)
     → Goes first a from to → MatchResult result (λ w. Goes (next a) (value w) to (last w)) (λ fault. Stops (next a) (refusal_told fault) to)
     → MatchResult result (λ w. Goes (first >>= next) (value w) from (last w)) (λ fault. Stops (first >>= next) (refusal_told fault) from)
 gives-bind next a value (Ok w) to last f h = goes-bind next f h
@@ -92,8 +93,10 @@ module _ {S : Type 0} {g : Ghosts S} (keeps_on : (x y z : S) → g.keeps x y →
     onward = omega (arith, a.onward, b.onward);
   }
 
-  pub answers-bind : {A B V W : Type 0} {first : Grammar A} (next : A → Grammar B) {make : V → A} {v : V} {value : W → B} {result : Result W HeadFault} {from : ℕ → List ℕ → Type 0} {to : V → ℕ → List ℕ → Type 0} {last : W → ℕ → List ℕ → Type 0}
-      {old middle new : BitReader S g} → Answers first make (Ok v) from to old middle → Answers (next (make v)) value result (to v) last middle new → Answers (first >>= next) value result from last old new
+  pub answers-bind : {A B V W : Type 0} {first : Grammar A} (next : A → Grammar B) {make : V → A} {v : V} {value : W → B}
+      {result : Result W HeadFault} {from : ℕ → List ℕ → Type 0} {to : V → ℕ → List ℕ → Type 0} {last : W → ℕ → List ℕ → Type 0}
+      {old middle new : BitReader S g} → Answers first make (Ok v) from to old middle → Answers (next (make v)) value result (to v) last middle new
+      → Answers (first >>= next) value result from last old new
   answers-bind next {make = make} {v = v} {value = value} {result = result} {to = to} {last = last} a b = record {
     gives = gives-bind next (make v) value result (to v) last a.gives b.gives;
     runs = runs-then a.runs b.runs;
@@ -101,7 +104,8 @@ module _ {S : Type 0} {g : Ghosts S} (keeps_on : (x y z : S) → g.keeps x y →
     missing = λ is. rose_later _ _ _ a.runs.keeps.absences b.runs.keeps.absences (b.missing is);
   }
 
-pub answers-exit : {A B V W : Type 0} {first : Grammar A} (next : A → Grammar B) {make : V → A} {e : HeadFault} {value : W → B} (result : Result W HeadFault) {from : ℕ → List ℕ → Type 0} {to : V → ℕ → List ℕ → Type 0} {last : W → ℕ → List ℕ → Type 0}
+pub answers-exit : {A B V W : Type 0} {first : Grammar A} (next : A → Grammar B) {make : V → A} {e : HeadFault} {value : W → B}
+    (result : Result W HeadFault) {from : ℕ → List ℕ → Type 0} {to : V → ℕ → List ℕ → Type 0} {last : W → ℕ → List ℕ → Type 0}
     {S : Type 0} {g : Ghosts S} {old new : BitReader S g} → IsErrAnd result (λ f. f ≡ e) → Answers first make (Err e) from to old new → Answers (first >>= next) value result from last old new
 answers-exit next (Ok w) is a = absurd is
 answers-exit {first = first} next {e = e} {value = value} (Err fault) {from = from} {last = last} {old = old} {new = new} is a =
@@ -121,14 +125,16 @@ answers-done made {value} v {from} reader itself is = record {
   missing = λ is. cc;
 }
 
-pub answers-of : {A V : Type 0} {grammar : Grammar A} {value : V → A} {result : Result V HeadFault} {from : ℕ → List ℕ → Type 0} {to : V → ℕ → List ℕ → Type 0} {S : Type 0} {g : Ghosts S} {old new : BitReader S g}
+pub answers-of : {A V : Type 0} {grammar : Grammar A} {value : V → A} {result : Result V HeadFault} {from : ℕ → List ℕ → Type 0}
+    {to : V → ℕ → List ℕ → Type 0} {S : Type 0} {g : Ghosts S} {old new : BitReader S g}
     → MatchResult result (λ v. Goes grammar (value v) from (to v)) (λ fault. Stops grammar (refusal_told fault) from) → Runs old new
     → (IsErrOf result (Outside Failed) → Rose (faults_of old) (faults_of new)) → (IsErrOf result (Outside Missing) → Rose (absences_of old) (absences_of new))
     → Answers grammar value result from to old new
 answers-of gives runs failed missing = record { gives = gives; runs = runs; failed = failed; missing = missing }
 
 -- the same refusal of another call
-pub answers-as : {A V W : Type 0} {grammar : Grammar A} {make : V → A} {e : HeadFault} {value : W → A} (result : Result W HeadFault) {from : ℕ → List ℕ → Type 0} {to : V → ℕ → List ℕ → Type 0} {last : W → ℕ → List ℕ → Type 0}
+pub answers-as : {A V W : Type 0} {grammar : Grammar A} {make : V → A} {e : HeadFault} {value : W → A} (result : Result W HeadFault)
+    {from : ℕ → List ℕ → Type 0} {to : V → ℕ → List ℕ → Type 0} {last : W → ℕ → List ℕ → Type 0}
     {S : Type 0} {g : Ghosts S} {old new : BitReader S g} → IsErrAnd result (λ f. f ≡ e) → Answers grammar make (Err e) from to old new → Answers grammar value result from last old new
 answers-as (Ok w) is a = absurd is
 answers-as {grammar = grammar} {e = e} {value = value} (Err fault) {from = from} {last = last} {old = old} {new = new} is a =
@@ -147,7 +153,8 @@ pub record Follows {W : Type 0} {S : Type 0} {g : Ghosts S} (result : Result W H
   pub failed : IsErrOf result (Outside Failed) → Rose (faults_of old) (faults_of new)
   pub missing : IsErrOf result (Outside Missing) → Rose (absences_of old) (absences_of new)
 
-pub follows : {A W : Type 0} {grammar : Grammar A} {value : W → A} {result : Result W HeadFault} {from : ℕ → List ℕ → Type 0} {last : W → ℕ → List ℕ → Type 0} {S : Type 0} {g : Ghosts S} {old new : BitReader S g}
+pub follows : {A W : Type 0} {grammar : Grammar A} {value : W → A} {result : Result W HeadFault} {from : ℕ → List ℕ → Type 0}
+    {last : W → ℕ → List ℕ → Type 0} {S : Type 0} {g : Ghosts S} {old new : BitReader S g}
     → Answers grammar value result from last old new → Follows result old new
 follows a = record { runs = a.runs; failed = a.failed; missing = a.missing }
 
@@ -158,7 +165,8 @@ module _ {A X : Type 0} (first : Grammar A) (f : A → X) where
 
   stops-made : (told : Option PlacedRefusal) {from : ℕ → List ℕ → Type 0} → Stops (first >>= λ a. done (f a)) told from → Stops first told from
   stops-made told stops = record { why = λ end bits left. by_told told end bits (stops.why end bits left) } where
-    by_told : (told : Option PlacedRefusal) (end : ℕ) (bits : List ℕ) → IfSome told (λ said. (left : List ℕ) × (first >>= λ a. done (f a)).Refuses bits said.refusal left × (said.at + length left ≡ end))
+    by_told : (told : Option PlacedRefusal) (end : ℕ) (bits : List ℕ)
+        → IfSome told (λ said. (left : List ℕ) × (first >>= λ a. done (f a)).Refuses bits said.refusal left × (said.at + length left ≡ end))
         → IfSome told (λ said. (left : List ℕ) × first.Refuses bits said.refusal left × (said.at + length left ≡ end))
     by_told None end bits why = tt
     by_told (Some said) end bits (left, r, e) = (left, refuses-made bits left said.refusal r, e)
@@ -180,9 +188,11 @@ module _ {A X : Type 0} (first : Grammar A) (f : A → X) where
   }
 
   -- a reader behind, whatever the value that isn't told
-  pub answers-mapped : {S : Type 0} {g : Ghosts S} (keeps_on : (x y z : S) → g.keeps x y → g.keeps y z → g.keeps x z) {B V W : Type 0} (next : A → Grammar B) {make : V → X} {v : V} {value : W → B} {result : Result W HeadFault} {from : ℕ → List ℕ → Type 0}
+  pub answers-mapped : {S : Type 0} {g : Ghosts S} (keeps_on : (x y z : S) → g.keeps x y → g.keeps y z → g.keeps x z) {B V W : Type 0}
+      (next : A → Grammar B) {make : V → X} {v : V} {value : W → B} {result : Result W HeadFault} {from : ℕ → List ℕ → Type 0}
       {to : V → ℕ → List ℕ → Type 0} {last : W → ℕ → List ℕ → Type 0} {old middle new : BitReader S g} → Answers (first >>= λ a. done (f a)) make (Ok v) from to old middle
-      → Follows result middle new → ((a : A) → f a ≡ make v → MatchResult result (λ w. Goes (next a) (value w) (to v) (last w)) (λ fault. Stops (next a) (refusal_told fault) (to v))) → Answers (first >>= next) value result from last old new
+      → Follows result middle new → ((a : A) → f a ≡ make v → MatchResult result (λ w. Goes (next a) (value w) (to v) (last w))
+      (λ fault. Stops (next a) (refusal_told fault) (to v))) → Answers (first >>= next) value result from last old new
   answers-mapped keeps_on next {make = make} {v = v} {value = value} {result = result} {to = to} {last = last} a b h = record {
     gives = gives-mapped next (make v) value result (to v) last a.gives h;
     runs = runs-then keeps_on a.runs b.runs;
@@ -190,8 +200,10 @@ module _ {A X : Type 0} (first : Grammar A) (f : A → X) where
     missing = λ is. rose_later _ _ _ a.runs.keeps.absences b.runs.keeps.absences (b.missing is);
   }
 
-  pub answers-made_exit : {B V W : Type 0} (next : A → Grammar B) {make : V → X} {e : HeadFault} {value : W → B} (result : Result W HeadFault) {from : ℕ → List ℕ → Type 0} {to : V → ℕ → List ℕ → Type 0} {last : W → ℕ → List ℕ → Type 0}
-      {S : Type 0} {g : Ghosts S} {old new : BitReader S g} → IsErrAnd result (λ f. f ≡ e) → Answers (first >>= λ a. done (f a)) make (Err e) from to old new → Answers (first >>= next) value result from last old new
+  pub answers-made_exit : {B V W : Type 0} (next : A → Grammar B) {make : V → X} {e : HeadFault} {value : W → B} (result : Result W HeadFault)
+      {from : ℕ → List ℕ → Type 0} {to : V → ℕ → List ℕ → Type 0} {last : W → ℕ → List ℕ → Type 0}
+      {S : Type 0} {g : Ghosts S} {old new : BitReader S g} → IsErrAnd result (λ f. f ≡ e)
+      → Answers (first >>= λ a. done (f a)) make (Err e) from to old new → Answers (first >>= next) value result from last old new
   answers-made_exit next (Ok w) is a = absurd is
   answers-made_exit next {e = e} {value = value} (Err fault) {from = from} {last = last} {old = old} {new = new} is a =
       subst (λ (f : HeadFault). Answers (first >>= next) value (Err f) from last old new) (sym is) (record {
@@ -213,20 +225,26 @@ module _ {A B C : Type 0} {first : Grammar A} {second : Grammar B} {both : Gramm
     {from middle to : ℕ → List ℕ → Type 0} {old mid new : BitReader S g} where
   pub joined : {V W U : Type 0} {make : V → A} {v : V} {make' : W → B} {w : W} {value : U → C} (a : A) (b : B) {u : U} (c : C)
       → ((bits m rest : List ℕ) → first.Spells a bits m → second.Spells b m rest → both.Spells c bits rest)
-      → Answers first make (Ok v) from (λ _. middle) old mid → Answers second make' (Ok w) middle (λ _. to) mid new → make v ≡ a → make' w ≡ b → value u ≡ c → Answers both value (Ok u) from (λ _. to) old new
+      → Answers first make (Ok v) from (λ _. middle) old mid → Answers second make' (Ok w) middle (λ _. to) mid new → make v ≡ a → make' w ≡ b
+      → value u ≡ c → Answers both value (Ok u) from (λ _. to) old new
   joined a b c together x y is is' is'' = record {
     gives = record {
       on = λ end bits left.
           let (m, s, left') = x.gives.on end bits left in
-          let (rest, t, left'') = y.gives.on end m left' in
-          (rest, subst (λ (k : C). both.Spells k bits rest) (sym is'') (together bits m rest (subst (λ (k : A). first.Spells k bits m) is s) (subst (λ (k : B). second.Spells k m rest) is' t)), left'');
+          let (rest, t, left'') = y.gives.on end m left' in (
+            rest,
+            subst (λ (k : C). both.Spells k bits rest) (sym is'')
+                (together bits m rest (subst (λ (k : A). first.Spells k bits m) is s) (subst (λ (k : B). second.Spells k m rest) is' t)),
+            left'',
+          );
     };
     runs = runs-then keeps_on x.runs y.runs;
     failed = λ is. cc;
     missing = λ is. cc;
   }
 
-  pub joined_exit : {V W U : Type 0} {make : V → A} {v : V} {make' : W → B} {e : HeadFault} {value : U → C} {last : U → ℕ → List ℕ → Type 0} (a : A) (result : Result U HeadFault) → IsErrAnd result (λ f. f ≡ e)
+  pub joined_exit : {V W U : Type 0} {make : V → A} {v : V} {make' : W → B} {e : HeadFault} {value : U → C} {last : U → ℕ → List ℕ → Type 0} (a : A)
+      (result : Result U HeadFault) → IsErrAnd result (λ f. f ≡ e)
       → ((bits m left : List ℕ) (r : Refusal) → first.Spells a bits m → second.Refuses m r left → both.Refuses bits r left)
       → Answers first make (Ok v) from (λ _. middle) old mid → Answers second make' (Err e) middle (λ _. to) mid new → make v ≡ a → Answers both value result from last old new
   joined_exit a (Ok u) is together x y is' = absurd is

@@ -18,7 +18,8 @@ module _ {A : Type 0} (item : Grammar A) where
       let t' = subst (λ (b : List ℕ). (repeated (length ws) item).Spells ws m1 b) e' (subst (λ (ys : List A). (repeated (length ws) item).Spells ys m1 m2) others t) in
       (x, m1, s, (ws ++ v ∷ [], rest, more-spelled ws v m1 m rest t' u, (ap (λ (y : A). y ∷ (ws ++ v ∷ [])) first, refl)))
 
-  later-refused : (vs : List A) (n : ℕ) (bits m left : List ℕ) (r : Refusal) → length vs < n → (repeated (length vs) item).Spells vs bits m → item.Refuses m r left → (repeated n item).Refuses bits r left
+  later-refused : (vs : List A) (n : ℕ) (bits m left : List ℕ) (r : Refusal) → length vs < n → (repeated (length vs) item).Spells vs bits m
+      → item.Refuses m r left → (repeated n item).Refuses bits r left
   later-refused vs zero bits m left r lt s u = absurd (omega arith)
   later-refused [] (suc n) bits m left r lt (e, e') u = inl (subst (λ (b : List ℕ). item.Refuses b r left) (sym e') u)
   later-refused (w ∷ ws) (suc n) bits m left r lt (x, m1, s, (xs, m2, t, (e, e'))) u =
@@ -27,18 +28,21 @@ module _ {A : Type 0} (item : Grammar A) where
       let lt' : length ws < n = omega (arith, lt) in
       inr (x, m1, s, inl (later-refused ws n m1 m left r lt' t' u))
 
-module _ {A : Type 0} (item : Grammar A) {S : Type 0} {g : Ghosts S} (keeps_on : (x y z : S) → g.keeps x y → g.keeps y z → g.keeps x z) {from middle to : ℕ → List ℕ → Type 0} {old mid new : BitReader S g} where
+module _ {A : Type 0} (item : Grammar A) {S : Type 0} {g : Ghosts S} (keeps_on : (x y z : S) → g.keeps x y → g.keeps y z → g.keeps x z)
+    {from middle to : ℕ → List ℕ → Type 0} {old mid new : BitReader S g} where
   pub answers-more : (vs : List A) (v : A) → Answers (repeated (length vs) item) (λ (x : List A). x) (Ok vs) from (λ _. middle) old mid → Answers item (λ (x : A). x) (Ok v) middle (λ _. to) mid new
       → Answers (repeated (suc (length vs)) item) (λ (x : List A). x) (Ok (vs ++ v ∷ [])) from (λ _. to) old new
   answers-more vs v a b = joined keeps_on vs v (vs ++ v ∷ []) (λ bits m rest s t. more-spelled item vs v bits m rest s t) a b refl refl refl
 
-  pub answers-no_more : {W : Type 0} (vs : List A) (n : ℕ) → length vs < n → {value : W → List A} {last : W → ℕ → List ℕ → Type 0} {e : HeadFault} (result : Result W HeadFault) → IsErrAnd result (λ f. f ≡ e)
+  pub answers-no_more : {W : Type 0} (vs : List A) (n : ℕ) → length vs < n
+      → {value : W → List A} {last : W → ℕ → List ℕ → Type 0} {e : HeadFault} (result : Result W HeadFault) → IsErrAnd result (λ f. f ≡ e)
       → Answers (repeated (length vs) item) (λ (x : List A). x) (Ok vs) from (λ _. middle) old mid → Answers item (λ (x : A). x) (Err e) middle (λ _. to) mid new
       → Answers (repeated n item) value result from last old new
   answers-no_more vs n lt result is a b = joined_exit keeps_on vs result is (λ bits m left r s u. later-refused item vs n bits m left r lt s u) a b refl
 
 module _ {A : Type 0} (item : Grammar A) {S : Type 0} {g : Ghosts S} {from to : ℕ → List ℕ → Type 0} {old new : BitReader S g} where
-  pub answers-all : {W : Type 0} {make : W → List A} (vs : List A) (n : ℕ) (w : W) → length vs ≡ n → make w ≡ vs → Answers (repeated (length vs) item) (λ (x : List A). x) (Ok vs) from (λ _. to) old new
+  pub answers-all : {W : Type 0} {make : W → List A} (vs : List A) (n : ℕ) (w : W) → length vs ≡ n → make w ≡ vs
+      → Answers (repeated (length vs) item) (λ (x : List A). x) (Ok vs) from (λ _. to) old new
       → Answers (repeated n item) make (Ok w) from (λ _. to) old new
   answers-all {make = make} vs n w count is a = record {
     gives = subst (λ (k : ℕ). Goes (repeated k item) (make w) from to) count (subst (λ (x : List A). Goes (repeated (length vs) item) x from to) (sym is) a.gives);

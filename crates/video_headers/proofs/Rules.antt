@@ -69,5 +69,6 @@ abbrev pub state_of : ℕ → ℕ → ℕ → ℕ → Bool → List ℕ → List
 state_of width height rate_code vbv progressive intra non_intra =
     record { width = width; height = height; rate_code = rate_code; vbv = vbv; progressive = progressive; intra = intra; non_intra = non_intra }
 
-pub header-value : (width height rate_code vbv : ℕ) (progressive : Bool) (a b c d : List ℕ) → a ≡ b → c ≡ d → state_of width height rate_code vbv progressive a c ≡ state_of width height rate_code vbv progressive b d
+pub header-value : (width height rate_code vbv : ℕ) (progressive : Bool) (a b c d : List ℕ) → a ≡ b → c ≡ d
+    → state_of width height rate_code vbv progressive a c ≡ state_of width height rate_code vbv progressive b d
 header-value width height rate_code vbv progressive a b c d e f = ap₂ (λ (x y : List ℕ). state_of width height rate_code vbv progressive x y) e f

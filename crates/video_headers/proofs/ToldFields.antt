@@ -50,7 +50,9 @@ module _ (n : ℕ) {S : Type 0} {g : Ghosts S} (reader : BitReader S g) (number 
     (shows : IfSome (bits_left reader) (λ bits. IsWindow n bits number known)) (below : number < 2 ^ n)
     (filled : number % 2 ^ (n - known) ≡ 0) (is_last : last ≡ number + (2 ^ (n - known) - 1)) (is_at : at ≡ place reader) where
   says : (rules : List (Rule ℕ)) → AreRules n limits rules → (bits : List ℕ) → bits_left reader ≡ Some bits → Says n bits rules (first_broken number last limits)
-  says rules are bits told = limited n bits [] rules limits number last (left-shown n bits number known last (told-of (λ bits. IsWindow n bits number known) (bits_left reader) bits told shows) below filled is_last) are
+  says rules are bits told = limited n bits [] rules limits number last
+      (left-shown n bits number known last (told-of (λ bits. IsWindow n bits number known) (bits_left reader) bits told shows) below filled is_last)
+      are
 
   told_why : (why : Why) (rules : List (Rule ℕ)) (bits : List ℕ) (end : ℕ) → place reader + length bits ≡ end → (uimsbf n rules).Refuses bits (refusal_of why) bits
       → IfSome (refusal_told (fault_at why at)) (λ said. (left : List ℕ) × (uimsbf n rules).Refuses bits said.refusal left × (said.at + length left ≡ end))
@@ -61,14 +63,16 @@ module _ (n : ℕ) {S : Type 0} {g : Ghosts S} (reader : BitReader S g) (number 
   told_why why.Size rules bits end ends r = (bits, r, omega (arith, ends, is_at))
   told_why why.End rules bits end ends r = (bits, r, omega (arith, ends, is_at))
 
-  pub limited-broken : (why : Why) → first_broken number last limits ≡ Some why → (rules : List (Rule ℕ)) → AreRules n limits rules → Stops (uimsbf n rules) (refusal_told (fault_at why at)) (Rests reader)
+  pub limited-broken : (why : Why) → first_broken number last limits ≡ Some why → (rules : List (Rule ℕ)) → AreRules n limits rules
+      → Stops (uimsbf n rules) (refusal_told (fault_at why at)) (Rests reader)
   limited-broken why found rules are = record {
     why = λ end bits left.
         let broken : Breaks (NumberCode n) rules bits (refusal_of why) = subst (Says n bits rules) found (says rules are bits left.told) in
         told_why why rules bits end left.ends (refl, inr (inl broken));
   }
 
-  pub limited-cut : first_broken number last limits ≡ None → known < n → (rules : List (Rule ℕ)) → AreRules n limits rules → Stops (uimsbf n rules) (Some (record { refusal = End; at = at })) (Rests reader)
+  pub limited-cut : first_broken number last limits ≡ None → known < n → (rules : List (Rule ℕ)) → AreRules n limits rules
+      → Stops (uimsbf n rules) (Some (record { refusal = End; at = at })) (Rests reader)
   limited-cut found lt rules are = record {
     why = λ end bits left.
         let may : MayStand (NumberCode n) rules bits = subst (Says n bits rules) found (says rules are bits left.told) in

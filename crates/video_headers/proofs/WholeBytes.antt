@@ -32,12 +32,16 @@ module _ {S : Type 0} {g : Ghosts S} (old new : BitReader S g) (n : ℕ) (count 
   past_bytes : (end : ℕ) (bits : List ℕ) → Rests old end bits → n ≡ length bits % 8
   past_bytes end bits left = omega (arith, count, left.ends, whole-end old end bits left)
 
-  told_zeros : (told : Option PlacedRefusal) (end : ℕ) (bits : List ℕ) → n ≡ length bits % 8 → IfSome told (λ said. (left : List ℕ) × (uimsbf n (rule BadHeader (λ number. number == 0) ∷ [])).Refuses bits said.refusal left × (said.at + length left ≡ end))
+  told_zeros : (told : Option PlacedRefusal) (end : ℕ) (bits : List ℕ) → n ≡ length bits % 8
+      → IfSome told (λ said. (left : List ℕ) × (uimsbf n (rule BadHeader (λ number. number == 0) ∷ [])).Refuses bits said.refusal left
+      × (said.at + length left ≡ end))
       → IfSome told (λ said. (left : List ℕ) × (zero_bits BadHeader).Refuses bits said.refusal left × (said.at + length left ≡ end))
   told_zeros None end bits e why = tt
   told_zeros (Some said) end bits e (left, r, ends) = (left, subst (λ (k : ℕ). (uimsbf k (rule BadHeader (λ number. number == 0) ∷ [])).Refuses bits said.refusal left) e r, ends)
 
-  gives-zeros : (result : Result ℕ HeadFault) → MatchResult result (λ v. Goes (uimsbf n (rule BadHeader (λ number. number == 0) ∷ [])) v (Rests old) (Rests new)) (λ fault. Stops (uimsbf n (rule BadHeader (λ number. number == 0) ∷ [])) (refusal_told fault) (Rests old))
+  gives-zeros : (result : Result ℕ HeadFault) → MatchResult result
+      (λ v. Goes (uimsbf n (rule BadHeader (λ number. number == 0) ∷ [])) v (Rests old) (Rests new))
+      (λ fault. Stops (uimsbf n (rule BadHeader (λ number. number == 0) ∷ [])) (refusal_told fault) (Rests old))
       → MatchResult result (λ v. Goes (zero_bits BadHeader) v (Rests old) (Wholes new)) (λ fault. Stops (zero_bits BadHeader) (refusal_told fault) (Rests old))
   gives-zeros (Ok v) goes = record {
     on = λ end bits left.

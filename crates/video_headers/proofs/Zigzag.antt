@@ -30,7 +30,8 @@ placed-at : (index : ℕ) → index < 64 → is_placed index ≡ true
 placed-at index lt = elim (cases_Bool (is_placed index)) [
   | inl is ↦ is
   | inr none ↦ absurd (both_ways (list_all is_placed (range_with_len 0 64))
-      (list_all_at is_placed (range_with_len 0 64) index 0 (omega (arith, lt, length-range_with_len 0 64)) (ap is_placed (get_or-range_with_len 0 64 index 0 lt ∙ (let e : 0 + index ≡ index = omega arith in e)) ∙ none)) all-placed)
+      (list_all_at is_placed (range_with_len 0 64) index 0 (omega (arith, lt, length-range_with_len 0 64))
+      (ap is_placed (get_or-range_with_len 0 64 index 0 lt ∙ (let e : 0 + index ≡ index = omega arith in e)) ∙ none)) all-placed)
 ]
 
 pub placed : (index : ℕ) → index < 64 → Placed index
@@ -48,14 +49,17 @@ pub raster : (weights matrix : List ℕ) → length matrix ≡ 64 → ((k : ℕ)
 raster weights matrix size are =
     ext_get_or 0 matrix (in_raster_order weights) size (λ i lt.
     let here = placed i (omega (arith, lt, size)) in
-    ap (λ (k : ℕ). get_or matrix k 0) (sym here.back) ∙ are (place_of i) here.below ∙ sym (get_or-map-range_with_len (λ index. get_or weights (place_of index) 0) 0 64 i i 0 (omega (arith, lt, size)) (omega arith)))
+    ap (λ (k : ℕ). get_or matrix k 0) (sym here.back) ∙ are (place_of i) here.below
+    ∙ sym (get_or-map-range_with_len (λ index. get_or weights (place_of index) 0) 0 64 i i 0 (omega (arith, lt, size)) (omega arith)))
 
 -- one more weight at its raster index
-pub raster-more : (weights matrix : List ℕ) (place spot : ℕ) → place < 64 → spot ≡ get_or zigzag_scan place 0 → length matrix ≡ 64 → ((k : ℕ) → k < place → get_or matrix (get_or zigzag_scan k 0) 0 ≡ get_or weights k 0)
+pub raster-more : (weights matrix : List ℕ) (place spot : ℕ) → place < 64 → spot ≡ get_or zigzag_scan place 0 → length matrix ≡ 64
+    → ((k : ℕ) → k < place → get_or matrix (get_or zigzag_scan k 0) 0 ≡ get_or weights k 0)
     → (k : ℕ) → k < place + 1 → get_or (set matrix spot (get_or weights place 0)) (get_or zigzag_scan k 0) 0 ≡ get_or weights k 0
 raster-more weights matrix place spot lt is size before k below = elim (cases_eq k place) [
   | inl e ↦
-      get_or-set_at matrix spot (get_or zigzag_scan k 0) (get_or weights place 0) 0 (ap (λ (i : ℕ). get_or zigzag_scan i 0) e ∙ sym is) (let within = (placed place lt).within in omega (arith, within, is, size))
+      get_or-set_at matrix spot (get_or zigzag_scan k 0) (get_or weights place 0) 0 (ap (λ (i : ℕ). get_or zigzag_scan i 0) e ∙ sym is)
+      (let within = (placed place lt).within in omega (arith, within, is, size))
       ∙ ap (λ (i : ℕ). get_or weights i 0) (sym e)
   | inr apart ↦
       let earlier : k < place = omega (arith, below, apart) in

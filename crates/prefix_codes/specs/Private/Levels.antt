@@ -3,7 +3,21 @@ use Rattle.std.specs.Prelude.{◌≡◌, ◌↔◌, ℕ, List, [], Some}
 use Rattle.prefix_codes.specs.declared.table_name.TableName.{TableName}
 use Rattle.prefix_codes.specs.declared.table_name.TableName.TheVariants.{Address, TypeI, TypeP, TypeB, Pattern, Motion, DcLuma, DcChroma, CoeffZero, CoeffFirst, CoeffOne}
 use Rattle.prefix_codes.specs.declared.tables.coefficients.TheConstants.{COEFF_ZERO_FIRST, COEFF_FIRST_FIRST, COEFF_ONE_FIRST, COEFF_ZERO_SECOND, COEFF_ONE_SECOND}
-use Rattle.prefix_codes.specs.declared.tables.macroblocks.TheConstants.{ADDRESS_FIRST, TYPE_I_FIRST, TYPE_P_FIRST, TYPE_B_FIRST, PATTERN_FIRST, MOTION_FIRST, DC_LUMA_FIRST, DC_CHROMA_FIRST, ADDRESS_SECOND, PATTERN_SECOND, MOTION_SECOND, DC_LUMA_SECOND, DC_CHROMA_SECOND}
+use Rattle.prefix_codes.specs.declared.tables.macroblocks.TheConstants.{
+  ADDRESS_FIRST,
+  TYPE_I_FIRST,
+  TYPE_P_FIRST,
+  TYPE_B_FIRST,
+  PATTERN_FIRST,
+  MOTION_FIRST,
+  DC_LUMA_FIRST,
+  DC_CHROMA_FIRST,
+  ADDRESS_SECOND,
+  PATTERN_SECOND,
+  MOTION_SECOND,
+  DC_LUMA_SECOND,
+  DC_CHROMA_SECOND,
+}
 use Rattle.prefix_codes.specs.TableName.{Begins}
 use Rattle.prefix_codes.specs.Private.Words.{answer_of}
 

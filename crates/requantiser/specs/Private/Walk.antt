@@ -1,5 +1,33 @@
 -- How the version is made: one macroblock after another, in the order of the stream.
-use Rattle.std.specs.Prelude.{◌+◌, ◌-◌, ◌*◌, ◌==◌, ◌&&◌, ◌||◌, ℕ, not, nat_le, ℤ, unsigned_abs, find, Option, Some, None, List, [], ◌∷◌, map, unwrap_or, is_some, Bool, true, false, slice_index_or, slice_set, if◌then◌else◌}
+use Rattle.std.specs.Prelude.{
+  ◌+◌,
+  ◌-◌,
+  ◌*◌,
+  ◌==◌,
+  ◌&&◌,
+  ◌||◌,
+  ℕ,
+  not,
+  nat_le,
+  ℤ,
+  unsigned_abs,
+  find,
+  Option,
+  Some,
+  None,
+  List,
+  [],
+  ◌∷◌,
+  map,
+  unwrap_or,
+  is_some,
+  Bool,
+  true,
+  false,
+  slice_index_or,
+  slice_set,
+  if◌then◌else◌,
+}
 use Rattle.std.specs.Int.{int_signum}
 use Rattle.std.specs.List.{range_with_len, list_all}
 use Rattle.quant_math.specs.declared.scales.TheConstants.{LAST_CODE, WHOLE_RATIO}

@@ -67,7 +67,8 @@ gatherer_pids gatherers = map (λ gatherer. gatherer.pid) gatherers
 
 -- what comes of a packet for all of them
 abbrev pub AllGatherMore : List ℕ → ℕ → List PesGatherer → Result Unit DemuxFault → List PesGatherer → Type 0
-AllGatherMore file packet gatherers (Ok _) after = AllGather file (packet + 1) after × (gatherer_pids after ≡ gatherer_pids gatherers) × ((fault : DemuxFault) → IsStreamFault file (gatherer_pids gatherers) packet fault → ⊥)
+AllGatherMore file packet gatherers (Ok _) after = AllGather file (packet + 1) after × (gatherer_pids after ≡ gatherer_pids gatherers)
+    × ((fault : DemuxFault) → IsStreamFault file (gatherer_pids gatherers) packet fault → ⊥)
 AllGatherMore file packet gatherers (Err fault) after = (fault ≡ OutOfMemory) ⊎ IsStreamFault file (gatherer_pids gatherers) packet fault
 
 -- the stream that a gatherer has gathered

@@ -19,5 +19,6 @@ returns-else-starts-count-clause-count c =
     record {
       within = c.loop-count.invariant.within;
       before = c.loop-count.invariant.before;
-      behind = all_behind c.args.starts.now c.args.at c.loop-count.count c.requires.rising (length-map c.args.starts.now (λ (start : PesStart). start.at)) (omega (arith, start, c.if-starts-count.false));
+      behind = all_behind c.args.starts.now c.args.at c.loop-count.count c.requires.rising
+          (length-map c.args.starts.now (λ (start : PesStart). start.at)) (omega (arith, start, c.if-starts-count.false));
     }

@@ -29,4 +29,5 @@ returns-in-Some-break_at-clause-broken c =
 
 pub returns-in-None-clause-places : goal.returns-in-None-clause-places
 returns-in-None-clause-places c =
-    all_frames c.args.payload.now c.loop-end.places c.args.first c.loop-end.at c.requires c.loop-end.invariant.frames (no_frame_found c.args.payload.now c.args.first c.loop-end.at c.in_default.ensures.end) (sym c.in-None.ensures)
+    all_frames c.args.payload.now c.loop-end.places c.args.first c.loop-end.at c.requires c.loop-end.invariant.frames
+    (no_frame_found c.args.payload.now c.args.first c.loop-end.at c.in_default.ensures.end) (sym c.in-None.ensures)

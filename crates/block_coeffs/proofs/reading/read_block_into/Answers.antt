@@ -34,5 +34,6 @@ returns-clause-advances g c =
 
 pub returns-clause-exact : goal.returns-clause-exact
 returns-clause-exact g c = λ b rest comes.
-    block-exact c.args.way (record { dc = c.in_ok-into.field-0; pairs = c.read_pairs.new.into }) b (bits_left c.args.from.now) (bits_left c.read_pairs.new.from) (place c.args.from.now) (place c.read_pairs.new.from) rest
+    block-exact c.args.way (record { dc = c.in_ok-into.field-0; pairs = c.read_pairs.new.into }) b (bits_left c.args.from.now)
+    (bits_left c.read_pairs.new.from) (place c.args.from.now) (place c.read_pairs.new.from) rest
     c.read_pairs.result (returns-clause-ok g c) (returns-clause-refused g c) comes

@@ -26,7 +26,8 @@ coefficients-preserved g c =
     let index = c.coefficients.index in
     let here = c.coefficients.from in
     let window = c.held_window.result in
-    let shows : IfSome (bits_left here) (ShowsFront window) = held-shown (bits_left here) (bits_left c.hold.new.self) c.hold.new.self.held window c.in_ok-hold.ensures.left c.in_ok-hold.ensures.few c.held_window.ensures.shows in
+    let shows : IfSome (bits_left here) (ShowsFront window) = held-shown (bits_left here)
+    (bits_left c.hold.new.self) c.hold.new.self.held window c.in_ok-hold.ensures.left c.in_ok-hold.ensures.few c.held_window.ensures.shows in
     let table_is : table ≡ coefficient_table way index = c.table_at.ensures.table in
     let after = c.skip-in-Pair.new.self in
     let len = c.in-Pair.len in
@@ -37,10 +38,12 @@ coefficients-preserved g c =
     let moved : place after ≡ place here + len = c.skip-in-Pair.ensures.place ∙ ap (λ n. n + len) c.in_ok-hold.ensures.place in
     let kept = keeps_then g.met.S.Source.keeps_on c.coefficients.invariant.keeps c.in_ok-hold.ensures.keeps in
     record {
-      so_far = λ bits at r. pair-read way before table index table_is c.coefficients.invariant.place.is window (bits_left here) (bits_left after) (place here) (place after) shows bits at c.in-Pair.run' c.in-Pair.level held len c.push.new.self.items
+      so_far = λ bits at r. pair-read way before table index table_is c.coefficients.invariant.place.is window (bits_left here) (bits_left after)
+          (place here) (place after) shows bits at c.in-Pair.run' c.in-Pair.level held len c.push.new.self.items
           (c.in-Pair.ensures.0, c.in-Pair.ensures.1, c.in-Pair.ensures.2) level left moved c.push.ensures.items (c.coefficients.invariant.so_far bits at r);
       advanced = advances-on c.coefficients.invariant.advanced (advances-found (bits_left here) (bits_left after) window len (place here) (place after) shows c.in-Pair.ensures.0 left moved);
-      place = more-behind way before c.push.new.self.items (record { run = c.in-Pair.run'; level = held }) index c.from.result (index + (c.from.result + 1)) c.coefficients.invariant.place c.in-Pair.ensures.1 c.from.ensures refl c.push.ensures.items;
+      place = more-behind way before c.push.new.self.items (record { run = c.in-Pair.run'; level = held }) index c.from.result
+          (index + (c.from.result + 1)) c.coefficients.invariant.place c.in-Pair.ensures.1 c.from.ensures refl c.push.ensures.items;
       keeps = search rules;
     }
 
@@ -52,12 +55,15 @@ returns-in-EndOfBlock-clause-ok g c = λ bits at r.
     let index = c.coefficients.index in
     let here = c.coefficients.from in
     let window = c.held_window.result in
-    let shows : IfSome (bits_left here) (ShowsFront window) = held-shown (bits_left here) (bits_left c.hold.new.self) c.hold.new.self.held window c.in_ok-hold.ensures.left c.in_ok-hold.ensures.few c.held_window.ensures.shows in
+    let shows : IfSome (bits_left here) (ShowsFront window) = held-shown (bits_left here)
+    (bits_left c.hold.new.self) c.hold.new.self.held window c.in_ok-hold.ensures.left c.in_ok-hold.ensures.few c.held_window.ensures.shows in
     let table_is : table ≡ coefficient_table way index = c.table_at.ensures.table in
     let after = c.skip.new.self in
     let len = c.in-EndOfBlock.len in
-    end-read way before table index table_is c.coefficients.invariant.place.is window (bits_left here) (bits_left after) (place here) (place after) shows bits at len (c.in-EndOfBlock.ensures.0, c.in-EndOfBlock.ensures.1)
-    (c.skip.ensures.left ∙ ap (λ told. option_map (drop len) told) c.in_ok-hold.ensures.left) (c.skip.ensures.place ∙ ap (λ n. n + len) c.in_ok-hold.ensures.place) (c.coefficients.invariant.so_far bits at r)
+    end-read way before table index table_is c.coefficients.invariant.place.is window (bits_left here) (bits_left after) (place here)
+    (place after) shows bits at len (c.in-EndOfBlock.ensures.0, c.in-EndOfBlock.ensures.1)
+    (c.skip.ensures.left ∙ ap (λ told. option_map (drop len) told) c.in_ok-hold.ensures.left)
+    (c.skip.ensures.place ∙ ap (λ n. n + len) c.in_ok-hold.ensures.place) (c.coefficients.invariant.so_far bits at r)
 
 pub returns-in-Refused-clause-refused : goal.returns-in-Refused-clause-refused
 returns-in-Refused-clause-refused g c = λ bits at r.
@@ -67,7 +73,9 @@ returns-in-Refused-clause-refused g c = λ bits at r.
     let index = c.coefficients.index in
     let here = c.coefficients.from in
     let window = c.held_window.result in
-    let shows : IfSome (bits_left here) (ShowsFront window) = held-shown (bits_left here) (bits_left c.hold.new.self) c.hold.new.self.held window c.in_ok-hold.ensures.left c.in_ok-hold.ensures.few c.held_window.ensures.shows in
+    let shows : IfSome (bits_left here) (ShowsFront window) = held-shown (bits_left here)
+    (bits_left c.hold.new.self) c.hold.new.self.held window c.in_ok-hold.ensures.left c.in_ok-hold.ensures.few c.held_window.ensures.shows in
     let table_is : table ≡ coefficient_table way index = c.table_at.ensures.table in
-    refused-read way before table index table_is c.coefficients.invariant.place.is window (bits_left here) (bits_left here) (place here) (place here) shows bits at c.in-Refused.why c.in-Refused.behind _ c.at.result
+    refused-read way before table index table_is c.coefficients.invariant.place.is window (bits_left here) (bits_left here) (place here)
+    (place here) shows bits at c.in-Refused.why c.in-Refused.behind _ c.at.result
     (c.in-Refused.ensures.0, c.in-Refused.ensures.1) c.at.ensures (omega arith) (c.coefficients.invariant.so_far bits at r)

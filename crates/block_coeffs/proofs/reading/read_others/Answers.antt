@@ -39,11 +39,13 @@ coefficients-preserved g c =
     let moved : place after ≡ place here + len = c.skip-in-Pair.ensures.place ∙ ap (λ n. n + len) c.in_ok-hold.ensures.place in
     let kept = keeps_then g.met.S.Source.keeps_on c.coefficients.invariant.keeps c.in_ok-hold.ensures.keeps in
     record {
-      so_far = λ bits at r. pair-read way before table index table_is c.coefficients.invariant.place.is window (bits_left here) (bits_left after) (place here) (place after) shows bits at c.in-Pair.run' c.in-Pair.level held len c.push.new.self.items
+      so_far = λ bits at r. pair-read way before table index table_is c.coefficients.invariant.place.is window (bits_left here) (bits_left after)
+          (place here) (place after) shows bits at c.in-Pair.run' c.in-Pair.level held len c.push.new.self.items
           (c.in-Pair.ensures.0, c.in-Pair.ensures.1, c.in-Pair.ensures.2) level left moved c.push.ensures.items (c.coefficients.invariant.so_far bits at r);
       advanced = advances-on c.coefficients.invariant.advanced (advances-found (bits_left here) (bits_left after) window len (place here) (place after) shows c.in-Pair.ensures.0 left moved);
       behind = omega arith;
-      place = more-behind way before c.push.new.self.items (record { run = c.in-Pair.run'; level = held }) index c.from.result (index + (c.from.result + 1)) c.coefficients.invariant.place c.in-Pair.ensures.1 c.from.ensures refl c.push.ensures.items;
+      place = more-behind way before c.push.new.self.items (record { run = c.in-Pair.run'; level = held }) index c.from.result
+          (index + (c.from.result + 1)) c.coefficients.invariant.place c.in-Pair.ensures.1 c.from.ensures refl c.push.ensures.items;
       keeps = search rules;
     }
 
@@ -59,8 +61,10 @@ returns-in-EndOfBlock-clause-ok g c = λ bits at r.
     let table_is : table ≡ coefficient_table way index = c.requires.table ∙ sym (later-table way index c.coefficients.invariant.behind) in
     let after = c.skip.new.self in
     let len = c.in-EndOfBlock.len in
-    end-read way before table index table_is c.coefficients.invariant.place.is window (bits_left here) (bits_left after) (place here) (place after) shows bits at len (c.in-EndOfBlock.ensures.0, c.in-EndOfBlock.ensures.1)
-    (c.skip.ensures.left ∙ ap (λ told. option_map (drop len) told) c.in_ok-hold.ensures.left) (c.skip.ensures.place ∙ ap (λ n. n + len) c.in_ok-hold.ensures.place) (c.coefficients.invariant.so_far bits at r)
+    end-read way before table index table_is c.coefficients.invariant.place.is window (bits_left here) (bits_left after) (place here)
+    (place after) shows bits at len (c.in-EndOfBlock.ensures.0, c.in-EndOfBlock.ensures.1)
+    (c.skip.ensures.left ∙ ap (λ told. option_map (drop len) told) c.in_ok-hold.ensures.left)
+    (c.skip.ensures.place ∙ ap (λ n. n + len) c.in_ok-hold.ensures.place) (c.coefficients.invariant.so_far bits at r)
 
 pub returns-in-Refused-clause-refused : goal.returns-in-Refused-clause-refused
 returns-in-Refused-clause-refused g c = λ bits at r.
@@ -72,9 +76,12 @@ returns-in-Refused-clause-refused g c = λ bits at r.
     let window = c.whole_window.result in
     let shows : IfSome (bits_left here) (ShowsFront window) = subst (λ told. IfSome told (ShowsFront window)) c.in_ok-hold.ensures.left c.whole_window.ensures.shows in
     let table_is : table ≡ coefficient_table way index = c.requires.table ∙ sym (later-table way index c.coefficients.invariant.behind) in
-    refused-read way before table index table_is c.coefficients.invariant.place.is window (bits_left here) (bits_left here) (place here) (place here) shows bits at c.in-Refused.why c.in-Refused.behind _ c.at.result
+    refused-read way before table index table_is c.coefficients.invariant.place.is window (bits_left here) (bits_left here) (place here)
+    (place here) shows bits at c.in-Refused.why c.in-Refused.behind _ c.at.result
     (c.in-Refused.ensures.0, c.in-Refused.ensures.1) c.at.ensures (omega arith) (c.coefficients.invariant.so_far bits at r)
 
 pub returns-clause-advances : goal.returns-clause-advances
 returns-clause-advances g c =
-    advances-result (bits_left c.args.from.now) (bits_left c.hold.new.self) (bits_left c.read_last.new.from) (place c.args.from.now) (place c.hold.new.self) (place c.read_last.new.from) c.read_last.result (stays-advanced c.coefficients.invariant.advanced c.in_ok-hold.ensures.left c.in_ok-hold.ensures.place) c.read_last.ensures.advances
+    advances-result (bits_left c.args.from.now) (bits_left c.hold.new.self) (bits_left c.read_last.new.from) (place c.args.from.now)
+    (place c.hold.new.self) (place c.read_last.new.from) c.read_last.result
+    (stays-advanced c.coefficients.invariant.advanced c.in_ok-hold.ensures.left c.in_ok-hold.ensures.place) c.read_last.ensures.advances

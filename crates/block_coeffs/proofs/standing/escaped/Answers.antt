@@ -14,7 +14,8 @@ returns-then-window-lt-WINDOW_BITS c = λ table len tests b.
 pub returns-then-level-eq-FORBIDDEN_LEVEL : goal.returns-then-level-eq-FORBIDDEN_LEVEL
 returns-then-level-eq-FORBIDDEN_LEVEL c = λ table len tests b.
     let full : c.args.window.known ≡ 24 = (let within = c.args.window.within in omega arith) in
-    forbidden-whole (coefficients-is table tests) c.args.place c.args.window len b full c.if-place-run.false (elim c.if-level-eq-FORBIDDEN_LEVEL.either [ inl zero_is ↦ inl zero_is | inr (not_zero, least_is) ↦ inr least_is ])
+    forbidden-whole (coefficients-is table tests) c.args.place c.args.window len b full c.if-place-run.false
+    (elim c.if-level-eq-FORBIDDEN_LEVEL.either [ inl zero_is ↦ inl zero_is | inr (not_zero, least_is) ↦ inr least_is ])
 
 pub returns-else-level-eq-FORBIDDEN_LEVEL : goal.returns-else-level-eq-FORBIDDEN_LEVEL
 returns-else-level-eq-FORBIDDEN_LEVEL c = λ table len tests b.
@@ -22,5 +23,6 @@ returns-else-level-eq-FORBIDDEN_LEVEL c = λ table len tests b.
     let level = c.in_twos_complement.result in
     let fits : SFits w16 level = search rules in
     let level_is = to_z-of_z w16 level fits ∙ c.in_twos_complement.ensures in
-    let found = pair-whole (coefficients-is table tests) c.args.place c.args.window len b full (to_z w16 (of_z w16 level)) c.if-place-run.false c.if-level-eq-FORBIDDEN_LEVEL.false.0 c.if-level-eq-FORBIDDEN_LEVEL.false.1 level_is in
+    let found = pair-whole (coefficients-is table tests) c.args.place c.args.window len b full
+    (to_z w16 (of_z w16 level)) c.if-place-run.false c.if-level-eq-FORBIDDEN_LEVEL.false.0 c.if-level-eq-FORBIDDEN_LEVEL.false.1 level_is in
     (found.0, found.1, found.2)

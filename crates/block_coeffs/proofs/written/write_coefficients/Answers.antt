@@ -33,7 +33,8 @@ returns-in_err-write_coefficient g c =
     let more = written_coefficients c.args.way (c.loop-pair.place + (pair.run + 1)) (drop (c.loop-pair.pair-index + 1) c.args.pairs.now) in
     writes_as (writes_exit c.from_residual.result more c.from_residual.ensures.1 (writes_then g.met.K.Sink.keeps_on c.loop-pair.invariant.put c.in_err-write_coefficient.ensures))
     (ap (λ table. (c.loop-pair.invariant.done ++ written_coefficient table pair) ++ more) c.loop-pair.invariant.table
-    ∙ one_more c.args.way c.loop-pair.place c.loop-pair.pair-index c.args.pairs.now c.loop-pair.invariant.done (written_coefficients c.args.way (first_place c.args.way) c.args.pairs.now) c.loop-pair.invariant.rest no_pair within)
+    ∙ one_more c.args.way c.loop-pair.place c.loop-pair.pair-index c.args.pairs.now c.loop-pair.invariant.done
+    (written_coefficients c.args.way (first_place c.args.way) c.args.pairs.now) c.loop-pair.invariant.rest no_pair within)
 
 pub loop-pair-preserved : goal.loop-pair-preserved
 loop-pair-preserved g c =
@@ -43,12 +44,17 @@ loop-pair-preserved g c =
       done = c.loop-pair.invariant.done ++ written_coefficient c.loop-pair.table pair;
       put = writes_then g.met.K.Sink.keeps_on c.loop-pair.invariant.put c.in_ok-write_coefficient.ensures;
       rest =
-          ap₂ (λ (table : TableName) (run : ℕ). (c.loop-pair.invariant.done ++ written_coefficient table pair) ++ written_coefficients c.args.way (c.loop-pair.place + (run + 1)) (drop (c.loop-pair.pair-index + 1) c.args.pairs.now)) c.loop-pair.invariant.table c.from.ensures
-          ∙ one_more c.args.way c.loop-pair.place c.loop-pair.pair-index c.args.pairs.now c.loop-pair.invariant.done (written_coefficients c.args.way (first_place c.args.way) c.args.pairs.now) c.loop-pair.invariant.rest no_pair within;
+          ap₂ (λ (table : TableName) (run : ℕ). (c.loop-pair.invariant.done ++ written_coefficient table pair)
+          ++ written_coefficients c.args.way (c.loop-pair.place + (run + 1)) (drop (c.loop-pair.pair-index + 1) c.args.pairs.now))
+          c.loop-pair.invariant.table c.from.ensures
+          ∙ one_more c.args.way c.loop-pair.place c.loop-pair.pair-index c.args.pairs.now c.loop-pair.invariant.done
+          (written_coefficients c.args.way (first_place c.args.way) c.args.pairs.now) c.loop-pair.invariant.rest no_pair within;
       table = c.table_at-later.ensures.table ∙ sym (later-table c.args.way (c.loop-pair.place + (c.from.result + 1)) (omega arith));
       coefficients = c.table_at-later.ensures.coefficients;
       stand = subst (λ run. CanFollow (c.loop-pair.place + (run + 1)) (drop (c.loop-pair.pair-index + 1) c.args.pairs.now)) (sym c.from.ensures)
-          (others_follow c.args.way c.loop-pair.place c.loop-pair.pair-index c.args.pairs.now c.loop-pair.invariant.done (written_coefficients c.args.way (first_place c.args.way) c.args.pairs.now) c.loop-pair.invariant.rest no_pair within c.loop-pair.invariant.stand);
+          (others_follow c.args.way c.loop-pair.place c.loop-pair.pair-index c.args.pairs.now c.loop-pair.invariant.done
+          (written_coefficients c.args.way (first_place c.args.way) c.args.pairs.now) c.loop-pair.invariant.rest no_pair within
+          c.loop-pair.invariant.stand);
     }
 
 pub returns : goal.returns
@@ -56,4 +62,5 @@ returns g c =
     let past : length c.args.pairs.now ≤ c.loop-pair.pair-index = omega (arith, c.loop-pair-test.false) in
     writes_as (writes_then g.met.K.Sink.keeps_on c.loop-pair.invariant.put c.write_code.ensures)
     (ap (λ table. c.loop-pair.invariant.done ++ code_for table END_OF_BLOCK) c.loop-pair.invariant.table
-    ∙ only_the_end c.args.way c.loop-pair.place c.loop-pair.pair-index c.args.pairs.now c.loop-pair.invariant.done (written_coefficients c.args.way (first_place c.args.way) c.args.pairs.now) c.loop-pair.invariant.rest past)
+    ∙ only_the_end c.args.way c.loop-pair.place c.loop-pair.pair-index c.args.pairs.now c.loop-pair.invariant.done
+    (written_coefficients c.args.way (first_place c.args.way) c.args.pairs.now) c.loop-pair.invariant.rest past)

@@ -34,7 +34,8 @@ loop-code-preserved c =
             ∙ sym (next ∙ rw (sym w.is_slice.ensures ∙ w.if-is_slice.false, sym c.is_unit_start.ensures ∙ w.if-is_unit_start.false) (as_before c.loop-code.behind_slice))
       ];
       passed = none_up_to es c.args.from c.loop-code.at at c.loop-code.invariant.passed c.in-Some.ensures.first (elim c.if-is_unit_start.branch [
-        | then-is_unit_start+else-behind_slice w ↦ no_cut_before_slice es c.loop-code.at at c.loop-code.behind_slice c.in-Some.ensures.found.0 c.in-Some.ensures.first c.loop-code.invariant.state w.if-behind_slice.false
+        | then-is_unit_start+else-behind_slice w ↦ no_cut_before_slice es c.loop-code.at at c.loop-code.behind_slice c.in-Some.ensures.found.0
+            c.in-Some.ensures.first c.loop-code.invariant.state w.if-behind_slice.false
         | else-is_unit_start+then-is_slice w ↦ no_cut_elsewhere es at value c.in-Some.ensures.found.2 (sym c.is_unit_start.ensures ∙ w.if-is_unit_start.false)
         | else-is_unit_start+else-is_slice w ↦ no_cut_elsewhere es at value c.in-Some.ensures.found.2 (sym c.is_unit_start.ensures ∙ w.if-is_unit_start.false)
       ]);

@@ -20,12 +20,14 @@ loop-cut-preserved c =
         | else-cut-first+in_ok-push w ↦ omega (arith, w.dropped-is, c.loop-cut.invariant.counted)
       ];
       dropped = elim c.if-cut-first.branch [
-        | then-cut-first w ↦ dropped_more es first from cut c.loop-cut.dropped c.if-cut-first.dropped (2 ^ 32 - 1) _ next w.if-cut-first.true (w.dropped-is ∙ w.saturating_add-dropped.ensures) c.loop-cut.invariant.dropped
+        | then-cut-first w ↦ dropped_more es first from cut c.loop-cut.dropped c.if-cut-first.dropped (2 ^ 32 - 1) _ next w.if-cut-first.true
+            (w.dropped-is ∙ w.saturating_add-dropped.ensures) c.loop-cut.invariant.dropped
         | else-cut-first+in_ok-push w ↦ rw w.dropped-is (dropped_same es first from cut c.loop-cut.dropped (2 ^ 32 - 1) _ next w.if-cut-first.false c.loop-cut.invariant.dropped)
       ];
       cuts = elim c.if-cut-first.branch [
         | then-cut-first w ↦ rw (w.cuts-is, w.begin-is) (spans_same es first from cut c.loop-cut.begin c.loop-cut.cuts _ next w.if-cut-first.true c.loop-cut.invariant.cuts)
-        | else-cut-first+in_ok-push w ↦ rw (w.cuts-is, w.begin-is, w.in_ok-push.ensures.ok) (spans_more es first from cut c.loop-cut.begin c.loop-cut.cuts _ next w.if-cut-first.false c.loop-cut.invariant.cuts)
+        | else-cut-first+in_ok-push w ↦ rw (w.cuts-is, w.begin-is, w.in_ok-push.ensures.ok)
+            (spans_more es first from cut c.loop-cut.begin c.loop-cut.cuts _ next w.if-cut-first.false c.loop-cut.invariant.cuts)
       ];
     }
 

@@ -9,4 +9,5 @@ pub returns-in-Ok-clause-right : goal.returns-in-Ok-clause-right
 returns-in-Ok-clause-right c = right_tells _ _ _ _ c.in-Some.ensures c.in-Ok.ensures.right
 
 pub returns-in-Err-clause-wrong : goal.returns-in-Err-clause-wrong
-returns-in-Err-clause-wrong c = wrong_tells _ _ (optional_field c.args.name.now is_integer (is_between c.args.least c.args.most)) _ c.in-Err.wrong _ c.in-Some.ensures c.in-Err.ensures.wrong c.wrong_fault.ensures
+returns-in-Err-clause-wrong c = wrong_tells _ _ (optional_field c.args.name.now is_integer (is_between c.args.least c.args.most)) _ c.in-Err.wrong _
+    c.in-Some.ensures c.in-Err.ensures.wrong c.wrong_fault.ensures

@@ -9,4 +9,5 @@ pub returns-in-Ok-clause-right : goal.returns-in-Ok-clause-right
 returns-in-Ok-clause-right g c = right_tells _ _ _ _ c.in-Some.ensures c.in-Ok.ensures.right
 
 pub returns-in-Err-clause-wrong : goal.returns-in-Err-clause-wrong
-returns-in-Err-clause-wrong g c = wrong_tells _ _ (optional_field c.args.name.now (is_array_of is_integer) (are_numbers g.row.COUNT c.args.least c.args.most)) _ c.in-Err.wrong _ c.in-Some.ensures c.in-Err.ensures.wrong c.wrong_fault.ensures
+returns-in-Err-clause-wrong g c = wrong_tells _ _ (optional_field c.args.name.now (is_array_of is_integer)
+    (are_numbers g.row.COUNT c.args.least c.args.most)) _ c.in-Err.wrong _ c.in-Some.ensures c.in-Err.ensures.wrong c.wrong_fault.ensures

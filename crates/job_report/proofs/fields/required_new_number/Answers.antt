@@ -11,4 +11,5 @@ returns-in-Ok-clause-right c = right_tells _ _ _ _ c.in-Some.ensures c.in-Ok.ens
 
 pub returns-in-Err-clause-wrong : goal.returns-in-Err-clause-wrong
 returns-in-Err-clause-wrong c =
-    wrong_tells _ _ (required (codes "number") is_integer (is_new_number (map (λ program. program.number) c.args.before.now))) _ c.in-Err.wrong _ c.in-Some.ensures c.in-Err.ensures.wrong c.wrong_fault.ensures
+    wrong_tells _ _ (required (codes "number") is_integer (is_new_number (map (λ program. program.number) c.args.before.now))) _ c.in-Err.wrong _
+    c.in-Some.ensures c.in-Err.ensures.wrong c.wrong_fault.ensures

@@ -12,7 +12,9 @@ returns-in_err-drop-clause-wrong c = search (rules, tells_sixth)
 
 pub returns-in_err-check_program_names-clause-wrong : goal.returns-in_err-check_program_names-clause-wrong
 returns-in_err-check_program_names-clause-wrong c =
-    let wrong : TellsFirst (refusals_of_names (place_of_program (length c.args.before.now)) (table_view c.args.table.now) (program_fields (map (λ program. program.number) c.args.before.now))) c.in_err-check_program_names.field-0.0 =
+    let wrong : TellsFirst (refusals_of_names (place_of_program (length c.args.before.now)) (table_view c.args.table.now)
+    (program_fields (map (λ program. program.number) c.args.before.now))) c.in_err-check_program_names.field-0.0 =
     c.in_err-check_program_names.ensures.wrong (map (λ program. program.number) c.args.before.now) in
     let p = err_from_is_err_and c.from_residual-in_err-check_program_names.result c.from_residual-in_err-check_program_names.ensures.1 in
-    rw (p.1, p.2) (tells_name _ _ _ _ _ _ _ _ c.in_ok-name.ensures.right c.in_ok-program.ensures.right c.in_ok-number.ensures.right c.in_ok-weight.ensures.right c.in_ok-coarser.ensures.right c.in_ok-drop.ensures.right wrong)
+    rw (p.1, p.2) (tells_name _ _ _ _ _ _ _ _ c.in_ok-name.ensures.right c.in_ok-program.ensures.right c.in_ok-number.ensures.right
+    c.in_ok-weight.ensures.right c.in_ok-coarser.ensures.right c.in_ok-drop.ensures.right wrong)

@@ -21,7 +21,8 @@ loop-value-preserved c =
           so_far-table (map view c.args.values.now) c.loop-value.value-index (view c.value-item.result) (table_view w.in-Some.table.now) c.loop-value.programs w.in_ok-program.program
           c.loop-value.invariant within at (sym w.in-Some.ensures) right w.in_ok-program.ensures.program)
       | in_default w ↦
-          rw w.programs-is (so_far-other (map view c.args.values.now) c.loop-value.value-index (view c.value-item.result) c.loop-value.programs c.loop-value.invariant within at (sym w.in_default.ensures))
+          rw w.programs-is (so_far-other (map view c.args.values.now) c.loop-value.value-index
+          (view c.value-item.result) c.loop-value.programs c.loop-value.invariant within at (sym w.in_default.ensures))
     ]
 
 pub returns-in_err-program-clause-wrong : goal.returns-in_err-program-clause-wrong
@@ -29,7 +30,8 @@ returns-in_err-program-clause-wrong c =
     let p = err_from_is_err_and c.from_residual.result c.from_residual.ensures.1 in
     let within = within-view c.args.values.now c.loop-value.value-index c.loop-value-test.true in
     let at = at-view c.args.values.now c.loop-value.value-index c.value-item.result c.loop-value-test.true c.value-item.is in
-    let wrong : TellsFirst (refusals_of_table (place_of_program (length c.loop-value.programs)) (table_view c.in-Some.table.now) (program_fields (numbers_of_programs c.loop-value.programs))) c.in_err-program.field-0.0 =
+    let wrong : TellsFirst (refusals_of_table (place_of_program (length c.loop-value.programs)) (table_view c.in-Some.table.now)
+    (program_fields (numbers_of_programs c.loop-value.programs))) c.in_err-program.field-0.0 =
     rw (← c.as_slice.ensures) c.in_err-program.ensures.wrong in
     rw (p.1, p.2) (
     so_far-wrong (map view c.args.values.now) c.loop-value.value-index (view c.value-item.result) (table_view c.in-Some.table.now) c.loop-value.programs c.in_err-program.field-0.0

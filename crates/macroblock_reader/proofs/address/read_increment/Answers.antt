@@ -22,7 +22,8 @@ pub overflow_sub-left : goal.overflow_sub-left
 overflow_sub-left g c = let most = answers-most Address c.escapes.left BadAddress c.in_ok-symbol.symbol c.escapes.from c.read_symbol.new.from c.in_ok-symbol.ensures in omega arith
 
 pub overflow_add-result : goal.overflow_add-result
-overflow_add-result g c = let most = answers-most Address c.escapes.left BadAddress c.in_ok-symbol.symbol c.escapes.from c.read_symbol.new.from c.in_ok-symbol.ensures in let counted = c.escapes.invariant.counted in omega arith
+overflow_add-result g c = let most = answers-most Address c.escapes.left BadAddress c.in_ok-symbol.symbol c.escapes.from c.read_symbol.new.from
+    c.in_ok-symbol.ensures in let counted = c.escapes.invariant.counted in omega arith
 
 pub escapes-preserved : goal.escapes-preserved
 escapes-preserved g c =
@@ -46,4 +47,5 @@ pub returns-then-symbol-ne-ADDRESS_ESCAPE-clause-some : goal.returns-then-symbol
 returns-then-symbol-ne-ADDRESS_ESCAPE-clause-some g c = let some = address-of_answer c.escapes.left c.in_ok-symbol.symbol c.escapes.from c.read_symbol.new.from c.in_ok-symbol.ensures in omega arith
 
 pub returns-then-symbol-ne-ADDRESS_ESCAPE-clause-within : goal.returns-then-symbol-ne-ADDRESS_ESCAPE-clause-within
-returns-then-symbol-ne-ADDRESS_ESCAPE-clause-within g c = let most = answers-most Address c.escapes.left BadAddress c.in_ok-symbol.symbol c.escapes.from c.read_symbol.new.from c.in_ok-symbol.ensures in let counted = c.escapes.invariant.counted in omega arith
+returns-then-symbol-ne-ADDRESS_ESCAPE-clause-within g c = let most = answers-most Address c.escapes.left BadAddress c.in_ok-symbol.symbol
+    c.escapes.from c.read_symbol.new.from c.in_ok-symbol.ensures in let counted = c.escapes.invariant.counted in omega arith

@@ -35,4 +35,5 @@ loop-i-preserved g c =
     (take-set_at c.loop-i.into i (i + 1) b refl (omega arith)) (length-set c.loop-i.into i b ∙ six) there
 
 pub returns : goal.returns
-returns g c = blocks-all c.args.coding.now c.args.kind c.args.pattern c.loop-i.i c.loop-i.into c.args.from.now c.loop-i.from c.loop-i.invariant (let most = c.loop-i.auto.i-end in omega (arith, c.loop-i-test.false))
+returns g c = blocks-all c.args.coding.now c.args.kind c.args.pattern c.loop-i.i c.loop-i.into c.args.from.now c.loop-i.from c.loop-i.invariant
+    (let most = c.loop-i.auto.i-end in omega (arith, c.loop-i-test.false))

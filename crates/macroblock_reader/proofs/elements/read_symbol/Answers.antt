@@ -20,7 +20,8 @@ returns-in-Symbol g c =
     let grammar = symbol_up_to c.args.table c.args.most kind kind in
     let window = c.held_window.result in
     let len = c.in-Symbol.len in
-    let shows : IfSome (bits_left old) (ShowsFront window) = held-shown (bits_left old) (bits_left c.hold.new.self) c.hold.new.self.held window c.in_ok-hold.ensures.left c.in_ok-hold.ensures.few c.held_window.ensures.shows in
+    let shows : IfSome (bits_left old) (ShowsFront window) = held-shown (bits_left old)
+    (bits_left c.hold.new.self) c.hold.new.self.held window c.in_ok-hold.ensures.left c.in_ok-hold.ensures.few c.held_window.ensures.shows in
     let held = c.in_ok-hold.ensures.keeps in
     let keeps : KeepsSource old new = search rules in
     answers-read grammar c.in-Symbol.symbol old new
@@ -33,7 +34,8 @@ returns-in-NoCode g c =
     let kind = refusal_of c.args.why in
     let grammar = symbol_up_to c.args.table c.args.most kind kind in
     let window = c.held_window.result in
-    let shows : IfSome (bits_left old) (ShowsFront window) = held-shown (bits_left old) (bits_left c.hold.new.self) c.hold.new.self.held window c.in_ok-hold.ensures.left c.in_ok-hold.ensures.few c.held_window.ensures.shows in
+    let shows : IfSome (bits_left old) (ShowsFront window) = held-shown (bits_left old)
+    (bits_left c.hold.new.self) c.hold.new.self.held window c.in_ok-hold.ensures.left c.in_ok-hold.ensures.few c.held_window.ensures.shows in
     subst (λ f. Answers ⊥ grammar (Err f) old c.hold.new.self) (sym c.at.ensures)
     (answers-none grammar c.args.why window _ old c.hold.new.self shows (c.in-NoCode.ensures kind kind) c.in_ok-hold.ensures.left c.in_ok-hold.ensures.place c.place.ensures c.in_ok-hold.ensures.keeps)
 
@@ -43,9 +45,11 @@ returns-in-PastMost g c =
     let kind = refusal_of c.args.why in
     let grammar = symbol_up_to c.args.table c.args.most kind kind in
     let window = c.held_window.result in
-    let shows : IfSome (bits_left old) (ShowsFront window) = held-shown (bits_left old) (bits_left c.hold.new.self) c.hold.new.self.held window c.in_ok-hold.ensures.left c.in_ok-hold.ensures.few c.held_window.ensures.shows in
+    let shows : IfSome (bits_left old) (ShowsFront window) = held-shown (bits_left old)
+    (bits_left c.hold.new.self) c.hold.new.self.held window c.in_ok-hold.ensures.left c.in_ok-hold.ensures.few c.held_window.ensures.shows in
     subst (λ f. Answers ⊥ grammar (Err f) old c.hold.new.self) (sym c.at-in-PastMost.ensures)
-    (answers-none grammar c.args.why window _ old c.hold.new.self shows (c.in-PastMost.ensures kind kind) c.in_ok-hold.ensures.left c.in_ok-hold.ensures.place c.place-in-PastMost.ensures c.in_ok-hold.ensures.keeps)
+    (answers-none grammar c.args.why window _ old c.hold.new.self shows
+    (c.in-PastMost.ensures kind kind) c.in_ok-hold.ensures.left c.in_ok-hold.ensures.place c.place-in-PastMost.ensures c.in_ok-hold.ensures.keeps)
 
 pub returns-in-Cut : goal.returns-in-Cut
 returns-in-Cut g c =
@@ -53,6 +57,8 @@ returns-in-Cut g c =
     let kind = refusal_of c.args.why in
     let grammar = symbol_up_to c.args.table c.args.most kind kind in
     let window = c.held_window.result in
-    let shows : IfSome (bits_left old) (ShowsFront window) = held-shown (bits_left old) (bits_left c.hold.new.self) c.hold.new.self.held window c.in_ok-hold.ensures.left c.in_ok-hold.ensures.few c.held_window.ensures.shows in
+    let shows : IfSome (bits_left old) (ShowsFront window) = held-shown (bits_left old)
+    (bits_left c.hold.new.self) c.hold.new.self.held window c.in_ok-hold.ensures.left c.in_ok-hold.ensures.few c.held_window.ensures.shows in
     subst (λ f. Answers ⊥ grammar (Err f) old c.hold.new.self) (sym c.at-in-Cut.ensures)
-    (answers-none grammar why.End window _ old c.hold.new.self shows (c.in-Cut.ensures kind kind) c.in_ok-hold.ensures.left c.in_ok-hold.ensures.place c.place-in-Cut.ensures c.in_ok-hold.ensures.keeps)
+    (answers-none grammar why.End window _ old c.hold.new.self shows
+    (c.in-Cut.ensures kind kind) c.in_ok-hold.ensures.left c.in_ok-hold.ensures.place c.place-in-Cut.ensures c.in_ok-hold.ensures.keeps)

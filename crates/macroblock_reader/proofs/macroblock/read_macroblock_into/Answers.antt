@@ -6,7 +6,8 @@ use Rattle.macroblock_reader.proofs.Macroblocks.{whole-ok, whole-refused, whole-
 use Rattle.macroblock_reader.proofs.macroblock.read_macroblock_into.Goals as goal
 
 pub returns-clause-ok : goal.returns-clause-ok
-returns-clause-ok g c = whole-ok (macroblock c.args.coding.now c.args.first c.args.columns_left) c.read_parts.new.into c.args.from.now c.read_parts.new.from c.read_parts.result c.read_parts.ensures.answers
+returns-clause-ok g c = whole-ok (macroblock c.args.coding.now c.args.first c.args.columns_left) c.read_parts.new.into c.args.from.now
+    c.read_parts.new.from c.read_parts.result c.read_parts.ensures.answers
 
 pub returns-clause-exact : goal.returns-clause-exact
 returns-clause-exact g c = λ m rest comes.
@@ -14,7 +15,8 @@ returns-clause-exact g c = λ m rest comes.
     (exact-macroblock c.args.coding.now c.args.first c.args.columns_left) m rest comes c.read_parts.result c.read_parts.ensures.answers
 
 pub returns-clause-refused : goal.returns-clause-refused
-returns-clause-refused g c = whole-refused (macroblock c.args.coding.now c.args.first c.args.columns_left) c.read_parts.new.into c.args.from.now c.read_parts.new.from c.read_parts.result c.read_parts.ensures.answers
+returns-clause-refused g c = whole-refused (macroblock c.args.coding.now c.args.first c.args.columns_left) c.read_parts.new.into c.args.from.now
+    c.read_parts.new.from c.read_parts.result c.read_parts.ensures.answers
 
 pub returns-clause-memory : goal.returns-clause-memory
 returns-clause-memory g c = λ is. c.read_parts.ensures.answers.memory

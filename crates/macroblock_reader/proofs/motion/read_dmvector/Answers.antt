@@ -12,7 +12,8 @@ returns-then-known-eq0 g c =
 pub returns-then-known-eq1 : goal.returns-then-known-eq1
 returns-then-known-eq1 g c =
     let e = c.in_ok-bits.ensures in
-    dmvector-end c.in_ok-bits.bits c.in_ok-bits.known c.args.from.now e.window e.below e.unknown c.place-at.result c.peek.new.self c.place-at.ensures (inr (c.if-known-eq1.true, c.if-bits-lt2.false)) e.left e.place e.keeps
+    dmvector-end c.in_ok-bits.bits c.in_ok-bits.known c.args.from.now e.window e.below e.unknown c.place-at.result c.peek.new.self c.place-at.ensures
+    (inr (c.if-known-eq1.true, c.if-bits-lt2.false)) e.left e.place e.keeps
 
 pub returns-then-bits-lt2 : goal.returns-then-bits-lt2
 returns-then-bits-lt2 g c =

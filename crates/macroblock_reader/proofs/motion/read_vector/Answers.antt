@@ -65,7 +65,13 @@ returns g c =
     let fits_v : SFits w8 v.code = search rules in
     let fits_hd : SFits w8 h.difference = search rules in
     let fits_vd : SFits w8 v.difference = search rules in
-    rw (to_z-of_z w8 h.code fits_h, to_z-of_z w8 v.code fits_v, c.differences.ensures, to_z-of_z w8 h.difference fits_hd, to_z-of_z w8 v.difference fits_vd) (course-end (motion_vector codes format) (record {
+    rw (
+      to_z-of_z w8 h.code fits_h,
+      to_z-of_z w8 v.code fits_v,
+      c.differences.ensures,
+      to_z-of_z w8 h.difference fits_hd,
+      to_z-of_z w8 v.difference fits_vd,
+    ) (course-end (motion_vector codes format) (record {
       select = select;
       code = h.code ∷ v.code ∷ [];
       residual = h.residual ∷ v.residual ∷ [];

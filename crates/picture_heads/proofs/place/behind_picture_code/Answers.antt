@@ -8,7 +8,8 @@ returns-then-value-eq-PICTURE c = λ n following rest leads whole enough.
     let head = c.args.head.now in
     let (k, l) = c.loop-code.invariant.leads n following rest leads whole enough in
     let first : IsFirstAt head c.loop-code.at c.in-Some.code _ = record { begun = c.in-Some.ensures.found.0; is_code = c.in-Some.ensures.found.1; said = refl; none = c.in-Some.ensures.first } in
-    let (within, size) = walk-here head following (bytes-are head c.type_inv.head) whole k c.loop-code.at c.in-Some.code _ rest c.loop-code.invariant.within enough l first c.if-value-eq-PICTURE.true in
+    let (within, size) = walk-here head following (bytes-are head c.type_inv.head) whole k c.loop-code.at c.in-Some.code _ rest
+    c.loop-code.invariant.within enough l first c.if-value-eq-PICTURE.true in
     (c.in-Some.code + 4, refl, within, size)
 
 pub loop-code-preserved : goal.loop-code-preserved

@@ -10,16 +10,20 @@ is c = c.word_of.ensures ∙ ap (code_word c.args.table) c.place_of.ensures
 
 pub returns-clause-code : goal.returns-clause-code
 returns-clause-code c =
-    code_clause c.word_of.result (place_of c.args.table c.args.symbol) c.args.table (is c) (code_in c.args.table c.args.symbol) (code_in-some c.args.table c.args.symbol) c.in_word.result c.in_word.ensures.some
+    code_clause c.word_of.result (place_of c.args.table c.args.symbol) c.args.table (is c) (code_in c.args.table c.args.symbol)
+    (code_in-some c.args.table c.args.symbol) c.in_word.result c.in_word.ensures.some
 
 pub returns-clause-fits : goal.returns-clause-fits
 returns-clause-fits c =
-    fits_clause c.word_of.result (place_of c.args.table c.args.symbol) c.args.table (is c) (code_in c.args.table c.args.symbol) (code_in-some c.args.table c.args.symbol) c.in_word.result c.in_word.ensures.some
+    fits_clause c.word_of.result (place_of c.args.table c.args.symbol) c.args.table (is c) (code_in c.args.table c.args.symbol)
+    (code_in-some c.args.table c.args.symbol) c.in_word.result c.in_word.ensures.some
 
 pub returns-clause-len : goal.returns-clause-len
 returns-clause-len c =
-    len_clause c.word_of.result (place_of c.args.table c.args.symbol) c.args.table (is c) (code_in c.args.table c.args.symbol) (code_in-some c.args.table c.args.symbol) c.in_word.result c.in_word.ensures.some
+    len_clause c.word_of.result (place_of c.args.table c.args.symbol) c.args.table (is c) (code_in c.args.table c.args.symbol)
+    (code_in-some c.args.table c.args.symbol) c.in_word.result c.in_word.ensures.some
 
 pub returns-clause-none : goal.returns-clause-none
 returns-clause-none c =
-    none_clause c.word_of.result (place_of c.args.table c.args.symbol) c.args.table (is c) (code_in c.args.table c.args.symbol) (code_in-some c.args.table c.args.symbol) (code_in-none c.args.table c.args.symbol) c.in_word.result c.in_word.ensures.none
+    none_clause c.word_of.result (place_of c.args.table c.args.symbol) c.args.table (is c) (code_in c.args.table c.args.symbol)
+    (code_in-some c.args.table c.args.symbol) (code_in-none c.args.table c.args.symbol) c.in_word.result c.in_word.ensures.none

@@ -12,4 +12,5 @@ returns-then-from-known-clause-front c =
 
 pub returns-clause-front : goal.returns-clause-front
 returns-clause-front c =
-    known_answer c.args.table c.args.window c.args.known c.word_at-word.result c.number.result c.length-len.result c.word_at-word.ensures c.number.ensures c.length-len.ensures (omega arith) (omega arith)
+    known_answer c.args.table c.args.window c.args.known c.word_at-word.result c.number.result c.length-len.result c.word_at-word.ensures
+    c.number.ensures c.length-len.ensures (omega arith) (omega arith)

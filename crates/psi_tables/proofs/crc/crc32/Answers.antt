@@ -10,7 +10,8 @@ loop-byte-init c = crc_of_none
 
 pub loop-byte-preserved : goal.loop-byte-preserved
 loop-byte-preserved c =
-    subst (IsCrcOf c.with_byte-crc.result) (sym (take_more c.args.bytes.now c.loop-byte.byte-index 0 (omega arith))) (c.with_byte-crc.ensures (take c.loop-byte.byte-index c.args.bytes.now) c.loop-byte.invariant)
+    subst (IsCrcOf c.with_byte-crc.result) (sym (take_more c.args.bytes.now c.loop-byte.byte-index 0 (omega arith)))
+    (c.with_byte-crc.ensures (take c.loop-byte.byte-index c.args.bytes.now) c.loop-byte.invariant)
 
 pub returns-clause-value : goal.returns-clause-value
 returns-clause-value c = subst (IsCrcOf c.loop-byte.crc) (take_all c.loop-byte.byte-index c.args.bytes.now (omega arith)) c.loop-byte.invariant

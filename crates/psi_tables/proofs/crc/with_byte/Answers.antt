@@ -8,4 +8,5 @@ use Rattle.psi_tables.proofs.crc.with_byte.Goals as goal
 pub returns : goal.returns
 returns c =
     let rest : bit_and c.args.crc 0xFFFFFF * 256 % 2 ^ 32 ≡ c.args.crc % 2 ^ 24 * 2 ^ 8 = omega (arith, and_mask c.args.crc 24) in λ bytes is.
-    subst (λ (x : ℕ). IsCrcOf (bit_xor x c.remainder_of.result) (bytes ++ c.args.byte ∷ [])) (sym rest) (with_byte c.args.crc c.args.byte c.remainder_of.result bytes c.ranges.byte.fits is c.remainder_of.ensures)
+    subst (λ (x : ℕ). IsCrcOf (bit_xor x c.remainder_of.result) (bytes ++ c.args.byte ∷ [])) (sym rest)
+    (with_byte c.args.crc c.args.byte c.remainder_of.result bytes c.ranges.byte.fits is c.remainder_of.ensures)

@@ -6,7 +6,8 @@ use Rattle.psi_tables.proofs.descriptors.count_descriptors.Goals as goal
 
 pub returns-in_err-after-clause-exact : goal.returns-in_err-after-clause-exact
 returns-in_err-after-clause-exact c = λ descriptors row.
-    let next = next_descriptor c.args.bytes.now c.loop-rest.rest.now c.loop-rest.invariant.0 descriptors c.loop-rest.invariant.1 row (not_empty c.is_empty.result (length c.loop-rest.rest.now) c.is_empty.ensures c.loop-rest-test.true) in
+    let next = next_descriptor c.args.bytes.now c.loop-rest.rest.now c.loop-rest.invariant.0 descriptors c.loop-rest.invariant.1 row
+    (not_empty c.is_empty.result (length c.loop-rest.rest.now) c.is_empty.ensures c.loop-rest-test.true) in
     absurd (c.in_err-after.ensures next.0 next.1 next.2 next.3)
 
 pub loop-rest-preserved : goal.loop-rest-preserved
@@ -22,5 +23,6 @@ loop-rest-preserved c =
 
 pub returns-clause-exact : goal.returns-clause-exact
 returns-clause-exact c = λ descriptors row.
-    let same = one_row IsDescriptor descriptors_told c.args.bytes.now c.loop-rest.rest.now c.loop-rest.invariant.0 descriptors c.loop-rest.invariant.1 (empty c.is_empty.result (length c.loop-rest.rest.now) c.is_empty.ensures c.loop-rest-test.false) row in
+    let same = one_row IsDescriptor descriptors_told c.args.bytes.now c.loop-rest.rest.now c.loop-rest.invariant.0 descriptors c.loop-rest.invariant.1
+    (empty c.is_empty.result (length c.loop-rest.rest.now) c.is_empty.ensures c.loop-rest-test.false) row in
     ap Some (c.loop-rest.invariant.2 ∙ ap length (sym same))

@@ -9,7 +9,15 @@ use Rattle.psi_tables.proofs.pat.put_programs.Goals as goal
 pub put_program-requires-clause-room : goal.put_program-requires-clause-room
 put_program-requires-clause-room c =
     let before : List (ℕ × ℕ) = take c.loop-number.number-index c.args.programs.now in
-    omega (arith, c.requires.room, c.requires.few, ap length c.loop-number.invariant.bytes, length-append c.args.into.now.items (flat_map written_program before), length-written_programs before, length-take c.loop-number.number-index c.args.programs.now)
+    omega (
+      arith,
+      c.requires.room,
+      c.requires.few,
+      ap length c.loop-number.invariant.bytes,
+      length-append c.args.into.now.items (flat_map written_program before),
+      length-written_programs before,
+      length-take c.loop-number.number-index c.args.programs.now,
+    )
 
 pub loop-number-preserved : goal.loop-number-preserved
 loop-number-preserved c =

@@ -7,7 +7,14 @@ use Rattle.psi_tables.proofs.pat.write_pat.Goals as goal
 
 pub put_crc-requires : goal.put_crc-requires
 put_crc-requires c =
-    omega (arith, c.requires.few, ap length c.put_programs.ensures.bytes, ap length c.put_header.ensures.bytes, length-append c.put_header.new.into.items (flat_map written_program c.args.programs.now), length-written_programs c.args.programs.now)
+    omega (
+      arith,
+      c.requires.few,
+      ap length c.put_programs.ensures.bytes,
+      ap length c.put_header.ensures.bytes,
+      length-append c.put_header.new.into.items (flat_map written_program c.args.programs.now),
+      length-written_programs c.args.programs.now,
+    )
 
 pub returns-clause-bytes : goal.returns-clause-bytes
 returns-clause-bytes c =

@@ -32,7 +32,9 @@ pub returns-in_err-streams-clause-only : goal.returns-in_err-streams-clause-only
 returns-in_err-streams-clause-only c = λ program is room number.
     let head = c.in_ok-pcr_high.ensures.cases in
     let cut =
-    cut_at c.args.content.now c.in_ok-pcr_high.field-0-0.now c.in_ok-pcr_high.rest.now c.split_at.result.0.now c.split_at.result.1.now c.from_be_bytes-info_length.result (λ i. omega (arith, c.type_inv.content i)) head.0 head.1 (omega (arith, head.2)) c.from_be_bytes-info_length.ensures c.if-rest-info_length.false c.split_at.ensures.front c.split_at.ensures.back in
+    cut_at c.args.content.now c.in_ok-pcr_high.field-0-0.now c.in_ok-pcr_high.rest.now c.split_at.result.0.now c.split_at.result.1.now
+    c.from_be_bytes-info_length.result (λ i. omega (arith, c.type_inv.content i)) head.0 head.1
+    (omega (arith, head.2)) c.from_be_bytes-info_length.ensures c.if-rest-info_length.false c.split_at.ensures.front c.split_at.ensures.back in
     let keeps = keepable_from program is.streams is.kept room in
     let none = c.in_err-streams.ensures.exact is.streams (subst (IsItemRow IsStreamInfo is.streams) (sym cut.streams_are) is.streams_are) keeps.0 keeps.1 in
     absurd (cc none)
@@ -42,14 +44,22 @@ returns-clause-some c =
     let content : List ℕ = c.args.content.now in
     let head = c.in_ok-pcr_high.ensures.cases in
     let cut =
-    cut_at content c.in_ok-pcr_high.field-0-0.now c.in_ok-pcr_high.rest.now c.split_at.result.0.now c.split_at.result.1.now c.from_be_bytes-info_length.result (λ i. omega (arith, c.type_inv.content i)) head.0 head.1 (omega (arith, head.2)) c.from_be_bytes-info_length.ensures c.if-rest-info_length.false c.split_at.ensures.front c.split_at.ensures.back in
+    cut_at content c.in_ok-pcr_high.field-0-0.now c.in_ok-pcr_high.rest.now c.split_at.result.0.now c.split_at.result.1.now
+    c.from_be_bytes-info_length.result (λ i. omega (arith, c.type_inv.content i)) head.0 head.1
+    (omega (arith, head.2)) c.from_be_bytes-info_length.ensures c.if-rest-info_length.false c.split_at.ensures.front c.split_at.ensures.back in
     let own = c.in_ok-info_dropped.ensures.some refl in
     let found = c.in_ok-streams.ensures.some refl in
     let counts : c.in_ok-info_dropped.info_dropped ≡ length own.0 = ap (λ (o : Option ℕ). unwrap_or o 0) (c.in_ok-info_dropped.ensures.exact own.0 own.1) in
-    let parts = same_pair c.in_ok-streams.streams (record { items = map stream_of found.0 }) c.in_ok-streams.streams_dropped (sum_by (λ i. count_dropped i.descriptors) found.0) (c.in_ok-streams.ensures.exact found.0 found.1 found.2 found.3) in
+    let parts = same_pair c.in_ok-streams.streams (record { items = map stream_of found.0 }) c.in_ok-streams.streams_dropped
+    (sum_by (λ i. count_dropped i.descriptors) found.0) (c.in_ok-streams.ensures.exact found.0 found.1 found.2 found.3) in
     let items : c.in_ok-streams.streams.items ≡ map stream_of found.0 = ap (λ (v : ArrayVec Stream). v.items) parts.0 in
     let pcr = pcr_at content c.in_ok-pcr_high.field-0-0.now c.from_be_bytes.result (λ i. omega (arith, c.type_inv.content i)) head.0 c.from_be_bytes.ensures in
-    let program : ProgramMap = record { number = c.args.number; pcr_pid = c.from_be_bytes.result; streams = c.in_ok-streams.streams; dropped = c.in_ok-info_dropped.info_dropped + c.in_ok-streams.streams_dropped } in (
+    let program : ProgramMap = record {
+      number = c.args.number;
+      pcr_pid = c.from_be_bytes.result;
+      streams = c.in_ok-streams.streams;
+      dropped = c.in_ok-info_dropped.info_dropped + c.in_ok-streams.streams_dropped;
+    } in (
       content_says content c.split_at.result.0.now c.split_at.result.1.now program own.0 found.0 cut pcr own.1 found.1 items (omega (arith, counts, parts.1)),
       room_from program found.0 items found.2 found.3,
       refl,

@@ -27,11 +27,23 @@ returns-clause-bytes c =
 pub returns-clause-room : goal.returns-clause-room
 returns-clause-room c =
     written_has_room (without_dropped c.args.map.now)
-    (omega (arith, c.streams_length-streams.ensures.value, ap (λ (streams : List Stream). length (flat_map written_stream streams)) c.as_slice.ensures.value, c.if-section_length-gt-PACKET_SECTION_BYTES.false))
+    (omega (
+      arith,
+      c.streams_length-streams.ensures.value,
+      ap
+          (λ (streams : List Stream). length (flat_map written_stream streams)) c.as_slice.ensures.value,
+      c.if-section_length-gt-PACKET_SECTION_BYTES.false,
+    ))
 
 pub returns-clause-map : goal.returns-clause-map
 returns-clause-map c =
     written_pmt_is c.args.map.now c.put_crc.new.into.items c.put_header.ensures.extension
     (subst (λ (streams : List Stream). All (λ stream. stream.kind < 256) streams) c.as_slice-2.ensures.value c.put_streams.ensures.kinds) c.requires (returns-clause-room c)
-    (omega (arith, c.streams_length-streams.ensures.value, ap (λ (streams : List Stream). length (flat_map written_stream streams)) c.as_slice.ensures.value, c.if-section_length-gt-PACKET_SECTION_BYTES.false))
+    (omega (
+      arith,
+      c.streams_length-streams.ensures.value,
+      ap
+          (λ (streams : List Stream). length (flat_map written_stream streams)) c.as_slice.ensures.value,
+      c.if-section_length-gt-PACKET_SECTION_BYTES.false,
+    ))
     (returns-clause-bytes c)

@@ -12,7 +12,9 @@ use Rattle.psi_tables.proofs.streams.read_stream.Goals as goal
 pub returns-clause-exact : goal.returns-clause-exact
 returns-clause-exact c = λ info is keeps.
     let bytes : List ℕ = c.args.bytes.now in
-    let read = same_pair c.in_ok-descriptors.descriptors (record { items = kept_bytes info.descriptors }) c.in_ok-descriptors.dropped (count_dropped info.descriptors) (c.in_ok-descriptors.ensures.exact info.descriptors (subst (IsItemRow IsDescriptor info.descriptors) (sym (take_rest bytes 5)) is.descriptors_are) keeps) in
+    let read = same_pair c.in_ok-descriptors.descriptors (record { items = kept_bytes info.descriptors }) c.in_ok-descriptors.dropped
+    (count_dropped info.descriptors) (c.in_ok-descriptors.ensures.exact info.descriptors
+    (subst (IsItemRow IsDescriptor info.descriptors) (sym (take_rest bytes 5)) is.descriptors_are) keeps) in
     let type_is : get_or bytes 0 0 ≡ info.stream_type = omega (arith, is.type_is, descriptor_tag-is bytes, c.type_inv.bytes 0) in
     let pid : c.from_be_bytes.result ≡ info.elementary_PID = omega (arith, is.pid, elementary_PID-is bytes, and_31 (get_or bytes 1 0), c.type_inv.bytes 2) in
     stream_is _ c.in_ok-descriptors.dropped info type_is pid (ap (λ (v : ArrayVec ℕ). v.items) read.0) read.1

@@ -13,7 +13,8 @@ use Rattle.psi_tables.proofs.streams.read_streams.Goals as goal
 pub returns-in_err-info-clause-exact : goal.returns-in_err-info-clause-exact
 returns-in_err-info-clause-exact c = λ infos row few keeps.
     let read = c.loop-rest.invariant in
-    let next = next_info c.args.bytes.now c.loop-rest.rest.now read.done infos read.under_way row (not_empty c.is_empty.result (length c.loop-rest.rest.now) c.is_empty.ensures c.loop-rest-test.true) in
+    let next = next_info c.args.bytes.now c.loop-rest.rest.now read.done infos read.under_way row
+    (not_empty c.is_empty.result (length c.loop-rest.rest.now) c.is_empty.ensures c.loop-rest-test.true) in
     absurd (c.in_err-info.ensures next.0 next.1 next.2 next.4.size)
 
 pub returns-in_err-stream-clause-exact : goal.returns-in_err-stream-clause-exact
@@ -56,5 +57,7 @@ overflow_add-dropped c = omega (arith, (loop-rest-preserved c).few, c.requires)
 pub returns-clause-exact : goal.returns-clause-exact
 returns-clause-exact c = λ infos row few keeps.
     let read = c.loop-rest.invariant in
-    let same = one_row IsStreamInfo streams_told c.args.bytes.now c.loop-rest.rest.now read.done infos read.under_way (empty c.is_empty.result (length c.loop-rest.rest.now) c.is_empty.ensures c.loop-rest-test.false) row in
-    ap₂ (λ (xs : List Stream) (n : ℕ). Some (record { items = xs }, n)) (read.streams_are ∙ ap (map stream_of) (sym same)) (read.dropped_is ∙ ap (sum_by (λ info. count_dropped info.descriptors)) (sym same))
+    let same = one_row IsStreamInfo streams_told c.args.bytes.now c.loop-rest.rest.now read.done infos read.under_way
+    (empty c.is_empty.result (length c.loop-rest.rest.now) c.is_empty.ensures c.loop-rest-test.false) row in
+    ap₂ (λ (xs : List Stream) (n : ℕ). Some (record { items = xs }, n)) (read.streams_are ∙ ap (map stream_of) (sym same))
+    (read.dropped_is ∙ ap (sum_by (λ info. count_dropped info.descriptors)) (sym same))

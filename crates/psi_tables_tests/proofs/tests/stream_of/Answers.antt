@@ -12,11 +12,20 @@ returns c =
     let descriptor : List ℕ = c.args.tag ∷ length content ∷ content in
     let items : c.try_extend_from_slice.new.self.items ≡ descriptor =
     c.in_ok-try_extend_from_slice.ensures.ok
-    ∙ ap (λ (xs : List ℕ). xs ++ content) (c.push-2.ensures.items ∙ ap (λ (xs : List ℕ). xs ++ length content ∷ []) (c.push.ensures.items ∙ ap (λ (xs : List ℕ). xs ++ c.args.tag ∷ []) c.new-descriptors.ensures)) in
+    ∙ ap (λ (xs : List ℕ). xs ++ content) (c.push-2.ensures.items
+    ∙ ap (λ (xs : List ℕ). xs ++ length content ∷ []) (c.push.ensures.items
+    ∙ ap (λ (xs : List ℕ). xs ++ c.args.tag ∷ []) c.new-descriptors.ensures)) in
     let tag : descriptor_tag descriptor ≡ c.args.tag = omega (arith, c.ranges.tag.fits, descriptor_tag-is descriptor) in
     record {
       pid = c.requires.pid;
       descriptors = descriptor ∷ [];
-      descriptors_are = subst (IsItemRow IsDescriptor (descriptor ∷ [])) (sym items) (descriptor, [], sym (append-nil descriptor), record { bytes_are = refl; size = omega (arith, c.requires.size, descriptor_length-is descriptor) }, refl);
+      descriptors_are = subst (IsItemRow IsDescriptor (descriptor ∷ [])) (sym items) (
+        descriptor,
+        [],
+        sym (append-nil descriptor),
+        record
+            { bytes_are = refl; size = omega (arith, c.requires.size, descriptor_length-is descriptor) },
+        refl,
+      );
       kept = All-cons (λ (d : List ℕ). is_kept d ≡ true) descriptor [] (ap is_tag_kept tag ∙ c.requires.kept) (All-nil (λ (d : List ℕ). is_kept d ≡ true));
     }

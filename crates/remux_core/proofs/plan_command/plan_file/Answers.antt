@@ -40,7 +40,14 @@ returns-in-Err-Failed-clause-cause g c =
     let new = shelf_facts g.K.Shelf.files g.K.Shelf.counts g.K.Shelf.asked g.K.Shelf.since_fault c.read_file.new.shelf in
     ends_so (AnswerHasCause (plan_of files) old new)
     c.end_unread.result ReadFault (reports.ReadFault files.table.now) (reports.ReadFault files.table.now) c.end_unread.ensures refl
-    (record { name = files.table.now; asked = (TABLE_TEXT_MOST, (refl, refl)); rises = c.in-Err-Failed.ensures.causes.failed_rose (ap Err c.in-Err-Failed.field-0-is); last = c.in-Err-Failed.ensures.failed_last (ap Err c.in-Err-Failed.field-0-is); names = refl }) tt
+    (record {
+      name = files.table.now;
+      asked = (TABLE_TEXT_MOST, (refl, refl));
+      rises = c.in-Err-Failed.ensures.causes.failed_rose
+          (ap Err c.in-Err-Failed.field-0-is);
+      last = c.in-Err-Failed.ensures.failed_last (ap Err c.in-Err-Failed.field-0-is);
+      names = refl;
+    }) tt
 
 pub returns-in-Err-Missing-clause-cause : goal.returns-in-Err-Missing-clause-cause
 returns-in-Err-Missing-clause-cause g c =

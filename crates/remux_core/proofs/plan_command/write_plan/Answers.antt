@@ -37,7 +37,14 @@ returns-in-Err-Failed-clause-cause g c =
     let new = shelf_facts g.K.Shelf.files g.K.Shelf.counts g.K.Shelf.asked g.K.Shelf.since_fault c.write_file.new.shelf in
     ends_so (AnswerHasCause (plan_of files) old new)
     c.end_unwritten.result WriteFault (reports.WriteFault files.certificate.now) (reports.WriteFault files.certificate.now) c.end_unwritten.ensures refl
-    (record { name = files.certificate.now; asked = refl; rises = c.in-Err-Failed.ensures.causes.failed_rose (ap Err c.in-Err-Failed.field-0-is); last = c.in-Err-Failed.ensures.fault_last; names = refl }) tt
+    (record {
+      name = files.certificate.now;
+      asked = refl;
+      rises = c.in-Err-Failed.ensures.causes.failed_rose
+          (ap Err c.in-Err-Failed.field-0-is);
+      last = c.in-Err-Failed.ensures.fault_last;
+      names = refl;
+    }) tt
 
 pub returns-in-Ok-write_file-clause-cause : goal.returns-in-Ok-write_file-clause-cause
 returns-in-Ok-write_file-clause-cause g c =

@@ -71,7 +71,9 @@ loop-pair-preserved c =
       rest = ap₂ (λ xs n. xs ++ coarsened_pairs new (c.loop-pair.place + pair.run + 1) n (drop (c.loop-pair.pair-index + 1) c.args.pairs.now)) items waiting
           ∙ one_pair new c.loop-pair.place c.loop-pair.waiting c.loop-pair.pair-index c.args.pairs.now c.loop-pair.to.items _ no_pair within c.loop-pair.invariant.rest;
       fit = here.2;
-      few = let kept : length c.add_level-waiting.new.to.items ≤ length c.loop-pair.to.items + 1 = rw items (length-kept_pair c.loop-pair.to.items zeros (new (c.loop-pair.place + pair.run) pair.level)) in omega (arith, c.loop-pair.invariant.few);
+      few = let kept : length c.add_level-waiting.new.to.items
+          ≤ length c.loop-pair.to.items + 1 = rw items (length-kept_pair c.loop-pair.to.items zeros (new (c.loop-pair.place + pair.run) pair.level))
+          in omega (arith, c.loop-pair.invariant.few);
       within = omega (arith, here.0);
       waiting = omega (arith, waiting, zeros_behind-most zeros (new (c.loop-pair.place + pair.run) pair.level), c.loop-pair.invariant.waiting);
     }
@@ -79,4 +81,5 @@ loop-pair-preserved c =
 pub returns : goal.returns
 returns c =
     let past : length c.args.pairs.now ≤ c.loop-pair.pair-index = omega (arith, c.loop-pair-test.false) in
-    only_done (new_level c.args.seq.now c.args.coding.now c.args.way c.args.codes.in_force c.args.codes.mapped) c.loop-pair.place c.loop-pair.waiting c.loop-pair.pair-index c.args.pairs.now c.loop-pair.to.items _ past c.loop-pair.invariant.rest
+    only_done (new_level c.args.seq.now c.args.coding.now c.args.way c.args.codes.in_force c.args.codes.mapped) c.loop-pair.place c.loop-pair.waiting
+    c.loop-pair.pair-index c.args.pairs.now c.loop-pair.to.items _ past c.loop-pair.invariant.rest

@@ -20,7 +20,8 @@ loop-address-preserved c =
     record {
       first = c.find_at-a.ensures.rest;
       second = c.find_at-b.ensures.rest;
-      rest = one_more_number (difference_at c.args.from.now c.args.to.now) c.loop-address.sum address (c.rows.result * c.columns.result) c.difference-sum.result _ below is c.loop-address.invariant.rest;
+      rest = one_more_number (difference_at c.args.from.now c.args.to.now) c.loop-address.sum address
+          (c.rows.result * c.columns.result) c.difference-sum.result _ below is c.loop-address.invariant.rest;
       bound = omega (arith, c.difference-sum.ensures.bound, c.loop-address.invariant.bound);
     }
 

@@ -36,17 +36,21 @@ loop-pair-preserved c =
     let fits : SFits w16 c.coefficient_of.result = search rules in
     let stored : to_z w16 (of_z w16 c.coefficient_of.result) ≡ c.coefficient_of.result = to_z-of_z w16 c.coefficient_of.result fits in
     let is : c.coefficient_of.result ≡ coefficient c.args.seq.now c.args.coding.now c.args.way c.args.code c.args.block.now pair.level (c.loop-pair.place + pair.run) =
-    c.coefficient_of.ensures.value ∙ ap (λ (level : ℤ). coefficient c.args.seq.now c.args.coding.now c.args.way c.args.code c.args.block.now level (c.loop-pair.place + pair.run)) (held_level pair.level here.1) in
+    c.coefficient_of.ensures.value ∙ ap (λ (level : ℤ). coefficient c.args.seq.now c.args.coding.now c.args.way c.args.code c.args.block.now level
+    (c.loop-pair.place + pair.run)) (held_level pair.level here.1) in
     let stands : StandSoFar c.args.seq.now c.args.coding.now c.args.way c.args.code c.args.block.now
-    (slice_set c.loop-pair.coefficients (c.loop-pair.place + pair.run) c.coefficient_of.result) (c.loop-pair.place + pair.run + 1) (drop (c.loop-pair.pair-index + 1) c.as_slice-pair-items.result.now) =
-    one_more_coefficient c.args.seq.now c.args.coding.now c.args.way c.args.code c.args.block.now c.loop-pair.coefficients c.loop-pair.place pair (drop (c.loop-pair.pair-index + 1) c.as_slice-pair-items.result.now)
+    (slice_set c.loop-pair.coefficients (c.loop-pair.place + pair.run) c.coefficient_of.result) (c.loop-pair.place + pair.run + 1)
+    (drop (c.loop-pair.pair-index + 1) c.as_slice-pair-items.result.now) =
+    one_more_coefficient c.args.seq.now c.args.coding.now c.args.way c.args.code c.args.block.now c.loop-pair.coefficients c.loop-pair.place pair
+    (drop (c.loop-pair.pair-index + 1) c.as_slice-pair-items.result.now)
     c.coefficient_of.result here.0 is c.coefficient_of.ensures.small
     (subst (StandSoFar c.args.seq.now c.args.coding.now c.args.way c.args.code c.args.block.now c.loop-pair.coefficients c.loop-pair.place) cut c.loop-pair.invariant.so_far) in
     record {
       so_far = subst (λ (z : ℤ). StandSoFar c.args.seq.now c.args.coding.now c.args.way c.args.code c.args.block.now
           (slice_set c.loop-pair.coefficients c.from.result z) (c.loop-pair.place + pair.run + 1) (drop (c.loop-pair.pair-index + 1) c.as_slice-pair-items.result.now)) (sym stored)
           (subst (λ n. StandSoFar c.args.seq.now c.args.coding.now c.args.way c.args.code c.args.block.now
-          (slice_set c.loop-pair.coefficients n c.coefficient_of.result) (c.loop-pair.place + pair.run + 1) (drop (c.loop-pair.pair-index + 1) c.as_slice-pair-items.result.now)) (sym c.from.ensures) stands);
+          (slice_set c.loop-pair.coefficients n c.coefficient_of.result) (c.loop-pair.place + pair.run + 1)
+          (drop (c.loop-pair.pair-index + 1) c.as_slice-pair-items.result.now)) (sym c.from.ensures) stands);
       fit = here.2;
       within = omega (arith, here.0);
     }

@@ -13,10 +13,13 @@ loop-place-preserved c =
     let below : c.loop-place.place < 64 = c.loop-place-test.true in
     record {
       rest = one_more_number (λ place. squared_difference (get_or c.args.a.now place (pos 0)) (get_or c.args.b.now place (pos 0))) c.loop-place.sum c.loop-place.place 64 c.squared-sum.result _ below
-          (c.squared-sum.ensures.value ∙ ap₂ squared_difference (held (get_or c.args.a.now c.loop-place.place (pos 0)) (c.requires.first c.loop-place.place)) (held (get_or c.args.b.now c.loop-place.place (pos 0)) (c.requires.second c.loop-place.place))) c.loop-place.invariant.rest;
+          (c.squared-sum.ensures.value ∙ ap₂ squared_difference
+          (held (get_or c.args.a.now c.loop-place.place (pos 0)) (c.requires.first c.loop-place.place))
+          (held (get_or c.args.b.now c.loop-place.place (pos 0)) (c.requires.second c.loop-place.place))) c.loop-place.invariant.rest;
       bound = omega (arith, c.squared-sum.ensures.bound, c.loop-place.invariant.bound);
     }
 
 pub returns-clause-value : goal.returns-clause-value
 returns-clause-value c =
-    no_more_number (λ place. squared_difference (get_or c.args.a.now place (pos 0)) (get_or c.args.b.now place (pos 0))) c.loop-place.sum c.loop-place.place 64 _ c.loop-place-test.false c.loop-place.invariant.rest
+    no_more_number (λ place. squared_difference (get_or c.args.a.now place (pos 0)) (get_or c.args.b.now place (pos 0))) c.loop-place.sum
+    c.loop-place.place 64 _ c.loop-place-test.false c.loop-place.invariant.rest

@@ -14,4 +14,5 @@ returns-then-is_coded-clause-value c =
 
 pub returns-clause-value : goal.returns-clause-value
 returns-clause-value c =
-    sym (ap (λ (o : Option ℕ). unwrap_or o 0) (find-nothing (λ i. is_coded c.args.from.now.kind c.args.from.now.pattern i) 0 6 (λ k low high. c.loop-i.invariant k (omega (arith, c.loop-i-test.false)))))
+    sym (ap (λ (o : Option ℕ). unwrap_or o 0) (find-nothing (λ i. is_coded c.args.from.now.kind c.args.from.now.pattern i) 0 6
+    (λ k low high. c.loop-i.invariant k (omega (arith, c.loop-i-test.false)))))

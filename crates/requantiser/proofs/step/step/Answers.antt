@@ -11,5 +11,6 @@ returns-clause-made c =
     ap (λ (to : Macroblock). Some to) c.write_head.ensures.head
     ∙ coarsened_macroblock-made c.args.seq.now c.args.coding.now c.args.state.now.m c.args.inner code c.mapped-mapped.result c.args.state.now.version_code
     (c.args.state.now.skipped + c.args.from.now.skipped_before) c.args.from.now (Some c.make_blocks.new.to) c.mapped-mapped.ensures.value made
-    ∙ ap (λ n. coarsened_macroblock c.args.seq.now c.args.coding.now c.args.state.now.m c.args.inner n c.args.state.now.version_code (c.args.state.now.skipped + c.args.from.now.skipped_before) c.args.from.now)
+    ∙ ap (λ n. coarsened_macroblock c.args.seq.now c.args.coding.now c.args.state.now.m c.args.inner n c.args.state.now.version_code
+    (c.args.state.now.skipped + c.args.from.now.skipped_before) c.args.from.now)
     c.code_in_force-in_force.ensures.value

@@ -20,4 +20,5 @@ returns-in-None c k got =
     let packet = c.args.packet in
     let at = packet_at-from_clauses units versions packet.item (packet.piece + 1) c.unit_packet.result c.requires.versions c.unit_packet.ensures.missing c.unit_packet.ensures.found in
     let next = packet_at-from_clauses units versions (packet.item + 1) 0 c.unit_packet-in-None.result c.requires.versions c.unit_packet-in-None.ensures.missing c.unit_packet-in-None.ensures.found in
-    next ∙ sym (packets_from-after units versions c.requires.versions k packet got ∙ ap (λ (o : Option QueuedPacket). option_or o (packet_at units versions (packet.item + 1) 0)) (sym at ∙ c.in-None.is))
+    next ∙ sym (packets_from-after units versions c.requires.versions k packet got
+    ∙ ap (λ (o : Option QueuedPacket). option_or o (packet_at units versions (packet.item + 1) 0)) (sym at ∙ c.in-None.is))

@@ -53,7 +53,9 @@ returns-in-AllSent-clause-slots c =
     let list = c.in_ok-fill-in-AllSent.field-0 in
     let at : FillsPeriod table.slot (length table.programs) c.loop-n.n c.push.new.self list =
     subst₂ (λ (slot programs : ℕ). FillsPeriod slot programs c.loop-n.n c.push.new.self list) c.of.ensures.slot c.of.ensures.programs c.in_ok-fill-in-AllSent.ensures in
-    IsSlotList-found table choice c.requires.valid c.requires.fits c.loop-n.n c.loop-n.run c.run_slot-row.new.run c.run_slot-row.result c.loop-n.rows c.sent.result listed step.0 step.1 (subst (λ (states : List QueueState). IsWhatStands states c.run_slot-row.result c.sent.result) c.as_slice.ensures.value c.sent.ensures)
+    IsSlotList-found table choice c.requires.valid c.requires.fits c.loop-n.n c.loop-n.run c.run_slot-row.new.run c.run_slot-row.result c.loop-n.rows
+    c.sent.result listed step.0 step.1 (subst (λ (states : List QueueState). IsWhatStands states c.run_slot-row.result c.sent.result)
+    c.as_slice.ensures.value c.sent.ensures)
     c.in-AllSent.ensures list (some_period table c.requires.valid) (subst (λ (rows : List Sent). FillsPeriod table.slot (length table.programs) c.loop-n.n rows list) c.in_ok-push.ensures.ok at)
 
 pub returns-in-AllSent-clause-missed : goal.returns-in-AllSent-clause-missed
@@ -67,7 +69,9 @@ loop-n-preserved c =
     let listed = c.loop-n.invariant in
     let step = c.run_slot-row.ensures listed.reached.rows listed.reached.slots_are listed.reached.run in
     subst (λ (sent : List Sent). Listed table choice (c.loop-n.n + 1) c.run_slot-row.new.run sent) (sym c.in_ok-push.ensures.ok)
-    (Listed-next table choice c.requires.valid c.requires.fits c.loop-n.n c.loop-n.run c.run_slot-row.new.run c.run_slot-row.result c.loop-n.rows c.sent.result listed step.0 step.1 (subst (λ (states : List QueueState). IsWhatStands states c.run_slot-row.result c.sent.result) c.as_slice.ensures.value c.sent.ensures) c.in-Waiting.ensures)
+    (Listed-next table choice c.requires.valid c.requires.fits c.loop-n.n c.loop-n.run c.run_slot-row.new.run c.run_slot-row.result c.loop-n.rows
+    c.sent.result listed step.0 step.1 (subst (λ (states : List QueueState). IsWhatStands states c.run_slot-row.result c.sent.result)
+    c.as_slice.ensures.value c.sent.ensures) c.in-Waiting.ensures)
 
 pub unreachable-requires : goal.unreachable-requires
 unreachable-requires c =

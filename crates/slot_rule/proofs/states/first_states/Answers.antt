@@ -20,16 +20,19 @@ overflow_add-first c =
     let table = c.args.table.now in
     let within : c.loop-program.program < length table.programs = omega (arith, ap length c.as_slice-row-items.ensures) in
     let small = units_small table c.loop-program.program c.row-item.result c.requires.valid within in
-    let row : c.row-item.result ≡ get_or table.programs c.loop-program.program c.row-item.result = c.row-item.is ∙ ap (λ rows. get_or rows c.loop-program.program c.row-item.result) c.as_slice-row-items.ensures in
+    let row : c.row-item.result ≡ get_or table.programs c.loop-program.program c.row-item.result = c.row-item.is
+    ∙ ap (λ rows. get_or rows c.loop-program.program c.row-item.result) c.as_slice-row-items.ensures in
     omega (arith, c.loop-program.invariant.first_unit, ap (λ (r : ProgramRow). length r.units) row)
 
 pub loop-program-preserved : goal.loop-program-preserved
 loop-program-preserved c =
     let table = c.args.table.now in
     let within : c.loop-program.program < length table.programs = omega (arith, ap length c.as_slice-row-items.ensures) in
-    let row : c.row-item.result ≡ get_or table.programs c.loop-program.program c.row-item.result = c.row-item.is ∙ ap (λ rows. get_or rows c.loop-program.program c.row-item.result) c.as_slice-row-items.ensures in
+    let row : c.row-item.result ≡ get_or table.programs c.loop-program.program c.row-item.result = c.row-item.is
+    ∙ ap (λ rows. get_or rows c.loop-program.program c.row-item.result) c.as_slice-row-items.ensures in
     record {
-      queues = queues_more table c.args.choice.now c.loop-program.program c.loop-program.first c.loop-program.states.items c.add_program.new.states.items within c.loop-program.invariant.first_unit c.loop-program.invariant.queues c.add_program.ensures.queues;
+      queues = queues_more table c.args.choice.now c.loop-program.program c.loop-program.first c.loop-program.states.items
+          c.add_program.new.states.items within c.loop-program.invariant.first_unit c.loop-program.invariant.queues c.add_program.ensures.queues;
       places = places_more table c.loop-program.program c.loop-program.first c.loop-program.states.items c.add_program.new.states.items within
           c.loop-program.invariant.first_unit c.loop-program.invariant.places c.add_program.ensures.places;
       first_states = c.add_program.ensures.first;

@@ -17,7 +17,8 @@ loop-stream-preserved c =
           let adds = subst (λ (turn : Turn). AddsTurn turn c.loop-stream.turns.items w.add_turn.new.turns.items) w.of.ensures w.add_turn.ensures.adds in
           record {
             turns = subst (λ (list : List Turn). AreTurns (take (n + 1) states) list) (sym items)
-                (AreTurns-more states n _ w.in-Some.packet c.loop-stream.turns.items w.add_turn.new.turns.items c.loop-stream-test.true w.in-Some.is c.loop-stream.invariant.turns w.add_turn.ensures.order adds);
+                (AreTurns-more states n _ w.in-Some.packet c.loop-stream.turns.items w.add_turn.new.turns.items c.loop-stream-test.true w.in-Some.is
+                c.loop-stream.invariant.turns w.add_turn.ensures.order adds);
             few = omega (arith, adds.longer, ap (λ (list : List Turn). length list) items, c.loop-stream.invariant.few);
           })
       | in_default w ↦

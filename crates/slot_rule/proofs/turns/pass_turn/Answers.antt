@@ -41,4 +41,5 @@ pub returns-in-None-clause-passes : goal.returns-in-None-clause-passes
 returns-in-None-clause-passes c =
     let turns = c.args.turns.now.items in
     subst₂ (λ (next : Option QueuedPacket) (list : List Turn). PassesTurn c.args.place next turns list) (sym c.in-None.is) (sym c.remove-in-None.ensures.items)
-    (PassesTurn-last turns c.args.place (get_or c.as_slice.result.now c.args.place (record { due = 0; stream = 0 })) c.requires.order (turn_at c.as_slice.result.now turns c.args.place _ c.as_slice.ensures.value c.requires.place))
+    (PassesTurn-last turns c.args.place (get_or c.as_slice.result.now c.args.place (record { due = 0; stream = 0 })) c.requires.order
+    (turn_at c.as_slice.result.now turns c.args.place _ c.as_slice.ensures.value c.requires.place))

@@ -21,7 +21,9 @@ loop-streams-preserved c =
     let rest = c.remove-stream.new.self.items in
     let some : 0 < length streams = some_there _ (sym c.is_empty.ensures ∙ c.loop-streams-test.true) in
     let first : streams ≡ stream ∷ rest = first_removed streams stream some c.remove-stream.ensures.value ∙ ap (λ (xs : List Stream). stream ∷ xs) (sym c.remove-stream.ensures.items) in
-    let test : is_carried c.args.drop.now (pids_in carried) stream ≡ false = ap (λ (xs : List Stream). is_carried c.args.drop.now (pids_in xs) stream) (sym c.as_slice.ensures.value) ∙ sym c.is_carried.ensures ∙ c.if-is_carried.false in
+    let test : is_carried c.args.drop.now (pids_in carried) stream
+    ≡ false = ap (λ (xs : List Stream). is_carried c.args.drop.now (pids_in xs) stream) (sym c.as_slice.ensures.value)
+    ∙ sym c.is_carried.ensures ∙ c.if-is_carried.false in
     record {
       room = omega (arith, c.loop-streams.invariant.room, c.remove-stream.ensures.len);
       audios = passes c.args.drop.now carried streams rest _ stream first test c.loop-streams.invariant.audios;

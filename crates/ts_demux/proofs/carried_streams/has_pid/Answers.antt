@@ -23,7 +23,8 @@ returns-then-stream-pid c =
 pub loop-stream-preserved : goal.loop-stream-preserved
 loop-stream-preserved c =
     let item = c.stream-item.result in
-    among_more c.args.streams.now c.args.pid c.loop-stream.stream-index item c.loop-stream-test.true (no_test _ c.args.pid (λ same. c.if-stream-pid.false (ap (λ (s : Stream). s.pid) c.stream-item.is ∙ same))) c.loop-stream.invariant
+    among_more c.args.streams.now c.args.pid c.loop-stream.stream-index item c.loop-stream-test.true
+    (no_test _ c.args.pid (λ same. c.if-stream-pid.false (ap (λ (s : Stream). s.pid) c.stream-item.is ∙ same))) c.loop-stream.invariant
 
 pub returns : goal.returns
 returns c = sym (among_none c.args.streams.now c.args.pid c.loop-stream.stream-index (omega arith) c.loop-stream.invariant)

@@ -7,33 +7,42 @@ use Rattle.ts_demux.proofs.DemuxSteps.{carry_refused, gather_refused, all_of, so
 use Rattle.ts_demux.proofs.demux_program.demux.Goals as goal
 
 pub returns-in-Err-carry_streams : goal.returns-in-Err-carry_streams
-returns-in-Err-carry_streams c = carry_refused c.args.file.now c.args.program c.args.drop.now c.in-Ok.whole c.in-Err-carry_streams.fault c.if-file-lt-PACKET_BYTES.false c.in-Ok.ensures c.in-Err-carry_streams.ensures
+returns-in-Err-carry_streams c = carry_refused c.args.file.now c.args.program c.args.drop.now c.in-Ok.whole c.in-Err-carry_streams.fault
+    c.if-file-lt-PACKET_BYTES.false c.in-Ok.ensures c.in-Err-carry_streams.ensures
 
 pub returns-then-len-gt-STREAMS_CARRIED : goal.returns-then-len-gt-STREAMS_CARRIED
 returns-then-len-gt-STREAMS_CARRIED c =
     let carried = c.in-Ok-carry_streams.carried in
-    let has : HasCarriedMap c.args.file.now c.args.program c.args.drop.now carried.map carried.others = record { long = c.if-file-lt-PACKET_BYTES.false; whole = c.in-Ok.whole; tables = c.in-Ok.ensures; carried_is = c.in-Ok-carry_streams.ensures } in
+    let has : HasCarriedMap c.args.file.now c.args.program c.args.drop.now carried.map carried.others = record
+    { long = c.if-file-lt-PACKET_BYTES.false; whole = c.in-Ok.whole; tables = c.in-Ok.ensures; carried_is = c.in-Ok-carry_streams.ensures } in
     audios carried.map carried.others has (omega (arith, c.len.ensures.value, c.if-len-gt-STREAMS_CARRIED.true)) refl
 
 pub returns-then-pmt_length-gt-PACKET_SECTION_BYTES : goal.returns-then-pmt_length-gt-PACKET_SECTION_BYTES
 returns-then-pmt_length-gt-PACKET_SECTION_BYTES c =
     let carried = c.in-Ok-carry_streams.carried in
-    let has : HasCarriedMap c.args.file.now c.args.program c.args.drop.now carried.map carried.others = record { long = c.if-file-lt-PACKET_BYTES.false; whole = c.in-Ok.whole; tables = c.in-Ok.ensures; carried_is = c.in-Ok-carry_streams.ensures } in
-    long_map carried.map carried.others has (omega (arith, c.len.ensures.value, c.if-len-gt-STREAMS_CARRIED.false)) (subst (λ (n : ℕ). 183 < n) c.pmt_length.ensures c.if-pmt_length-gt-PACKET_SECTION_BYTES.true) refl
+    let has : HasCarriedMap c.args.file.now c.args.program c.args.drop.now carried.map carried.others = record
+    { long = c.if-file-lt-PACKET_BYTES.false; whole = c.in-Ok.whole; tables = c.in-Ok.ensures; carried_is = c.in-Ok-carry_streams.ensures } in
+    long_map carried.map carried.others has (omega (arith, c.len.ensures.value, c.if-len-gt-STREAMS_CARRIED.false))
+    (subst (λ (n : ℕ). 183 < n) c.pmt_length.ensures c.if-pmt_length-gt-PACKET_SECTION_BYTES.true) refl
 
 pub returns-in-Err-gather_streams : goal.returns-in-Err-gather_streams
 returns-in-Err-gather_streams c =
     let carried = c.in-Ok-carry_streams.carried in
-    let has : HasCarriedMap c.args.file.now c.args.program c.args.drop.now carried.map carried.others = record { long = c.if-file-lt-PACKET_BYTES.false; whole = c.in-Ok.whole; tables = c.in-Ok.ensures; carried_is = c.in-Ok-carry_streams.ensures } in
-    gather_refused c.args.file.now c.args.program c.args.drop.now carried.map carried.others c.in-Err-gather_streams.fault has (omega (arith, c.len.ensures.value, c.if-len-gt-STREAMS_CARRIED.false)) (subst (λ (n : ℕ). n ≤ 183) c.pmt_length.ensures c.if-pmt_length-gt-PACKET_SECTION_BYTES.false)
-    (subst (λ (items : List Stream). IsGatherFault c.args.file.now (map (λ (stream : Stream). stream.pid) items) c.in-Err-gather_streams.fault) c.as_slice.ensures.value c.in-Err-gather_streams.ensures)
+    let has : HasCarriedMap c.args.file.now c.args.program c.args.drop.now carried.map carried.others = record
+    { long = c.if-file-lt-PACKET_BYTES.false; whole = c.in-Ok.whole; tables = c.in-Ok.ensures; carried_is = c.in-Ok-carry_streams.ensures } in
+    gather_refused c.args.file.now c.args.program c.args.drop.now carried.map carried.others c.in-Err-gather_streams.fault has
+    (omega (arith, c.len.ensures.value, c.if-len-gt-STREAMS_CARRIED.false))
+    (subst (λ (n : ℕ). n ≤ 183) c.pmt_length.ensures c.if-pmt_length-gt-PACKET_SECTION_BYTES.false)
+    (subst (λ (items : List Stream). IsGatherFault c.args.file.now (map (λ (stream : Stream). stream.pid) items) c.in-Err-gather_streams.fault)
+    c.as_slice.ensures.value c.in-Err-gather_streams.ensures)
 
 pub remove-video-requires : goal.remove-video-requires
 remove-video-requires c =
     let carried = c.in-Ok-carry_streams.carried in
     let is = c.in-Ok-carry_streams.ensures in
     let gathered : AreGathered c.args.file.now (map (λ (stream : Stream). stream.pid) carried.map.streams.items) c.in-Ok-gather_streams.gatherers.items =
-    subst (λ (items : List Stream). AreGathered c.args.file.now (map (λ (stream : Stream). stream.pid) items) c.in-Ok-gather_streams.gatherers.items) c.as_slice.ensures.value c.in-Ok-gather_streams.ensures in
+    subst (λ (items : List Stream). AreGathered c.args.file.now (map (λ (stream : Stream). stream.pid) items) c.in-Ok-gather_streams.gatherers.items)
+    c.as_slice.ensures.value c.in-Ok-gather_streams.ensures in
     let all = all_of c.args.file.now carried.map.streams.items is.video _ c.in-Ok-all_streams.streams.items c.in-Ok-gather_streams.gatherers.items is.streams gathered c.in-Ok-all_streams.ensures.ok in
     let some : 0 < length c.in-Ok-all_streams.streams.items = some_of c.in-Ok-all_streams.streams.items _ _ all in
     omega arith
@@ -42,9 +51,11 @@ pub returns : goal.returns
 returns c =
     let carried = c.in-Ok-carry_streams.carried in
     let is = c.in-Ok-carry_streams.ensures in
-    let has : HasCarriedMap c.args.file.now c.args.program c.args.drop.now carried.map carried.others = record { long = c.if-file-lt-PACKET_BYTES.false; whole = c.in-Ok.whole; tables = c.in-Ok.ensures; carried_is = is } in
+    let has : HasCarriedMap c.args.file.now c.args.program c.args.drop.now carried.map carried.others = record
+    { long = c.if-file-lt-PACKET_BYTES.false; whole = c.in-Ok.whole; tables = c.in-Ok.ensures; carried_is = is } in
     let gathered : AreGathered c.args.file.now (map (λ (stream : Stream). stream.pid) carried.map.streams.items) c.in-Ok-gather_streams.gatherers.items =
-    subst (λ (items : List Stream). AreGathered c.args.file.now (map (λ (stream : Stream). stream.pid) items) c.in-Ok-gather_streams.gatherers.items) c.as_slice.ensures.value c.in-Ok-gather_streams.ensures in
+    subst (λ (items : List Stream). AreGathered c.args.file.now (map (λ (stream : Stream). stream.pid) items) c.in-Ok-gather_streams.gatherers.items)
+    c.as_slice.ensures.value c.in-Ok-gather_streams.ensures in
     let all = all_of c.args.file.now carried.map.streams.items is.video _ c.in-Ok-all_streams.streams.items c.in-Ok-gather_streams.gatherers.items is.streams gathered c.in-Ok-all_streams.ensures.ok in
     record {
       tables = has;

@@ -22,7 +22,8 @@ loop-bytes-preserved c =
     let new = c.take_packet.new.gatherers in
     let pids : List ℕ = map (λ (stream : Stream). stream.pid) c.args.streams.now in
     let size : length new ≡ c.loop-bytes.gatherers.len = c.take_packet.auto.gatherers ∙ c.as_mut_slice.ensures.len in
-    let same : take c.loop-bytes.gatherers.len (new ++ drop (length new) c.loop-bytes.gatherers.items) ≡ new = take_at new (drop (length new) c.loop-bytes.gatherers.items) c.loop-bytes.gatherers.len size in
+    let same : take c.loop-bytes.gatherers.len (new ++ drop (length new) c.loop-bytes.gatherers.items)
+    ≡ new = take_at new (drop (length new) c.loop-bytes.gatherers.items) c.loop-bytes.gatherers.len size in
     let before : gatherer_pids c.as_mut_slice.result.now ≡ pids = ap gatherer_pids c.as_mut_slice.ensures.value ∙ c.loop-bytes.invariant.pids in
     let within : n < piece_count file = c.in-Some.ensures.some.0 in
     record {
@@ -35,7 +36,8 @@ loop-bytes-preserved c =
 pub returns-in-Err-take_packet : goal.returns-in-Err-take_packet
 returns-in-Err-take_packet c =
     let pids : List ℕ = map (λ (stream : Stream). stream.pid) c.args.streams.now in
-    first_fault c.args.file.now pids (gatherer_pids c.as_mut_slice.result.now) c.loop-bytes.n c.in-Err-take_packet.fault (ap gatherer_pids c.as_mut_slice.ensures.value ∙ c.loop-bytes.invariant.pids) c.loop-bytes.invariant.sound c.in-Err-take_packet.ensures
+    first_fault c.args.file.now pids (gatherer_pids c.as_mut_slice.result.now) c.loop-bytes.n c.in-Err-take_packet.fault
+    (ap gatherer_pids c.as_mut_slice.ensures.value ∙ c.loop-bytes.invariant.pids) c.loop-bytes.invariant.sound c.in-Err-take_packet.ensures
 
 pub returns : goal.returns
 returns c =

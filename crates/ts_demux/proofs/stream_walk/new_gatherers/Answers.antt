@@ -11,5 +11,6 @@ loop-stream-preserved c =
     let within : c.loop-stream.stream-index < length c.args.streams.now = omega arith in
     record {
       all = rw items (all_push file 0 before c.new.result c.loop-stream.invariant.all (c.new.ensures.gathers file));
-      pids = rw items (pids_more before c.new.result c.args.streams.now c.loop-stream.stream-index c.stream-item.result c.loop-stream.invariant.pids within (c.new.ensures.pid ∙ ap (λ (s : Stream). s.pid) c.stream-item.is));
+      pids = rw items (pids_more before c.new.result c.args.streams.now c.loop-stream.stream-index c.stream-item.result c.loop-stream.invariant.pids
+          within (c.new.ensures.pid ∙ ap (λ (s : Stream). s.pid) c.stream-item.is));
     }

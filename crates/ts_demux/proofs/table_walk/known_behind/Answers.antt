@@ -31,5 +31,8 @@ returns-in_default-named c =
 pub returns : goal.returns
 returns c =
     let says : SaysPat c.args.program c.args.section.now.items (Ok c.in-Ok.named) = record { other = c.in-Ok.ensures.other; pid = c.in-Ok.ensures.pid } in
-    let says_it = subst (λ (named : Option ℕ). SaysPat c.args.program c.args.section.now.items (Ok named)) c.in-Some.is says in
-    (sound_pat c.args.section.now.items c.in-Ok.ensures.ok, known_named c.args.program c.args.section.now.items c.args.n c.args.known c.in-Some.pid _ c.in_default.not-MapOn refl says_it c.in-Ok.ensures.ok)
+    let says_it = subst (λ (named : Option ℕ). SaysPat c.args.program c.args.section.now.items (Ok named)) c.in-Some.is says in (
+      sound_pat c.args.section.now.items c.in-Ok.ensures.ok,
+      known_named c.args.program c.args.section.now.items c.args.n c.args.known c.in-Some.pid _
+          c.in_default.not-MapOn refl says_it c.in-Ok.ensures.ok,
+    )

@@ -20,8 +20,11 @@ returns-in_default c =
 pub returns-then-map-program : goal.returns-then-map-program
 returns-then-map-program c =
     let says : SaysMap c.args.section.now.items (Ok c.in-Ok.said) = record { none = c.in-Ok.ensures.none; only = c.in-Ok.ensures.only } in
-    let is = subst (λ (said : Option ProgramMap). IfSome said (λ (map : ProgramMap). IsPmt map c.args.section.now.items × HasRoom map)) c.in-Some.is c.in-Ok.ensures.map in
-    (sound_map c.args.section.now.items c.in-Some.map is, other_map c.args.program c.args.section.now.items c.in-Some.map (subst (λ (said : Option ProgramMap). SaysMap c.args.section.now.items (Ok said)) c.in-Some.is says) c.if-map-program.true)
+    let is = subst (λ (said : Option ProgramMap). IfSome said (λ (map : ProgramMap). IsPmt map c.args.section.now.items × HasRoom map)) c.in-Some.is c.in-Ok.ensures.map in (
+      sound_map c.args.section.now.items c.in-Some.map is,
+      other_map c.args.program c.args.section.now.items c.in-Some.map
+          (subst (λ (said : Option ProgramMap). SaysMap c.args.section.now.items (Ok said)) c.in-Some.is says) c.if-map-program.true,
+    )
 
 pub returns : goal.returns
 returns c =

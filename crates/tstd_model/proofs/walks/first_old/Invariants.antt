@@ -9,7 +9,8 @@ abbrev pub invariant-bytes : goal.invariant-bytes
 invariant-bytes l = record {
   same :
       first_old hold_subticks (map (λ b. b.part) (bytes_with (is_wanted l.wanted) l.bytes)) (instants_of (bytes_with (is_wanted l.wanted) l.bytes)) (map (λ b. b.at) l.removed)
-      ≡ first_old hold_subticks (map (λ b. b.part) (bytes_with (is_wanted l.wanted) l.initial.bytes)) (instants_of (bytes_with (is_wanted l.wanted) l.initial.bytes)) (map (λ b. b.at) l.initial.removed);
+      ≡ first_old hold_subticks (map (λ b. b.part) (bytes_with (is_wanted l.wanted) l.initial.bytes))
+      (instants_of (bytes_with (is_wanted l.wanted) l.initial.bytes)) (map (λ b. b.at) l.initial.removed);
   small : EachAtMost (2 ^ 62) (instants_of l.bytes);
 }
 

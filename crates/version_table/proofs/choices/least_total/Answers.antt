@@ -6,12 +6,23 @@ use Rattle.version_table.proofs.choices.least_total.Goals as goal
 
 pub least_of_units-total-requires-clause-small : goal.least_of_units-total-requires-clause-small
 least_of_units-total-requires-clause-small c =
-    rw c.as_slice.ensures (omega (arith, least_distortions_fit c.args.table.now c.requires, least-units_from_more c.as_slice-program-items.result.now c.loop-program.program-index c.program-item.result c.loop-program-test.true c.program-item.is))
+    rw c.as_slice.ensures (omega (
+      arith,
+      least_distortions_fit c.args.table.now c.requires,
+      least-units_from_more c.as_slice-program-items.result.now c.loop-program.program-index c.program-item.result c.loop-program-test.true
+          c.program-item.is,
+    ))
 
 pub overflow_add-total : goal.overflow_add-total
 overflow_add-total c =
     let here = rw c.as_slice.ensures at c.least_of_units-total.ensures in
-    omega (arith, here, least_distortions_fit c.args.table.now c.requires, least-units_from_more c.as_slice-program-items.result.now c.loop-program.program-index c.program-item.result c.loop-program-test.true c.program-item.is)
+    omega (
+      arith,
+      here,
+      least_distortions_fit c.args.table.now c.requires,
+      least-units_from_more c.as_slice-program-items.result.now c.loop-program.program-index c.program-item.result c.loop-program-test.true
+          c.program-item.is,
+    )
 
 pub returns-clause-bound : goal.returns-clause-bound
 returns-clause-bound c = λ choice fits.

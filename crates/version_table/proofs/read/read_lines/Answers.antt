@@ -23,7 +23,12 @@ take-requires-clause-drafted c = read_drafted c.args.text.now c.loop-rest.reader
 
 pub take-requires-clause-few : goal.take-requires-clause-few
 take-requires-clause-few c =
-    omega (arith, few_read c.args.text.now c.loop-rest.reader c.loop-rest.rest.now c.loop-rest.invariant, read_shorter c.loop-rest.reader.stage c.loop-rest.rest.now c.in-Some.behind.now c.in-Some.line (sym c.in-Some.ensures), c.requires)
+    omega (
+      arith,
+      few_read c.args.text.now c.loop-rest.reader c.loop-rest.rest.now c.loop-rest.invariant,
+      read_shorter c.loop-rest.reader.stage c.loop-rest.rest.now c.in-Some.behind.now c.in-Some.line (sym c.in-Some.ensures),
+      c.requires,
+    )
 
 pub loop-rest-smaller : goal.loop-rest-smaller
 loop-rest-smaller c = read_shorter c.loop-rest.reader.stage c.loop-rest.rest.now c.in-Some.behind.now c.in-Some.line (sym c.in-Some.ensures)

@@ -7,11 +7,14 @@ use Rattle.version_table.proofs.reading.digits_at.Goals.{then-loop-len-test+else
 
 pub returns-in_err-checked_mul-clause-value : goal.returns-in_err-checked_mul-clause-value
 returns-in_err-checked_mul-clause-value c =
-    c.from_residual.ensures ∙ sym (too_large c.args.text.now c.loop-len.len c.loop-len.value c.loop-len-test.true c.loop-len.invariant.digits c.loop-len.invariant.value c.if-is_ascii_digit.ensures.cases (omega (arith, c.in_err-checked_mul.ensures)))
+    c.from_residual.ensures ∙ sym (too_large c.args.text.now c.loop-len.len c.loop-len.value c.loop-len-test.true c.loop-len.invariant.digits
+    c.loop-len.invariant.value c.if-is_ascii_digit.ensures.cases (omega (arith, c.in_err-checked_mul.ensures)))
 
 pub returns-in_err-value-clause-value : goal.returns-in_err-value-clause-value
 returns-in_err-value-clause-value c =
-    c.from_residual-in_err-value.ensures ∙ sym (too_large c.args.text.now c.loop-len.len c.loop-len.value c.loop-len-test.true c.loop-len.invariant.digits c.loop-len.invariant.value c.if-is_ascii_digit.ensures.cases (omega (arith, c.in_err-value.ensures, c.in_ok-checked_mul.ensures)))
+    c.from_residual-in_err-value.ensures ∙ sym (too_large c.args.text.now c.loop-len.len c.loop-len.value c.loop-len-test.true
+    c.loop-len.invariant.digits c.loop-len.invariant.value c.if-is_ascii_digit.ensures.cases
+    (omega (arith, c.in_err-value.ensures, c.in_ok-checked_mul.ensures)))
 
 pub loop-len-preserved : goal.loop-len-preserved
 loop-len-preserved c =

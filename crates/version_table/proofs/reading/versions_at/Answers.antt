@@ -14,7 +14,8 @@ returns-then-is_full c =
 pub returns-in_err-version : goal.returns-in_err-version
 returns-in_err-version c =
     let not_full = eqb-false (length c.loop-front.versions.items) VERSIONS_MOST (sym c.if-is_full.ensures.value) in
-    rw c.from_residual.ensures (breaks_off c.loop-front.versions.items c.loop-front.rest.now c.in-Some.front.now (versions_at VERSIONS_MOST c.args.text.now) (omega arith) (sym c.in-Some.ensures) (sym c.in_err-version.ensures) c.loop-front.invariant.whole)
+    rw c.from_residual.ensures (breaks_off c.loop-front.versions.items c.loop-front.rest.now c.in-Some.front.now
+    (versions_at VERSIONS_MOST c.args.text.now) (omega arith) (sym c.in-Some.ensures) (sym c.in_err-version.ensures) c.loop-front.invariant.whole)
 
 pub loop-front-preserved : goal.loop-front-preserved
 loop-front-preserved c =
@@ -23,7 +24,8 @@ loop-front-preserved c =
     let more = length_push c.loop-front.versions.items c.in_ok-version.version in
     rw c.push.ensures.items (record {
       few = omega arith;
-      whole = goes_on c.loop-front.versions.items c.loop-front.rest.now c.in-Some.front.now c.in_ok-version.behind.now c.in_ok-version.version (versions_at VERSIONS_MOST c.args.text.now) room (sym c.in-Some.ensures) (sym c.in_ok-version.ensures) c.loop-front.invariant.whole;
+      whole = goes_on c.loop-front.versions.items c.loop-front.rest.now c.in-Some.front.now c.in_ok-version.behind.now c.in_ok-version.version
+          (versions_at VERSIONS_MOST c.args.text.now) room (sym c.in-Some.ensures) (sym c.in_ok-version.ensures) c.loop-front.invariant.whole;
     })
 
 pub returns : goal.returns

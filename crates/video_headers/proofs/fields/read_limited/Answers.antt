@@ -10,15 +10,18 @@ pub returns-in-Some-clause-answers : goal.returns-in-Some-clause-answers
 returns-in-Some-clause-answers g c = λ rs are.
     let number = c.in_ok-number.number in
     let known = c.in_ok-number.known in
-    rw (c.at.ensures) (answers-of (limited-broken c.args.n c.args.reader.now number known _ c.place-at.result c.args.limits.now c.in_ok-number.ensures.window c.in_ok-number.ensures.below c.in_ok-number.ensures.unknown
-    (ap (λ k. number + (k - 1)) (one-shifted (c.args.n - known) (omega arith))) c.place-at.ensures c.in-Some.why (sym c.first_broken.ensures ∙ c.in-Some.is) rs are) (search rules) (search rules) (search rules))
+    rw (c.at.ensures) (answers-of (limited-broken c.args.n c.args.reader.now number known _ c.place-at.result c.args.limits.now
+    c.in_ok-number.ensures.window c.in_ok-number.ensures.below c.in_ok-number.ensures.unknown
+    (ap (λ k. number + (k - 1)) (one-shifted (c.args.n - known) (omega arith))) c.place-at.ensures c.in-Some.why
+    (sym c.first_broken.ensures ∙ c.in-Some.is) rs are) (search rules) (search rules) (search rules))
 
 pub returns-then-known-n-clause-answers : goal.returns-then-known-n-clause-answers
 returns-then-known-n-clause-answers g c = λ rs are.
     let number = c.in_ok-number.number in
     let known = c.in_ok-number.known in
     answers-of (limited-cut c.args.n c.args.reader.now number known _ c.place-at.result c.args.limits.now c.in_ok-number.ensures.window c.in_ok-number.ensures.below c.in_ok-number.ensures.unknown
-    (ap (λ k. number + (k - 1)) (one-shifted (c.args.n - known) (omega arith))) c.place-at.ensures (sym c.first_broken.ensures ∙ c.in_default.is) c.if-known-n.true rs are) (search rules) (search rules) (search rules)
+    (ap (λ k. number + (k - 1)) (one-shifted (c.args.n - known) (omega arith))) c.place-at.ensures
+    (sym c.first_broken.ensures ∙ c.in_default.is) c.if-known-n.true rs are) (search rules) (search rules) (search rules)
 
 pub returns-clause-answers : goal.returns-clause-answers
 returns-clause-answers g c = λ rs are.
@@ -26,7 +29,8 @@ returns-clause-answers g c = λ rs are.
     let known = c.in_ok-number.known in
     answers-of (limited-goes c.args.n c.args.reader.now number known _ c.place-at.result c.args.limits.now c.in_ok-number.ensures.window c.in_ok-number.ensures.below c.in_ok-number.ensures.unknown
     (ap (λ k. number + (k - 1)) (one-shifted (c.args.n - known) (omega arith))) c.place-at.ensures (sym c.first_broken.ensures ∙ c.in_default.is) c.if-known-n.false
-    (c.skip.ensures.left ∙ ap (λ told. without_bits told c.args.n) c.in_ok-number.ensures.left) (c.skip.ensures.place ∙ ap (λ k. k + c.args.n) c.in_ok-number.ensures.place) rs are) (search rules) (search rules) (search rules)
+    (c.skip.ensures.left ∙ ap (λ told. without_bits told c.args.n) c.in_ok-number.ensures.left)
+    (c.skip.ensures.place ∙ ap (λ k. k + c.args.n) c.in_ok-number.ensures.place) rs are) (search rules) (search rules) (search rules)
 
 pub returns-in_err-number-clause-answers : goal.returns-in_err-number-clause-answers
 returns-in_err-number-clause-answers g c = λ rs are.

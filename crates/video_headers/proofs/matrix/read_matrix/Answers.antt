@@ -10,8 +10,12 @@ returns-then-not-branch-clause-answers g c = answers-bind g.met.S.Source.keeps_o
 
 pub returns-in_err-weights-clause-answers : goal.returns-in_err-weights-clause-answers
 returns-in_err-weights-clause-answers g c =
-    answers-bind g.met.S.Source.keeps_on _ c.in_ok-read_flag.ensures (rw (c.if-not-branch.false) (answers-exit _ c.from_residual-in_err-weights.result c.from_residual-in_err-weights.ensures.1 c.in_err-weights.ensures.answers))
+    answers-bind g.met.S.Source.keeps_on _ c.in_ok-read_flag.ensures
+    (rw (c.if-not-branch.false) (answers-exit _ c.from_residual-in_err-weights.result c.from_residual-in_err-weights.ensures.1
+    c.in_err-weights.ensures.answers))
 
 pub returns-clause-answers : goal.returns-clause-answers
 returns-clause-answers g c =
-    answers-bind g.met.S.Source.keeps_on _ c.in_ok-read_flag.ensures (rw (c.if-not-branch.false) (answers-bind g.met.S.Source.keeps_on _ c.in_ok-weights.ensures.answers (answers-done _ _ _ g.met.S.Source.keeps_itself refl)))
+    answers-bind g.met.S.Source.keeps_on _ c.in_ok-read_flag.ensures
+    (rw (c.if-not-branch.false) (answers-bind g.met.S.Source.keeps_on _ c.in_ok-weights.ensures.answers
+    (answers-done _ _ _ g.met.S.Source.keeps_itself refl)))

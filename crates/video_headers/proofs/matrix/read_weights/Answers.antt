@@ -15,13 +15,15 @@ loop-init g c = record {
 
 pub returns-in_err-weight-clause-answers : goal.returns-in_err-weight-clause-answers
 returns-in_err-weight-clause-answers g c =
-    answers-no_more (uimsbf 8 (rule BadHeader is_not_zero ∷ [])) g.met.S.Source.keeps_on c.loop.weights.items 64 (omega (arith, c.loop.invariant.count)) c.from_residual.result c.from_residual.ensures.1
+    answers-no_more (uimsbf 8 (rule BadHeader is_not_zero ∷ [])) g.met.S.Source.keeps_on c.loop.weights.items 64
+    (omega (arith, c.loop.invariant.count)) c.from_residual.result c.from_residual.ensures.1
     c.loop.invariant.so_far (c.in_err-weight.ensures.answers _ (refl, (λ v lt. some-range 255 v (omega (arith, lt))), tt))
 
 pub loop-preserved : goal.loop-preserved
 loop-preserved g c = record {
   so_far = answers-pushed _ c.loop.weights.items c.push.new.self.items c.in_ok-weight.weight c.push.ensures.items
-      (answers-more _ g.met.S.Source.keeps_on c.loop.weights.items c.in_ok-weight.weight c.loop.invariant.so_far (c.in_ok-weight.ensures.answers _ (refl, (λ v lt. some-range 255 v (omega (arith, lt))), tt)));
+      (answers-more _ g.met.S.Source.keeps_on c.loop.weights.items c.in_ok-weight.weight c.loop.invariant.so_far
+      (c.in_ok-weight.ensures.answers _ (refl, (λ v lt. some-range 255 v (omega (arith, lt))), tt)));
   count = omega (arith, ap length c.push.ensures.items, length-append c.loop.weights.items (c.in_ok-weight.weight ∷ []), c.loop.invariant.count);
 }
 

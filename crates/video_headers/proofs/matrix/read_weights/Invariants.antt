@@ -8,6 +8,7 @@ use Rattle.video_headers.proofs.matrix.read_weights.Given as goal
 
 abbrev pub invariant-loop : goal.invariant-loop
 invariant-loop g l = record {
-  so_far : Answers (repeated (length l.weights.items) (uimsbf 8 (rule BadHeader is_not_zero ∷ []))) (λ (x : List ℕ). x) (Ok l.weights.items) (Rests l.fn.reader) (λ _. Rests l.reader) l.fn.reader l.reader;
+  so_far : Answers (repeated (length l.weights.items) (uimsbf 8 (rule BadHeader is_not_zero ∷ []))) (λ (x : List ℕ). x) (Ok l.weights.items)
+      (Rests l.fn.reader) (λ _. Rests l.reader) l.fn.reader l.reader;
   count : length l.weights.items ≡ l.counter;
 }

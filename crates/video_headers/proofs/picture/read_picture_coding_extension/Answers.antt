@@ -15,14 +15,16 @@ pub returns-in_err-f_01 : goal.returns-in_err-f_01
 returns-in_err-f_01 g c =
     let on = g.met.S.Source.keeps_on in
     answers-bind on _ (c.in_ok-f_00.ensures.answers _ (sym (ap refusal_of c.forward_limit-forward.ensures.0), c.forward_limit-forward.ensures.1, tt))
-    (answers-exit _ c.from_residual-in_err-f_01.result c.from_residual-in_err-f_01.ensures.1 (c.in_err-f_01.ensures.answers _ (sym (ap refusal_of c.forward_limit-forward.ensures.0), c.forward_limit-forward.ensures.1, tt)))
+    (answers-exit _ c.from_residual-in_err-f_01.result c.from_residual-in_err-f_01.ensures.1
+    (c.in_err-f_01.ensures.answers _ (sym (ap refusal_of c.forward_limit-forward.ensures.0), c.forward_limit-forward.ensures.1, tt)))
 
 pub returns-in_err-f_10 : goal.returns-in_err-f_10
 returns-in_err-f_10 g c =
     let on = g.met.S.Source.keeps_on in
     answers-bind on _ (c.in_ok-f_00.ensures.answers _ (sym (ap refusal_of c.forward_limit-forward.ensures.0), c.forward_limit-forward.ensures.1, tt))
     (answers-bind on _ (c.in_ok-f_01.ensures.answers _ (sym (ap refusal_of c.forward_limit-forward.ensures.0), c.forward_limit-forward.ensures.1, tt))
-    (answers-exit _ c.from_residual-in_err-f_10.result c.from_residual-in_err-f_10.ensures.1 (c.in_err-f_10.ensures.answers _ (sym (ap refusal_of c.backward_limit-backward.ensures.0), c.backward_limit-backward.ensures.1, tt))))
+    (answers-exit _ c.from_residual-in_err-f_10.result c.from_residual-in_err-f_10.ensures.1
+    (c.in_err-f_10.ensures.answers _ (sym (ap refusal_of c.backward_limit-backward.ensures.0), c.backward_limit-backward.ensures.1, tt))))
 
 pub returns-in_err-f_11 : goal.returns-in_err-f_11
 returns-in_err-f_11 g c =
@@ -30,7 +32,8 @@ returns-in_err-f_11 g c =
     answers-bind on _ (c.in_ok-f_00.ensures.answers _ (sym (ap refusal_of c.forward_limit-forward.ensures.0), c.forward_limit-forward.ensures.1, tt))
     (answers-bind on _ (c.in_ok-f_01.ensures.answers _ (sym (ap refusal_of c.forward_limit-forward.ensures.0), c.forward_limit-forward.ensures.1, tt))
     (answers-bind on _ (c.in_ok-f_10.ensures.answers _ (sym (ap refusal_of c.backward_limit-backward.ensures.0), c.backward_limit-backward.ensures.1, tt))
-    (answers-exit _ c.from_residual-in_err-f_11.result c.from_residual-in_err-f_11.ensures.1 (c.in_err-f_11.ensures.answers _ (sym (ap refusal_of c.backward_limit-backward.ensures.0), c.backward_limit-backward.ensures.1, tt)))))
+    (answers-exit _ c.from_residual-in_err-f_11.result c.from_residual-in_err-f_11.ensures.1
+    (c.in_err-f_11.ensures.answers _ (sym (ap refusal_of c.backward_limit-backward.ensures.0), c.backward_limit-backward.ensures.1, tt)))))
 
 pub returns-in_err-dc_precision : goal.returns-in_err-dc_precision
 returns-in_err-dc_precision g c =
@@ -49,7 +52,12 @@ returns-in_err-structure g c =
     (answers-bind on _ (c.in_ok-f_10.ensures.answers _ (sym (ap refusal_of c.backward_limit-backward.ensures.0), c.backward_limit-backward.ensures.1, tt))
     (answers-bind on _ (c.in_ok-f_11.ensures.answers _ (sym (ap refusal_of c.backward_limit-backward.ensures.0), c.backward_limit-backward.ensures.1, tt))
     (answers-bind on _ c.in_ok-dc_precision.ensures.answers
-    (answers-exit _ c.from_residual-in_err-structure.result c.from_residual-in_err-structure.ensures.1 (c.in_err-structure.ensures.answers _ (refl, (λ v lt. some-range 3 v (omega (arith, lt))), (sym (ap refusal_of c.structure_limit-by_sequence.ensures.0), c.structure_limit-by_sequence.ensures.1, tt))))))))
+    (answers-exit _ c.from_residual-in_err-structure.result c.from_residual-in_err-structure.ensures.1
+    (c.in_err-structure.ensures.answers _ (
+      refl,
+      (λ v lt. some-range 3 v (omega (arith, lt))),
+      (sym (ap refusal_of c.structure_limit-by_sequence.ensures.0), c.structure_limit-by_sequence.ensures.1, tt),
+    )))))))
 
 pub returns-in_err-top_field_first : goal.returns-in_err-top_field_first
 returns-in_err-top_field_first g c =
@@ -59,7 +67,11 @@ returns-in_err-top_field_first g c =
     (answers-bind on _ (c.in_ok-f_10.ensures.answers _ (sym (ap refusal_of c.backward_limit-backward.ensures.0), c.backward_limit-backward.ensures.1, tt))
     (answers-bind on _ (c.in_ok-f_11.ensures.answers _ (sym (ap refusal_of c.backward_limit-backward.ensures.0), c.backward_limit-backward.ensures.1, tt))
     (answers-bind on _ c.in_ok-dc_precision.ensures.answers
-    (answers-bind on _ (c.in_ok-structure.ensures.answers _ (refl, (λ v lt. some-range 3 v (omega (arith, lt))), (sym (ap refusal_of c.structure_limit-by_sequence.ensures.0), c.structure_limit-by_sequence.ensures.1, tt)))
+    (answers-bind on _ (c.in_ok-structure.ensures.answers _ (
+      refl,
+      (λ v lt. some-range 3 v (omega (arith, lt))),
+      (sym (ap refusal_of c.structure_limit-by_sequence.ensures.0), c.structure_limit-by_sequence.ensures.1, tt),
+    ))
     (answers-exit _ c.from_residual-in_err-top_field_first.result c.from_residual-in_err-top_field_first.ensures.1 c.in_err-top_field_first.ensures))))))
 
 pub returns-in_err-frame_pred_frame_dct : goal.returns-in_err-frame_pred_frame_dct
@@ -70,9 +82,14 @@ returns-in_err-frame_pred_frame_dct g c =
     (answers-bind on _ (c.in_ok-f_10.ensures.answers _ (sym (ap refusal_of c.backward_limit-backward.ensures.0), c.backward_limit-backward.ensures.1, tt))
     (answers-bind on _ (c.in_ok-f_11.ensures.answers _ (sym (ap refusal_of c.backward_limit-backward.ensures.0), c.backward_limit-backward.ensures.1, tt))
     (answers-bind on _ c.in_ok-dc_precision.ensures.answers
-    (answers-bind on _ (c.in_ok-structure.ensures.answers _ (refl, (λ v lt. some-range 3 v (omega (arith, lt))), (sym (ap refusal_of c.structure_limit-by_sequence.ensures.0), c.structure_limit-by_sequence.ensures.1, tt)))
+    (answers-bind on _ (c.in_ok-structure.ensures.answers _ (
+      refl,
+      (λ v lt. some-range 3 v (omega (arith, lt))),
+      (sym (ap refusal_of c.structure_limit-by_sequence.ensures.0), c.structure_limit-by_sequence.ensures.1, tt),
+    ))
     (answers-bind on _ c.in_ok-top_field_first.ensures
-    (answers-exit _ c.from_residual-in_err-frame_pred_frame_dct.result c.from_residual-in_err-frame_pred_frame_dct.ensures.1 (c.in_err-frame_pred_frame_dct.ensures _ (flag-rule c.frame_limit-frame.result _ c.frame_limit-frame.ensures)))))))))
+    (answers-exit _ c.from_residual-in_err-frame_pred_frame_dct.result c.from_residual-in_err-frame_pred_frame_dct.ensures.1
+    (c.in_err-frame_pred_frame_dct.ensures _ (flag-rule c.frame_limit-frame.result _ c.frame_limit-frame.ensures)))))))))
 
 pub returns-in_err-concealment : goal.returns-in_err-concealment
 returns-in_err-concealment g c =
@@ -82,10 +99,15 @@ returns-in_err-concealment g c =
     (answers-bind on _ (c.in_ok-f_10.ensures.answers _ (sym (ap refusal_of c.backward_limit-backward.ensures.0), c.backward_limit-backward.ensures.1, tt))
     (answers-bind on _ (c.in_ok-f_11.ensures.answers _ (sym (ap refusal_of c.backward_limit-backward.ensures.0), c.backward_limit-backward.ensures.1, tt))
     (answers-bind on _ c.in_ok-dc_precision.ensures.answers
-    (answers-bind on _ (c.in_ok-structure.ensures.answers _ (refl, (λ v lt. some-range 3 v (omega (arith, lt))), (sym (ap refusal_of c.structure_limit-by_sequence.ensures.0), c.structure_limit-by_sequence.ensures.1, tt)))
+    (answers-bind on _ (c.in_ok-structure.ensures.answers _ (
+      refl,
+      (λ v lt. some-range 3 v (omega (arith, lt))),
+      (sym (ap refusal_of c.structure_limit-by_sequence.ensures.0), c.structure_limit-by_sequence.ensures.1, tt),
+    ))
     (answers-bind on _ c.in_ok-top_field_first.ensures
     (answers-bind on _ (c.in_ok-frame_pred_frame_dct.ensures _ (flag-rule c.frame_limit-frame.result _ c.frame_limit-frame.ensures))
-    (answers-exit _ c.from_residual-in_err-concealment.result c.from_residual-in_err-concealment.ensures.1 (c.in_err-concealment.ensures _ (flag-rule c.concealment_limit-vectors.result _ c.concealment_limit-vectors.ensures))))))))))
+    (answers-exit _ c.from_residual-in_err-concealment.result c.from_residual-in_err-concealment.ensures.1
+    (c.in_err-concealment.ensures _ (flag-rule c.concealment_limit-vectors.result _ c.concealment_limit-vectors.ensures))))))))))
 
 pub returns-in_err-q_scale_type : goal.returns-in_err-q_scale_type
 returns-in_err-q_scale_type g c =
@@ -95,7 +117,11 @@ returns-in_err-q_scale_type g c =
     (answers-bind on _ (c.in_ok-f_10.ensures.answers _ (sym (ap refusal_of c.backward_limit-backward.ensures.0), c.backward_limit-backward.ensures.1, tt))
     (answers-bind on _ (c.in_ok-f_11.ensures.answers _ (sym (ap refusal_of c.backward_limit-backward.ensures.0), c.backward_limit-backward.ensures.1, tt))
     (answers-bind on _ c.in_ok-dc_precision.ensures.answers
-    (answers-bind on _ (c.in_ok-structure.ensures.answers _ (refl, (λ v lt. some-range 3 v (omega (arith, lt))), (sym (ap refusal_of c.structure_limit-by_sequence.ensures.0), c.structure_limit-by_sequence.ensures.1, tt)))
+    (answers-bind on _ (c.in_ok-structure.ensures.answers _ (
+      refl,
+      (λ v lt. some-range 3 v (omega (arith, lt))),
+      (sym (ap refusal_of c.structure_limit-by_sequence.ensures.0), c.structure_limit-by_sequence.ensures.1, tt),
+    ))
     (answers-bind on _ c.in_ok-top_field_first.ensures
     (answers-bind on _ (c.in_ok-frame_pred_frame_dct.ensures _ (flag-rule c.frame_limit-frame.result _ c.frame_limit-frame.ensures))
     (answers-bind on _ (c.in_ok-concealment.ensures _ (flag-rule c.concealment_limit-vectors.result _ c.concealment_limit-vectors.ensures))
@@ -109,7 +135,11 @@ returns-in_err-intra_vlc_format g c =
     (answers-bind on _ (c.in_ok-f_10.ensures.answers _ (sym (ap refusal_of c.backward_limit-backward.ensures.0), c.backward_limit-backward.ensures.1, tt))
     (answers-bind on _ (c.in_ok-f_11.ensures.answers _ (sym (ap refusal_of c.backward_limit-backward.ensures.0), c.backward_limit-backward.ensures.1, tt))
     (answers-bind on _ c.in_ok-dc_precision.ensures.answers
-    (answers-bind on _ (c.in_ok-structure.ensures.answers _ (refl, (λ v lt. some-range 3 v (omega (arith, lt))), (sym (ap refusal_of c.structure_limit-by_sequence.ensures.0), c.structure_limit-by_sequence.ensures.1, tt)))
+    (answers-bind on _ (c.in_ok-structure.ensures.answers _ (
+      refl,
+      (λ v lt. some-range 3 v (omega (arith, lt))),
+      (sym (ap refusal_of c.structure_limit-by_sequence.ensures.0), c.structure_limit-by_sequence.ensures.1, tt),
+    ))
     (answers-bind on _ c.in_ok-top_field_first.ensures
     (answers-bind on _ (c.in_ok-frame_pred_frame_dct.ensures _ (flag-rule c.frame_limit-frame.result _ c.frame_limit-frame.ensures))
     (answers-bind on _ (c.in_ok-concealment.ensures _ (flag-rule c.concealment_limit-vectors.result _ c.concealment_limit-vectors.ensures))
@@ -124,7 +154,11 @@ returns-in_err-alternate_scan g c =
     (answers-bind on _ (c.in_ok-f_10.ensures.answers _ (sym (ap refusal_of c.backward_limit-backward.ensures.0), c.backward_limit-backward.ensures.1, tt))
     (answers-bind on _ (c.in_ok-f_11.ensures.answers _ (sym (ap refusal_of c.backward_limit-backward.ensures.0), c.backward_limit-backward.ensures.1, tt))
     (answers-bind on _ c.in_ok-dc_precision.ensures.answers
-    (answers-bind on _ (c.in_ok-structure.ensures.answers _ (refl, (λ v lt. some-range 3 v (omega (arith, lt))), (sym (ap refusal_of c.structure_limit-by_sequence.ensures.0), c.structure_limit-by_sequence.ensures.1, tt)))
+    (answers-bind on _ (c.in_ok-structure.ensures.answers _ (
+      refl,
+      (λ v lt. some-range 3 v (omega (arith, lt))),
+      (sym (ap refusal_of c.structure_limit-by_sequence.ensures.0), c.structure_limit-by_sequence.ensures.1, tt),
+    ))
     (answers-bind on _ c.in_ok-top_field_first.ensures
     (answers-bind on _ (c.in_ok-frame_pred_frame_dct.ensures _ (flag-rule c.frame_limit-frame.result _ c.frame_limit-frame.ensures))
     (answers-bind on _ (c.in_ok-concealment.ensures _ (flag-rule c.concealment_limit-vectors.result _ c.concealment_limit-vectors.ensures))
@@ -140,7 +174,11 @@ returns-in_err-repeat_first_field g c =
     (answers-bind on _ (c.in_ok-f_10.ensures.answers _ (sym (ap refusal_of c.backward_limit-backward.ensures.0), c.backward_limit-backward.ensures.1, tt))
     (answers-bind on _ (c.in_ok-f_11.ensures.answers _ (sym (ap refusal_of c.backward_limit-backward.ensures.0), c.backward_limit-backward.ensures.1, tt))
     (answers-bind on _ c.in_ok-dc_precision.ensures.answers
-    (answers-bind on _ (c.in_ok-structure.ensures.answers _ (refl, (λ v lt. some-range 3 v (omega (arith, lt))), (sym (ap refusal_of c.structure_limit-by_sequence.ensures.0), c.structure_limit-by_sequence.ensures.1, tt)))
+    (answers-bind on _ (c.in_ok-structure.ensures.answers _ (
+      refl,
+      (λ v lt. some-range 3 v (omega (arith, lt))),
+      (sym (ap refusal_of c.structure_limit-by_sequence.ensures.0), c.structure_limit-by_sequence.ensures.1, tt),
+    ))
     (answers-bind on _ c.in_ok-top_field_first.ensures
     (answers-bind on _ (c.in_ok-frame_pred_frame_dct.ensures _ (flag-rule c.frame_limit-frame.result _ c.frame_limit-frame.ensures))
     (answers-bind on _ (c.in_ok-concealment.ensures _ (flag-rule c.concealment_limit-vectors.result _ c.concealment_limit-vectors.ensures))
@@ -157,7 +195,11 @@ returns-in_err-_chroma_420_type g c =
     (answers-bind on _ (c.in_ok-f_10.ensures.answers _ (sym (ap refusal_of c.backward_limit-backward.ensures.0), c.backward_limit-backward.ensures.1, tt))
     (answers-bind on _ (c.in_ok-f_11.ensures.answers _ (sym (ap refusal_of c.backward_limit-backward.ensures.0), c.backward_limit-backward.ensures.1, tt))
     (answers-bind on _ c.in_ok-dc_precision.ensures.answers
-    (answers-bind on _ (c.in_ok-structure.ensures.answers _ (refl, (λ v lt. some-range 3 v (omega (arith, lt))), (sym (ap refusal_of c.structure_limit-by_sequence.ensures.0), c.structure_limit-by_sequence.ensures.1, tt)))
+    (answers-bind on _ (c.in_ok-structure.ensures.answers _ (
+      refl,
+      (λ v lt. some-range 3 v (omega (arith, lt))),
+      (sym (ap refusal_of c.structure_limit-by_sequence.ensures.0), c.structure_limit-by_sequence.ensures.1, tt),
+    ))
     (answers-bind on _ c.in_ok-top_field_first.ensures
     (answers-bind on _ (c.in_ok-frame_pred_frame_dct.ensures _ (flag-rule c.frame_limit-frame.result _ c.frame_limit-frame.ensures))
     (answers-bind on _ (c.in_ok-concealment.ensures _ (flag-rule c.concealment_limit-vectors.result _ c.concealment_limit-vectors.ensures))
@@ -175,7 +217,11 @@ returns-in_err-progressive_frame g c =
     (answers-bind on _ (c.in_ok-f_10.ensures.answers _ (sym (ap refusal_of c.backward_limit-backward.ensures.0), c.backward_limit-backward.ensures.1, tt))
     (answers-bind on _ (c.in_ok-f_11.ensures.answers _ (sym (ap refusal_of c.backward_limit-backward.ensures.0), c.backward_limit-backward.ensures.1, tt))
     (answers-bind on _ c.in_ok-dc_precision.ensures.answers
-    (answers-bind on _ (c.in_ok-structure.ensures.answers _ (refl, (λ v lt. some-range 3 v (omega (arith, lt))), (sym (ap refusal_of c.structure_limit-by_sequence.ensures.0), c.structure_limit-by_sequence.ensures.1, tt)))
+    (answers-bind on _ (c.in_ok-structure.ensures.answers _ (
+      refl,
+      (λ v lt. some-range 3 v (omega (arith, lt))),
+      (sym (ap refusal_of c.structure_limit-by_sequence.ensures.0), c.structure_limit-by_sequence.ensures.1, tt),
+    ))
     (answers-bind on _ c.in_ok-top_field_first.ensures
     (answers-bind on _ (c.in_ok-frame_pred_frame_dct.ensures _ (flag-rule c.frame_limit-frame.result _ c.frame_limit-frame.ensures))
     (answers-bind on _ (c.in_ok-concealment.ensures _ (flag-rule c.concealment_limit-vectors.result _ c.concealment_limit-vectors.ensures))
@@ -194,7 +240,11 @@ returns-in_err-composite g c =
     (answers-bind on _ (c.in_ok-f_10.ensures.answers _ (sym (ap refusal_of c.backward_limit-backward.ensures.0), c.backward_limit-backward.ensures.1, tt))
     (answers-bind on _ (c.in_ok-f_11.ensures.answers _ (sym (ap refusal_of c.backward_limit-backward.ensures.0), c.backward_limit-backward.ensures.1, tt))
     (answers-bind on _ c.in_ok-dc_precision.ensures.answers
-    (answers-bind on _ (c.in_ok-structure.ensures.answers _ (refl, (λ v lt. some-range 3 v (omega (arith, lt))), (sym (ap refusal_of c.structure_limit-by_sequence.ensures.0), c.structure_limit-by_sequence.ensures.1, tt)))
+    (answers-bind on _ (c.in_ok-structure.ensures.answers _ (
+      refl,
+      (λ v lt. some-range 3 v (omega (arith, lt))),
+      (sym (ap refusal_of c.structure_limit-by_sequence.ensures.0), c.structure_limit-by_sequence.ensures.1, tt),
+    ))
     (answers-bind on _ c.in_ok-top_field_first.ensures
     (answers-bind on _ (c.in_ok-frame_pred_frame_dct.ensures _ (flag-rule c.frame_limit-frame.result _ c.frame_limit-frame.ensures))
     (answers-bind on _ (c.in_ok-concealment.ensures _ (flag-rule c.concealment_limit-vectors.result _ c.concealment_limit-vectors.ensures))
@@ -214,7 +264,11 @@ returns-in_err-_composite g c =
     (answers-bind on _ (c.in_ok-f_10.ensures.answers _ (sym (ap refusal_of c.backward_limit-backward.ensures.0), c.backward_limit-backward.ensures.1, tt))
     (answers-bind on _ (c.in_ok-f_11.ensures.answers _ (sym (ap refusal_of c.backward_limit-backward.ensures.0), c.backward_limit-backward.ensures.1, tt))
     (answers-bind on _ c.in_ok-dc_precision.ensures.answers
-    (answers-bind on _ (c.in_ok-structure.ensures.answers _ (refl, (λ v lt. some-range 3 v (omega (arith, lt))), (sym (ap refusal_of c.structure_limit-by_sequence.ensures.0), c.structure_limit-by_sequence.ensures.1, tt)))
+    (answers-bind on _ (c.in_ok-structure.ensures.answers _ (
+      refl,
+      (λ v lt. some-range 3 v (omega (arith, lt))),
+      (sym (ap refusal_of c.structure_limit-by_sequence.ensures.0), c.structure_limit-by_sequence.ensures.1, tt),
+    ))
     (answers-bind on _ c.in_ok-top_field_first.ensures
     (answers-bind on _ (c.in_ok-frame_pred_frame_dct.ensures _ (flag-rule c.frame_limit-frame.result _ c.frame_limit-frame.ensures))
     (answers-bind on _ (c.in_ok-concealment.ensures _ (flag-rule c.concealment_limit-vectors.result _ c.concealment_limit-vectors.ensures))
@@ -235,7 +289,11 @@ returns g c =
     (answers-bind on _ (c.in_ok-f_10.ensures.answers _ (sym (ap refusal_of c.backward_limit-backward.ensures.0), c.backward_limit-backward.ensures.1, tt))
     (answers-bind on _ (c.in_ok-f_11.ensures.answers _ (sym (ap refusal_of c.backward_limit-backward.ensures.0), c.backward_limit-backward.ensures.1, tt))
     (answers-bind on _ c.in_ok-dc_precision.ensures.answers
-    (answers-bind on _ (c.in_ok-structure.ensures.answers _ (refl, (λ v lt. some-range 3 v (omega (arith, lt))), (sym (ap refusal_of c.structure_limit-by_sequence.ensures.0), c.structure_limit-by_sequence.ensures.1, tt)))
+    (answers-bind on _ (c.in_ok-structure.ensures.answers _ (
+      refl,
+      (λ v lt. some-range 3 v (omega (arith, lt))),
+      (sym (ap refusal_of c.structure_limit-by_sequence.ensures.0), c.structure_limit-by_sequence.ensures.1, tt),
+    ))
     (answers-bind on _ c.in_ok-top_field_first.ensures
     (answers-bind on _ (c.in_ok-frame_pred_frame_dct.ensures _ (flag-rule c.frame_limit-frame.result _ c.frame_limit-frame.ensures))
     (answers-bind on _ (c.in_ok-concealment.ensures _ (flag-rule c.concealment_limit-vectors.result _ c.concealment_limit-vectors.ensures))

@@ -16,7 +16,8 @@ returns-in-Some-clause-clock c =
       high = c.in-Some.ensures.range.1;
     })
     counted (omega (arith, c.packets_up_to-packets.ensures.from, c.requires.clock.some))
-    (next_given c.args.starts.now c.args.places.now c.args.frame c.packets_up_to-packets.result c.args.self c.in-Some.given c.requires.clock counted c.packets_up_to-packets.ensures.from c.in-Some.ensures.time)
+    (next_given c.args.starts.now c.args.places.now c.args.frame c.packets_up_to-packets.result c.args.self c.in-Some.given c.requires.clock counted
+    c.packets_up_to-packets.ensures.from c.in-Some.ensures.time)
 
 pub returns-in-None-clause-clock : goal.returns-in-None-clause-clock
 returns-in-None-clause-clock c =

@@ -5,4 +5,5 @@ use Rattle.bit_cursor.proofs.bit_writer.tests.put_byte.Goals as goal
 
 pub returns : goal.returns
 returns g c =
-    finished c.finish.result c.finish.new.self.0 (ap g.K.Sink.written c.new-writer.ensures.sink) c.new-writer.ensures.none_waits c.in_ok-put_bits.ensures.writes c.finish.ensures.ok (ap (bits_of 8) c.from.ensures) (search rules)
+    finished c.finish.result c.finish.new.self.0 (ap g.K.Sink.written c.new-writer.ensures.sink) c.new-writer.ensures.none_waits
+    c.in_ok-put_bits.ensures.writes c.finish.ensures.ok (ap (bits_of 8) c.from.ensures) (search rules)

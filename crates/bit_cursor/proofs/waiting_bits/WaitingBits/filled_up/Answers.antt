@@ -9,7 +9,9 @@ use Rattle.bit_cursor.proofs.waiting_bits.WaitingBits.filled_up.Goals as goal
 pub overflow_cast-self-inside-2 : goal.overflow_cast-self-inside-2
 overflow_cast-self-inside-2 c =
     let width : 32 - c.self.inside.count ≤ 32 = omega arith in
-    let same : c.self.inside.word * 2 ^ (32 - c.self.inside.count) % 18446744073709551616 ≡ c.self.inside.word * 2 ^ (32 - c.self.inside.count) = shifted c.self.inside.word c.self.inside.count (32 - c.self.inside.count) c.self.invariant width in
+    let same : c.self.inside.word * 2 ^ (32 - c.self.inside.count) % 18446744073709551616
+    ≡ c.self.inside.word * 2 ^ (32 - c.self.inside.count) = shifted c.self.inside.word c.self.inside.count
+    (32 - c.self.inside.count) c.self.invariant width in
     let small : c.self.inside.word * 2 ^ (32 - c.self.inside.count) < 2 ^ 32 = filled_below c.self.inside.word c.self.inside.count c.self.invariant in
     search rules
 

@@ -41,7 +41,8 @@ returns-then-not-start c = λ later.
       | then-not-start-via-then-not-start w ↦ ap (λ (start : Bool). has_pointer (record { start = start; bytes = c.args.payload.now })) w.if-not-start.true
       | then-not-start-via-else-not-start+then-is_empty w ↦ no-bytes c.args.start c.args.payload.now (eqb-true (length c.args.payload.now) 0 (sym w.is_empty.ensures ∙ w.if-is_empty.true))
     ] in
-    feeds-on c.self.inside (record c.self.inside { front = c.go_on.new.self }) c.args.start c.args.payload.now c.self.invariant (ap sections_of c.self.view_is ∙ c.requires.pulled) no_pointer c.go_on.ensures refl refl refl later
+    feeds-on c.self.inside (record c.self.inside { front = c.go_on.new.self }) c.args.start c.args.payload.now c.self.invariant
+    (ap sections_of c.self.view_is ∙ c.requires.pulled) no_pointer c.go_on.ensures refl refl refl later
     ∙ ap (λ (held : List Payload). sections_of (held ++ record { start = c.args.start; bytes = c.args.payload.now } ∷ later)) c.self.view_is
 
 pub returns-then-payload-pointed : goal.returns-then-payload-pointed
@@ -63,7 +64,17 @@ returns-then-not-is_settled c = λ later.
     let pointer : has_pointer (record { start = true; bytes = bytes }) ≡ true = some-pointer bytes (omega (arith, some)) in
     let inside : points_past (record { start = true; bytes = bytes }) ≡ false = lt-leb (length bytes) (1 + get_or bytes 0 0) c.if-payload-pointed.false in
     let behind : List ℕ = take (length bytes - (1 + get_or bytes 0 0)) (drop (1 + get_or bytes 0 0) bytes) in
-    feeds-pointed c.self.inside (record c.self.inside { front = c.begin-self-inside.new.self; waiting = c.copy_from_slice.new.self ++ post_of 0 (length behind) c.self.inside.waiting; at = c.begin-self-inside.result; end = length behind }) true bytes _ behind c.begin-self-inside.result c.go_on-2.new.self c.self.invariant (ap sections_of c.self.view_is ∙ c.requires.pulled) pointer inside (before-is bytes inside) (behind-is bytes) c.go_on-2.ensures (sym c.is_settled.ensures ∙ c.if-not-is_settled.true) c.begin-self-inside.ensures (waits-from behind c.copy_from_slice.new.self _ c.begin-self-inside.result c.copy_from_slice.ensures.after c.begin-self-inside.ensures.bound) refl later
+    feeds-pointed c.self.inside (record c.self.inside {
+      front = c.begin-self-inside.new.self;
+      waiting = c.copy_from_slice.new.self
+          ++ post_of 0 (length behind) c.self.inside.waiting;
+      at = c.begin-self-inside.result;
+      end = length behind;
+    }) true bytes _ behind
+    c.begin-self-inside.result c.go_on-2.new.self c.self.invariant (ap sections_of c.self.view_is ∙ c.requires.pulled) pointer inside
+    (before-is bytes inside) (behind-is bytes) c.go_on-2.ensures (sym c.is_settled.ensures ∙ c.if-not-is_settled.true) c.begin-self-inside.ensures
+    (waits-from behind c.copy_from_slice.new.self _ c.begin-self-inside.result c.copy_from_slice.ensures.after c.begin-self-inside.ensures.bound)
+    refl later
     ∙ ap (λ (held : List Payload). sections_of (held ++ record { start = true; bytes = bytes } ∷ later)) c.self.view_is
     ∙ ap (λ (flag : Bool). sections_of (c.args.self.now ++ record { start = flag; bytes = bytes } ∷ later)) (sym start)
 
@@ -75,6 +86,15 @@ returns-else-not-is_settled c = λ later.
     let pointer : has_pointer (record { start = true; bytes = bytes }) ≡ true = some-pointer bytes (omega (arith, some)) in
     let inside : points_past (record { start = true; bytes = bytes }) ≡ false = lt-leb (length bytes) (1 + get_or bytes 0 0) c.if-payload-pointed.false in
     let behind : List ℕ = take (length bytes - (1 + get_or bytes 0 0)) (drop (1 + get_or bytes 0 0) bytes) in
-    feeds-ending c.self.inside (record c.self.inside { front = c.go_on-2.new.self; waiting = c.copy_from_slice.new.self ++ post_of 0 (length behind) c.self.inside.waiting; at = 0; end = length behind }) true bytes _ behind c.self.invariant (ap sections_of c.self.view_is ∙ c.requires.pulled) pointer inside (before-is bytes inside) (behind-is bytes) c.go_on-2.ensures (sym c.is_settled.ensures ∙ c.if-not-is_settled.false) (waits-from behind c.copy_from_slice.new.self _ 0 c.copy_from_slice.ensures.after (omega arith)) refl later
+    feeds-ending c.self.inside (record c.self.inside {
+      front = c.go_on-2.new.self;
+      waiting = c.copy_from_slice.new.self
+          ++ post_of 0 (length behind) c.self.inside.waiting;
+      at = 0;
+      end = length behind;
+    }) true bytes _ behind c.self.invariant
+    (ap sections_of c.self.view_is ∙ c.requires.pulled) pointer inside (before-is bytes inside) (behind-is bytes) c.go_on-2.ensures
+    (sym c.is_settled.ensures ∙ c.if-not-is_settled.false)
+    (waits-from behind c.copy_from_slice.new.self _ 0 c.copy_from_slice.ensures.after (omega arith)) refl later
     ∙ ap (λ (held : List Payload). sections_of (held ++ record { start = true; bytes = bytes } ∷ later)) c.self.view_is
     ∙ ap (λ (flag : Bool). sections_of (c.args.self.now ++ record { start = flag; bytes = bytes } ∷ later)) (sym start)

@@ -21,10 +21,13 @@ returns-then-is_read-clause-sound c =
 pub returns-else-is_read-clause-like : goal.returns-else-is_read-clause-like
 returns-else-is_read-clause-like c =
     let front = c.args.self.now in
-    like-passed front c.args.bytes.now (length c.args.bytes.now) refl (header-front front c.requires.sound c.requires.header) (ap is_read (sym c.deref.ensures.0) ∙ sym c.is_read.ensures ∙ c.if-is_read.false)
+    like-passed front c.args.bytes.now (length c.args.bytes.now) refl (header-front front c.requires.sound c.requires.header)
+    (ap is_read (sym c.deref.ensures.0) ∙ sym c.is_read.ensures ∙ c.if-is_read.false)
 
 pub returns-else-is_read-clause-sound : goal.returns-else-is_read-clause-sound
 returns-else-is_read-clause-sound c =
     let front = c.args.self.now in
     let header = header-front front c.requires.sound c.requires.header in
-    sound-passed front (length c.args.bytes.now) c.requires.sound header (ap is_read (sym c.deref.ensures.0) ∙ sym c.is_read.ensures ∙ c.if-is_read.false) (omega (arith, c.requires.room, length-front front, section_length-below (front_bytes front)))
+    sound-passed front (length c.args.bytes.now) c.requires.sound header
+    (ap is_read (sym c.deref.ensures.0) ∙ sym c.is_read.ensures ∙ c.if-is_read.false)
+    (omega (arith, c.requires.room, length-front front, section_length-below (front_bytes front)))

@@ -18,7 +18,8 @@ returns-then-crc32-ne0 c =
     let crc : crc_over (front_bytes front) ≡ c.crc32.result = ap crc_over (kept ∙ sym c.deref.ensures.0) ∙ c.crc32.ensures.only (crc_over c.deref.result.now) (crc_over-is c.deref.result.now) in
     let wrong : crc_over (front_bytes front) ≢ 0 = λ is. c.if-crc32-ne0.true (sym crc ∙ is) in
     let good : is_bad (front_bytes front) ≡ false = sym c.is_bad.ensures ∙ c.if-is_bad.false in
-    found_at-whole (front_bytes front) c.requires.settled good read c.requires.held.front_is.within ∙ ap (λ (right : Bool). cond right (Ok (front_bytes front)) (Err BadCrc) ∷ []) (ne_eqb (crc_over (front_bytes front)) 0 wrong)
+    found_at-whole (front_bytes front) c.requires.settled good read c.requires.held.front_is.within
+    ∙ ap (λ (right : Bool). cond right (Ok (front_bytes front)) (Err BadCrc) ∷ []) (ne_eqb (crc_over (front_bytes front)) 0 wrong)
 
 pub returns : goal.returns
 returns c =
@@ -28,4 +29,6 @@ returns c =
     let kept : front_bytes front ≡ front.section.items = kept-front front c.requires.held.sound (sym (is_read-front front header) ∙ read) in
     let crc : crc_over (front_bytes front) ≡ c.crc32.result = ap crc_over (kept ∙ sym c.deref.ensures.0) ∙ c.crc32.ensures.only (crc_over c.deref.result.now) (crc_over-is c.deref.result.now) in
     let good : is_bad (front_bytes front) ≡ false = sym c.is_bad.ensures ∙ c.if-is_bad.false in
-    found_at-whole (front_bytes front) c.requires.settled good read c.requires.held.front_is.within ∙ ap (λ (right : Bool). cond right (Ok (front_bytes front)) (Err BadCrc) ∷ []) (eq-eqb (crc_over (front_bytes front)) 0 (crc ∙ c.if-crc32-ne0.false)) ∙ ap (λ (section : List ℕ). Ok section ∷ []) kept
+    found_at-whole (front_bytes front) c.requires.settled good read c.requires.held.front_is.within
+    ∙ ap (λ (right : Bool). cond right (Ok (front_bytes front)) (Err BadCrc) ∷ [])
+    (eq-eqb (crc_over (front_bytes front)) 0 (crc ∙ c.if-crc32-ne0.false)) ∙ ap (λ (section : List ℕ). Ok section ∷ []) kept

@@ -16,7 +16,8 @@ returns-then-is_passed_over c =
     let passed = passed-over (is_settled now) (is_read now) (sym c.is_passed_over.ensures ∙ c.if-is_passed_over.true) in
     record {
       held = c.clear.ensures.held;
-      same = λ (next : List ℕ). taken-passed (front_bytes front) c.args.bytes.now c.take_in-taken.result now held c.requires.held.front_is c.take_in-taken.ensures.taken passed.0 passed.1 next ∙ sym (ap (λ (bytes : List ℕ). found_from 0 bytes next) c.clear.ensures.bytes);
+      same = λ (next : List ℕ). taken-passed (front_bytes front) c.args.bytes.now c.take_in-taken.result now held c.requires.held.front_is
+          c.take_in-taken.ensures.taken passed.0 passed.1 next ∙ sym (ap (λ (bytes : List ℕ). found_from 0 bytes next) c.clear.ensures.bytes);
     }
 
 pub returns-else-is_passed_over : goal.returns-else-is_passed_over

@@ -13,7 +13,9 @@ returns-then-header-taken-clause-taken c =
     let count : h + k - h ≡ k = omega arith in
     let like : IsLike (front_bytes c.add.new.self) (before ++ take k (drop h bytes)) =
     subst (λ (m : ℕ). IsLike (front_bytes c.add.new.self) (before ++ take m (drop h bytes))) count c.add.ensures.like in
-    takes_in (front_bytes c.args.self.now) bytes h before k (front_bytes c.add.new.self) c.requires.unsettled c.take_header-header.ensures.bound c.take_header-header.ensures.bytes c.take_header-header.ensures.all c.take_header-header.ensures.no_more (c.min.ensures ∙ ap (λ (m : ℕ). min m (length bytes - h)) c.missing.ensures) like
+    takes_in (front_bytes c.args.self.now) bytes h before k (front_bytes c.add.new.self) c.requires.unsettled c.take_header-header.ensures.bound
+    c.take_header-header.ensures.bytes c.take_header-header.ensures.all c.take_header-header.ensures.no_more
+    (c.min.ensures ∙ ap (λ (m : ℕ). min m (length bytes - h)) c.missing.ensures) like
 
 pub returns-else-header-taken-clause-taken : goal.returns-else-header-taken-clause-taken
 returns-else-header-taken-clause-taken c =
@@ -22,4 +24,6 @@ returns-else-header-taken-clause-taken c =
     let bytes = c.args.bytes.now in
     let before = front_bytes c.take_header-header.new.self in
     let none : take k (drop h bytes) ≡ [] = let zero : k ≡ 0 = omega arith in ap (λ (m : ℕ). take m (drop h bytes)) zero in
-    takes_in (front_bytes c.args.self.now) bytes h before k before c.requires.unsettled c.take_header-header.ensures.bound c.take_header-header.ensures.bytes c.take_header-header.ensures.all c.take_header-header.ensures.no_more (c.min.ensures ∙ ap (λ (m : ℕ). min m (length bytes - h)) c.missing.ensures) (like-none before _ none)
+    takes_in (front_bytes c.args.self.now) bytes h before k before c.requires.unsettled c.take_header-header.ensures.bound
+    c.take_header-header.ensures.bytes c.take_header-header.ensures.all c.take_header-header.ensures.no_more
+    (c.min.ensures ∙ ap (λ (m : ℕ). min m (length bytes - h)) c.missing.ensures) (like-none before _ none)

@@ -10,7 +10,8 @@ returns-in-Some-2 c =
     let product : c.from.result * c.from-2.result ≡ (c.args.n + 1) * c.args.slot = cc (c.from.ensures, c.from-2.ensures) in (
       elim c.match-row.branch [
         | in-Carries+else-packet-end_with_margin w ↦
-            NoneLate-in_time states end _ w.in-Carries.stream w.mb_or_tb_work.result w.in-Carries.packet c.args.row _ w.in-Carries.is (ap (λ (k : ℕ). 940 * k) product) w.mb_or_tb_work.ensures (omega (arith, w.if-packet-end_with_margin.false))
+            NoneLate-in_time states end _ w.in-Carries.stream w.mb_or_tb_work.result w.in-Carries.packet c.args.row _ w.in-Carries.is
+            (ap (λ (k : ℕ). 940 * k) product) w.mb_or_tb_work.ensures (omega (arith, w.if-packet-end_with_margin.false))
         | in_default w ↦ NoneLate-other states end c.args.row w.in_default.not-Carries
       ],
       NoneOverdue-from_first states end c.in-Some.head.stream c.in-Some.head.packet c.in-Some.ensures (omega (arith, c.if-head-end_with_margin.false)),
@@ -24,7 +25,8 @@ returns-in-None c =
     let product : c.from.result * c.from-2.result ≡ (c.args.n + 1) * c.args.slot = cc (c.from.ensures, c.from-2.ensures) in (
       elim c.match-row.branch [
         | in-Carries+else-packet-end_with_margin w ↦
-            NoneLate-in_time states end _ w.in-Carries.stream w.mb_or_tb_work.result w.in-Carries.packet c.args.row _ w.in-Carries.is (ap (λ (k : ℕ). 940 * k) product) w.mb_or_tb_work.ensures (omega (arith, w.if-packet-end_with_margin.false))
+            NoneLate-in_time states end _ w.in-Carries.stream w.mb_or_tb_work.result w.in-Carries.packet c.args.row _ w.in-Carries.is
+            (ap (λ (k : ℕ). 940 * k) product) w.mb_or_tb_work.ensures (omega (arith, w.if-packet-end_with_margin.false))
         | in_default w ↦ NoneLate-other states end c.args.row w.in_default.not-Carries
       ],
       c.in-None.ensures,

@@ -29,4 +29,5 @@ returns-in-Units c =
     let choice = c.args.choice.now in
     let there : IsPlace table choice (Units c.in-Units.program c.in-Units.first) = subst (λ (s : QueueItems). IsPlace table choice s) c.in-Units.is c.requires in
     subst (λ (s : QueueItems). c.unit_packet.result ≡ slice_get (packets_at table choice s) 0) (sym c.in-Units.is)
-    (first_of_units table choice c.in-Units.program c.in-Units.first c.program_at.result.now c.versions_from.result.now c.unit_packet.result c.program_at.ensures c.versions_from.ensures there.2 c.unit_packet.ensures.missing c.unit_packet.ensures.found)
+    (first_of_units table choice c.in-Units.program c.in-Units.first c.program_at.result.now c.versions_from.result.now c.unit_packet.result
+    c.program_at.ensures c.versions_from.ensures there.2 c.unit_packet.ensures.missing c.unit_packet.ensures.found)

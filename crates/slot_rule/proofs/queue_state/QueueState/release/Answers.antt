@@ -25,7 +25,8 @@ loop-self-preserved c =
     let packet = c.in-Some.packet in
     let got : slice_get packets state.gone ≡ Some packet = sym c.loop-self.invariant.keeps.oldest ∙ c.in-Some.is in
     let items : state.items ≡ c.args.self.now.items = ap (λ (s : QueueState). s.items) c.loop-self.invariant.releases.changed in
-    let after = subst (λ (s : QueueItems). slice_get (packets_at table choice s) state.gone ≡ Some packet → c.packet_after-self.result ≡ slice_get (packets_at table choice s) (state.gone + 1)) items (c.packet_after-self.ensures state.gone) in
+    let after = subst (λ (s : QueueItems). slice_get (packets_at table choice s) state.gone ≡ Some packet
+    → c.packet_after-self.result ≡ slice_get (packets_at table choice s) (state.gone + 1)) items (c.packet_after-self.ensures state.gone) in
     record {
       keeps = (KeepsPlace-release packets state packet c.packet_after-self.result c.loop-self.invariant.keeps c.loop-self-test.true c.in-Some.is (after got)).1;
       releases = Releases-more packets c.args.start c.args.self.now state packet c.packet_after-self.result c.loop-self.invariant.releases got c.if-start-packet.false;

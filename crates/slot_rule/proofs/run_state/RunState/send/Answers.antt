@@ -17,7 +17,8 @@ returns-clause-turns c =
     let sender = c.requires.sender in
     sent_turns c.args.table.now c.args.choice.now c.args.head.stream c.args.head.place c.args.now c.args.head.packet c.send.new.self.head olds _ c.args.self.now.turns.items c.pass_turn.new.turns.items
     sender (returns-clause-sends c)
-    (λ new there. ap (λ (s : QueueState). s.head) (written_there olds c.deref_mut.result.now c.args.head.stream c.send.new.self new c.deref_mut.ensures.value (slice_get_within olds c.args.head.stream sender.state sender.there) there))
+    (λ new there. ap (λ (s : QueueState). s.head) (written_there olds c.deref_mut.result.now c.args.head.stream c.send.new.self new
+    c.deref_mut.ensures.value (slice_get_within olds c.args.head.stream sender.state sender.there) there))
     c.requires.turns c.requires.place c.pass_turn.ensures.order c.pass_turn.ensures.passes
 
 pub returns-clause-gone : goal.returns-clause-gone

@@ -16,7 +16,8 @@ pub returns-then-is_repeat : goal.returns-then-is_repeat
 returns-then-is_repeat c =
     let walk = c.args.self.now in
     let packet = c.in-Some-payload_packet.packet in
-    let is : payload_packet walk.pid (piece_at walk.file.now walk.next) ≡ Some (record_of packet) = ap (payload_packet walk.pid) (sym c.in-Some.ensures.some.1) ∙ sym c.in-Some-payload_packet.ensures in
+    let is : payload_packet walk.pid (piece_at walk.file.now walk.next)
+    ≡ Some (record_of packet) = ap (payload_packet walk.pid) (sym c.in-Some.ensures.some.1) ∙ sym c.in-Some-payload_packet.ensures in
     let again : repeats (option_map record_of walk.last) (record_of packet) ≡ true = sym c.is_repeat-is_repeat.ensures ∙ c.if-is_repeat.true in
     (record { within = c.in-Some.ensures.some.0; next = refl; file = refl }, adds_repeat walk.file.now walk.pid walk.next walk.last packet c.in-Some.ensures.some.0 is again)
 
@@ -24,7 +25,8 @@ pub returns : goal.returns
 returns c =
     let walk = c.args.self.now in
     let packet = c.in-Some-payload_packet.packet in
-    let is : payload_packet walk.pid (piece_at walk.file.now walk.next) ≡ Some (record_of packet) = ap (payload_packet walk.pid) (sym c.in-Some.ensures.some.1) ∙ sym c.in-Some-payload_packet.ensures in
+    let is : payload_packet walk.pid (piece_at walk.file.now walk.next)
+    ≡ Some (record_of packet) = ap (payload_packet walk.pid) (sym c.in-Some.ensures.some.1) ∙ sym c.in-Some-payload_packet.ensures in
     let again : repeats (option_map record_of walk.last) (record_of packet) ≡ false = sym c.is_repeat-is_repeat.ensures ∙ c.if-is_repeat.false in (
       record { within = c.in-Some.ensures.some.0; next = refl; file = refl },
       adds_payload walk.file.now walk.pid walk.next walk.last packet c.in-Some.ensures.some.0 is again,

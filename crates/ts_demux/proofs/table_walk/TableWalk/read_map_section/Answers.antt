@@ -12,8 +12,12 @@ use Rattle.ts_demux.proofs.table_walk.TableWalk.read_map_section.Goals as goal
 pub returns-in_default-clause-read : goal.returns-in_default-clause-read
 returns-in_default-clause-read c =
     let within = c.requires.within in
-    let reads = c.next.ensures.read (pieces_of c.args.file.now within.pid within.from (c.args.n + 1)) within.waiting within.map in
-    (map_all_read c.args.file.now c.args.n c.args.self.now c.next.new.self within (subst (λ (found : Option (Result (ArrayVec ℕ) SectionFault)). ReadsNext (pieces_of c.args.file.now within.pid within.from (c.args.n + 1)) within.waiting found c.next.new.self) c.in_default.is reads), refl)
+    let reads = c.next.ensures.read (pieces_of c.args.file.now within.pid within.from (c.args.n + 1)) within.waiting within.map in (
+      map_all_read c.args.file.now c.args.n c.args.self.now c.next.new.self within
+          (subst (λ (found : Option (Result (ArrayVec ℕ) SectionFault)). ReadsNext
+          (pieces_of c.args.file.now within.pid within.from (c.args.n + 1)) within.waiting found c.next.new.self) c.in_default.is reads),
+      refl,
+    )
 
 pub returns-in-Err-clause-read : goal.returns-in-Err-clause-read
 returns-in-Err-clause-read c =
@@ -28,5 +32,6 @@ pub returns-clause-read : goal.returns-clause-read
 returns-clause-read c =
     let within = c.requires.within in
     let reads = c.in-Some.ensures.read (pieces_of c.args.file.now within.pid within.from (c.args.n + 1)) within.waiting within.map in
-    let reads_it = subst (λ (found : Result (ArrayVec ℕ) SectionFault). ReadsNext (pieces_of c.args.file.now within.pid within.from (c.args.n + 1)) within.waiting (Some found) c.next.new.self) c.in-Ok.is reads in
+    let reads_it = subst (λ (found : Result (ArrayVec ℕ) SectionFault). ReadsNext
+    (pieces_of c.args.file.now within.pid within.from (c.args.n + 1)) within.waiting (Some found) c.next.new.self) c.in-Ok.is reads in
     map_read c.args.file.now c.args.n c.args.self.now c.in-Ok.section c.next.new.self c.read_program_map.result within reads_it c.read_program_map.ensures

@@ -13,8 +13,12 @@ use Rattle.ts_demux.proofs.table_walk.TableWalk.read_pat_section.Goals as goal
 pub returns-in_default-clause-read : goal.returns-in_default-clause-read
 returns-in_default-clause-read c =
     let within = c.requires.within in
-    let reads = c.next.ensures.read (pieces_of c.args.file.now pat_pid 0 (c.args.n + 1)) within.waiting within.pat in
-    (pat_all_read c.args.file.now c.args.n c.args.self.now c.next.new.self within (subst (λ (found : Option (Result (ArrayVec ℕ) SectionFault)). ReadsNext (pieces_of c.args.file.now pat_pid 0 (c.args.n + 1)) within.waiting found c.next.new.self) c.in_default.is reads), refl)
+    let reads = c.next.ensures.read (pieces_of c.args.file.now pat_pid 0 (c.args.n + 1)) within.waiting within.pat in (
+      pat_all_read c.args.file.now c.args.n c.args.self.now c.next.new.self within
+          (subst (λ (found : Option (Result (ArrayVec ℕ) SectionFault)). ReadsNext
+          (pieces_of c.args.file.now pat_pid 0 (c.args.n + 1)) within.waiting found c.next.new.self) c.in_default.is reads),
+      refl,
+    )
 
 pub returns-in-Err-clause-read : goal.returns-in-Err-clause-read
 returns-in-Err-clause-read c =
@@ -30,8 +34,12 @@ returns-in-Err-known_behind-clause-read c =
     let within = c.requires.within in
     let reads = c.in-Some.ensures.read (pieces_of c.args.file.now pat_pid 0 (c.args.n + 1)) within.waiting within.pat in
     let there = pat_there c.args.file.now c.args.n c.args.self.now c.in-Some.found c.next.new.self within reads in
-    let here : IsSection c.args.file.now pat_pid 0 c.args.n within.done (Ok c.in-Ok.section.items) = subst (λ (found : Result (ArrayVec ℕ) SectionFault). IsSection c.args.file.now pat_pid 0 c.args.n within.done (found_of found)) c.in-Ok.is there in
-    subst (λ fault. StopsFirst c.args.file.now c.args.self.now.program (refuse fault)) (sym (c.section_refused-in-Err-known_behind.ensures ∙ ap (λ at. of_section at c.in-Err-known_behind.fault) c.place_of-in-Err-known_behind.ensures))
+    let here : IsSection c.args.file.now pat_pid 0 c.args.n within.done (Ok c.in-Ok.section.items) = subst
+    (λ (found : Result (ArrayVec ℕ) SectionFault). IsSection c.args.file.now pat_pid 0 c.args.n within.done (found_of found)) c.in-Ok.is there
+    in
+    subst (λ fault. StopsFirst c.args.file.now c.args.self.now.program (refuse fault))
+    (sym (c.section_refused-in-Err-known_behind.ensures ∙ ap
+    (λ at. of_section at c.in-Err-known_behind.fault) c.place_of-in-Err-known_behind.ensures))
     (pat_refuses c.args.file.now c.args.n c.args.self.now (Ok c.in-Ok.section.items) c.in-Err-known_behind.fault within here c.in-Err-known_behind.ensures)
 
 pub returns-then-not-is_on_pat_pid-clause-read : goal.returns-then-not-is_on_pat_pid-clause-read
@@ -39,8 +47,11 @@ returns-then-not-is_on_pat_pid-clause-read c =
     let within = c.requires.within in
     let reads = c.in-Some.ensures.read (pieces_of c.args.file.now pat_pid 0 (c.args.n + 1)) within.waiting within.pat in
     let reads_it = subst (λ (found : Result (ArrayVec ℕ) SectionFault). ReadsNext (pieces_of c.args.file.now pat_pid 0 (c.args.n + 1)) within.waiting (Some found) c.next.new.self) c.in-Ok.is reads in
-    let off : is_on_pat_pid c.args.self.now.known ≡ false = sym c.is_on_pat_pid.ensures ∙ c.if-not-is_on_pat_pid.true in
-    (pat_goes_on c.args.file.now c.args.n c.args.self.now c.in-Ok.section c.in-Ok-known_behind.known c.next.new.self within reads_it c.in-Ok-known_behind.ensures (λ on. let e : false ≡ true = sym off ∙ on in absurd cc), refl)
+    let off : is_on_pat_pid c.args.self.now.known ≡ false = sym c.is_on_pat_pid.ensures ∙ c.if-not-is_on_pat_pid.true in (
+      pat_goes_on c.args.file.now c.args.n c.args.self.now c.in-Ok.section c.in-Ok-known_behind.known c.next.new.self within reads_it
+          c.in-Ok-known_behind.ensures (λ on. let e : false ≡ true = sym off ∙ on in absurd cc),
+      refl,
+    )
 
 pub returns-clause-read : goal.returns-clause-read
 returns-clause-read c =
@@ -48,4 +59,5 @@ returns-clause-read c =
     let reads = c.in-Some.ensures.read (pieces_of c.args.file.now pat_pid 0 (c.args.n + 1)) within.waiting within.pat in
     let reads_it = subst (λ (found : Result (ArrayVec ℕ) SectionFault). ReadsNext (pieces_of c.args.file.now pat_pid 0 (c.args.n + 1)) within.waiting (Some found) c.next.new.self) c.in-Ok.is reads in
     let on : is_on_pat_pid c.args.self.now.known ≡ true = sym c.is_on_pat_pid.ensures ∙ c.if-not-is_on_pat_pid.false in
-    pat_map_read c.args.file.now c.args.n c.args.self.now c.in-Ok.section c.in-Ok-known_behind.known c.next.new.self c.read_program_map.result within reads_it c.in-Ok-known_behind.ensures on c.read_program_map.ensures
+    pat_map_read c.args.file.now c.args.n c.args.self.now c.in-Ok.section c.in-Ok-known_behind.known c.next.new.self c.read_program_map.result within
+    reads_it c.in-Ok-known_behind.ensures on c.read_program_map.ensures

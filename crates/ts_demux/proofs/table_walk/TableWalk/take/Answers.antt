@@ -21,15 +21,18 @@ returns-in_default c =
     (sync_refuses c.args.file.now c.args.n c.args.self.now c.args.bytes.now c.requires.within c.requires.bytes c.in_default.ensures.sync.1 c.requires.between)
 
 pub take_pat_packet-requires-clause-of_pid : goal.take_pat_packet-requires-clause-of_pid
-take_pat_packet-requires-clause-of_pid c = is_of c.args.file.now c.args.n c.in-Ok.pid pat_pid c.args.bytes.now true c.requires.bytes c.in-Ok.ensures.pid.1 (yes_test c.in-Ok.pid c.if-pid-eq-PAT_PID.true)
+take_pat_packet-requires-clause-of_pid c = is_of c.args.file.now c.args.n c.in-Ok.pid pat_pid c.args.bytes.now true c.requires.bytes
+    c.in-Ok.ensures.pid.1 (yes_test c.in-Ok.pid c.if-pid-eq-PAT_PID.true)
 
 pub take_map_packet-requires-clause-of_pid : goal.take_map_packet-requires-clause-of_pid
-take_map_packet-requires-clause-of_pid c = on_map c.args.file.now c.args.n c.in-Ok.pid c.args.bytes.now c.args.self.now.known c.requires.bytes c.in-Ok.ensures.pid.1 c.if-pid-eq-PAT_PID.false (sym c.is_map_on.ensures ∙ c.if-is_map_on.true)
+take_map_packet-requires-clause-of_pid c = on_map c.args.file.now c.args.n c.in-Ok.pid c.args.bytes.now c.args.self.now.known c.requires.bytes
+    c.in-Ok.ensures.pid.1 c.if-pid-eq-PAT_PID.false (sym c.is_map_on.ensures ∙ c.if-is_map_on.true)
 
 pub returns : goal.returns
 returns c = (
   other_goes_on c.args.file.now c.args.n c.args.self.now c.args.bytes.now c.requires.bytes c.in-Ok.ensures.pid.0
       (is_of c.args.file.now c.args.n c.in-Ok.pid pat_pid c.args.bytes.now false c.requires.bytes c.in-Ok.ensures.pid.1 (no_test c.in-Ok.pid c.if-pid-eq-PAT_PID.false))
-      (not_on_map c.args.file.now c.args.n c.in-Ok.pid c.args.bytes.now c.args.self.now.known c.requires.bytes c.in-Ok.ensures.pid.1 (sym c.is_map_on.ensures ∙ c.if-is_map_on.false)) c.requires.between,
+      (not_on_map c.args.file.now c.args.n c.in-Ok.pid c.args.bytes.now c.args.self.now.known c.requires.bytes c.in-Ok.ensures.pid.1
+      (sym c.is_map_on.ensures ∙ c.if-is_map_on.false)) c.requires.between,
   refl,
 )

@@ -9,9 +9,11 @@ take-requires c = map_pulled c.args.file.now c.args.n c.args.self.now.known c.ar
 
 pub read_map_sections-requires-clause-within : goal.read_map_sections-requires-clause-within
 read_map_sections-requires-clause-within c =
-    map_begins c.args.file.now c.args.n c.args.self.now c.args.self.now.known c.args.bytes.now c.take.new.self refl c.requires.within c.requires.bytes c.requires.sync c.requires.of_pid c.requires.between c.in-Ok.ensures
+    map_begins c.args.file.now c.args.n c.args.self.now c.args.self.now.known c.args.bytes.now c.take.new.self refl c.requires.within c.requires.bytes
+    c.requires.sync c.requires.of_pid c.requires.between c.in-Ok.ensures
 
 pub returns-in-Err : goal.returns-in-Err
 returns-in-Err c =
     subst (λ fault. StopsFirst c.args.file.now c.args.self.now.program (refuse fault)) (sym (c.pid_refused.ensures ∙ ap (λ at. of_pid at c.in-Err.fault) c.place_of.ensures))
-    (map_refuses_packet c.args.file.now c.args.n c.args.self.now c.args.self.now.known c.args.bytes.now c.in-Err.fault c.take.new.self refl c.requires.within c.requires.bytes c.requires.of_pid c.requires.between c.in-Err.ensures)
+    (map_refuses_packet c.args.file.now c.args.n c.args.self.now c.args.self.now.known c.args.bytes.now c.in-Err.fault c.take.new.self refl
+    c.requires.within c.requires.bytes c.requires.of_pid c.requires.between c.in-Err.ensures)

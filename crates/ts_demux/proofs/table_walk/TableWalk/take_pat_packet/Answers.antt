@@ -16,4 +16,5 @@ read_pat_sections-requires-clause-within c =
 pub returns-in-Err : goal.returns-in-Err
 returns-in-Err c =
     subst (λ fault. StopsFirst c.args.file.now c.args.self.now.program (refuse fault)) (sym (c.pid_refused.ensures ∙ ap (λ at. of_pid at c.in-Err.fault) c.place_of.ensures))
-    (pat_refuses_packet c.args.file.now c.args.n c.args.self.now c.args.bytes.now c.in-Err.fault c.requires.within c.requires.bytes c.requires.of_pid c.requires.between (c.in-Err.ensures (pieces_of c.args.file.now pat_pid 0 c.args.n) (188 * c.args.n) c.requires.between.pat))
+    (pat_refuses_packet c.args.file.now c.args.n c.args.self.now c.args.bytes.now c.in-Err.fault c.requires.within c.requires.bytes c.requires.of_pid
+    c.requires.between (c.in-Err.ensures (pieces_of c.args.file.now pat_pid 0 c.args.n) (188 * c.args.n) c.requires.between.pat))

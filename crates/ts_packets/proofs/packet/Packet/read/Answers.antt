@@ -11,15 +11,18 @@ returns-clause-packet c = is_packet c.args.bytes.now _ _ _ c.told-bytes c.in_ok-
 
 pub returns-clause-fault : goal.returns-clause-fault
 returns-clause-fault c =
-    let is = is_packet c.args.bytes.now c.in_ok-pid.pid c.in_ok-field.field c.in_ok-field.payload.now c.told-bytes c.in_ok-pid.ensures.pid c.if-bytes-ne0.false c.if-bytes-ne0-2.false c.in_ok-field.ensures.ok in
+    let is = is_packet c.args.bytes.now c.in_ok-pid.pid c.in_ok-field.field c.in_ok-field.payload.now c.told-bytes c.in_ok-pid.ensures.pid
+    c.if-bytes-ne0.false c.if-bytes-ne0-2.false c.in_ok-field.ensures.ok in
     sym (packet-passes _ c.args.bytes.now is)
 
 pub returns-clause-exact : goal.returns-clause-exact
 returns-clause-exact c =
-    let is = is_packet c.args.bytes.now c.in_ok-pid.pid c.in_ok-field.field c.in_ok-field.payload.now c.told-bytes c.in_ok-pid.ensures.pid c.if-bytes-ne0.false c.if-bytes-ne0-2.false c.in_ok-field.ensures.ok in
+    let is = is_packet c.args.bytes.now c.in_ok-pid.pid c.in_ok-field.field c.in_ok-field.payload.now c.told-bytes c.in_ok-pid.ensures.pid
+    c.if-bytes-ne0.false c.if-bytes-ne0-2.false c.in_ok-field.ensures.ok in
     sym (packet-found _ c.args.bytes.now is)
 
 pub returns-clause-only : goal.returns-clause-only
 returns-clause-only c = λ packet is.
-    let found = is_packet c.args.bytes.now c.in_ok-pid.pid c.in_ok-field.field c.in_ok-field.payload.now c.told-bytes c.in_ok-pid.ensures.pid c.if-bytes-ne0.false c.if-bytes-ne0-2.false c.in_ok-field.ensures.ok in
+    let found = is_packet c.args.bytes.now c.in_ok-pid.pid c.in_ok-field.field c.in_ok-field.payload.now c.told-bytes c.in_ok-pid.ensures.pid
+    c.if-bytes-ne0.false c.if-bytes-ne0-2.false c.in_ok-field.ensures.ok in
     found.fields ∙ sym is.fields

@@ -16,9 +16,18 @@ returns-clause-bytes c =
       | in-Some w ↦
           let room : length c.args.self.now.payload.now + least_length w.in-Some.field ≤ 183 = subst room_of w.in-Some.is c.requires.payload in
           let rest : List ℕ = drop 4 (c.copy_from_slice.new.self ++ drop 4 c.args.into.now) in
-          let rest_size : length rest ≡ 184 = omega (arith, ap length header-is, length-drop 4 (c.copy_from_slice.new.self ++ drop 4 c.args.into.now), length-append c.copy_from_slice.new.self (drop 4 c.args.into.now), length-drop 4 c.args.into.now, c.told-into) in
-          let size : length (take (188 - length c.args.self.now.payload.now - 4) rest) - 1 ≡ 183 - length c.args.self.now.payload.now = omega (arith, length-take (188 - length c.args.self.now.payload.now - 4) rest) in
-          let part-is : w.write.new.into ≡ written_field (Some w.in-Some.field) (183 - length c.args.self.now.payload.now) = w.write.ensures ∙ ap (λ (n : ℕ). written_field (Some w.in-Some.field) n) size in
+          let rest_size : length rest ≡ 184 = omega (
+            arith,
+            ap length header-is,
+            length-drop 4 (c.copy_from_slice.new.self ++ drop 4 c.args.into.now),
+            length-append c.copy_from_slice.new.self (drop 4 c.args.into.now),
+            length-drop 4 c.args.into.now,
+            c.told-into,
+          ) in
+          let size : length (take (188 - length c.args.self.now.payload.now - 4) rest) - 1
+          ≡ 183 - length c.args.self.now.payload.now = omega (arith, length-take (188 - length c.args.self.now.payload.now - 4) rest) in
+          let part-is : w.write.new.into ≡ written_field (Some w.in-Some.field) (183 - length c.args.self.now.payload.now) = w.write.ensures
+          ∙ ap (λ (n : ℕ). written_field (Some w.in-Some.field) n) size in
           written-beside (record_of c.args.self.now) w.in-Some.field c.args.into.now c.match-self.into w.write.new.into _ w.in-Some.is room c.told-into part-is
           (w.into-is ∙ ap (λ (h : List ℕ). put_mid 4 (188 - length c.args.self.now.payload.now - 4) (h ++ drop 4 c.args.into.now) w.write.new.into) header-is) c.copy_from_slice-2.ensures.after
       | in_default w ↦

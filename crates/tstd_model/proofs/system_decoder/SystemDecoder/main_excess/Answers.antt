@@ -13,7 +13,8 @@ new-leaves-requires-in-System c =
 pub returns-in-Video : goal.returns-in-Video
 returns-in-Video c =
     let decoder = c.args.self.now in
-    video_excess-is decoder.slot c.in-Video.vbv c.eb_bytes.result decoder.kind decoder.arrivals.now decoder.removals.now c.first_over.result c.passing-comes.result c.new-leaves.result c.moves.result c.bytes.result
+    video_excess-is decoder.slot c.in-Video.vbv c.eb_bytes.result decoder.kind decoder.arrivals.now decoder.removals.now c.first_over.result
+    c.passing-comes.result c.new-leaves.result c.moves.result c.bytes.result
     c.in-Video.is c.eb_bytes.ensures c.passing-comes.ensures c.bytes.ensures.belong c.moves.ensures c.new-leaves.ensures c.first_over.ensures
 
 pub returns-in-Audio : goal.returns-in-Audio
