@@ -131,7 +131,7 @@ early_value = refl
 abbrev equal_packets : Table
 equal_packets = silent 4000 (unit 27200 (version 552 7 ∷ version 369 3 ∷ version 368 9 ∷ []) ∷ [])
 
--- two packets at 9 distortions cost 1,304 more than three at 3 save, where a packet costs 1,000
+-- two packets at 9 distortions cost 4,304, three at 3 only 3,768, where a packet costs 1,000
 equal_value : least_cost (record { from = 0; due = 27200; lambda = 1000 } ∷ []) (unit 27200 (version 552 7 ∷ version 369 3 ∷ version 368 9 ∷ [])) None ≡ 3768
 unfolding price least_cost
 equal_value = refl

@@ -1,4 +1,4 @@
--- The room of a window of time: how many packets that are due in it can be sent, beside audio.
+-- The room of a window of time: how many packets that are due in it can be sent, beside audio. Times are ticks of 1/27,000,000 s.
 use Rattle.std.specs.Prelude.{ℕ, ◌+◌, ◌*◌, ◌/◌, Bool, ◌&&◌, nat_le, length, count_by, is_none, ℤ, pos, ◌-ℤ◌}
 use Rattle.std.specs.List.{range_with_len}
 use Rattle.stream_constants.specs.declared.decoder.TheConstants.{HOLD_TICKS}

@@ -1,5 +1,6 @@
 -- The value of some windows, and of some multipliers: what the units cost at least where packets are charged, less what the
--- windows' room is worth. Values and lambdas are in 1/256 of a distortion.
+-- windows' room is worth. Values and lambdas are in 1/256 of a distortion,
+-- times in ticks of 1/27,000,000 s.
 use Rattle.std.specs.Prelude.{ℕ, ◌+◌, ◌*◌, List, map, sum_by, fold, if◌then◌else◌, Option, ℤ, pos, ◌+ℤ◌, ◌-ℤ◌, ◌*ℤ◌}
 use Rattle.std.specs.List.{zip}
 use Rattle.std.specs.Int.{div_ceil}

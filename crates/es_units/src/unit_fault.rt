@@ -4,7 +4,7 @@ use thiserror::Error;
 /// Why a video stream isn't cut into units.
 #[derive(Clone, Copy, Debug, PartialEq, Eq, Error)]
 pub enum UnitFault {
-    /// No sequence header stands in the stream, so no unit is left; at 0.
+    /// No sequence header stands in the stream, so no unit is left; `at` is the byte of the stream, 0.
     #[error("no sequence header from byte {at} on")]
     NoSequence { at: u64 },
     /// Memory was wanted and not there.
