@@ -13,8 +13,7 @@ use list_types::OutOfMemory;
 use version_table::{Table, Unit};
 
 /// At most one window, whose value is at least that of each that is tried alone: at a unit's due time with a lambda from 0
-/// to 2^40, beginning at the start, at the due time, or half a second or two seconds before it. Empty where there is no
-/// unit. Fails only for want of memory.
+/// to 2^40, beginning at the start, at the due time, or half a second or two seconds before it. Fails only for want of memory.
 pub fn best_window(table: &Table, fixed: &Fixed) -> Result<Windows, OutOfMemory>
     requires valid { IsValidTable table.now }
     requires fixed { FixesVersions table.now fixed.now }
