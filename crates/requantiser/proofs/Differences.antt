@@ -20,23 +20,23 @@ from_zero z =
     let one : unsigned_abs (negsuc 0) * unsigned_abs (z -ℤ pos 0) ≡ unsigned_abs (z -ℤ pos 0) = one-mul (unsigned_abs (z -ℤ pos 0)) in
     ap unsigned_abs turned ∙ unsigned_abs-mul (negsuc 0) (z -ℤ pos 0) ∙ one
 
-pub difference_of-same : (f g h k : ℕ → ℕ → ℤ) → ((i place : ℕ) → f i place ≡ h i place) → ((i place : ℕ) → g i place ≡ k i place) → difference_of f g ≡ difference_of h k
+pub difference_of-same : (f g h k : ℕ → ℕ → ℤ) → ((i index : ℕ) → f i index ≡ h i index) → ((i index : ℕ) → g i index ≡ k i index) → difference_of f g ≡ difference_of h k
 difference_of-same f g h k first second =
     sym (difference_of-blocks f g)
     ∙ sum_from-same (block_difference f g) (block_difference h k) 0 6 (λ i low high.
-    sum_from-same (λ place. squared_difference (f i place) (g i place)) (λ place. squared_difference (h i place) (k i place)) 0 64
-    (λ place low high. ap₂ squared_difference (first i place) (second i place)))
+    sum_from-same (λ index. squared_difference (f i index) (g i index)) (λ index. squared_difference (h i index) (k i index)) 0 64
+    (λ index low high. ap₂ squared_difference (first i index) (second i index)))
     ∙ difference_of-blocks h k
 
-pub difference_of-flip : (f : ℕ → ℕ → ℤ) → difference_of (λ i place. pos 0) f ≡ difference_of f (λ i place. pos 0)
+pub difference_of-flip : (f : ℕ → ℕ → ℤ) → difference_of (λ i index. pos 0) f ≡ difference_of f (λ i index. pos 0)
 difference_of-flip f =
-    sym (difference_of-blocks (λ i place. pos 0) f)
-    ∙ sum_from-same (block_difference (λ i place. pos 0) f) (block_difference f (λ i place. pos 0)) 0 6 (λ i low high.
-    sum_from-same (λ place. squared_difference (pos 0) (f i place)) (λ place. squared_difference (f i place) (pos 0)) 0 64
-    (λ place low high. ap₂ (λ a b. a * b) (from_zero (f i place)) (from_zero (f i place))))
-    ∙ difference_of-blocks f (λ i place. pos 0)
+    sym (difference_of-blocks (λ i index. pos 0) f)
+    ∙ sum_from-same (block_difference (λ i index. pos 0) f) (block_difference f (λ i index. pos 0)) 0 6 (λ i low high.
+    sum_from-same (λ index. squared_difference (pos 0) (f i index)) (λ index. squared_difference (f i index) (pos 0)) 0 64
+    (λ index low high. ap₂ (λ a b. a * b) (from_zero (f i index)) (from_zero (f i index))))
+    ∙ difference_of-blocks f (λ i index. pos 0)
 
-pub difference_of-none : 0 ≡ difference_of (λ i place. pos 0) (λ i place. pos 0)
+pub difference_of-none : 0 ≡ difference_of (λ i index. pos 0) (λ i index. pos 0)
 unfolding difference_of
 difference_of-none = refl
 

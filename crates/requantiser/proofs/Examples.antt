@@ -194,12 +194,33 @@ with_dc pairs = record {
       (record { dc = Some (record { size = 1; bits = 0 }); pairs = record { items = pairs } });
 }
 
--- DC coefficients and the vector stay; a level is rounded to nearest, from -2 * 16 * 8 / 16 = -16 to 256 / (16 * 16), and
--- one that becomes 0 leaves its place to the run
-intra_with_concealment : IsCoarserSlice default_seq (record (coding_of 1) { concealment = true }) 32 (slice_of 4 (with_dc (pair_of 0 (negsuc 1) ∷ pair_of 0 (pos 1) ∷ pair_of 0 (pos 4) ∷ []) ∷ []))
-    (slice_of 8 (with_dc (pair_of 0 (negsuc 0) ∷ pair_of 0 (pos 1) ∷ pair_of 0 (pos 2) ∷ []) ∷ []))
+-- DC coefficients and the vector stay; a level is rounded to nearest. Codes 4 and 12 are the scales 8 and 24, and the
+-- weights 16, 16 and 19: -2 becomes -(256 + 192) / 384 = -1, and 4 becomes (608 + 228) / 456 = 1. Between them 1 becomes
+-- (128 + 192) / 384 = 0, and leaves its place to the run.
+intra_with_concealment : IsCoarserSlice default_seq (record (coding_of 1) { concealment = true }) 48 (slice_of 4 (with_dc (pair_of 0 (negsuc 1) ∷ pair_of 0 (pos 1) ∷ pair_of 0 (pos 4) ∷ []) ∷ []))
+    (slice_of 12 (with_dc (pair_of 0 (negsuc 0) ∷ pair_of 1 (pos 1) ∷ []) ∷ []))
 unfolding coarsened_slice number_of with_dc
-intra_with_concealment = version_by_walk (record (coding_of 1) { concealment = true }) 32 _ _ refl refl
+intra_with_concealment = version_by_walk (record (coding_of 1) { concealment = true }) 48 _ _ refl refl
+
+-- ---- pictures under two scans
+
+-- an I-picture of one macroblock, under code 1 and this scan, with the level 1 behind the first DC coefficient
+abbrev scanned : Bool → Picture
+scanned alternate = record (picture_of (record (coding_of 1) { alternate_scan = alternate }) (slice_of 1 (record (with_dc []) {
+  forward = record { items = [] };
+  blocks = slice_set (replicate 6 (record { dc = Some (record { size = 0; bits = 0 }); pairs = record { items = [] } })) 0
+      (record { dc = Some (record { size = 0; bits = 0 }); pairs = record { items = pair_of 0 (pos 1) ∷ [] } });
+} ∷ []))) { seq = record default_seq { width = 16 } }
+
+-- the first place behind the DC coefficient is the raster index 1 in the zigzag scan, and 8 in the alternate one: both
+-- coefficients are 2 * 1 * 16 * 2 / 32 = 2, and neither stands where the other does
+two_scans_distortion : distortion_between (scanned false) (scanned true) ≡ 8
+unfolding distortion_between difference_of with_dc
+two_scans_distortion = refl
+
+same_scan_distortion : distortion_between (scanned true) (scanned true) ≡ 0
+unfolding distortion_between difference_of with_dc
+same_scan_distortion = refl
 
 -- ---- a block
 

@@ -1,5 +1,5 @@
 -- The version of a lawful picture is lawful.
-use Rattle.std.proofs.Common.{◌≡◌, ◌+◌, ◌*◌, ◌<◌, ◌==◌, ℕ, List, [], ◌∷◌, ◌++◌, length, Bool, true, refl, sym, ◌∙◌, ap, ap₂, subst, arith}
+use Rattle.std.proofs.Common.{◌≡◌, ◌+◌, ◌*◌, ◌<◌, ◌==◌, ℕ, List, [], ◌∷◌, ◌++◌, length, Option, Bool, true, refl, sym, ◌∙◌, ap, ap₂, subst, arith}
 use Rattle.std.specs.Prelude.{map}
 use Rattle.std.specs.List.{AllByRecursion, flat_map, range_with_len}
 use Rattle.bit_lists.specs.Fields.{bit_list}
@@ -12,7 +12,7 @@ use Rattle.syntax_types.specs.declared.slice.Slice.{Slice}
 use Rattle.stream_constants.specs.declared.start_codes.TheConstants.{FIRST_SLICE}
 use Rattle.picture_grammar.specs.Grammar.{with_spelling}
 use Rattle.picture_grammar.specs.Head.{head}
-use Rattle.picture_grammar.specs.Picture.{IsLawful, IsCovered, addresses, rows}
+use Rattle.picture_grammar.specs.Picture.{IsLawful, IsCovered, MayPrecede, SpellsPicture, addresses, rows}
 use Rattle.picture_grammar.specs.Slice.{columns}
 use Rattle.picture_grammar.specs.StartCode.{is_slice}
 use Rattle.picture_laws.specs.Spellable.{HasSpellableParts, HasSpellableMacroblocks, HasSpellableSlices}
@@ -21,7 +21,7 @@ use Rattle.picture_laws.proofs.WrittenBits.{written-bytes}
 use Rattle.picture_heads.specs.declared.TheConstants.{NO_DELAY}
 use Rattle.picture_heads.proofs.DelayPlaces.{has-without}
 use Rattle.picture_heads.proofs.ReadHeads.{without-read}
-use Rattle.requantiser.specs.Version.{IsVersion}
+use Rattle.requantiser.specs.Version.{IsLawfulBehind, IsVersion}
 use Rattle.requantiser.specs.Private.Shapes.{IsWalkableSlice}
 use Rattle.requantiser.specs.Private.Walk.{coarsened_slice}
 use Rattle.requantiser.proofs.SpellableSlices.{slice-spelled}
@@ -115,6 +115,17 @@ version-lawful m from to lawful version =
     let (has, covered) = version-spelled m from to lawful version in
     let (written, is) = written-bytes to in
     record { before = lawful.before; preceded = lawful.preceded; bytes = written; are_bytes = is.0; spelled = picture-read lawful.before to written has is; covered = covered }
+
+pub version-behind : (m : ℕ) (before : Option SeqState) (from to : Picture) (bytes : List ℕ) → MayPrecede before → SpellsPicture before from bytes → IsCovered from
+    → IsVersion m from to → IsLawfulBehind before to
+version-behind m before from to bytes may spelled covered version =
+    let has-from = slices-of_picture before from (bit_list bytes) [] (omega (arith, length-bit_list bytes)) spelled in
+    let (source, is-from) = written-bytes from in
+    let lawful : IsLawful from =
+    record { before = before; preceded = may; bytes = source; are_bytes = is-from.0; spelled = picture-read before from source has-from is-from; covered = covered } in
+    let (has, all) = version-spelled m from to lawful version in
+    let (written, is) = written-bytes to in
+    record { bytes = written; are_bytes = is.0; spelled = picture-read before to written has is; covered = all }
 
 pub some-version : (m : ℕ) (from : Picture) → IsLawful from → (to : Picture) × IsVersion m from to
 some-version m from lawful =

@@ -12,6 +12,7 @@ pub mod Macroblocks
 pub mod Patterns
 pub mod Places
 pub mod Ranges
+pub mod Scans
 pub mod ShapeTest
 pub mod Slices
 pub mod Spelled

@@ -1,8 +1,17 @@
 -- The first number of a range that passes a test.
-use Rattle.std.proofs.Common.{◌≡◌, ℕ, zero, suc, ◌+◌, ◌<◌, ◌≤◌, Some, None, Bool, true, false, refl, sym, ◌∙◌, ap, subst, ◌⊎◌, inl, inr, arith, cond}
+use Rattle.std.proofs.Common.{◌≡◌, ℕ, zero, suc, ◌+◌, ◌<◌, ◌≤◌, Some, None, Bool, true, false, refl, sym, ◌∙◌, ap, subst, ◌⊎◌, inl, inr, arith, cond, zero-add}
 use Rattle.std.specs.Prelude.{find}
-use Rattle.std.specs.List.{range_with_len}
+use Rattle.std.specs.List.{range_with_len, list_all}
 use Rattle.std.proofs.lemmas.Bool.{cases_eq, cases_Bool}
+use Rattle.std.proofs.lemmas.List.Sums.{AllPass-from_list_all}
+use Rattle.std.proofs.lemmas.List.Elements.{All-get_or}
+use Rattle.std.proofs.lemmas.List.FromFn.{get_or-range_with_len, length-range_with_len}
+
+-- a test that all numbers below a bound pass
+pub number_passes : (p : ℕ → Bool) (end i : ℕ) → i < end → list_all p (range_with_len 0 end) ≡ true → p i ≡ true
+number_passes p end i below all =
+    subst (λ k. p k ≡ true) (get_or-range_with_len 0 end i 0 below ∙ zero-add i)
+    (All-get_or (λ k. p k ≡ true) (range_with_len 0 end) i 0 (omega (arith, length-range_with_len 0 end)) (AllPass-from_list_all p (range_with_len 0 end) all))
 
 -- the first number from a on, below a bound, that passes
 pub record IsFirst (p : ℕ → Bool) (a end k : ℕ) : Type 0 where

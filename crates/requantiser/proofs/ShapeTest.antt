@@ -1,11 +1,8 @@
 -- A test for the shape of a macroblock, for worked examples.
-use Rattle.std.proofs.Common.{◌≡◌, ℕ, ◌<◌, unsigned_abs, Option, Some, None, List, [], ◌∷◌, Bool, true, false, refl, sym, ◌∙◌, ap, subst, arith, length, zero-add}
+use Rattle.std.proofs.Common.{◌≡◌, ℕ, ◌<◌, unsigned_abs, Option, Some, None, List, [], ◌∷◌, Bool, true, false, refl, sym, ap, length}
 use Rattle.std.specs.Prelude.{◌==◌, ◌&&◌, ◌||◌, not, is_some, slice_index_or, find}
 use Rattle.std.specs.List.{range_with_len, list_all}
 use Rattle.std.proofs.lemmas.Bool.{and_parts, not-true, eqb-true, eqb-false}
-use Rattle.std.proofs.lemmas.List.Sums.{AllPass-from_list_all}
-use Rattle.std.proofs.lemmas.List.Elements.{All-get_or}
-use Rattle.std.proofs.lemmas.List.FromFn.{get_or-range_with_len, length-range_with_len}
 use Rattle.syntax_types.specs.declared.block.Block.{Block}
 use Rattle.syntax_types.specs.declared.block.Dc.{Dc}
 use Rattle.syntax_types.specs.declared.block.RunLevel.{RunLevel}
@@ -13,7 +10,7 @@ use Rattle.syntax_types.specs.declared.macroblock.TheConstants.{BLOCKS}
 use Rattle.syntax_types.specs.declared.macroblock.Macroblock.{Macroblock}
 use Rattle.picture_grammar.specs.Macroblock.{is_coded, no_block}
 use Rattle.requantiser.specs.Private.Shapes.{BeginsWithLevel, HasShape}
-use Rattle.requantiser.proofs.Ranges.{IsFirst, find-some}
+use Rattle.requantiser.proofs.Ranges.{IsFirst, find-some, number_passes}
 
 abbrev pub begins_with_level : List RunLevel → Bool
 begins_with_level [] = false
@@ -31,11 +28,6 @@ block_test m i =
 abbrev pub shape_test : Macroblock → Bool
 shape_test m = (length m.blocks == BLOCKS)
     && (m.kind.intra || (list_all (block_test m) (range_with_len 0 BLOCKS) && (not m.kind.pattern || is_some (find (λ i. is_coded m.kind m.pattern i) (range_with_len 0 BLOCKS)))))
-
-at_index : (p : ℕ → Bool) (i : ℕ) → i < BLOCKS → list_all p (range_with_len 0 BLOCKS) ≡ true → p i ≡ true
-at_index p i below all =
-    subst (λ k. p k ≡ true) (get_or-range_with_len 0 BLOCKS i 0 below ∙ zero-add i)
-    (All-get_or (λ k. p k ≡ true) (range_with_len 0 BLOCKS) i 0 (omega (arith, length-range_with_len 0 BLOCKS)) (AllPass-from_list_all p (range_with_len 0 BLOCKS) all))
 
 no_dc_by : (dc : Option Dc) → has_no_dc dc ≡ true → dc ≡ None
 no_dc_by None passes = refl
@@ -62,7 +54,7 @@ shape_by_test m passes = record {
     parts = and_parts _ _ passes
 
     blocks : m.kind.intra ≡ false → (i : ℕ) → i < BLOCKS → block_test m i ≡ true
-    blocks non_intra i below = at_index (block_test m) i below (and_parts _ _ (true_or _ _ parts.1 non_intra)).0
+    blocks non_intra i below = number_passes (block_test m) BLOCKS i below (and_parts _ _ (true_or _ _ parts.1 non_intra)).0
 
     by_search : (found : Option ℕ) → found ≡ find (λ i. is_coded m.kind m.pattern i) (range_with_len 0 BLOCKS) → is_some found ≡ true
         → (i : ℕ) × (i < BLOCKS) × (is_coded m.kind m.pattern i ≡ true)

@@ -37,15 +37,15 @@ sum_from-same f g a (suc n) same =
 
 -- the sum of the squares of the differences in a block
 abbrev pub block_difference : (ℕ → ℕ → ℤ) → (ℕ → ℕ → ℤ) → ℕ → ℕ
-block_difference f g i = sum_from (λ place. squared_difference (f i place) (g i place)) 0 64
+block_difference f g i = sum_from (λ index. squared_difference (f i index) (g i index)) 0 64
 
 pub difference_of-blocks : (f g : ℕ → ℕ → ℤ) → sum_from (block_difference f g) 0 6 ≡ difference_of f g
 unfolding sum_from difference_of
 difference_of-blocks f g = refl
 
 -- the difference of two lists of numbers is that of a block whose coefficients they are
-pub block_difference-is : (f g : ℕ → ℕ → ℤ) (i : ℕ) (xs ys : List ℤ) → ((place : ℕ) → get_or xs place (pos 0) ≡ f i place) → ((place : ℕ) → get_or ys place (pos 0) ≡ g i place)
-    → sum_from (λ place. squared_difference (get_or xs place (pos 0)) (get_or ys place (pos 0))) 0 64 ≡ block_difference f g i
+pub block_difference-is : (f g : ℕ → ℕ → ℤ) (i : ℕ) (xs ys : List ℤ) → ((index : ℕ) → index < 64 → get_or xs index (pos 0) ≡ f i index) → ((index : ℕ) → index < 64 → get_or ys index (pos 0) ≡ g i index)
+    → sum_from (λ index. squared_difference (get_or xs index (pos 0)) (get_or ys index (pos 0))) 0 64 ≡ block_difference f g i
 block_difference-is f g i xs ys first second =
-    sum_from-same (λ place. squared_difference (get_or xs place (pos 0)) (get_or ys place (pos 0))) (λ place. squared_difference (f i place) (g i place)) 0 64
-    (λ place low high. ap₂ squared_difference (first place) (second place))
+    sum_from-same (λ index. squared_difference (get_or xs index (pos 0)) (get_or ys index (pos 0))) (λ index. squared_difference (f i index) (g i index)) 0 64
+    (λ index low high. ap₂ squared_difference (first index (omega arith)) (second index (omega arith)))

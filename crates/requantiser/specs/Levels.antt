@@ -1,6 +1,7 @@
 -- The levels of a block by their place, and what they are weighted with (ISO/IEC 13818-2, 7.2 to 7.4).
-use Rattle.std.specs.Prelude.{ℕ, ℤ, pos, Bool, slice_index, if◌then◌else◌}
+use Rattle.std.specs.Prelude.{◌==◌, ℕ, ℤ, pos, Bool, slice_index, if◌then◌else◌}
 use Rattle.std.specs.Option.{option_map_or}
+use Rattle.std.specs.List.{position_or_len}
 use Rattle.quant_math.specs.Levels.{coefficient_of}
 use Rattle.quant_math.specs.Scales.{quantiser_scale}
 use Rattle.quant_math.specs.Scans.{scan_order}
@@ -17,6 +18,10 @@ use Rattle.requantiser.specs.Places.{item_at}
 abbrev pub level_at : BlockWay → Block → ℕ → ℤ
 level_at way block place =
     option_map_or (λ pair. pair.level) (item_at (λ pair. pair.run) (first_place way) block.pairs.items place) (pos 0)
+
+-- the place of the scan at which the coefficient with a raster index (row * 8 + column) stands (ISO/IEC 13818-2, 7.3)
+abbrev pub place_of : Bool → ℕ → ℕ
+place_of alternate index = position_or_len (λ other. other == index) (scan_order alternate)
 
 -- the weight of a place of the scan, by the matrix of intra or non-intra blocks (ISO/IEC 13818-2, 7.3 and 7.4.2.1)
 abbrev pub weight_at : SeqState → PicCoding → Bool → ℕ → ℕ

@@ -4,13 +4,13 @@ ghost use Rattle.quant_math.specs.Levels.{coefficient_of as coefficient_of_level
 ghost use Rattle.quant_math.specs.Scales.{IsCode};
 ghost use Rattle.picture_grammar.specs.Block.{first_place};
 ghost use Rattle.requantiser.specs.Distortion.{coefficient_of_macroblock, difference_of, squared_difference};
-ghost use Rattle.requantiser.specs.Levels.{HasWeights, coefficient_at, scale_of, weight_at as weight_at_place};
+ghost use Rattle.requantiser.specs.Levels.{HasWeights, coefficient_at, place_of, scale_of, weight_at as weight_at_place};
 ghost use Rattle.requantiser.specs.Private.Shapes.{AreCoefficients, FitBlock, IsSide};
 ghost use Rattle.requantiser.specs.Private.Sums.{sum_from};
 
 use crate::block::weight_at;
 use crate::macroblock::block_way;
-use quant_math::{inverse, scale};
+use quant_math::{inverse, scale, scan};
 use syntax_types::{BLOCK_PLACES, BLOCKS, Block, BlockWay, Macroblock, PicCoding, SeqState};
 
 /// The coefficients of a block that isn't coded.
@@ -46,7 +46,7 @@ pub fn difference_of_two(a: Side<'_>, b: Side<'_>) -> u64
 /// The sum of the squares of the coefficients of a macroblock, where the other one is skipped.
 pub fn difference_of_one(a: Side<'_>) -> u64
     requires { IsSide a.seq.now a.code a.macroblock.now }
-    ensures value { result ≡ difference_of (coefficient_of_macroblock a.entry.seq.now a.entry.coding.now a.entry.code (Option.Some a.entry.macroblock.now)) (λ i place. pos 0) }
+    ensures value { result ≡ difference_of (coefficient_of_macroblock a.entry.seq.now a.entry.coding.now a.entry.code (Option.Some a.entry.macroblock.now)) (λ i index. pos 0) }
     ensures bound { result ≤ 2 ^ 41 }
 {
     let mut sum = 0;
@@ -57,7 +57,7 @@ pub fn difference_of_one(a: Side<'_>) -> u64
     sum
 }
 
-/// The coefficients of a macroblock in one of its blocks.
+/// The coefficients of a macroblock in one of its blocks, by raster index.
 fn block_coefficients(
     seq: &SeqState,
     coding: &PicCoding,
@@ -67,15 +67,14 @@ fn block_coefficients(
 ) -> [i16; BLOCK_PLACES]
     requires side { IsSide seq.now code macroblock.now }
     requires block { i < BLOCKS }
-    ensures value { (place : ℕ) → slice_index_or result place (pos 0) ≡ coefficient_of_macroblock seq.now coding.now code (Option.Some macroblock.now) i place }
+    ensures value { (index : ℕ) → index < BLOCK_PLACES → slice_index_or result index (pos 0) ≡ coefficient_of_macroblock seq.now coding.now code (Option.Some macroblock.now) i index }
     ensures small { AreCoefficients result }
 {
     let way = block_way(coding, macroblock.kind, i);
     coefficients_of(seq, coding, way, code, &macroblock.blocks[i])
 }
 
-/// The coefficients of a block at all places of the scan, but the DC coefficient of an intra block (ISO/IEC 13818-2,
-/// 7.4.2).
+/// The coefficients of a block by raster index, but the DC coefficient of an intra block (ISO/IEC 13818-2, 7.3 and 7.4.2).
 fn coefficients_of(
     seq: &SeqState,
     coding: &PicCoding,
@@ -86,14 +85,15 @@ fn coefficients_of(
     requires weights { HasWeights seq.now }
     requires code { IsCode code }
     requires fits { FitBlock (first_place way) block.now.pairs.items }
-    ensures value { (place : ℕ) → slice_index_or result place (pos 0) ≡ coefficient_at seq.now coding.now way code block.now place }
+    ensures value { (index : ℕ) → index < BLOCK_PLACES → slice_index_or result index (pos 0) ≡ coefficient_at seq.now coding.now way code block.now (place_of coding.now.alternate_scan index) }
     ensures small { AreCoefficients result }
 {
     let mut coefficients = [0; BLOCK_PLACES];
     let mut place = u8::from(way.intra);
     for pair in block.pairs.as_slice() {
         let at = place + pair.run;
-        coefficients[usize::from(at)] = coefficient_of(seq, coding, way, code, at, pair.level);
+        let index = usize::from(scan(coding.alternate_scan, at));
+        coefficients[index] = coefficient_of(seq, coding, way, code, at, pair.level);
         place = at + 1;
     }
     coefficients
@@ -122,12 +122,12 @@ fn coefficient_of(
 fn squared_differences(a: &[i16; BLOCK_PLACES], b: &[i16; BLOCK_PLACES]) -> u64
     requires first { AreCoefficients a.now }
     requires second { AreCoefficients b.now }
-    ensures value { result ≡ sum_from (λ place. squared_difference (slice_index_or a.now place (pos 0)) (slice_index_or b.now place (pos 0))) 0 BLOCK_PLACES }
+    ensures value { result ≡ sum_from (λ index. squared_difference (slice_index_or a.now index (pos 0)) (slice_index_or b.now index (pos 0))) 0 BLOCK_PLACES }
     ensures bound { result ≤ 2 ^ 38 }
 {
     let mut sum = 0;
-    for place in 0..BLOCK_PLACES {
-        sum += squared(a[place], b[place]);
+    for index in 0..BLOCK_PLACES {
+        sum += squared(a[index], b[index]);
     }
     sum
 }

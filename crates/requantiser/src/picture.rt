@@ -1,10 +1,11 @@
-ghost use Rattle.std.specs.Prelude.{◌≡◌, ◌≤◌, IfOk, map};
+ghost use Rattle.std.specs.Prelude.{◌≡◌, ◌≤◌, ℕ, IfOk, Option, List, map};
 ghost use Rattle.std.specs.List.{AllByRecursion, AllZip};
-ghost use Rattle.picture_grammar.specs.Picture.{IsLawful};
+ghost use Rattle.syntax_types.specs.declared.picture.SeqState.{SeqState as State};
+ghost use Rattle.picture_grammar.specs.Picture.{IsLawful, MayPrecede, SpellsPicture};
 ghost use Rattle.picture_grammar.specs.Slice.{columns};
 ghost use Rattle.requantiser.specs.Levels.{HasWeights};
 ghost use Rattle.requantiser.specs.Slices.{IsCoarserSlice};
-ghost use Rattle.requantiser.specs.Version.{IsVersion};
+ghost use Rattle.requantiser.specs.Version.{IsLawfulBehind, IsVersion};
 ghost use Rattle.requantiser.specs.Private.Shapes.{IsWalkableSlice};
 ghost use Rattle.requantiser.specs.Private.Walk.{coarsened_slice};
 
@@ -18,6 +19,7 @@ pub fn coarsen(alloc: Global, picture: &Picture, m: u16) -> Result<Picture, OutO
     requires { IsLawful picture.now }
     ensures version { IfOk result (λ made. IsVersion m picture.now made) }
     ensures lawful { IfOk result (λ made. IsLawful made) }
+    ensures behind { IfOk result (λ made. (before : Option State) (bytes : List ℕ) → MayPrecede before → SpellsPicture before picture.now bytes → IsLawfulBehind before made) }
 {
     let head = without_delay(alloc, picture.head.as_slice())?;
     let slices = coarsen_slices(alloc, picture, m)?;

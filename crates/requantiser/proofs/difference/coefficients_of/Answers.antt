@@ -1,12 +1,14 @@
-use Rattle.std.proofs.Common.{rules, ◌≡◌, ◌<◌, ◌≤◌, ◌+◌, ℤ, SFits, pos, w16, to_z, of_z, length, ◌∷◌, drop, drop-cons, add-one, get_or, refl, sym, ◌∙◌, ap, subst, arith}
+use Rattle.std.proofs.Common.{rules, ◌≡◌, ◌<◌, ◌≤◌, ◌+◌, ℤ, SFits, pos, w16, to_z, of_z, length, [], ◌∷◌, drop, drop-cons, add-one, get_or, refl, sym, ◌∙◌, ap, subst, arith}
 use Rattle.std.specs.Prelude.{slice_set, replicate}
 use Rattle.std.proofs.lemmas.Int.{to_z-of_z}
+use Rattle.std.proofs.lemmas.List.{drop_all}
 use Rattle.syntax_types.specs.declared.block.RunLevel.{RunLevel}
 use Rattle.picture_grammar.specs.Block.{first_place}
 use Rattle.requantiser.specs.Private.Shapes.{FitBlock}
 use Rattle.requantiser.proofs.Blocks.{level_from}
-use Rattle.requantiser.proofs.Coefficients.{StandSoFar, coefficient, one_more_coefficient, no_coefficients, all_zeros}
+use Rattle.requantiser.proofs.Coefficients.{StandSoFar, coefficient, one_more_coefficient, all_coefficients, no_coefficients, all_zeros}
 use Rattle.requantiser.proofs.PairSteps.{one_fits, first_place-flag, first_place-most, held_level}
+use Rattle.requantiser.proofs.Scans.{index_of}
 use Rattle.requantiser.proofs.difference.coefficients_of.Goals as goal
 
 -- what stands past the end of the pairs
@@ -39,7 +41,7 @@ loop-pair-preserved c =
     c.coefficient_of.ensures.value ∙ ap (λ (level : ℤ). coefficient c.args.seq.now c.args.coding.now c.args.way c.args.code c.args.block.now level
     (c.loop-pair.place + pair.run)) (held_level pair.level here.1) in
     let stands : StandSoFar c.args.seq.now c.args.coding.now c.args.way c.args.code c.args.block.now
-    (slice_set c.loop-pair.coefficients (c.loop-pair.place + pair.run) c.coefficient_of.result) (c.loop-pair.place + pair.run + 1)
+    (slice_set c.loop-pair.coefficients (index_of c.args.coding.now.alternate_scan (c.loop-pair.place + pair.run)) c.coefficient_of.result) (c.loop-pair.place + pair.run + 1)
     (drop (c.loop-pair.pair-index + 1) c.as_slice-pair-items.result.now) =
     one_more_coefficient c.args.seq.now c.args.coding.now c.args.way c.args.code c.args.block.now c.loop-pair.coefficients c.loop-pair.place pair
     (drop (c.loop-pair.pair-index + 1) c.as_slice-pair-items.result.now)
@@ -47,10 +49,18 @@ loop-pair-preserved c =
     (subst (StandSoFar c.args.seq.now c.args.coding.now c.args.way c.args.code c.args.block.now c.loop-pair.coefficients c.loop-pair.place) cut c.loop-pair.invariant.so_far) in
     record {
       so_far = subst (λ (z : ℤ). StandSoFar c.args.seq.now c.args.coding.now c.args.way c.args.code c.args.block.now
-          (slice_set c.loop-pair.coefficients c.from.result z) (c.loop-pair.place + pair.run + 1) (drop (c.loop-pair.pair-index + 1) c.as_slice-pair-items.result.now)) (sym stored)
+          (slice_set c.loop-pair.coefficients c.from-index.result z) (c.loop-pair.place + pair.run + 1) (drop (c.loop-pair.pair-index + 1) c.as_slice-pair-items.result.now)) (sym stored)
           (subst (λ n. StandSoFar c.args.seq.now c.args.coding.now c.args.way c.args.code c.args.block.now
           (slice_set c.loop-pair.coefficients n c.coefficient_of.result) (c.loop-pair.place + pair.run + 1)
-          (drop (c.loop-pair.pair-index + 1) c.as_slice-pair-items.result.now)) (sym c.from.ensures) stands);
+          (drop (c.loop-pair.pair-index + 1) c.as_slice-pair-items.result.now)) (sym (c.from-index.ensures ∙ c.scan.ensures.index)) stands);
       fit = here.2;
       within = omega (arith, here.0);
     }
+
+pub returns-clause-value : goal.returns-clause-value
+returns-clause-value c =
+    let past : length c.as_slice-pair-items.result.now ≤ c.loop-pair.pair-index = c.loop-pair-test.false in
+    let all : StandSoFar c.args.seq.now c.args.coding.now c.args.way c.args.code c.args.block.now c.loop-pair.coefficients c.loop-pair.place [] =
+    subst (StandSoFar c.args.seq.now c.args.coding.now c.args.way c.args.code c.args.block.now c.loop-pair.coefficients c.loop-pair.place)
+    (drop_all c.loop-pair.pair-index c.as_slice-pair-items.result.now past) c.loop-pair.invariant.so_far in
+    all_coefficients c.args.seq.now c.args.coding.now c.args.way c.args.code c.args.block.now c.loop-pair.coefficients c.loop-pair.place all

@@ -12,15 +12,15 @@ pub loop-i-preserved : goal.loop-i-preserved
 loop-i-preserved c =
     let f : ℕ → ℕ → ℤ = coefficient_of_macroblock c.args.a.seq.now c.args.a.coding.now c.args.a.code (Some c.args.a.macroblock.now) in
     let below : c.loop-i.i < 6 = c.loop-i-test.true in
-    let is : c.squared_differences-sum.result ≡ block_difference f (λ i place. pos 0) c.loop-i.i =
+    let is : c.squared_differences-sum.result ≡ block_difference f (λ i index. pos 0) c.loop-i.i =
     c.squared_differences-sum.ensures.value
-    ∙ block_difference-is f (λ i place. pos 0) c.loop-i.i c.block_coefficients-coefficients.result (replicate 64 (pos 0)) c.block_coefficients-coefficients.ensures.value (all_zeros 64) in
+    ∙ block_difference-is f (λ i index. pos 0) c.loop-i.i c.block_coefficients-coefficients.result (replicate 64 (pos 0)) c.block_coefficients-coefficients.ensures.value (λ index below. all_zeros 64 index) in
     record {
-      rest = one_more_number (block_difference f (λ i place. pos 0)) c.loop-i.sum c.loop-i.i 6 c.squared_differences-sum.result _ below is c.loop-i.invariant.rest;
+      rest = one_more_number (block_difference f (λ i index. pos 0)) c.loop-i.sum c.loop-i.i 6 c.squared_differences-sum.result _ below is c.loop-i.invariant.rest;
       bound = omega (arith, c.squared_differences-sum.ensures.bound, c.loop-i.invariant.bound);
     }
 
 pub returns-clause-value : goal.returns-clause-value
 returns-clause-value c =
     let f : ℕ → ℕ → ℤ = coefficient_of_macroblock c.args.a.seq.now c.args.a.coding.now c.args.a.code (Some c.args.a.macroblock.now) in
-    no_more_number (block_difference f (λ i place. pos 0)) c.loop-i.sum c.loop-i.i 6 _ c.loop-i-test.false c.loop-i.invariant.rest ∙ difference_of-blocks f (λ i place. pos 0)
+    no_more_number (block_difference f (λ i index. pos 0)) c.loop-i.sum c.loop-i.i 6 _ c.loop-i-test.false c.loop-i.invariant.rest ∙ difference_of-blocks f (λ i index. pos 0)
