@@ -197,7 +197,8 @@ module _ (seq : SeqState) (coding : PicCoding) (m : ℕ) where
           (before_is state.version_code start b to (made_by rest) ts (omega (arith, same, below)) ∙ none-t b (omega (arith, end_is, below))))
           (ap₂ between source_here (here_is seq state.version_code start (place + gap_of s.from) to (made_by rest) ts (sym same))
           ∙ sym (source-distortion _ state s (Some to) is are.0
-          ∙ ap (λ n. difference_of (coefficient_of_macroblock seq coding (unwrap_or s.from.code state.source_code) (Some s.from)) (coefficient_of_macroblock seq coding n (Some to))) behind.version_code))
+          ∙ ap (λ n. difference_of (coefficient_of_macroblock seq coding (unwrap_or s.from.code state.source_code) (Some s.from))
+          (coefficient_of_macroblock seq coding n (Some to))) behind.version_code))
           (λ b above. ap₂ between (source_later b above) (later_is seq state.version_code start b to (made_by rest) ts (omega (arith, same, above))
           ∙ ap₂ (λ n k. at_rest seq n k (made_by rest) ts b) (sym behind.version_code) next))
           (others (place + gap_of s.from + 1) (omega (arith, behind.skipped)))
