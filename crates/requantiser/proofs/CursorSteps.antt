@@ -27,7 +27,7 @@ module _ (picture : Picture) where
   abbrev coefficient_there : AtAddress → ℕ → ℕ → ℤ
   coefficient_there at i place = coefficient_of_macroblock picture.seq picture.coding at.code at.macroblock i place
 
-  coefficient_is : (address i place : ℕ) → coefficient_of_picture picture address i place ≡ coefficient_there (at_slices picture.seq picture.slices address) i place
+  pub coefficient_is : (address i place : ℕ) → coefficient_of_picture picture address i place ≡ coefficient_there (at_slices picture.seq picture.slices address) i place
   coefficient_is address i place = by_slice (find (has_address picture.seq address) picture.slices)
     where
       by_slice : (o : Option Slice) → option_map_or (λ slice. coefficient_in picture slice (address - slice.row * columns picture.seq) i place) o (pos 0)

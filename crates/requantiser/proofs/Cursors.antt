@@ -57,14 +57,15 @@ shift_code base code start place (m ∷ ms) = by_place (shift_code base (unwrap_
 found_here : (test : Slice → Bool) (f : Slice → AtAddress) (s : Slice) (ss : List Slice) (d : AtAddress) → test s ≡ true → option_map_or f (find test (s ∷ ss)) d ≡ f s
 found_here test f s ss d e = rw e refl
 
-found_later : (test : Slice → Bool) (f : Slice → AtAddress) (s : Slice) (ss : List Slice) (d : AtAddress) → test s ≡ false → option_map_or f (find test (s ∷ ss)) d ≡ option_map_or f (find test ss) d
+pub found_later : (test : Slice → Bool) (f : Slice → AtAddress) (s : Slice) (ss : List Slice) (d : AtAddress) → test s ≡ false
+    → option_map_or f (find test (s ∷ ss)) d ≡ option_map_or f (find test ss) d
 found_later test f s ss d e = rw e refl
 
-and_false : (a b : Bool) → b ≡ false → (a && b) ≡ false
+pub and_false : (a b : Bool) → b ≡ false → (a && b) ≡ false
 and_false true b e = e
 and_false false b e = refl
 
-no_left : (a b : Bool) → a ≡ false → (a && b) ≡ false
+pub no_left : (a b : Bool) → a ≡ false → (a && b) ≡ false
 no_left a b e = rw e refl
 
 module _ (seq : SeqState) where

@@ -1,5 +1,5 @@
 -- Worked examples: slices and their versions.
-use Rattle.std.proofs.Common.{◌≡◌, ℕ, ℤ, pos, negsuc, Option, Some, None, List, [], ◌∷◌, Bool, true, false, refl, subst}
+use Rattle.std.proofs.Common.{◌≡◌, ℕ, ℤ, pos, negsuc, Option, Some, None, List, [], ◌∷◌, Bool, true, false, refl, subst, arith}
 use Rattle.std.specs.Prelude.{replicate, slice_set}
 use Rattle.std.specs.List.{AllByRecursion, list_all}
 use Rattle.std.proofs.lemmas.Bool.{and_parts}
@@ -14,8 +14,12 @@ use Rattle.syntax_types.specs.declared.picture.Picture.{Picture}
 use Rattle.syntax_types.specs.declared.picture.SeqState.{SeqState}
 use Rattle.syntax_types.specs.declared.slice.Slice.{Slice}
 use Rattle.requantiser.specs.Blocks.{IsCoarserBlock, no_blocks}
-use Rattle.requantiser.specs.Distortion.{difference_of, distortion_between}
+use Rattle.requantiser.specs.Distortion.{coefficient_of_macroblock, difference_of, distortion_between}
+use Rattle.requantiser.specs.declared.version_state.VersionState.{VersionState}
+use Rattle.requantiser.specs.Macroblocks.{IsCoarserAt}
 use Rattle.requantiser.specs.Slices.{IsCoarserSlice}
+use Rattle.requantiser.specs.Steps.{Step, IsStep, MakeSlice}
+use Rattle.requantiser.specs.VersionState.{IsStateBehind}
 use Rattle.requantiser.specs.Private.Walk.{mapped_code, coarsened_slice}
 use Rattle.requantiser.proofs.Blocks.{coarsened_block-is}
 use Rattle.requantiser.proofs.ShapeTest.{shape_test, shape_by_test}
@@ -112,6 +116,53 @@ middle_is_skipped = version_by_walk (coding_of 2) 32 _ _ refl refl
 middle_distortion : distortion_between (picture_of (coding_of 2) (slice_of 1 (moved 0 ∷ with_level 0 None 1 ∷ moved 0 ∷ []))) (picture_of (coding_of 2) (slice_of 2 (moved 0 ∷ moved 1 ∷ []))) ≡ 9
 unfolding distortion_between difference_of
 middle_distortion = refl
+
+-- the same by steps: the second one leaves a macroblock that waits, and its coefficient is the distortion of all
+abbrev waiting : ℕ → VersionState
+waiting skipped = record {
+  m = 32;
+  source_code = 1;
+  version_code = 2;
+  skipped = skipped;
+  source_is_code = (omega arith, omega arith);
+  version_is_code = (omega arith, omega arith);
+}
+
+abbrev middle_steps : List Step
+middle_steps =
+    record { from = moved 0; made = Some (moved 0); behind = waiting 0; distortion = 0 }
+    ∷ record { from = with_level 0 None 1; made = None; behind = waiting 1; distortion = 9 }
+    ∷ record { from = moved 0; made = Some (moved 1); behind = waiting 0; distortion = 0 }
+    ∷ []
+
+step_by : (inner : Bool) (before : VersionState) (step : Step) → IsCoarserAt default_seq (coding_of 2) before.m inner before.source_code before.version_code (Some step.from) step.made
+    → IsStateBehind step.from step.made before step.behind
+    → step.distortion ≡ difference_of (coefficient_of_macroblock default_seq (coding_of 2) step.behind.source_code (Some step.from))
+    (coefficient_of_macroblock default_seq (coding_of 2) step.behind.version_code step.made)
+    → IsStep default_seq (coding_of 2) inner before step
+step_by inner before step at state difference = record { at = at; state = state; difference = difference }
+
+middle_by_steps : MakeSlice default_seq (coding_of 2) 32 (slice_of 1 (moved 0 ∷ with_level 0 None 1 ∷ moved 0 ∷ [])) (slice_of 2 (moved 0 ∷ moved 1 ∷ [])) middle_steps
+unfolding difference_of
+middle_by_steps = record {
+  start = waiting 0;
+  ratio = refl;
+  source_code = refl;
+  version_code = middle_is_skipped.code;
+  skipped = refl;
+  in_order = (
+    step_by false (waiting 0) _ (middle_is_skipped.macroblocks 0) (record { ratio = refl; source_code = refl; version_code = refl; skipped = refl; placed = refl }) refl,
+    (
+      step_by true (waiting 0) _ (middle_is_skipped.macroblocks 1) (record { ratio = refl; source_code = refl; version_code = refl; skipped = refl; placed = tt }) refl,
+      (step_by false (waiting 1) _ (middle_is_skipped.macroblocks 2) (record { ratio = refl; source_code = refl; version_code = refl; skipped = refl; placed = refl }) refl, tt),
+    ),
+  );
+  taken = refl;
+  row = refl;
+  code = refl;
+  info = refl;
+  macroblocks = refl;
+}
 
 -- the last one stays with the level 1: its coefficient goes from 3 to 6
 last_stays : IsCoarserSlice default_seq (coding_of 2) 32 (slice_of 1 (moved 0 ∷ with_level 0 None 1 ∷ [])) (slice_of 2 (moved 0 ∷ with_level 0 None 1 ∷ []))

@@ -16,6 +16,8 @@ pub mod Scans
 pub mod ShapeTest
 pub mod Slices
 pub mod Spelled
+pub mod Steps
+pub mod StepSums
 pub mod Sums
 pub mod SpelledHeads
 pub mod SpelledPictures

@@ -84,7 +84,7 @@ code_before-is slice (suc column) = ap (code_of (macroblock_at slice column)) (c
 -- ---- first and last macroblocks
 
 -- a test for inner columns fits these macroblocks from a column on, of which the first may be the slice's first
-abbrev FitsInner : (ℕ → Bool) → Bool → ℕ → List Macroblock → Type 0
+abbrev pub FitsInner : (ℕ → Bool) → Bool → ℕ → List Macroblock → Type 0
 FitsInner inner first start [] = Unit {0}
 FitsInner inner first start (m ∷ ms) = (inner (start + gap_of m) ≡ (not first && not (is_none ms))) × FitsInner inner false (start + gap_of m + 1) ms
 
@@ -101,7 +101,7 @@ fits_behind inner end first_at start (m ∷ ms) is behind ends = (
     last (n ∷ ms) ends = lt-ltb (start + gap_of m + 1) end (omega (arith, sum_by-cons (λ m. m.skipped_before + 1) n ms))
 
 -- the inner macroblocks of a slice are so
-fits_slice : (slice : Slice) → FitsInner (is_inner slice) true 0 slice.macroblocks
+pub fits_slice : (slice : Slice) → FitsInner (is_inner slice) true 0 slice.macroblocks
 fits_slice slice = by_macroblocks slice.macroblocks refl
   where
     by_macroblocks : (ms : List Macroblock) → ms ≡ slice.macroblocks → FitsInner (is_inner slice) true 0 ms
@@ -116,7 +116,7 @@ fits_slice slice = by_macroblocks slice.macroblocks refl
 
 module _ (seq : SeqState) (coding : PicCoding) (m : ℕ) where
   -- what stands at an address, by equal things
-  at_same : (inner inner' : Bool) (code code' before before' : ℕ) (from from' to to' : Option Macroblock)
+  pub at_same : (inner inner' : Bool) (code code' before before' : ℕ) (from from' to to' : Option Macroblock)
       → inner ≡ inner' → code ≡ code' → before ≡ before' → from ≡ from' → to ≡ to'
       → IsCoarserAt seq coding m inner code before from to → IsCoarserAt seq coding m inner' code' before' from' to'
   at_same inner inner' code code' before before' from from' to to' i c b f t at =
@@ -166,7 +166,7 @@ module _ (seq : SeqState) (coding : PicCoding) (m : ℕ) where
       coarsened_macroblock seq coding m (not first && not (is_none later)) (unwrap_or from.code code) before (skipped + from.skipped_before) from
 
   -- where a list is what the walk makes: its first macroblock isn't before this column
-  abbrev StartsAt : ℕ → ℕ → ℕ → List Macroblock → Type 0
+  abbrev pub StartsAt : ℕ → ℕ → ℕ → List Macroblock → Type 0
   StartsAt before start column ys = ((c : ℕ) → c < column → item_at gap_of start ys c ≡ None) × ((c : ℕ) → c ≤ column → code_from before start ys c ≡ before)
 
   walk-starts : (first : Bool) (code before skipped start : ℕ) (ms : List Macroblock) → StartsAt before start (start + skipped) (walk first code before skipped ms)
@@ -187,65 +187,47 @@ module _ (seq : SeqState) (coding : PicCoding) (m : ℕ) where
 
   -- what must stand at a column, where these macroblocks follow in the source from a place on, and those in the coarser
   -- picture from a start on
-  abbrev FollowsAt : (ℕ → Bool) → ℕ → ℕ → ℕ → ℕ → ℕ → List Macroblock → List Macroblock → Type 0
+  abbrev pub FollowsAt : (ℕ → Bool) → ℕ → ℕ → ℕ → ℕ → ℕ → List Macroblock → List Macroblock → Type 0
   FollowsAt inner code before start place column ms ys =
       IsCoarserAt seq coding m (inner column) (code_from code place ms column) (code_from before start ys column) (item_at gap_of place ms column) (item_at gap_of start ys column)
 
-  follows-skipped : (inner : ℕ → Bool) (first : Bool) (code before skipped start place column : ℕ) (from : Macroblock) (later : List Macroblock)
-      → start + skipped ≡ place → HasShape from → inner (place + gap_of from) ≡ (not first && not (is_none later))
-      → None ≡ made_of first code before skipped from later
-      → FollowsAt inner (unwrap_or from.code code) before start (place + gap_of from + 1) column later (walk false (unwrap_or from.code code) before (skipped + (gap_of from + 1)) later)
+  -- a macroblock is skipped, and these follow in the coarser picture
+  pub follows-skipped : (inner : ℕ → Bool) (flag : Bool) (code before start place column : ℕ) (from : Macroblock) (later ys : List Macroblock)
+      → inner (place + gap_of from) ≡ flag → IsCoarserAt seq coding m flag code before (Some from) None → StartsAt before start (place + gap_of from + 1) ys
+      → FollowsAt inner (unwrap_or from.code code) before start (place + gap_of from + 1) column later ys
       → (column ≡ place + gap_of from) ⊎ ((column < place + gap_of from) ⊎ (place + gap_of from < column))
-      → FollowsAt inner code before start place column (from ∷ later) (walk false (unwrap_or from.code code) before (skipped + (gap_of from + 1)) later)
-  follows-skipped inner first code before skipped start place column from later e shape is_inner made rest (inl here) =
-      let starts = walk-starts false (unwrap_or from.code code) before (skipped + (gap_of from + 1)) start later in
-      at_same (not first && not (is_none later)) (inner column) code _ before _ (Some from) _ None _
+      → FollowsAt inner code before start place column (from ∷ later) ys
+  follows-skipped inner flag code before start place column from later ys is_inner at starts rest (inl here) =
+      at_same flag (inner column) code _ before _ (Some from) _ None _
       (sym (ap inner here ∙ is_inner)) (sym (code_from-up_to code place from later column (omega arith))) (sym (starts.1 column (omega arith)))
-      (sym (item_at-here gap_of place column from later here)) (sym (starts.0 column (omega arith)))
-      (subst (λ o. IsCoarserAt seq coding m (not first && not (is_none later)) code before (Some from) o) (sym made)
-      (coarsened_macroblock-is seq coding m (not first && not (is_none later)) code before (skipped + gap_of from) from shape))
-  follows-skipped inner first code before skipped start place column from later e shape is_inner made rest (inr (inl below)) =
-      let starts = walk-starts false (unwrap_or from.code code) before (skipped + (gap_of from + 1)) start later in
+      (sym (item_at-here gap_of place column from later here)) (sym (starts.0 column (omega arith))) at
+  follows-skipped inner flag code before start place column from later ys is_inner at starts rest (inr (inl below)) =
       nothing _ _ _ _ _ (item_at-there gap_of place column from later (λ h. absurd (omega arith)) ∙ item_at-before gap_of (place + gap_of from + 1) column later (omega arith))
       (starts.0 column (omega arith))
-  follows-skipped inner first code before skipped start place column from later e shape is_inner made rest (inr (inr behind)) =
+  follows-skipped inner flag code before start place column from later ys is_inner at starts rest (inr (inr behind)) =
       at_same (inner column) (inner column) _ _ _ _ _ _ _ _
       refl (sym (code_from-behind code place from later column behind)) refl (sym (item_at-there gap_of place column from later (λ h. absurd (omega arith)))) refl rest
 
-  follows-made : (inner : ℕ → Bool) (first : Bool) (code before skipped start place column : ℕ) (from to : Macroblock) (later : List Macroblock)
-      → start + skipped ≡ place → HasShape from → inner (place + gap_of from) ≡ (not first && not (is_none later))
-      → Some to ≡ made_of first code before skipped from later
-      → FollowsAt inner (unwrap_or from.code code) (unwrap_or to.code before) (place + gap_of from + 1) (place + gap_of from + 1) column later
-      (walk false (unwrap_or from.code code) (unwrap_or to.code before) 0 later)
+  -- a macroblock is made, and these follow it in the coarser picture
+  pub follows-made : (inner : ℕ → Bool) (flag : Bool) (code before start place column : ℕ) (from to : Macroblock) (later ys : List Macroblock)
+      → start + gap_of to ≡ place + gap_of from → inner (place + gap_of from) ≡ flag → IsCoarserAt seq coding m flag code before (Some from) (Some to)
+      → FollowsAt inner (unwrap_or from.code code) (unwrap_or to.code before) (place + gap_of from + 1) (place + gap_of from + 1) column later ys
       → (column ≡ place + gap_of from) ⊎ ((column < place + gap_of from) ⊎ (place + gap_of from < column))
-      → FollowsAt inner code before start place column (from ∷ later) (to ∷ walk false (unwrap_or from.code code) (unwrap_or to.code before) 0 later)
-  follows-made inner first code before skipped start place column from to later e shape is_inner made rest by_order =
-      let gap : gap_of to ≡ skipped + gap_of from = gap-walk (not first && not (is_none later)) (unwrap_or from.code code) before (skipped + gap_of from) from to (sym made) in
-      let ys : List Macroblock = walk false (unwrap_or from.code code) (unwrap_or to.code before) 0 later in
-      by_place (omega arith) by_order
-    where
-      by_place : start + gap_of to ≡ place + gap_of from
-          → (column ≡ place + gap_of from) ⊎ ((column < place + gap_of from) ⊎ (place + gap_of from < column))
-          → FollowsAt inner code before start place column (from ∷ later) (to ∷ walk false (unwrap_or from.code code) (unwrap_or to.code before) 0 later)
-      by_place same (inl here) =
-          at_same (not first && not (is_none later)) (inner column) code _ before _ (Some from) _ (Some to) _
-          (sym (ap inner here ∙ is_inner)) (sym (code_from-up_to code place from later column (omega arith))) (sym (code_from-up_to before start to _ column (omega arith)))
-          (sym (item_at-here gap_of place column from later here)) (sym (item_at-here gap_of start column to _ (omega arith)))
-          (subst (λ o. IsCoarserAt seq coding m (not first && not (is_none later)) code before (Some from) o) (sym made)
-          (coarsened_macroblock-is seq coding m (not first && not (is_none later)) code before (skipped + gap_of from) from shape))
-      by_place same (inr (inl below)) =
-          nothing _ _ _ _ _ (item_at-there gap_of place column from later (λ h. absurd (omega arith)) ∙ item_at-before gap_of (place + gap_of from + 1) column later (omega arith))
-          (item_at-there gap_of start column to _ (λ h. absurd (omega arith)) ∙ item_at-before gap_of (start + gap_of to + 1) column _ (omega arith))
-      by_place same (inr (inr behind)) =
-          at_same (inner column) (inner column) _ _ _ _ _ _ _ _
-          refl (sym (code_from-behind code place from later column behind))
-          (sym (code_from-behind before start to _ column (omega arith)
-          ∙ ap (λ n. code_from (unwrap_or to.code before) (n + 1)
-          (walk false (unwrap_or from.code code) (unwrap_or to.code before) 0 later) column) same))
-          (sym (item_at-there gap_of place column from later (λ h. absurd (omega arith))))
-          (sym (item_at-there gap_of start column to _ (λ h. absurd (omega arith))
-          ∙ ap (λ n. item_at gap_of (n + 1) (walk false (unwrap_or from.code code) (unwrap_or to.code before) 0 later) column) same))
-          rest
+      → FollowsAt inner code before start place column (from ∷ later) (to ∷ ys)
+  follows-made inner flag code before start place column from to later ys same is_inner at rest (inl here) =
+      at_same flag (inner column) code _ before _ (Some from) _ (Some to) _
+      (sym (ap inner here ∙ is_inner)) (sym (code_from-up_to code place from later column (omega arith))) (sym (code_from-up_to before start to ys column (omega arith)))
+      (sym (item_at-here gap_of place column from later here)) (sym (item_at-here gap_of start column to ys (omega arith))) at
+  follows-made inner flag code before start place column from to later ys same is_inner at rest (inr (inl below)) =
+      nothing _ _ _ _ _ (item_at-there gap_of place column from later (λ h. absurd (omega arith)) ∙ item_at-before gap_of (place + gap_of from + 1) column later (omega arith))
+      (item_at-there gap_of start column to ys (λ h. absurd (omega arith)) ∙ item_at-before gap_of (start + gap_of to + 1) column ys (omega arith))
+  follows-made inner flag code before start place column from to later ys same is_inner at rest (inr (inr behind)) =
+      at_same (inner column) (inner column) _ _ _ _ _ _ _ _
+      refl (sym (code_from-behind code place from later column behind))
+      (sym (code_from-behind before start to ys column (omega arith) ∙ ap (λ n. code_from (unwrap_or to.code before) (n + 1) ys column) same))
+      (sym (item_at-there gap_of place column from later (λ h. absurd (omega arith))))
+      (sym (item_at-there gap_of start column to ys (λ h. absurd (omega arith)) ∙ ap (λ n. item_at gap_of (n + 1) ys column) same))
+      rest
 
   -- at each column stands what must
   walk-is : (inner : ℕ → Bool) (first : Bool) (code before skipped start place column : ℕ) (ms : List Macroblock) → start + skipped ≡ place
@@ -260,10 +242,23 @@ module _ (seq : SeqState) (coding : PicCoding) (m : ℕ) where
           → FollowsAt inner (unwrap_or from.code code) before start (place + gap_of from + 1) column later (walk false (unwrap_or from.code code) before (skipped + (gap_of from + 1)) later)
           → ((next : ℕ) → FollowsAt inner (unwrap_or from.code code) next (place + gap_of from + 1) (place + gap_of from + 1) column later (walk false (unwrap_or from.code code) next 0 later))
           → FollowsAt inner code before start place column (from ∷ later) (walk first code before skipped (from ∷ later))
-      by_made None is skips makes = subst (FollowsAt inner code before start place column (from ∷ later)) (sym (walk-skips first code before skipped from later (sym is)))
-          (follows-skipped inner first code before skipped start place column from later e shapes.0 fits.0 is skips (cases_order column (place + gap_of from)))
-      by_made (Some to) is skips makes = subst (FollowsAt inner code before start place column (from ∷ later)) (sym (walk-makes first code before skipped from to later (sym is)))
-          (follows-made inner first code before skipped start place column from to later e shapes.0 fits.0 is (makes (unwrap_or to.code before)) (cases_order column (place + gap_of from)))
+      by_made None is skips makes =
+          let at : IsCoarserAt seq coding m (not first && not (is_none later)) code before (Some from) None =
+          subst (λ o. IsCoarserAt seq coding m (not first && not (is_none later)) code before (Some from) o) (sym is)
+          (coarsened_macroblock-is seq coding m (not first && not (is_none later)) code before (skipped + gap_of from) from shapes.0) in
+          let starts = walk-starts false (unwrap_or from.code code) before (skipped + (gap_of from + 1)) start later in
+          subst (FollowsAt inner code before start place column (from ∷ later)) (sym (walk-skips first code before skipped from later (sym is)))
+          (follows-skipped inner (not first && not (is_none later)) code before start place column from later
+          (walk false (unwrap_or from.code code) before (skipped + (gap_of from + 1)) later) fits.0 at
+          (λ c below. starts.0 c (omega arith), λ c within. starts.1 c (omega arith)) skips (cases_order column (place + gap_of from)))
+      by_made (Some to) is skips makes =
+          let gap : gap_of to ≡ skipped + gap_of from = gap-walk (not first && not (is_none later)) (unwrap_or from.code code) before (skipped + gap_of from) from to (sym is) in
+          let at : IsCoarserAt seq coding m (not first && not (is_none later)) code before (Some from) (Some to) =
+          subst (λ o. IsCoarserAt seq coding m (not first && not (is_none later)) code before (Some from) o) (sym is)
+          (coarsened_macroblock-is seq coding m (not first && not (is_none later)) code before (skipped + gap_of from) from shapes.0) in
+          subst (FollowsAt inner code before start place column (from ∷ later)) (sym (walk-makes first code before skipped from to later (sym is)))
+          (follows-made inner (not first && not (is_none later)) code before start place column from to later
+          (walk false (unwrap_or from.code code) (unwrap_or to.code before) 0 later) (omega (arith, gap, e)) fits.0 at (makes (unwrap_or to.code before)) (cases_order column (place + gap_of from)))
 
   -- the walk makes the slice under coarser codes
   pub coarsened_slice-is : (slice : Slice) → AllByRecursion HasShape slice.macroblocks → IsCoarserSlice seq coding m slice (coarsened_slice seq coding m slice)

@@ -44,7 +44,8 @@ unfolding sum_from difference_of
 difference_of-blocks f g = refl
 
 -- the difference of two lists of numbers is that of a block whose coefficients they are
-pub block_difference-is : (f g : ℕ → ℕ → ℤ) (i : ℕ) (xs ys : List ℤ) → ((index : ℕ) → index < 64 → get_or xs index (pos 0) ≡ f i index) → ((index : ℕ) → index < 64 → get_or ys index (pos 0) ≡ g i index)
+pub block_difference-is : (f g : ℕ → ℕ → ℤ) (i : ℕ) (xs ys : List ℤ)
+    → ((index : ℕ) → index < 64 → get_or xs index (pos 0) ≡ f i index) → ((index : ℕ) → index < 64 → get_or ys index (pos 0) ≡ g i index)
     → sum_from (λ index. squared_difference (get_or xs index (pos 0)) (get_or ys index (pos 0))) 0 64 ≡ block_difference f g i
 block_difference-is f g i xs ys first second =
     sum_from-same (λ index. squared_difference (get_or xs index (pos 0)) (get_or ys index (pos 0))) (λ index. squared_difference (f i index) (g i index)) 0 64

@@ -7,3 +7,4 @@ pub mod Private
 pub mod Slices
 pub mod Version
 pub mod VersionState
+pub mod Steps
