@@ -54,7 +54,15 @@ pub fn coarsen_slices(alloc: Global, bytes: &[u8], ratios: &ArrayVec<u16, RATIOS
         };
         let seq = sequence(slice.head);
         let coding = coding(slice.head);
-        coarsen_slice(alloc, &seq, &coding, slice.bytes, ratios, &mut lent, &mut tally);
+        coarsen_slice(
+            alloc,
+            &seq,
+            &coding,
+            slice.bytes,
+            ratios,
+            &mut lent,
+            &mut tally,
+        );
         rest = behind;
     }
     tally
