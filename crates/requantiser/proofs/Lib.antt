@@ -7,6 +7,7 @@ pub mod Coefficients
 pub mod CursorSteps
 pub mod Cursors
 pub mod Differences
+pub mod EmptyBlocks
 pub mod Examples
 pub mod Macroblocks
 pub mod Patterns

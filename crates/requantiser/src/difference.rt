@@ -1,9 +1,11 @@
-ghost use Rattle.std.specs.Prelude.{◌≡◌, ◌<◌, ◌≤◌, ◌*◌, ◌^◌, ℕ, pos, unsigned_abs, slice_index_or, Option};
+ghost use Rattle.std.specs.Prelude.{◌≡◌, ◌<◌, ◌≤◌, ◌*◌, ◌^◌, ℕ, pos, unsigned_abs, length, slice_index_or, Option};
 ghost use Rattle.quant_math.specs.declared.levels.TheConstants.{LEAST_COEFFICIENT};
 ghost use Rattle.quant_math.specs.Levels.{coefficient_of as coefficient_of_level};
 ghost use Rattle.quant_math.specs.Scales.{IsCode};
 ghost use Rattle.picture_grammar.specs.Block.{first_place};
 ghost use Rattle.requantiser.specs.Distortion.{coefficient_of_macroblock, difference_of, squared_difference};
+ghost use Rattle.picture_grammar.specs.Macroblock.{no_block};
+ghost use Rattle.requantiser.specs.Macroblocks.{is_empty_block};
 ghost use Rattle.requantiser.specs.Levels.{HasWeights, coefficient_at, place_of, scale_of, weight_at as weight_at_place};
 ghost use Rattle.requantiser.specs.Private.Shapes.{AreCoefficients, FitBlock, IsSide};
 ghost use Rattle.requantiser.specs.Private.Sums.{sum_from};
@@ -36,11 +38,41 @@ pub fn difference_of_two(a: Side<'_>, b: Side<'_>) -> u64
 {
     let mut sum = 0;
     for i in 0..BLOCKS {
-        let first = block_coefficients(a.seq, a.coding, a.code, a.macroblock, i);
-        let second = block_coefficients(b.seq, b.coding, b.code, b.macroblock, i);
-        sum += squared_differences(&first, &second);
+        sum += difference_in_block(a, b, i);
     }
     sum
+}
+
+/// The sum of the squares of the differences of two macroblocks' coefficients in one of the blocks.
+fn difference_in_block(a: Side<'_>, b: Side<'_>, i: usize) -> u64
+    requires first { IsSide a.seq.now a.code a.macroblock.now }
+    requires second { IsSide b.seq.now b.code b.macroblock.now }
+    requires block { i < BLOCKS }
+    ensures value { result ≡ sum_from (λ place. squared_difference (coefficient_of_macroblock a.entry.seq.now a.entry.coding.now a.entry.code (Option.Some a.entry.macroblock.now) i place)
+        (coefficient_of_macroblock b.entry.seq.now b.entry.coding.now b.entry.code (Option.Some b.entry.macroblock.now) i place)) 0 BLOCK_PLACES }
+    ensures bound { result ≤ 2 ^ 38 }
+{
+    if is_empty(a.macroblock, i) && is_empty(b.macroblock, i) {
+        return 0;
+    }
+    let first = block_coefficients(a.seq, a.coding, a.code, a.macroblock, i);
+    let second = block_coefficients(b.seq, b.coding, b.code, b.macroblock, i);
+    squared_differences(&first, &second)
+}
+
+/// No coefficient stands in a block of a macroblock.
+fn is_empty(macroblock: &Macroblock, i: usize) -> bool
+    requires six { length macroblock.now.blocks ≡ BLOCKS }
+    requires block { i < BLOCKS }
+    ensures { result ≡ is_empty_block (slice_index_or macroblock.now.blocks i no_block) }
+{
+    is_empty_of(&macroblock.blocks[i])
+}
+
+fn is_empty_of(block: &Block) -> bool
+    ensures { result ≡ is_empty_block block.now }
+{
+    block.pairs.is_empty()
 }
 
 /// The sum of the squares of the coefficients of a macroblock, where the other one is skipped.

@@ -1,6 +1,6 @@
-use Rattle.std.proofs.Common.{◌≡◌, ◌<◌, ℕ, ℤ, Some, ◌∙◌, arith}
+use Rattle.std.proofs.Common.{◌<◌, ℕ, ℤ, Some, ◌∙◌, arith}
 use Rattle.requantiser.specs.Distortion.{coefficient_of_macroblock}
-use Rattle.requantiser.proofs.Sums.{block_difference, block_difference-is, difference_of-blocks, one_more_number, no_more_number}
+use Rattle.requantiser.proofs.Sums.{block_difference, difference_of-blocks, one_more_number, no_more_number}
 use Rattle.requantiser.proofs.difference.difference_of_two.Goals as goal
 
 pub loop-i-preserved : goal.loop-i-preserved
@@ -8,12 +8,9 @@ loop-i-preserved c =
     let f : ℕ → ℕ → ℤ = coefficient_of_macroblock c.args.a.seq.now c.args.a.coding.now c.args.a.code (Some c.args.a.macroblock.now) in
     let g : ℕ → ℕ → ℤ = coefficient_of_macroblock c.args.b.seq.now c.args.b.coding.now c.args.b.code (Some c.args.b.macroblock.now) in
     let below : c.loop-i.i < 6 = c.loop-i-test.true in
-    let is : c.squared_differences-sum.result ≡ block_difference f g c.loop-i.i =
-    c.squared_differences-sum.ensures.value
-    ∙ block_difference-is f g c.loop-i.i c.block_coefficients-first.result c.block_coefficients-second.result c.block_coefficients-first.ensures.value c.block_coefficients-second.ensures.value in
     record {
-      rest = one_more_number (block_difference f g) c.loop-i.sum c.loop-i.i 6 c.squared_differences-sum.result _ below is c.loop-i.invariant.rest;
-      bound = omega (arith, c.squared_differences-sum.ensures.bound, c.loop-i.invariant.bound);
+      rest = one_more_number (block_difference f g) c.loop-i.sum c.loop-i.i 6 c.difference_in_block-sum.result _ below c.difference_in_block-sum.ensures.value c.loop-i.invariant.rest;
+      bound = omega (arith, c.difference_in_block-sum.ensures.bound, c.loop-i.invariant.bound);
     }
 
 pub returns-clause-value : goal.returns-clause-value

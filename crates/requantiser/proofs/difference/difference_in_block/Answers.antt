@@ -1,0 +1,16 @@
+use Rattle.std.proofs.Common.{◌≡◌, Some, true, sym}
+use Rattle.std.specs.Prelude.{slice_index_or}
+use Rattle.picture_grammar.specs.Macroblock.{no_block}
+use Rattle.requantiser.specs.Distortion.{coefficient_of_macroblock}
+use Rattle.requantiser.specs.Macroblocks.{is_empty_block}
+use Rattle.requantiser.proofs.EmptyBlocks.{no_coefficient, no_difference}
+use Rattle.requantiser.proofs.difference.difference_in_block.Goals as goal
+
+pub returns-then-is_empty-2-clause-value : goal.returns-then-is_empty-2-clause-value
+returns-then-is_empty-2-clause-value c =
+    let first : is_empty_block (slice_index_or c.args.a.macroblock.now.blocks c.args.i no_block) ≡ true = sym c.if-is_empty.ensures in
+    let second : is_empty_block (slice_index_or c.args.b.macroblock.now.blocks c.args.i no_block) ≡ true = sym c.if-is_empty-2.ensures in
+    no_difference (coefficient_of_macroblock c.args.a.seq.now c.args.a.coding.now c.args.a.code (Some c.args.a.macroblock.now) c.args.i)
+    (coefficient_of_macroblock c.args.b.seq.now c.args.b.coding.now c.args.b.code (Some c.args.b.macroblock.now) c.args.i)
+    (λ place. no_coefficient c.args.a.seq.now c.args.a.coding.now c.args.a.code c.args.a.macroblock.now c.args.i place first)
+    (λ place. no_coefficient c.args.b.seq.now c.args.b.coding.now c.args.b.code c.args.b.macroblock.now c.args.i place second)
