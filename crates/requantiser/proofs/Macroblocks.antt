@@ -57,7 +57,7 @@ use Rattle.requantiser.proofs.MappedCodes.{mapped_code-is, one_mapped}
 use Rattle.requantiser.proofs.Places.{BothOrNone}
 use Rattle.requantiser.proofs.Ranges.{IsFirst, find-some, find-none}
 
-empty_items : (items : List RunLevel) → elim items [ [] ↦ true | pair ∷ pairs ↦ false ] ≡ true → items ≡ []
+pub empty_items : (items : List RunLevel) → elim items [ [] ↦ true | pair ∷ pairs ↦ false ] ≡ true → items ≡ []
 empty_items [] empty = refl
 empty_items (pair ∷ pairs) empty = absurd (cc)
 

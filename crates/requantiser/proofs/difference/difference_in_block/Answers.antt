@@ -1,8 +1,9 @@
-use Rattle.std.proofs.Common.{◌≡◌, Some, true, sym}
+use Rattle.std.proofs.Common.{◌≡◌, ℕ, ℤ, Some, true, sym, ◌∙◌}
 use Rattle.std.specs.Prelude.{slice_index_or}
 use Rattle.picture_grammar.specs.Macroblock.{no_block}
 use Rattle.requantiser.specs.Distortion.{coefficient_of_macroblock}
 use Rattle.requantiser.specs.Macroblocks.{is_empty_block}
+use Rattle.requantiser.proofs.Sums.{block_difference-is}
 use Rattle.requantiser.proofs.EmptyBlocks.{no_coefficient, no_difference}
 use Rattle.requantiser.proofs.difference.difference_in_block.Goals as goal
 
@@ -14,3 +15,11 @@ returns-then-is_empty-2-clause-value c =
     (coefficient_of_macroblock c.args.b.seq.now c.args.b.coding.now c.args.b.code (Some c.args.b.macroblock.now) c.args.i)
     (λ place. no_coefficient c.args.a.seq.now c.args.a.coding.now c.args.a.code c.args.a.macroblock.now c.args.i place first)
     (λ place. no_coefficient c.args.b.seq.now c.args.b.coding.now c.args.b.code c.args.b.macroblock.now c.args.i place second)
+
+pub returns-clause-value : goal.returns-clause-value
+returns-clause-value c =
+    let f : ℕ → ℕ → ℤ = coefficient_of_macroblock c.args.a.seq.now c.args.a.coding.now c.args.a.code (Some c.args.a.macroblock.now) in
+    let g : ℕ → ℕ → ℤ = coefficient_of_macroblock c.args.b.seq.now c.args.b.coding.now c.args.b.code (Some c.args.b.macroblock.now) in
+    c.squared_differences.ensures.value
+    ∙ block_difference-is f g c.args.i c.block_coefficients-first.result c.block_coefficients-second.result
+    c.block_coefficients-first.ensures.value c.block_coefficients-second.ensures.value
