@@ -208,3 +208,18 @@ pub course-last : {M A B S : Type 0} {g : Ghosts S} {whole : Grammar B} {old mid
     → Course whole (last >>= λ v. done (made v)) old middle → Answers M last result middle new → Answers M whole (answer_as made result) old new
 course-last {whole = whole} keeps_on last made local (Ok value) c a = course-end whole (made value) (course-on keeps_on last (λ v. done (made v)) local c a)
 course-last keeps_on last made local (Err fault) c a = course-err keeps_on last (λ v. done (made v)) c a
+
+-- ... also where nothing is made of it
+pub course-rest : {M A S : Type 0} {g : Ghosts S} {whole rest : Grammar A} {old middle new : BitReader S g} → ((x y z : S) → g.keeps x y → g.keeps y z → g.keeps x z) → (result : Result A SliceFault)
+    → Course whole rest old middle → Answers M rest result middle new → Answers M whole result old new
+course-rest {whole = whole} {rest = rest} {old = old} {middle = m} {new = new} keeps_on (Ok value) c a =
+    answers-read whole value old new (record {
+      front = c.front ++ a.ok.front;
+      spelled = by_bits (bits_left new) a.ok.spelled;
+      left = left-on (bits_left old) (bits_left m) (bits_left new) c.front a.ok.front c.left a.ok.left;
+      moved = omega (arith, c.moved, a.ok.moved, length-append c.front a.ok.front);
+    }) (keeps_then keeps_on c.keeps a.keeps) where
+      by_bits : (after : Option (List ℕ)) → IsSpelled rest value a.ok.front after → IsSpelled whole value (c.front ++ a.ok.front) after
+      by_bits None (others, s) = (others, subst (λ b. whole.Spells value b others) (sym (append_assoc c.front a.ok.front others)) (c.spelled value (a.ok.front ++ others) others s))
+      by_bits (Some others) s = subst (λ b. whole.Spells value b others) (sym (append_assoc c.front a.ok.front others)) (c.spelled value (a.ok.front ++ others) others s)
+course-rest keeps_on (Err fault) c a = course-fails keeps_on (λ m. m) c a

@@ -5,3 +5,5 @@ pub mod Lists
 pub mod Vectors
 pub mod Sixes
 pub mod Macroblocks
+pub mod Closing
+pub mod Slices

@@ -1,2 +1,4 @@
 pub mod Private
+pub mod SliceCursor
 pub mod SliceFault
+pub mod SliceHead

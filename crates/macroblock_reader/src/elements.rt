@@ -18,7 +18,7 @@ use prefix_codes::{TableName, WINDOW_BITS};
 use shelf_io::Source;
 
 /// Bits of quantiser_scale_code (6.2.4, 6.2.5).
-const SCALE_CODE_BITS: u32 = 5;
+pub const SCALE_CODE_BITS: u32 = 5;
 
 /// The next n bits as a number of at most 16 bits, with no rule.
 pub fn read_bits<S: Source>(from: &mut BitReader<'_, S>, n: u32) -> Result<u16, SliceFault>

@@ -14,6 +14,11 @@ use Rattle.picture_grammar.specs.Block.{block}
 use Rattle.grammar_reading.specs.BitsRead.{Reads}
 use Rattle.picture_grammar.specs.Motion.{MotionFormat, Part}
 use Rattle.picture_grammar.specs.Macroblock.{address_code, is_coded, block_way, no_block}
+use Rattle.syntax_types.specs.declared.macroblock.Macroblock.{Macroblock}
+use Rattle.syntax_types.specs.declared.picture.SeqState.{SeqState}
+use Rattle.picture_grammar.specs.Slice.{next_macroblock}
+use Rattle.macroblock_reader.specs.declared.cursor.SliceCursor.{SliceCursor}
+use Rattle.macroblock_reader.specs.SliceCursor.{StandsBehind}
 use Rattle.macroblock_reader.specs.Private.Answers.{Listed}
 use Rattle.macroblock_reader.specs.declared.motion.VectorFormat.{VectorFormat}
 use Rattle.macroblock_reader.specs.declared.motion.VectorPart.{VectorPart}
@@ -55,3 +60,8 @@ pub record BlocksRead {S : Type 0} {g : Ghosts S} (coding : PicCoding) (kind : K
   pub six : length into ≡ BLOCKS
   pub reads : Reads (each (range_with_len 0 i) (block_at coding kind pattern)) (take i into) old now
   pub keeps : KeepsSource old now
+
+-- these macroblocks of a slice were read, and the cursor stands behind them
+pub record MacroblocksRead {S : Type 0} {g : Ghosts S} (seq : SeqState) (coding : PicCoding) (macroblocks : List Macroblock) (cursor : SliceCursor) (old now : BitReader S g) : Type 0 where
+  pub listed : Listed (next_macroblock seq coding) macroblocks old now
+  pub stands : StandsBehind seq macroblocks cursor
