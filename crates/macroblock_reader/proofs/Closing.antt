@@ -7,7 +7,7 @@ use Rattle.bit_lists.specs.Bits.{front_of, number_of}
 use Rattle.bit_lists.proofs.JoinedLemmas.{bits_of-zero}
 use Rattle.bit_lists.proofs.NumberLemmas.{number_of-zeros}
 use Rattle.bit_cursor.specs.declared.bit_reader.BitReader.{BitReader}
-use Rattle.bit_cursor.specs.Reading.{Shows, zero_filled}
+use Rattle.bit_cursor.specs.Shown.{IsWindow, zero_filled}
 use Rattle.bit_cursor.specs.BitReader.{bits_left, place}
 use Rattle.syntax_types.specs.declared.macroblock.Macroblock.{Macroblock}
 use Rattle.syntax_types.specs.declared.picture.PicCoding.{PicCoding}
@@ -29,7 +29,7 @@ zeros-seen : (known : ℕ) → known ≤ 23 → front_of 23 0 known ≡ replicat
 zeros-seen known le = ap (take known) (bits_of-zero 23) ∙ take-replicate known 23 0 le
 
 -- a window of zeros closes a slice
-pub closed-shown : (told : Option (List ℕ)) (shown known : ℕ) → IfSome told (λ bits. Shows 23 bits shown known) → shown ≡ 0 → IfSome told ClosesSlice
+pub closed-shown : (told : Option (List ℕ)) (shown known : ℕ) → IfSome told (λ bits. IsWindow 23 bits shown known) → shown ≡ 0 → IfSome told ClosesSlice
 closed-shown None shown known shows none = tt
 closed-shown (Some bits) shown known shows none = elim (cases_Bool (nat_le 23 (length bits))) [
   | inl long ↦ inl (front ∙ ap (λ n. replicate n 0) (let le = leb-true 23 (length bits) long in let k = shows.known in let e : known ≡ 23 = omega arith in e))
@@ -47,7 +47,7 @@ zeros-filled bits (inr e) =
     ap (λ b. take 23 (b ++ replicate 23 0)) e ∙ ap (take 23) (replicate-append-replicate (length bits) 23 0) ∙ take-replicate 23 (length bits + 23) 0 (omega arith)
 
 -- another window doesn't
-pub open-shown : (told : Option (List ℕ)) (shown known : ℕ) → IfSome told (λ bits. Shows 23 bits shown known) → (shown ≡ 0 → ⊥) → IfSome told (λ bits. ClosesSlice bits → ⊥)
+pub open-shown : (told : Option (List ℕ)) (shown known : ℕ) → IfSome told (λ bits. IsWindow 23 bits shown known) → (shown ≡ 0 → ⊥) → IfSome told (λ bits. ClosesSlice bits → ⊥)
 open-shown None shown known shows some = tt
 open-shown (Some bits) shown known shows some = λ closes. some (shows.window ∙ ap number_of (zeros-filled bits closes) ∙ number_of-zeros 23)
 
