@@ -30,11 +30,14 @@ module _ {A S : Type 0} {g : Ghosts S} (grammar : Grammar A) (old : BitReader S 
     by_bits None e s split = absurd (let never : Some bits ≡ None = sym has.told ∙ split in cc)
     by_bits (Some rest) e s split =
         let both : Some bits ≡ Some (r.front ++ rest) = sym has.told ∙ split in
-        let same : bits ≡ r.front ++ rest = cc in
-        (rest, subst (λ (b : List ℕ). grammar.Spells value b rest) (sym same) s, record {
-          told = e;
-          ends = omega (arith, r.moved, has.ends, ap length same, length-append r.front rest);
-        })
+        let same : bits ≡ r.front ++ rest = cc in (
+          rest,
+          subst (λ (b : List ℕ). grammar.Spells value b rest) (sym same) s,
+          record {
+            told = e;
+            ends = omega (arith, r.moved, has.ends, ap length same, length-append r.front rest);
+          },
+        )
 
   -- a refusal that a fault tells is one of the bits that were left
   pub explains-told : (told : Option PlacedRefusal) → Explains grammar old told → HasLeft old end bits → RefusesTold grammar told end bits

@@ -70,7 +70,7 @@ impl Coverage {
         ensures { (seq : SeqState) (slices : List Slice) (s : Slice) → Covers seq slices self → columns ≡ columns_of seq → s.row ≡ row → IsSpan s.macroblocks span
             → Covers seq (slices ++ s ∷ []) result }
     {
-        let start = usize::from(row) * columns;
+        let start = row_start(row, columns);
         if self.is_broken {
             return self;
         }
@@ -91,8 +91,20 @@ impl Coverage {
         ensures { (seq : SeqState) (slices : List Slice) → Covers seq slices self →
             (result ≡ true) ↔ (flat_map (addresses seq) slices ≡ range_with_len 0 count) }
     {
-        !self.is_broken && self.next == count
+        if self.is_broken {
+            return false;
+        }
+        self.next == count
     }
+}
+
+/// The address of the first macroblock of a row.
+fn row_start(row: u8, columns: usize) -> usize
+    requires { columns ≤ 4096 }
+    ensures value { result ≡ row * columns }
+    ensures few { result ≤ 2 ^ 20 }
+{
+    usize::from(row) * columns
 }
 
 /// mb_width (6.3.3).
