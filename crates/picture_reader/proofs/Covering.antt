@@ -1,12 +1,11 @@
 -- Slices in order, by running numbers.
-use Rattle.std.proofs.Common.{◌≡◌, ◌≢◌, ℕ, zero, suc, ◌+◌, ◌-◌, ◌*◌, ◌<◌, ◌≤◌, List, [], ◌∷◌, ◌++◌, length, replicate, Bool, true, false, refl, sym, ap, ap₂, subst, ◌∙◌, arith, append_assoc, append-nil}
+use Rattle.std.proofs.Common.{◌≡◌, ◌≢◌, ℕ, zero, suc, ◌+◌, ◌-◌, ◌*◌, ◌<◌, ◌≤◌, List, [], ◌∷◌, ◌++◌, length, true, false, refl, sym, ap, ap₂, ◌∙◌, arith, append_assoc, append-nil}
 use Rattle.std.proofs.lemmas.List.{length-append, append_cancel_left}
 use Rattle.std.proofs.lemmas.List.FromFn.{length-range_with_len}
-use Rattle.std.specs.List.{flat_map, range_with_len, sum_by}
-use Rattle.syntax_types.specs.declared.macroblock.Macroblock.{Macroblock}
+use Rattle.std.specs.List.{flat_map, range_with_len}
 use Rattle.syntax_types.specs.declared.picture.SeqState.{SeqState}
 use Rattle.syntax_types.specs.declared.slice.Slice.{Slice}
-use Rattle.picture_grammar.specs.Picture.{addresses, first_column}
+use Rattle.picture_grammar.specs.Picture.{addresses}
 use Rattle.picture_grammar.specs.Slice.{columns}
 use Rattle.picture_reader.specs.declared.coverage.Coverage.{Coverage}
 use Rattle.picture_reader.specs.declared.coverage.Span.{Span}
@@ -25,9 +24,18 @@ pub not-ranged : (n a k : ℕ) (later : List ℕ) (count : ℕ) → 0 < k → a 
 not-ranged n a zero later count some other e = omega (arith, some)
 not-ranged n a (suc k) later count some other e =
     let long : n + suc (k + length later) ≡ count =
-    omega (arith, ap length e, length-append (range_with_len 0 n) (range_with_len a (suc k) ++ later), length-append (range_with_len a (suc k)) later, length-range_with_len 0 n, length-range_with_len a (suc k), length-range_with_len 0 count) in
+    omega (
+      arith,
+      ap length e,
+      length-append (range_with_len 0 n) (range_with_len a (suc k) ++ later),
+      length-append (range_with_len a (suc k)) later,
+      length-range_with_len 0 n,
+      length-range_with_len a (suc k),
+      length-range_with_len 0 count,
+    ) in
     let split : range_with_len 0 n ++ range_with_len n (suc (k + length later)) ≡ range_with_len 0 count = ranges-join 0 n (suc (k + length later)) n (omega arith) ∙ ap (range_with_len 0) long in
-    let same : range_with_len a (suc k) ++ later ≡ range_with_len n (suc (k + length later)) = append_cancel_left (range_with_len 0 n) (range_with_len a (suc k) ++ later) (range_with_len n (suc (k + length later))) (e ∙ sym split) in
+    let same : range_with_len a (suc k) ++ later ≡ range_with_len n (suc (k + length later)) = append_cancel_left (range_with_len 0 n)
+    (range_with_len a (suc k) ++ later) (range_with_len n (suc (k + length later))) (e ∙ sym split) in
     other (let first : a ≡ n = (let e' : a ∷ (range_with_len (a + 1) k ++ later) ≡ n ∷ range_with_len (n + 1) (k + length later) = same in cc) in first)
 
 module _ (seq : SeqState) (slices : List Slice) (s : Slice) (coverage : Coverage) (span : Span) (covers : Covers seq slices coverage) (is_span : IsSpan s.macroblocks span) where
@@ -39,21 +47,30 @@ module _ (seq : SeqState) (slices : List Slice) (s : Slice) (coverage : Coverage
   one-more = flat_map-append (addresses seq) slices (s ∷ []) ∙ ap (λ (l : List ℕ). flat_map (addresses seq) slices ++ l) (append-nil (addresses seq s))
 
   -- it begins where the ones before end
-  pub covers-more : (start : ℕ) → start ≡ s.row * columns seq → coverage.is_broken ≡ false → start + span.first ≡ coverage.next → Covers seq (slices ++ s ∷ []) (record { next = start + span.end; is_broken = false })
+  pub covers-more : (start : ℕ) → start ≡ s.row * columns seq → coverage.is_broken ≡ false → start + span.first ≡ coverage.next
+      → Covers seq (slices ++ s ∷ []) (record { next = start + span.end; is_broken = false })
   covers-more start e whole at = record {
     whole = λ is.
-        one-more ∙ ap₂ (λ (a b : List ℕ). a ++ b) (covers.whole whole) (slice-addresses ∙ ap (λ (k : ℕ). range_with_len k (span.end - span.first)) (let f : s.row * columns seq + span.first ≡ coverage.next = omega (arith, e, at) in f))
-        ∙ ranges-join 0 coverage.next (span.end - span.first) coverage.next (omega arith) ∙ ap (range_with_len 0) (let f : coverage.next + (span.end - span.first) ≡ start + span.end = omega (arith, at, is_span.some) in f);
+        one-more ∙ ap₂ (λ (a b : List ℕ). a ++ b) (covers.whole whole)
+        (slice-addresses ∙ ap (λ (k : ℕ). range_with_len k (span.end - span.first))
+        (let f : s.row * columns seq + span.first ≡ coverage.next = omega (arith, e, at) in f))
+        ∙ ranges-join 0 coverage.next (span.end - span.first) coverage.next (omega arith)
+        ∙ ap (range_with_len 0) (let f : coverage.next + (span.end - span.first) ≡ start + span.end = omega (arith, at, is_span.some) in f);
     broken = λ is. absurd (let never : false ≡ true = is in cc);
   }
 
   -- it begins elsewhere
-  pub covers-broken : (start : ℕ) → start ≡ s.row * columns seq → coverage.is_broken ≡ false → start + span.first ≢ coverage.next → Covers seq (slices ++ s ∷ []) (record { next = coverage.next; is_broken = true })
+  pub covers-broken : (start : ℕ) → start ≡ s.row * columns seq → coverage.is_broken ≡ false → start + span.first ≢ coverage.next
+      → Covers seq (slices ++ s ∷ []) (record { next = coverage.next; is_broken = true })
   covers-broken start e whole other = record {
     whole = λ is. absurd (let never : true ≡ false = is in cc);
     broken = λ is later count all.
-        let split : flat_map (addresses seq) ((slices ++ s ∷ []) ++ later) ≡ range_with_len 0 coverage.next ++ (range_with_len (start + span.first) (span.end - span.first) ++ flat_map (addresses seq) later) =
-        flat_map-append (addresses seq) (slices ++ s ∷ []) later ∙ ap (λ (l : List ℕ). l ++ flat_map (addresses seq) later) (one-more ∙ ap₂ (λ (a b : List ℕ). a ++ b) (covers.whole whole) (slice-addresses ∙ ap (λ (k : ℕ). range_with_len (k + span.first) (span.end - span.first)) (sym e)))
+        let split : flat_map (addresses seq) ((slices ++ s ∷ []) ++ later) ≡ range_with_len 0 coverage.next
+        ++ (range_with_len (start + span.first) (span.end - span.first) ++ flat_map (addresses seq) later) =
+        flat_map-append (addresses seq) (slices ++ s ∷ []) later
+        ∙ ap (λ (l : List ℕ). l ++ flat_map (addresses seq) later)
+        (one-more ∙ ap₂ (λ (a b : List ℕ). a ++ b) (covers.whole whole)
+        (slice-addresses ∙ ap (λ (k : ℕ). range_with_len (k + span.first) (span.end - span.first)) (sym e)))
         ∙ append_assoc (range_with_len 0 coverage.next) (range_with_len (start + span.first) (span.end - span.first)) (flat_map (addresses seq) later) in
         not-ranged coverage.next (start + span.first) (span.end - span.first) (flat_map (addresses seq) later) count (omega (arith, is_span.some)) other (sym split ∙ all);
   }
@@ -66,11 +83,14 @@ module _ (seq : SeqState) (slices : List Slice) (s : Slice) (coverage : Coverage
   }
 
 -- what running numbers say of all slices
-pub covers-all : (seq : SeqState) (slices : List Slice) (coverage : Coverage) (count : ℕ) → Covers seq slices coverage → coverage.is_broken ≡ false → coverage.next ≡ count → flat_map (addresses seq) slices ≡ range_with_len 0 count
+pub covers-all : (seq : SeqState) (slices : List Slice) (coverage : Coverage) (count : ℕ) → Covers seq slices coverage → coverage.is_broken ≡ false
+    → coverage.next ≡ count → flat_map (addresses seq) slices ≡ range_with_len 0 count
 covers-all seq slices coverage count covers whole e = covers.whole whole ∙ ap (range_with_len 0) e
 
-pub covers-next : (seq : SeqState) (slices : List Slice) (coverage : Coverage) (count : ℕ) → Covers seq slices coverage → coverage.is_broken ≡ false → flat_map (addresses seq) slices ≡ range_with_len 0 count → coverage.next ≡ count
+pub covers-next : (seq : SeqState) (slices : List Slice) (coverage : Coverage) (count : ℕ) → Covers seq slices coverage → coverage.is_broken ≡ false
+    → flat_map (addresses seq) slices ≡ range_with_len 0 count → coverage.next ≡ count
 covers-next seq slices coverage count covers whole e = sym (length-range_with_len 0 coverage.next) ∙ ap length (sym (covers.whole whole) ∙ e) ∙ length-range_with_len 0 count
 
-pub covers-never : (seq : SeqState) (slices : List Slice) (coverage : Coverage) (count : ℕ) → Covers seq slices coverage → coverage.is_broken ≡ true → flat_map (addresses seq) slices ≡ range_with_len 0 count → ⊥
+pub covers-never : (seq : SeqState) (slices : List Slice) (coverage : Coverage) (count : ℕ) → Covers seq slices coverage → coverage.is_broken ≡ true
+    → flat_map (addresses seq) slices ≡ range_with_len 0 count → ⊥
 covers-never seq slices coverage count covers broken e = covers.broken broken [] count (ap (flat_map (addresses seq)) (append-nil slices) ∙ e)

@@ -9,7 +9,7 @@ use Rattle.syntax_types.specs.declared.picture.SeqState.{SeqState}
 use Rattle.syntax_types.specs.declared.slice.Slice.{Slice}
 use Rattle.picture_grammar.specs.Refusal.{Refusal}
 use Rattle.picture_grammar.specs.Exact.{EndsWith}
-use Rattle.picture_grammar.specs.Grammar.{Grammar, many}
+use Rattle.picture_grammar.specs.Grammar.{many}
 use Rattle.picture_grammar.specs.Slice.{slice, next_macroblock}
 use Rattle.grammar_reading.specs.BitsRead.{PlacedRefusal}
 use Rattle.macroblock_reader.specs.declared.fault.SliceFault.{SliceFault}
@@ -58,12 +58,14 @@ module _ (seq : SeqState) (coding : PicCoding) (row : ℕ) where
   head-told None end bits r = tt
   head-told (Some said) end bits (left, r, at) = (left, head-refused bits left said.refusal r, at)
 
-  rest-refused : (head : SliceHead) (bits middle left : List ℕ) (refusal : Refusal) → slice_head.Spells head bits middle → (many (next_macroblock seq coding)).Refuses middle refusal left → (slice seq coding row).Refuses bits refusal left
+  rest-refused : (head : SliceHead) (bits middle left : List ℕ) (refusal : Refusal) → slice_head.Spells head bits middle
+      → (many (next_macroblock seq coding)).Refuses middle refusal left → (slice seq coding row).Refuses bits refusal left
   unfolding slice
   rest-refused head bits middle left refusal (code, m, s, (info, m', s', (e, f))) r =
       inr (code, m, s, inr (info, m', s', inl (subst (λ (b : List ℕ). (many (next_macroblock seq coding)).Refuses b refusal left) (sym f) r)))
 
-  pub rest-told : (head : SliceHead) (told : Option PlacedRefusal) (end : ℕ) (bits middle : List ℕ) → slice_head.Spells head bits middle → RefusesTold (many (next_macroblock seq coding)) told end middle
+  pub rest-told : (head : SliceHead) (told : Option PlacedRefusal) (end : ℕ) (bits middle : List ℕ) → slice_head.Spells head bits middle
+      → RefusesTold (many (next_macroblock seq coding)) told end middle
       → RefusesTold (slice seq coding row) told end bits
   rest-told head None end bits middle s r = tt
   rest-told head (Some said) end bits middle s (left, r, at) = (left, rest-refused head bits middle left said.refusal s r, at)

@@ -1,14 +1,14 @@
 -- What readers say, where all bits are told.
-use Rattle.std.proofs.Common.{◌≡◌, ◌≢◌, ℕ, ◌+◌, ◌<◌, List, [], ◌∷◌, ◌++◌, length, drop, Option, Some, None, IfSome, Result, Ok, Err, IsErrOf, Bool, refl, sym, ap, subst, ◌∙◌, inl, inr, arith, append_assoc}
+use Rattle.std.proofs.Common.{◌≡◌, ◌≢◌, ℕ, ◌+◌, ◌<◌, List, [], ◌∷◌, ◌++◌, length, Option, Some, None, IfSome, refl, sym, ap, subst, ◌∙◌, arith}
 use Rattle.std.specs.Option.{option_map}
 use Rattle.std.proofs.lemmas.List.{length-append}
 use Rattle.std.proofs.lemmas.List.Sums.{sum_by-cons}
 use Rattle.shelf_io.specs.declared.source.Source.{Ghosts}
 use Rattle.bit_cursor.specs.declared.bit_reader.BitReader.{BitReader}
 use Rattle.bit_cursor.specs.BitReader.{bits_left, place}
-use Rattle.picture_grammar.specs.Grammar.{Grammar, many, Next, SpellsList, RefusesAfter}
+use Rattle.picture_grammar.specs.Grammar.{Grammar, many, Next}
 use Rattle.picture_grammar.specs.Grammar.Next.{more, last}
-use Rattle.grammar_reading.specs.BitsRead.{PlacedRefusal, IsSpelled, ExplainsFrom, ReadsFrom, Reads, Explains}
+use Rattle.grammar_reading.specs.BitsRead.{PlacedRefusal, IsSpelled, ExplainsFrom, Reads, Explains}
 use Rattle.grammar_reading.specs.Several.{SpellsFront}
 use Rattle.grammar_reading.proofs.Several.{several-refused}
 use Rattle.std.specs.List.{sum_by}
@@ -61,6 +61,12 @@ span-some : (ms : List Macroblock) → ms ≢ [] → first_column ms < sum_by (�
 span-some [] some = absurd (some refl)
 span-some (m ∷ ms) some = omega (arith, sum_by-cons (λ m. m.skipped_before + 1) m ms)
 
-pub span-whole : (seq : SeqState) (coding : PicCoding) (ms : List Macroblock) (span : Span) (bits rest : List ℕ) → IsSpanSoFar ms span → (next_macroblock seq coding ms).Spells (last tt) bits rest → IsSpan ms span
+pub span-whole : (seq : SeqState) (coding : PicCoding) (ms : List Macroblock) (span : Span) (bits rest : List ℕ) → IsSpanSoFar ms span
+    → (next_macroblock seq coding ms).Spells (last tt) bits rest → IsSpan ms span
 span-whole seq coding [] span bits rest so_far s = absurd (never-first seq coding bits rest s)
-span-whole seq coding (m ∷ ms) span bits rest so_far s = record { first = so_far.first; end = so_far.end; some = (let some = span-some (m ∷ ms) (λ e. let e' : m ∷ ms ≡ [] = e in cc) in omega (arith, some, so_far.first, so_far.end)) }
+span-whole seq coding (m ∷ ms) span bits rest so_far s = record {
+  first = so_far.first;
+  end = so_far.end;
+  some = (let some = span-some (m ∷ ms) (λ e. let e' : m ∷ ms ≡ [] = e in cc) in omega
+      (arith, some, so_far.first, so_far.end));
+}

@@ -3,7 +3,22 @@ use Rattle.std.specs.Prelude.{Option, Some, None}
 use Rattle.picture_grammar.specs.Refusal.{Refusal}
 use Rattle.grammar_reading.specs.BitsRead.{PlacedRefusal}
 use Rattle.picture_reader.specs.declared.fault.PictureFault.{PictureFault}
-use Rattle.picture_reader.specs.declared.fault.PictureFault.TheVariants.{NoCode, TooMany, BadEscape, BadType, BadAddress, BadPattern, End, Uncovered, BadHeader, NotMpeg2, Profile, LowDelay, Size, OutOfMemory}
+use Rattle.picture_reader.specs.declared.fault.PictureFault.TheVariants.{
+  NoCode,
+  TooMany,
+  BadEscape,
+  BadType,
+  BadAddress,
+  BadPattern,
+  End,
+  Uncovered,
+  BadHeader,
+  NotMpeg2,
+  Profile,
+  LowDelay,
+  Size,
+  OutOfMemory,
+}
 
 -- the kind and the place of their refusal, and nothing where memory was wanted
 abbrev pub refusal_told : PictureFault → Option PlacedRefusal

@@ -4,6 +4,8 @@
 mod coverage;
 mod fault;
 mod keep;
+mod part;
 mod slice;
+mod walk;
 
 pub use fault::PictureFault;

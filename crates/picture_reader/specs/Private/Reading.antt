@@ -1,8 +1,7 @@
 -- Parts of a unit as they are read, where all bytes are told.
-use Rattle.std.specs.Prelude.{◌≡◌, ◌+◌, ◌≤◌, ℕ, List, [], ◌++◌, length, drop, Option, Some, IfSome, MatchResult, Result}
+use Rattle.std.specs.Prelude.{◌≡◌, ◌+◌, ◌≤◌, ℕ, List, [], ◌++◌, length, drop, Option, Some, IfSome}
 use Rattle.std.specs.List.{sum_by}
 use Rattle.shelf_io.specs.declared.source.Source.{Ghosts}
-use Rattle.bit_lists.specs.Fields.{bit_list}
 use Rattle.bit_cursor.specs.declared.bit_reader.BitReader.{BitReader}
 use Rattle.bit_cursor.specs.BitReader.{bits_left, place, KeepsSource}
 use Rattle.syntax_types.specs.declared.macroblock.Macroblock.{Macroblock}
@@ -15,9 +14,7 @@ use Rattle.picture_grammar.specs.Slice.{columns, next_macroblock, slice}
 use Rattle.grammar_reading.specs.BitsRead.{PlacedRefusal}
 use Rattle.grammar_reading.specs.Several.{SpellsFront}
 use Rattle.macroblock_reader.specs.declared.cursor.SliceCursor.{SliceCursor}
-use Rattle.macroblock_reader.specs.declared.fault.SliceFault.{SliceFault}
 use Rattle.macroblock_reader.specs.SliceCursor.{StandsBehind, columns_behind}
-use Rattle.macroblock_reader.specs.SliceFault.{refusal_told}
 use Rattle.picture_reader.specs.declared.coverage.Span.{Span}
 use Rattle.picture_reader.specs.declared.keep.Keep.{Keep}
 use Rattle.picture_reader.specs.declared.keep.Keep.TheVariants.{Tree}
@@ -40,7 +37,8 @@ pub record IsSpanSoFar (macroblocks : List Macroblock) (span : Span) : Type 0 wh
   pub end : span.end ≡ sum_by (λ m. m.skipped_before + 1) macroblocks
 
 -- the first macroblocks of a slice were read, and kept where they are to be
-pub record MacroblocksRead {S : Type 0} {g : Ghosts S} (seq : SeqState) (coding : PicCoding) (keep : Keep) (list : List Macroblock) (span : Span) (cursor : SliceCursor) (old now : BitReader S g) : Type 0 where
+pub record MacroblocksRead {S : Type 0} {g : Ghosts S} (seq : SeqState) (coding : PicCoding) (keep : Keep) (list : List Macroblock) (span : Span)
+    (cursor : SliceCursor) (old now : BitReader S g) : Type 0 where
   pub macroblocks : List Macroblock
   pub stands : StandsBehind seq macroblocks cursor
   pub counted : span.end + columns_behind cursor ≡ columns seq

@@ -1,4 +1,4 @@
-use Rattle.std.proofs.Common.{◌≡◌, Bool, true, false, ℕ, List, [], refl, sym, ap, subst, ◌∙◌, ◌∷◌, ◌++◌, rules, arith}
+use Rattle.std.proofs.Common.{◌≡◌, Bool, true, false, [], refl, ap, subst, ◌∙◌, ◌∷◌, ◌++◌, arith}
 use Rattle.std.proofs.lemmas.Result.{err_from_is_err_and}
 use Rattle.bit_cursor.proofs.Source.{keeps_then}
 use Rattle.picture_grammar.specs.Grammar.Next.{more, last}
@@ -25,7 +25,8 @@ returns-then-not-is_more-clause-gives g c = λ end bits has.
     let inv = c.macroblocks.invariant in
     let ms = inv.macroblocks in
     let (middle, spelled, left) = inv.read end bits has in
-    let (rest, s, behind) = reads-told (next ms) c.macroblocks.from end middle c.next.new.from (next_of c.next.new.into c.in_ok-is_more.is_more) (c.in_ok-is_more.ensures.ok c.args.seq.now ms inv.stands) left in
+    let (rest, s, behind) = reads-told (next ms) c.macroblocks.from end middle c.next.new.from (next_of c.next.new.into c.in_ok-is_more.is_more)
+    (c.in_ok-is_more.ensures.ok c.args.seq.now ms inv.stands) left in
     let closed : (next ms).Spells (last tt) middle rest = subst (λ (b : Bool). (next ms).Spells (next_of c.next.new.into b) middle rest) c.if-not-is_more.true s in
     record {
       macroblocks = ms;
@@ -55,7 +56,8 @@ macroblocks-preserved g c =
       kept = λ keep. c.in_ok-keep_macroblock.ensures keep ∙ ap (λ l. l ++ m ∷ []) (inv.kept keep);
       read = λ end bits has.
           let (middle, spelled, left) = inv.read end bits has in
-          let (rest, s, behind) = reads-told (next ms) c.macroblocks.from end middle c.next.new.from (next_of m c.in_ok-is_more.is_more) (c.in_ok-is_more.ensures.ok c.args.seq.now ms inv.stands) left in
+          let (rest, s, behind) = reads-told (next ms) c.macroblocks.from end middle c.next.new.from (next_of m c.in_ok-is_more.is_more)
+          (c.in_ok-is_more.ensures.ok c.args.seq.now ms inv.stands) left in
           let one : (next ms).Spells (more m) middle rest = subst (λ (b : Bool). (next ms).Spells (next_of m b) middle rest) c.if-not-is_more.false s in
           (rest, several-more next ms m bits middle rest spelled one, behind);
       keeps = keeps_then g.met.S.Source.keeps_on inv.keeps c.in_ok-is_more.ensures.keeps;

@@ -1,4 +1,4 @@
-use Rattle.std.proofs.Common.{◌≡◌, ℕ, List, ◌<◌, ◌+◌, length, Some, Err, refl, sym, ap, subst, ◌∙◌, rules, arith}
+use Rattle.std.proofs.Common.{◌≡◌, ℕ, List, ◌<◌, ◌+◌, length, Some, Err, refl, ap, subst, ◌∙◌, arith}
 use Rattle.std.proofs.lemmas.Result.{err_from_is_err_and}
 use Rattle.shelf_io.specs.Counts.{Rose}
 use Rattle.bit_lists.specs.Fields.{bit_list}
@@ -19,10 +19,12 @@ none-rose r = let lt : 0 < 0 = r (omega arith) in omega (arith, lt)
 pub returns-in_err-head-clause-gives : goal.returns-in_err-head-clause-gives
 returns-in_err-head-clause-gives c =
     let bits = bit_list c.args.bytes.now in
-    let has : HasLeft c.new-reader.result (length bits) bits = record { told = c.new-reader.ensures.left ∙ ap (λ b. Some (bit_list b)) c.new-source.ensures; ends = omega (arith, c.new-reader.ensures.place) } in
+    let has : HasLeft c.new-reader.result (length bits) bits = record
+    { told = c.new-reader.ensures.left ∙ ap (λ b. Some (bit_list b)) c.new-source.ensures; ends = omega (arith, c.new-reader.ensures.place) } in
     let told = refusal_told c.in_err-head.field-0.0 in
     let p = err_from_is_err_and c.from_residual.result c.from_residual.ensures.1 in
-    rw (p.1, p.2) (head-told c.args.seq.now c.args.coding.now c.args.row told (length bits) bits (explains-told slice_head c.new-reader.result (length bits) bits told c.in_err-head.ensures.refused has))
+    rw (p.1, p.2) (head-told c.args.seq.now c.args.coding.now c.args.row told (length bits) bits
+    (explains-told slice_head c.new-reader.result (length bits) bits told c.in_err-head.ensures.refused has))
 
 pub returns-in_err-head-clause-inside : goal.returns-in_err-head-clause-inside
 returns-in_err-head-clause-inside c =
@@ -32,7 +34,8 @@ returns-in_err-head-clause-inside c =
 pub returns-in_err-walked-clause-gives : goal.returns-in_err-walked-clause-gives
 returns-in_err-walked-clause-gives c =
     let bits = bit_list c.args.bytes.now in
-    let has : HasLeft c.new-reader.result (length bits) bits = record { told = c.new-reader.ensures.left ∙ ap (λ b. Some (bit_list b)) c.new-source.ensures; ends = omega (arith, c.new-reader.ensures.place) } in
+    let has : HasLeft c.new-reader.result (length bits) bits = record
+    { told = c.new-reader.ensures.left ∙ ap (λ b. Some (bit_list b)) c.new-source.ensures; ends = omega (arith, c.new-reader.ensures.place) } in
     let (middle, s, left) = reads-told slice_head c.new-reader.result (length bits) bits c.read_slice_head.new.from c.in_ok-head.head c.in_ok-head.ensures.ok has in
     let told = refusal_told c.in_err-walked.field-0.0 in
     let p = err_from_is_err_and c.from_residual-in_err-walked.result c.from_residual-in_err-walked.ensures.1 in
@@ -50,7 +53,8 @@ returns-clause-gives c =
     let coding = c.args.coding.now in
     let row = c.args.row in
     let head = c.in_ok-head.head in
-    let has : HasLeft c.new-reader.result (length bits) bits = record { told = c.new-reader.ensures.left ∙ ap (λ b. Some (bit_list b)) c.new-source.ensures; ends = omega (arith, c.new-reader.ensures.place) } in
+    let has : HasLeft c.new-reader.result (length bits) bits = record
+    { told = c.new-reader.ensures.left ∙ ap (λ b. Some (bit_list b)) c.new-source.ensures; ends = omega (arith, c.new-reader.ensures.place) } in
     let (middle, s, left) = reads-told slice_head c.new-reader.result (length bits) bits c.read_slice_head.new.from head c.in_ok-head.ensures.ok has in
     let all = c.in_ok-walked.ensures.gives (length bits) middle left in
     let made : List Macroblock → Slice = λ ms. record { row = row; code = head.code; info = head.info; macroblocks = ms } in
