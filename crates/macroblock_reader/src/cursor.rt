@@ -1,4 +1,4 @@
-ghost use Rattle.std.specs.Prelude.{◌≡◌, ◌<◌, ◌⊎◌, ◌++◌, ◌∷◌, [], ℕ, List, IfOk, OnErr, IfErr, IfSome, IsErrOf, IsNone, IsTrue, MatchResult, Some, true, false};
+ghost use Rattle.std.specs.Prelude.{◌≡◌, ◌<◌, ◌+◌, ◌⊎◌, ◌++◌, ◌∷◌, [], ℕ, List, IfOk, OnErr, IfErr, IfSome, IsErrOf, IsNone, IsTrue, MatchResult, Some, true, false};
 ghost use Rattle.shelf_io.specs.Counts.{Rose};
 ghost use Rattle.bit_cursor.specs.BitReader.{bits_left, place, faults_of, absences_of, KeepsSource};
 ghost use Rattle.syntax_types.specs.declared.macroblock.Macroblock.{Macroblock};
@@ -61,6 +61,7 @@ impl SliceCursor {
         ensures behind { (seq : SeqState) (before : List Macroblock) → StandsBehind seq before self.old →
             IfOk result (λ is_more. IsTrue is_more → StandsBehind seq (before ++ into.new ∷ []) self.new) }
         ensures fewer { IfOk result (λ is_more. IsTrue is_more → columns_behind self.new < columns_behind self.old) }
+        ensures counted { IfOk result (λ is_more. IsTrue is_more → columns_behind self.new + (into.new.skipped_before + 1) ≡ columns_behind self.old) }
         ensures advances { Advances from.old from.new }
 
         ensures memory { IsErrOf result SliceFault.OutOfMemory → ⊥ }

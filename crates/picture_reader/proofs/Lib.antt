@@ -1,0 +1,7 @@
+pub mod Covering
+pub mod Parts
+pub mod Refusals
+pub mod Slices
+pub mod Told
+pub mod Walks
+pub mod Wholes

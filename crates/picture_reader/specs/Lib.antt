@@ -1,0 +1,2 @@
+pub mod PictureFault
+pub mod Private

@@ -1,0 +1,5 @@
+pub mod Coverage
+pub mod Faults
+pub mod Parts
+pub mod Reading
+pub mod Walk

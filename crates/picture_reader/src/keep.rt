@@ -1,0 +1,8 @@
+/// What is kept of a picture that is read.
+#[derive(Clone, Copy, Debug, PartialEq, Eq)]
+pub enum Keep {
+    /// All of its slices.
+    Tree,
+    /// Nothing but its headers.
+    Nothing,
+}
