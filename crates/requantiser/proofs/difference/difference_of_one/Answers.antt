@@ -14,7 +14,8 @@ loop-i-preserved c =
     let below : c.loop-i.i < 6 = c.loop-i-test.true in
     let is : c.squared_differences-sum.result ≡ block_difference f (λ i index. pos 0) c.loop-i.i =
     c.squared_differences-sum.ensures.value
-    ∙ block_difference-is f (λ i index. pos 0) c.loop-i.i c.block_coefficients-coefficients.result (replicate 64 (pos 0)) c.block_coefficients-coefficients.ensures.value (λ index below. all_zeros 64 index) in
+    ∙ block_difference-is f (λ i index. pos 0) c.loop-i.i c.block_coefficients-coefficients.result
+    (replicate 64 (pos 0)) c.block_coefficients-coefficients.ensures.value (λ index below. all_zeros 64 index) in
     record {
       rest = one_more_number (block_difference f (λ i index. pos 0)) c.loop-i.sum c.loop-i.i 6 c.squared_differences-sum.result _ below is c.loop-i.invariant.rest;
       bound = omega (arith, c.squared_differences-sum.ensures.bound, c.loop-i.invariant.bound);
