@@ -15,7 +15,8 @@ use Rattle.grammar_reading.specs.BitsRead.{PlacedRefusal}
 use Rattle.video_headers.specs.declared.fault.HeadFault.{HeadFault}
 use Rattle.video_headers.specs.declared.fault.HeadFault.TheVariants.{Outside}
 use Rattle.video_headers.specs.HeadFault.{refusal_told}
-use Rattle.video_headers.specs.Private.Reading.{Goes, Stops, Runs, Answers}
+use Rattle.video_headers.specs.Runs.{Runs}
+use Rattle.video_headers.specs.Private.Reading.{Goes, Stops, Answers}
 
 pub goes-done : {A : Type 0} (value : A) (from : ℕ → List ℕ → Type 0) → Goes (done value) value from from
 goes-done value from = record { on = λ end bits left. (bits, (refl, refl), left) }

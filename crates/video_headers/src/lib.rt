@@ -9,6 +9,7 @@
 mod fault;
 mod fields;
 mod group;
+mod head;
 mod limit;
 mod matrix;
 mod picture;
@@ -18,6 +19,7 @@ mod why;
 mod zeros;
 
 pub use fault::HeadFault;
+pub use head::{HeadEnd, Headers, read_head};
 
 #[cfg(test)]
 mod tests;
