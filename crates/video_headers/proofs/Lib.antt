@@ -1,9 +1,16 @@
+pub mod Extensions
 pub mod Extra
 pub mod Flags
+pub mod Identifiers
 pub mod Limited
+pub mod Looks
+pub mod NextCodes
+pub mod Passed
 pub mod Reading
 pub mod Repeats
 pub mod Rules
 pub mod ToldFields
 pub mod Zigzag
 pub mod WholeBytes
+pub mod Windows
+pub mod ZeroBytes

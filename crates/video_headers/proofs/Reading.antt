@@ -71,7 +71,7 @@ taken-twice : (told middle after : Option (List ℕ)) (m n : ℕ) → middle ≡
 taken-twice None middle after m n e f = f ∙ ap (λ t. without_front t n) e
 taken-twice (Some bytes) middle after m n e f = f ∙ ap (λ t. without_front t n) e ∙ ap Some (drop-drop n m bytes)
 
-rose_later : (a b c : ℕ) → a ≤ b → b ≤ c → Rose b c → Rose a c
+pub rose_later : (a b c : ℕ) → a ≤ b → b ≤ c → Rose b c → Rose a c
 rose_later a b c first then rose small = elim (cases_lt b (2 ^ 64 - 1)) [
   | inl below ↦ let more : b < c = rose below in omega arith
   | inr full ↦ omega arith

@@ -1,5 +1,9 @@
 pub mod Information
 pub mod Limits
+pub mod NextCode
+pub mod Part
 pub mod Reading
+pub mod Stands
+pub mod Unread
 pub mod Why
 pub mod Wholes

@@ -6,15 +6,20 @@
 //! `bit_cursor`, `grammar_reading`, `picture_grammar`, `quant_math` and `syntax_types`.
 #![tactic(auto)]
 
+mod code;
+mod extension;
 mod fault;
 mod fields;
 mod group;
 mod head;
 mod limit;
 mod matrix;
+mod part;
 mod picture;
 mod repeated;
 mod sequence;
+mod stands;
+mod unread;
 mod why;
 mod zeros;
 

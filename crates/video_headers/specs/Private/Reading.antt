@@ -5,7 +5,7 @@ use Rattle.shelf_io.specs.Counts.{Rose}
 use Rattle.shelf_io.specs.declared.source.Source.{Ghosts}
 use Rattle.bit_cursor.specs.declared.bit_reader.BitReader.{BitReader}
 use Rattle.bit_cursor.specs.BitReader.{bits_left, place, faults_of, absences_of}
-use Rattle.picture_grammar.specs.Grammar.{Grammar}
+use Rattle.picture_grammar.specs.Grammar.{Grammar, done}
 use Rattle.grammar_reading.specs.BitsRead.{PlacedRefusal}
 use Rattle.video_headers.specs.declared.fault.HeadFault.{HeadFault}
 use Rattle.video_headers.specs.declared.fault.HeadFault.TheVariants.{Outside}
@@ -37,3 +37,7 @@ pub record Answers {A V : Type 0} {S : Type 0} {g : Ghosts S} (grammar : Grammar
 -- the answer of a reader of bits alone
 abbrev pub AnswersBits : {A : Type 0} {S : Type 0} {g : Ghosts S} → Grammar A → Result A HeadFault → BitReader S g → BitReader S g → Type 0
 AnswersBits grammar result old new = Answers grammar (λ v. v) result (Rests old) (λ v. Rests new) old new
+
+-- the answer of a reader that the grammar knows nothing of
+abbrev pub AnswersLook : {V : Type 0} {S : Type 0} {g : Ghosts S} → Result V HeadFault → (ℕ → List ℕ → Type 0) → (V → ℕ → List ℕ → Type 0) → BitReader S g → BitReader S g → Type 0
+AnswersLook result from to old new = Answers {A = Unit {0}} (done tt) (λ v. tt) result from to old new
