@@ -1,7 +1,9 @@
-pub mod Extensions
+pub mod BehindIdentifiers
 pub mod Extra
 pub mod Flags
+pub mod Heads
 pub mod Identifiers
+pub mod Items
 pub mod Limited
 pub mod Looks
 pub mod NextCodes

@@ -80,6 +80,16 @@ pub answers-from : {A W : Type 0} {grammar : Grammar A} {value : W → A} {resul
     → ((end : ℕ) (bits : List ℕ) → from end bits → middle end bits) → Answers grammar value result middle last old new → Answers grammar value result from last old new
 answers-from {grammar = grammar} {value = value} {result = result} {last = last} on a = record { gives = gives-looked grammar value result last on a.gives; runs = a.runs; failed = a.failed; missing = a.missing }
 
+-- and to more
+pub answers-to : {A W : Type 0} {grammar : Grammar A} {value : W → A} {S : Type 0} {g : Ghosts S} {from : ℕ → List ℕ → Type 0} {to last : W → ℕ → List ℕ → Type 0} {old new : BitReader S g} (w : W)
+    → Answers grammar value (Ok w) from to old new → ((end : ℕ) (bits : List ℕ) → to w end bits → last w end bits) → Answers grammar value (Ok w) from last old new
+answers-to w a more = record {
+  gives = record { on = λ end bits left. let (rest, s, there) = a.gives.on end bits left in (rest, s, more end rest there) };
+  runs = a.runs;
+  failed = λ is. cc;
+  missing = λ is. cc;
+}
+
 module _ {S : Type 0} {g : Ghosts S} (keeps_on : (x y z : S) → g.keeps x y → g.keeps y z → g.keeps x z) {from : ℕ → List ℕ → Type 0} {old mid new : BitReader S g} where
   -- a reader behind a look
   pub after-look : {A V W : Type 0} {grammar : Grammar A} {v : V} {value : W → A} {result : Result W HeadFault} {to : V → ℕ → List ℕ → Type 0} {last : W → ℕ → List ℕ → Type 0}

@@ -64,13 +64,12 @@ kind_of Nothing why = End
 
 module _ (codes : ℕ → Bool) (zeros here bits behind : List ℕ) (spelled : (refusal : Refusal) → (several (zero_item refusal)).Spells zeros bits here) where
   pub code-spelled : (refusal : Refusal) (comes : Comes) → ComesHere comes here behind → is_one codes comes ≡ true → (start_code refusal codes).Spells (byte_of comes) bits behind
-  code-spelled refusal (Code byte) (fits, split) is =
-      (
-        (zeros, tt),
-        here,
-        several-end (zero_item refusal) zeros tt bits here here (spelled refusal) (inl (prefix-here byte here behind split, (refl, refl))),
-        (start_code_bits byte, (fits, refl), ap (λ (b : Bool). b && true) is, split),
-      )
+  code-spelled refusal (Code byte) (fits, split) is = (
+    (zeros, tt),
+    here,
+    several-end (zero_item refusal) zeros tt bits here here (spelled refusal) (inl (prefix-here byte here behind split, (refl, refl))),
+    (start_code_bits byte, (fits, refl), ap (λ (b : Bool). b && true) is, split),
+  )
   code-spelled refusal NoCode found is = cc
   code-spelled refusal Nothing found is = cc
 
@@ -91,22 +90,22 @@ module _ (codes : ℕ → Bool) (zeros here bits behind : List ℕ) (spelled : (
         let fails : nat_eq byte 0 ≡ false = elim (cases_Bool (nat_eq byte 0)) [ inl e ↦ absurd (some_bit (eqb-true byte 0 e)) | inr e ↦ e ] in
         let first : IsPrefix (bits_of 8 byte) here = subst (IsPrefix (bits_of 8 byte)) (sym split) (IsPrefix-append (bits_of 8 byte) _) in
         inl (several-refused (zero_item (refusal_of why)) zeros bits here here (refusal_of why) (spelled (refusal_of why))
-            (inr (none, inl (refl, inr (inl (breaks NumberCode (free-number 8) byte (bits_of 8 byte) (fits, refl) here first [] [] (rule (refusal_of why) (λ b. nat_eq b 0)) refl fails))))))
+        (inr (none, inl (refl, inr (inl (breaks NumberCode (free-number 8) byte (bits_of 8 byte) (fits, refl) here first [] [] (rule (refusal_of why) (λ b. nat_eq b 0)) refl fails))))))
     code-refused why Nothing (inl empty) not =
         let none : IsPrefix start_code_prefix here → ⊥ = λ first. not-empty (subst (IsPrefix start_code_prefix) empty first) in
         let short : length here ≡ 0 = ap length empty in
         inl (several-refused (zero_item (refusal_of why)) zeros bits here here End (spelled (refusal_of why))
-            (inr (
-              none,
-              inl (
-                refl,
-                inr (inr (
-                  record { value = 0; code = bits_of 8 0; coded = (omega arith, refl); passing = refl; agrees = inr (subst (λ (b : List ℕ). IsPrefix b (bits_of 8 0)) (sym empty) refl) },
-                  λ stands. omega (arith, short, front-short stands.code here stands.first, ap length stands.coded.1, length-bits_of 8 stands.value),
-                  refl,
-                )),
-              ),
-            )))
+        (inr (
+          none,
+          inl (
+            refl,
+            inr (inr (
+              record { value = 0; code = bits_of 8 0; coded = (omega arith, refl); passing = refl; agrees = inr (subst (λ (b : List ℕ). IsPrefix b (bits_of 8 0)) (sym empty) refl) },
+              λ stands. omega (arith, short, front-short stands.code here stands.first, ap length stands.coded.1, length-bits_of 8 stands.value),
+              refl,
+            )),
+          ),
+        )))
     code-refused why Nothing (inr prefix) not =
         let short : length here ≡ 24 = ap length prefix ∙ length-bits_of 24 1 in
         inr (

@@ -1,3 +1,5 @@
+pub mod BehindHead
+pub mod Extensions
 pub mod Information
 pub mod Limits
 pub mod NextCode

@@ -1,5 +1,5 @@
 //! Start codes, and the zero bytes before them (5.2.3, 6.2.1).
-ghost use Rattle.std.specs.Prelude.{◌≡◌, ◌≤◌, ◌==◌, ◌||◌, false, true, IfOk};
+ghost use Rattle.std.specs.Prelude.{◌≡◌, ◌≤◌, ◌<◌, ◌==◌, ℕ, Bool, false, true, IfOk};
 ghost use Rattle.bit_cursor.specs.BitReader.{place, bits_held};
 ghost use Rattle.picture_grammar.specs.StartCode.{is_slice};
 ghost use Rattle.video_headers.specs.declared.stands.Stands.TheVariants.{Prefix};
@@ -84,7 +84,8 @@ impl NextCode {
 
 /// What comes next, behind zero bytes. They and a start code are taken.
 pub fn read_next_code<S: Source>(reader: &mut BitReader<'_, S>) -> Result<NextCode, HeadFault>
-    ensures { AnswersLook result (Wholes reader.old) (λ next. NextRests next reader.new) reader.old reader.new }
+    ensures answers { AnswersLook result (Wholes reader.old) (λ next. NextRests next reader.new) reader.old reader.new }
+    ensures moved { IfOk result (λ next. (codes : ℕ → Bool) → is_one codes next.comes ≡ true → place reader.old < place reader.new) }
 {
     let from = reader.place();
     let stands = skip_zero_bytes(reader)?;
@@ -109,13 +110,11 @@ fn skip_zero_bytes<S: Source>(reader: &mut BitReader<'_, S>) -> Result<Stands, H
 }
 
 /// The start code whose prefix stands next, which is taken, or why there is none.
-fn take_code<S: Source>(
-    reader: &mut BitReader<'_, S>,
-    stands: Stands,
-) -> Result<Comes, HeadFault>
+fn take_code<S: Source>(reader: &mut BitReader<'_, S>, stands: Stands) -> Result<Comes, HeadFault>
     requires held { known_for stands ≤ bits_held reader.old }
     requires no_zero { is_zero stands ≡ false }
-    ensures { AnswersLook result (StandsNext stands reader.old) (λ comes. ComesNext comes (place reader.old) reader.new) reader.old reader.new }
+    ensures answers { AnswersLook result (StandsNext stands reader.old) (λ comes. ComesNext comes (place reader.old) reader.new) reader.old reader.new }
+    ensures moved { IfOk result (λ comes. (codes : ℕ → Bool) → is_one codes comes ≡ true → place reader.old < place reader.new) }
 {
     match stands {
         Stands::Prefix => take_prefix_and_byte(reader),
@@ -128,7 +127,8 @@ fn take_code<S: Source>(
 /// The start code, by its last byte.
 fn take_prefix_and_byte<S: Source>(reader: &mut BitReader<'_, S>) -> Result<Comes, HeadFault>
     requires { 24 ≤ bits_held reader.old }
-    ensures { AnswersLook result (StandsNext Prefix reader.old) (λ comes. ComesNext comes (place reader.old) reader.new) reader.old reader.new }
+    ensures answers { AnswersLook result (StandsNext Prefix reader.old) (λ comes. ComesNext comes (place reader.old) reader.new) reader.old reader.new }
+    ensures moved { IfOk result (λ _. place reader.old < place reader.new) }
 {
     pass(reader, PREFIX_BITS);
     let byte = next_byte(reader)?;

@@ -17,10 +17,7 @@ use picture_grammar::start_codes::QUANT_MATRIX;
 use shelf_io::Source;
 
 /// The identifier of an extension behind this header.
-fn read_identifier<S: Source>(
-    reader: &mut BitReader<'_, S>,
-    part: Part,
-) -> Result<u32, HeadFault>
+fn read_identifier<S: Source>(reader: &mut BitReader<'_, S>, part: Part) -> Result<u32, HeadFault>
     requires { has_extensions part ≡ true }
     ensures { Answers (identifier (identifiers_of part)) (λ v. v) result (Wholes reader.old) (λ _. Rests reader.new) reader.old reader.new }
 {
@@ -44,12 +41,7 @@ fn checked(number: Option<u32>, part: Part, at: u64) -> Result<u32, HeadFault>
 }
 
 /// An identifier that isn't of another profile and is allowed, or its refusal.
-fn checked_number(
-    scalable: bool,
-    allowed: bool,
-    number: u32,
-    at: u64,
-) -> Result<u32, HeadFault>
+fn checked_number(scalable: bool, allowed: bool, number: u32, at: u64) -> Result<u32, HeadFault>
     ensures { result ≡ checked_number scalable allowed number at }
 {
     if scalable {

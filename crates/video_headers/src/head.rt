@@ -4,13 +4,18 @@ ghost use Rattle.std.specs.Option.{option_copied};
 ghost use Rattle.shelf_io.specs.Counts.{Rose};
 ghost use Rattle.bit_cursor.specs.BitReader.{bits_left, place, faults_of, absences_of};
 ghost use Rattle.picture_grammar.specs.Head.{head};
-ghost use Rattle.picture_grammar.specs.StartCode.{is_slice};
 ghost use Rattle.grammar_reading.specs.BitsRead.{Explains};
 ghost use Rattle.video_headers.specs.HeadFault.{refusal_told};
 ghost use Rattle.video_headers.specs.HeadRead.{HeadRead};
 ghost use Rattle.video_headers.specs.Runs.{Runs};
+ghost use Rattle.video_headers.specs.Private.BehindHead.{BehindHead};
+ghost use Rattle.video_headers.specs.Private.Reading.{Answers};
+ghost use Rattle.video_headers.specs.Private.Wholes.{Wholes};
 
+use crate::code::read_next_code;
 use crate::fault::HeadFault;
+use crate::parts::{read_group_part, read_picture_part, read_sequence_part};
+use crate::why::Why;
 use bit_cursor::BitReader;
 use shelf_io::{Fault, Source};
 use syntax_types::{PicCoding, SeqState};
@@ -48,5 +53,33 @@ pub fn read_head<S: Source>(
     ensures failed { IsErrOf result (HeadFault.Outside Fault.Failed) → Rose (faults_of reader.old) (faults_of reader.new) }
     ensures missing { IsErrOf result (HeadFault.Outside Fault.Missing) → Rose (absences_of reader.old) (absences_of reader.new) }
 {
-    Err(HeadFault::End { at: 0 })
+    read_whole_head(reader, before)
+}
+
+/// The same of a reader at a whole byte.
+fn read_whole_head<S: Source>(
+    reader: &mut BitReader<'_, S>,
+    before: Option<&SeqState>,
+) -> Result<HeadEnd, HeadFault>
+    ensures { Answers (head (option_copied before.entry)) (λ found. (found.headers.seq, found.headers.coding)) result (Wholes reader.old) (λ found. BehindHead found reader.new) reader.old reader.new }
+{
+    let first = read_next_code(reader)?;
+    let sequence = read_sequence_part(reader, before, first)?;
+    let group = read_group_part(reader, sequence.seq, sequence.next)?;
+    let picture = read_picture_part(reader, sequence.seq, group)?;
+    let slice = picture.next;
+    let has_slice = slice.is_slice();
+    if !has_slice {
+        let no_slice = slice.refusal(Why::BadHeader);
+        return Err(no_slice);
+    }
+    let first_slice = slice.byte();
+    Ok(HeadEnd {
+        headers: Headers {
+            seq: picture.seq,
+            coding: picture.coding,
+            slices_at: slice.from / 8,
+        },
+        first_slice,
+    })
 }

@@ -8,6 +8,7 @@
 
 mod code;
 mod extension;
+mod extensions;
 mod fault;
 mod fields;
 mod group;
@@ -15,6 +16,7 @@ mod head;
 mod limit;
 mod matrix;
 mod part;
+mod parts;
 mod picture;
 mod repeated;
 mod sequence;
@@ -26,5 +28,7 @@ mod zeros;
 pub use fault::HeadFault;
 pub use head::{HeadEnd, Headers, read_head};
 
+#[cfg(test)]
+mod head_tests;
 #[cfg(test)]
 mod tests;

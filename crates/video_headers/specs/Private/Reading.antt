@@ -41,3 +41,7 @@ AnswersBits grammar result old new = Answers grammar (λ v. v) result (Rests old
 -- the answer of a reader that the grammar knows nothing of
 abbrev pub AnswersLook : {V : Type 0} {S : Type 0} {g : Ghosts S} → Result V HeadFault → (ℕ → List ℕ → Type 0) → (V → ℕ → List ℕ → Type 0) → BitReader S g → BitReader S g → Type 0
 AnswersLook result from to old new = Answers {A = Unit {0}} (done tt) (λ v. tt) result from to old new
+
+-- the answer of a reader whose value the grammar doesn't have
+abbrev pub AnswersUnit : {V : Type 0} {S : Type 0} {g : Ghosts S} → Grammar (Unit {0}) → Result V HeadFault → (ℕ → List ℕ → Type 0) → (V → ℕ → List ℕ → Type 0) → BitReader S g → BitReader S g → Type 0
+AnswersUnit grammar result from to old new = Answers {A = Unit {0}} grammar (λ v. tt) result from to old new

@@ -1,5 +1,5 @@
 use Rattle.std.proofs.Common.{refl, sym, ◌∙◌}
-use Rattle.video_headers.proofs.Extensions.{matrix-refused, zeros-refused, unread-refused, unread-read, matrix-read}
+use Rattle.video_headers.proofs.BehindIdentifiers.{matrix-refused, zeros-refused, unread-refused, unread-read, matrix-read}
 use Rattle.video_headers.proofs.Reading.{answers-bind, answers-exit}
 use Rattle.video_headers.proofs.extension.read_extension.Goals as goal
 
@@ -18,8 +18,8 @@ returns-in_err-_zeros-clause-answers g c =
     answers-bind on _ c.in_ok-number.ensures
     (zeros-refused on g.met.S.Source.keeps_itself _ (sym c.is_quant_matrix.ensures ∙ c.if-is_quant_matrix.true) c.from_residual-in_err-_zeros.result c.from_residual-in_err-_zeros.ensures.1 c.in_ok-loaded.ensures.answers c.in_err-_zeros.ensures)
 
-pub returns-in_ok-_zeros-clause-answers : goal.returns-in_ok-_zeros-clause-answers
-returns-in_ok-_zeros-clause-answers g c =
+pub returns-then-is_quant_matrix-clause-answers : goal.returns-then-is_quant_matrix-clause-answers
+returns-then-is_quant_matrix-clause-answers g c =
     let on = g.met.S.Source.keeps_on in
     answers-bind on _ c.in_ok-number.ensures
     (matrix-read on g.met.S.Source.keeps_itself _ (sym c.is_quant_matrix.ensures ∙ c.if-is_quant_matrix.true) c.in_ok-loaded.loaded c.in_ok-loaded.ensures.answers c.in_ok-_zeros.ensures)
