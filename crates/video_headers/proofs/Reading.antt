@@ -15,7 +15,8 @@ use Rattle.grammar_reading.specs.BitsRead.{PlacedRefusal}
 use Rattle.video_headers.specs.declared.fault.HeadFault.{HeadFault}
 use Rattle.video_headers.specs.declared.fault.HeadFault.TheVariants.{Outside}
 use Rattle.video_headers.specs.HeadFault.{refusal_told}
-use Rattle.video_headers.specs.Private.Reading.{Goes, Stops, Runs, Answers}
+use Rattle.video_headers.specs.Runs.{Runs}
+use Rattle.video_headers.specs.Private.Reading.{Goes, Stops, Answers}
 
 pub goes-done : {A : Type 0} (value : A) (from : ℕ → List ℕ → Type 0) → Goes (done value) value from from
 goes-done value from = record { on = λ end bits left. (bits, (refl, refl), left) }
@@ -70,7 +71,7 @@ taken-twice : (told middle after : Option (List ℕ)) (m n : ℕ) → middle ≡
 taken-twice None middle after m n e f = f ∙ ap (λ t. without_front t n) e
 taken-twice (Some bytes) middle after m n e f = f ∙ ap (λ t. without_front t n) e ∙ ap Some (drop-drop n m bytes)
 
-rose_later : (a b c : ℕ) → a ≤ b → b ≤ c → Rose b c → Rose a c
+pub rose_later : (a b c : ℕ) → a ≤ b → b ≤ c → Rose b c → Rose a c
 rose_later a b c first then rose small = elim (cases_lt b (2 ^ 64 - 1)) [
   | inl below ↦ let more : b < c = rose below in omega arith
   | inr full ↦ omega arith

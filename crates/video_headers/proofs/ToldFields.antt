@@ -25,7 +25,7 @@ use Rattle.video_headers.proofs.Limited.{NumberCode, Agrees, AreLeft, left-shown
 
 -- ---- from told bits
 
-told-of : (A : List ℕ → Type 0) (told : Option (List ℕ)) (bits : List ℕ) → told ≡ Some bits → IfSome told A → A bits
+pub told-of : (A : List ℕ → Type 0) (told : Option (List ℕ)) (bits : List ℕ) → told ≡ Some bits → IfSome told A → A bits
 told-of A told bits e is = subst (λ (t : Option (List ℕ)). IfSome t A) e is
 
 pub stops-explained : {A : Type 0} (grammar : Grammar A) (told : Option PlacedRefusal) {S : Type 0} {g : Ghosts S} (reader : BitReader S g)

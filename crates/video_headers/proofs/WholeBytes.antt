@@ -9,12 +9,14 @@ use Rattle.bit_lists.proofs.ByteLemmas.{length-bit_list}
 use Rattle.bit_cursor.specs.declared.bit_reader.BitReader.{BitReader}
 use Rattle.bit_cursor.specs.BitReader.{source_of, held_bits, place}
 use Rattle.picture_grammar.specs.Refusal.Refusal.{BadHeader}
-use Rattle.picture_grammar.specs.Element.{uimsbf, rule}
+use Rattle.picture_grammar.specs.Grammar.{at_bits}
+use Rattle.picture_grammar.specs.Element.{Rule, uimsbf, rule}
 use Rattle.picture_grammar.specs.StartCode.{zero_bits}
 use Rattle.grammar_reading.specs.BitsRead.{PlacedRefusal}
 use Rattle.video_headers.specs.declared.fault.HeadFault.{HeadFault}
 use Rattle.video_headers.specs.HeadFault.{refusal_told}
 use Rattle.video_headers.specs.Private.Reading.{Rests, Goes, Stops, Answers}
+use Rattle.video_headers.specs.Private.Unread.{bits_to_byte}
 use Rattle.video_headers.specs.Private.Wholes.{Wholes}
 
 -- a source gives whole bytes
@@ -28,32 +30,36 @@ whole-end {S} {g} reader end bits left = by_bytes (g.left (source_of reader).now
       let held = reader.held_taken in
       omega (arith, left.ends, held, ap length split, length-append (held_bits reader) (bit_list bytes), length-bits_of reader.held reader.word, length-bit_list bytes)
 
-module _ {S : Type 0} {g : Ghosts S} (old new : BitReader S g) (n : ℕ) (count : n ≡ (8 - place old % 8) % 8) where
+module _ (rules : List (Rule ℕ)) {S : Type 0} {g : Ghosts S} (old new : BitReader S g) (n : ℕ) (count : n ≡ (8 - place old % 8) % 8) where
   past_bytes : (end : ℕ) (bits : List ℕ) → Rests old end bits → n ≡ length bits % 8
   past_bytes end bits left = omega (arith, count, left.ends, whole-end old end bits left)
 
-  told_zeros : (told : Option PlacedRefusal) (end : ℕ) (bits : List ℕ) → n ≡ length bits % 8
-      → IfSome told (λ said. (left : List ℕ) × (uimsbf n (rule BadHeader (λ number. number == 0) ∷ [])).Refuses bits said.refusal left
-      × (said.at + length left ≡ end))
-      → IfSome told (λ said. (left : List ℕ) × (zero_bits BadHeader).Refuses bits said.refusal left × (said.at + length left ≡ end))
-  told_zeros None end bits e why = tt
-  told_zeros (Some said) end bits e (left, r, ends) = (left, subst (λ (k : ℕ). (uimsbf k (rule BadHeader (λ number. number == 0) ∷ [])).Refuses bits said.refusal left) e r, ends)
+  told_past : (told : Option PlacedRefusal) (end : ℕ) (bits : List ℕ) → n ≡ length bits % 8 → IfSome told (λ said. (left : List ℕ) × (uimsbf n rules).Refuses bits said.refusal left × (said.at + length left ≡ end))
+      → IfSome told (λ said. (left : List ℕ) × (at_bits (λ bits. uimsbf (length bits % 8) rules)).Refuses bits said.refusal left × (said.at + length left ≡ end))
+  told_past None end bits e why = tt
+  told_past (Some said) end bits e (left, r, ends) = (left, subst (λ (k : ℕ). (uimsbf k rules).Refuses bits said.refusal left) e r, ends)
 
-  gives-zeros : (result : Result ℕ HeadFault) → MatchResult result
-      (λ v. Goes (uimsbf n (rule BadHeader (λ number. number == 0) ∷ [])) v (Rests old) (Rests new))
-      (λ fault. Stops (uimsbf n (rule BadHeader (λ number. number == 0) ∷ [])) (refusal_told fault) (Rests old))
-      → MatchResult result (λ v. Goes (zero_bits BadHeader) v (Rests old) (Wholes new)) (λ fault. Stops (zero_bits BadHeader) (refusal_told fault) (Rests old))
-  gives-zeros (Ok v) goes = record {
+  gives-past : (result : Result ℕ HeadFault) → MatchResult result (λ v. Goes (uimsbf n rules) v (Rests old) (Rests new)) (λ fault. Stops (uimsbf n rules) (refusal_told fault) (Rests old))
+      → MatchResult result (λ v. Goes (at_bits (λ bits. uimsbf (length bits % 8) rules)) v (Rests old) (Wholes new)) (λ fault. Stops (at_bits (λ bits. uimsbf (length bits % 8) rules)) (refusal_told fault) (Rests old))
+  gives-past (Ok v) goes = record {
     on = λ end bits left.
         let e = past_bytes end bits left in
         let (rest, (code, (fits, is), passing, split), left') = goes.on end bits left in (
           rest,
-          subst (λ (k : ℕ). (uimsbf k (rule BadHeader (λ number. number == 0) ∷ [])).Spells v bits rest) e (code, (fits, is), passing, split),
+          subst (λ (k : ℕ). (uimsbf k rules).Spells v bits rest) e (code, (fits, is), passing, split),
           record { rests = left'; whole = omega (arith, e, ap length split, length-append code rest, ap length is, length-bits_of n v); ends = whole-end old end bits left },
         );
   }
-  gives-zeros (Err fault) stops = record { why = λ end bits left. told_zeros (refusal_told fault) end bits (past_bytes end bits left) (stops.why end bits left) }
+  gives-past (Err fault) stops = record { why = λ end bits left. told_past (refusal_told fault) end bits (past_bytes end bits left) (stops.why end bits left) }
 
+  answers-past : {result : Result ℕ HeadFault} → Answers (uimsbf n rules) (λ v. v) result (Rests old) (λ v. Rests new) old new
+      → Answers (at_bits (λ bits. uimsbf (length bits % 8) rules)) (λ v. v) result (Rests old) (λ v. Wholes new) old new
+  answers-past {result} a = record { gives = gives-past result a.gives; runs = a.runs; failed = a.failed; missing = a.missing }
+
+module _ {S : Type 0} {g : Ghosts S} (old new : BitReader S g) (n : ℕ) (count : n ≡ (8 - place old % 8) % 8) where
   pub answers-zeros : {result : Result ℕ HeadFault} → Answers (uimsbf n (rule BadHeader (λ number. number == 0) ∷ [])) (λ v. v) result (Rests old) (λ v. Rests new) old new
       → Answers (zero_bits BadHeader) (λ v. v) result (Rests old) (λ v. Wholes new) old new
-  answers-zeros {result} a = record { gives = gives-zeros result a.gives; runs = a.runs; failed = a.failed; missing = a.missing }
+  answers-zeros a = answers-past (rule BadHeader (λ number. number == 0) ∷ []) old new n count a
+
+  pub answers-to_byte : {result : Result ℕ HeadFault} → Answers (uimsbf n []) (λ v. v) result (Rests old) (λ v. Rests new) old new → Answers bits_to_byte (λ v. v) result (Rests old) (λ v. Wholes new) old new
+  answers-to_byte a = answers-past [] old new n count a

@@ -1,2 +1,4 @@
 pub mod HeadFault
+pub mod HeadRead
 pub mod Private
+pub mod Runs

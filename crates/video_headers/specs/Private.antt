@@ -1,5 +1,11 @@
+pub mod BehindHead
+pub mod Extensions
 pub mod Information
 pub mod Limits
+pub mod NextCode
+pub mod Part
 pub mod Reading
+pub mod Stands
+pub mod Unread
 pub mod Why
 pub mod Wholes

@@ -6,18 +6,29 @@
 //! `bit_cursor`, `grammar_reading`, `picture_grammar`, `quant_math` and `syntax_types`.
 #![tactic(auto)]
 
+mod code;
+mod extension;
+mod extensions;
 mod fault;
 mod fields;
 mod group;
+mod head;
 mod limit;
 mod matrix;
+mod part;
+mod parts;
 mod picture;
 mod repeated;
 mod sequence;
+mod stands;
+mod unread;
 mod why;
 mod zeros;
 
 pub use fault::HeadFault;
+pub use head::{HeadEnd, Headers, read_head};
 
+#[cfg(test)]
+mod head_tests;
 #[cfg(test)]
 mod tests;
