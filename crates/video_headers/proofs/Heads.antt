@@ -27,7 +27,8 @@ use Rattle.video_headers.proofs.Reading.{runs-none}
 use Rattle.video_headers.proofs.WholeBytes.{whole-end}
 
 module _ (next : NextCode) {S : Type 0} {g : Ghosts S} (reader : BitReader S g) (itself : (x : S) → g.keeps x x) where
-  pub slice-ahead : is_one is_slice next.comes ≡ true → Answers (ahead (start_code BadHeader is_slice)) (λ (b : ℕ). b) (Ok (byte_of next.comes)) (NextRests next reader) (λ b. NextRests next reader) reader reader
+  pub slice-ahead : is_one is_slice next.comes ≡ true → Answers (ahead (start_code BadHeader is_slice)) (λ (b : ℕ). b) (Ok (byte_of next.comes))
+      (NextRests next reader) (λ b. NextRests next reader) reader reader
   slice-ahead is = record {
     gives = record {
       on = λ end bits n. (bits, (refl, n.coming.behind, code-spelled is_slice n.zeros n.here bits n.coming.behind n.spelled BadHeader next.comes n.coming.found is), n);
@@ -47,7 +48,8 @@ module _ (next : NextCode) {S : Type 0} {g : Ghosts S} (reader : BitReader S g) 
       → BehindHead (record { headers = record { seq = seq; coding = coding; slices_at = next.from / 8 }; first_slice = slice }) reader end bits
   behind-head is seq coding slice e end bits n = record {
     behind = n.coming.behind;
-    slice = subst (λ (b : ℕ). (start_code BadHeader is_slice).Spells b bits n.coming.behind) (sym e) (code-spelled is_slice n.zeros n.here bits n.coming.behind n.spelled BadHeader next.comes n.coming.found is);
+    slice = subst (λ (b : ℕ). (start_code BadHeader is_slice).Spells b bits n.coming.behind) (sym e)
+        (code-spelled is_slice n.zeros n.here bits n.coming.behind n.spelled BadHeader next.comes n.coming.found is);
     left = n.coming.left;
     size = omega (arith, n.total, n.whole, n.coming.left.ends);
   }
@@ -61,7 +63,8 @@ module _ (before : Option SeqState) {S : Type 0} {g : Ghosts S} (old new : BitRe
       let whole = whole-end old (length bits) bits rests in
       record { rests = rests; whole = whole; ends = whole }
 
-  pub head-read : (result : Result HeadEnd HeadFault) → Answers (head before) (λ (found : HeadEnd). (found.headers.seq, found.headers.coding)) result (Wholes old) (λ found. BehindHead found new) old new
+  pub head-read : (result : Result HeadEnd HeadFault) → Answers (head before) (λ (found : HeadEnd). (found.headers.seq, found.headers.coding)) result
+      (Wholes old) (λ found. BehindHead found new) old new
       → IfOk result (λ found. IfSome (bits_left old) (λ bits. HeadRead before found bits new))
   head-read (Err fault) a = tt
   head-read (Ok found) a = by_told (bits_left old) refl where
@@ -71,11 +74,14 @@ module _ (before : Option SeqState) {S : Type 0} {g : Ghosts S} (old new : BitRe
         let (rest, spelled, there) = a.gives.on (length bits) bits (wholes-first bits is) in
         record { rest = rest; behind = there.behind; spelled = spelled; size = there.size; slice = there.slice; left = there.left.rests.told; moved = there.left.rests.ends }
 
-  pub head-refused : (result : Result HeadEnd HeadFault) → Answers (head before) (λ (found : HeadEnd). (found.headers.seq, found.headers.coding)) result (Wholes old) (λ found. BehindHead found new) old new
+  pub head-refused : (result : Result HeadEnd HeadFault) → Answers (head before)
+      (λ (found : HeadEnd). (found.headers.seq, found.headers.coding)) result (Wholes old) (λ found. BehindHead found new) old new
       → IfErr result (λ fault. Explains (head before) old (refusal_told fault))
   head-refused (Ok found) a = tt
   head-refused (Err fault) a = by_told (bits_left old) refl where
-    by_fault : (told : Option PlacedRefusal) (bits : List ℕ) → IfSome told (λ said. (left : List ℕ) × (head before).Refuses bits said.refusal left × (said.at + length left ≡ length bits)) → ExplainsFrom (head before) told bits (place old)
+    by_fault : (told : Option PlacedRefusal) (bits : List ℕ)
+        → IfSome told (λ said. (left : List ℕ) × (head before).Refuses bits said.refusal left × (said.at + length left ≡ length bits))
+        → ExplainsFrom (head before) told bits (place old)
     by_fault None bits why = tt
     by_fault (Some said) bits (left, r, e) =
         let (front, split) = (exact-head before).refused_front bits left said.refusal r in

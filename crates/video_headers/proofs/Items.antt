@@ -52,7 +52,8 @@ second-of : (a b : Bool) → (a || b) ≡ true → a ≡ false → b ≡ true
 second-of true b is not = cc
 second-of false b is not = is
 
-user_data-byte : (part : Part) (comes : Comes) → is_one (codes_of part) comes ≡ true → is_one (λ byte. nat_eq byte EXTENSION) comes ≡ false → (nat_eq (byte_of comes) EXTENSION ≡ false) × (nat_eq (byte_of comes) USER_DATA ≡ true)
+user_data-byte : (part : Part) (comes : Comes) → is_one (codes_of part) comes ≡ true → is_one (λ byte. nat_eq byte EXTENSION) comes ≡ false
+    → (nat_eq (byte_of comes) EXTENSION ≡ false) × (nat_eq (byte_of comes) USER_DATA ≡ true)
 user_data-byte Sequence (Code byte) may not = (not, second-of (nat_eq byte EXTENSION) (nat_eq byte USER_DATA) may not)
 user_data-byte Group (Code byte) may not = (not, may)
 user_data-byte Picture (Code byte) may not = (not, second-of (nat_eq byte EXTENSION) (nat_eq byte USER_DATA) may not)
@@ -65,22 +66,28 @@ abbrev behind_code : (ℕ → Bool) → Bool → Bool → Grammar (Next Loaded (
 behind_code identifiers is_extension is_user_data =
     when is_extension (extension identifiers) no_matrix >>= λ loaded. optional is_user_data unread >>= λ bytes. done (more loaded)
 
-module _ (part : Part) (next : NextCode) (may : is_one (codes_of part) next.comes ≡ true) {S : Type 0} {g : Ghosts S} (keeps_on : (x y z : S) → g.keeps x y → g.keeps y z → g.keeps x z) (itself : (x : S) → g.keeps x x) {V : Type 0} {make : V → Loaded} {old new : BitReader S g} where
-  item-from : {result : Result V HeadFault} → Answers (behind_code (identifiers_of part) (nat_eq (byte_of next.comes) EXTENSION) (nat_eq (byte_of next.comes) USER_DATA)) (λ (v : V). more (make v)) result (Wholes old) (λ v. Wholes new) old new
+module _ (part : Part) (next : NextCode) (may : is_one (codes_of part) next.comes ≡ true) {S : Type 0} {g : Ghosts S}
+    (keeps_on : (x y z : S) → g.keeps x y → g.keeps y z → g.keeps x z) (itself : (x : S) → g.keeps x x) {V : Type 0} {make : V → Loaded}
+    {old new : BitReader S g} where
+  item-from : {result : Result V HeadFault} → Answers (behind_code (identifiers_of part) (nat_eq (byte_of next.comes) EXTENSION)
+      (nat_eq (byte_of next.comes) USER_DATA)) (λ (v : V). more (make v)) result (Wholes old) (λ v. Wholes new) old new
       → Answers (item part []) (λ (v : V). more (make v)) result (NextRests next old) (λ v. Wholes new) old new
   item-from a = answers-such (code-comes (codes_of part) next old itself may) (answers-bind keeps_on _ (code-expected (codes_of part) next old itself why.BadHeader may) a)
 
-  flags-are : (e u e' u' : Bool) → e ≡ e' → u ≡ u' → {result : Result V HeadFault} → Answers (behind_code (identifiers_of part) e' u') (λ (v : V). more (make v)) result (Wholes old) (λ v. Wholes new) old new
+  flags-are : (e u e' u' : Bool) → e ≡ e' → u ≡ u' → {result : Result V HeadFault}
+      → Answers (behind_code (identifiers_of part) e' u') (λ (v : V). more (make v)) result (Wholes old) (λ v. Wholes new) old new
       → Answers (behind_code (identifiers_of part) e u) (λ (v : V). more (make v)) result (Wholes old) (λ v. Wholes new) old new
   flags-are e u e' u' is is' {result} a =
       subst (λ (x : Bool). Answers (behind_code (identifiers_of part) x u) (λ (v : V). more (make v)) result (Wholes old) (λ v. Wholes new) old new) (sym is)
       (subst (λ (x : Bool). Answers (behind_code (identifiers_of part) e' x) (λ (v : V). more (make v)) result (Wholes old) (λ v. Wholes new) old new) (sym is') a)
 
   module _ (is : is_one (λ byte. nat_eq byte EXTENSION) next.comes ≡ true) where
-    pub item-extension : (v : V) → Answers (extension (identifiers_of part)) make (Ok v) (Wholes old) (λ v. Wholes new) old new → Answers (item part []) (λ (v : V). more (make v)) (Ok v) (NextRests next old) (λ v. Wholes new) old new
+    pub item-extension : (v : V) → Answers (extension (identifiers_of part)) make (Ok v) (Wholes old) (λ v. Wholes new) old new
+        → Answers (item part []) (λ (v : V). more (make v)) (Ok v) (NextRests next old) (λ v. Wholes new) old new
     item-extension v a =
         item-from (flags-are _ _ true false (extension-byte next.comes is) (no-user_data (byte_of next.comes) (extension-byte next.comes is))
-        (answers-bind keeps_on _ a (answers-bind keeps_on _ (answers-done None {value = λ (x : Unit {0}). None} tt new itself refl) (answers-done (more (make v)) {value = λ (v : V). more (make v)} v new itself refl))))
+        (answers-bind keeps_on _ a (answers-bind keeps_on _ (answers-done None {value = λ (x : Unit {0}). None} tt new itself refl)
+        (answers-done (more (make v)) {value = λ (v : V). more (make v)} v new itself refl))))
 
     pub item-no_extension : {e : HeadFault} (result : Result V HeadFault) → IsErrAnd result (λ f. f ≡ e) → Answers (extension (identifiers_of part)) make (Err e) (Wholes old) (λ v. Wholes new) old new
         → Answers (item part []) (λ (v : V). more (make v)) result (NextRests next old) (λ v. Wholes new) old new
@@ -88,7 +95,8 @@ module _ (part : Part) (next : NextCode) (may : is_one (codes_of part) next.come
         item-from (flags-are _ _ true false (extension-byte next.comes is) (no-user_data (byte_of next.comes) (extension-byte next.comes is)) (answers-exit _ result bad a))
 
   module _ (not : is_one (λ byte. nat_eq byte EXTENSION) next.comes ≡ false) where
-    pub item-user_data : (v : V) → make v ≡ no_matrix → Answers unread_bytes (λ (x : Unit {0}). x) (Ok tt) (Rests old) (λ x. Wholes new) old new → Answers (item part []) (λ (v : V). more (make v)) (Ok v) (NextRests next old) (λ v. Wholes new) old new
+    pub item-user_data : (v : V) → make v ≡ no_matrix → Answers unread_bytes (λ (x : Unit {0}). x) (Ok tt) (Rests old) (λ x. Wholes new) old new
+        → Answers (item part []) (λ (v : V). more (make v)) (Ok v) (NextRests next old) (λ v. Wholes new) old new
     item-user_data v none a =
         let bytes = user_data-byte part next.comes may not in
         item-from (flags-are _ _ false true bytes.0 bytes.1
@@ -109,7 +117,9 @@ pub items-none : (part : Part) {S : Type 0} {g : Ghosts S} (reader : BitReader S
     → Answers (several (item part)) (λ (x : List Loaded). x) (Ok []) (Wholes reader) (λ x. Wholes reader) reader reader
 items-none part reader itself = record { gives = record { on = λ end bits left. (bits, refl, left) }; runs = runs-none reader itself; failed = λ is. cc; missing = λ is. cc }
 
-module _ (part : Part) (seq : SeqState) (loads : List Loaded) {S : Type 0} {g : Ghosts S} (keeps_on : (x y z : S) → g.keeps x y → g.keeps y z → g.keeps x z) (itself : (x : S) → g.keeps x x) {from : ℕ → List ℕ → Type 0} {old mid new : BitReader S g}
+module _ (part : Part) (seq : SeqState) (loads : List Loaded) {S : Type 0} {g : Ghosts S}
+    (keeps_on : (x y z : S) → g.keeps x y → g.keeps y z → g.keeps x z) (itself : (x : S) → g.keeps x x) {from : ℕ → List ℕ → Type 0}
+    {old mid new : BitReader S g}
     (so_far : Answers (several (item part)) (λ (x : List Loaded). x) (Ok loads) from (λ x. Wholes mid) old mid) where
   pub items-more : {third : BitReader S g} {V : Type 0} {make : V → Loaded} {next : NextCode} (v : V) → AnswersLook (Ok next) (Wholes mid) (λ n. NextRests n new) mid new
       → Answers (item part []) (λ (v : V). more (make v)) (Ok v) (NextRests next new) (λ v. Wholes third) new third
@@ -117,7 +127,8 @@ module _ (part : Part) (seq : SeqState) (loads : List Loaded) {S : Type 0} {g : 
   items-more {make = make} v a b =
       joined keeps_on loads (more (make v)) (loads ++ make v ∷ []) (λ bits m rest s t. several-more (item part) loads (make v) bits m rest s t) so_far (after-look keeps_on a b) refl refl refl
 
-  pub items-refused : {third : BitReader S g} {V W : Type 0} {make : V → Loaded} {value : W → SeqState} {final : W → ℕ → List ℕ → Type 0} {next : NextCode} {e : HeadFault} (result : Result W HeadFault) → IsErrAnd result (λ f. f ≡ e)
+  pub items-refused : {third : BitReader S g} {V W : Type 0} {make : V → Loaded} {value : W → SeqState} {final : W → ℕ → List ℕ → Type 0}
+      {next : NextCode} {e : HeadFault} (result : Result W HeadFault) → IsErrAnd result (λ f. f ≡ e)
       → AnswersLook (Ok next) (Wholes mid) (λ n. NextRests n new) mid new → Answers (item part []) (λ (v : V). more (make v)) (Err e) (NextRests next new) (λ v. Wholes third) new third
       → Answers (items part seq) value result from final old third
   items-refused result is a b =
@@ -126,16 +137,20 @@ module _ (part : Part) (seq : SeqState) (loads : List Loaded) {S : Type 0} {g : 
   pub items-no_code : {W : Type 0} {value : W → SeqState} {final : W → ℕ → List ℕ → Type 0} {e : HeadFault} (result : Result W HeadFault) → IsErrAnd result (λ f. f ≡ e)
       → AnswersLook {V = NextCode} (Err e) (Wholes mid) (λ n. NextRests n new) mid new → Answers (items part seq) value result from final old new
   items-no_code {e = e} result is a =
-      joined_exit keeps_on loads result is (λ bits m left r s u. inl (several-refused (item part) loads bits m left r s u)) so_far (look-exit {grammar = item part []} {value = λ (x : Unit {0}). last x} (Err e) {last = λ x. Wholes new} refl a) refl
+      joined_exit keeps_on loads result is (λ bits m left r s u. inl (several-refused (item part) loads bits m left r s u)) so_far
+      (look-exit {grammar = item part []} {value = λ (x : Unit {0}). last x} (Err e) {last = λ x. Wholes new} refl a) refl
 
   item-last : {next : NextCode} → is_one (codes_of part) next.comes ≡ false → Answers (item part loads) (λ (x : Unit {0}). Next.last x) (Ok tt) (NextRests next new) (λ x. NextRests next new) new new
-  item-last {next} none = answers-other (none-comes (codes_of part) next new itself none) (answers-done (Next.last tt) {value = λ (x : Unit {0}). Next.last x} tt {from = NextRests next new} new itself refl)
+  item-last {next} none = answers-other (none-comes (codes_of part) next new itself none)
+      (answers-done (Next.last tt) {value = λ (x : Unit {0}). Next.last x} tt {from = NextRests next new} new itself refl)
 
-  pub items-ended : {W : Type 0} {value : W → SeqState} {next : NextCode} (w : W) (final : W → ℕ → List ℕ → Type 0) → value w ≡ fold with_loaded seq loads → ((end : ℕ) (bits : List ℕ) → NextRests next new end bits → final w end bits)
+  pub items-ended : {W : Type 0} {value : W → SeqState} {next : NextCode} (w : W) (final : W → ℕ → List ℕ → Type 0)
+      → value w ≡ fold with_loaded seq loads → ((end : ℕ) (bits : List ℕ) → NextRests next new end bits → final w end bits)
       → is_one (codes_of part) next.comes ≡ false → AnswersLook (Ok next) (Wholes mid) (λ n. NextRests n new) mid new → Answers (items part seq) value (Ok w) from final old new
   items-ended {value = value} {next = next} w final made there none a =
       answers-to w (joined keeps_on loads (Next.last tt) (fold with_loaded seq loads) (λ bits m rest s t. ((loads, tt), rest, several-end (item part) loads tt bits m rest s t, (refl, refl))) so_far
       (after-look keeps_on a (item-last none)) refl refl made) there
 
-pub fold-more : (seq state after : SeqState) (loads : List Loaded) (loaded : Loaded) → state ≡ fold with_loaded seq loads → after ≡ with_loaded state loaded → after ≡ fold with_loaded seq (loads ++ loaded ∷ [])
+pub fold-more : (seq state after : SeqState) (loads : List Loaded) (loaded : Loaded) → state ≡ fold with_loaded seq loads
+    → after ≡ with_loaded state loaded → after ≡ fold with_loaded seq (loads ++ loaded ∷ [])
 fold-more seq state after loads loaded is is' = is' ∙ ap (λ (s : SeqState). with_loaded s loaded) is ∙ sym (fold-append with_loaded seq loads (loaded ∷ []))

@@ -13,7 +13,8 @@ use Rattle.video_headers.specs.Private.Reading.{Goes, Stops, Answers, AnswersLoo
 use Rattle.video_headers.proofs.Reading.{runs-none, runs-then, rose_later}
 
 -- what a look says of the bits that may be left
-pub looked : {V : Type 0} {v : V} {S : Type 0} {g : Ghosts S} {from : ℕ → List ℕ → Type 0} {to : V → ℕ → List ℕ → Type 0} {old new : BitReader S g} → AnswersLook (Ok v) from to old new → (end : ℕ) (bits : List ℕ) → from end bits → to v end bits
+pub looked : {V : Type 0} {v : V} {S : Type 0} {g : Ghosts S} {from : ℕ → List ℕ → Type 0} {to : V → ℕ → List ℕ → Type 0} {old new : BitReader S g}
+    → AnswersLook (Ok v) from to old new → (end : ℕ) (bits : List ℕ) → from end bits → to v end bits
 looked {v = v} {to = to} a end bits left =
     let (rest, (e, same), there) = a.gives.on end bits left in
     subst (λ (b : List ℕ). to v end b) (sym same) there
@@ -24,7 +25,8 @@ look-told grammar None over s = record { why = λ end bits left. tt }
 look-told grammar (Some said) over s = record { why = λ end bits left. let (here, there) = over end bits left in let (rest, none, e) = s.why end here there in absurd none }
 
 -- what a look finds may be said of fewer bits, and by less
-pub look-made : {V W : Type 0} {v : V} (w : W) {S : Type 0} {g : Ghosts S} {from : ℕ → List ℕ → Type 0} {to : V → ℕ → List ℕ → Type 0} (found : W → ℕ → List ℕ → Type 0) {old new : BitReader S g} → AnswersLook (Ok v) from to old new
+pub look-made : {V W : Type 0} {v : V} (w : W) {S : Type 0} {g : Ghosts S} {from : ℕ → List ℕ → Type 0} {to : V → ℕ → List ℕ → Type 0}
+    (found : W → ℕ → List ℕ → Type 0) {old new : BitReader S g} → AnswersLook (Ok v) from to old new
     → ((end : ℕ) (bits : List ℕ) → from end bits → to v end bits → found w end bits) → AnswersLook (Ok w) from found old new
 look-made w found a less = record {
   gives = record { on = λ end bits left. (bits, (refl, refl), less end bits left (looked a end bits left)) };
@@ -33,8 +35,10 @@ look-made w found a less = record {
   missing = λ is. cc;
 }
 
-pub look-exit-over : {A V W : Type 0} {grammar : Grammar A} {e : HeadFault} {value : W → A} (result : Result W HeadFault) {S : Type 0} {g : Ghosts S} {from whole : ℕ → List ℕ → Type 0} {to : V → ℕ → List ℕ → Type 0} {last : W → ℕ → List ℕ → Type 0} {old new : BitReader S g}
-    → ((end : ℕ) (bits : List ℕ) → whole end bits → (here : List ℕ) × from end here) → IsErrAnd result (λ f. f ≡ e) → AnswersLook {V = V} (Err e) from to old new → Answers grammar value result whole last old new
+pub look-exit-over : {A V W : Type 0} {grammar : Grammar A} {e : HeadFault} {value : W → A} (result : Result W HeadFault) {S : Type 0} {g : Ghosts S}
+    {from whole : ℕ → List ℕ → Type 0} {to : V → ℕ → List ℕ → Type 0} {last : W → ℕ → List ℕ → Type 0} {old new : BitReader S g}
+    → ((end : ℕ) (bits : List ℕ) → whole end bits → (here : List ℕ) × from end here) → IsErrAnd result (λ f. f ≡ e)
+    → AnswersLook {V = V} (Err e) from to old new → Answers grammar value result whole last old new
 look-exit-over (Ok w) over is a = absurd is
 look-exit-over {grammar = grammar} {e = e} {value = value} (Err fault) {whole = whole} {last = last} {old = old} {new = new} over is a =
     subst (λ (f : HeadFault). Answers grammar value (Err f) whole last old new) (sym is) (record {
@@ -44,7 +48,8 @@ look-exit-over {grammar = grammar} {e = e} {value = value} (Err fault) {whole = 
       missing = λ is. a.missing (let e = is in cc);
     })
 
-pub look-exit : {A V W : Type 0} {grammar : Grammar A} {e : HeadFault} {value : W → A} (result : Result W HeadFault) {S : Type 0} {g : Ghosts S} {from : ℕ → List ℕ → Type 0} {to : V → ℕ → List ℕ → Type 0} {last : W → ℕ → List ℕ → Type 0} {old new : BitReader S g}
+pub look-exit : {A V W : Type 0} {grammar : Grammar A} {e : HeadFault} {value : W → A} (result : Result W HeadFault) {S : Type 0} {g : Ghosts S}
+    {from : ℕ → List ℕ → Type 0} {to : V → ℕ → List ℕ → Type 0} {last : W → ℕ → List ℕ → Type 0} {old new : BitReader S g}
     → IsErrAnd result (λ f. f ≡ e) → AnswersLook {V = V} (Err e) from to old new → Answers grammar value result from last old new
 look-exit result is a = look-exit-over result (λ end bits left. (bits, left)) is a
 
@@ -76,9 +81,11 @@ gives-looked grammar value (Ok w) last on g = record { on = λ end bits left. g.
 gives-looked grammar value (Err fault) last on g = record { why = λ end bits left. g.why end bits (on end bits left) }
 
 -- an answer from less
-pub answers-from : {A W : Type 0} {grammar : Grammar A} {value : W → A} {result : Result W HeadFault} {S : Type 0} {g : Ghosts S} {from middle : ℕ → List ℕ → Type 0} {last : W → ℕ → List ℕ → Type 0} {old new : BitReader S g}
+pub answers-from : {A W : Type 0} {grammar : Grammar A} {value : W → A} {result : Result W HeadFault} {S : Type 0} {g : Ghosts S}
+    {from middle : ℕ → List ℕ → Type 0} {last : W → ℕ → List ℕ → Type 0} {old new : BitReader S g}
     → ((end : ℕ) (bits : List ℕ) → from end bits → middle end bits) → Answers grammar value result middle last old new → Answers grammar value result from last old new
-answers-from {grammar = grammar} {value = value} {result = result} {last = last} on a = record { gives = gives-looked grammar value result last on a.gives; runs = a.runs; failed = a.failed; missing = a.missing }
+answers-from {grammar = grammar} {value = value} {result = result} {last = last} on a = record
+    { gives = gives-looked grammar value result last on a.gives; runs = a.runs; failed = a.failed; missing = a.missing }
 
 -- and to more
 pub answers-to : {A W : Type 0} {grammar : Grammar A} {value : W → A} {S : Type 0} {g : Ghosts S} {from : ℕ → List ℕ → Type 0} {to last : W → ℕ → List ℕ → Type 0} {old new : BitReader S g} (w : W)
@@ -113,7 +120,8 @@ module _ {S : Type 0} {g : Ghosts S} (keeps_on : (x y z : S) → g.keeps x y →
 
   -- a look that shows what is spelled
   pub look-goes : {A V W : Type 0} {grammar : Grammar A} {v : V} {value : W → A} (w : W) {to : V → ℕ → List ℕ → Type 0} {last : W → ℕ → List ℕ → Type 0}
-      → AnswersLook (Ok v) from to old mid → Runs mid new → ((end : ℕ) (bits : List ℕ) → to v end bits → (rest : List ℕ) × grammar.Spells (value w) bits rest × last w end rest) → Answers grammar value (Ok w) from last old new
+      → AnswersLook (Ok v) from to old mid → Runs mid new → ((end : ℕ) (bits : List ℕ) → to v end bits → (rest : List ℕ)
+      × grammar.Spells (value w) bits rest × last w end rest) → Answers grammar value (Ok w) from last old new
   look-goes w a b shows = record {
     gives = record { on = λ end bits left. shows end bits (looked a end bits left) };
     runs = runs-then keeps_on a.runs b;
@@ -123,7 +131,8 @@ module _ {S : Type 0} {g : Ghosts S} (keeps_on : (x y z : S) → g.keeps x y →
 
   -- a look that shows that the bits end
   pub look-ends : {A V W : Type 0} {grammar : Grammar A} {v : V} {value : W → A} (at : ℕ) {to : V → ℕ → List ℕ → Type 0} {last : W → ℕ → List ℕ → Type 0}
-      → AnswersLook (Ok v) from to old mid → Runs mid new → ((end : ℕ) (bits : List ℕ) → to v end bits → (left : List ℕ) × grammar.Refuses bits End left × (at + length left ≡ end)) → Answers grammar value (Err (fault.End at)) from last old new
+      → AnswersLook (Ok v) from to old mid → Runs mid new → ((end : ℕ) (bits : List ℕ) → to v end bits → (left : List ℕ)
+      × grammar.Refuses bits End left × (at + length left ≡ end)) → Answers grammar value (Err (fault.End at)) from last old new
   look-ends at a b shows = record {
     gives = record { why = λ end bits left. shows end bits (looked a end bits left) };
     runs = runs-then keeps_on a.runs b;

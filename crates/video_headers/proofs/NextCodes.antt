@@ -1,5 +1,44 @@
 -- Start codes that may come, by the one that does.
-use Rattle.std.proofs.Common.{◌≡◌, ◌⊎◌, ℕ, ◌+◌, ◌*◌, ◌≤◌, ◌^◌, ◌<◌, ◌&&◌, nat_eq, List, [], ◌∷◌, ◌++◌, length, take, replicate, Option, Some, None, IfSome, Result, Ok, Err, MatchResult, Bool, true, false, refl, sym, ap, subst, ◌∙◌, inl, inr, arith, append_assoc, eq-eqb}
+use Rattle.std.proofs.Common.{
+  ◌≡◌,
+  ◌⊎◌,
+  ℕ,
+  ◌+◌,
+  ◌*◌,
+  ◌≤◌,
+  ◌^◌,
+  ◌<◌,
+  ◌&&◌,
+  nat_eq,
+  List,
+  [],
+  ◌∷◌,
+  ◌++◌,
+  length,
+  take,
+  replicate,
+  Option,
+  Some,
+  None,
+  IfSome,
+  Result,
+  Ok,
+  Err,
+  MatchResult,
+  Bool,
+  true,
+  false,
+  refl,
+  sym,
+  ap,
+  subst,
+  ◌∙◌,
+  inl,
+  inr,
+  arith,
+  append_assoc,
+  eq-eqb,
+}
 use Rattle.std.proofs.lemmas.Bool.{cases_Bool, eqb-true}
 use Rattle.std.proofs.lemmas.List.{length-append, length-take}
 use Rattle.shelf_io.specs.declared.fault.Fault.{Fault}
@@ -83,7 +122,9 @@ module _ (codes : ℕ → Bool) (zeros here bits behind : List ℕ) (spelled : (
           several-end (zero_item (refusal_of why)) zeros tt bits here here (spelled (refusal_of why)) (inl (prefix-here byte here behind split, (refl, refl))),
           (
             refl,
-            inr (inl (breaks ByteCode (free-behind start_code_prefix 8) byte (start_code_bits byte) (fits, refl) here (subst (IsPrefix (start_code_bits byte)) (sym split) (IsPrefix-append (start_code_bits byte) behind)) [] [] (rule (refusal_of why) codes) refl not)),
+            inr (inl (breaks ByteCode (free-behind start_code_prefix 8) byte (start_code_bits byte) (fits, refl) here
+                (subst (IsPrefix (start_code_bits byte)) (sym split) (IsPrefix-append (start_code_bits byte) behind)) [] []
+                (rule (refusal_of why) codes) refl not)),
           ),
         )
     code-refused why NoCode (byte, some_bit, (none, fits, split)) not =
@@ -111,7 +152,8 @@ module _ (codes : ℕ → Bool) (zeros here bits behind : List ℕ) (spelled : (
         inr (
           (zeros, tt),
           here,
-          several-end (zero_item (refusal_of why)) zeros tt bits here here (spelled (refusal_of why)) (inl (subst (IsPrefix start_code_prefix) (sym prefix) (IsPrefix-self start_code_prefix), (refl, refl))),
+          several-end (zero_item (refusal_of why)) zeros tt bits here here (spelled (refusal_of why))
+              (inl (subst (IsPrefix start_code_prefix) (sym prefix) (IsPrefix-self start_code_prefix), (refl, refl))),
           (
             refl,
             inr (inr (
@@ -159,7 +201,9 @@ never_outside Nothing why at fault e = cc
 -- ---- as readers
 
 module _ {S : Type 0} {g : Ghosts S} (codes : ℕ → Bool) (next : NextCode) (reader : BitReader S g) (itself : (x : S) → g.keeps x x) where
-  pub code-expected : (why : Why) → is_one codes next.comes ≡ true → Answers (start_code (refusal_of why) codes) (λ (b : ℕ). b) (Ok (byte_of next.comes)) (NextRests next reader) (λ b. Wholes reader) reader reader
+  pub code-expected : (why : Why) → is_one codes next.comes ≡ true
+      → Answers (start_code (refusal_of why) codes) (λ (b : ℕ). b) (Ok (byte_of next.comes)) (NextRests next reader)
+      (λ b. Wholes reader) reader reader
   code-expected why is = record {
     gives = record {
       on = λ end bits n. (n.coming.behind, code-spelled codes n.zeros n.here bits n.coming.behind n.spelled (refusal_of why) next.comes n.coming.found is, n.coming.left);
@@ -189,14 +233,18 @@ module _ {S : Type 0} {g : Ghosts S} (codes : ℕ → Bool) (next : NextCode) (r
 
   pub none-comes : is_one codes next.comes ≡ false → (end : ℕ) (bits : List ℕ) → NextRests next reader end bits → StartCodeComes codes bits → ⊥
   none-comes not end bits n c =
-      let s = subst (λ (b : List ℕ). (start_code Refusal.BadHeader codes).Spells c.byte b c.rest) (sym (c.stands ∙ append_assoc (replicate (8 * c.zeros) 0) (start_code_bits c.byte) c.rest)) (code-made Refusal.BadHeader codes c.byte c.zeros c.rest c.is_byte c.is_one) in
+      let s = subst (λ (b : List ℕ). (start_code Refusal.BadHeader codes).Spells c.byte b c.rest)
+      (sym (c.stands ∙ append_assoc (replicate (8 * c.zeros) 0) (start_code_bits c.byte) c.rest))
+      (code-made Refusal.BadHeader codes c.byte c.zeros c.rest c.is_byte c.is_one) in
       (exact-start_code Refusal.BadHeader codes).not_both c.byte bits c.rest n.here (kind_of next.comes why.BadHeader) s
       (code-refused codes n.zeros n.here bits n.coming.behind n.spelled c.byte c.is_byte c.is_one why.BadHeader next.comes n.coming.found not)
 
 -- a look that shows a refusal
-pub look-refused : {S : Type 0} {g : Ghosts S} (keeps_on : (x y z : S) → g.keeps x y → g.keeps y z → g.keeps x z) {from : ℕ → List ℕ → Type 0} {old mid new : BitReader S g} {A V W : Type 0} {grammar : Grammar A} {v : V} {value : W → A} (why : Why) (at : ℕ)
+pub look-refused : {S : Type 0} {g : Ghosts S} (keeps_on : (x y z : S) → g.keeps x y → g.keeps y z → g.keeps x z) {from : ℕ → List ℕ → Type 0}
+    {old mid new : BitReader S g} {A V W : Type 0} {grammar : Grammar A} {v : V} {value : W → A} (why : Why) (at : ℕ)
     {to : V → ℕ → List ℕ → Type 0} {last : W → ℕ → List ℕ → Type 0} → AnswersLook (Ok v) from to old mid → Runs mid new
-    → ((end : ℕ) (bits : List ℕ) → from end bits → to v end bits → (left : List ℕ) × grammar.Refuses bits (refusal_of why) left × (at + length left ≡ end)) → Answers grammar value (Err (fault_at why at)) from last old new
+    → ((end : ℕ) (bits : List ℕ) → from end bits → to v end bits → (left : List ℕ) × grammar.Refuses bits (refusal_of why) left
+    × (at + length left ≡ end)) → Answers grammar value (Err (fault_at why at)) from last old new
 look-refused keeps_on {grammar = grammar} why at a b shows = record {
   gives = record {
     why = λ end bits left.
@@ -234,7 +282,8 @@ module _ {A : Type 0} (IsSuch : List ℕ → Type 0) (then else : Grammar A) whe
     gives-other (Ok w) is a = record { on = λ end bits left. let (rest, s, there) = a.on end bits left in (rest, inr (is end bits left, s), there) }
     gives-other (Err fault) is a = record { why = λ end bits left. told-other (refusal_told fault) bits end (is end bits left) (a.why end bits left) }
 
-module _ {A : Type 0} {IsSuch : List ℕ → Type 0} {then else : Grammar A} {from : ℕ → List ℕ → Type 0} {W : Type 0} {value : W → A} {S : Type 0} {g : Ghosts S} {last : W → ℕ → List ℕ → Type 0} {old new : BitReader S g} {result : Result W HeadFault} where
+module _ {A : Type 0} {IsSuch : List ℕ → Type 0} {then else : Grammar A} {from : ℕ → List ℕ → Type 0} {W : Type 0} {value : W → A} {S : Type 0}
+    {g : Ghosts S} {last : W → ℕ → List ℕ → Type 0} {old new : BitReader S g} {result : Result W HeadFault} where
   pub answers-such : ((end : ℕ) (bits : List ℕ) → from end bits → IsSuch bits) → Answers then value result from last old new → Answers (if_next IsSuch then else) value result from last old new
   answers-such is a = record { gives = gives-such IsSuch then else from value last result is a.gives; runs = a.runs; failed = a.failed; missing = a.missing }
 

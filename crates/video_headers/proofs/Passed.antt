@@ -1,5 +1,39 @@
 -- Bytes that nobody reads, passed one at a time.
-use Rattle.std.proofs.Common.{◌≡◌, ℕ, ◌+◌, ◌%◌, ◌^◌, ◌<◌, ◌≤◌, List, [], ◌∷◌, ◌++◌, length, take, drop, Option, Some, None, IfSome, Result, Ok, Err, MatchResult, Bool, true, false, refl, sym, ap, subst, ◌∙◌, inl, inr, arith}
+use Rattle.std.proofs.Common.{
+  ◌≡◌,
+  ℕ,
+  ◌+◌,
+  ◌%◌,
+  ◌^◌,
+  ◌<◌,
+  ◌≤◌,
+  List,
+  [],
+  ◌∷◌,
+  ◌++◌,
+  length,
+  take,
+  drop,
+  Option,
+  Some,
+  None,
+  IfSome,
+  Result,
+  Ok,
+  Err,
+  MatchResult,
+  Bool,
+  true,
+  false,
+  refl,
+  sym,
+  ap,
+  subst,
+  ◌∙◌,
+  inl,
+  inr,
+  arith,
+}
 use Rattle.std.proofs.lemmas.List.{length-take}
 use Rattle.shelf_io.specs.declared.source.Source.{Ghosts}
 use Rattle.bit_lists.specs.Bits.{IsPrefix, bits_of}
@@ -71,7 +105,13 @@ pub passed-whole : {S : Type 0} {g : Ghosts S} {new : BitReader S g} (stands : S
     → (rest : List ℕ) × passed_bytes.Spells tt bits rest × Wholes new end rest
 passed-whole stands is end bits z = (
   z.passed.here,
-  ((z.passed.bytes, tt), z.passed.here, several-end unread_item z.passed.bytes tt bits z.passed.here z.passed.here z.passed.spelled (inl (at-prefix stands z.passed.here is z.found, (refl, refl))), (refl, refl)),
+  (
+    (z.passed.bytes, tt),
+    z.passed.here,
+    several-end unread_item z.passed.bytes tt bits z.passed.here z.passed.here z.passed.spelled
+        (inl (at-prefix stands z.passed.here is z.found, (refl, refl))),
+    (refl, refl),
+  ),
   z.passed.left,
 )
 

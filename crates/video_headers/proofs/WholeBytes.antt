@@ -34,13 +34,15 @@ module _ (rules : List (Rule ℕ)) {S : Type 0} {g : Ghosts S} (old new : BitRea
   past_bytes : (end : ℕ) (bits : List ℕ) → Rests old end bits → n ≡ length bits % 8
   past_bytes end bits left = omega (arith, count, left.ends, whole-end old end bits left)
 
-  told_past : (told : Option PlacedRefusal) (end : ℕ) (bits : List ℕ) → n ≡ length bits % 8 → IfSome told (λ said. (left : List ℕ) × (uimsbf n rules).Refuses bits said.refusal left × (said.at + length left ≡ end))
+  told_past : (told : Option PlacedRefusal) (end : ℕ) (bits : List ℕ) → n ≡ length bits % 8
+      → IfSome told (λ said. (left : List ℕ) × (uimsbf n rules).Refuses bits said.refusal left × (said.at + length left ≡ end))
       → IfSome told (λ said. (left : List ℕ) × (at_bits (λ bits. uimsbf (length bits % 8) rules)).Refuses bits said.refusal left × (said.at + length left ≡ end))
   told_past None end bits e why = tt
   told_past (Some said) end bits e (left, r, ends) = (left, subst (λ (k : ℕ). (uimsbf k rules).Refuses bits said.refusal left) e r, ends)
 
   gives-past : (result : Result ℕ HeadFault) → MatchResult result (λ v. Goes (uimsbf n rules) v (Rests old) (Rests new)) (λ fault. Stops (uimsbf n rules) (refusal_told fault) (Rests old))
-      → MatchResult result (λ v. Goes (at_bits (λ bits. uimsbf (length bits % 8) rules)) v (Rests old) (Wholes new)) (λ fault. Stops (at_bits (λ bits. uimsbf (length bits % 8) rules)) (refusal_told fault) (Rests old))
+      → MatchResult result (λ v. Goes (at_bits (λ bits. uimsbf (length bits % 8) rules)) v (Rests old) (Wholes new))
+      (λ fault. Stops (at_bits (λ bits. uimsbf (length bits % 8) rules)) (refusal_told fault) (Rests old))
   gives-past (Ok v) goes = record {
     on = λ end bits left.
         let e = past_bytes end bits left in
@@ -61,5 +63,6 @@ module _ {S : Type 0} {g : Ghosts S} (old new : BitReader S g) (n : ℕ) (count 
       → Answers (zero_bits BadHeader) (λ v. v) result (Rests old) (λ v. Wholes new) old new
   answers-zeros a = answers-past (rule BadHeader (λ number. number == 0) ∷ []) old new n count a
 
-  pub answers-to_byte : {result : Result ℕ HeadFault} → Answers (uimsbf n []) (λ v. v) result (Rests old) (λ v. Rests new) old new → Answers bits_to_byte (λ v. v) result (Rests old) (λ v. Wholes new) old new
+  pub answers-to_byte : {result : Result ℕ HeadFault} → Answers (uimsbf n []) (λ v. v) result (Rests old) (λ v. Rests new) old new
+      → Answers bits_to_byte (λ v. v) result (Rests old) (λ v. Wholes new) old new
   answers-to_byte a = answers-past [] old new n count a

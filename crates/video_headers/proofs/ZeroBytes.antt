@@ -1,5 +1,37 @@
 -- Zero bytes that are taken one at a time, and what stands behind them.
-use Rattle.std.proofs.Common.{◌≡◌, ◌⊎◌, ℕ, ◌+◌, ◌-◌, ◌%◌, ◌^◌, ◌<◌, ◌≤◌, List, [], ◌∷◌, ◌++◌, length, drop, Option, Some, None, IfSome, true, Ok, append_assoc, append-nil, refl, sym, ap, subst, ◌∙◌, inl, inr, arith}
+use Rattle.std.proofs.Common.{
+  ◌≡◌,
+  ◌⊎◌,
+  ℕ,
+  ◌+◌,
+  ◌-◌,
+  ◌%◌,
+  ◌^◌,
+  ◌<◌,
+  ◌≤◌,
+  List,
+  [],
+  ◌∷◌,
+  ◌++◌,
+  length,
+  drop,
+  Option,
+  Some,
+  None,
+  IfSome,
+  true,
+  Ok,
+  append_assoc,
+  append-nil,
+  refl,
+  sym,
+  ap,
+  subst,
+  ◌∙◌,
+  inl,
+  inr,
+  arith,
+}
 use Rattle.std.specs.Option.{option_map}
 use Rattle.std.proofs.lemmas.List.{length-append, length-drop, take-append-drop}
 use Rattle.shelf_io.specs.declared.source.Source.{Ghosts}
@@ -56,7 +88,8 @@ behind-zeros a end bits z =
     let next = looked a end z.here z.left in
     record { taken = record { zeros = z.zeros; here = z.here; spelled = z.spelled; left = next.left; total = z.total; whole = z.whole }; found = next.found }
 
-pub zeros-more : {S : Type 0} {g : Ghosts S} {from : ℕ} {old new : BitReader S g} (stands : Stands) → is_zero stands ≡ true → ((end : ℕ) (bits : List ℕ) → 8 ≤ length bits → Rests old end bits → Rests new end (drop 8 bits))
+pub zeros-more : {S : Type 0} {g : Ghosts S} {from : ℕ} {old new : BitReader S g} (stands : Stands) → is_zero stands ≡ true
+    → ((end : ℕ) (bits : List ℕ) → 8 ≤ length bits → Rests old end bits → Rests new end (drop 8 bits))
     → (end : ℕ) (bits : List ℕ) → BehindZeros stands from old end bits → ZerosTaken from new end bits
 zeros-more {old = old} {new = new} stands is passed end bits behind =
     let taken = behind.taken in
@@ -73,7 +106,8 @@ zeros-more {old = old} {new = new} stands is passed end bits behind =
 
 -- ---- what comes behind zeros
 
-pub byte-taken : {S : Type 0} {g : Ghosts S} (byte : ℕ) (old new : BitReader S g) → IfSome (bits_left old) (λ bits. IsFront 8 bits byte) → byte < 2 ^ 8 → bits_left new ≡ without_bits (bits_left old) 8 → place new ≡ place old + 8
+pub byte-taken : {S : Type 0} {g : Ghosts S} (byte : ℕ) (old new : BitReader S g) → IfSome (bits_left old) (λ bits. IsFront 8 bits byte)
+    → byte < 2 ^ 8 → bits_left new ≡ without_bits (bits_left old) 8 → place new ≡ place old + 8
     → (end : ℕ) (bits : List ℕ) → Wholes old end bits → ByteTaken (Some byte) new end bits
 byte-taken byte old new front fits left moved end bits here =
     let is = told-of (λ bits. IsFront 8 bits byte) (bits_left old) bits here.rests.told front in

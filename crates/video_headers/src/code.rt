@@ -12,8 +12,8 @@ use crate::fault::HeadFault;
 use crate::stands::{Stands, look, pass};
 use crate::why::Why;
 use bit_cursor::{BitFault, BitReader};
-use picture_grammar::start_codes::{FIRST_SLICE, LAST_SLICE, PREFIX_BITS};
 use shelf_io::Source;
+use stream_constants::start_codes::{FIRST_SLICE, LAST_SLICE, PREFIX_BITS};
 
 /// What comes behind zero bytes.
 #[derive(Clone, Copy)]

@@ -13,8 +13,8 @@ use crate::part::{Part, is_scalable};
 use crate::unread::read_unread;
 use crate::zeros::read_zero_bits;
 use bit_cursor::{BitFault, BitReader};
-use picture_grammar::start_codes::QUANT_MATRIX;
 use shelf_io::Source;
+use stream_constants::start_codes::QUANT_MATRIX;
 
 /// The identifier of an extension behind this header.
 fn read_identifier<S: Source>(reader: &mut BitReader<'_, S>, part: Part) -> Result<u32, HeadFault>

@@ -16,8 +16,8 @@ use crate::matrix::{LoadedWeights, matrix_or};
 use crate::part::Part;
 use crate::unread::read_unread;
 use bit_cursor::BitReader;
-use picture_grammar::start_codes::EXTENSION;
 use shelf_io::Source;
+use stream_constants::start_codes::EXTENSION;
 use syntax_types::SeqState;
 
 /// The state that headers leave, and what comes behind them.

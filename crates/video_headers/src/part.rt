@@ -5,7 +5,7 @@ ghost use Rattle.video_headers.specs.Private.NextCode.{is_one};
 ghost use Rattle.video_headers.specs.Private.Part.{codes_of, identifiers_of};
 
 use crate::code::{Comes, NextCode};
-use picture_grammar::start_codes::{
+use stream_constants::start_codes::{
     COPYRIGHT, EXTENSION, PICTURE_DISPLAY, QUANT_MATRIX, SEQUENCE_DISPLAY, SEQUENCE_SCALABLE,
     SPATIAL_SCALABLE, TEMPORAL_SCALABLE, USER_DATA,
 };

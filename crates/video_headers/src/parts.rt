@@ -17,10 +17,10 @@ use crate::sequence::{read_sequence_extension, read_sequence_header};
 use crate::why::Why;
 use crate::zeros::read_zero_bits;
 use bit_cursor::BitReader;
-use picture_grammar::start_codes::{
+use shelf_io::Source;
+use stream_constants::start_codes::{
     EXTENSION, GROUP, PICTURE, PICTURE_CODING, SEQUENCE_EXTENSION, SEQUENCE_HEADER,
 };
-use shelf_io::Source;
 use syntax_types::{PicCoding, SeqState};
 
 const SEQUENCE_EXTENSION_ALONE: Limit = Limit {

@@ -9,8 +9,8 @@ ghost use Rattle.video_headers.specs.Private.Wholes.{Wholes};
 
 use crate::fault::HeadFault;
 use bit_cursor::BitReader;
-use picture_grammar::start_codes::PREFIX_BITS;
 use shelf_io::Source;
+use stream_constants::start_codes::PREFIX_BITS;
 
 /// What whole bytes begin with.
 #[derive(Clone, Copy)]

@@ -3,7 +3,7 @@ use Rattle.std.specs.Prelude.{◌%◌, ℕ, List, [], length}
 use Rattle.shelf_io.specs.declared.source.Source.{Ghosts}
 use Rattle.bit_lists.specs.Bits.{IsPrefix}
 use Rattle.bit_cursor.specs.declared.bit_reader.BitReader.{BitReader}
-use Rattle.picture_grammar.specs.Grammar.{Grammar, done, ◌>>=◌, if_next, at_bits, many, one_more, Next}
+use Rattle.picture_grammar.specs.Grammar.{Grammar, done, ◌>>=◌, if_next, at_bits, many, one_item_more, Next}
 use Rattle.picture_grammar.specs.Grammar.Next.{last}
 use Rattle.picture_grammar.specs.Element.{uimsbf}
 use Rattle.picture_grammar.specs.StartCode.{start_code_prefix}
@@ -17,7 +17,7 @@ bits_to_byte = at_bits (λ bits. uimsbf (length bits % 8) [])
 
 -- one more byte, or the start code prefix behind them
 abbrev pub unread_item : List ℕ → Grammar (Next ℕ (Unit {0}))
-unread_item before = if_next (IsPrefix start_code_prefix) (done (last tt)) (one_more (uimsbf 8 []))
+unread_item before = if_next (IsPrefix start_code_prefix) (done (last tt)) (one_item_more (uimsbf 8 []))
 
 -- the bytes up to a start code prefix, without their values
 abbrev pub passed_bytes : Grammar (Unit {0})

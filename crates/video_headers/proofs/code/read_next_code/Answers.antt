@@ -6,7 +6,8 @@ use Rattle.video_headers.proofs.code.read_next_code.Goals as goal
 pub returns-in_err-comes-clause-answers : goal.returns-in_err-comes-clause-answers
 returns-in_err-comes-clause-answers g c =
     after-look g.met.S.Source.keeps_on c.in_ok-stands.ensures.answers
-    (look-exit-over c.from_residual-in_err-comes.result (λ end bits b. (b.taken.here, record { left = b.taken.left; found = b.found })) c.from_residual-in_err-comes.ensures.1 c.in_err-comes.ensures.answers)
+    (look-exit-over c.from_residual-in_err-comes.result (λ end bits b. (b.taken.here, record { left = b.taken.left; found = b.found }))
+    c.from_residual-in_err-comes.ensures.1 c.in_err-comes.ensures.answers)
 
 pub returns-clause-answers : goal.returns-clause-answers
 returns-clause-answers g c =

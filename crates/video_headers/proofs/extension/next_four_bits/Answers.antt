@@ -5,7 +5,14 @@ use Rattle.video_headers.proofs.extension.next_four_bits.Goals as goal
 
 pub returns-in-Ok : goal.returns-in-Ok
 returns-in-Ok g c =
-    answers-of (record { on = λ end bits left. (bits, (refl, refl), four-taken c.in-Ok.number _ _ c.in-Ok.ensures.value c.in-Ok.ensures.below c.in-Ok.ensures.left c.in-Ok.ensures.place end bits left) }) (search rules) (search rules) (search rules)
+    answers-of (record {
+      on = λ end bits left. (
+        bits,
+        (refl, refl),
+        four-taken c.in-Ok.number _ _ c.in-Ok.ensures.value c.in-Ok.ensures.below c.in-Ok.ensures.left c.in-Ok.ensures.place end bits left,
+      );
+    })
+    (search rules) (search rules) (search rules)
 
 pub returns-in-Err-End : goal.returns-in-Err-End
 returns-in-Err-End g c =

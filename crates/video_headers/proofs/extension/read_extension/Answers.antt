@@ -10,13 +10,15 @@ pub returns-in_err-loaded-clause-answers : goal.returns-in_err-loaded-clause-ans
 returns-in_err-loaded-clause-answers g c =
     let on = g.met.S.Source.keeps_on in
     answers-bind on _ c.in_ok-number.ensures
-    (matrix-refused on g.met.S.Source.keeps_itself _ (sym c.is_quant_matrix.ensures ∙ c.if-is_quant_matrix.true) c.from_residual-in_err-loaded.result c.from_residual-in_err-loaded.ensures.1 c.in_err-loaded.ensures.answers)
+    (matrix-refused on g.met.S.Source.keeps_itself _ (sym c.is_quant_matrix.ensures ∙ c.if-is_quant_matrix.true) c.from_residual-in_err-loaded.result
+    c.from_residual-in_err-loaded.ensures.1 c.in_err-loaded.ensures.answers)
 
 pub returns-in_err-_zeros-clause-answers : goal.returns-in_err-_zeros-clause-answers
 returns-in_err-_zeros-clause-answers g c =
     let on = g.met.S.Source.keeps_on in
     answers-bind on _ c.in_ok-number.ensures
-    (zeros-refused on g.met.S.Source.keeps_itself _ (sym c.is_quant_matrix.ensures ∙ c.if-is_quant_matrix.true) c.from_residual-in_err-_zeros.result c.from_residual-in_err-_zeros.ensures.1 c.in_ok-loaded.ensures.answers c.in_err-_zeros.ensures)
+    (zeros-refused on g.met.S.Source.keeps_itself _ (sym c.is_quant_matrix.ensures ∙ c.if-is_quant_matrix.true) c.from_residual-in_err-_zeros.result
+    c.from_residual-in_err-_zeros.ensures.1 c.in_ok-loaded.ensures.answers c.in_err-_zeros.ensures)
 
 pub returns-then-is_quant_matrix-clause-answers : goal.returns-then-is_quant_matrix-clause-answers
 returns-then-is_quant_matrix-clause-answers g c =
@@ -28,7 +30,8 @@ pub returns-in_err-read_unread-clause-answers : goal.returns-in_err-read_unread-
 returns-in_err-read_unread-clause-answers g c =
     let on = g.met.S.Source.keeps_on in
     answers-bind on _ c.in_ok-number.ensures
-    (unread-refused on g.met.S.Source.keeps_itself _ (sym c.is_quant_matrix.ensures ∙ c.if-is_quant_matrix.false) c.from_residual-in_err-read_unread.result c.from_residual-in_err-read_unread.ensures.1 c.in_err-read_unread.ensures)
+    (unread-refused on g.met.S.Source.keeps_itself _ (sym c.is_quant_matrix.ensures ∙ c.if-is_quant_matrix.false)
+    c.from_residual-in_err-read_unread.result c.from_residual-in_err-read_unread.ensures.1 c.in_err-read_unread.ensures)
 
 pub returns-clause-answers : goal.returns-clause-answers
 returns-clause-answers g c =

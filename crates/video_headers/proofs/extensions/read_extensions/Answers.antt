@@ -20,7 +20,8 @@ returns-then-not-comes g c =
 pub returns-in_err-loaded : goal.returns-in_err-loaded
 returns-in_err-loaded g c =
     let i = c.parts.invariant in
-    items-refused _ _ i.loads g.met.S.Source.keeps_on g.met.S.Source.keeps_itself i.so_far c.from_residual-in_err-loaded.result c.from_residual-in_err-loaded.ensures.1 c.in_ok-next.ensures.answers c.in_err-loaded.ensures.answers
+    items-refused _ _ i.loads g.met.S.Source.keeps_on g.met.S.Source.keeps_itself i.so_far c.from_residual-in_err-loaded.result
+    c.from_residual-in_err-loaded.ensures.1 c.in_ok-next.ensures.answers c.in_err-loaded.ensures.answers
 
 pub parts-preserved : goal.parts-preserved
 parts-preserved g c =

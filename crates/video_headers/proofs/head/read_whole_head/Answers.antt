@@ -49,7 +49,8 @@ returns-then-not-has_slice g c =
     (answers-bind on _ c.in_ok-sequence.ensures
     (answers-bind on _ c.in_ok-group.ensures
     (answers-bind on _ c.in_ok-picture.ensures
-    (answers-exit _ (Err c.refusal-no_slice.result) refl (no-slice c.in_ok-picture.picture.next c.read_picture_part.new.reader itself (sym c.is_slice-has_slice.ensures ∙ c.if-not-has_slice.true) c.refusal-no_slice.result c.refusal-no_slice.ensures)))))
+    (answers-exit _ (Err c.refusal-no_slice.result) refl (no-slice c.in_ok-picture.picture.next c.read_picture_part.new.reader itself
+    (sym c.is_slice-has_slice.ensures ∙ c.if-not-has_slice.true) c.refusal-no_slice.result c.refusal-no_slice.ensures)))))
 
 pub returns : goal.returns
 unfolding head
@@ -61,4 +62,6 @@ returns g c =
     (answers-bind on _ c.in_ok-group.ensures
     (answers-bind on _ c.in_ok-picture.ensures
     (answers-bind on _ (slice-ahead c.in_ok-picture.picture.next c.read_picture_part.new.reader itself (sym c.is_slice-has_slice.ensures ∙ c.if-not-has_slice.false))
-    (answers-to _ (answers-done _ _ {from = NextRests c.in_ok-picture.picture.next c.read_picture_part.new.reader} c.read_picture_part.new.reader itself refl) (λ end bits n. behind-head c.in_ok-picture.picture.next c.read_picture_part.new.reader itself (sym c.is_slice-has_slice.ensures ∙ c.if-not-has_slice.false) _ _ _ c.byte-first_slice.ensures end bits n))))))
+    (answers-to _ (answers-done _ _ {from = NextRests c.in_ok-picture.picture.next c.read_picture_part.new.reader} c.read_picture_part.new.reader
+    itself refl) (λ end bits n. behind-head c.in_ok-picture.picture.next c.read_picture_part.new.reader itself
+    (sym c.is_slice-has_slice.ensures ∙ c.if-not-has_slice.false) _ _ _ c.byte-first_slice.ensures end bits n))))))

@@ -18,4 +18,5 @@ returns-then-not-has_header g c =
 
 pub returns : goal.returns
 returns g c =
-    answers-such (code-comes (λ byte. nat_eq byte 179) c.args.next c.args.reader.now g.met.S.Source.keeps_itself (sym c.is-has_header.ensures ∙ c.if-not-has_header.false)) c.read_sequence_headers.ensures
+    answers-such (code-comes (λ byte. nat_eq byte 179) c.args.next c.args.reader.now g.met.S.Source.keeps_itself
+    (sym c.is-has_header.ensures ∙ c.if-not-has_header.false)) c.read_sequence_headers.ensures

@@ -15,7 +15,8 @@ pub returns-then-not-has_header : goal.returns-then-not-has_header
 returns-then-not-has_header g c =
     let on = g.met.S.Source.keeps_on in
     let itself = g.met.S.Source.keeps_itself in
-    answers-exit _ (Err c.refusal-no_header.result) refl (code-unexpected (λ byte. nat_eq byte 0) c.args.next c.args.reader.now itself why.BadHeader 0 (omega arith) refl (sym c.is-has_header.ensures ∙ c.if-not-has_header.true) c.refusal-no_header.result c.refusal-no_header.ensures)
+    answers-exit _ (Err c.refusal-no_header.result) refl (code-unexpected (λ byte. nat_eq byte 0) c.args.next c.args.reader.now itself why.BadHeader 0
+    (omega arith) refl (sym c.is-has_header.ensures ∙ c.if-not-has_header.true) c.refusal-no_header.result c.refusal-no_header.ensures)
 
 pub returns-in_err-header : goal.returns-in_err-header
 returns-in_err-header g c =
@@ -49,7 +50,9 @@ returns-then-not-has_extension g c =
     (answers-bind on _ (answers-from (λ end bits w. w.rests) (c.in_ok-header.ensures))
     (answers-bind on _ (c.in_ok-_zeros.ensures)
     (after-look on c.in_ok-code.ensures.answers
-    (answers-exit _ (Err c.refusal-no_extension.result) refl (code-unexpected (λ byte. nat_eq byte 181) c.in_ok-code.code c.read_next_code.new.reader itself why.NotMpeg2 181 (omega arith) refl (sym c.is-has_extension.ensures ∙ c.if-not-has_extension.true) c.refusal-no_extension.result c.refusal-no_extension.ensures)))))
+    (answers-exit _ (Err c.refusal-no_extension.result) refl
+    (code-unexpected (λ byte. nat_eq byte 181) c.in_ok-code.code c.read_next_code.new.reader itself why.NotMpeg2 181 (omega arith) refl
+    (sym c.is-has_extension.ensures ∙ c.if-not-has_extension.true) c.refusal-no_extension.result c.refusal-no_extension.ensures)))))
 
 pub returns-in_err-_identifier : goal.returns-in_err-_identifier
 returns-in_err-_identifier g c =
@@ -60,7 +63,8 @@ returns-in_err-_identifier g c =
     (answers-bind on _ (c.in_ok-_zeros.ensures)
     (after-look on c.in_ok-code.ensures.answers
     (answers-bind on _ (code-expected (λ byte. nat_eq byte 181) c.in_ok-code.code c.read_next_code.new.reader itself why.NotMpeg2 (sym c.is-has_extension.ensures ∙ c.if-not-has_extension.false))
-    (answers-exit _ c.from_residual-in_err-_identifier.result c.from_residual-in_err-_identifier.ensures.1 (answers-from (λ end bits w. w.rests) (c.in_err-_identifier.ensures.answers _ (refl, (λ v lt. only-range 8 v), tt))))))))
+    (answers-exit _ c.from_residual-in_err-_identifier.result c.from_residual-in_err-_identifier.ensures.1
+    (answers-from (λ end bits w. w.rests) (c.in_err-_identifier.ensures.answers _ (refl, (λ v lt. only-range 8 v), tt))))))))
 
 pub returns-in_err-coding : goal.returns-in_err-coding
 returns-in_err-coding g c =
@@ -113,4 +117,7 @@ returns g c =
     (answers-bind on _ (answers-from (λ end bits w. w.rests) (c.in_ok-_identifier.ensures.answers _ (refl, (λ v lt. only-range 8 v), tt)))
     (answers-bind on _ (c.in_ok-coding.ensures)
     (answers-bind on _ (c.in_ok-_more_zeros.ensures)
-    (answers-mapped _ _ on _ c.in_ok-behind.ensures (follows-none _ itself) (λ a e. subst (λ (s : SeqState). Goes {A = SeqState × PicCoding} (done (s, c.in_ok-coding.coding)) (c.in_ok-behind.behind.seq, c.in_ok-coding.coding) (NextRests c.in_ok-behind.behind.next c.read_extensions.new.reader) (NextRests c.in_ok-behind.behind.next c.read_extensions.new.reader)) (sym e) (goes-done _ _))))))))))
+    (answers-mapped _ _ on _ c.in_ok-behind.ensures (follows-none _ itself)
+    (λ a e. subst (λ (s : SeqState). Goes {A = SeqState × PicCoding} (done (s, c.in_ok-coding.coding))
+    (c.in_ok-behind.behind.seq, c.in_ok-coding.coding) (NextRests c.in_ok-behind.behind.next c.read_extensions.new.reader)
+    (NextRests c.in_ok-behind.behind.next c.read_extensions.new.reader)) (sym e) (goes-done _ _))))))))))

@@ -25,4 +25,5 @@ pub bytes-preserved : goal.bytes-preserved
 bytes-preserved g c =
     let on = g.met.S.Source.keeps_on in
     look-on on tt _ c.bytes.invariant (runs-then on c.in_ok-stands.ensures.answers.runs c.pass.ensures.runs)
-    (λ end bits left z. passed-more c.in_ok-stands.stands (sym c.is_prefix.ensures ∙ c.if-is_prefix.false) (sym c.is_nothing.ensures ∙ c.if-is_nothing.false) c.pass.ensures.left end bits (passed-to c.in_ok-stands.ensures.answers end bits z))
+    (λ end bits left z. passed-more c.in_ok-stands.stands (sym c.is_prefix.ensures ∙ c.if-is_prefix.false)
+    (sym c.is_nothing.ensures ∙ c.if-is_nothing.false) c.pass.ensures.left end bits (passed-to c.in_ok-stands.ensures.answers end bits z))
