@@ -76,13 +76,25 @@ pub fn file_of(alloc: Global, packets: &[[u8; PACKET_BYTES]]) -> Result<Vec<u8>,
     Ok(file)
 }
 
-/// What `demux` refuses program 1 in a file of these packets for, with no stream dropped.
-pub fn refusal(
+/// The packets of a file behind others, and what `demux` refuses program 1 there for, with no stream dropped.
+pub type Case<'a> = (&'a [[u8; PACKET_BYTES]], Option<DemuxFault>);
+
+/// The first of some cases that isn't so, each behind these packets.
+pub fn first_wrong(
     alloc: Global,
-    packets: &[[u8; PACKET_BYTES]],
-) -> Result<Option<DemuxFault>, AllocError> {
-    let file = file_of(alloc, packets)?;
-    Ok(demux(alloc, file.as_slice(), 1, &[]).err())
+    front: &[[u8; PACKET_BYTES]],
+    cases: &[Case],
+) -> Result<Option<usize>, AllocError> {
+    for (at, (packets, fault)) in cases.iter().enumerate() {
+        let mut file = file_of(alloc, front)?;
+        for packet in *packets {
+            file.extend_from_slice(packet)?;
+        }
+        if demux(alloc, file.as_slice(), 1, &[]).err() != *fault {
+            return Ok(Some(at));
+        }
+    }
+    Ok(None)
 }
 
 /// True where these are PES packets at these places, of these many bytes.
