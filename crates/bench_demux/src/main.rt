@@ -9,10 +9,9 @@
 
 use pes_units::PesHeader;
 use std::alloc::Global;
-use std::fs;
 use std::io::{ErrorKind, Write};
 use std::rt::Files;
-use std::{env, io};
+use std::{env, fs, io};
 use ts_demux::{Demuxed, PesUnit, demux};
 
 fn main(rt: HostRuntime) -> io::Result<()> {
