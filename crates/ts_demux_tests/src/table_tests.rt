@@ -6,11 +6,11 @@ use std::test::Fail;
 use stream_constants::packets::PACKET_BYTES;
 use ts_demux::{DemuxFault, demux};
 
-/// The PMT of 184 bytes.
-fn long_pmt() -> [u8; 184] {
-    let mut bytes = [0; 184];
+/// The PMT of 184 bytes but its last one.
+fn long_pmt_front() -> [u8; 183] {
+    let mut bytes = [0; 183];
     bytes[..19].copy_from_slice(&LONG_PMT_FRONT);
-    bytes[175..].copy_from_slice(&LONG_PMT_END);
+    bytes[175..].copy_from_slice(&LONG_PMT_END[..8]);
     bytes
 }
 
@@ -47,6 +47,13 @@ fn programs_that_are_missing(rt: HostRuntime) -> Result<(), Fail> {
     Ok(())
 }
 
+/// A PMT over two packets.
+fn long_map() -> ([u8; PACKET_BYTES], [u8; PACKET_BYTES]) {
+    let first = table(MAP_PID, 0, &long_pmt_front());
+    let end = goes_on(MAP_PID, 1, &LONG_PMT_END[8..]);
+    (first, end)
+}
+
 #[test]
 fn pat_and_pmt_over_several_packets(rt: HostRuntime) -> Result<(), Fail> {
     let first = first_third();
@@ -54,9 +61,7 @@ fn pat_and_pmt_over_several_packets(rt: HostRuntime) -> Result<(), Fail> {
     let third = goes_on(PAT_PID, 6, &PAT[7..]);
     let mut bad_third = third;
     bad_third[5] = 1;
-    let long = long_pmt();
-    let map = table(MAP_PID, 0, &long[..183]);
-    let map_end = goes_on(MAP_PID, 1, &long[183..]);
+    let (map, map_end) = long_map();
     let mut bad_end = map_end;
     bad_end[4] ^= 1;
     let cases: [Case; 5] = [
