@@ -4,4 +4,12 @@
 #![tactic(auto)]
 
 #[cfg(test)]
-mod tests;
+mod files;
+#[cfg(test)]
+mod packet_tests;
+#[cfg(test)]
+mod sections;
+#[cfg(test)]
+mod stream_tests;
+#[cfg(test)]
+mod table_tests;

@@ -5,7 +5,7 @@ use Rattle.std.proofs.lemmas.List.Sums.{fold-append}
 use Rattle.shelf_io.specs.declared.source.Source.{Ghosts}
 use Rattle.bit_cursor.specs.declared.bit_reader.BitReader.{BitReader}
 use Rattle.syntax_types.specs.declared.picture.SeqState.{SeqState}
-use Rattle.picture_grammar.specs.declared.start_codes.TheConstants.{USER_DATA, EXTENSION}
+use Rattle.stream_constants.specs.declared.start_codes.TheConstants.{USER_DATA, EXTENSION}
 use Rattle.picture_grammar.specs.Grammar.{Grammar, done, ◌>>=◌, optional, when, Next}
 use Rattle.picture_grammar.specs.Grammar.Next.{more, last}
 use Rattle.picture_grammar.specs.Headers.{Loaded, with_loaded}

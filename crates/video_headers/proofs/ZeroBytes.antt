@@ -38,7 +38,7 @@ use Rattle.shelf_io.specs.declared.source.Source.{Ghosts}
 use Rattle.bit_lists.specs.Bits.{IsPrefix, bits_of}
 use Rattle.bit_lists.proofs.BitLemmas.{length-bits_of}
 use Rattle.bit_lists.proofs.PrefixLemmas.{IsPrefix-split}
-use Rattle.bit_cursor.specs.Reading.{IsFront}
+use Rattle.bit_cursor.specs.Shown.{IsFirstNumber}
 use Rattle.bit_cursor.specs.declared.bit_reader.BitReader.{BitReader}
 use Rattle.bit_cursor.specs.BitReader.{bits_left, place, without_bits}
 use Rattle.picture_grammar.specs.Refusal.{Refusal}
@@ -106,11 +106,11 @@ zeros-more {old = old} {new = new} stands is passed end bits behind =
 
 -- ---- what comes behind zeros
 
-pub byte-taken : {S : Type 0} {g : Ghosts S} (byte : ℕ) (old new : BitReader S g) → IfSome (bits_left old) (λ bits. IsFront 8 bits byte)
+pub byte-taken : {S : Type 0} {g : Ghosts S} (byte : ℕ) (old new : BitReader S g) → IfSome (bits_left old) (λ bits. IsFirstNumber 8 bits byte)
     → byte < 2 ^ 8 → bits_left new ≡ without_bits (bits_left old) 8 → place new ≡ place old + 8
     → (end : ℕ) (bits : List ℕ) → Wholes old end bits → ByteTaken (Some byte) new end bits
 byte-taken byte old new front fits left moved end bits here =
-    let is = told-of (λ bits. IsFront 8 bits byte) (bits_left old) bits here.rests.told front in
+    let is = told-of (λ bits. IsFirstNumber 8 bits byte) (bits_left old) bits here.rests.told front in
     let split : bits ≡ bits_of 8 byte ++ drop 8 bits = sym (take-append-drop 8 bits) ∙ ap (λ (f : List ℕ). f ++ drop 8 bits) is.front in
     let enough = is.enough in (
       drop 8 bits,

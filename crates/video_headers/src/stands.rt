@@ -1,6 +1,6 @@
 //! What stands next where zero bytes or a start code may stand (5.2.3).
 ghost use Rattle.std.specs.Prelude.{◌≡◌, ◌≤◌, ◌%◌, ◌^◌, ◌<◌, ◌+◌, ℕ, List, length, drop, IfOk};
-ghost use Rattle.bit_cursor.specs.Reading.{Shows};
+ghost use Rattle.bit_cursor.specs.Shown.{IsWindow};
 ghost use Rattle.bit_cursor.specs.BitReader.{bits_held, place};
 ghost use Rattle.video_headers.specs.Runs.{Runs};
 ghost use Rattle.video_headers.specs.Private.Reading.{AnswersLook, Rests};
@@ -76,7 +76,7 @@ pub fn look<S: Source>(reader: &mut BitReader<'_, S>) -> Result<Stands, HeadFaul
 /// What stands at the front of a window of 24 bits.
 fn what_stands(window: u32, known: u32) -> Stands
     requires { window < 2 ^ 24 }
-    ensures stands { (bits : List ℕ) → Shows 24 bits window known → length bits % 8 ≡ 0 → StandsAt result bits }
+    ensures stands { (bits : List ℕ) → IsWindow 24 bits window known → length bits % 8 ≡ 0 → StandsAt result bits }
     ensures held { known_for result ≤ known }
 {
     if shows_prefix(window, known) {

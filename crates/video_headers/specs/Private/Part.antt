@@ -3,7 +3,7 @@ use Rattle.std.specs.Prelude.{◌≡◌, ◌<◌, ◌^◌, ◌==◌, ◌||◌, �
 use Rattle.shelf_io.specs.declared.source.Source.{Ghosts}
 use Rattle.bit_lists.specs.Bits.{bits_of}
 use Rattle.bit_cursor.specs.declared.bit_reader.BitReader.{BitReader}
-use Rattle.picture_grammar.specs.declared.start_codes.TheConstants.{USER_DATA, EXTENSION, SEQUENCE_DISPLAY, QUANT_MATRIX, COPYRIGHT, PICTURE_DISPLAY}
+use Rattle.stream_constants.specs.declared.start_codes.TheConstants.{USER_DATA, EXTENSION, SEQUENCE_DISPLAY, QUANT_MATRIX, COPYRIGHT, PICTURE_DISPLAY}
 use Rattle.picture_grammar.specs.Refusal.Refusal.{BadHeader, Profile}
 use Rattle.picture_grammar.specs.Grammar.{Grammar}
 use Rattle.picture_grammar.specs.Element.{uimsbf, rule}
