@@ -38,7 +38,7 @@ use Rattle.shelf_io.specs.declared.source.Source.{Ghosts}
 use Rattle.bit_lists.specs.Bits.{IsPrefix, bits_of}
 use Rattle.bit_lists.proofs.BitLemmas.{length-bits_of}
 use Rattle.bit_lists.proofs.PrefixLemmas.{IsPrefix-append}
-use Rattle.bit_cursor.specs.Reading.{IsFront}
+use Rattle.bit_cursor.specs.Shown.{IsFirstNumber}
 use Rattle.bit_cursor.specs.declared.bit_reader.BitReader.{BitReader}
 use Rattle.bit_cursor.specs.BitReader.{bits_left, place, without_bits}
 use Rattle.picture_grammar.specs.Refusal.Refusal.{End, Profile, BadHeader}
@@ -62,11 +62,11 @@ use Rattle.video_headers.proofs.ZeroBytes.{rests-passed}
 abbrev FourBits : ℕ → List ℕ → Type 0
 FourBits number code = (number < 2 ^ 4) × (code ≡ bits_of 4 number)
 
-pub four-taken : {S : Type 0} {g : Ghosts S} (number : ℕ) (old new : BitReader S g) → IfSome (bits_left old) (λ bits. IsFront 4 bits number)
+pub four-taken : {S : Type 0} {g : Ghosts S} (number : ℕ) (old new : BitReader S g) → IfSome (bits_left old) (λ bits. IsFirstNumber 4 bits number)
     → number < 2 ^ 4 → bits_left new ≡ without_bits (bits_left old) 4 → place new ≡ place old + 4
     → (end : ℕ) (bits : List ℕ) → Wholes old end bits → FourTaken (Some number) new end bits
 four-taken number old new front fits left moved end bits here =
-    let is = told-of (λ bits. IsFront 4 bits number) (bits_left old) bits here.rests.told front in
+    let is = told-of (λ bits. IsFirstNumber 4 bits number) (bits_left old) bits here.rests.told front in
     let split : bits ≡ bits_of 4 number ++ drop 4 bits = sym (take-append-drop 4 bits) ∙ ap (λ (f : List ℕ). f ++ drop 4 bits) is.front in
     (drop 4 bits, fits, split, rests-passed 4 old new left moved end bits is.enough here.rests)
 

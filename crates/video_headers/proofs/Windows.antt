@@ -5,7 +5,7 @@ use Rattle.std.proofs.lemmas.Bool.{and_parts, eqb-true, both_ways}
 use Rattle.std.proofs.lemmas.List.{length-take, take-take, take-append-drop, take_all}
 use Rattle.bit_lists.specs.Bits.{IsPrefix, bits_of}
 use Rattle.bit_lists.proofs.BitLemmas.{length-bits_of, bits_of-one, front_of-take}
-use Rattle.bit_cursor.specs.Reading.{Shows}
+use Rattle.bit_cursor.specs.Shown.{IsWindow}
 use Rattle.picture_grammar.specs.StartCode.{start_code_prefix}
 use Rattle.video_headers.specs.Private.Stands.{BeginsByte, shows_prefix}
 
@@ -13,7 +13,7 @@ pub nothing_left : (bits : List ℕ) → length bits < 1 → bits ≡ []
 nothing_left [] lt = refl
 nothing_left (bit ∷ bits) lt = absurd (omega arith)
 
-pub window-prefix : (bits : List ℕ) (window known : ℕ) → Shows 24 bits window known → shows_prefix window known ≡ true → IsPrefix start_code_prefix bits
+pub window-prefix : (bits : List ℕ) (window known : ℕ) → IsWindow 24 bits window known → shows_prefix window known ≡ true → IsPrefix start_code_prefix bits
 window-prefix bits window known shows is =
     let parts = and_parts (nat_eq known 24) (nat_eq window 1) is in
     let all : known ≡ 24 = eqb-true known 24 parts.0 in
@@ -21,7 +21,7 @@ window-prefix bits window known shows is =
     let first : take 24 (bits_of 24 1) ≡ take 24 bits = subst (λ (w : ℕ). take 24 (bits_of 24 w) ≡ take 24 bits) one (subst (λ (k : ℕ). take k (bits_of 24 window) ≡ take 24 bits) all shows.front) in
     ap (λ (k : ℕ). take k bits) (length-bits_of 24 1) ∙ sym first ∙ take_all 24 (bits_of 24 1) (omega (arith, length-bits_of 24 1))
 
-pub window-none : (bits : List ℕ) (window known : ℕ) → Shows 24 bits window known → window < 2 ^ 24 → shows_prefix window known ≡ false → IsPrefix start_code_prefix bits → ⊥
+pub window-none : (bits : List ℕ) (window known : ℕ) → IsWindow 24 bits window known → window < 2 ^ 24 → shows_prefix window known ≡ false → IsPrefix start_code_prefix bits → ⊥
 window-none bits window known shows below not first =
     let long : 24 ≤ length bits = omega (arith, ap length first, length-take (length start_code_prefix) bits, length-bits_of 24 1) in
     let all : known ≡ 24 = omega (arith, shows.known) in
@@ -31,10 +31,10 @@ window-none bits window known shows below not first =
     let one : window ≡ 1 = bits_of-one 24 window 1 below (omega arith) same in
     both_ways (shows_prefix window known) not (ap₂ (λ (x y : Bool). x && y) (eq-eqb known 24 all) (eq-eqb window 1 one))
 
-pub window-end : (bits : List ℕ) (window known : ℕ) → Shows 24 bits window known → length bits % 8 ≡ 0 → known < 8 → bits ≡ []
+pub window-end : (bits : List ℕ) (window known : ℕ) → IsWindow 24 bits window known → length bits % 8 ≡ 0 → known < 8 → bits ≡ []
 window-end bits window known shows whole few = nothing_left bits (omega (arith, shows.known, whole, few))
 
-pub window-byte : (bits : List ℕ) (window known : ℕ) → Shows 24 bits window known → window < 2 ^ 24 → 8 ≤ known → (IsPrefix start_code_prefix bits → ⊥) → BeginsByte (window / 2 ^ 16) bits
+pub window-byte : (bits : List ℕ) (window known : ℕ) → IsWindow 24 bits window known → window < 2 ^ 24 → 8 ≤ known → (IsPrefix start_code_prefix bits → ⊥) → BeginsByte (window / 2 ^ 16) bits
 window-byte bits window known shows below enough none =
     let first : take 8 bits ≡ bits_of 8 (window / 2 ^ 16) = sym (take-take 8 24 bits (omega arith)) ∙ ap (take 8) (sym shows.front) ∙ front_of-take 8 16 window known enough in (
       none,
@@ -42,5 +42,5 @@ window-byte bits window known shows below enough none =
       sym (take-append-drop 8 bits) ∙ ap (λ (f : List ℕ). f ++ drop 8 bits) first,
     )
 
-pub window-zero : (bits : List ℕ) (window known : ℕ) → Shows 24 bits window known → window < 2 ^ 24 → 8 ≤ known → (IsPrefix start_code_prefix bits → ⊥) → window / 2 ^ 16 ≡ 0 → BeginsByte 0 bits
+pub window-zero : (bits : List ℕ) (window known : ℕ) → IsWindow 24 bits window known → window < 2 ^ 24 → 8 ≤ known → (IsPrefix start_code_prefix bits → ⊥) → window / 2 ^ 16 ≡ 0 → BeginsByte 0 bits
 window-zero bits window known shows below enough none zero = subst (λ (b : ℕ). BeginsByte b bits) zero (window-byte bits window known shows below enough none)
