@@ -8,7 +8,7 @@ ghost use Rattle.requantiser.specs.VersionState.{IsSpelledMacroblock};
 use crate::way::{coding, first_slice, sequence};
 use arrayvec::ArrayVec;
 use bit_cursor::BitReader;
-use macroblock_reader::{empty_macroblock, read_macroblock_into, read_slice_head};
+use macroblock_reader::{read_macroblock_into, read_slice_head};
 use picture_grammar::limits::{MACROBLOCK_SIZE, SLICE_CLOSING_BITS};
 use quant_math::LAST_CODE;
 use requantiser::{VersionState, coarsen_macroblock};
@@ -44,8 +44,8 @@ pub fn coarsen_slices(alloc: Global, bytes: &[u8], ratios: &ArrayVec<u16, RATIOS
         distortions: [0; RATIOS_MOST],
     };
     let mut lent = Lent {
-        from: empty_macroblock(),
-        to: empty_macroblock(),
+        from: Macroblock::empty(),
+        to: Macroblock::empty(),
     };
     let mut rest = bytes;
     for _ in 0..u64::MAX {

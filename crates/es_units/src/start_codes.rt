@@ -1,10 +1,9 @@
 ghost use Rattle.std.specs.Prelude.{◌≡◌, ℕ, true, false, ◌+◌, ◌<◌, ◌≤◌, length, Some, None, IfSome, MatchOption};
 ghost use Rattle.es_units.specs.StartCodes.{is_start_code_at, start_code_at, is_slice, is_sequence_header, is_unit_start};
 
-use stream_constants::start_codes::{FIRST_SLICE, GROUP, LAST_SLICE, PICTURE, SEQUENCE_HEADER};
-
-/// Bytes of a start code: its prefix 00 00 01 and its value (13818-2, 6.2.1).
-const START_CODE_BYTES: usize = 4;
+use stream_constants::start_codes::{
+    FIRST_SLICE, GROUP, LAST_SLICE, PICTURE, SEQUENCE_HEADER, START_CODE_BYTES,
+};
 
 /// A start code: where it begins, and its value.
 #[derive(Clone, Copy)]

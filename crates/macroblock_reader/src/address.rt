@@ -7,13 +7,11 @@ use crate::elements::read_symbol;
 use crate::fault::SliceFault;
 use crate::why::Why;
 use bit_cursor::BitReader;
+use picture_grammar::limits::ESCAPE_INCREMENT;
 use prefix_codes::TableName;
 use prefix_codes::symbol::ADDRESS_ESCAPE;
 use shelf_io::Source;
 use syntax_types::{I_PICTURE, PicCoding};
-
-/// What macroblock_escape adds to the increment (6.3.17).
-const ESCAPE_INCREMENT: u16 = 33;
 
 /// How far the address rises, at most so far.
 pub fn read_increment<S: Source>(from: &mut BitReader<'_, S>, most: u16) -> Result<u16, SliceFault>

@@ -1,18 +1,15 @@
 //! The six blocks of a macroblock (6.2.5).
-ghost use Rattle.std.specs.Prelude.{◌≡◌, ◌<◌};
 ghost use Rattle.picture_grammar.specs.Grammar.{when};
 ghost use Rattle.picture_grammar.specs.Block.{block};
-ghost use Rattle.picture_grammar.specs.Macroblock.{blocks, block_way as way_of, is_coded as is_coded_by, no_block};
+ghost use Rattle.picture_grammar.specs.Macroblock.{blocks, no_block};
 ghost use Rattle.macroblock_reader.specs.Private.Answers.{Answers, answer_as};
 
 use crate::fault::SliceFault;
 use bit_cursor::BitReader;
 use block_coeffs::read_block_into;
+use picture_grammar::stands::{block_way, is_coded};
 use shelf_io::Source;
 use syntax_types::{BLOCKS, Block, BlockWay, Kind, PicCoding};
-
-/// The blocks of luminance.
-const LUMINANCE_BLOCKS: usize = 4;
 
 /// The blocks in their order, each where it is coded, into those that are lent.
 pub fn read_blocks<S: Source>(
@@ -47,23 +44,4 @@ fn read_block_where<S: Source>(
     }
     read_block_into(from, way, into)?;
     Ok(())
-}
-
-/// How a block of a macroblock is coded.
-fn block_way(coding: &PicCoding, kind: Kind, i: usize) -> BlockWay
-    ensures { result ≡ way_of coding.now kind i }
-{
-    BlockWay {
-        intra: kind.intra,
-        luma: i < LUMINANCE_BLOCKS,
-        vlc_one: coding.intra_vlc_format,
-    }
-}
-
-/// A block of a macroblock is coded.
-fn is_coded(kind: Kind, pattern: u8, i: usize) -> bool
-    requires { i < BLOCKS }
-    ensures { result ≡ is_coded_by kind pattern i }
-{
-    kind.intra || (pattern >> (BLOCKS - 1 - i)) % 2 == 1
 }

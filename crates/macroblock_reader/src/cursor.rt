@@ -13,12 +13,9 @@ ghost use Rattle.macroblock_reader.specs.SliceCursor.{StandsBehind, columns_behi
 use crate::fault::SliceFault;
 use crate::macroblock::read_macroblock_into;
 use bit_cursor::BitReader;
-use picture_grammar::limits::MACROBLOCK_SIZE;
+use picture_grammar::limits::{MACROBLOCK_SIZE, SLICE_CLOSING_BITS};
 use shelf_io::{Fault, Source};
 use syntax_types::{Macroblock, PicCoding, SeqState};
-
-/// Zero bits that close a slice (6.2.4).
-const CLOSING_BITS: u32 = 23;
 
 /// Where the next macroblock of a slice stands in its row. It keeps no macroblock: one after another is read into one
 /// that is lent.
@@ -95,7 +92,7 @@ impl SliceCursor {
         if self.first {
             return Ok(false);
         }
-        let (bits, _known) = from.peek(CLOSING_BITS)?;
+        let (bits, _known) = from.peek(SLICE_CLOSING_BITS as u32)?;
         Ok(bits == 0)
     }
 }

@@ -22,5 +22,5 @@ mod why;
 pub use cursor::SliceCursor;
 pub use fault::SliceFault;
 pub use head::{SliceHead, read_slice_head};
-pub use macroblock::{empty_macroblock, read_macroblock, read_macroblock_into};
+pub use macroblock::{read_macroblock, read_macroblock_into};
 pub use slice::read_slice;

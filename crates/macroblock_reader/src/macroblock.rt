@@ -12,14 +12,12 @@ use crate::address::{most_increment, read_increment};
 use crate::blocks::read_blocks;
 use crate::elements::{read_bit_where, read_code_where, read_marker_where};
 use crate::fault::SliceFault;
-use crate::modes::{
-    has_concealment, has_dct_type, has_forward, read_kind, read_motion_type, read_pattern_where,
-};
+use crate::modes::{has_forward, read_kind, read_motion_type, read_pattern_where};
 use crate::motion::{BACKWARD_CODES, FORWARD_CODES, codes_of, read_vectors_where, vector_format};
-use arrayvec::ArrayVec;
 use bit_cursor::BitReader;
+use picture_grammar::stands::{has_concealment, has_dct_type};
 use shelf_io::{Fault, Source};
-use syntax_types::{Block, FRAME_BASED, Kind, Macroblock, PicCoding};
+use syntax_types::{Macroblock, PicCoding};
 
 /// The macroblock that the next bits spell (6.2.5), the first of its slice or a later one, with so many columns of its
 /// row behind the macroblock before it, or in all for the first. The answer is the kind and the place of the refusal
@@ -42,7 +40,7 @@ pub fn read_macroblock<S: Source>(
     ensures missing { IsErrOf result (SliceFault.Outside Fault.Missing) → Rose (absences_of from.old) (absences_of from.new) }
     ensures keeps { KeepsSource from.old from.new }
 {
-    let mut macroblock = empty_macroblock();
+    let mut macroblock = Macroblock::empty();
     read_macroblock_into(from, coding, first, columns_left, &mut macroblock)?;
     Ok(macroblock)
 }
@@ -111,32 +109,4 @@ fn read_parts<S: Source>(
     into.code = code;
     into.pattern = pattern;
     Ok(())
-}
-
-/// A macroblock to be lent: one with nothing in it.
-pub fn empty_macroblock() -> Macroblock {
-    Macroblock {
-        skipped_before: 0,
-        kind: Kind {
-            quant: false,
-            forward: false,
-            backward: false,
-            pattern: false,
-            intra: false,
-        },
-        motion_type: FRAME_BASED,
-        field_dct: false,
-        code: None,
-        forward: ArrayVec::new(),
-        backward: ArrayVec::new(),
-        pattern: 0,
-        blocks: [
-            Block::default(),
-            Block::default(),
-            Block::default(),
-            Block::default(),
-            Block::default(),
-            Block::default(),
-        ],
-    }
 }

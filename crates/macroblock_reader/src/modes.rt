@@ -4,7 +4,7 @@ ghost use Rattle.prefix_codes.specs.declared.table_name.TableName.TheVariants.{P
 ghost use Rattle.picture_grammar.specs.Refusal.Refusal.{BadPattern};
 ghost use Rattle.picture_grammar.specs.Grammar.{when};
 ghost use Rattle.picture_grammar.specs.Element.{vlclbf};
-ghost use Rattle.picture_grammar.specs.Macroblock.{macroblock_type, motion_type, type_table, is_frame as is_frame_picture, has_motion_type as motion_type_stands, has_dct_type as dct_type_stands, has_forward as forward_stands, has_concealment as concealment_stands, usual_motion_type as usual_type};
+ghost use Rattle.picture_grammar.specs.Macroblock.{macroblock_type, motion_type, has_forward as forward_stands, usual_motion_type as usual_type};
 ghost use Rattle.macroblock_reader.specs.Private.Answers.{Answers};
 ghost use Rattle.macroblock_reader.specs.Private.Parts.{kind_by};
 
@@ -12,6 +12,7 @@ use crate::elements::{read_not_zero, read_symbol};
 use crate::fault::SliceFault;
 use crate::why::Why;
 use bit_cursor::BitReader;
+use picture_grammar::stands::{has_concealment, has_motion_type, is_frame, type_table};
 use prefix_codes::TableName;
 use prefix_codes::symbol::{BACKWARD, FORWARD, INTRA, PATTERN, QUANT};
 use shelf_io::Source;
@@ -35,21 +36,8 @@ pub fn read_kind<S: Source>(
 ) -> Result<Kind, SliceFault>
     ensures { Answers ⊥ (macroblock_type coding.now) result from.old from.new }
 {
-    let symbol = read_symbol(from, table_of_types(coding), TYPE_MOST, Why::BadType)?;
+    let symbol = read_symbol(from, type_table(coding), TYPE_MOST, Why::BadType)?;
     Ok(kind_of(symbol))
-}
-
-/// Table B-2, B-3 or B-4.
-fn table_of_types(coding: &PicCoding) -> TableName
-    ensures { result ≡ type_table coding.now }
-{
-    if coding.kind == I_PICTURE {
-        TableName::TypeI
-    } else if coding.kind == P_PICTURE {
-        TableName::TypeP
-    } else {
-        TableName::TypeB
-    }
 }
 
 /// The flags of a symbol of these tables.
@@ -99,12 +87,6 @@ fn read_pattern<S: Source>(from: &mut BitReader<'_, S>) -> Result<u8, SliceFault
 
 // ---- what stands
 
-pub fn is_frame(coding: &PicCoding) -> bool
-    ensures { result ≡ is_frame_picture coding.now }
-{
-    coding.structure == FRAME_PICTURE
-}
-
 fn usual_motion_type(coding: &PicCoding) -> u8
     ensures { result ≡ usual_type coding.now }
 {
@@ -113,24 +95,6 @@ fn usual_motion_type(coding: &PicCoding) -> u8
     } else {
         FIELD_BASED
     }
-}
-
-fn has_motion_type(coding: &PicCoding, kind: Kind) -> bool
-    ensures { result ≡ motion_type_stands coding.now kind }
-{
-    (kind.forward || kind.backward) && !(is_frame(coding) && coding.frame_pred_frame_dct)
-}
-
-pub fn has_dct_type(coding: &PicCoding, kind: Kind) -> bool
-    ensures { result ≡ dct_type_stands coding.now kind }
-{
-    is_frame(coding) && !coding.frame_pred_frame_dct && (kind.intra || kind.pattern)
-}
-
-pub fn has_concealment(coding: &PicCoding, kind: Kind) -> bool
-    ensures { result ≡ concealment_stands coding.now kind }
-{
-    kind.intra && coding.concealment
 }
 
 pub fn has_forward(coding: &PicCoding, kind: Kind) -> bool

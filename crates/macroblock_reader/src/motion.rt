@@ -13,10 +13,10 @@ ghost use Rattle.macroblock_reader.specs.Private.Parts.{part_of, format_of, diff
 
 use crate::elements::{read_bit, read_bit_where, read_bits, read_symbol};
 use crate::fault::SliceFault;
-use crate::modes::is_frame;
 use crate::why::Why;
 use arrayvec::ArrayVec;
 use bit_cursor::BitReader;
+use picture_grammar::stands::is_frame;
 use prefix_codes::TableName;
 use shelf_io::Source;
 use syntax_types::{DUAL_PRIME, FIELD_BASED, PicCoding, SIXTEEN_BY_EIGHT, VECTORS_MOST, Vector};

@@ -12,7 +12,6 @@ use crate::cursor::SliceCursor;
 use crate::elements::{SCALE_CODE_BITS, read_not_zero};
 use crate::fault::SliceFault;
 use crate::head::read_info;
-use crate::macroblock::empty_macroblock;
 use bit_cursor::BitReader;
 use list_types::ListOf;
 use shelf_io::{Fault, Source};
@@ -75,7 +74,7 @@ fn read_macroblocks<S: Source>(
     let mut cursor = SliceCursor::new(seq);
     let mut macroblocks = ListOf::new(alloc);
     'macroblocks: loop {
-        let mut macroblock = empty_macroblock();
+        let mut macroblock = Macroblock::empty();
         let is_more = cursor.next(from, coding, &mut macroblock)?;
         if !is_more {
             return Ok(macroblocks);

@@ -3,7 +3,7 @@
 
 use crate::fixtures::{Coded, bytes_of, coding, filling, macroblock_of, whole};
 use bit_cursor::BitReader;
-use macroblock_reader::{empty_macroblock, read_macroblock_into};
+use macroblock_reader::read_macroblock_into;
 use shelf_io::SliceSource;
 use std::test::Fail;
 use syntax_types::{
@@ -237,7 +237,7 @@ fn a_lent_macroblock_keeps_nothing_of_what_it_held(rt: HostRuntime) -> Result<()
     let _ = reader.bits(filling(54));
     let skipped = reader.place();
     let coding = coding(Coded::PInterlaced);
-    let mut lent = empty_macroblock();
+    let mut lent = Macroblock::empty();
     read_macroblock_into(&mut reader, &coding, true, 3, &mut lent)?;
     assert_eq!(rt; (lent.forward.len(), coded_blocks(&lent)), (2, 63));
     assert_eq!(rt; reader.place().saturating_sub(skipped), 41);

@@ -9,16 +9,16 @@ ghost use Rattle.picture_laws.specs.Spellable.{IsSpellable};
 ghost use Rattle.macroblock_writer.specs.Private.Writing.{CanBeWritten, written_modes, written_motion, written_coefficients};
 
 use crate::increment::write_increment;
-use crate::modes::{
-    has_concealment, has_dct_type, has_motion_type, is_coded, put_flag_where, put_where,
-    type_symbol, type_table, write_code_where,
-};
+use crate::modes::{put_flag_where, put_where, type_symbol, write_code_where};
 use crate::vectors::write_vectors;
 use bit_cursor::BitWriter;
 use block_coeffs::{write_block, write_code};
+use picture_grammar::stands::{
+    block_way, has_concealment, has_dct_type, has_motion_type, is_coded, type_table,
+};
 use prefix_codes::TableName;
 use shelf_io::{Fault, Sink};
-use syntax_types::{BLOCKS, BlockWay, Macroblock, PicCoding};
+use syntax_types::{BLOCKS, Macroblock, PicCoding};
 
 /// Writes a macroblock that some bits spell in this picture (ISO/IEC 13818-2, 6.2.5): its parts in order, each where it
 /// stands. A fault is the sink's own, and stops the writer.
@@ -145,10 +145,5 @@ fn write_coded_block<K: Sink>(
     if !is_coded(kind, macroblock.pattern, i) {
         return Ok(());
     }
-    let way = BlockWay {
-        intra: kind.intra,
-        luma: i < 4,
-        vlc_one: coding.intra_vlc_format,
-    };
-    write_block(to, way, &macroblock.blocks[i])
+    write_block(to, block_way(coding, kind, i), &macroblock.blocks[i])
 }

@@ -17,6 +17,7 @@ use Rattle.syntax_types.specs.declared.picture.PicCoding.{PicCoding}
 use Rattle.picture_grammar.specs.Refusal.Refusal.{BadAddress, BadType, BadPattern}
 use Rattle.picture_grammar.specs.Grammar.{Grammar, done, ◌>>=◌, ◌>>◌, optional, when, each, many, Next}
 use Rattle.picture_grammar.specs.Grammar.Next.{more, last}
+use Rattle.picture_grammar.specs.declared.limits.TheConstants.{ESCAPE_INCREMENT}
 use Rattle.picture_grammar.specs.Element.{element, vlclbf, uimsbf, one_flag, marker_bit, rule}
 use Rattle.picture_grammar.specs.Block.{block}
 use Rattle.picture_grammar.specs.Motion.{MotionFormat, frame_motion, field_motion, motion_vectors}
@@ -25,7 +26,7 @@ use Rattle.picture_grammar.specs.Motion.{MotionFormat, frame_motion, field_motio
 
 -- what macroblock_escape adds to the increment
 abbrev pub escape_increment : ℕ
-escape_increment = 33
+escape_increment = ESCAPE_INCREMENT
 
 -- a code of Table B-1 behind so many escapes; the increment reaches no further than this
 abbrev pub address_code : ℕ → List (Unit {0}) → Grammar (Next (Unit {0}) ℕ)

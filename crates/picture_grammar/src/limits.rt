@@ -29,3 +29,9 @@ pub const MACROBLOCK_SIZE: u16 = 16;
 
 /// Zero bits that close a slice (6.2.4).
 pub const SLICE_CLOSING_BITS: usize = 23;
+
+/// Bits of vbv_delay (6.2.3).
+pub const VBV_DELAY_BITS: u32 = 16;
+
+/// Macroblocks that one macroblock_escape stands for (6.3.17).
+pub const ESCAPE_INCREMENT: u16 = 33;

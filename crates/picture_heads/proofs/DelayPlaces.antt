@@ -37,7 +37,8 @@ use Rattle.bit_lists.specs.Fields.{AreBytes, bit_list}
 use Rattle.bit_lists.proofs.ByteLemmas.{length-bit_list}
 use Rattle.bit_lists.proofs.PrefixLemmas.{bit_list-same}
 use Rattle.stream_constants.specs.declared.start_codes.TheConstants.{PICTURE, GROUP}
-use Rattle.picture_heads.specs.declared.TheConstants.{DELAY_BITS, NO_DELAY}
+use Rattle.picture_grammar.specs.declared.limits.TheConstants.{VBV_DELAY_BITS}
+use Rattle.picture_heads.specs.declared.TheConstants.{NO_DELAY}
 use Rattle.picture_heads.specs.Heads.{HasDelay, IsHeadWithoutDelay}
 use Rattle.picture_heads.specs.Private.StartCodes.{is_start_code_at}
 use Rattle.picture_heads.specs.Private.Walk.{LeadsIn, with_ones}
@@ -98,7 +99,7 @@ set-without head front delay back h at lt size =
       back = back;
       source = h;
       bytes = s.bytes;
-      without = s.set ∙ ap₂ (λ (x y : List ℕ). x ++ bits_of DELAY_BITS NO_DELAY ++ y) (sym p) (sym r);
+      without = s.set ∙ ap₂ (λ (x y : List ℕ). x ++ bits_of VBV_DELAY_BITS NO_DELAY ++ y) (sym p) (sym r);
     }
 
 -- there is such a head
@@ -193,4 +194,4 @@ one-place head f d b g e c h k =
 pub one-without : (from a b : List ℕ) → IsHeadWithoutDelay from a → IsHeadWithoutDelay from b → a ≡ b
 one-without from a b p q =
     let (f, d, r) = one-place from p.front p.delay p.back q.front q.delay q.back p.source q.source in
-    bit_list-same a b p.bytes q.bytes (p.without ∙ ap₂ (λ (x y : List ℕ). x ++ bits_of DELAY_BITS NO_DELAY ++ y) f r ∙ sym q.without)
+    bit_list-same a b p.bytes q.bytes (p.without ∙ ap₂ (λ (x y : List ℕ). x ++ bits_of VBV_DELAY_BITS NO_DELAY ++ y) f r ∙ sym q.without)

@@ -38,7 +38,8 @@ use Rattle.std.proofs.lemmas.List.{length-append, length-set}
 use Rattle.bit_lists.specs.Bits.{bits_of}
 use Rattle.bit_lists.specs.Fields.{AreBytes, bits_of_byte, bit_list}
 use Rattle.bit_lists.proofs.ByteLemmas.{bit_list-append, length-bit_list, AreBytes-append}
-use Rattle.picture_heads.specs.declared.TheConstants.{DELAY_BITS, NO_DELAY}
+use Rattle.picture_grammar.specs.declared.limits.TheConstants.{VBV_DELAY_BITS}
+use Rattle.picture_heads.specs.declared.TheConstants.{NO_DELAY}
 use Rattle.picture_heads.specs.Private.Walk.{with_ones}
 
 abbrev set_three : List ℕ → ℕ → ℕ → ℕ → List ℕ
@@ -140,7 +141,7 @@ high_bits x lt =
     let b0 : (248 + x % 8) / 1 % 2 ≡ x / 1 % 2 = omega arith in
     ap bits_of_byte e ∙ eight _ _ _ _ _ _ _ _ _ _ _ _ _ _ _ _ b7 b6 b5 b4 b3 b2 b1 b0
 
-sixteen_ones : bits_of DELAY_BITS NO_DELAY ≡ 1 ∷ 1 ∷ 1 ∷ 1 ∷ 1 ∷ 1 ∷ 1 ∷ 1 ∷ 1 ∷ 1 ∷ 1 ∷ 1 ∷ 1 ∷ 1 ∷ 1 ∷ 1 ∷ []
+sixteen_ones : bits_of VBV_DELAY_BITS NO_DELAY ≡ 1 ∷ 1 ∷ 1 ∷ 1 ∷ 1 ∷ 1 ∷ 1 ∷ 1 ∷ 1 ∷ 1 ∷ 1 ∷ 1 ∷ 1 ∷ 1 ∷ 1 ∷ 1 ∷ []
 unfolding bits_of
 sixteen_ones = refl
 
@@ -151,9 +152,9 @@ pub record IsSet (head : List ℕ) (at : ℕ) : Type 0 where
   pub back : List ℕ
   pub parts : bit_list head ≡ front ++ delay ++ back
   pub place : length front ≡ 8 * at + 13
-  pub delay_bits : length delay ≡ DELAY_BITS
+  pub delay_bits : length delay ≡ VBV_DELAY_BITS
   pub bytes : AreBytes (with_ones head at)
-  pub set : bit_list (with_ones head at) ≡ front ++ bits_of DELAY_BITS NO_DELAY ++ back
+  pub set : bit_list (with_ones head at) ≡ front ++ bits_of VBV_DELAY_BITS NO_DELAY ++ back
 
 AreBytes-back : (xs ys : List ℕ) → AreBytes (xs ++ ys) → AreBytes xs × AreBytes ys
 AreBytes-back [] ys are = (tt, are)
@@ -190,5 +191,5 @@ set_at head at lt are = let four : HasFour head at = four_at head at lt in by_fo
             (bits_of_byte 255 ++ (x ++ bit_list four.back))))) (high_bits d bytes.1.1.1.1.0)
             ∙ sym (append_assoc (bit_list four.front) (bits_of_byte a ++ bit_at b 7 ∷ bit_at b 6 ∷ bit_at b 5 ∷ bit_at b 4 ∷ bit_at b 3 ∷ [])
             ((1 ∷ 1 ∷ 1 ∷ 1 ∷ 1 ∷ 1 ∷ 1 ∷ 1 ∷ 1 ∷ 1 ∷ 1 ∷ 1 ∷ 1 ∷ 1 ∷ 1 ∷ 1 ∷ []) ++ back))
-            ∙ ap (λ (x : List ℕ). front ++ (x ++ back)) (sym sixteen_ones) ∙ sym (append_assoc front (bits_of DELAY_BITS NO_DELAY) back);
+            ∙ ap (λ (x : List ℕ). front ++ (x ++ back)) (sym sixteen_ones) ∙ sym (append_assoc front (bits_of VBV_DELAY_BITS NO_DELAY) back);
       }

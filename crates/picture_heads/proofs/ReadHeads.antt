@@ -25,7 +25,8 @@ use Rattle.picture_laws.proofs.StartCodes.{code-taken, code-made}
 use Rattle.picture_laws.proofs.Steady.{IsSteady, steady-bind, steady-then, steady-done}
 use Rattle.picture_laws.proofs.SteadyHead.{AreNoneBefore, steady-sequence_part, steady-group_part}
 use Rattle.picture_laws.proofs.Tails.{IsTail, IsNewTail, AreAlike}
-use Rattle.picture_heads.specs.declared.TheConstants.{DELAY_BITS, NO_DELAY}
+use Rattle.picture_grammar.specs.declared.limits.TheConstants.{VBV_DELAY_BITS}
+use Rattle.picture_heads.specs.declared.TheConstants.{NO_DELAY}
 use Rattle.picture_heads.specs.Heads.{before_vbv_delay, HasDelay, IsHeadWithoutDelay}
 use Rattle.picture_heads.proofs.DelayPlaces.{one-place}
 
@@ -252,9 +253,9 @@ pub record IsParted (before : Option SeqState) (seq : SeqState) (coding : PicCod
   pub delay : List ℕ
   pub back : List ℕ
   pub split : bits ≡ front ++ (delay ++ (back ++ rest))
-  pub delay_bits : length delay ≡ DELAY_BITS
+  pub delay_bits : length delay ≡ VBV_DELAY_BITS
   pub place : (before_vbv_delay before).Spells kind bits (delay ++ (back ++ rest))
-  pub again : (head before).Spells (seq, without_delay coding) (front ++ (bits_of DELAY_BITS NO_DELAY ++ (back ++ rest))) rest
+  pub again : (head before).Spells (seq, without_delay coding) (front ++ (bits_of VBV_DELAY_BITS NO_DELAY ++ (back ++ rest))) rest
 
 pub head-parted : (before : Option SeqState) (seq : SeqState) (coding : PicCoding) (bits rest : List ℕ) → (head before).Spells (seq, coding) bits rest → IsParted before seq coding bits rest
 unfolding head
@@ -284,7 +285,7 @@ head-parted before seq coding bits rest (
     ),
   ),
 ) =
-    let d : List ℕ = bits_of DELAY_BITS NO_DELAY in
+    let d : List ℕ = bits_of VBV_DELAY_BITS NO_DELAY in
     let new : List ℕ = c10 ++ (c3 ++ (d ++ p3)) in
     let size16 : length c16 ≡ 16 = ap length coded16.1 ∙ length-bits_of 16 delay in
     let sized : length d ≡ 16 = length-bits_of 16 NO_DELAY in
@@ -379,7 +380,7 @@ pub without-read : (before : Option SeqState) (seq : SeqState) (coding : PicCodi
 without-read before seq coding bytes without rest (s, are, split) whole to =
     let p = head-parted before seq coding (bit_list bytes ++ rest) rest s in
     let (f, d, b) = one-place bytes to.front to.delay to.back p.front p.delay p.back to.source (parted-has before seq coding bytes rest p are whole) in
-    let d16 : List ℕ = bits_of DELAY_BITS NO_DELAY in
+    let d16 : List ℕ = bits_of VBV_DELAY_BITS NO_DELAY in
     let bits : bit_list without ++ rest ≡ to.front ++ (d16 ++ (to.back ++ rest)) =
     ap (λ (x : List ℕ). x ++ rest) to.without ∙ append_assoc (to.front ++ d16) to.back rest ∙ append_assoc to.front d16 (to.back ++ rest) in
     (subst (λ (x : List ℕ). (head before).Spells (seq, without_delay coding) x rest) (sym (bits ∙ ap₂ (λ (x y : List ℕ). x ++ (d16 ++ (y ++ rest))) f b)) p.again, to.bytes, refl)

@@ -9,7 +9,8 @@ use Rattle.picture_grammar.specs.Grammar.{Grammar, ◌>>◌}
 use Rattle.picture_grammar.specs.Element.{uimsbf}
 use Rattle.picture_grammar.specs.StartCode.{start_code}
 use Rattle.picture_grammar.specs.Head.{sequence_part, group_part}
-use Rattle.picture_heads.specs.declared.TheConstants.{DELAY_BITS, NO_DELAY}
+use Rattle.picture_grammar.specs.declared.limits.TheConstants.{VBV_DELAY_BITS}
+use Rattle.picture_heads.specs.declared.TheConstants.{NO_DELAY}
 
 -- what stands before vbv_delay in a head, behind a state or none: the headers before picture_header(), its start code,
 -- temporal_reference and picture_coding_type (ISO/IEC 13818-2, 6.2.2 and 6.2.3)
@@ -30,7 +31,7 @@ pub record HasDelay (head : List ℕ) (front delay back : List ℕ) : Type 0 whe
   pub following : List ℕ
   pub whole : length following % 8 ≡ 0
   pub parts : bit_list head ≡ front ++ delay ++ back
-  pub delay_bits : length delay ≡ DELAY_BITS
+  pub delay_bits : length delay ≡ VBV_DELAY_BITS
   pub place : (before_vbv_delay before).Spells kind (bit_list head ++ following) (delay ++ back ++ following)
 
 -- a head, and the same head with a vbv_delay that says nothing (ISO/IEC 13818-2, 6.3.9)
@@ -40,4 +41,4 @@ pub record IsHeadWithoutDelay (from to : List ℕ) : Type 0 where
   pub back : List ℕ
   pub source : HasDelay from front delay back
   pub bytes : AreBytes to
-  pub without : bit_list to ≡ front ++ bits_of DELAY_BITS NO_DELAY ++ back
+  pub without : bit_list to ≡ front ++ bits_of VBV_DELAY_BITS NO_DELAY ++ back

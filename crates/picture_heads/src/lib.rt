@@ -10,9 +10,6 @@ mod place;
 
 pub use delay::without_delay;
 
-/// Bits of vbv_delay (ISO/IEC 13818-2, 6.2.3).
-pub const DELAY_BITS: u32 = 16;
-
 /// vbv_delay of a picture whose stream has no constant rate (ISO/IEC 13818-2, 6.3.9).
 pub const NO_DELAY: u16 = 0xFFFF;
 

@@ -3,13 +3,10 @@ ghost use Rattle.bit_lists.specs.Fields.{AreBytes, bit_list};
 ghost use Rattle.picture_heads.specs.Private.StartCodes.{is_start_code_at};
 ghost use Rattle.picture_heads.specs.Private.Walk.{LeadsIn};
 
-use stream_constants::start_codes::{GROUP, PICTURE};
-
-/// Bytes of a start code, 00 00 01 and one more (ISO/IEC 13818-2, 6.2.1).
-const START_CODE_BYTES: usize = 4;
+use stream_constants::start_codes::{GROUP, GROUP_HEADER_BYTES, PICTURE, START_CODE_BYTES};
 
 /// Bytes of a group of pictures header behind its start code, with the zero bits that close it (ISO/IEC 13818-2, 6.2.2.6).
-const GROUP_BYTES: usize = 4;
+const GROUP_BYTES: usize = GROUP_HEADER_BYTES - START_CODE_BYTES;
 
 /// The place behind the picture's start code in a head. The bytes of a group of pictures header may look like a start
 /// code, so they are skipped.

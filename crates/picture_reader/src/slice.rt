@@ -15,7 +15,7 @@ use crate::coverage::{Span, columns};
 use crate::keep::Keep;
 use bit_cursor::BitReader;
 use list_types::{ListOf, OutOfMemory};
-use macroblock_reader::{SliceCursor, SliceFault, empty_macroblock, read_slice_head};
+use macroblock_reader::{SliceCursor, SliceFault, read_slice_head};
 use shelf_io::{Fault, SliceSource, Source};
 use std::alloc::Global;
 use std::mem;
@@ -119,7 +119,7 @@ fn keep_macroblock(
     ensures { OnOk result (keep ≡ Tree → kept.new ≡ kept.old ++ lent.old ∷ []) }
 {
     match keep {
-        Keep::Tree => kept.push(mem::replace(lent, empty_macroblock())),
+        Keep::Tree => kept.push(mem::replace(lent, Macroblock::empty())),
         Keep::Nothing => Ok(()),
     }
 }

@@ -15,7 +15,6 @@ use crate::keep::Keep;
 use crate::part::{Part, bit_place, next_part};
 use crate::slice::{SliceWalked, walk_slice};
 use list_types::{ListOf, OutOfMemory};
-use macroblock_reader::empty_macroblock;
 use std::alloc::Global;
 use stream_constants::start_codes::FIRST_SLICE;
 use syntax_types::{Macroblock, PicCoding, SeqState, Slice};
@@ -48,7 +47,7 @@ pub fn walk_slices(
 {
     let in_row = columns(seq);
     let all = rows(seq, coding) * in_row;
-    let mut lent = empty_macroblock();
+    let mut lent = Macroblock::empty();
     let mut slices = ListOf::new(alloc);
     let mut coverage = Coverage::new();
     let mut at = slices_at;

@@ -6,7 +6,9 @@ use Rattle.picture_grammar.specs.Refusal.Refusal.{BadHeader}
 use Rattle.picture_grammar.specs.Grammar.{Grammar, done, ◌>>=◌, ◌>>◌}
 use Rattle.picture_grammar.specs.Headers.{picture_header}
 use Rattle.picture_grammar.specs.StartCode.{zero_bits}
-use Rattle.picture_writer.specs.declared.vbv_delay.TheConstants.{START_CODE_BYTES, GROUP_HEADER_BYTES, DELAY_PLACE, DELAY_BITS}
+use Rattle.stream_constants.specs.declared.start_codes.TheConstants.{START_CODE_BYTES, GROUP_HEADER_BYTES}
+use Rattle.picture_grammar.specs.declared.limits.TheConstants.{VBV_DELAY_BITS}
+use Rattle.picture_writer.specs.declared.vbv_delay.TheConstants.{DELAY_PLACE}
 
 -- the start code with this last byte stands at a place of the bytes (6.2.1)
 pub record CodeStands (byte : ℕ) (bytes : List ℕ) (at : ℕ) : Type 0 where
@@ -48,5 +50,5 @@ pub record HasPictureHeader (unit : List ℕ) (at : ℕ) : Type 0 where
 -- the bits of vbv_delay behind a start code are all set, which says that the rate isn't constant, and no other bit changed
 pub record SetsDelay (old new : List ℕ) (at : ℕ) : Type 0 where
   pub same_length : length new ≡ length old
-  pub set : (i : ℕ) → 8 * (at + START_CODE_BYTES) + DELAY_PLACE ≤ i → i < 8 * (at + START_CODE_BYTES) + DELAY_PLACE + DELAY_BITS → bit new i ≡ 1
-  pub kept : (i : ℕ) → (i < 8 * (at + START_CODE_BYTES) + DELAY_PLACE) ⊎ (8 * (at + START_CODE_BYTES) + DELAY_PLACE + DELAY_BITS ≤ i) → bit new i ≡ bit old i
+  pub set : (i : ℕ) → 8 * (at + START_CODE_BYTES) + DELAY_PLACE ≤ i → i < 8 * (at + START_CODE_BYTES) + DELAY_PLACE + VBV_DELAY_BITS → bit new i ≡ 1
+  pub kept : (i : ℕ) → (i < 8 * (at + START_CODE_BYTES) + DELAY_PLACE) ⊎ (8 * (at + START_CODE_BYTES) + DELAY_PLACE + VBV_DELAY_BITS ≤ i) → bit new i ≡ bit old i

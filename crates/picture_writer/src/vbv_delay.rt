@@ -4,20 +4,11 @@ ghost use Rattle.picture_writer.specs.VbvDelay.{CodeStands, IsPictureCode, Begin
 ghost use Rattle.picture_writer.specs.Private.ExtraInformation.{Closes};
 ghost use Rattle.picture_writer.specs.Private.Scan.{IsBehindGroup};
 
-use stream_constants::start_codes::{GROUP, PICTURE};
+use stream_constants::start_codes::{GROUP, GROUP_HEADER_BYTES, PICTURE, START_CODE_BYTES};
 use syntax_types::{B_PICTURE, I_PICTURE};
-
-/// Bytes of a start code.
-pub const START_CODE_BYTES: usize = 4;
-
-/// Bytes of a group of pictures header, with its start code (6.2.2.6).
-pub const GROUP_HEADER_BYTES: usize = 8;
 
 /// The place of vbv_delay in bits, behind the start code: temporal_reference and picture_coding_type stand before it.
 pub const DELAY_PLACE: usize = 13;
-
-/// Bits of vbv_delay.
-pub const DELAY_BITS: usize = 16;
 
 /// Sets vbv_delay in the picture header of a unit to FFFF, which says that the rate isn't constant (ISO/IEC 13818-2, 6.3.9).
 /// Answers false, with the unit as it was, where no whole picture header stands.

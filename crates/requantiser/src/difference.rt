@@ -11,7 +11,7 @@ ghost use Rattle.requantiser.specs.Private.Shapes.{AreCoefficients, FitBlock, Is
 ghost use Rattle.requantiser.specs.Private.Sums.{sum_from};
 
 use crate::block::weight_at;
-use crate::macroblock::block_way;
+use picture_grammar::stands::block_way;
 use quant_math::{inverse, scale, scan};
 use syntax_types::{BLOCK_PLACES, BLOCKS, Block, BlockWay, Macroblock, PicCoding, SeqState};
 

@@ -1,7 +1,7 @@
 ghost use Rattle.std.specs.Prelude.{◌≡◌, ◌<◌, ◌^◌, ◌+◌, ℕ, Option, true, false, if◌then◌else◌, unwrap_or, IsTrue, ◌↔◌};
 ghost use Rattle.quant_math.specs.Scales.{IsCode, IsMappedCode};
 ghost use Rattle.syntax_types.specs.declared.block.Block.{Block as BlockOf};
-ghost use Rattle.picture_grammar.specs.Macroblock.{block_way as way_of_block, has_dct_type as dct_type_stands, is_coded as is_coded_block, no_block};
+ghost use Rattle.picture_grammar.specs.Macroblock.{no_block};
 ghost use Rattle.requantiser.specs.Blocks.{no_blocks};
 ghost use Rattle.requantiser.specs.Levels.{HasWeights};
 ghost use Rattle.requantiser.specs.Macroblocks.{pattern_of as pattern_of_blocks};
@@ -11,14 +11,12 @@ ghost use Rattle.requantiser.specs.Private.Walk.{coarsened_blocks, made_blocks, 
 use crate::block::coarsen_block;
 use crate::codes::Codes;
 use arrayvec::ArrayVec;
+use picture_grammar::stands::{block_way, has_dct_type, is_coded};
 use quant_math::map_code;
 use syntax_types::{
-    BLOCKS, Block, BlockWay, FRAME_PICTURE, Kind, Macroblock, PicCoding, RunLevel, SeqState,
+    BLOCKS, Block, Kind, Macroblock, PicCoding, RunLevel, SeqState,
     VECTORS_MOST, Vector,
 };
-
-/// The blocks of luminance stand before those of chrominance (ISO/IEC 13818-2, 6.1.3.1).
-const LUMINANCE_BLOCKS: usize = 4;
 
 /// Writes the blocks that stand in the coarser picture for those of a macroblock, and says whether it is coded there.
 pub fn make_blocks(
@@ -61,16 +59,6 @@ fn coarsen_blocks(
     for i in 0..BLOCKS {
         let way = block_way(coding, from.kind, i);
         coarsen_block(seq, coding, way, codes, &from.blocks[i], &mut to[i]);
-    }
-}
-
-pub fn block_way(coding: &PicCoding, kind: Kind, i: usize) -> BlockWay
-    ensures { result ≡ way_of_block coding.now kind i }
-{
-    BlockWay {
-        intra: kind.intra,
-        luma: i < LUMINANCE_BLOCKS,
-        vlc_one: coding.intra_vlc_format,
     }
 }
 
@@ -127,13 +115,6 @@ fn first_coded(from: &Macroblock) -> usize
     0
 }
 
-fn is_coded(kind: Kind, pattern: u8, i: usize) -> bool
-    requires { i < BLOCKS }
-    ensures { result ≡ is_coded_block kind pattern i }
-{
-    kind.intra || pattern >> (BLOCKS - 1 - i) & 1 == 1
-}
-
 /// Writes what a macroblock says in the coarser picture besides its blocks, which stand already.
 pub fn write_head(
     coding: &PicCoding,
@@ -171,15 +152,6 @@ pub fn write_head(
     copy_vectors(&from.forward, &mut to.forward);
     copy_vectors(&from.backward, &mut to.backward);
     to.pattern = pattern;
-}
-
-/// dct_type stands in a frame picture, where there are coefficients and it may vary (ISO/IEC 13818-2, 6.2.5.1).
-fn has_dct_type(coding: &PicCoding, kind: Kind) -> bool
-    ensures { result ≡ dct_type_stands coding.now kind }
-{
-    coding.structure == FRAME_PICTURE
-        && !coding.frame_pred_frame_dct
-        && (kind.intra || kind.pattern)
 }
 
 /// coded_block_pattern: a bit for each block, the first one the most significant (ISO/IEC 13818-2, 6.3.17.4).

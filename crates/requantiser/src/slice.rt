@@ -89,39 +89,11 @@ fn add_macroblock(
     ensures behind { IsStateBehind from.now (coarsened_macroblock seq.now coding.now state.old.m inner
         (unwrap_or from.now.code state.old.source_code) state.old.version_code (state.old.skipped + from.now.skipped_before) from.now) state.old state.new }
 {
-    let mut to = empty_macroblock();
+    let mut to = Macroblock::empty();
     if step(seq, coding, inner, state, from, &mut to) {
         made.push(to)?;
     }
     Ok(())
-}
-
-/// A macroblock that says nothing yet.
-fn empty_macroblock() -> Macroblock {
-    Macroblock {
-        skipped_before: 0,
-        kind: Kind {
-            quant: false,
-            forward: false,
-            backward: false,
-            pattern: false,
-            intra: false,
-        },
-        motion_type: FRAME_BASED,
-        field_dct: false,
-        code: None,
-        forward: ArrayVec::new(),
-        backward: ArrayVec::new(),
-        pattern: 0,
-        blocks: [
-            Block::default(),
-            Block::default(),
-            Block::default(),
-            Block::default(),
-            Block::default(),
-            Block::default(),
-        ],
-    }
 }
 
 fn copy_info(alloc: Global, info: &Option<SliceInfo>) -> Result<Option<SliceInfo>, OutOfMemory>

@@ -41,7 +41,7 @@ use Rattle.version_table.specs.Table.{IsValidTable}
 use Rattle.version_table.specs.Choice.{Fits}
 use Rattle.slot_rule.specs.declared.queue_state.QueueState.{QueueState}
 use Rattle.slot_rule.specs.declared.run_state.RunState.{RunState}
-use Rattle.slot_rule.specs.declared.states.TheConstants.{STREAMS_MOST}
+use Rattle.slot_rule.specs.declared.states.TheConstants.{QUEUES_MOST}
 use Rattle.slot_rule.specs.declared.sent.Miss.{Miss}
 use Rattle.slot_rule.specs.declared.turns.Turn.{Turn}
 use Rattle.slot_rule.specs.Queues.{QueuedPacket, Queue, queues_of}
@@ -143,7 +143,7 @@ CountsCheckpoints-sent table choice count first end before ends waits from upto 
     inr (last, inr (ends.rows ++ ends.last ∷ [], ends.schedule, carried), checkpoint_before last count (omega (arith, ends.from)) (omega (arith, ends.upto)))
 
 -- ---- before the first slot
-pub states_few_first : (table : Table) (choice : List ℕ) (states : List QueueState) → IsValidTable table → map (queue_of table choice) states ≡ queues_of table choice → length states ≤ STREAMS_MOST
+pub states_few_first : (table : Table) (choice : List ℕ) (states : List QueueState) → IsValidTable table → map (queue_of table choice) states ≡ queues_of table choice → length states ≤ QUEUES_MOST
 states_few_first table choice states valid queues =
     omega (arith, queues_of-few table choice valid, sym (length-map states (queue_of table choice)) ∙ ap (λ (list : List Queue). length list) queues)
 

@@ -12,7 +12,7 @@ use Rattle.version_table.specs.Table.{IsValidTable, units_of}
 use Rattle.version_table.specs.Choice.{Fits, HasVersion}
 use Rattle.slot_rule.specs.declared.queue_items.QueueItems.{QueueItems}
 use Rattle.slot_rule.specs.declared.queue_items.QueueItems.TheVariants.{Units}
-use Rattle.slot_rule.specs.declared.states.TheConstants.{STREAMS_MOST}
+use Rattle.slot_rule.specs.declared.states.TheConstants.{QUEUES_MOST}
 use Rattle.slot_rule.specs.declared.queue_state.QueueState.{QueueState}
 use Rattle.slot_rule.specs.Private.QueueItems.{HasSizes, IsPlace, program_at}
 use Rattle.slot_rule.specs.Private.States.{places_from, places_in, places_kept, queue_of}
@@ -50,7 +50,7 @@ place_of_program table choice p first valid fits within first_is =
 
 -- there is room for the streams of the next program
 pub room_for_program : (table : Table) (choice : List ℕ) (p : ℕ) (states : List QueueState) → IsValidTable table → p < length table.programs
-    → map (queue_of table choice) states ≡ queues_from 0 (take p table.programs) choice → length states + (1 + length (program_at table p).audios) ≤ STREAMS_MOST
+    → map (queue_of table choice) states ≡ queues_from 0 (take p table.programs) choice → length states + (1 + length (program_at table p).audios) ≤ QUEUES_MOST
 room_for_program table choice p states valid within queues =
     let many : length states ≡ sum_by (λ row. suc (length row.audios)) (take p table.programs) =
     sym (length-map states (queue_of table choice)) ∙ ap (λ (s : List Queue). length s) queues ∙ length-queues_from 0 (take p table.programs) choice in

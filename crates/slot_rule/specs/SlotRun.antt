@@ -1,6 +1,7 @@
 -- A run of the slot rule that is kept: how far it came, and the work that waits in the buffers at each checkpoint.
 use Rattle.std.specs.Prelude.{◌≡◌, ℕ, suc, ◌+◌, ◌/◌, ◌≤◌, ◌⊎◌, All, List, [], length, sum_by, slice_get, Option, Some, None}
 use Rattle.version_table.specs.declared.table.Table.{Table}
+use Rattle.slot_rule.specs.declared.checkpoints.TheConstants.{SLOTS_APART}
 use Rattle.slot_rule.specs.declared.sent.Miss.{Miss}
 use Rattle.slot_rule.specs.Queues.{QueueKind, Video, Audio, Queue, queues_of}
 use Rattle.slot_rule.specs.Buffers.{Row, tb_work, mb_work}
@@ -14,7 +15,7 @@ pub record KeptRun : Type 0 where
 
 -- slots from one checkpoint to the next
 abbrev pub slots_apart : ℕ
-slots_apart = 4096
+slots_apart = SLOTS_APART
 
 -- no queue has a packet
 abbrev pub HasNoPacket : Table → List ℕ → Type 0

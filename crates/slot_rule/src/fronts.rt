@@ -1,13 +1,13 @@
 ghost use Rattle.std.specs.Prelude.{◌≡◌, ◌<◌, ◌≤◌, All, IsTrue, Some, length, take};
 ghost use Rattle.slot_rule.specs.declared.queued_packet.QueuedPacket.{QueuedPacket as Packet};
-ghost use Rattle.slot_rule.specs.declared.states.TheConstants.{STREAMS_MOST};
+ghost use Rattle.slot_rule.specs.declared.states.TheConstants.{QUEUES_MOST};
 ghost use Rattle.slot_rule.specs.Private.Checkpoints.{AreFronts, AreWithin, IsFrontOf, IsWholeOf, IsWithin};
 ghost use Rattle.slot_rule.specs.Private.QueueItems.{IsPlace};
 
 use crate::queue_items::{QueueItems, program_at};
 use crate::queue_state::QueueState;
 use crate::queued_packet::QueuedPacket;
-use crate::states::STREAMS_MOST;
+use crate::states::QUEUES_MOST;
 use arrayvec::ArrayVec;
 use version_table::Table;
 
@@ -31,11 +31,11 @@ impl Default for Front {
 }
 
 /// The fronts of all queues, in their order.
-pub type Fronts = ArrayVec<Front, STREAMS_MOST>;
+pub type Fronts = ArrayVec<Front, QUEUES_MOST>;
 
 /// The fronts of the queues with these states, under two choices.
 pub fn fronts_of(table: &Table, old: &[u8], new: &[u8], states: &[QueueState]) -> Fronts
-    requires few { length states.now ≤ STREAMS_MOST }
+    requires few { length states.now ≤ QUEUES_MOST }
     requires as_many { length old.now ≡ length new.now }
     requires places { All (λ state. IsPlace table.now new.now state.items) states.now }
     ensures { AreFronts table.now old.now new.now states.now result.items }

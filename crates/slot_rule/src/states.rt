@@ -18,10 +18,10 @@ use version_table::limits::{AUDIOS_MOST, PROGRAMS_MOST};
 use version_table::{Choice, Table};
 
 /// Streams of a table, at most.
-pub const STREAMS_MOST: usize = PROGRAMS_MOST * (1 + AUDIOS_MOST);
+pub const QUEUES_MOST: usize = PROGRAMS_MOST * (1 + AUDIOS_MOST);
 
 /// The states of all streams, in stream order.
-pub type States = ArrayVec<QueueState, STREAMS_MOST>;
+pub type States = ArrayVec<QueueState, QUEUES_MOST>;
 
 /// The states of a table's streams before the first slot.
 pub fn first_states(table: &Table, choice: &Choice) -> States
@@ -45,7 +45,7 @@ fn add_program(table: &Table, choice: &Choice, states: &mut States, program: usi
     requires few { program < 256 }
     requires place { IsPlace table.now choice.now (Units program first) }
     requires vbv { (program_at table.now program).vbv ≤ VBV_MOST }
-    requires room { array_vec_len states.old + (1 + length (program_at table.now program).audios) ≤ STREAMS_MOST }
+    requires room { array_vec_len states.old + (1 + length (program_at table.now program).audios) ≤ QUEUES_MOST }
     requires first { All (IsFirstState table.now choice.now) states.old.items }
     ensures queues { map (queue_of table.now choice.now) states.new.items
         ≡ map (queue_of table.now choice.now) states.old.items
@@ -87,7 +87,7 @@ fn add_stream(
     requires place { IsPlace table.now choice.now items }
     requires kind { kind ≡ (queue_at table.now choice.now items).kind }
     requires sized { IsKind kind }
-    requires room { array_vec_len states.old < STREAMS_MOST }
+    requires room { array_vec_len states.old < QUEUES_MOST }
     requires first { All (IsFirstState table.now choice.now) states.old.items }
     ensures queues { map (queue_of table.now choice.now) states.new.items
         ≡ map (queue_of table.now choice.now) states.old.items ++ queue_at table.now choice.now items ∷ [] }

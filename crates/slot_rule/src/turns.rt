@@ -1,12 +1,12 @@
 ghost use Rattle.std.specs.Prelude.{◌≡◌, ℕ, ◌<◌, ◌≤◌, ◌↔◌, All, IsTrue, length, slice_index_or};
 ghost use Rattle.arrayvec.specs.ArrayVec.{array_vec_len};
-ghost use Rattle.slot_rule.specs.declared.states.TheConstants.{STREAMS_MOST};
+ghost use Rattle.slot_rule.specs.declared.states.TheConstants.{QUEUES_MOST};
 ghost use Rattle.slot_rule.specs.declared.turns.Turn.{Turn};
 ghost use Rattle.slot_rule.specs.Private.Turns.{AddsTurn, AreTurns, GoesBefore, IsTurnOrder, PassesTurn, turn_of};
 
 use crate::queue_state::QueueState;
 use crate::queued_packet::QueuedPacket;
-use crate::states::STREAMS_MOST;
+use crate::states::QUEUES_MOST;
 use arrayvec::ArrayVec;
 
 /// When the head packet of a queue goes, among those of all queues: by its due time, then by the queue's number.
@@ -19,7 +19,7 @@ pub struct Turn {
 }
 
 /// The turns of all queues that have a head packet, in order.
-pub type Turns = ArrayVec<Turn, STREAMS_MOST>;
+pub type Turns = ArrayVec<Turn, QUEUES_MOST>;
 
 impl Turn {
     /// The turn of a packet of the queue of this number.
@@ -42,7 +42,7 @@ impl Turn {
 
 /// The turns of the head packets of these queues.
 pub fn first_turns(states: &[QueueState]) -> Turns
-    requires { length states.now ≤ STREAMS_MOST }
+    requires { length states.now ≤ QUEUES_MOST }
     ensures { AreTurns states.now result.items }
 {
     let mut turns = Turns::new();
@@ -76,7 +76,7 @@ pub fn pass_turn(turns: &mut Turns, place: usize, next: Option<QueuedPacket>)
 
 /// Adds the turn of a queue that has none, at its place in the order.
 fn add_turn(turns: &mut Turns, turn: Turn)
-    requires room { array_vec_len turns.old < STREAMS_MOST }
+    requires room { array_vec_len turns.old < QUEUES_MOST }
     requires order { IsTurnOrder turns.old.items }
     requires apart { All (λ other. other.stream ≡ turn.stream → ⊥) turns.old.items }
     ensures order { IsTurnOrder turns.new.items }

@@ -6,6 +6,7 @@
 
 pub mod clock;
 pub mod decoder;
+pub mod limits;
 pub mod main_level;
 pub mod packets;
 pub mod start_codes;

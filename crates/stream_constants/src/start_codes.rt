@@ -3,6 +3,12 @@
 /// Bits of start_code_prefix, 23 zeros and a one.
 pub const PREFIX_BITS: u32 = 24;
 
+/// Bytes of a start code: its prefix 00 00 01 and its value (6.2.1).
+pub const START_CODE_BYTES: usize = 4;
+
+/// Bytes of a group of pictures header, with its start code and the zero bits that close it (6.2.2.6).
+pub const GROUP_HEADER_BYTES: usize = 8;
+
 /// picture_start_code.
 pub const PICTURE: u8 = 0x00;
 

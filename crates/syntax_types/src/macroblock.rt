@@ -1,3 +1,6 @@
+ghost use Rattle.std.specs.Prelude.{◌≡◌};
+ghost use Rattle.syntax_types.specs.EmptyMacroblock.{empty_macroblock};
+
 use crate::block::Block;
 use arrayvec::ArrayVec;
 
@@ -70,4 +73,36 @@ pub struct Macroblock {
     pub pattern: u8,
     /// The blocks in their order; those that aren't coded are empty.
     pub blocks: [Block; BLOCKS],
+}
+
+impl Macroblock {
+    /// A macroblock to be lent: none skipped before it, no vector and no coefficient.
+    pub fn empty() -> Macroblock
+        ensures { result ≡ empty_macroblock }
+    {
+        Macroblock {
+            skipped_before: 0,
+            kind: Kind {
+                quant: false,
+                forward: false,
+                backward: false,
+                pattern: false,
+                intra: false,
+            },
+            motion_type: FRAME_BASED,
+            field_dct: false,
+            code: None,
+            forward: ArrayVec::new(),
+            backward: ArrayVec::new(),
+            pattern: 0,
+            blocks: [
+                Block::default(),
+                Block::default(),
+                Block::default(),
+                Block::default(),
+                Block::default(),
+                Block::default(),
+            ],
+        }
+    }
 }

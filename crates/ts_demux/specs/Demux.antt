@@ -1,5 +1,6 @@
 -- A program taken out of a transport stream: what is answered, or the first refusal.
 use Rattle.std.specs.Prelude.{◌≡◌, ℕ, ◌+◌, ◌*◌, ◌<◌, ◌≤◌, ◌⊎◌, true, List, [], ◌∷◌, length, map, Some, None}
+use Rattle.stream_constants.specs.declared.limits.TheConstants.{AUDIOS_MOST}
 use Rattle.stream_constants.specs.declared.packets.TheConstants.{PACKET_BYTES}
 use Rattle.ts_packets.specs.declared.pid_fault.PidFault.{PidFault}
 use Rattle.ts_packets.specs.TransportStream.{Piece, piece_count, pieces_of, rest_of}
@@ -22,7 +23,7 @@ use Rattle.ts_demux.specs.Tables.{HasNoSync, HasPidFault, HasMap, IsTablesFault}
 
 -- the most audio streams of a program
 abbrev pub most_audios : ℕ
-most_audios = 8
+most_audios = AUDIOS_MOST
 
 -- A map with the streams of another one that are carried alone, and the PIDs of its other streams.
 pub record IsCarriedMap (drop : List ℕ) (whole carried_map : ProgramMap) (others : List ℕ) : Type 0 where

@@ -12,10 +12,11 @@ use crate::table_walk::read_map;
 use list_types::ListOf;
 use psi_tables::{PACKET_SECTION_BYTES, pmt_length};
 use std::alloc::Global;
+use stream_constants::limits::AUDIOS_MOST;
 use stream_constants::packets::PACKET_BYTES;
 
-/// The most streams that are carried: the video and eight audio streams.
-const STREAMS_CARRIED: usize = 1 + 8;
+/// The most streams that are carried: the video and the audio streams.
+const STREAMS_CARRIED: usize = 1 + AUDIOS_MOST;
 
 /// Takes a program out of a transport stream (ISO/IEC 13818-1, 2.4.3 and 2.4.4): the PES packets of its first video stream
 /// and of its audio streams, but for those whose PIDs are in `drop`. An error is the first refusal in the order of reading:

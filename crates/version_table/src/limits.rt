@@ -1,5 +1,7 @@
 //! What the numbers of a table may be. Ticks are 1/27,000,000 s.
 
+use stream_constants::limits;
+
 /// Ticks of a packet slot, at least.
 pub const SLOT_LEAST: u32 = 1_016;
 /// Ticks of a packet slot, at most.
@@ -9,9 +11,9 @@ pub const NODES_MOST: u32 = 1_048_576;
 /// Evaluations of a search, at most.
 pub const EVALUATIONS_MOST: u32 = 1_048_576;
 /// Programs of a table, at most.
-pub const PROGRAMS_MOST: usize = 8;
+pub const PROGRAMS_MOST: usize = limits::PROGRAMS_MOST;
 /// Audio streams of a program, at most.
-pub const AUDIOS_MOST: usize = 8;
+pub const AUDIOS_MOST: usize = limits::AUDIOS_MOST;
 /// Units of a table over all programs, at most.
 pub const UNITS_MOST: usize = 32_768;
 /// Versions of a unit, at most; at least one.

@@ -1,7 +1,7 @@
 -- How a unit's picture start code is looked for.
 use Rattle.std.specs.Prelude.{◌≡◌, ◌⊎◌, ◌+◌, ◌≤◌, ◌<◌, ℕ, List}
 use Rattle.stream_constants.specs.declared.start_codes.TheConstants.{GROUP, PICTURE}
-use Rattle.picture_writer.specs.declared.vbv_delay.TheConstants.{GROUP_HEADER_BYTES}
+use Rattle.stream_constants.specs.declared.start_codes.TheConstants.{GROUP_HEADER_BYTES}
 use Rattle.picture_writer.specs.VbvDelay.{CodeStands, IsInGroup}
 
 -- the first place behind the group of pictures header that begins there, or the one before where none does
