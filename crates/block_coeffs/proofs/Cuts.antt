@@ -8,7 +8,7 @@ use Rattle.prefix_codes.specs.TableName.{Begins}
 use Rattle.prefix_codes.proofs.CoefficientLemmas.{IsCoefficients}
 use Rattle.picture_grammar.specs.Refusal.Refusal.{TooMany, BadEscape}
 use Rattle.picture_grammar.specs.Element.{Rule, rule, MayStand, Stands}
-use Rattle.picture_grammar.specs.Block.{Coefficient, CoefficientCode, is_within, is_level}
+use Rattle.picture_grammar.specs.Block.{Coefficient, CoefficientCode, fits_in_block, is_level}
 use Rattle.picture_grammar.proofs.Codes.{symbol_of, fronts}
 use Rattle.block_coeffs.specs.declared.why.Why.TheVariants as why
 use Rattle.grammar_reading.specs.declared.window.Window.{Window}
@@ -43,11 +43,11 @@ module _ {table : TableName} (is : IsCoefficients table) (place : ℕ) (window :
   why-full full = inl (λ m. no_long full (symbol_of m.value) (may-begin table bits none_stands [] m), refl)
 
   -- a coefficient that may stand there has a symbol that may
-  allowed : (m : MayStand (CoefficientCode table) (rule TooMany (is_within place) ∷ []) bits) → BeginAllowed table place bits
+  allowed : (m : MayStand (CoefficientCode table) (rule TooMany (fits_in_block place) ∷ []) bits) → BeginAllowed table place bits
   allowed m = record {
     symbol = symbol_of m.value;
-    fits = symbol_fits-of table place m.value m.code m.coded (and_parts (is_within place m.value) true m.passing).0;
-    begun = may-begin table bits none_stands (rule TooMany (is_within place) ∷ []) m;
+    fits = symbol_fits-of table place m.value m.code m.coded (and_parts (fits_in_block place m.value) true m.passing).0;
+    begun = may-begin table bits none_stands (rule TooMany (fits_in_block place) ∷ []) m;
   }
 
   allowed-first : (m : MayStand (CoefficientCode table) [] bits) → BeginAllowed table 0 bits
@@ -83,7 +83,7 @@ module _ {table : TableName} (is : IsCoefficients table) (place : ℕ) (window :
         let b = begun 0 a.symbol (seen window window.known) is a.begun in
         inr (inl (record {
           before = [];
-          broken = rule TooMany (is_within place);
+          broken = rule TooMany (fits_in_block place);
           after = rule BadEscape is_level ∷ [];
           order = refl;
           so_far = record { value = b.value; code = b.code; coded = b.coded; passing = refl; agrees = inr (subst (λ x. IsPrefix x b.code) (sym all) b.cut) };

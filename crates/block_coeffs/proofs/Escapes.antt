@@ -53,7 +53,7 @@ use Rattle.prefix_codes.proofs.TableLemmas.{prefix_free}
 use Rattle.picture_grammar.specs.Refusal.Refusal.{TooMany, BadEscape, End}
 use Rattle.picture_grammar.specs.Grammar.Next.{more}
 use Rattle.picture_grammar.specs.Element.{Rule, rule, passes, MayStand, Breaks}
-use Rattle.picture_grammar.specs.Block.{Coefficient, CoefficientCode, is_within, is_level, escape_level}
+use Rattle.picture_grammar.specs.Block.{Coefficient, CoefficientCode, fits_in_block, is_level, escape_level}
 use Rattle.picture_grammar.specs.Block.Coefficient.{end_of_block, run_size, escape}
 use Rattle.picture_grammar.proofs.Codes.{symbol_of, fronts, coefficient_code-listed, free-coefficient}
 use Rattle.picture_grammar.proofs.ElementLaws.{breaks}
@@ -258,12 +258,12 @@ module _ {table : TableName} (is : IsCoefficients table) (place : ℕ) (window :
         )
 
     past-whole : 64 ≤ place + the_run → IsFound table place window (Refused why.TooMany 0)
-    past-whole past = (omega arith, whole-breaks [] (rule BadEscape is_level ∷ []) (rule TooMany (is_within place)) refl refl (le-ltb (place + the_run) 64 past))
+    past-whole past = (omega arith, whole-breaks [] (rule BadEscape is_level ∷ []) (rule TooMany (fits_in_block place)) refl refl (le-ltb (place + the_run) 64 past))
 
     pub forbidden-whole : place + the_run < 64 → (the_level ≡ 0) ⊎ (the_level ≡ 2048) → IsFound table place window (Refused why.BadEscape 0)
     forbidden-whole fits forbidden =
         let within = and_from (nat_lt (place + the_run) 64) true (lt-ltb (place + the_run) 64 fits) refl in
-        (omega arith, whole-breaks (rule TooMany (is_within place) ∷ []) [] (rule BadEscape is_level) refl within (is_level-forbidden the_run the_level forbidden))
+        (omega arith, whole-breaks (rule TooMany (fits_in_block place) ∷ []) [] (rule BadEscape is_level) refl within (is_level-forbidden the_run the_level forbidden))
 
     pub pair-whole : (level : ℤ) → place + the_run < 64 → (the_level ≡ 0 → ⊥) → (the_level ≡ 2048 → ⊥) → level ≡ escape_level the_level → IsFound table place window (Pair the_run level 24)
     pair-whole level fits not_zero not_least level_is =
@@ -317,7 +317,7 @@ module _ {table : TableName} (is : IsCoefficients table) (place : ℕ) (window :
           refl,
           inr (inl (record {
             before = [];
-            broken = rule TooMany (is_within place);
+            broken = rule TooMany (fits_in_block place);
             after = rule BadEscape is_level ∷ [];
             order = refl;
             so_far = record {
@@ -328,10 +328,10 @@ module _ {table : TableName} (is : IsCoefficients table) (place : ℕ) (window :
               agrees = inr (subst (IsPrefix bits) (sym (take_all 24 (bits_of 24 window.bits) (omega (arith, length-bits_of 24 window.bits)))) (cut-front window.bits refl));
             };
             none = λ m.
-                let e = the-escape bits shows (rule TooMany (is_within place) ∷ []) m in
-                let within : nat_lt (place + e.run) 64 ≡ true = ap (is_within place) (sym e.value_is) ∙ (and_parts (is_within place m.value) true m.passing).0 in
+                let e = the-escape bits shows (rule TooMany (fits_in_block place) ∷ []) m in
+                let within : nat_lt (place + e.run) 64 ≡ true = ap (fits_in_block place) (sym e.value_is) ∙ (and_parts (fits_in_block place m.value) true m.passing).0 in
                 let fits = ltb-true (place + e.run) 64 within in
-                omega (arith, least (rule TooMany (is_within place) ∷ []) m);
+                omega (arith, least (rule TooMany (fits_in_block place) ∷ []) m);
             named = refl;
           })),
         )

@@ -43,7 +43,7 @@ use Rattle.prefix_codes.proofs.CoefficientLemmas.{IsCoefficients, coefficient_co
 use Rattle.picture_grammar.specs.Refusal.Refusal.{TooMany, BadEscape, End}
 use Rattle.picture_grammar.specs.Grammar.Next.{more, last}
 use Rattle.picture_grammar.specs.Element.{rule}
-use Rattle.picture_grammar.specs.Block.{CoefficientCode, is_within, is_level, signed}
+use Rattle.picture_grammar.specs.Block.{CoefficientCode, fits_in_block, is_level, signed}
 use Rattle.picture_grammar.specs.Block.Coefficient.{end_of_block, run_size}
 use Rattle.picture_grammar.proofs.Codes.{free-coefficient}
 use Rattle.picture_grammar.proofs.ElementLaws.{breaks}
@@ -102,7 +102,7 @@ module _ (table : TableName) (place : ℕ) where
         inl (
           refl,
           inr (inl (breaks (CoefficientCode table) (free-coefficient table) (run_size run size) code listed bits begins []
-              (rule BadEscape is_level ∷ []) (rule TooMany (is_within place)) refl (le-ltb (place + run) 64 past))),
+              (rule BadEscape is_level ∷ []) (rule TooMany (fits_in_block place)) refl (le-ltb (place + run) 64 past))),
         )
 
     -- no bit is left for the sign

@@ -14,7 +14,7 @@ use Rattle.prefix_codes.proofs.TableLemmas.{code_in-passes}
 use Rattle.prefix_codes.proofs.CoefficientLemmas.{IsCoefficients, coefficient_code-symbol}
 use Rattle.prefix_codes.proofs.CoefficientLemmas.IsCoefficients.{zero_is, first_is, one_is}
 use Rattle.picture_grammar.specs.Element.{Rule, passes, MayStand}
-use Rattle.picture_grammar.specs.Block.{Coefficient, CoefficientCode, is_within}
+use Rattle.picture_grammar.specs.Block.{Coefficient, CoefficientCode, fits_in_block}
 use Rattle.picture_grammar.specs.Block.Coefficient.{end_of_block, run_size, escape}
 use Rattle.picture_grammar.proofs.Codes.{symbol_of, fronts, coefficient_code-listed}
 use Rattle.block_coeffs.specs.Private.Why.{rules_at}
@@ -82,7 +82,7 @@ cond-either true x e = refl
 cond-either false x e = e
 
 -- a coefficient within the block has a symbol that may stand there
-pub symbol_fits-of : (table : TableName) (place : ℕ) (v : Coefficient) (c : List ℕ) → CoefficientCode table v c → is_within place v ≡ true → symbol_fits place (symbol_of v) ≡ true
+pub symbol_fits-of : (table : TableName) (place : ℕ) (v : Coefficient) (c : List ℕ) → CoefficientCode table v c → fits_in_block place v ≡ true → symbol_fits place (symbol_of v) ≡ true
 unfolding symbol_of
 symbol_fits-of table place end_of_block c coded within = refl
 symbol_fits-of table place (run_size run size) c coded within =
@@ -97,7 +97,7 @@ symbol_fits-of table place (escape run level) c coded within =
     lt-ltb (place + 0) 64 (omega arith)
 
 -- at the first place every coefficient of a table is within the block
-pub is_within-first : (table : TableName) (v : Coefficient) (c : List ℕ) → CoefficientCode table v c → is_within 0 v ≡ true
+pub is_within-first : (table : TableName) (v : Coefficient) (c : List ℕ) → CoefficientCode table v c → fits_in_block 0 v ≡ true
 is_within-first table end_of_block c coded = refl
 is_within-first table (run_size run size) c coded = let l = coefficient_code-listed table run size c coded in lt-ltb (0 + run) 64 (omega (arith, l.0))
 is_within-first table (escape run level) c (front, listed, run_fits, level_fits, is) = lt-ltb (0 + run) 64 (omega arith)

@@ -56,7 +56,7 @@ use Rattle.picture_grammar.specs.Block.{
   is_level,
   signed,
   escape_level,
-  is_within,
+  fits_in_block,
   next_place,
   coefficient_table,
   coefficient,
@@ -117,7 +117,7 @@ module _ (way : BlockWay) (before : List RunLevel) where
   coefficient_stands : (pair : RunLevel) (bits middle : List ℕ) → (coefficient way before).Spells (more pair) bits middle → Stands pair
   coefficient_stands pair bits middle (c, m, s, t) = by_code c m s t where
     by_code : (c : Coefficient) (m : List ℕ) → (element (CoefficientCode (coefficient_table way (next_place way before))) NoCode
-        (rule TooMany (is_within (next_place way before)) ∷ rule BadEscape is_level ∷ [])).Spells c bits m
+        (rule TooMany (fits_in_block (next_place way before)) ∷ rule BadEscape is_level ∷ [])).Spells c bits m
         → (after_code c).Spells (more pair) m middle → Stands pair
     by_code end_of_block m s (e, f) = absurd (let e' : more pair ≡ last tt = e in cc)
     by_code (run_size run size) m (code, listed, passing, split) (negative, m', s', (e, f)) =

@@ -13,7 +13,7 @@ use Rattle.version_table.specs.declared.table.Unit.{Unit as CodedUnit}
 use Rattle.version_table.specs.Choice.{version_at}
 use Rattle.version_table.specs.Table.{units_of}
 use Rattle.slot_rule.specs.declared.queued_packet.QueuedPacket.{QueuedPacket}
-use Rattle.slot_rule.specs.Queues.{Queue, audio_of, payloads, queues_from, queues_of, unit_packets, video_of}
+use Rattle.slot_rule.specs.Queues.{Queue, audio_of, payloads, queues_from, queues_of, unit_packets, video_queue}
 use Rattle.slot_rule.proofs.RuleQueues.{audio_packet, units_in}
 use Rattle.slot_rule.proofs.RuleUnits.{length-payloads}
 use Rattle.slot_rule.proofs.RuleVideo.{packets_from}
@@ -119,8 +119,8 @@ programs_due from due program (row ∷ rows) choice =
       ap (sum_by (packets_due from due)) (zip-append row.units (units_in rows) choice),
       sum_by-append (packets_due from due) (zip row.units choice) (zip (units_in rows) later),
       sum_by-append (λ (p : AudioPacket). cond (is_within from due p.due) 1 0) audio (audio_of_programs rows),
-      sum_by-append (λ (q : Queue). due_in from due q.packets) (video_of program row choice ∷ map audio_of row.audios) (queues_from (program + 1) rows later),
-      sum_by-cons (λ (q : Queue). due_in from due q.packets) (video_of program row choice) (map audio_of row.audios),
+      sum_by-append (λ (q : Queue). due_in from due q.packets) (video_queue program row choice ∷ map audio_of row.audios) (queues_from (program + 1) rows later),
+      sum_by-cons (λ (q : Queue). due_in from due q.packets) (video_queue program row choice) (map audio_of row.audios),
       video_due from due 0 row.units choice,
       audios_due from due row.audios,
       programs_due from due (program + 1) rows later,

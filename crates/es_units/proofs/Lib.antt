@@ -1,5 +1,4 @@
 pub mod BehindSlice
-pub mod Codes
 pub mod CutSteps
 mod Examples
 pub mod Places

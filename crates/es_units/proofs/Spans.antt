@@ -1,7 +1,7 @@
 -- The units and the number of dropped ones, one cut further.
 use Rattle.std.proofs.Common.{◌≡◌, ℕ, suc, Bool, true, false, ◌+◌, ◌-◌, ◌^◌, ◌<◌, ◌≤◌, min, ◌&&◌, List, [], ◌∷◌, ◌++◌, length, filter, Some, nat_lt, nat_le, refl, sym, ap, ◌∙◌, append_assoc, arith}
 use Rattle.std.proofs.lemmas.Bool.{and_left, and_right, and_from, le-leb, lt-leb, lt-ltb, le-ltb}
-use Rattle.es_units.specs.Units.{places, is_unit_cut, first_sequence, spans, cuts_up_to, cuts_behind, units_of}
+use Rattle.es_units.specs.Units.{places, is_unit_cut, first_sequence, spans, cuts_up_to, cuts_behind, cut_units}
 use Rattle.es_units.proofs.Places.{filter_at, filter_past, filter_none}
 
 abbrev early : List ℕ → ℕ → ℕ → Bool
@@ -64,5 +64,5 @@ spans_all es first from begin cuts total within none before =
 
 pub units_are : (es : List ℕ) (first dropped : ℕ) (cuts : List (ℕ × ℕ)) → Some first ≡ first_sequence es
     → dropped ≡ min (cuts_up_to es first) (2 ^ 32 - 1) → cuts ≡ spans first (cuts_behind es first) (length es)
-    → units_of es ≡ Some (record { dropped = dropped; cuts = cuts })
+    → cut_units es ≡ Some (record { dropped = dropped; cuts = cuts })
 units_are es first dropped cuts found count are = rw (← found, count, are) refl

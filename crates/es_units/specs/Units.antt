@@ -3,7 +3,7 @@ use Rattle.std.specs.Prelude.{ℕ, ◌+◌, ◌-◌, ◌^◌, min, nat_lt, nat_l
 use Rattle.std.specs.List.{find, list_any, list_all, range_with_len}
 use Rattle.std.specs.Option.{option_map}
 use Rattle.es_units.specs.declared.units.Units.{Units}
-use Rattle.es_units.specs.StartCodes.{is_slice, is_sequence_header, is_unit_start, has_code}
+use Rattle.start_codes.specs.StartCodes.{is_slice, is_sequence_header, is_unit_start, has_code}
 
 -- the places from one up to another, which isn't one of them
 abbrev pub places : ℕ → ℕ → List ℕ
@@ -37,5 +37,5 @@ cuts_behind es first = filter (λ at. is_unit_cut es at && nat_lt first at) (pla
 
 -- The units from the first sequence header on, and how many end there or earlier; none without a sequence header.
 -- The number stands still at 2^32 - 1.
-abbrev pub units_of : List ℕ → Option Units
-units_of es = option_map (λ first. record { dropped = min (cuts_up_to es first) (2 ^ 32 - 1); cuts = spans first (cuts_behind es first) (length es) }) (first_sequence es)
+abbrev pub cut_units : List ℕ → Option Units
+cut_units es = option_map (λ first. record { dropped = min (cuts_up_to es first) (2 ^ 32 - 1); cuts = spans first (cuts_behind es first) (length es) }) (first_sequence es)

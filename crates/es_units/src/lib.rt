@@ -2,11 +2,10 @@
 //!
 //! `split_units` finds where the units begin and end by start codes alone: a unit begins at the first sequence header,
 //! GOP header or picture header behind a slice. What stands before the first sequence header is dropped.
-//! Stands on `list_types`.
+//! Stands on `list_types` and `start_codes`.
 #![tactic(auto)]
 
 mod cuts;
-mod start_codes;
 mod unit_fault;
 mod units;
 

@@ -1,5 +1,5 @@
 ghost use Rattle.std.specs.Prelude.{◌≡◌, ℕ, Some, None, IfOk, Err};
-ghost use Rattle.es_units.specs.Units.{units_of, first_sequence};
+ghost use Rattle.es_units.specs.Units.{cut_units, first_sequence};
 
 use crate::cuts::{find_sequence, next_cut};
 use crate::unit_fault::UnitFault;
@@ -19,7 +19,7 @@ pub struct Units {
 /// Cuts a video stream into units. The only errors are NoSequence at 0, exactly where no sequence header stands, and
 /// want of memory.
 pub fn split_units(alloc: Global, es: &[u8]) -> Result<Units, UnitFault>
-    ensures units { IfOk result (λ units. units_of es.now ≡ Some units) }
+    ensures units { IfOk result (λ units. cut_units es.now ≡ Some units) }
     ensures no_sequence { (at : ℕ) → result ≡ Err (UnitFault.NoSequence at) → (at ≡ 0) × (first_sequence es.now ≡ None) }
 {
     let Some(first) = find_sequence(es) else {

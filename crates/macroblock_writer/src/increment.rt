@@ -4,9 +4,12 @@ ghost use Rattle.picture_grammar.specs.Written.{written_increment};
 
 use bit_cursor::BitWriter;
 use block_coeffs::write_code;
-use picture_grammar::limits::ESCAPE_INCREMENT;
+use picture_grammar::limits;
 use prefix_codes::{TableName, symbol};
 use shelf_io::{Fault, Sink};
+
+/// What macroblock_escape adds to the increment that follows (6.3.17).
+const ESCAPE_INCREMENT: u32 = limits::ESCAPE_INCREMENT as u32;
 
 /// Writes macroblock_address_increment with the escapes before it (6.2.5).
 pub fn write_increment<K: Sink>(to: &mut BitWriter<'_, K>, increment: u32) -> Result<(), Fault>
@@ -15,9 +18,9 @@ pub fn write_increment<K: Sink>(to: &mut BitWriter<'_, K>, increment: u32) -> Re
     ensures { Writes K.written K.faults K.keeps to.old to.new result (written_increment increment) }
 {
     let mut left = increment;
-    while left > u32::from(ESCAPE_INCREMENT) {
+    while left > ESCAPE_INCREMENT {
         write_code(to, TableName::Address, symbol::ADDRESS_ESCAPE)?;
-        left -= u32::from(ESCAPE_INCREMENT);
+        left -= ESCAPE_INCREMENT;
     }
     write_code(to, TableName::Address, left as u16)
 }

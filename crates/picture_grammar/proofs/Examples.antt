@@ -8,7 +8,7 @@ use Rattle.syntax_types.specs.declared.block.BlockWay.{BlockWay}
 use Rattle.syntax_types.specs.declared.block.Dc.{Dc}
 use Rattle.syntax_types.specs.declared.block.RunLevel.{RunLevel}
 use Rattle.picture_grammar.specs.Refusal.Refusal.{TooMany, BadEscape}
-use Rattle.picture_grammar.specs.Block.{CoefficientCode, is_within, is_level, block}
+use Rattle.picture_grammar.specs.Block.{CoefficientCode, fits_in_block, is_level, block}
 use Rattle.picture_grammar.specs.Element.{rule}
 use Rattle.picture_grammar.proofs.Codes.{free-coefficient}
 use Rattle.picture_grammar.proofs.ElementLaws.{breaks}
@@ -53,7 +53,7 @@ bad_escape =
           refl,
           inr (inl (
               breaks (CoefficientCode CoeffFirst) (free-coefficient CoeffFirst) (escape 0 2048) code (bits_of 6 1, refl, omega arith, omega arith, refl) bits refl
-              (rule TooMany (is_within 0) ∷ []) [] (rule BadEscape is_level) refl refl)),
+              (rule TooMany (fits_in_block 0) ∷ []) [] (rule BadEscape is_level) refl refl)),
         ),
       ),
     )

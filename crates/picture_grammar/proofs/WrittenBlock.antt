@@ -66,7 +66,7 @@ use Rattle.picture_grammar.specs.Block.{
   is_level,
   signed,
   escape_level,
-  is_within,
+  fits_in_block,
   next_place,
   coefficient_table,
   coefficient,
@@ -121,7 +121,7 @@ module _ (way : BlockWay) (before : List RunLevel) where
   -- by an escape where the table has no code
   pub by_escape : (pair : RunLevel) (level : ℕ) (front other : List ℕ) → coefficient_code (coefficient_table way (next_place way before)) pair.run (unsigned_abs pair.level) ≡ None
       → code_in (coefficient_table way (next_place way before)) ESCAPE ≡ Some front → pair.run < 2 ^ 6 → level < 2 ^ 12 → escape_level level ≡ pair.level
-      → passes (rule TooMany (is_within (next_place way before)) ∷ rule BadEscape is_level ∷ []) (escape pair.run level) ≡ true → Written pair other
+      → passes (rule TooMany (fits_in_block (next_place way before)) ∷ rule BadEscape is_level ∷ []) (escape pair.run level) ≡ true → Written pair other
   by_escape pair level front other none listed run_fits level_fits level_is passing =
       let table = coefficient_table way (next_place way before) in
       let negative = int_lt pair.level (pos 0) in
@@ -146,7 +146,7 @@ module _ (way : BlockWay) (before : List RunLevel) where
       go None e = none e
 
     by_code : (c : Coefficient) (m : List ℕ) → (element (CoefficientCode (coefficient_table way (next_place way before))) NoCode
-        (rule TooMany (is_within (next_place way before)) ∷ rule BadEscape is_level ∷ [])).Spells c bits m
+        (rule TooMany (fits_in_block (next_place way before)) ∷ rule BadEscape is_level ∷ [])).Spells c bits m
         → (after_code c).Spells (more pair) m middle → Written pair other
     by_code end_of_block m s (e, f) = absurd (let e' : more pair ≡ last tt = e in cc)
     by_code (run_size run size) m (code, listed, passing, split) (negative, m', s', (e, f)) =
@@ -166,7 +166,7 @@ module _ (way : BlockWay) (before : List RunLevel) where
       → (coefficient way before).Spells (last tt) (code_for (coefficient_table way (next_place way before)) END_OF_BLOCK ++ other) other
   end_written bits middle other (c, m, s, t) = by_code c m s t where
     by_code : (c : Coefficient) (m : List ℕ) → (element (CoefficientCode (coefficient_table way (next_place way before))) NoCode
-        (rule TooMany (is_within (next_place way before)) ∷ rule BadEscape is_level ∷ [])).Spells c bits m
+        (rule TooMany (fits_in_block (next_place way before)) ∷ rule BadEscape is_level ∷ [])).Spells c bits m
         → (after_code c).Spells (last tt) m middle → (coefficient way before).Spells (last tt) (code_for (coefficient_table way (next_place way before)) END_OF_BLOCK ++ other) other
     by_code end_of_block m (code, listed, passing, split) (e, f) =
         (end_of_block, other, (code, listed, refl, ap (λ c. c ++ other) (code_for-listed (coefficient_table way (next_place way before)) END_OF_BLOCK code listed)), (refl, refl))

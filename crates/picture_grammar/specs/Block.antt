@@ -60,10 +60,10 @@ abbrev pub escape_level : ℕ → ℤ
 escape_level level = if nat_lt level (2 ^ (LEVEL_BITS - 1)) then pos level else neg_ℤ (pos (2 ^ LEVEL_BITS - level))
 
 -- no coefficient stands past the last place
-abbrev pub is_within : ℕ → Coefficient → Bool
-is_within place end_of_block = true
-is_within place (run_size run size) = nat_lt (place + run) BLOCK_PLACES
-is_within place (escape run level) = nat_lt (place + run) BLOCK_PLACES
+abbrev pub fits_in_block : ℕ → Coefficient → Bool
+fits_in_block place end_of_block = true
+fits_in_block place (run_size run size) = nat_lt (place + run) BLOCK_PLACES
+fits_in_block place (escape run level) = nat_lt (place + run) BLOCK_PLACES
 
 -- the levels 0 and -2048 are forbidden (Table B-16)
 abbrev pub is_level : Coefficient → Bool
@@ -91,7 +91,7 @@ next_place way pairs = first_place way + sum_by (λ pair. pair.run + 1) pairs
 abbrev pub coefficient : BlockWay → List RunLevel → Grammar (Next RunLevel (Unit {0}))
 coefficient way before =
     let place = next_place way before in
-    element (CoefficientCode (coefficient_table way place)) NoCode (rule TooMany (is_within place) ∷ rule BadEscape is_level ∷ []) >>= after_code
+    element (CoefficientCode (coefficient_table way place)) NoCode (rule TooMany (fits_in_block place) ∷ rule BadEscape is_level ∷ []) >>= after_code
 
 -- ---- block(i) (6.2.6)
 

@@ -1,2 +1,1 @@
-pub mod StartCodes
 pub mod Walk

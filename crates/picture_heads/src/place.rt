@@ -1,8 +1,8 @@
 ghost use Rattle.std.specs.Prelude.{◌≡◌, ℕ, true, false, ◌+◌, ◌*◌, ◌%◌, ◌-◌, ◌<◌, ◌≤◌, ◌++◌, List, length, Some, None, IfSome, MatchOption};
 ghost use Rattle.bit_lists.specs.Fields.{AreBytes, bit_list};
-ghost use Rattle.picture_heads.specs.Private.StartCodes.{is_start_code_at};
 ghost use Rattle.picture_heads.specs.Private.Walk.{LeadsIn};
 
+use start_codes::next_start_code;
 use stream_constants::start_codes::{GROUP, GROUP_HEADER_BYTES, PICTURE, START_CODE_BYTES};
 
 /// Bytes of a group of pictures header behind its start code, with the zero bits that close it (ISO/IEC 13818-2, 6.2.2.6).
@@ -16,11 +16,11 @@ pub fn behind_picture_code(head: &[u8]) -> Option<usize>
 {
     let mut at = 0;
     while let Some(code) = next_start_code(head, at) {
-        let value = head[code + (START_CODE_BYTES - 1)];
+        let value = code.value;
         if value == PICTURE {
-            return Some(code + START_CODE_BYTES);
+            return Some(code.at + START_CODE_BYTES);
         }
-        at = behind_code(head, code, value);
+        at = behind_code(head, code.at, value);
     }
     None
 }
@@ -39,29 +39,4 @@ fn behind_code(head: &[u8], code: usize, value: u8) -> usize
     } else {
         behind
     }
-}
-
-/// The first start code at a place or behind it.
-fn next_start_code(bytes: &[u8], from: usize) -> Option<usize>
-    requires { from ≤ length bytes.now }
-    ensures found { IfSome result (λ code. (from ≤ code) × (is_start_code_at bytes.now code ≡ true)) }
-    ensures first { MatchOption result ((at : ℕ) → from ≤ at → is_start_code_at bytes.now at ≡ false) (λ code. (at : ℕ) → from ≤ at → at < code → is_start_code_at bytes.now at ≡ false) }
-{
-    for at in from..bytes.len() {
-        if is_start_code(bytes, at) {
-            return Some(at);
-        }
-    }
-    None
-}
-
-/// A start code stands at a place.
-fn is_start_code(bytes: &[u8], at: usize) -> bool
-    requires { at < length bytes.now }
-    ensures { result ≡ is_start_code_at bytes.now at }
-{
-    bytes.len() - at >= START_CODE_BYTES
-        && bytes[at] == 0
-        && bytes[at + 1] == 0
-        && bytes[at + 2] == 1
 }

@@ -53,7 +53,7 @@ use Rattle.picture_grammar.specs.Block.{
   CoefficientCode,
   after_code,
   is_level,
-  is_within,
+  fits_in_block,
   signed,
   escape_level,
   next_place,
@@ -146,7 +146,7 @@ behind_next (more pair) = 11
 behind_next (last end) = 1
 
 short-coefficient_code : (way : BlockWay) (place : ℕ) (c : Coefficient) (code : List ℕ) → CoefficientCode (coefficient_table way place) c code
-    → passes (rule TooMany (is_within place) ∷ rule BadEscape is_level ∷ []) c ≡ true → AreShort 11 code × (zeros_behind 11 code ≤ behind_code c)
+    → passes (rule TooMany (fits_in_block place) ∷ rule BadEscape is_level ∷ []) c ≡ true → AreShort 11 code × (zeros_behind 11 code ≤ behind_code c)
 short-coefficient_code way place end_of_block code listed passing = short-code 11 behind_symbol (coefficient_table way place) END_OF_BLOCK code (coefficient_entries way place) listed
 short-coefficient_code way place (run_size run size) code listed passing =
     let entry = (coefficient_code-listed (coefficient_table way place) run size code listed).3 in
@@ -180,8 +180,8 @@ short-after_code (escape run level) = short-done 11 behind_next (more (record { 
 short-coefficient : (way : BlockWay) (before : List RunLevel) → IsShort 11 behind_next (coefficient way before)
 short-coefficient way before =
     let place = next_place way before in
-    short-bind 11 behind_code behind_next (element (CoefficientCode (coefficient_table way place)) NoCode (rule TooMany (is_within place) ∷ rule BadEscape is_level ∷ [])) after_code
-    (short-element 11 behind_code _ NoCode (rule TooMany (is_within place) ∷ rule BadEscape is_level ∷ []) (short-coefficient_code way place)) (λ c s. short-after_code c)
+    short-bind 11 behind_code behind_next (element (CoefficientCode (coefficient_table way place)) NoCode (rule TooMany (fits_in_block place) ∷ rule BadEscape is_level ∷ [])) after_code
+    (short-element 11 behind_code _ NoCode (rule TooMany (fits_in_block place) ∷ rule BadEscape is_level ∷ []) (short-coefficient_code way place)) (λ c s. short-after_code c)
 
 pub short-block : (way : BlockWay) → IsShort 8 (λ _. 1) (block way)
 unfolding block

@@ -6,7 +6,7 @@ use Rattle.slot_rule.specs.Constants.{margin_subticks}
 use Rattle.slot_rule.specs.declared.queue_state.QueueState.{QueueState}
 use Rattle.slot_rule.specs.Buffers.{Row, Carries}
 use Rattle.slot_rule.specs.Private.Heads.{IsFirst, Passes}
-use Rattle.slot_rule.specs.Schedule.{IsBefore}
+use Rattle.slot_rule.specs.Schedule.{IsDueBefore}
 use Rattle.slot_rule.specs.Private.Slots.{NoneLate, NoneOverdue}
 use Rattle.slot_rule.specs.Private.QueueState.{mb_or_tb_of_state}
 use Rattle.slot_rule.specs.Queues.{QueuedPacket}
@@ -42,6 +42,6 @@ NoneOverdue-from_first states end stream packet is in_time other state' packet' 
       | inr before ↦ (let due : packet.due ≤ packet'.due = due_of_before stream packet other packet' before in omega arith)
     ]
   where
-    due_of_before : (stream : ℕ) (packet : QueuedPacket) (other : ℕ) (packet' : QueuedPacket) → IsBefore stream packet other packet' → packet.due ≤ packet'.due
+    due_of_before : (stream : ℕ) (packet : QueuedPacket) (other : ℕ) (packet' : QueuedPacket) → IsDueBefore stream packet other packet' → packet.due ≤ packet'.due
     due_of_before stream packet other packet' (inl earlier) = omega arith
     due_of_before stream packet other packet' (inr same) = omega (arith, same.0)

@@ -8,7 +8,7 @@ use Rattle.version_table.specs.declared.table.Table.{Table}
 use Rattle.stream_constants.specs.declared.decoder.TheConstants.{AUDIO_TB_SUBTICKS}
 use Rattle.slot_rule.specs.declared.sent.Sent.TheVariants.{Null, Pat, Pmt, Pcr, Video as VideoPiece, Audio as AudioPiece}
 use Rattle.slot_rule.specs.declared.slot_list.SlotList.{SlotList}
-use Rattle.slot_rule.specs.Queues.{Audio, Queue, queues_of, video_of}
+use Rattle.slot_rule.specs.Queues.{Audio, Queue, queues_of, video_queue}
 use Rattle.slot_rule.specs.Buffers.{Row, Reserved, Empty, tb_work}
 use Rattle.slot_rule.specs.Private.IdleSlots.{FillsPeriod, idle_slots}
 use Rattle.slot_rule.specs.Timetable.{period}
@@ -177,7 +177,7 @@ checkpoints_at_4095 = (refl, refl)
 
 -- before the first slot no work waits
 pub unit_work_first : IsWorkAt just_in_time (0 ∷ []) 0 0 (0, 0)
-unit_work_first = record { rows = []; many = refl; follows = FollowRule-nil just_in_time (0 ∷ []); queue = video_of 0 (one_unit 36936 1840) (0 ∷ []); queue_is = refl; work_is = refl }
+unit_work_first = record { rows = []; many = refl; follows = FollowRule-nil just_in_time (0 ∷ []); queue = video_queue 0 (one_unit 36936 1840) (0 ∷ []); queue_is = refl; work_is = refl }
 
 -- where slot 4 begins, the PCR of slot 2 and the packet of slot 3 have come, 376 bytes of 11,280 subticks, and two slots of
 -- 1,015,200 have drained them; one has drained the payload of 184 bytes of 13,536
@@ -188,7 +188,7 @@ unit_work_later =
       rows = take 4 rows;
       many = refl;
       follows = FollowRule-take just_in_time (0 ∷ []) 4 rows unit_schedule.follows;
-      queue = video_of 0 (one_unit 36936 1840) (0 ∷ []);
+      queue = video_queue 0 (one_unit 36936 1840) (0 ∷ []);
       queue_is = refl;
       work_is = refl;
     }

@@ -40,7 +40,7 @@ use Rattle.std.proofs.lemmas.Bool.{cond_both, cond-true}
 use Rattle.std.proofs.lemmas.Option.{same_Some, none-some, option_and_then_some, cond_some}
 use Rattle.slot_rule.specs.Queues.{QueueKind, QueuedPacket, Queue}
 use Rattle.slot_rule.specs.Buffers.{Row, is_of}
-use Rattle.slot_rule.specs.Schedule.{IsHead, IsBefore}
+use Rattle.slot_rule.specs.Schedule.{IsHead, IsDueBefore}
 
 -- what a stream offers, or what one above it does, whichever goes first
 abbrev pub earlier_of : ℕ → Option QueuedPacket → Option (ℕ × QueuedPacket) → Option (ℕ × QueuedPacket)
@@ -61,7 +61,7 @@ abbrev pub IsEarliest : (ℕ → Queue → Option QueuedPacket) → ℕ → List
 IsEarliest offer n queues None = (other : ℕ) (packet' : QueuedPacket) → Offers offer n queues other packet' → ⊥
 IsEarliest offer n queues (Some found) =
     Offers offer n queues found.0 found.1
-    × ((other : ℕ) (packet' : QueuedPacket) → Offers offer n queues other packet' → (other ≡ found.0) ⊎ IsBefore found.0 found.1 other packet')
+    × ((other : ℕ) (packet' : QueuedPacket) → Offers offer n queues other packet' → (other ≡ found.0) ⊎ IsDueBefore found.0 found.1 other packet')
 
 -- what the first stream offers, or one above it
 offer_cases : (offer : ℕ → Queue → Option QueuedPacket) (n : ℕ) (s : Queue) (queues : List Queue) (m : ℕ) (packet : QueuedPacket)
@@ -80,10 +80,10 @@ offer_later : (offer : ℕ → Queue → Option QueuedPacket) (n : ℕ) (s : Que
     → Offers offer (n + 1) queues m packet → Offers offer n (s ∷ queues) m packet
 offer_later offer n s queues m packet (k, s', e, got, offered) = (suc k, s', omega arith, got, offered)
 
-before_above : (n m : ℕ) (packet packet' : QueuedPacket) → n < m → packet.due ≤ packet'.due → IsBefore n packet m packet'
+before_above : (n m : ℕ) (packet packet' : QueuedPacket) → n < m → packet.due ≤ packet'.due → IsDueBefore n packet m packet'
 before_above n m packet packet' above due = grind arith
 
-due_upto : (m other : ℕ) (packet packet' : QueuedPacket) → IsBefore m packet other packet' → packet.due ≤ packet'.due
+due_upto : (m other : ℕ) (packet packet' : QueuedPacket) → IsDueBefore m packet other packet' → packet.due ≤ packet'.due
 due_upto m other packet packet' (inl less) = omega arith
 due_upto m other packet packet' (inr same) = omega arith
 
@@ -100,7 +100,7 @@ own_first : (offer : ℕ → Queue → Option QueuedPacket) (n : ℕ) (s : Queue
     → offer n s ≡ Some packet → IsEarliest offer (n + 1) queues (Some found) → packet.due ≤ found.1.due → IsEarliest offer n (s ∷ queues) (Some (n, packet))
 own_first offer n s queues packet found e later due = (
   offer_first offer n s queues packet e,
-  λ other packet' offered. (elim (offer_cases offer n s queues other packet' offered) as (λ _. (other ≡ n) ⊎ IsBefore n packet other packet') [
+  λ other packet' offered. (elim (offer_cases offer n s queues other packet' offered) as (λ _. (other ≡ n) ⊎ IsDueBefore n packet other packet') [
     | inl first ↦ inl first.0
     | inr above ↦
         (let upto : found.1.due ≤ packet'.due =
@@ -116,7 +116,7 @@ found_first : (offer : ℕ → Queue → Option QueuedPacket) (n : ℕ) (s : Que
     → offer n s ≡ Some packet → IsEarliest offer (n + 1) queues (Some found) → found.1.due < packet.due → IsEarliest offer n (s ∷ queues) (Some found)
 found_first offer n s queues packet found e later due = (
   offer_later offer n s queues found.0 found.1 later.0,
-  λ other packet' offered. (elim (offer_cases offer n s queues other packet' offered) as (λ _. (other ≡ found.0) ⊎ IsBefore found.0 found.1 other packet') [
+  λ other packet' offered. (elim (offer_cases offer n s queues other packet' offered) as (λ _. (other ≡ found.0) ⊎ IsDueBefore found.0 found.1 other packet') [
     | inl first ↦
         (let same : packet ≡ packet' = same_Some packet packet' (sym e ∙ first.1) in
         inr (inl (subst (λ (p : QueuedPacket). found.1.due < p.due) same due)))
@@ -133,14 +133,14 @@ earlier_of-is offer n s queues None None e later =
     ])
 earlier_of-is offer n s queues None (Some found) e later = (
   offer_later offer n s queues found.0 found.1 later.0,
-  λ other packet' offered. (elim (offer_cases offer n s queues other packet' offered) as (λ _. (other ≡ found.0) ⊎ IsBefore found.0 found.1 other packet') [
+  λ other packet' offered. (elim (offer_cases offer n s queues other packet' offered) as (λ _. (other ≡ found.0) ⊎ IsDueBefore found.0 found.1 other packet') [
     | inl first ↦ absurd (none-some packet' (sym e ∙ first.1))
     | inr above ↦ later.1 other packet' above.1
   ]),
 )
 earlier_of-is offer n s queues (Some packet) None e later = (
   offer_first offer n s queues packet e,
-  λ other packet' offered. (elim (offer_cases offer n s queues other packet' offered) as (λ _. (other ≡ n) ⊎ IsBefore n packet other packet') [
+  λ other packet' offered. (elim (offer_cases offer n s queues other packet' offered) as (λ _. (other ≡ n) ⊎ IsDueBefore n packet other packet') [
     | inl first ↦ inl first.0
     | inr above ↦ absurd (later other packet' above.1)
   ]),

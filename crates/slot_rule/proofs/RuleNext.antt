@@ -44,7 +44,7 @@ use Rattle.slot_rule.specs.declared.sent.Sent.{Sent}
 use Rattle.slot_rule.specs.Timetable.{reserved}
 use Rattle.slot_rule.specs.Queues.{QueueKind, Video, Audio, QueuedPacket, Queue}
 use Rattle.slot_rule.specs.Buffers.{Row, Reserved, Carries, Empty, tb_work, mb_work, outstanding, eb_or_b_bytes, tb_gate, mb_gate, MbPermits}
-use Rattle.slot_rule.specs.Schedule.{IsHead, IsPermitted, IsBefore, Goes, NothingGoes, IsRow, end_with_margin, mb_or_tb_work, SentLate, Overdue, Misses}
+use Rattle.slot_rule.specs.Schedule.{IsHead, IsPermitted, IsDueBefore, Goes, NothingGoes, IsRow, end_with_margin, mb_or_tb_work, SentLate, Overdue, Misses}
 use Rattle.slot_rule.proofs.RuleRows.{NoneMisses}
 use Rattle.slot_rule.proofs.RuleFirst.{IsEarliest, earliest-is, head_where, head_where-some, some_head_where, first_head}
 
@@ -198,7 +198,7 @@ late_in-none slot queues before row stream packet none late =
 overdue_first : (slot : ℕ) (queues : List Queue) (rows : List Row) (found : ℕ × QueuedPacket)
     → IsEarliest (head_where (is_overdue slot rows) rows) 0 queues (Some found)
     → Overdue slot queues rows found.0 found.1
-    × ((other : ℕ) (packet' : QueuedPacket) → Overdue slot queues rows other packet' → (other ≡ found.0) ⊎ IsBefore found.0 found.1 other packet')
+    × ((other : ℕ) (packet' : QueuedPacket) → Overdue slot queues rows other packet' → (other ≡ found.0) ⊎ IsDueBefore found.0 found.1 other packet')
 overdue_first slot queues rows found first =
     let head : (kind : QueueKind) × IsHead queues rows found.0 kind found.1 × (is_overdue slot rows found.0 kind found.1 ≡ true) =
     head_where-some (is_overdue slot rows) queues rows found.0 found.1 first.0 in (

@@ -57,7 +57,7 @@ use Rattle.slot_rule.specs.Schedule.{IsHead, FollowRule}
 use Rattle.slot_rule.specs.Sent.{choice_from}
 use Rattle.slot_rule.proofs.RuleRows.{IsNext, FollowRule-at}
 use Rattle.std.proofs.lemmas.Bool.{cond_both}
-use Rattle.slot_rule.specs.Queues.{QueueKind, QueuedPacket, Queue, video_of, audio_of, queues_from, queues_of}
+use Rattle.slot_rule.specs.Queues.{QueueKind, QueuedPacket, Queue, video_queue, audio_of, queues_from, queues_of}
 use Rattle.version_table.proofs.TableLines.{packets_of}
 -- the units of these programs
 pub use Rattle.version_table.proofs.TableLines.{units_in}
@@ -65,7 +65,7 @@ use Rattle.slot_rule.proofs.RuleVideo.{packets_from-each, packets_from-dues, pac
 
 -- the streams of a program: the video, then its audio streams
 abbrev pub queues_in : (program : ℕ) → ProgramRow → List ℕ → List Queue
-queues_in program row choice = video_of program row choice ∷ map audio_of row.audios
+queues_in program row choice = video_queue program row choice ∷ map audio_of row.audios
 
 -- the streams of the first programs, and those of the others
 pub queues_from-append : (program : ℕ) (rows more : List ProgramRow) (choice : List ℕ)
@@ -135,7 +135,7 @@ fits_rest (unit ∷ units) others [] fits = absurd fits
 fits_rest (unit ∷ units) others (k ∷ choice) fits = fits_rest units others choice fits.1
 
 IsValidStream-video : (slot program : ℕ) (row : ProgramRow) (choice : List ℕ) → IsValidProgram slot row → HasSizes row.units choice → length row.units ≤ UNITS_MOST
-    → IsValidStream slot (video_of program row choice)
+    → IsValidStream slot (video_queue program row choice)
 IsValidStream-video slot program row choice valid sizes few =
     let rises = DuesRise-from_increasing row.units valid.dues in
     record {
@@ -223,7 +223,7 @@ queues_from-valid slot program (row ∷ rows) choice valid fits few few_packets 
     let packets : length (flat_map (λ (r : ProgramRow). packets_of r.audios) (row ∷ rows)) ≡ length (packets_of row.audios) + length (flat_map (λ (r : ProgramRow). packets_of r.audios) rows) =
     length-append (packets_of row.audios) (flat_map (λ (r : ProgramRow). packets_of r.audios) rows) in
     All-append (IsValidStream slot) (queues_in program row choice) (queues_from (program + 1) rows (drop (length row.units) choice))
-    (All-cons (IsValidStream slot) (video_of program row choice) (map audio_of row.audios)
+    (All-cons (IsValidStream slot) (video_queue program row choice) (map audio_of row.audios)
     (IsValidStream-video slot program row choice here (HasSizes-from_fits slot row.units (units_in rows) choice here.units fits) (omega arith))
     (audios_valid slot row.audios here.audios (omega arith)))
     (queues_from-valid slot (program + 1) rows (drop (length row.units) choice) (All-tail (IsValidProgram slot) row rows valid)

@@ -42,7 +42,7 @@ use Rattle.slot_rule.specs.declared.sent.Miss.{Miss}
 use Rattle.slot_rule.specs.Queues.{QueueKind, QueuedPacket, Queue, queues_of}
 use Rattle.slot_rule.specs.Buffers.{Row, Reserved, Carries, Empty, is_of}
 use Rattle.slot_rule.proofs.RuleRows.{IsNext, FollowRule-at, FollowRule-front}
-use Rattle.slot_rule.specs.Schedule.{IsHead, IsBefore, Goes, IsRow, FollowRule, SentLate, Misses, NoMiss, AllSent, IsScheduled, IsFirstMiss}
+use Rattle.slot_rule.specs.Schedule.{IsHead, IsDueBefore, Goes, IsRow, FollowRule, SentLate, Misses, NoMiss, AllSent, IsScheduled, IsFirstMiss}
 
 pub IsHead-same : (queues : List Queue) (rows : List Row) (stream : ℕ) (kind kind' : QueueKind) (packet packet' : QueuedPacket)
     → IsHead queues rows stream kind packet → IsHead queues rows stream kind' packet' → (kind ≡ kind') × (packet ≡ packet')
@@ -53,8 +53,8 @@ IsHead-same queues rows stream kind kind' packet packet' h h' =
     (ap (λ (s : Queue). s.kind) same, same_Some _ _ (sym h.2 ∙ got))
 
 -- two that each go before the other, or stand in one stream, stand in one stream
-pub IsBefore-same : (stream other : ℕ) (packet packet' : QueuedPacket) → (other ≡ stream) ⊎ IsBefore stream packet other packet'
-    → (stream ≡ other) ⊎ IsBefore other packet' stream packet → stream ≡ other
+pub IsBefore-same : (stream other : ℕ) (packet packet' : QueuedPacket) → (other ≡ stream) ⊎ IsDueBefore stream packet other packet'
+    → (stream ≡ other) ⊎ IsDueBefore other packet' stream packet → stream ≡ other
 IsBefore-same stream other packet packet' first first' = grind arith
 
 pub Goes-same : (slot : ℕ) (queues : List Queue) (rows : List Row) (stream stream' : ℕ) (packet packet' : QueuedPacket)

@@ -55,7 +55,7 @@ use Rattle.version_table.specs.declared.table.AudioPacket.{AudioPacket}
 use Rattle.version_table.specs.declared.table.ProgramRow.{ProgramRow}
 use Rattle.version_table.specs.declared.table.Table.{Table}
 use Rattle.slot_rule.specs.Buffers.{is_of, Row, Reserved, Carries, Empty}
-use Rattle.slot_rule.specs.Queues.{QueueKind, QueuedPacket, Queue, audio_of, queues_from, queues_of, video_of}
+use Rattle.slot_rule.specs.Queues.{QueueKind, QueuedPacket, Queue, audio_of, queues_from, queues_of, video_queue}
 use Rattle.slot_rule.specs.Schedule.{IsHead}
 use Rattle.slot_rule.specs.Sent.{IsAudioPacket, IsOfTable, IsPiece, choice_from, video_number}
 use Rattle.slot_rule.specs.SlotList.{IsSlotList, piece_sent, sent_of}
@@ -84,7 +84,7 @@ slice_get-right xs ys i x past e =
 -- the queue is the video of the program, or one of its audio streams, where the first of the programs has a number
 abbrev IsVideoQueue : (first : ℕ) → List ProgramRow → List ℕ → (program : ℕ) → ProgramRow → (stream : ℕ) → Queue → Type 0
 IsVideoQueue first rows choice program row stream queue =
-    (stream ≡ video_number rows program) × (queue ≡ video_of (first + program) row (choice_from rows program choice))
+    (stream ≡ video_number rows program) × (queue ≡ video_queue (first + program) row (choice_from rows program choice))
 
 abbrev IsAudioQueue : List ProgramRow → (program : ℕ) → ProgramRow → (stream : ℕ) → Queue → Type 0
 IsAudioQueue rows program row stream queue =
@@ -103,7 +103,7 @@ own_place first row rows choice zero queue e = record {
   program = 0;
   row = row;
   row_is = refl;
-  which = inl (refl, sym (same_Some _ _ e) ∙ ap (λ n. video_of n row choice) (sym (add-zero first)));
+  which = inl (refl, sym (same_Some _ _ e) ∙ ap (λ n. video_queue n row choice) (sym (add-zero first)));
 }
 own_place first row rows choice (suc audio) queue e =
     let mapped : option_map audio_of (slice_get row.audios audio) ≡ Some queue = sym (slice_get-map audio_of row.audios audio) ∙ e in
@@ -139,7 +139,7 @@ later_place first row rows choice stream queue past place =
       row = place.row;
       row_is = place.row_is;
       which = elim place.which as (λ _. IsVideoQueue first (row ∷ rows) choice (suc place.program) place.row stream queue ⊎ IsAudioQueue (row ∷ rows) (suc place.program) place.row stream queue) [
-        | inl video ↦ inl (omega (arith, video.0), video.1 ∙ ap₂ (λ n v. video_of n place.row v) number versions)
+        | inl video ↦ inl (omega (arith, video.0), video.1 ∙ ap₂ (λ n v. video_queue n place.row v) number versions)
         | inr other ↦ inr (other.0, other.1, other.2, omega (arith, other.3), other.4)
       ];
     }
@@ -165,8 +165,8 @@ queue_place first (row ∷ rows) choice stream queue e =
 module _ (table : Table) (choice : List ℕ) (valid : IsValidTable table) (fits : Fits table choice) where
   piece_of_table : (program : ℕ) (row : ProgramRow) (stream k : ℕ) (packet : QueuedPacket) → slice_get table.programs program ≡ Some row
       → stream ≡ video_number table.programs program
-      → slice_get (queues_of table choice) stream ≡ Some (video_of program row (choice_from table.programs program choice))
-      → slice_get (video_of program row (choice_from table.programs program choice)).packets k ≡ Some packet → IsPiece table choice stream packet.item packet.piece
+      → slice_get (queues_of table choice) stream ≡ Some (video_queue program row (choice_from table.programs program choice))
+      → slice_get (video_queue program row (choice_from table.programs program choice)).packets k ≡ Some packet → IsPiece table choice stream packet.item packet.piece
   piece_of_table program row stream k packet row_is number queue got =
       let versions = choice_from table.programs program choice in
       let within : program < length table.programs = slice_get_within table.programs program row row_is in
@@ -204,8 +204,8 @@ module _ (table : Table) (choice : List ℕ) (valid : IsValidTable table) (fits 
       let place = queue_place 0 table.programs choice stream queue head.1 in
       elim place.which as (λ _. IsOfTable table choice (piece_sent kind stream packet)) [
         | inl video ↦
-            (let is : queue ≡ video_of place.program place.row (choice_from table.programs place.program choice) = video.1
-            ∙ ap (λ n. video_of n place.row (choice_from table.programs place.program choice)) (zero-add place.program) in
+            (let is : queue ≡ video_queue place.program place.row (choice_from table.programs place.program choice) = video.1
+            ∙ ap (λ n. video_queue n place.row (choice_from table.programs place.program choice)) (zero-add place.program) in
             subst (λ (k : QueueKind). IsOfTable table choice (piece_sent k stream packet)) (sym (ap (λ (q : Queue). q.kind) is))
             (piece_of_table place.program place.row stream (count_by (is_of stream) rows) packet place.row_is video.0 (head.1 ∙ ap Some is)
             (ap (λ (q : Queue). slice_get q.packets (count_by (is_of stream) rows)) (sym is) ∙ head.2)))

@@ -15,7 +15,7 @@ use Rattle.slot_rule.specs.Private.Heads.{IsFirst, IsFirstHead, IsOffer, NoneGon
 use Rattle.slot_rule.specs.Private.QueueState.{HoldsUntil}
 use Rattle.slot_rule.specs.Private.States.{ChangesEach}
 use Rattle.slot_rule.specs.Queues.{QueuedPacket}
-use Rattle.slot_rule.specs.Schedule.{IsBefore}
+use Rattle.slot_rule.specs.Schedule.{IsDueBefore}
 use Rattle.slot_rule.proofs.BringLaws.{state_before}
 use Rattle.slot_rule.proofs.HeadLaws.{front_cases}
 use Rattle.slot_rule.proofs.Places.{slice_get-take, slice_get_of_front}
@@ -338,9 +338,9 @@ IsFirst-at P states turns place turn state packet are at there head passes none 
       let got : slice_get turns found.0 ≡ Some (turn_of other packet') = slice_get-get_or turns found.0 (turn_of other packet') found.1 ∙ ap (λ (t : Turn). Some t) found.2 in
       let within : place < length turns = slice_get_within turns place turn at in
       let here : get_or turns place turn ≡ turn = get_or_from_slice_get turns place turn turn at in
-      elim (cases_lt found.0 place) as (λ _. (other ≡ turn.stream) ⊎ IsBefore turn.stream packet other packet') [
+      elim (cases_lt found.0 place) as (λ _. (other ≡ turn.stream) ⊎ IsDueBefore turn.stream packet other packet') [
         | inl before ↦ absurd (none found.0 (turn_of other packet') state' packet' before got there' head' passes')
-        | inr from ↦ elim (cases_eq found.0 place) as (λ _. (other ≡ turn.stream) ⊎ IsBefore turn.stream packet other packet') [
+        | inr from ↦ elim (cases_eq found.0 place) as (λ _. (other ≡ turn.stream) ⊎ IsDueBefore turn.stream packet other packet') [
           | inl same ↦ inl (ap (λ (t : Turn). t.stream) (same_Some (turn_of other packet') turn (sym got ∙ ap (λ n. slice_get turns n) same ∙ at)))
           | inr apart ↦
               (let is = subst (λ (t : Turn). IsTurn states t) here (are.each place turn within) in
@@ -355,7 +355,7 @@ IsFirst-at P states turns place turn state packet are at there head passes none 
 }
   where
     before_is : (turn : Turn) (packet : QueuedPacket) (other : ℕ) (packet' : QueuedPacket) → turn.due ≡ packet.due
-        → GoesBefore turn (turn_of other packet') → IsBefore turn.stream packet other packet'
+        → GoesBefore turn (turn_of other packet') → IsDueBefore turn.stream packet other packet'
     before_is turn packet other packet' due (inl less) = inl (omega arith)
     before_is turn packet other packet' due (inr same) = inr (sym due ∙ same.0, same.1)
 

@@ -29,8 +29,8 @@ unit_packets item due bytes =
     map (λ (piece, payload). record { item = item; piece = piece; payload = payload; due = due; gone = due }) (enumerate_from 0 (payloads bytes))
 
 -- a program's video, each unit in the version that the choice names
-abbrev pub video_of : (program : ℕ) → ProgramRow → List ℕ → Queue
-video_of program row choice = record {
+abbrev pub video_queue : (program : ℕ) → ProgramRow → List ℕ → Queue
+video_queue program row choice = record {
   kind = Video program row.vbv;
   packets = flat_map (λ (item, (unit, k)). unit_packets item unit.due (version_at unit k).bytes) (enumerate_from 0 (zip row.units choice));
 }
@@ -46,7 +46,7 @@ audio_of packets = record {
 abbrev pub queues_from : (program : ℕ) → List ProgramRow → List ℕ → List Queue
 queues_from program [] choice = []
 queues_from program (row ∷ rows) choice =
-    (video_of program row choice ∷ map audio_of row.audios)
+    (video_queue program row choice ∷ map audio_of row.audios)
     ++ queues_from (program + 1) rows (drop (length row.units) choice)
 
 -- the queues of a table under a choice, in order

@@ -23,8 +23,8 @@ pub record IsPermitted (slot : ℕ) (rows : List Row) (stream : ℕ) (kind : Que
   pub hold : packet.gone ≤ length rows * slot + HOLD_TICKS
 
 -- a packet goes before another: it is due earlier, or at the same time in a queue of a lower number
-abbrev pub IsBefore : (stream : ℕ) → QueuedPacket → (other : ℕ) → QueuedPacket → Type 0
-IsBefore stream packet other packet' =
+abbrev pub IsDueBefore : (stream : ℕ) → QueuedPacket → (other : ℕ) → QueuedPacket → Type 0
+IsDueBefore stream packet other packet' =
     (packet.due < packet'.due) ⊎ ((packet.due ≡ packet'.due) × (stream < other))
 
 -- the packet goes in the slot after these rows
@@ -33,7 +33,7 @@ pub record Goes (slot : ℕ) (queues : List Queue) (rows : List Row) (stream : �
   pub head : IsHead queues rows stream kind packet
   pub permitted : IsPermitted slot rows stream kind packet
   pub first : (other : ℕ) (kind' : QueueKind) (packet' : QueuedPacket) → IsHead queues rows other kind' packet'
-      → IsPermitted slot rows other kind' packet' → (other ≡ stream) ⊎ IsBefore stream packet other packet'
+      → IsPermitted slot rows other kind' packet' → (other ≡ stream) ⊎ IsDueBefore stream packet other packet'
 
 -- no packet may go in the slot after these rows
 abbrev pub NothingGoes : ℕ → List Queue → List Row → Type 0
@@ -83,7 +83,7 @@ Misses slot queues rows stream packet =
     SentLate slot queues rows stream packet
     ⊎ (((other : ℕ) (packet' : QueuedPacket) → SentLate slot queues rows other packet' → ⊥)
     × Overdue slot queues rows stream packet
-    × ((other : ℕ) (packet' : QueuedPacket) → Overdue slot queues rows other packet' → (other ≡ stream) ⊎ IsBefore stream packet other packet'))
+    × ((other : ℕ) (packet' : QueuedPacket) → Overdue slot queues rows other packet' → (other ≡ stream) ⊎ IsDueBefore stream packet other packet'))
 
 -- nothing misses after any slot of these rows
 abbrev pub NoMiss : ℕ → List Queue → List Row → Type 0

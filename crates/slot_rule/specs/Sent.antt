@@ -7,7 +7,7 @@ use Rattle.version_table.specs.declared.table.AudioPacket.{AudioPacket}
 use Rattle.version_table.specs.declared.table.ProgramRow.{ProgramRow}
 use Rattle.version_table.specs.declared.table.Table.{Table}
 use Rattle.version_table.specs.declared.table.Unit.{Unit as CodedUnit}
-use Rattle.slot_rule.specs.Queues.{audio_of, queues_of, video_of}
+use Rattle.slot_rule.specs.Queues.{audio_of, queues_of, video_queue}
 use Rattle.slot_rule.specs.declared.sent.Sent.{Sent}
 use Rattle.slot_rule.specs.declared.sent.Sent.TheVariants.{Null, Pat, Pmt, Pcr, Video as VideoPiece, Audio as AudioPiece}
 
@@ -26,7 +26,7 @@ pub record IsPiece (table : Table) (choice : List ℕ) (stream item piece : ℕ)
   pub row : ProgramRow
   pub row_is : slice_get table.programs program ≡ Some row
   pub number : stream ≡ video_number table.programs program
-  pub queue : slice_get (queues_of table choice) stream ≡ Some (video_of program row (choice_from table.programs program choice))
+  pub queue : slice_get (queues_of table choice) stream ≡ Some (video_queue program row (choice_from table.programs program choice))
   pub unit : CodedUnit
   pub unit_is : slice_get row.units item ≡ Some unit
   pub piece_within : PAYLOAD_BYTES * piece < (version_at unit (slice_index (choice_from table.programs program choice) item)).bytes

@@ -1,7 +1,7 @@
 ghost use Rattle.std.specs.Prelude.{◌≡◌, ℕ, ◌+◌, ◌<◌, ◌≤◌, [], length, drop, Some, None, slice_get, slice_index, slice_index_or};
 ghost use Rattle.version_table.specs.declared.table.Unit.{Unit as CodedUnit};
 ghost use Rattle.version_table.specs.Choice.{HasVersion, version_at};
-ghost use Rattle.slot_rule.specs.Queues.{unit_packets, video_of, audio_of};
+ghost use Rattle.slot_rule.specs.Queues.{unit_packets, video_queue, audio_of};
 ghost use Rattle.slot_rule.specs.Private.QueueItems.{HasSizes, IsPlace, program_at};
 ghost use Rattle.slot_rule.specs.Private.QueueState.{IsNumbered, packets_at};
 
@@ -96,8 +96,8 @@ fn versions_from(choice: &Choice, first: usize) -> &[u8]
 fn piece_after(row: &ProgramRow, versions: &[u8], packet: QueuedPacket) -> Option<QueuedPacket>
     requires versions { HasSizes row.now.units versions.now }
     requires numbered { IsNumbered packet }
-    ensures { (k : ℕ) → slice_get (video_of 0 row.now versions.now).packets k ≡ Some packet
-        → result ≡ slice_get (video_of 0 row.now versions.now).packets (k + 1) }
+    ensures { (k : ℕ) → slice_get (video_queue 0 row.now versions.now).packets k ≡ Some packet
+        → result ≡ slice_get (video_queue 0 row.now versions.now).packets (k + 1) }
 {
     match unit_packet(row, versions, packet.item, packet.piece + 1) {
         Some(next) => Some(next),

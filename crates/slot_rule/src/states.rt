@@ -7,7 +7,7 @@ ghost use Rattle.slot_rule.specs.declared.queue_items.QueueItems.TheVariants.{Un
 ghost use Rattle.slot_rule.specs.Private.Heads.{NoneGoneBefore};
 ghost use Rattle.slot_rule.specs.Private.QueueItems.{IsPlace, program_at, queue_at};
 ghost use Rattle.slot_rule.specs.Private.States.{AreOfStreams, ChangesEach, IsFirstState, IsPlaced, ReleasesAll, TakesPcr, places_in, places_kept, queue_of};
-ghost use Rattle.slot_rule.specs.Queues.{audio_of, queues_of, video_of};
+ghost use Rattle.slot_rule.specs.Queues.{audio_of, queues_of, video_queue};
 ghost use Rattle.slot_rule.specs.Private.QueueState.{IsKind, IsSmall};
 
 use crate::queue_items::{QueueItems, program_at};
@@ -49,7 +49,7 @@ fn add_program(table: &Table, choice: &Choice, states: &mut States, program: usi
     requires first { All (IsFirstState table.now choice.now) states.old.items }
     ensures queues { map (queue_of table.now choice.now) states.new.items
         ≡ map (queue_of table.now choice.now) states.old.items
-        ++ (video_of program (program_at table.now program) (drop first choice.now)
+        ++ (video_queue program (program_at table.now program) (drop first choice.now)
         ∷ map audio_of (program_at table.now program).audios) }
     ensures places { places_kept states.new.items ≡ places_kept states.old.items ++ places_in program first (program_at table.now program) }
     ensures first { All (IsFirstState table.now choice.now) states.new.items }

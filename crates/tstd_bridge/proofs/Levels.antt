@@ -8,7 +8,7 @@ use Rattle.version_table.specs.declared.table.Table.{Table}
 use Rattle.version_table.specs.Table.{IsValidTable, IsValidProgram}
 use Rattle.slot_rule.specs.declared.queue_kind.QueueKind.TheVariants.{Video}
 use Rattle.slot_rule.specs.declared.queued_packet.QueuedPacket.{QueuedPacket}
-use Rattle.slot_rule.specs.Queues.{Queue, audio_of, video_of, queues_from, queues_of}
+use Rattle.slot_rule.specs.Queues.{Queue, audio_of, video_queue, queues_from, queues_of}
 use Rattle.slot_rule.proofs.Places.{All-at_place}
 use Rattle.tstd_model.specs.Decoder.{IsInLevel}
 use Rattle.tstd_bridge.specs.Arrivals.{buffers_of}
@@ -24,8 +24,8 @@ levels_from : (slot program : ℕ) (rows : List ProgramRow) (choice : List ℕ) 
 levels_from slot program [] choice valid = All-nil KeepsLevel
 levels_from slot program (row ∷ rows) choice valid =
     let here : IsValidProgram slot row = All-head (IsValidProgram slot) row rows valid in
-    All-append KeepsLevel (video_of program row choice ∷ map audio_of row.audios) (queues_from (program + 1) rows (drop (length row.units) choice))
-    (All-cons KeepsLevel (video_of program row choice) (map audio_of row.audios) here.vbv (audio_levels row.audios))
+    All-append KeepsLevel (video_queue program row choice ∷ map audio_of row.audios) (queues_from (program + 1) rows (drop (length row.units) choice))
+    (All-cons KeepsLevel (video_queue program row choice) (map audio_of row.audios) here.vbv (audio_levels row.audios))
     (levels_from slot (program + 1) rows (drop (length row.units) choice) (All-tail (IsValidProgram slot) row rows valid))
 
 pub video_level : (table : Table) (choice : List ℕ) (stream program vbv : ℕ) (packets : List QueuedPacket) → IsValidTable table

@@ -8,7 +8,7 @@ use Rattle.tstd_model.specs.PacketBytes.{HasHeaderWithin, byte_subticks, parts_o
 use Rattle.tstd_model.specs.Private.Server.{last_departure}
 use Rattle.tstd_model.proofs.RisingLaws.{length-spaced}
 use Rattle.tstd_model.proofs.Server.{departures-append, length-departures}
-use Rattle.tstd_bridge.specs.Sections.{sections_in, sections_from}
+use Rattle.tstd_bridge.specs.Sections.{section_packets, sections_from}
 use Rattle.tstd_bridge.proofs.ArrivalRows.{arrives-push}
 use Rattle.tstd_bridge.proofs.AudioB.{passes_of}
 use Rattle.tstd_bridge.proofs.KeptBytes.{kept-append, length-packet_parts, parts-push}
@@ -18,24 +18,24 @@ abbrev pub section_of : (n : ℕ) → Arrival
 section_of n = record { slot_no = n; header = 0; payload = PAYLOAD_BYTES }
 
 sections_from-push : (n program : ℕ) (rows : List Row) (row : Row)
-    → sections_from n program (rows ++ row ∷ []) ≡ sections_from n program rows ++ replicate (sections_in program row) (section_of (n + length rows))
+    → sections_from n program (rows ++ row ∷ []) ≡ sections_from n program rows ++ replicate (section_packets program row) (section_of (n + length rows))
 unfolding sections_from
 sections_from-push n program [] row =
-    append-nil (replicate (sections_in program row) (section_of n)) ∙ ap (λ m. replicate (sections_in program row) (section_of m)) (sym (add-zero n))
+    append-nil (replicate (section_packets program row) (section_of n)) ∙ ap (λ m. replicate (section_packets program row) (section_of m)) (sym (add-zero n))
 sections_from-push n program (first ∷ rows) row =
-    let own = replicate (sections_in program first) (section_of n) in
+    let own = replicate (section_packets program first) (section_of n) in
     let next : (n + 1) + length rows ≡ n + length (first ∷ rows) = omega arith in
     ap (λ (more : List Arrival). own ++ more) (sections_from-push (n + 1) program rows row)
-    ∙ sym (append_assoc own (sections_from (n + 1) program rows) (replicate (sections_in program row) (section_of ((n + 1) + length rows))))
-    ∙ ap (λ m. (own ++ sections_from (n + 1) program rows) ++ replicate (sections_in program row) (section_of m)) next
+    ∙ sym (append_assoc own (sections_from (n + 1) program rows) (replicate (section_packets program row) (section_of ((n + 1) + length rows))))
+    ∙ ap (λ m. (own ++ sections_from (n + 1) program rows) ++ replicate (section_packets program row) (section_of m)) next
 
-pub sections_from-none : (program : ℕ) (rows : List Row) (row : Row) → sections_in program row ≡ 0 → sections_from 0 program (rows ++ row ∷ []) ≡ sections_from 0 program rows
+pub sections_from-none : (program : ℕ) (rows : List Row) (row : Row) → section_packets program row ≡ 0 → sections_from 0 program (rows ++ row ∷ []) ≡ sections_from 0 program rows
 sections_from-none program rows row none =
     sections_from-push 0 program rows row
     ∙ ap (λ k. sections_from 0 program rows ++ replicate k (section_of (0 + length rows))) none
     ∙ append-nil (sections_from 0 program rows)
 
-pub sections_from-one : (program : ℕ) (rows : List Row) (row : Row) → sections_in program row ≡ 1
+pub sections_from-one : (program : ℕ) (rows : List Row) (row : Row) → section_packets program row ≡ 1
     → sections_from 0 program (rows ++ row ∷ []) ≡ sections_from 0 program rows ++ section_of (length rows) ∷ []
 sections_from-one program rows row one =
     let zeroth : 0 + length rows ≡ length rows = omega arith in

@@ -22,7 +22,7 @@ use Rattle.tstd_model.specs.PacketBytes.{parts, kept, arrives}
 use Rattle.tstd_model.specs.Decoder.{IsOverfull, transport_buffer, system_buffer, payload_passes, leave_tb}
 use Rattle.tstd_model.specs.Private.Server.{last_departure}
 use Rattle.tstd_model.proofs.Server.{departures-spaced, came-occupied}
-use Rattle.tstd_bridge.specs.Sections.{sections_in, sections_from}
+use Rattle.tstd_bridge.specs.Sections.{section_packets, sections_from}
 use Rattle.tstd_bridge.proofs.SectionPlaces.{next_place, long_period, pat_place, IsPmtPlace, pmt_place}
 use Rattle.tstd_bridge.proofs.SectionRows.{section_of, sections_from-none, sections_from-one}
 use Rattle.tstd_bridge.proofs.SystemLevels.{period_work, AreServed, served-none, served-wrap, served-pat, served-pmt}
@@ -71,7 +71,7 @@ rows-nil slot program long =
     } in
     subst (λ offset. AreServed slot program offset 0 []) (sym first) start
 
-rows-none : (slot program : ℕ) (rows : List Row) (row : Row) → IsLong slot → sections_in program row ≡ 0 → RowsAreServed slot program rows → RowsAreServed slot program (rows ++ row ∷ [])
+rows-none : (slot program : ℕ) (rows : List Row) (row : Row) → IsLong slot → section_packets program row ≡ 0 → RowsAreServed slot program rows → RowsAreServed slot program (rows ++ row ∷ [])
 rows-none slot program rows row long none before =
     let n = length rows in
     let offset = length rows % period slot in
@@ -85,7 +85,7 @@ rows-none slot program rows row long none before =
     ])
 
 -- a packet of sections comes, not in the last slot of the period
-rows-one : (slot program : ℕ) (rows : List Row) (row : Row) → IsLong slot → sections_in program row ≡ 1 → length rows % period slot ≤ PROGRAMS_MOST
+rows-one : (slot program : ℕ) (rows : List Row) (row : Row) → IsLong slot → section_packets program row ≡ 1 → length rows % period slot ≤ PROGRAMS_MOST
     → AreServed slot program (length rows % period slot + 1) (length rows + 1) (sections_from 0 program rows ++ section_of (length rows) ∷ [])
     → RowsAreServed slot program (rows ++ row ∷ [])
 rows-one slot program rows row long one low after =

@@ -17,14 +17,14 @@ sections_sent program (VideoPiece stream item piece) = 0
 sections_sent program (AudioPiece stream item) = 0
 
 -- the section packets of a program in the row
-abbrev pub sections_in : (program : ℕ) → Row → ℕ
-sections_in program (Reserved sent) = sections_sent program sent
-sections_in program (Carries stream packet) = 0
-sections_in program Empty = 0
+abbrev pub section_packets : (program : ℕ) → Row → ℕ
+section_packets program (Reserved sent) = sections_sent program sent
+section_packets program (Carries stream packet) = 0
+section_packets program Empty = 0
 
 -- the section packets that the rows bring to a program's decoder, where the first row stands in the slot of this number;
 -- a section and the bytes that fill its packet come into the buffers
 unfoldable pub sections_from : (slot_no program : ℕ) → List Row → List Arrival
 sections_from slot_no program [] = []
 sections_from slot_no program (row ∷ rows) =
-    replicate (sections_in program row) (record { slot_no = slot_no; header = 0; payload = PAYLOAD_BYTES }) ++ sections_from (slot_no + 1) program rows
+    replicate (section_packets program row) (record { slot_no = slot_no; header = 0; payload = PAYLOAD_BYTES }) ++ sections_from (slot_no + 1) program rows

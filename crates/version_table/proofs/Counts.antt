@@ -10,7 +10,7 @@ use Rattle.version_table.specs.declared.table.AudioPacket.{AudioPacket}
 use Rattle.version_table.specs.declared.table.ProgramRow.{ProgramRow}
 use Rattle.version_table.specs.Lines.{line_of_unit, line_of_packet, lines_of_audio, lines_of_program}
 use Rattle.version_table.specs.Order.{last_line}
-use Rattle.version_table.specs.Limits.{is_program, is_audio, audios_here}
+use Rattle.version_table.specs.Limits.{is_program, begins_audio, audios_here}
 
 -- ---- the last line
 
@@ -83,14 +83,14 @@ programs_in_audios (packets ∷ audios) =
       programs_in_audios audios,
     )
 
-pub audios_in_audios : (audios : List (List AudioPacket)) → count_by is_audio (flat_map lines_of_audio audios) ≡ length audios
+pub audios_in_audios : (audios : List (List AudioPacket)) → count_by begins_audio (flat_map lines_of_audio audios) ≡ length audios
 audios_in_audios [] = refl
 audios_in_audios (packets ∷ audios) =
     omega (
       arith,
-      count-append is_audio (lines_of_audio packets) (flat_map lines_of_audio audios),
-      count-cons is_audio Audio (map line_of_packet packets),
-      count_none is_audio line_of_packet (λ _. refl) packets,
+      count-append begins_audio (lines_of_audio packets) (flat_map lines_of_audio audios),
+      count-cons begins_audio Audio (map line_of_packet packets),
+      count_none begins_audio line_of_packet (λ _. refl) packets,
       audios_in_audios audios,
     )
 
@@ -112,32 +112,32 @@ programs_in_programs (program ∷ programs) =
 
 -- ---- the audio streams of the last program
 
-pub audios_here_push : (lines : List Line) (line : Line) → audios_here (lines ++ line ∷ []) ≡ cond (is_program line) 0 (cond (is_audio line) 1 0 + audios_here lines)
+pub audios_here_push : (lines : List Line) (line : Line) → audios_here (lines ++ line ∷ []) ≡ cond (is_program line) 0 (cond (begins_audio line) 1 0 + audios_here lines)
 audios_here_push lines line =
-    ap (λ (ls : List Line). count_by is_audio (take_while (λ l. not (is_program l)) ls)) (reverse-append lines (line ∷ []))
-    ∙ ap (count_by is_audio) (take_while-cons (λ l. not (is_program l)) line (reverse lines))
+    ap (λ (ls : List Line). count_by begins_audio (take_while (λ l. not (is_program l)) ls)) (reverse-append lines (line ∷ []))
+    ∙ ap (count_by begins_audio) (take_while-cons (λ l. not (is_program l)) line (reverse lines))
     ∙ by (is_program line)
   where
-    by : (b : Bool) → count_by is_audio (cond (not b) (line ∷ take_while (λ l. not (is_program l)) (reverse lines)) []) ≡ cond b 0 (cond (is_audio line) 1 0 + audios_here lines)
+    by : (b : Bool) → count_by begins_audio (cond (not b) (line ∷ take_while (λ l. not (is_program l)) (reverse lines)) []) ≡ cond b 0 (cond (begins_audio line) 1 0 + audios_here lines)
     by true = refl
-    by false = count-cons is_audio line (take_while (λ l. not (is_program l)) (reverse lines))
+    by false = count-cons begins_audio line (take_while (λ l. not (is_program l)) (reverse lines))
 
 -- lines without a program's line only add their audio lines
-pub audios_here-append : (lines behind : List Line) → count_by is_program behind ≡ 0 → audios_here (lines ++ behind) ≡ audios_here lines + count_by is_audio behind
+pub audios_here-append : (lines behind : List Line) → count_by is_program behind ≡ 0 → audios_here (lines ++ behind) ≡ audios_here lines + count_by begins_audio behind
 audios_here-append lines [] none = ap audios_here (append-nil lines) ∙ omega arith
 audios_here-append lines (line ∷ behind) none =
     ap audios_here (sym (append_assoc lines (line ∷ []) behind))
     ∙ audios_here-append (lines ++ line ∷ []) behind (omega (arith, count-cons is_program line behind))
     ∙ by (is_program line) refl
   where
-    by : (b : Bool) → is_program line ≡ b → audios_here (lines ++ line ∷ []) + count_by is_audio behind ≡ audios_here lines + count_by is_audio (line ∷ behind)
+    by : (b : Bool) → is_program line ≡ b → audios_here (lines ++ line ∷ []) + count_by begins_audio behind ≡ audios_here lines + count_by begins_audio (line ∷ behind)
     by true is = absurd (omega (arith, count-cons is_program line behind, ap one is))
     by false is =
-        let step : audios_here (lines ++ line ∷ []) ≡ cond (is_audio line) 1 0 + audios_here lines = rw is at (audios_here_push lines line) in
-        omega (arith, step, count-cons is_audio line behind)
+        let step : audios_here (lines ++ line ∷ []) ≡ cond (begins_audio line) 1 0 + audios_here lines = rw is at (audios_here_push lines line) in
+        omega (arith, step, count-cons begins_audio line behind)
 
 -- behind a program's line there are those that follow
-pub audios_here_program : (front : List Line) (vbv : ℕ) (behind : List Line) → count_by is_program behind ≡ 0 → audios_here (front ++ Program vbv ∷ behind) ≡ count_by is_audio behind
+pub audios_here_program : (front : List Line) (vbv : ℕ) (behind : List Line) → count_by is_program behind ≡ 0 → audios_here (front ++ Program vbv ∷ behind) ≡ count_by begins_audio behind
 audios_here_program front vbv behind none =
     ap audios_here (sym (append_assoc front (Program vbv ∷ []) behind)) ∙ audios_here-append (front ++ Program vbv ∷ []) behind none
-    ∙ ap (λ (n : ℕ). n + count_by is_audio behind) (audios_here_push front (Program vbv)) ∙ omega arith
+    ∙ ap (λ (n : ℕ). n + count_by begins_audio behind) (audios_here_push front (Program vbv)) ∙ omega arith

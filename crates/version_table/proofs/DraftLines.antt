@@ -12,7 +12,7 @@ use Rattle.version_table.specs.declared.table.Unit.{Unit as CodedUnit}
 use Rattle.version_table.specs.declared.table.AudioPacket.{AudioPacket}
 use Rattle.version_table.specs.Lines.{line_of_unit, line_of_packet, lines_of_audio, lines_of_program}
 use Rattle.version_table.specs.Order.{last_line}
-use Rattle.version_table.specs.Limits.{is_program, is_audio, audios_here, slot_of, rises}
+use Rattle.version_table.specs.Limits.{is_program, begins_audio, audios_here, slot_of, is_due_later}
 use Rattle.version_table.specs.Private.Draft.{Allows, head_of, open_program, lines_of_draft, IsTidy, IsDraft}
 use Rattle.version_table.proofs.Counts.{
   last_line-append,
@@ -53,13 +53,13 @@ last_of_map {X} f line xs x e =
     ap (λ (ys : List X). last_line (line ∷ map f ys)) is ∙ ap (λ (ls : List Line). last_line (line ∷ ls)) (map-append f front (x ∷ [])) ∙ last_line_push (line ∷ map f front) (f x)
 
 pub rises_some : (draft : Draft) (unit : CodedUnit) (due : ℕ) → draft.audios ≡ [] → slice_get draft.units (length draft.units - 1) ≡ Some unit
-    → rises (last_line (lines_of_draft stages.Units draft)) due ≡ nat_lt unit.due due
-rises_some draft unit due no_audios last = ap (λ (line : Option Line). rises line due) (last_unit_line draft no_audios ∙ last_of_map line_of_unit (Program draft.vbv) draft.units unit last)
+    → is_due_later (last_line (lines_of_draft stages.Units draft)) due ≡ nat_lt unit.due due
+rises_some draft unit due no_audios last = ap (λ (line : Option Line). is_due_later line due) (last_unit_line draft no_audios ∙ last_of_map line_of_unit (Program draft.vbv) draft.units unit last)
 
 pub rises_none : (draft : Draft) (due : ℕ) → draft.audios ≡ [] → slice_get draft.units (length draft.units - 1) ≡ None
-    → rises (last_line (lines_of_draft stages.Units draft)) due ≡ true
+    → is_due_later (last_line (lines_of_draft stages.Units draft)) due ≡ true
 rises_none draft due no_audios last =
-    ap (λ (line : Option Line). rises line due) (last_unit_line draft no_audios ∙ ap (λ (units : List CodedUnit). last_line (Program draft.vbv ∷ map line_of_unit units)) (last_none draft.units last))
+    ap (λ (line : Option Line). is_due_later line due) (last_unit_line draft no_audios ∙ ap (λ (units : List CodedUnit). last_line (Program draft.vbv ∷ map line_of_unit units)) (last_none draft.units last))
 
 last_packet_line : (draft : Draft) → last_line (lines_of_draft stages.Packets draft) ≡ last_line (Audio ∷ map line_of_packet draft.packets)
 unfolding lines_of_draft
@@ -126,8 +126,8 @@ audios_in_units draft =
     audios_here_program front draft.vbv behind no_programs
     ∙ omega (
       arith,
-      count-append is_audio (map line_of_unit draft.units) (flat_map lines_of_audio draft.audios),
-      count_none is_audio line_of_unit (λ _. refl) draft.units,
+      count-append begins_audio (map line_of_unit draft.units) (flat_map lines_of_audio draft.audios),
+      count_none begins_audio line_of_unit (λ _. refl) draft.units,
       audios_in_audios draft.audios,
     )
 
@@ -151,12 +151,12 @@ audio_count_packets draft =
     ap audios_here (append_assoc front (open_program draft) stream) ∙ audios_here_program front draft.vbv behind no_programs
     ∙ omega (
       arith,
-      count-append is_audio (units ++ audios) stream,
-      count-append is_audio units audios,
-      count_none is_audio line_of_unit (λ _. refl) draft.units,
+      count-append begins_audio (units ++ audios) stream,
+      count-append begins_audio units audios,
+      count_none begins_audio line_of_unit (λ _. refl) draft.units,
       audios_in_audios draft.audios,
-      count-cons is_audio Audio (map line_of_packet draft.packets),
-      count_none is_audio line_of_packet (λ _. refl) draft.packets,
+      count-cons begins_audio Audio (map line_of_packet draft.packets),
+      count_none begins_audio line_of_packet (λ _. refl) draft.packets,
     )
 
 pub no_audios : (draft : Draft) → IsDraft stages.Units draft → draft.audios ≡ []

@@ -36,7 +36,7 @@ use Rattle.version_table.specs.Limits.{
   is_in_range,
   audios_here,
   time_most,
-  rises,
+  is_due_later,
   packet_due,
   packet_gone,
 }
@@ -55,7 +55,7 @@ pub record KeepsProgram (before : List Line) (vbv : ℕ) : Type 0 where
 pub record KeepsUnit (before : List Line) (due : ℕ) (versions : List StatedVersion) : Type 0 where
   pub units : count_by is_unit before < UNITS_MOST
   pub time : due ≤ time_most before
-  pub rising : rises (last_line before) due ≡ true
+  pub rising : is_due_later (last_line before) due ≡ true
   pub each : All KeepsVersion versions
 
 pub record KeepsPacket (before : List Line) (due gone bytes : ℕ) : Type 0 where
@@ -114,10 +114,10 @@ keeps_from before (Program vbv) h =
     record { programs = ltb-true (count_by is_program before) PROGRAMS_MOST programs; some = some; vbv_most = most }
 keeps_from before (UnitLine due versions) h =
     let others = flat_map version_tests versions.items in
-    let due_test = nat_le due (time_most before) && rises (last_line before) due in
+    let due_test = nat_le due (time_most before) && is_due_later (last_line before) due in
     let (units, more) = first_kept limits.Units (nat_lt (count_by is_unit before) UNITS_MOST) (test limits.Due due_test ∷ others) h in
     let (due_kept, rest) = first_kept limits.Due due_test others more in
-    let (time, rising) = and_parts (nat_le due (time_most before)) (rises (last_line before) due) due_kept in
+    let (time, rising) = and_parts (nat_le due (time_most before)) (is_due_later (last_line before) due) due_kept in
     record { units = ltb-true (count_by is_unit before) UNITS_MOST units; time = leb-true due (time_most before) time; rising = rising; each = versions_kept versions.items rest }
 keeps_from before Audio h = ltb-true (audios_here before) AUDIOS_MOST (first_kept limits.Audios (nat_lt (audios_here before) AUDIOS_MOST) [] h).0
 keeps_from before (Packet due gone bytes) h =
@@ -161,7 +161,7 @@ keeps_to before (Nodes n) h = rw (is_within-true 1 NODES_MOST n h.0 h.1) refl
 keeps_to before (Evaluations n) h = rw (le-leb n EVALUATIONS_MOST h) refl
 keeps_to before (Program vbv) h = rw (lt-ltb (count_by is_program before) PROGRAMS_MOST h.programs, is_within-true 1 VBV_MOST vbv h.some h.vbv_most) refl
 keeps_to before (UnitLine due versions) h =
-    rw (lt-ltb (count_by is_unit before) UNITS_MOST h.units, and_from (nat_le due (time_most before)) (rises (last_line before) due) (le-leb due (time_most before) h.time) h.rising)
+    rw (lt-ltb (count_by is_unit before) UNITS_MOST h.units, and_from (nat_le due (time_most before)) (is_due_later (last_line before) due) (le-leb due (time_most before) h.time) h.rising)
     (versions_pass versions.items h.each)
 keeps_to before Audio h = rw (lt-ltb (audios_here before) AUDIOS_MOST h) refl
 keeps_to before (Packet due gone bytes) h =

@@ -14,7 +14,7 @@ use Rattle.version_table.specs.declared.table.Table.{Table}
 use Rattle.version_table.specs.Table.{IsValidVersion, IsValidUnit, IsValidPacket, IsValidAudio, IsValidProgram}
 use Rattle.version_table.specs.Lines.{stated, line_of_unit, line_of_packet, lines_of_audio, lines_of_program, lines_of_table}
 use Rattle.version_table.specs.Order.{last_line, HasSyntax, IsForm}
-use Rattle.version_table.specs.Limits.{is_program, is_unit, is_audio, is_packet, audios_here, rises, packet_due, packet_gone, KeepLimits}
+use Rattle.version_table.specs.Limits.{is_program, is_unit, begins_audio, is_packet, audios_here, is_due_later, packet_due, packet_gone, KeepLimits}
 use Rattle.version_table.specs.Text.{IsTextTable}
 use Rattle.version_table.proofs.Kept.{KeepsVersion, keeps_from}
 use Rattle.version_table.proofs.Counts.{last_line_push, count-append, count_push, count_none, audios_here-append, audios_here_push}
@@ -70,7 +70,7 @@ units_kept slot more (unit ∷ units) walk few =
         → Adjacent ◌<◌ (map (λ c. c.due) units) → Adjacent ◌<◌ (unit.due ∷ map (λ c. c.due) units)
     risen [] first rising = tt
     risen (other ∷ units) first rising =
-        let after : rises (Some (line_of_unit unit)) other.due ≡ true = sym (ap (λ (last : Option Line). rises last other.due) (last_line_push (behind slot more) (line_of_unit unit))) ∙ first in
+        let after : is_due_later (Some (line_of_unit unit)) other.due ≡ true = sym (ap (λ (last : Option Line). is_due_later last other.due) (last_line_push (behind slot more) (line_of_unit unit))) ∙ first in
         (ltb-true unit.due other.due after, rising)
 
 -- ---- packets
@@ -161,7 +161,7 @@ program_kept slot more program walk few_units few_packets =
     let keeps = walk.0.1 in
     let no_audios : audios_here begun ≡ 0 = audios_here_push before line in
     let no_program : count_by is_program units ≡ 0 = count_none is_program line_of_unit (λ _. refl) program.units in
-    let none_yet : audios_here (begun ++ units) ≡ 0 = audios_here-append begun units no_program ∙ omega (arith, no_audios, count_none is_audio line_of_unit (λ _. refl) program.units) in
+    let none_yet : audios_here (begun ++ units) ≡ 0 = audios_here-append begun units no_program ∙ omega (arith, no_audios, count_none begins_audio line_of_unit (λ _. refl) program.units) in
     let unit_count = count_push is_unit before line in
     let packet_count = count_push is_packet before line in
     let packets_behind : count_by is_packet (begun ++ units)

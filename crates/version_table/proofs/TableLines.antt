@@ -15,7 +15,7 @@ use Rattle.version_table.specs.declared.table.Table.{Table}
 use Rattle.version_table.specs.Table.{IsValidVersion, IsValidUnit, IsValidPacket, IsValidAudio, IsValidProgram}
 use Rattle.version_table.specs.Lines.{stated, line_of_unit, line_of_packet, lines_of_audio, lines_of_program, lines_of_table}
 use Rattle.version_table.specs.Order.{last_line, IsStatedVersion, HasSyntax, MayFollow, MayStand, IsForm}
-use Rattle.version_table.specs.Limits.{is_program, is_unit, is_audio, is_packet, audios_here, rises, packet_due, packet_gone, KeepLimits}
+use Rattle.version_table.specs.Limits.{is_program, is_unit, begins_audio, is_packet, audios_here, is_due_later, packet_due, packet_gone, KeepLimits}
 use Rattle.version_table.specs.Text.{IsTextTable}
 use Rattle.version_table.specs.Private.Draft.{stage_after, Allows}
 use Rattle.version_table.proofs.Kept.{KeepsVersion, Keeps, keeps_to}
@@ -45,7 +45,7 @@ stage_all f stage same before (x ∷ xs) at =
 
 abbrev pub RisesTo : Option Line → List CodedUnit → Type 0
 RisesTo last [] = Unit {0}
-RisesTo last (unit ∷ units) = rises last unit.due ≡ true
+RisesTo last (unit ∷ units) = is_due_later last unit.due ≡ true
 
 unit_syntax : (slot : ℕ) (unit : CodedUnit) → slot ≤ SLOT_MOST → IsValidUnit slot unit → HasSyntax (line_of_unit unit)
 unfolding HasSyntax
@@ -79,7 +79,7 @@ units_good slot more (unit ∷ units) small at valid first rising few =
   where
     next : (units : List CodedUnit) → Adjacent ◌<◌ (unit.due ∷ map (λ c. c.due) units) → RisesTo (last_line (behind slot (more ++ line_of_unit unit ∷ []))) units
     next [] rising = tt
-    next (other ∷ units) rising = ap (λ (last : Option Line). rises last other.due) (last_line_push (behind slot more) (line_of_unit unit)) ∙ lt-ltb unit.due other.due rising.0
+    next (other ∷ units) rising = ap (λ (last : Option Line). is_due_later last other.due) (last_line_push (behind slot more) (line_of_unit unit)) ∙ lt-ltb unit.due other.due rising.0
 
     rest : (units : List CodedUnit) → Adjacent ◌<◌ (unit.due ∷ map (λ c. c.due) units) → Adjacent ◌<◌ (map (λ c. c.due) units)
     rest [] rising = tt
@@ -136,7 +136,7 @@ pub audios_in_stream : (before : List Line) (packets : List AudioPacket) → aud
 audios_in_stream before packets =
     let none : count_by is_program (lines_of_audio packets) ≡ 0 = omega (arith, count-cons is_program Audio (map line_of_packet packets), count_none is_program line_of_packet (λ _. refl) packets) in
     audios_here-append before (lines_of_audio packets) none
-    ∙ omega (arith, count-cons is_audio Audio (map line_of_packet packets), count_none is_audio line_of_packet (λ _. refl) packets)
+    ∙ omega (arith, count-cons begins_audio Audio (map line_of_packet packets), count_none begins_audio line_of_packet (λ _. refl) packets)
 
 stage_stream : (before : List Line) (packets : List AudioPacket) → stage_of (before ++ lines_of_audio packets) ≡ stages.Packets
 stage_stream before packets =
@@ -264,7 +264,7 @@ program_good slot more program small allows valid few few_units few_packets =
     let with_units : stage_of (begun ++ units) ≡ stages.Units = stage_all line_of_unit stages.Units (λ _. refl) begun program.units at in
     let no_audios : audios_here begun ≡ 0 = audios_here_push before line in
     let no_program : count_by is_program units ≡ 0 = count_none is_program line_of_unit (λ _. refl) program.units in
-    let none_yet : audios_here (begun ++ units) ≡ 0 = audios_here-append begun units no_program ∙ omega (arith, no_audios, count_none is_audio line_of_unit (λ _. refl) program.units) in
+    let none_yet : audios_here (begun ++ units) ≡ 0 = audios_here-append begun units no_program ∙ omega (arith, no_audios, count_none begins_audio line_of_unit (λ _. refl) program.units) in
     let unit_count = count_push is_unit before line in
     let packet_count = count_push is_packet before line in
     let packets_behind : count_by is_packet (begun ++ units)
@@ -279,7 +279,7 @@ program_good slot more program small allows valid few few_units few_packets =
   where
     begins : (units : List CodedUnit) → RisesTo (last_line (behind slot (more ++ Program program.vbv ∷ []))) units
     begins [] = tt
-    begins (unit ∷ units) = ap (λ (last : Option Line). rises last unit.due) (last_line_push (behind slot more) (Program program.vbv))
+    begins (unit ∷ units) = ap (λ (last : Option Line). is_due_later last unit.due) (last_line_push (behind slot more) (Program program.vbv))
 
 -- a program may come behind a program
 pub stage_program : (before : List Line) (program : ProgramRow) → Allows (stage_of (before ++ lines_of_program program)) (Program 0)

@@ -49,9 +49,9 @@ is_unit (UnitLine due versions) = true
 is_unit line = false
 
 -- the line begins an audio stream
-abbrev pub is_audio : Line → Bool
-is_audio Audio = true
-is_audio line = false
+abbrev pub begins_audio : Line → Bool
+begins_audio Audio = true
+begins_audio line = false
 
 -- the line is that of an audio packet
 abbrev pub is_packet : Line → Bool
@@ -60,7 +60,7 @@ is_packet line = false
 
 -- how many audio streams the last program has: the audio lines behind the last line of a program
 abbrev pub audios_here : List Line → ℕ
-audios_here lines = count_by is_audio (take_while (λ line. not (is_program line)) (reverse lines))
+audios_here lines = count_by begins_audio (take_while (λ line. not (is_program line)) (reverse lines))
 
 -- the ticks of a slot that the second line states
 abbrev pub slot_of : List Line → ℕ
@@ -72,9 +72,9 @@ abbrev pub time_most : List Line → ℕ
 time_most before = TIME_SLOTS_MOST * slot_of before
 
 -- a unit is due after the unit right before it
-abbrev pub rises : Option Line → ℕ → Bool
-rises (Some (UnitLine earlier versions)) due = nat_lt earlier due
-rises last due = true
+abbrev pub is_due_later : Option Line → ℕ → Bool
+is_due_later (Some (UnitLine earlier versions)) due = nat_lt earlier due
+is_due_later last due = true
 
 -- the due time of the audio packet right before; 0 where none is
 abbrev pub packet_due : Option Line → ℕ
@@ -107,7 +107,7 @@ version_tests version = test limits.Bytes (is_in_range 1 VERSION_BYTES_MOST vers
 abbrev pub unit_tests : List Line → ℕ → List StatedVersion → List Test
 unit_tests before due versions =
     test limits.Units (nat_lt (count_by is_unit before) UNITS_MOST)
-    ∷ test limits.Due (nat_le due (time_most before) && rises (last_line before) due)
+    ∷ test limits.Due (nat_le due (time_most before) && is_due_later (last_line before) due)
     ∷ flat_map version_tests versions
 
 -- the tests of a line behind others, in reading order: first whether there may be one more of its kind

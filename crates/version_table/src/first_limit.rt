@@ -3,7 +3,7 @@
 ghost use Rattle.std.specs.Prelude.{◌≡◌, ◌+◌, ◌*◌, [], ◌∷◌, ◌&&◌, nat_le, nat_lt, count_by, List};
 ghost use Rattle.std.specs.List.{flat_map};
 ghost use Rattle.version_table.specs.Order.{last_line};
-ghost use Rattle.version_table.specs.Limits.{is_in_range, first_failing, test, version_tests, unit_tests, first_limit, is_program, audios_here, time_most, rises, packet_due, packet_gone};
+ghost use Rattle.version_table.specs.Limits.{is_in_range, first_failing, test, version_tests, unit_tests, first_limit, is_program, audios_here, time_most, is_due_later, packet_due, packet_gone};
 ghost use Rattle.version_table.specs.Private.Draft.{Allows, IsDraft, lines_of_draft};
 
 use crate::draft::Draft;
@@ -86,9 +86,9 @@ impl Draft {
     }
 
     /// Whether a due time is greater than that of the last unit of the open program.
-    fn rises(&self, due: u64) -> bool
+    fn is_due_later(&self, due: u64) -> bool
         requires { IsDraft Stage.Units self.now }
-        ensures { result ≡ rises (last_line (lines_of_draft Stage.Units self.now)) due }
+        ensures { result ≡ is_due_later (last_line (lines_of_draft Stage.Units self.now)) due }
     {
         match self.units.as_slice().last() {
             Some(unit) => unit.due < due,

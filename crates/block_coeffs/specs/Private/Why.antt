@@ -3,7 +3,7 @@ use Rattle.std.specs.Prelude.{ℕ, List, [], ◌∷◌}
 use Rattle.prefix_codes.specs.declared.table_name.TableName.{TableName}
 use Rattle.picture_grammar.specs.Refusal.{Refusal}
 use Rattle.picture_grammar.specs.Element.{Rule, rule, IsRefused}
-use Rattle.picture_grammar.specs.Block.{Coefficient, CoefficientCode, is_within, is_level}
+use Rattle.picture_grammar.specs.Block.{Coefficient, CoefficientCode, fits_in_block, is_level}
 use Rattle.block_coeffs.specs.declared.fault.BlockFault.{BlockFault}
 use Rattle.block_coeffs.specs.declared.fault.BlockFault.TheVariants as fault
 use Rattle.block_coeffs.specs.declared.why.Why.{Why}
@@ -25,7 +25,7 @@ fault_at why.End at = fault.End at
 
 -- the rules of a coefficient at a place: it stands within the block, and its level isn't forbidden
 abbrev pub rules_at : ℕ → List (Rule Coefficient)
-rules_at place = rule Refusal.TooMany (is_within place) ∷ rule Refusal.BadEscape is_level ∷ []
+rules_at place = rule Refusal.TooMany (fits_in_block place) ∷ rule Refusal.BadEscape is_level ∷ []
 
 -- for this reason the bits begin with no coefficient and no end of block
 abbrev pub IsWhy : TableName → ℕ → Why → List ℕ → Type 0

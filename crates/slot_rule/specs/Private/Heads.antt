@@ -3,7 +3,7 @@ use Rattle.std.specs.Prelude.{◌≡◌, ℕ, ◌⊎◌, List, slice_get, Option
 use Rattle.slot_rule.specs.declared.heads.Head.{Head}
 use Rattle.slot_rule.specs.declared.queue_state.QueueState.{QueueState}
 use Rattle.slot_rule.specs.Queues.{QueuedPacket}
-use Rattle.slot_rule.specs.Schedule.{IsBefore}
+use Rattle.slot_rule.specs.Schedule.{IsDueBefore}
 use Rattle.slot_rule.specs.Private.QueueState.{HoldsUntil, Permits}
 
 -- the packet may go in a slot that begins at a time
@@ -30,7 +30,7 @@ pub record IsFirst (P : QueueState → QueuedPacket → Type 0) (states : List Q
   pub head : state.head ≡ Some packet
   pub passes : P state packet
   pub first : (other : ℕ) (state' : QueueState) (packet' : QueuedPacket) → slice_get states other ≡ Some state' → state'.head ≡ Some packet'
-      → P state' packet' → (other ≡ stream) ⊎ IsBefore stream packet other packet'
+      → P state' packet' → (other ≡ stream) ⊎ IsDueBefore stream packet other packet'
 
 -- the head packet that goes first among those that pass; none where none passes
 abbrev pub IsFirstHead : (QueueState → QueuedPacket → Type 0) → List QueueState → Option Head → Type 0

@@ -7,7 +7,7 @@ use Rattle.version_table.specs.declared.table.ProgramRow.{ProgramRow}
 use Rattle.version_table.specs.declared.table.Table.{Table}
 use Rattle.slot_rule.specs.declared.queue_items.QueueItems.{QueueItems}
 use Rattle.slot_rule.specs.declared.queue_items.QueueItems.TheVariants.{Units, Packets}
-use Rattle.slot_rule.specs.Queues.{Queue, video_of, audio_of}
+use Rattle.slot_rule.specs.Queues.{Queue, video_queue, audio_of}
 
 -- the program of this number; where there is none, one without streams
 abbrev pub program_at : Table → ℕ → ProgramRow
@@ -15,7 +15,7 @@ program_at table program = slice_index_or table.programs program (record { vbv =
 
 -- the stream whose packets stand there
 abbrev pub queue_at : Table → List ℕ → QueueItems → Queue
-queue_at table choice (Units program first) = video_of program (program_at table program) (drop first choice)
+queue_at table choice (Units program first) = video_queue program (program_at table program) (drop first choice)
 queue_at table choice (Packets program audio) = audio_of (slice_index_or (program_at table program).audios audio [])
 
 -- a number for each of these units, and perhaps more, each of a version with bytes

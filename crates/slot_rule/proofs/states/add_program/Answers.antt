@@ -7,7 +7,7 @@ use Rattle.slot_rule.specs.declared.queue_items.QueueItems.TheVariants.{Units, P
 use Rattle.slot_rule.specs.declared.queue_state.QueueState.{QueueState}
 use Rattle.slot_rule.specs.Private.QueueItems.{program_at, queue_at}
 use Rattle.slot_rule.specs.Private.States.{audio_places, places_kept, queue_of}
-use Rattle.slot_rule.specs.Queues.{Queue, audio_of, video_of}
+use Rattle.slot_rule.specs.Queues.{Queue, audio_of, video_queue}
 use Rattle.slot_rule.proofs.states.add_program.Goals as goal
 
 pub loop-audio-preserved : goal.loop-audio-preserved
@@ -29,8 +29,8 @@ loop-audio-preserved c =
     record {
       queues = c.add_stream-in-loop-audio.ensures.queues
           ∙ ap (λ (list : List Queue). list ++ queue_at table choice (Packets program audio) ∷ []) c.loop-audio.invariant.queues
-          ∙ append_assoc (map (queue_of table choice) olds) (video_of program row (drop first choice) ∷ map audio_of (take audio row.audios)) (queue_at table choice (Packets program audio) ∷ [])
-          ∙ ap (λ (more : List Queue). map (queue_of table choice) olds ++ (video_of program row (drop first choice) ∷ more))
+          ∙ append_assoc (map (queue_of table choice) olds) (video_queue program row (drop first choice) ∷ map audio_of (take audio row.audios)) (queue_at table choice (Packets program audio) ∷ [])
+          ∙ ap (λ (more : List Queue). map (queue_of table choice) olds ++ (video_queue program row (drop first choice) ∷ more))
           (sym (ap (λ (list : List (List AudioPacket)). map audio_of list) (take_more row.audios audio [] within) ∙ map-append audio_of (take audio row.audios) (get_or row.audios audio [] ∷ [])));
       places = c.add_stream-in-loop-audio.ensures.places ∙ ap (λ (list : List QueueItems). list ++ Packets program audio ∷ []) c.loop-audio.invariant.places
           ∙ append_assoc (places_kept olds) (Units program first ∷ audio_places program audio) (Packets program audio ∷ [])
