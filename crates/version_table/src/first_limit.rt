@@ -59,7 +59,7 @@ impl Draft {
         if self.unit_count >= UNITS_MOST {
             return Some(Limit::Units);
         }
-        if due > self.time_most() || !self.rises(due) {
+        if due > self.time_most() || !self.is_due_later(due) {
             return Some(Limit::Due);
         }
         versions_limit(versions)

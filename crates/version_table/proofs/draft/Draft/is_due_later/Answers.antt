@@ -1,6 +1,6 @@
 use Rattle.std.proofs.Common.{sym}
 use Rattle.version_table.proofs.DraftLines.{rises_some, rises_none, no_audios}
-use Rattle.version_table.proofs.draft.Draft.rises.Goals as goal
+use Rattle.version_table.proofs.draft.Draft.is_due_later.Goals as goal
 
 pub returns-in-Some : goal.returns-in-Some
 returns-in-Some c =
