@@ -8,4 +8,6 @@ pub mod CarrySteps
 pub mod DemuxSteps
 pub mod Gathering
 pub mod GatherSteps
+pub mod OneStop
+pub mod OneAnswer
 mod Examples

@@ -1,6 +1,7 @@
 //! A transport stream is taken apart (ISO/IEC 13818-1, 2.4.3 and 2.4.4).
 //!
 //! `demux` answers the PES packets of one program's video and audio streams, or the first refusal with its place in the file.
+//! That is one answer alone: `laws::one_answer`.
 //! `Payloads` is a source over the joined payload of a PID in a file, and takes no memory.
 //! Stands on `shelf_io`, `ts_packets`, `psi_tables` and `pes_units`.
 #![tactic(auto)]
@@ -10,6 +11,7 @@ mod demux_fault;
 mod demux_program;
 mod demuxed;
 mod file_packets;
+pub mod laws;
 mod payload_walk;
 mod payloads;
 mod pes_gatherer;

@@ -72,7 +72,7 @@ module _ (before : Option SeqState) {S : Type 0} {g : Ghosts S} (old new : BitRe
     by_told None is = tt
     by_told (Some bits) is =
         let (rest, spelled, there) = a.gives.on (length bits) bits (wholes-first bits is) in
-        record { rest = rest; behind = there.behind; spelled = spelled; size = there.size; slice = there.slice; left = there.left.rests.told; moved = there.left.rests.ends }
+        record { behind = there.behind; begins = record { rest = rest; spelled = spelled; size = there.size; slice = there.slice }; left = there.left.rests.told; moved = there.left.rests.ends }
 
   pub head-refused : (result : Result HeadEnd HeadFault) → Answers (head before)
       (λ (found : HeadEnd). (found.headers.seq, found.headers.coding)) result (Wholes old) (λ found. BehindHead found new) old new

@@ -1,12 +1,15 @@
 //! The head of a unit: the headers of one coded picture (6.2.2).
-ghost use Rattle.std.specs.Prelude.{◌≡◌, IfOk, IfErr, IfSome, IsErrOf};
+ghost use Rattle.std.specs.Prelude.{◌≡◌, ℕ, IfOk, IfErr, IfSome, IsErrOf};
 ghost use Rattle.std.specs.Option.{option_copied};
+ghost use Rattle.shelf_io.specs.Causes.{SourceCauses};
 ghost use Rattle.shelf_io.specs.Counts.{Rose};
+ghost use Rattle.shelf_io.specs.Source.{Takes};
+ghost use Rattle.bit_lists.specs.Fields.{bit_list};
 ghost use Rattle.bit_cursor.specs.BitReader.{bits_left, place, faults_of, absences_of};
 ghost use Rattle.picture_grammar.specs.Head.{head};
-ghost use Rattle.grammar_reading.specs.BitsRead.{Explains};
+ghost use Rattle.grammar_reading.specs.BitsRead.{Explains, ExplainsFrom};
 ghost use Rattle.video_headers.specs.HeadFault.{refusal_told};
-ghost use Rattle.video_headers.specs.HeadRead.{HeadRead};
+ghost use Rattle.video_headers.specs.HeadRead.{HeadRead, HeadersRead};
 ghost use Rattle.video_headers.specs.Runs.{Runs};
 ghost use Rattle.video_headers.specs.Private.BehindHead.{BehindHead};
 ghost use Rattle.video_headers.specs.Private.Reading.{Answers};
@@ -36,6 +39,24 @@ pub struct HeadEnd {
     pub headers: Headers,
     /// The last byte of the first slice's start code.
     pub first_slice: u8,
+}
+
+/// The headers of the unit that a source begins with, behind a state or none. Bytes are taken up to the end of the first
+/// slice's start code, and at most four more. A refusal is the first one in reading order; what was taken before it is lost.
+pub fn read_headers<S: Source>(
+    source: &mut S,
+    before: Option<&SeqState>,
+) -> Result<Headers, HeadFault>
+    ensures read { IfOk result (λ headers. IfSome (S.left source.old) (λ bytes. HeadersRead (option_copied before.entry) headers bytes (S.left source.new))) }
+    ensures refused { IfErr result (λ fault. IfSome (S.left source.old) (λ bytes. ExplainsFrom (head (option_copied before.entry)) (refusal_told fault) (bit_list bytes) 0)) }
+    ensures taken { (count : ℕ) × Takes (S.left source.old) (S.left source.new) (S.most source.old) (S.most source.new) count }
+
+    ensures causes { SourceCauses S.faults S.absences (IsErrOf result (HeadFault.Outside Fault.Failed)) (IsErrOf result (HeadFault.Outside Fault.Missing)) source.old source.new }
+    ensures keeps { S.keeps source.old source.new }
+{
+    let mut reader = BitReader::new(source);
+    let found = read_head(&mut reader, before)?;
+    Ok(found.headers)
 }
 
 /// The head of the unit that a reader's source begins with, behind a state or none. The reader stops behind the start code

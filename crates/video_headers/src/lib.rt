@@ -26,7 +26,7 @@ mod why;
 mod zeros;
 
 pub use fault::HeadFault;
-pub use head::{HeadEnd, Headers, read_head};
+pub use head::{HeadEnd, Headers, read_head, read_headers};
 
 #[cfg(test)]
 mod head_tests;

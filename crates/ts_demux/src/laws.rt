@@ -1,0 +1,17 @@
+//! Laws of the definitions, each the contract of a function that does nothing.
+ghost use Rattle.std.specs.Prelude.{◌≡◌, ◌≢◌, ℕ, List};
+ghost use Rattle.ts_demux.specs.declared.demux_fault.DemuxFault.{DemuxFault};
+ghost use Rattle.ts_demux.specs.declared.demux_fault.DemuxFault.TheVariants.{OutOfMemory};
+ghost use Rattle.ts_demux.specs.declared.demuxed.Demuxed.{Demuxed};
+ghost use Rattle.ts_demux.specs.Demux.{IsDemuxed, IsRefused};
+
+/// A file, a program and the PIDs that are to be dropped have one answer: what is taken out is one thing, the refusal is one
+/// fault, and never both stand; but for want of memory, which may be said of every file.
+pub fn one_answer()
+    ensures demuxed { (file : List ℕ) (program : ℕ) (drop : List ℕ) (one other : Demuxed) →
+        IsDemuxed file program drop one → IsDemuxed file program drop other → one ≡ other }
+    ensures refused { (file : List ℕ) (program : ℕ) (drop : List ℕ) (one other : DemuxFault) → one ≢ OutOfMemory → other ≢ OutOfMemory →
+        IsRefused file program drop one → IsRefused file program drop other → one ≡ other }
+    ensures never_both { (file : List ℕ) (program : ℕ) (drop : List ℕ) (demuxed : Demuxed) (fault : DemuxFault) →
+        IsDemuxed file program drop demuxed → IsRefused file program drop fault → fault ≡ OutOfMemory }
+{}
