@@ -12,10 +12,10 @@ use Rattle.multiplier_search.specs.Private.Lambda.{EndsRise, RisesTo, value_with
 use Rattle.multiplier_search.proofs.Rises.{greatest_at}
 
 module _ (table : Table) (fixed : List (Option ℕ)) (windows : List Window) (place from due : ℕ) (within : place < length windows) where
-  window : ℕ → Window
+  abbrev pub window : ℕ → Window
   window n = record { from = from; due = due; lambda = n }
 
-  others : List Window
+  abbrev pub others : List Window
   others = take place windows ++ drop (suc place) windows
 
   pub first-with : (n : ℕ) → value_with table fixed windows place from due n ≡ value_of_windows table fixed (window n ∷ others)

@@ -2,4 +2,4 @@ pub mod Beside
 pub mod Best
 pub mod BestWindow
 pub mod Rises
-pub mod Turns
+pub mod Steps
