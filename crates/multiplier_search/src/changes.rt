@@ -1,9 +1,10 @@
-ghost use Rattle.std.specs.Prelude.{◌<◌, ◌≤◌, ◌∷◌, [], length, ◌≤ℤ◌};
+ghost use Rattle.std.specs.Prelude.{◌≡◌, ◌≢◌, ◌<◌, ◌≤◌, ◌∷◌, [], true, false, length, ◌≤ℤ◌, slice_index_or};
 ghost use Rattle.version_table.specs.Table.{IsValidTable, units_of};
 ghost use Rattle.dual_bounds.specs.declared.constants.TheConstants.{WINDOWS_MOST};
+ghost use Rattle.dual_bounds.specs.declared.windows.Window.{Window};
 ghost use Rattle.dual_bounds.specs.Fixed.{FixesVersions};
 ghost use Rattle.dual_bounds.specs.Values.{value_of_windows};
-ghost use Rattle.multiplier_search.specs.Private.Turns.{AreFromStart, AreNext, IsGreaterOf};
+ghost use Rattle.multiplier_search.specs.Private.Turns.{AreFromStart, AreNext, EndsAt, IsGreaterOf};
 ghost use Rattle.multiplier_search.specs.Single.{dues_of};
 ghost use Rattle.multiplier_search.specs.Turns.{BeatAdditions, BeatChanges};
 ghost use Rattle.multiplier_search.specs.Windows.{AreSearched};
@@ -76,13 +77,7 @@ fn or_added_at_units(
 }
 
 /// The best so far, or the windows with the best one added at a due time, where none of them ends there.
-fn or_added_at(
-    table: &Table,
-    fixed: &Fixed,
-    start: &[Window],
-    so_far: Windows,
-    due: u64,
-) -> Windows
+fn or_added_at(table: &Table, fixed: &Fixed, start: &[Window], so_far: Windows, due: u64) -> Windows
     requires valid { IsValidTable table.now }
     requires fixed { FixesVersions table.now fixed.now }
     requires few { length start.now < WINDOWS_MOST }
@@ -99,13 +94,22 @@ fn or_added_at(
         lambda: 0,
     };
     let place = place_of(start, free);
-    if place < start.len() && start[place].due == due {
+    let ends = ends_at(start, place, due);
+    if ends {
         return so_far;
     }
     let wider = inserted(start, place, free);
     let lambda = best_lambda(table, fixed, wider.as_slice(), place, 0, due);
     let added = replaced(wider.as_slice(), place, Window { lambda, ..free });
     of_greater_value(table, fixed, so_far, added)
+}
+
+/// Whether there is a window at this place that ends at a time.
+fn ends_at(windows: &[Window], place: usize, time: u64) -> bool
+    ensures yes { result ≡ true → EndsAt windows.now place time }
+    ensures no { result ≡ false → (d : Window) → place < length windows.now → (slice_index_or windows.now place d).due ≢ time }
+{
+    place < windows.len() && windows[place].due == time
 }
 
 /// The windows of greater value.
