@@ -1,6 +1,5 @@
 -- The best of several windows.
 use Rattle.std.proofs.Common.{◌≡◌, ℕ, ◌+◌, List, [], ◌∷◌, ◌++◌, Option, sym, subst, inl, inr, arith, ℤ, ◌≤ℤ◌}
-use Rattle.std.proofs.lemmas.Bool.{cases_lt}
 use Rattle.std.proofs.lemmas.Int.{ints}
 use Rattle.std.proofs.lemmas.List.Elements.{Contains-append_cases}
 use Rattle.version_table.specs.declared.table.Table.{Table}
@@ -10,17 +9,12 @@ use Rattle.multiplier_search.specs.declared.constants.TheConstants.{LONG_WINDOW_
 use Rattle.multiplier_search.specs.Private.Lambda.{Beats, EndsRise, IsGreater, RisesTo, value_at}
 use Rattle.multiplier_search.specs.Windows.{BeatEachTried, IsBeginning}
 use Rattle.multiplier_search.proofs.Best.{Contains-one, values_concave}
-use Rattle.multiplier_search.proofs.Rises.{less_below, no_greater_behind}
+use Rattle.multiplier_search.proofs.Rises.{greatest_at}
 
 -- the window whose lambda ends the rise beats all between the same times
 pub beats_from : (table : Table) (fixed : List (Option ℕ)) (from due lambda : ℕ) → RisesTo (value_at table fixed from due) lambda → EndsRise (value_at table fixed from due) lambda
     → Beats table fixed from due (record { from = from; due = due; lambda = lambda })
-beats_from table fixed from due lambda rises ends k limit =
-    let value : ℕ → ℤ = value_at table fixed from due in
-    elim (cases_lt k lambda) as (λ _. value k ≤ℤ value lambda) [
-      | inl below ↦ (let less = less_below value (values_concave table fixed from due) lambda k rises below in omega (arith, ints))
-      | inr beyond ↦ no_greater_behind value (values_concave table fixed from due) lambda k ends beyond limit
-    ]
+beats_from table fixed from due lambda rises ends k limit = greatest_at (value_at table fixed from due) (values_concave table fixed from due) lambda k rises ends limit
 
 -- the greater of two windows beats what each of them beats
 pub greater_beats : (table : Table) (fixed : List (Option ℕ)) (dues more : List ℕ) (a b greater : Window) → BeatEachTried table fixed dues (a ∷ []) → BeatEachTried table fixed more (b ∷ [])

@@ -1,5 +1,6 @@
 -- Values of which each rise is at most the one before: they rise up to a place, and no more from it on.
 use Rattle.std.proofs.Common.{◌≡◌, ℕ, zero, suc, ◌+◌, ◌-◌, ◌<◌, ◌≤◌, sym, subst, inl, inr, arith, ℤ, ◌+ℤ◌, ◌≤ℤ◌, ◌<ℤ◌}
+use Rattle.std.proofs.lemmas.Bool.{cases_lt}
 use Rattle.std.proofs.lemmas.Int.{ints}
 use Rattle.dual_bounds.specs.declared.constants.TheConstants.{LAMBDA_MOST}
 use Rattle.multiplier_search.specs.Private.Lambda.{EndsRise, RisesTo}
@@ -61,3 +62,10 @@ module _ (value : ℕ → ℤ) (concave : (k : ℕ) → (value k +ℤ value (suc
       subst (λ n. (value (suc n) +ℤ value k) ≤ℤ (value n +ℤ value (suc k))) size (rises_fall k (middle - k)) in
       let rise' : value middle <ℤ value (suc middle) = subst (λ n. value middle <ℤ value n) next rise in
       rw next_k (omega (arith, ints))
+
+  -- the value at the end of the rise is the greatest
+  pub greatest_at : (lambda k : ℕ) → RisesTo value lambda → EndsRise value lambda → k ≤ LAMBDA_MOST → value k ≤ℤ value lambda
+  greatest_at lambda k rises ends limit = elim (cases_lt k lambda) as (λ _. value k ≤ℤ value lambda) [
+    | inl below ↦ (let less = less_below lambda k rises below in omega (arith, ints))
+    | inr beyond ↦ no_greater_behind lambda k ends beyond limit
+  ]

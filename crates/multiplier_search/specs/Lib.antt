@@ -1,3 +1,4 @@
 pub mod Private
 pub mod Single
+pub mod Turns
 pub mod Windows

@@ -1,1 +1,2 @@
 pub mod Lambda
+pub mod Turns

@@ -22,12 +22,14 @@ pub record IsSound (window : Window) : Type 0 where
   pub order : window.from ≤ window.due
   pub lambda : window.lambda ≤ LAMBDA_MOST
 
+-- one window ends before another, or with it and begins before it
+abbrev pub Precedes : Window → (other : Window) → Type 0
+Precedes window other = (window.due < other.due) ⊎ ((window.due ≡ other.due) × (window.from < other.from))
+
 -- what a search gives: sound windows, in the order of their ends, and of their beginnings where ends are equal
 pub record AreSearched (windows : List Window) : Type 0 where
   pub sound : All IsSound windows
-  pub rise : (k : ℕ) (d : Window) → k + 1 < length windows
-      → ((slice_index_or windows k d).due < (slice_index_or windows (k + 1) d).due)
-      ⊎ (((slice_index_or windows k d).due ≡ (slice_index_or windows (k + 1) d).due) × ((slice_index_or windows k d).from < (slice_index_or windows (k + 1) d).from))
+  pub rise : (k : ℕ) (d : Window) → k + 1 < length windows → Precedes (slice_index_or windows k d) (slice_index_or windows (k + 1) d)
 
 -- the windows have at least the value of each one that is tried alone for these due times
 abbrev pub BeatEachTried : Table → List (Option ℕ) → (dues : List ℕ) → List Window → Type 0

@@ -3,12 +3,16 @@
 //! Stands on `dual_bounds`.
 #![tactic(auto)]
 
+mod changes;
 pub mod constants;
 mod lambda;
+mod lists;
 mod single;
+mod turns;
 mod window;
 
 pub use single::best_single;
+pub use turns::{improve, improve_windows};
 pub use window::best_window;
 
 #[cfg(test)]

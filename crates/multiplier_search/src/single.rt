@@ -6,7 +6,7 @@ ghost use Rattle.multiplier_search.specs.Private.Lambda.{BetterOf, GoesFirst, Is
 ghost use Rattle.multiplier_search.specs.Single.{IsBestSingle, IsFirstBest, dues_of, value_alone};
 
 use crate::lambda::best_lambda;
-use dual_bounds::{Fixed, Multiplier, Multipliers, dual_value};
+use dual_bounds::{Fixed, Multiplier, Multipliers, Window, dual_value};
 use list_types::OutOfMemory;
 use version_table::{Table, Unit};
 
@@ -104,8 +104,13 @@ fn best_at(table: &Table, fixed: &Fixed, due: u64) -> Multiplier
     ensures lambda { result.lambda ≤ LAMBDA_MOST }
     ensures best { IsFirstBest table.now fixed.now (due ∷ []) result }
 {
+    let alone = Window {
+        from: 0,
+        due,
+        lambda: 0,
+    };
     Multiplier {
         due,
-        lambda: best_lambda(table, fixed, 0, due),
+        lambda: best_lambda(table, fixed, &[alone], 0, 0, due),
     }
 }

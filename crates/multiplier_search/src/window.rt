@@ -124,9 +124,13 @@ fn best_from(table: &Table, fixed: &Fixed, from: u64, due: u64) -> Window
     ensures sound { IsSound result }
     ensures best { Beats table.now fixed.now from due result }
 {
-    Window {
+    let alone = Window {
         from,
         due,
-        lambda: best_lambda(table, fixed, from, due),
+        lambda: 0,
+    };
+    Window {
+        lambda: best_lambda(table, fixed, &[alone], 0, from, due),
+        ..alone
     }
 }

@@ -1,5 +1,5 @@
 -- The values of one window or multiplier alone, over the lambdas.
-use Rattle.std.specs.Prelude.{◌≡◌, ℕ, ◌+◌, ◌<◌, ◌≤◌, ◌⊎◌, List, [], ◌∷◌, Option, MatchOption, ℤ, ◌<ℤ◌, ◌≤ℤ◌}
+use Rattle.std.specs.Prelude.{◌≡◌, ℕ, ◌+◌, ◌<◌, ◌≤◌, ◌⊎◌, List, [], ◌∷◌, Option, MatchOption, ℤ, ◌<ℤ◌, ◌≤ℤ◌, slice_set}
 use Rattle.version_table.specs.declared.table.Table.{Table}
 use Rattle.dual_bounds.specs.declared.constants.TheConstants.{LAMBDA_MOST}
 use Rattle.dual_bounds.specs.declared.windows.Multiplier.{Multiplier}
@@ -11,6 +11,10 @@ use Rattle.multiplier_search.specs.Single.{IsFirstBest, IsNoWorse}
 -- the value of a window alone with this lambda
 abbrev pub value_at : Table → List (Option ℕ) → (from due lambda : ℕ) → ℤ
 value_at table fixed from due lambda = value_of_windows table fixed (record { from = from; due = due; lambda = lambda } ∷ [])
+
+-- the value of some windows where the one at this place is from one time to another with this lambda
+abbrev pub value_with : Table → List (Option ℕ) → List Window → (place from due lambda : ℕ) → ℤ
+value_with table fixed windows place from due lambda = value_of_windows table fixed (slice_set windows place (record { from = from; due = due; lambda = lambda }))
 
 -- values rise with each lambda below this one
 abbrev pub RisesTo : (ℕ → ℤ) → (lambda : ℕ) → Type 0

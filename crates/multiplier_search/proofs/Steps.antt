@@ -1,0 +1,290 @@
+-- Windows with one changed or one added, as a search gives them.
+use Rattle.std.proofs.Common.{
+  ◌≡◌,
+  ◌≢◌,
+  ℕ,
+  suc,
+  ◌+◌,
+  ◌-◌,
+  ◌<◌,
+  ◌≤◌,
+  ◌⊎◌,
+  List,
+  [],
+  ◌∷◌,
+  ◌++◌,
+  length,
+  map,
+  take,
+  drop,
+  get_or,
+  set,
+  Option,
+  Some,
+  slice_get,
+  refl,
+  sym,
+  ap,
+  subst,
+  ◌∙◌,
+  inl,
+  inr,
+  arith,
+  ℤ,
+  ◌≤ℤ◌,
+}
+use Rattle.std.specs.List.{All, Contains, flat_map, insert}
+use Rattle.std.proofs.lemmas.Bool.{cases_eq, cases_lt}
+use Rattle.std.proofs.lemmas.Int.{ints}
+use Rattle.std.proofs.lemmas.List.{get_or-set_other, get_or-set_same, flat_map_more, get_or_default, get_or_read, length-set, length-take-le, map-append, map_more, set_at, take-append-drop, take_more}
+use Rattle.std.proofs.lemmas.List.Edits.{get_or-insert_above, get_or-insert_at, get_or-insert_below, length-insert}
+use Rattle.std.proofs.lemmas.List.Elements.{All-append, All-cons, All-drop, All-map, All-set, All-take, Contains-append_cases}
+use Rattle.std.proofs.lemmas.Option.{get_or_from_slice_get, slice_get_within}
+use Rattle.version_table.specs.declared.table.ProgramRow.{ProgramRow}
+use Rattle.version_table.specs.declared.table.Table.{Table}
+use Rattle.version_table.specs.declared.table.Unit.{Unit as CodedUnit}
+use Rattle.dual_bounds.specs.declared.constants.TheConstants.{LAMBDA_MOST}
+use Rattle.dual_bounds.specs.declared.windows.Multiplier.{Multiplier}
+use Rattle.dual_bounds.specs.declared.windows.Window.{Window}
+use Rattle.dual_bounds.specs.Values.{from_start, value_of_windows}
+use Rattle.dual_bounds.proofs.ValueLaws.{any_order}
+use Rattle.multiplier_search.specs.Single.{dues_of}
+use Rattle.multiplier_search.specs.Turns.{BeatAdditions, BeatChanges, with_lambda}
+use Rattle.multiplier_search.specs.Windows.{AreSearched, IsSound, Precedes}
+use Rattle.multiplier_search.specs.Private.Lambda.{EndsRise, RisesTo, value_with}
+use Rattle.multiplier_search.specs.Private.Turns.{AreFromStart, AreNext, BeatFirstChanges, EndsAt, IsGreaterOf, IsPlace}
+use Rattle.multiplier_search.proofs.Best.{Contains-one}
+use Rattle.multiplier_search.proofs.Beside.{greatest-with}
+
+-- ---- the order of windows
+precedes_same : (a b a' b' : Window) → a'.due ≡ a.due → a'.from ≡ a.from → b'.due ≡ b.due → b'.from ≡ b.from → Precedes a b → Precedes a' b'
+precedes_same a b a' b' due from due' from' (inl less) = inl (omega arith)
+precedes_same a b a' b' due from due' from' (inr same) = inr (omega (arith, same.0), omega (arith, same.1))
+
+set_keeps : (f : Window → ℕ) (windows : List Window) (k : ℕ) (w w' : Window) → k < length windows → w ≡ get_or windows k w → f w' ≡ f w → (j : ℕ) (d : Window)
+    → f (get_or (set windows k w') j d) ≡ f (get_or windows j d)
+set_keeps f windows k w w' within read same j d = elim (cases_eq j k) as (λ _. f (get_or (set windows k w') j d) ≡ f (get_or windows j d)) [
+  | inl here ↦ (let there : f (get_or (set windows k w') k d) ≡ f (get_or windows k d) =
+      ap f (get_or-set_same windows k w' d within) ∙ same ∙ ap f (get_or_read windows k w within read d) in
+      subst (λ n. f (get_or (set windows k w') n d) ≡ f (get_or windows n d)) (sym here) there)
+  | inr other ↦ ap f (get_or-set_other windows k j w' d other)
+]
+
+pub set-searched : (windows : List Window) (k : ℕ) (w : Window) (lambda : ℕ) → k < length windows → w ≡ get_or windows k w → lambda ≤ LAMBDA_MOST → AreSearched windows
+    → AreSearched (set windows k (with_lambda w lambda))
+set-searched windows k w lambda within read limit searched =
+    let w' = with_lambda w lambda in
+    let own : IsSound w = subst (λ (x : Window). IsSound x) (sym read) (searched.sound k w within) in
+    record {
+      sound = All-set IsSound windows k w' (record { order = own.order; lambda = limit }) searched.sound;
+      rise = λ j d low. (let size : length (set windows k w') ≡ length windows = length-set windows k w' in
+          precedes_same (get_or windows j d) (get_or windows (j + 1) d) (get_or (set windows k w') j d) (get_or (set windows k w') (j + 1) d)
+          (set_keeps (λ x. x.due) windows k w w' within read refl j d)
+          (set_keeps (λ x. x.from) windows k w w' within read refl j d)
+          (set_keeps (λ x. x.due) windows k w w' within read refl (j + 1) d)
+          (set_keeps (λ x. x.from) windows k w w' within read refl (j + 1) d)
+          (searched.rise j d (omega arith)));
+    }
+
+pub changed-next : (windows changed : List Window) (k : ℕ) (d : Window) (lambda : ℕ) → k < length windows → changed ≡ set windows k (with_lambda (get_or windows k d) lambda) → lambda ≤ LAMBDA_MOST
+    → AreSearched windows → AreNext windows 0 changed
+changed-next windows changed k d lambda within is limit searched =
+    let w = get_or windows k d in
+    let w' = with_lambda w lambda in
+    let read : w ≡ get_or windows k w = get_or_default windows k d w within in
+    let next : AreNext windows 0 (set windows k w') = record {
+      few = omega (arith, length-set windows k w');
+      searched = set-searched windows k w lambda within read limit searched;
+      starts = λ all. All-set (λ x. x.from ≡ 0) windows k w' (all k d within) all;
+    } in
+    subst (λ (x : List Window). AreNext windows 0 x) (sym is) next
+
+pub same-next : (windows : List Window) (more : ℕ) → AreSearched windows → AreNext windows more windows
+same-next windows more searched = record { few = omega arith; searched = searched; starts = λ all. all }
+
+pub greater-next : (table : Table) (fixed : List (Option ℕ)) (start : List Window) (more : ℕ) (a b greater : List Window) → AreNext start more a → AreNext start more b
+    → IsGreaterOf table fixed a b greater → AreNext start more greater
+greater-next table fixed start more a b greater first second is = elim is.one as (λ _. AreNext start more greater) [
+  | inl e ↦ subst (λ (x : List Window). AreNext start more x) (sym e) first
+  | inr e ↦ subst (λ (x : List Window). AreNext start more x) (sym e) second
+]
+
+-- ---- one window more
+module _ (windows : List Window) (place : ℕ) (window : Window) (searched : AreSearched windows) (is : IsPlace windows window place)
+    (precedes : (d : Window) → place < length windows → Precedes window (get_or windows place d)) (sound : IsSound window) where
+  insert-rises : (j : ℕ) (d : Window) → j + 1 < length (insert windows place window) → Precedes (get_or (insert windows place window) j d) (get_or (insert windows place window) (j + 1) d)
+  insert-rises j d low =
+      let size = length-insert windows place window is.within in
+      elim (cases_lt j place) as (λ _. Precedes (get_or (insert windows place window) j d) (get_or (insert windows place window) (j + 1) d)) [
+        | inl before ↦
+            (let here : get_or (insert windows place window) j d ≡ get_or windows j d = get_or-insert_below windows place window d j before is.within in
+            elim (cases_lt (j + 1) place) as (λ _. Precedes (get_or (insert windows place window) j d) (get_or (insert windows place window) (j + 1) d)) [
+              | inl both ↦
+                  (let there : get_or (insert windows place window) (j + 1) d ≡ get_or windows (j + 1) d = get_or-insert_below windows place window d (j + 1) both is.within in
+                  same_order _ _ _ _ here there (searched.rise j d (omega (arith, is.within))))
+              | inr last ↦
+                  (let at : j + 1 ≡ place = omega arith in
+                  let there : get_or (insert windows place window) (j + 1) d ≡ window =
+                  subst (λ n. get_or (insert windows place window) n d ≡ window) (sym at) (get_or-insert_at windows place window d is.within) in
+                  same_order _ _ _ _ here there (is.before j d before))
+            ])
+        | inr from ↦
+            (let there : get_or (insert windows place window) (j + 1) d ≡ get_or windows j d = get_or-insert_above windows place window d j from is.within in
+            elim (cases_eq j place) as (λ _. Precedes (get_or (insert windows place window) j d) (get_or (insert windows place window) (j + 1) d)) [
+              | inl at ↦
+                  (let here : get_or (insert windows place window) j d ≡ window =
+                  subst (λ n. get_or (insert windows place window) n d ≡ window) (sym at) (get_or-insert_at windows place window d is.within) in
+                  let next : Precedes window (get_or windows j d) = subst (λ n. Precedes window (get_or windows n d)) (sym at) (precedes d (omega arith)) in
+                  same_order _ _ _ _ here there next)
+              | inr beyond ↦
+                  (let before : (j - 1) + 1 ≡ j = omega arith in
+                  let here : get_or (insert windows place window) j d ≡ get_or windows (j - 1) d =
+                  subst (λ n. get_or (insert windows place window) n d ≡ get_or windows (j - 1) d) before (get_or-insert_above windows place window d (j - 1) (omega arith) is.within) in
+                  let rise : Precedes (get_or windows (j - 1) d) (get_or windows ((j - 1) + 1) d) = searched.rise (j - 1) d (omega arith) in
+                  same_order _ _ _ _ here there (subst (λ n. Precedes (get_or windows (j - 1) d) (get_or windows n d)) before rise))
+            ])
+      ]
+    where
+      same_order : (a b a' b' : Window) → a ≡ a' → b ≡ b' → Precedes a' b' → Precedes a b
+      same_order a b a' b' one other rise = precedes_same a' b' a b (ap (λ (x : Window). x.due) one) (ap (λ (x : Window). x.from) one) (ap (λ (x : Window). x.due) other)
+          (ap (λ (x : Window). x.from) other) rise
+
+  pub insert-searched : AreSearched (insert windows place window)
+  insert-searched = record {
+    sound = All-append IsSound (take place windows) (window ∷ drop place windows)
+        (All-take IsSound place windows searched.sound)
+        (All-cons IsSound window (drop place windows) sound (All-drop IsSound place windows searched.sound));
+    rise = insert-rises;
+  }
+
+  pub inserted-next : window.from ≡ 0 → AreNext windows 1 (insert windows place window)
+  inserted-next from = record {
+    few = omega (arith, length-insert windows place window is.within);
+    searched = insert-searched;
+    starts = λ all. All-append (λ x. x.from ≡ 0) (take place windows) (window ∷ drop place windows)
+        (All-take (λ x. x.from ≡ 0) place windows all)
+        (All-cons (λ x. x.from ≡ 0) window (drop place windows) from (All-drop (λ x. x.from ≡ 0) place windows all));
+  }
+
+-- a window put in the place of one that was put in
+pub set-insert : (windows : List Window) (place : ℕ) (w w' : Window) → place ≤ length windows → set (insert windows place w) place w' ≡ insert windows place w'
+set-insert windows place w w' within = set_at (take place windows) w (drop place windows) w' place (length-take-le place windows within)
+
+-- a window put among others adds what it adds before them
+pub insert-value : (table : Table) (fixed : List (Option ℕ)) (windows : List Window) (place : ℕ) (w : Window)
+    → value_of_windows table fixed (insert windows place w) ≡ value_of_windows table fixed (w ∷ windows)
+insert-value table fixed windows place w =
+    any_order table fixed (take place windows) w (drop place windows) ∙ ap (λ (x : List Window). value_of_windows table fixed (w ∷ x)) (take-append-drop place windows)
+
+-- ---- what is beaten
+-- one more place
+pub changes-more : (table : Table) (fixed : List (Option ℕ)) (start best changed best' : List Window) (n : ℕ) (d : Window) (lambda : ℕ) → n < length start
+    → BeatFirstChanges table fixed n start best
+    → RisesTo (value_with table fixed start n (get_or start n d).from (get_or start n d).due) lambda → EndsRise (value_with table fixed start n (get_or start n d).from (get_or start n d).due) lambda
+    → changed ≡ set start n (with_lambda (get_or start n d) lambda) → IsGreaterOf table fixed best changed best' → BeatFirstChanges table fixed (n + 1) start best'
+changes-more table fixed start best changed best' n d lambda within beat rises ends put is k window l low at limit =
+    elim (cases_lt k n) as (λ _. value_of_windows table fixed (set start k (with_lambda window l)) ≤ℤ value_of_windows table fixed best') [
+      | inl before ↦ (let le = beat k window l before at limit in let first = is.first in omega (arith, ints))
+      | inr last ↦
+          (let same : k ≡ n = omega arith in
+          let w = get_or start n d in
+          let there : slice_get start n ≡ Some window = subst (λ i. slice_get start i ≡ Some window) same at in
+          let own : w ≡ window = get_or_from_slice_get start n window d there in
+          let le : value_of_windows table fixed (set start n (with_lambda w l)) ≤ℤ value_of_windows table fixed (set start n (with_lambda w lambda)) =
+          greatest-with table fixed start n w.from w.due within lambda l rises ends limit in
+          let second : value_of_windows table fixed (set start n (with_lambda w lambda)) ≤ℤ value_of_windows table fixed best' =
+          subst (λ (x : List Window). value_of_windows table fixed x ≤ℤ value_of_windows table fixed best') put is.second in
+          let total : value_of_windows table fixed (set start n (with_lambda w l)) ≤ℤ value_of_windows table fixed best' = omega (arith, ints) in
+          let total' : value_of_windows table fixed (set start n (with_lambda window l)) ≤ℤ value_of_windows table fixed best' =
+          subst (λ (x : Window). value_of_windows table fixed (set start n (with_lambda x l)) ≤ℤ value_of_windows table fixed best') own total in
+          subst (λ i. value_of_windows table fixed (set start i (with_lambda window l)) ≤ℤ value_of_windows table fixed best') (sym same) total')
+    ]
+
+pub changes-all : (table : Table) (fixed : List (Option ℕ)) (start best : List Window) (n : ℕ) → length start ≤ n → BeatFirstChanges table fixed n start best → BeatChanges table fixed start best
+changes-all table fixed start best n all beat k window lambda at limit =
+    let within = slice_get_within start k window at in
+    beat k window lambda (omega arith) at limit
+
+pub changes-rise : (table : Table) (fixed : List (Option ℕ)) (start a b : List Window) → value_of_windows table fixed a ≤ℤ value_of_windows table fixed b → BeatChanges table fixed start a
+    → BeatChanges table fixed start b
+changes-rise table fixed start a b le beat k window lambda at limit = let first = beat k window lambda at limit in omega (arith, ints)
+
+pub additions-rise : (table : Table) (fixed : List (Option ℕ)) (dues : List ℕ) (start a b : List Window) → value_of_windows table fixed a ≤ℤ value_of_windows table fixed b
+    → BeatAdditions table fixed dues start a → BeatAdditions table fixed dues start b
+additions-rise table fixed dues start a b le beat due lambda of_dues lacks limit = let first = beat due lambda of_dues lacks limit in omega (arith, ints)
+
+pub additions-both : (table : Table) (fixed : List (Option ℕ)) (dues more : List ℕ) (start found : List Window) → BeatAdditions table fixed dues start found
+    → BeatAdditions table fixed more start found → BeatAdditions table fixed (dues ++ more) start found
+additions-both table fixed dues more start found first second due lambda of_dues lacks limit =
+    elim (Contains-append_cases dues more due of_dues) as (λ _. value_of_windows table fixed (record { from = 0; due = due; lambda = lambda } ∷ start) ≤ℤ value_of_windows table fixed found) [
+      | inl here ↦ first due lambda here lacks limit
+      | inr there ↦ second due lambda there lacks limit
+    ]
+
+-- where a window ends at the due time, none is added
+pub no-addition : (table : Table) (fixed : List (Option ℕ)) (due : ℕ) (start found : List Window) (place : ℕ) → EndsAt start place due → BeatAdditions table fixed (due ∷ []) start found
+no-addition table fixed due start found place ends other lambda of_dues lacks limit =
+    let same : due ≡ other = Contains-one due other of_dues in
+    let d : Window = record { from = 0; due = 0; lambda = 0 } in
+    absurd (lacks place d ends.0 (ends.1 d ∙ same))
+
+-- a window from time 0 on that is put where none ends at its due time
+module _ (start added : List Window) (place due lambda : ℕ) (w : Window) (searched : AreSearched start) (at : IsPlace start (record { from = 0; due = due; lambda = 0 }) place)
+    (free : (d : Window) → place < length start → (get_or start place d).due ≢ due) (limit : lambda ≤ LAMBDA_MOST)
+    (put : added ≡ set (insert start place w) place (record { from = 0; due = due; lambda = lambda })) where
+  abbrev pub own : Window
+  own = record { from = 0; due = due; lambda = lambda }
+
+  added-is : added ≡ insert start place own
+  added-is = put ∙ set-insert start place w own at.within
+
+  own-precedes : (d : Window) → place < length start → Precedes own (get_or start place d)
+  own-precedes d within =
+      let x = get_or start place d in
+      let other = free d within in
+      elim (cases_lt due x.due) as (λ _. Precedes own x) [
+        | inl less ↦ inl less
+        | inr most ↦ absurd (at.behind d within (inl (omega arith)))
+      ]
+
+  pub added-next : AreNext start 1 added
+  added-next =
+      let place_of : IsPlace start own place = record { within = at.within; before = at.before; behind = at.behind } in
+      subst (λ (x : List Window). AreNext start 1 x) (sym added-is)
+      (inserted-next start place own searched place_of own-precedes (record { order = omega arith; lambda = limit }) refl)
+
+  -- the best one added at a due time
+  pub addition-at : (table : Table) (fixed : List (Option ℕ)) (best best' : List Window)
+      → RisesTo (value_with table fixed (insert start place w) place 0 due) lambda → EndsRise (value_with table fixed (insert start place w) place 0 due) lambda
+      → IsGreaterOf table fixed best added best' → BeatAdditions table fixed (due ∷ []) start best'
+  addition-at table fixed best best' rises ends is other l of_dues lacks most =
+      let same : due ≡ other = Contains-one due other of_dues in
+      let wider = insert start place w in
+      let size : length wider ≡ length start + 1 = length-insert start place w at.within in
+      let within : place < length wider = omega (arith, at.within) in
+      let tried : Window = record { from = 0; due = due; lambda = l } in
+      let le : value_of_windows table fixed (set wider place tried) ≤ℤ value_of_windows table fixed (set wider place own) = greatest-with table fixed wider place 0 due within lambda l rises ends most in
+      let moved : value_of_windows table fixed (set wider place tried) ≡ value_of_windows table fixed (tried ∷ start) =
+      ap (value_of_windows table fixed) (set-insert start place w tried at.within) ∙ insert-value table fixed start place tried in
+      let second : value_of_windows table fixed (set wider place own) ≤ℤ value_of_windows table fixed best' =
+      subst (λ (x : List Window). value_of_windows table fixed x ≤ℤ value_of_windows table fixed best') put is.second in
+      let total : value_of_windows table fixed (tried ∷ start) ≤ℤ value_of_windows table fixed best' = omega (arith, ints) in
+      subst (λ n. value_of_windows table fixed (record { from = 0; due = n; lambda = l } ∷ start) ≤ℤ value_of_windows table fixed best') same total
+
+-- ---- due times of units and programs
+pub dues-more : (units : List CodedUnit) (i : ℕ) (unit : CodedUnit) → i < length units → unit ≡ get_or units i unit
+    → dues_of (take (i + 1) units) ≡ dues_of (take i units) ++ (unit.due ∷ [])
+dues-more units i unit within is =
+    map_more (λ (u : CodedUnit). u.due) units i unit within ∙ ap (λ (u : CodedUnit). dues_of (take i units) ++ (u.due ∷ [])) (sym is)
+
+pub dues-more-programs : (programs : List ProgramRow) (i : ℕ) (program : ProgramRow) → i < length programs → program ≡ get_or programs i program
+    → dues_of (flat_map (λ (p : ProgramRow). p.units) (take (i + 1) programs)) ≡ dues_of (flat_map (λ (p : ProgramRow). p.units) (take i programs)) ++ dues_of program.units
+dues-more-programs programs i program within is =
+    let own : ProgramRow → List CodedUnit = λ p. p.units in
+    let grown : flat_map own (take (i + 1) programs) ≡ flat_map own (take i programs) ++ program.units =
+    ap (flat_map own) (take_more programs i program within ∙ ap (λ (p : ProgramRow). take i programs ++ (p ∷ [])) (sym is))
+    ∙ sym (flat_map_more own [] (take i programs) program) in
+    ap dues_of grown ∙ map-append (λ (u : CodedUnit). u.due) (flat_map own (take i programs)) program.units
+
+pub from-start : (multipliers : List Multiplier) → AreFromStart (map from_start multipliers)
+from-start multipliers = All-map (λ (w : Window). w.from ≡ 0) from_start multipliers (λ k d low. refl)

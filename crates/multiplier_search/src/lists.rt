@@ -1,0 +1,92 @@
+ghost use Rattle.std.specs.Prelude.{◌≡◌, ◌<◌, ◌≤◌, length, map, slice_set, IsTrue, ◌↔◌};
+ghost use Rattle.std.specs.List.{insert};
+ghost use Rattle.dual_bounds.specs.declared.constants.TheConstants.{WINDOWS_MOST};
+ghost use Rattle.dual_bounds.specs.Values.{from_start};
+ghost use Rattle.multiplier_search.specs.Windows.{Precedes};
+ghost use Rattle.multiplier_search.specs.Private.Turns.{AreFromStart, IsPlace};
+
+use dual_bounds::{Multiplier, Multipliers, Window, Windows};
+
+/// The same windows.
+pub fn copied(windows: &[Window]) -> Windows
+    requires { length windows.now ≤ WINDOWS_MOST }
+    ensures { result.items ≡ windows.now }
+{
+    let mut copy = Windows::new();
+    for window in windows {
+        copy.push(*window);
+    }
+    copy
+}
+
+/// The same windows with another one at this place.
+pub fn replaced(windows: &[Window], place: usize, window: Window) -> Windows
+    requires few { length windows.now ≤ WINDOWS_MOST }
+    requires place { place < length windows.now }
+    ensures { result.items ≡ slice_set windows.now place window }
+{
+    let mut changed = copied(windows);
+    changed.as_mut_slice()[place] = window;
+    changed
+}
+
+/// The same windows and one more, at this place.
+pub fn inserted(windows: &[Window], place: usize, window: Window) -> Windows
+    requires few { length windows.now < WINDOWS_MOST }
+    requires place { place ≤ length windows.now }
+    ensures { result.items ≡ insert windows.now place window }
+{
+    let mut wider = copied(windows);
+    wider.insert(place, window);
+    wider
+}
+
+/// The place of the first window that doesn't precede another one.
+pub fn place_of(windows: &[Window], window: Window) -> usize
+    ensures { IsPlace windows.now window result }
+{
+    let mut place = 0;
+    while place < windows.len() && precedes(windows[place], window) {
+        place += 1;
+    }
+    place
+}
+
+/// Whether a window ends before another, or with it and begins before it.
+fn precedes(window: Window, other: Window) -> bool
+    ensures { IsTrue result ↔ Precedes window other }
+{
+    window.due < other.due || (window.due == other.due && window.from < other.from)
+}
+
+/// Multipliers as windows from time 0 on.
+pub fn windows_of(multipliers: &[Multiplier]) -> Windows
+    requires { length multipliers.now ≤ WINDOWS_MOST }
+    ensures { result.items ≡ map from_start multipliers.now }
+{
+    let mut windows = Windows::new();
+    for multiplier in multipliers {
+        windows.push(Window {
+            from: 0,
+            due: multiplier.due,
+            lambda: multiplier.lambda,
+        });
+    }
+    windows
+}
+
+/// Windows from time 0 on as multipliers.
+pub fn multipliers_of(windows: &[Window]) -> Multipliers
+    requires few { length windows.now ≤ WINDOWS_MOST }
+    requires starts { AreFromStart windows.now }
+    ensures { map from_start result.items ≡ windows.now }
+{
+    let mut multipliers = Multipliers::new();
+    for window in windows {
+        multipliers.push(Multiplier {
+            due: window.due,
+            lambda: window.lambda,
+        });
+    }
+    multipliers
+}
