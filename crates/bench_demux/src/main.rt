@@ -48,7 +48,7 @@ fn units_of(demuxed: &Demuxed, video: bool) -> &[PesUnit] {
         return demuxed.video.as_slice();
     }
     match demuxed.audios.as_slice().first() {
-        Some(audio) => audio.packets.as_slice(),
+        Some(audio) => audio.units.as_slice(),
         None => &[],
     }
 }

@@ -57,12 +57,11 @@ pub fn write_pmt(map: &ProgramMap, into: &mut Section) -> Result<(), SectionFaul
     ensures long { (result ≡ Err SectionFault.TooLong) ↔ (PACKET_SECTION_BYTES < pmt_length map.now) }
     ensures err { IfErr result (λ fault. (fault ≡ SectionFault.TooLong) × (into.new ≡ into.old)) }
 {
-    let streams = streams_length(map.streams.as_slice());
-    let section_length = HEADER_BYTES - UNCOUNTED_BYTES + MAP_BYTES + streams + CRC_BYTES;
-    if UNCOUNTED_BYTES + section_length > PACKET_SECTION_BYTES {
+    let size = pmt_length(map);
+    if size > PACKET_SECTION_BYTES {
         return Err(SectionFault::TooLong);
     }
-    put_header(into, PMT_TABLE, section_length as u16, map.number);
+    put_header(into, PMT_TABLE, (size - UNCOUNTED_BYTES) as u16, map.number);
     put_pid(into, map.pcr_pid);
     put_length(into, 0);
     put_streams(into, map.streams.as_slice());

@@ -176,7 +176,7 @@ one_demuxed file program drop a b is is' =
     let streams : is.video ∷ is.audios ≡ is'.video ∷ is'.audios = sym is.streams ∙ ap (λ (m : ProgramMap). m.streams.items) same.map_is ∙ is'.streams in
     let video : is.video ≡ is'.video = cc in
     let audios : is.audios ≡ is'.audios = cc in
-    let videos : a.video ≡ b.video = is.video_packets ∙ ap (λ (s : Stream). (packets_of file s).packets) video ∙ sym is'.video_packets in
+    let videos : a.video ≡ b.video = is.video_packets ∙ ap (λ (s : Stream). (packets_of file s).units) video ∙ sym is'.video_packets in
     let all : a.audios ≡ b.audios = is.audio_packets ∙ ap (map (packets_of file)) audios ∙ sym is'.audio_packets in
     let rests : a.rest ≡ b.rest = is.rest_is ∙ sym is'.rest_is in
     ap₂ (λ (m : ProgramMap) (v : List PesUnit). record { map = m; video = v; audios = a.audios; rest = a.rest; not_carried = a.not_carried }) same.map_is videos

@@ -74,7 +74,7 @@ units_in pieces = map (λ packet. record { at = packet.at; bytes = packet.bytes 
 
 -- the PES packets of a stream
 abbrev pub packets_of : List ℕ → Stream → AudioStream
-packets_of file stream = record { pid = stream.pid; packets = units_in (pieces_of file stream.pid 0 (piece_count file)) }
+packets_of file stream = record { pid = stream.pid; units = units_in (pieces_of file stream.pid 0 (piece_count file)) }
 
 -- ---- what is answered
 
@@ -87,7 +87,7 @@ pub record IsDemuxed (file : List ℕ) (program : ℕ) (drop : List ℕ) (demuxe
   pub video : Stream
   pub audios : List Stream
   pub streams : demuxed.map.streams.items ≡ video ∷ audios
-  pub video_packets : demuxed.video ≡ (packets_of file video).packets
+  pub video_packets : demuxed.video ≡ (packets_of file video).units
   pub audio_packets : demuxed.audios ≡ map (packets_of file) audios
   pub rest_is : demuxed.rest ≡ length (rest_of file)
 

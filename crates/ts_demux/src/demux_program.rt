@@ -53,7 +53,7 @@ pub fn demux(alloc: Global, file: &[u8], program: u16, drop: &[u16]) -> Result<D
     let video = streams.remove(0);
     Ok(Demuxed {
         map: carried.map,
-        video: video.packets,
+        video: video.units,
         audios: ListOf::from_vec(streams),
         rest: (file.len() % PACKET_BYTES) as u8,
         not_carried: carried.others,
@@ -70,8 +70,8 @@ fn all_streams(alloc: Global, gatherers: Vec<PesGatherer>) -> Result<Vec<AudioSt
     while !gatherers.is_empty() {
         let gatherer = gatherers.remove(0);
         let pid = gatherer.pid;
-        let packets = gatherer.into_units(alloc)?;
-        streams.push(AudioStream { pid, packets })?;
+        let units = gatherer.into_units(alloc)?;
+        streams.push(AudioStream { pid, units })?;
     }
     Ok(streams)
 }

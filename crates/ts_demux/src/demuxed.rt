@@ -12,7 +12,7 @@ pub struct PesUnit {
 #[derive(Debug, Drop)]
 pub struct AudioStream {
     pub pid: u16,
-    pub packets: ListOf<PesUnit>,
+    pub units: ListOf<PesUnit>,
 }
 
 /// The carried streams of a program.

@@ -41,7 +41,7 @@ fn a_packet_that_is_sent_twice_is_taken_once(rt: HostRuntime) -> Result<(), Fail
     assert_eq!(rt; demuxed.audios.len(), 1);
     if let Some(audio) = demuxed.audios.as_slice().first() {
         assert_eq!(rt; audio.pid, AUDIO_PID);
-        assert!(rt; are_units(audio.packets.as_slice(), &[(752, 184)]));
+        assert!(rt; are_units(audio.units.as_slice(), &[(752, 184)]));
     }
     Ok(())
 }
@@ -117,7 +117,7 @@ fn pes_packets_begin_at_start_flags_on_payload(rt: HostRuntime) -> Result<(), Fa
     let demuxed = demux(rt.alloc(), file.as_slice(), 1, &[])?;
     assert!(rt; are_units(demuxed.video.as_slice(), &[(188, 370), (1316, 184)]));
     if let Some(audio) = demuxed.audios.as_slice().first() {
-        assert_eq!(rt; audio.packets.len(), 0);
+        assert_eq!(rt; audio.units.len(), 0);
     }
     Ok(())
 }

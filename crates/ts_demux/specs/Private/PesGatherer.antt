@@ -73,4 +73,4 @@ AllGatherMore file packet gatherers (Err fault) after = (fault ≡ OutOfMemory) 
 
 -- the stream that a gatherer has gathered
 abbrev pub stream_gathered : PesGatherer → AudioStream
-stream_gathered gatherer = record { pid = gatherer.pid; packets = gathered_of gatherer }
+stream_gathered gatherer = record { pid = gatherer.pid; units = gathered_of gatherer }

@@ -65,7 +65,7 @@ returns c =
       video = is.video;
       audios = _;
       streams = is.streams;
-      video_packets = ap (λ (a : AudioStream). a.packets) (first_of c.in-Ok-all_streams.streams.items _ c.remove-video.result _ all c.remove-video.ensures.value);
+      video_packets = ap (λ (a : AudioStream). a.units) (first_of c.in-Ok-all_streams.streams.items _ c.remove-video.result _ all c.remove-video.ensures.value);
       audio_packets = c.from_vec.ensures ∙ c.remove-video.ensures.items ∙ others_of_first c.in-Ok-all_streams.streams.items _ _ all;
       rest_is = rest_size c.args.file.now;
     }
