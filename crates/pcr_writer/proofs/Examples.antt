@@ -1,5 +1,5 @@
 -- The worked examples, computed from the definitions.
-use Rattle.std.proofs.Common.{◌≡◌, ◌-◌, ◌*◌, ◌^◌, ◌∷◌, ◌++◌, replicate, refl}
+use Rattle.std.proofs.Common.{◌≡◌, ◌-◌, ◌*◌, ◌^◌, ◌∷◌, replicate, refl}
 use Rattle.pcr_writer.specs.PcrPacket.{arrival_ticks, pcr_at, pcr_record}
 use Rattle.ts_packets.specs.Packet.{written}
 
