@@ -1,2 +1,4 @@
 mod Examples
 mod SectionExamples
+pub mod Pids
+pub mod Sections

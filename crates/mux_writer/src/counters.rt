@@ -1,16 +1,18 @@
-ghost use Rattle.std.specs.Prelude.{◌≡◌, ◌+◌, ◌%◌, ◌<◌, length, replicate, slice_index, slice_set};
+ghost use Rattle.std.specs.Prelude.{◌≡◌, ◌+◌, ◌%◌, ◌<◌, length, replicate, slice_index};
+ghost use Rattle.mux_writer.specs.Private.Writer.{one_more};
 
 use std::marker::Model;
 
 /// The PIDs of an output stream are below this: eight programs of sixteen PIDs behind 0x100.
-const PIDS: usize = 0x180;
+pub const PIDS: usize = 0x180;
 
 /// continuity_counter counts modulo this (ISO/IEC 13818-1, 2.4.3.3).
 const COUNTERS: u8 = 16;
 
-/// For each PID the counter of its next packet with payload. Contracts see the list.
+/// For each PID how many packets with payload it had, modulo 256. Contracts see the list.
+#[derive(Drop)]
 pub(crate) struct Counters {
-    next: [u8; PIDS],
+    counts: [u8; PIDS],
 }
 
 impl Model for Counters {
@@ -18,7 +20,7 @@ impl Model for Counters {
 
     ghost Value = { List ℕ };
 
-    ghost view = { λ a. a.next };
+    ghost view = { λ a. a.counts };
 }
 
 impl Counters {
@@ -26,19 +28,19 @@ impl Counters {
     pub(crate) fn new() -> Counters
         ensures { result ≡ replicate PIDS 0 }
     {
-        Counters { next: [0; PIDS] }
+        Counters { counts: [0; PIDS] }
     }
 
-    /// The counter of a packet with payload, which the next one of its PID goes on from.
+    /// The counter of the next packet with payload of a PID, which is counted.
     pub(crate) fn take(&mut self, pid: u16) -> u8
         requires { pid < length self.old }
-        ensures counter { result ≡ slice_index self.old pid }
-        ensures next { self.new ≡ slice_set self.old pid ((slice_index self.old pid + 1) % 16) }
+        ensures counter { result ≡ slice_index self.old pid % 16 }
+        ensures counted { self.new ≡ one_more pid self.old }
     {
         let pid = usize::from(pid);
-        let counter = self.next[pid];
-        self.next[pid] = counter.wrapping_add(1) % COUNTERS;
-        counter
+        let count = self.counts[pid];
+        self.counts[pid] = count.wrapping_add(1);
+        count % COUNTERS
     }
 
     /// The counter of the last packet with payload of a PID, 15 before the first.
@@ -46,6 +48,6 @@ impl Counters {
         requires { pid < length self.now }
         ensures { result ≡ (slice_index self.now pid + 15) % 16 }
     {
-        self.next[usize::from(pid)].wrapping_add(COUNTERS - 1) % COUNTERS
+        self.counts[usize::from(pid)].wrapping_add(COUNTERS - 1) % COUNTERS
     }
 }

@@ -3,6 +3,7 @@ ghost use Rattle.psi_tables.specs.Pmt.{IsWritableMap, pmt_length};
 ghost use Rattle.psi_tables.specs.declared.pmt.TheConstants.{PACKET_SECTION_BYTES as MOST};
 ghost use Rattle.mux_writer.specs.Layout.{IsLayout, pids_of, stream_pids};
 ghost use Rattle.mux_writer.specs.Tables.{pat_payload, pmt_payloads, pmt_section, programs_from, section_payload};
+ghost use Rattle.mux_writer.specs.Private.Writer.{IsPrepared};
 
 use crate::layout::{LAYOUT_STREAMS_MOST, Layout, map_pid};
 use arrayvec::ArrayVec;
@@ -14,6 +15,7 @@ use version_table::limits::PROGRAMS_MOST;
 const STUFFING_BYTE: u8 = 0xFF;
 
 /// What is made once for a stream.
+#[derive(Drop)]
 pub(crate) struct Prepared {
     /// The payload of the PAT's packets.
     pub(crate) pat: [u8; PAYLOAD_BYTES],
@@ -27,9 +29,7 @@ impl Prepared {
     /// What a stream with this layout needs.
     pub(crate) fn of(layout: &Layout) -> Prepared
         requires { IsLayout layout.now }
-        ensures pat { result.pat ≡ pat_payload layout.now }
-        ensures pmts { result.pmts.items ≡ pmt_payloads layout.now }
-        ensures pids { result.pids.items ≡ stream_pids layout.now }
+        ensures { IsPrepared layout.now result }
     {
         Prepared {
             pat: pat_of(layout),
