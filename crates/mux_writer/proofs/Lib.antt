@@ -2,3 +2,5 @@ mod Examples
 mod SectionExamples
 pub mod Pids
 pub mod Sections
+pub mod Counting
+pub mod Fronts

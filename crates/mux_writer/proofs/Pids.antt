@@ -7,6 +7,7 @@ use Rattle.std.proofs.lemmas.List.FromFn.{get_or-range_with_len, length-range_wi
 use Rattle.std.proofs.lemmas.Option.{slice_get-get_or}
 use Rattle.psi_tables.specs.declared.program_map.ProgramMap.{ProgramMap}
 use Rattle.psi_tables.specs.declared.stream.Stream.{Stream}
+use Rattle.slot_rule.proofs.Places.{slice_get_read_as}
 use Rattle.version_table.proofs.ValidUnits.{All-flat_map}
 use Rattle.mux_writer.specs.declared.counters.TheConstants.{PIDS}
 use Rattle.mux_writer.specs.declared.layout.Layout.{Layout}
@@ -54,3 +55,10 @@ layout-counted layout is few =
     All-flat_map (λ (pid : ℕ). pid < PIDS) pids_of layout.maps.items
     (All-from_get_or (λ (m : ProgramMap). All (λ (pid : ℕ). pid < PIDS) (pids_of m)) layout.maps.items no_map
       (λ program within. map-counted program (get_or layout.maps.items program no_map) (omega (arith, within, few)) (map-of layout program no_map is within)))
+
+-- what a loop over the maps reads goes out
+pub map-read : (layout : Layout) (maps : List ProgramMap) (program : ℕ) (program_map : ProgramMap) → IsLayout layout → maps ≡ layout.maps.items → program < length maps
+    → program_map ≡ get_or maps program program_map → IsOutputMap program program_map
+map-read layout maps program program_map is same within read =
+    let found : slice_get layout.maps.items program ≡ Some program_map = slice_get_read_as maps layout.maps.items program program_map same within read in
+    is.maps program program_map found

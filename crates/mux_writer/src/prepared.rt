@@ -100,7 +100,8 @@ fn payload_of(section: &Section) -> [u8; PAYLOAD_BYTES]
 /// The PIDs of all streams, program by program.
 fn pids_of(layout: &Layout) -> ArrayVec<u16, LAYOUT_STREAMS_MOST>
     requires { IsLayout layout.now }
-    ensures { result.items ≡ stream_pids layout.now }
+    ensures pids { result.items ≡ stream_pids layout.now }
+    ensures few { length layout.now.maps.items ≤ PROGRAMS_MOST }
 {
     let mut pids = ArrayVec::new();
     for map in layout.maps.as_slice() {
