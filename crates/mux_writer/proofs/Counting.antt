@@ -1,17 +1,18 @@
 -- The counts of the writer, slot by slot.
-use Rattle.std.proofs.Common.{◌≡◌, ℕ, ◌+◌, ◌%◌, ◌<◌, ◌≤◌, Bool, true, false, cond, eqb, inl, inr, List, [], ◌∷◌, ◌++◌, All, length, replicate, refl, sym, ap, subst, ◌∙◌, arith, length-set}
-use Rattle.std.specs.Prelude.{slice_index, ◌⊎◌}
+use Rattle.std.proofs.Common.{◌≡◌, ℕ, ◌+◌, ◌%◌, ◌<◌, ◌≤◌, Bool, true, false, cond, eqb, inl, inr, List, [], ◌∷◌, ◌++◌, All, Option, length, get_or, take, replicate, refl, sym, ap, subst, ◌∙◌, arith, length-set}
+use Rattle.std.specs.Prelude.{slice_index, ◌⊎◌, IfSome}
 use Rattle.std.proofs.lemmas.Bool.{cases_eq, ne_eqb}
 use Rattle.std.proofs.lemmas.List.{get_or-replicate, get_or-set_same, get_or-set_other, get_or_past, length-replicate}
 use Rattle.std.proofs.lemmas.List.Elements.{All-get_or}
 use Rattle.std.proofs.lemmas.List.Sums.{sum_by-append}
+use Rattle.std.proofs.lemmas.Option.{IfSome_then}
 use Rattle.ts_packets.specs.Packet.{written}
 use Rattle.slot_rule.specs.declared.sent.Sent.{Sent}
 use Rattle.slot_rule.specs.declared.sent.Sent.TheVariants.{Null, Pat, Pmt, Pcr, Video, Audio}
 use Rattle.mux_writer.specs.declared.counters.TheConstants.{PIDS}
 use Rattle.mux_writer.specs.declared.layout.Layout.{Layout}
 use Rattle.mux_writer.specs.Layout.{map_pid, stream_pid, stream_pids}
-use Rattle.mux_writer.specs.Output.{IsOfLayout, has_payload, packet_of, payload_count, pid_of}
+use Rattle.mux_writer.specs.Output.{IsOfLayout, has_payload, packet_in, packet_of, payload_count, pid_of}
 use Rattle.mux_writer.specs.Pieces.{Pieces}
 use Rattle.mux_writer.specs.Private.Writer.{CountersAre, counted, one_more}
 
@@ -34,8 +35,8 @@ taken-at counters taken pid count within is =
       | inl same ↦
           let yes : cond {A = ℕ} (eqb taken pid) 1 0 ≡ 1 = ap (λ (b : Bool). cond {A = ℕ} b 1 0) (eqb-same taken pid same) in
           let now : slice_index (one_more taken counters) pid ≡ (slice_index counters taken + 1) % 256 =
-              subst (λ (p : ℕ). slice_index (one_more taken counters) p ≡ (slice_index counters taken + 1) % 256) same
-              (get_or-set_same counters taken _ 0 (subst (λ (p : ℕ). p < length counters) (sym same) within)) in
+          subst (λ (p : ℕ). slice_index (one_more taken counters) p ≡ (slice_index counters taken + 1) % 256) same
+          (get_or-set_same counters taken _ 0 (subst (λ (p : ℕ). p < length counters) (sym same) within)) in
           omega (arith, yes, now, is, ap (slice_index counters) same)
       | inr other ↦
           let no : cond {A = ℕ} (eqb taken pid) 1 0 ≡ 0 = ap (λ (b : Bool). cond {A = ℕ} b 1 0) (ne_eqb taken pid other) in
@@ -94,12 +95,14 @@ packet-counted layout has slot pieces rows n (Video stream unit piece) counters 
 packet-counted layout has slot pieces rows n (Audio stream packet) counters bytes few all is are made =
     made _ (are.at (stream_pid layout stream) (All-get_or (λ (pid : ℕ). pid < PIDS) (stream_pids layout) stream 0 is.0 all))
 
--- what a source still has is still of the layout
-pub still-of-layout : (layout : Layout) (has has_after : (stream item piece : ℕ) → Type 0) (sent : Sent)
-    → ((stream item piece : ℕ) → has stream item piece → has_after stream item piece) → IsOfLayout layout has sent → IsOfLayout layout has_after sent
-still-of-layout layout has has_after Null still is = is
-still-of-layout layout has has_after Pat still is = is
-still-of-layout layout has has_after (Pmt program) still is = is
-still-of-layout layout has has_after (Pcr program) still is = is
-still-of-layout layout has has_after (Video stream unit piece) still is = (is.0, still stream unit piece is.1)
-still-of-layout layout has has_after (Audio stream packet) still is = (is.0, still stream packet 0 is.1)
+-- where pieces are told, what was made for a slot is its packet
+pub told-packet : (layout : Layout) (has : (stream item piece : ℕ) → Type 0) (slot : ℕ) (told : Option Pieces) (rows : List Sent) (n : ℕ) (counters bytes : List ℕ)
+    → length layout.maps.items ≤ 8 → All (λ (pid : ℕ). pid < PIDS) (stream_pids layout) → All (IsOfLayout layout has) rows → n < length rows
+    → CountersAre layout (take n rows) counters
+    → IfSome told (λ pieces. (count : ℕ) → slice_index counters (pid_of layout (get_or rows n Null)) ≡ count % 256
+    → bytes ≡ written (packet_of layout slot pieces count n (get_or rows n Null)))
+    → IfSome told (λ pieces. bytes ≡ written (packet_in layout slot pieces rows n))
+told-packet layout has slot told rows n counters bytes few counted all within are made =
+    IfSome_then told made
+    (λ pieces is. packet-counted layout has slot pieces (take n rows) n (get_or rows n Null) counters bytes few counted
+    (All-get_or (IsOfLayout layout has) rows n Null within all) are is)

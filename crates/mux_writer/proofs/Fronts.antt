@@ -31,12 +31,11 @@ front-of-stream : (layout : Layout) (slot : ℕ) (pieces : Pieces) (rows : List 
     → (rest : List ℕ) × (output_stream layout slot pieces rows ≡ front_bytes layout slot pieces rows n ++ rest)
 front-of-stream layout slot pieces rows n within =
     let all : List PacketRecord = packets_of_first layout slot pieces rows (length rows) in
-    let first : take n all ≡ packets_of_first layout slot pieces rows n = take-map-range_with_len (packet_in layout slot pieces rows) 0 (length rows) n within in
-    (
+    let first : take n all ≡ packets_of_first layout slot pieces rows n = take-map-range_with_len (packet_in layout slot pieces rows) 0 (length rows) n within in (
       flat_map written (drop n all),
       ap (flat_map written) (sym (take-append-drop n all))
-      ∙ flat_map-append written (take n all) (drop n all)
-      ∙ ap (λ (packets : List PacketRecord). flat_map written packets ++ flat_map written (drop n all)) first,
+          ∙ flat_map-append written (take n all) (drop n all)
+          ∙ ap (λ (packets : List PacketRecord). flat_map written packets ++ flat_map written (drop n all)) first,
     )
 
 front-added : (was now : Told) (front rest : List ℕ) → now ≡ with_bytes was front → AddsPrefix was now (front ++ rest)
@@ -50,8 +49,7 @@ part-added was mid now front packet rest is added =
     let all : (front ++ packet) ++ rest ≡ front ++ (packet ++ rest) = append_assoc front packet rest in
     let inside : take k (packet ++ rest) ≡ take k packet = take-append-le k packet rest fits in
     let same : take (length front + k) ((front ++ packet) ++ rest) ≡ front ++ take k packet =
-        ap (take (length front + k)) all ∙ take-append-add front (packet ++ rest) k ∙ ap (λ (bytes : List ℕ). front ++ bytes) inside in
-    (
+    ap (take (length front + k)) all ∙ take-append-add front (packet ++ rest) k ∙ ap (λ (bytes : List ℕ). front ++ bytes) inside in (
       length front + k,
       omega (arith, fits, length-append (front ++ packet) rest, length-append front packet),
       added.2 ∙ ap (λ (told : Told). with_bytes told (take k packet)) is ∙ with_bytes-twice was front (take k packet) ∙ ap (with_bytes was) (sym same),
@@ -70,9 +68,9 @@ pub prefix-within : (layout : Layout) (slot : ℕ) (pieces : Pieces) (rows : Lis
     → AddsPrefix was now (output_stream layout slot pieces rows)
 prefix-within layout slot pieces rows n was mid now within is added =
     let front : (rest : List ℕ) × (output_stream layout slot pieces rows ≡ front_bytes layout slot pieces rows (n + 1) ++ rest) =
-        front-of-stream layout slot pieces rows (n + 1) (omega (arith, within)) in
+    front-of-stream layout slot pieces rows (n + 1) (omega (arith, within)) in
     let parts : output_stream layout slot pieces rows ≡ (front_bytes layout slot pieces rows n ++ written (packet_in layout slot pieces rows n)) ++ front.0 =
-        front.1 ∙ ap (λ (bytes : List ℕ). bytes ++ front.0) (front-more layout slot pieces rows n) in
+    front.1 ∙ ap (λ (bytes : List ℕ). bytes ++ front.0) (front-more layout slot pieces rows n) in
     subst (AddsPrefix was now) (sym parts) (part-added was mid now (front_bytes layout slot pieces rows n) (written (packet_in layout slot pieces rows n)) front.0 is added)
 
 -- the next packet behind the first n slots

@@ -4,3 +4,4 @@ pub mod Pids
 pub mod Sections
 pub mod Counting
 pub mod Fronts
+pub mod Told

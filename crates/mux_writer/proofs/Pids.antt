@@ -36,7 +36,7 @@ range-below : (first n limit : ℕ) → first + n ≤ limit → All (λ (pid : �
 range-below first n limit fits =
     All-from_get_or (λ (pid : ℕ). pid < limit) (range_with_len first n) 0
     (λ i within. let inside : i < n = omega (arith, within, length-range_with_len first n) in
-      omega (arith, inside, fits, get_or-range_with_len first n i 0 inside))
+    omega (arith, inside, fits, get_or-range_with_len first n i 0 inside))
 
 pub map-counted : (program : ℕ) (program_map : ProgramMap) → program < 8 → IsOutputMap program program_map → All (λ (pid : ℕ). pid < PIDS) (pids_of program_map)
 map-counted program program_map few is =
@@ -54,7 +54,7 @@ pub layout-counted : (layout : Layout) → IsLayout layout → length layout.map
 layout-counted layout is few =
     All-flat_map (λ (pid : ℕ). pid < PIDS) pids_of layout.maps.items
     (All-from_get_or (λ (m : ProgramMap). All (λ (pid : ℕ). pid < PIDS) (pids_of m)) layout.maps.items no_map
-      (λ program within. map-counted program (get_or layout.maps.items program no_map) (omega (arith, within, few)) (map-of layout program no_map is within)))
+    (λ program within. map-counted program (get_or layout.maps.items program no_map) (omega (arith, within, few)) (map-of layout program no_map is within)))
 
 -- what a loop over the maps reads goes out
 pub map-read : (layout : Layout) (maps : List ProgramMap) (program : ℕ) (program_map : ProgramMap) → IsLayout layout → maps ≡ layout.maps.items → program < length maps

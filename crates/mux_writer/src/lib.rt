@@ -7,8 +7,8 @@
 #![tactic(auto)]
 
 mod counters;
-mod layout;
 pub mod laws;
+mod layout;
 mod packets;
 mod piece_source;
 mod prepared;

@@ -25,7 +25,12 @@ pub(crate) fn null_packet() -> [u8; PACKET_BYTES]
 }
 
 /// A packet with nothing but payload behind its header.
-pub(crate) fn full_packet(pid: u16, start: bool, counter: u8, payload: &[u8; PAYLOAD_BYTES]) -> [u8; PACKET_BYTES]
+pub(crate) fn full_packet(
+    pid: u16,
+    start: bool,
+    counter: u8,
+    payload: &[u8; PAYLOAD_BYTES],
+) -> [u8; PACKET_BYTES]
     requires pid { pid < 2 ^ 13 }
     requires counter { counter < 2 ^ 4 }
     ensures { result ≡ written (full_record pid start counter payload.now) }
@@ -43,7 +48,12 @@ pub(crate) fn full_packet(pid: u16, start: bool, counter: u8, payload: &[u8; PAY
 }
 
 /// A packet of a stream with the piece in the front of the buffer, stuffed where that doesn't fill it.
-pub(crate) fn piece_packet(pid: u16, counter: u8, filled: Filled, buffer: &[u8; PAYLOAD_BYTES]) -> [u8; PACKET_BYTES]
+pub(crate) fn piece_packet(
+    pid: u16,
+    counter: u8,
+    filled: Filled,
+    buffer: &[u8; PAYLOAD_BYTES],
+) -> [u8; PACKET_BYTES]
     requires pid { pid < 2 ^ 13 }
     requires counter { counter < 2 ^ 4 }
     requires size { HasPayloadSize filled.bytes }

@@ -33,7 +33,13 @@ pub trait PieceSource {
 
     /// Puts a piece that it has into the front of `into`, and answers how long it is and whether a PES packet begins with it.
     /// What stands behind it in `into`, or after a fault in all of it, may be anything. Missing never comes.
-    fn piece(&mut self, stream: u32, item: u32, piece: u32, into: &mut [u8; PAYLOAD_BYTES]) -> Result<Filled, Fault>
+    fn piece(
+        &mut self,
+        stream: u32,
+        item: u32,
+        piece: u32,
+        into: &mut [u8; PAYLOAD_BYTES],
+    ) -> Result<Filled, Fault>
         requires piece { has self.old stream item piece }
         ensures size { IfOk result (λ filled. HasPayloadSize filled.bytes) }
         ensures told { IfOk result (λ filled. IfSome (told self.old) (λ pieces. IsFilledWith (pieces stream item piece) filled into.new)) }

@@ -90,9 +90,11 @@ fn slot_packet<P: PieceSource>(
         Sent::Pat => Ok(full_packet(PAT_PID, true, counters.take(PAT_PID), &prepared.pat)),
         Sent::Pmt(program) => Ok(map_packet(prepared, counters, program)),
         Sent::Pcr(program) => Ok(clock_packet(layout, slot, counters, n, program)),
-        Sent::Video { stream, unit, piece } => {
-            stream_packet(prepared, counters, stream, unit, piece, pieces)
-        }
+        Sent::Video {
+            stream,
+            unit,
+            piece,
+        } => { stream_packet(prepared, counters, stream, unit, piece, pieces) }
         Sent::Audio { stream, packet } => {
             stream_packet(prepared, counters, stream, packet, 0, pieces)
         }
@@ -108,11 +110,22 @@ fn map_packet(prepared: &Prepared, counters: &mut Counters, program: u8) -> [u8;
     ensures counters { counters.new ≡ one_more (map_pid program) counters.old }
 {
     let pid = map_pid(program);
-    full_packet(pid, true, counters.take(pid), &prepared.pmts[usize::from(program)])
+    full_packet(
+        pid,
+        true,
+        counters.take(pid),
+        &prepared.pmts[usize::from(program)],
+    )
 }
 
 /// The packet of a program's PCR in slot `n`.
-fn clock_packet(layout: &Layout, slot: u32, counters: &Counters, n: u32, program: u8) -> [u8; PACKET_BYTES]
+fn clock_packet(
+    layout: &Layout,
+    slot: u32,
+    counters: &Counters,
+    n: u32,
+    program: u8,
+) -> [u8; PACKET_BYTES]
     requires layout { IsLayout layout.now }
     requires counters { length counters.now ≡ PIDS }
     requires slot { slot ≤ SLOT_MOST }
@@ -139,7 +152,7 @@ fn stream_packet<P: PieceSource>(
     requires stream { stream < length prepared.now.pids.items }
     requires pids { All (λ pid. pid < PIDS) prepared.now.pids.items }
     requires piece { P.has pieces.old stream item piece }
-    ensures packet { IfOk result (λ bytes. IfSome (P.told pieces.old) (λ told. 
+    ensures packet { IfOk result (λ bytes. IfSome (P.told pieces.old) (λ told.
         bytes ≡ written (piece_record (slice_index prepared.now.pids.items stream) (slice_index counters.old (slice_index prepared.now.pids.items stream) % 16) (told stream item piece)))) }
     ensures counters { OnOk result (counters.new ≡ one_more (slice_index prepared.now.pids.items stream) counters.old) }
 

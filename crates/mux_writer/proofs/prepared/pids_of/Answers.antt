@@ -9,7 +9,7 @@ use Rattle.mux_writer.proofs.prepared.pids_of.Goals as goal
 pub put_pids-requires : goal.put_pids-requires
 put_pids-requires c =
     let is : IsOutputMap c.loop-map.map-index c.map-item.result =
-        map-read c.args.layout.now c.as_slice-map-items.result.now c.loop-map.map-index c.map-item.result c.requires c.as_slice-map-items.ensures.value c.loop-map-test.true c.map-item.is in
+    map-read c.args.layout.now c.as_slice-map-items.result.now c.loop-map.map-index c.map-item.result c.requires c.as_slice-map-items.ensures.value c.loop-map-test.true c.map-item.is in
     omega (arith, is.few, c.loop-map.invariant.size, c.loop-map-test.true, c.as_slice-map-items.ensures.fits)
 
 pub loop-map-preserved : goal.loop-map-preserved

@@ -9,13 +9,13 @@ use Rattle.mux_writer.proofs.prepared.pmts_of.Goals as goal
 pub pmt_of-requires-clause-writable : goal.pmt_of-requires-clause-writable
 pmt_of-requires-clause-writable c =
     let is : IsOutputMap c.loop-map.map-index c.map-item.result =
-        map-read c.args.layout.now c.as_slice-map-items.result.now c.loop-map.map-index c.map-item.result c.requires c.as_slice-map-items.ensures.value c.loop-map-test.true c.map-item.is in
+    map-read c.args.layout.now c.as_slice-map-items.result.now c.loop-map.map-index c.map-item.result c.requires c.as_slice-map-items.ensures.value c.loop-map-test.true c.map-item.is in
     is.writable
 
 pub pmt_of-requires-clause-fits : goal.pmt_of-requires-clause-fits
 pmt_of-requires-clause-fits c =
     let is : IsOutputMap c.loop-map.map-index c.map-item.result =
-        map-read c.args.layout.now c.as_slice-map-items.result.now c.loop-map.map-index c.map-item.result c.requires c.as_slice-map-items.ensures.value c.loop-map-test.true c.map-item.is in
+    map-read c.args.layout.now c.as_slice-map-items.result.now c.loop-map.map-index c.map-item.result c.requires c.as_slice-map-items.ensures.value c.loop-map-test.true c.map-item.is in
     is.fits
 
 pub loop-map-preserved : goal.loop-map-preserved
