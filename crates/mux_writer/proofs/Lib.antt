@@ -1,0 +1,7 @@
+mod Examples
+mod SectionExamples
+pub mod Pids
+pub mod Sections
+pub mod Counting
+pub mod Fronts
+pub mod Told
