@@ -1,17 +1,21 @@
 -- Where a certificate is refused, part by part, and that each part can be gone on with.
 use Rattle.std.proofs.Common.{◌≡◌, ℕ, zero, suc, ◌^◌, ◌<◌, ◌≤◌, List, [], ◌∷◌, ◌++◌, length, get_or, replicate, slice_index, refl, sym, ap, subst, ◌∙◌, arith, lit<, append_assoc}
+use Rattle.std.specs.List.{AllByRecursion}
 use Rattle.std.specs.Int.{w32, to_be_bytes, from_be_bytes}
 use Rattle.std.proofs.lemmas.Nat.{from_be_bytes-to_be_bytes_4}
 use Rattle.bit_lists.specs.Fields.{AreBytes}
 use Rattle.bound_certificate.specs.declared.fault.Stop.{Stop}
 use Rattle.bound_certificate.specs.declared.fault.Stop.TheVariants.{At, OutOfMemory}
+use Rattle.version_table.specs.declared.limits.TheConstants.{NODES_MOST}
+use Rattle.bound_certificate.specs.declared.cert.Cert.{Cert}
+use Rattle.bound_certificate.specs.Cert.{IsCert, MayStand}
 use Rattle.bound_certificate.specs.Spelling.{mark}
 use Rattle.bound_certificate.specs.Private.Texts.{Then, IsBlock, IsByte, IsMark, IsChoice, IsNodeCount, IsNode, AreTexts, IsTree, IsText, IsStop}
-use Rattle.bound_certificate.proofs.Refusals.{stop_first, stop_next, stop_next_bytes, are_bytes_behind}
+use Rattle.bound_certificate.proofs.Refusals.{stop_first, stop_next, stop_next_bytes, are_bytes_behind, are_bytes_front}
 use Rattle.bound_certificate.proofs.Parts.{ends_byte, ends_block, ends_mark, ends_choice, ends_node_count, some_block, some_byte, some_nodes}
 use Rattle.bound_certificate.proofs.Heads.{is_byte, stop_byte}
 use Rattle.bound_certificate.proofs.Numbers.{node_count_text}
-use Rattle.bound_certificate.proofs.Whole.{AfterMark, AfterVersion, AfterNumbers, mark_text, choice_text}
+use Rattle.bound_certificate.proofs.Whole.{AfterMark, AfterVersion, AfterNumbers, mark_text, choice_text, one_or_two}
 
 -- ---- that there are some
 
@@ -116,3 +120,24 @@ stop_tree bytes rest numbers left choice last version stop head size same few le
     behind_numbers bytes rest numbers left version stop head size same
     (stop_next_bytes IsChoice (λ _. IsTree version) left (count ++ choice) last stop ends_choice
     (λ are. choice_text choice few (are_bytes_behind count choice are)) (left_is ∙ sym (append_assoc count choice last)) refused)
+
+-- what is put together from the parts of a text is a certificate, where the text has bytes
+pub cert_in : (bytes rest numbers left last : List ℕ) (cert : Cert) → HasHead bytes rest cert.version → cert.bound < 2 ^ 64 → cert.distortion < 2 ^ 64 → rest ≡ numbers ++ left
+    → length cert.choice < 2 ^ 32 → left ≡ to_be_bytes w32 (length cert.choice) ++ (cert.choice ++ last) → 1 ≤ length cert.nodes → length cert.nodes ≤ NODES_MOST
+    → AllByRecursion (MayStand cert.version) cert.nodes → AreBytes bytes → IsCert cert
+cert_in bytes rest numbers left last cert head bound distortion numbers_are few choice_is some most stand are =
+    let behind : AreBytes head.behind = are_bytes_behind mark head.behind (subst AreBytes head.mark_is are) in
+    let from_version : AreBytes (cert.version ∷ rest) = subst AreBytes head.version_is behind in
+    let from_choice : AreBytes left = are_bytes_behind numbers left (subst AreBytes numbers_are from_version.1) in
+    let count : List ℕ = to_be_bytes w32 (length cert.choice) in
+    let choice : AreBytes (cert.choice ++ last) = are_bytes_behind count (cert.choice ++ last) (subst AreBytes choice_is from_choice) in
+    record {
+      version = one_or_two cert.version head.least head.most;
+      bound = bound;
+      distortion = distortion;
+      few_units = few;
+      choice = are_bytes_front cert.choice last choice;
+      some_nodes = some;
+      few_nodes = most;
+      nodes = stand;
+    }

@@ -138,7 +138,7 @@ mark_is bytes text =
     (text.second_is.joined ∙ ap₂ (λ (a b : List ℕ). a ++ b) (two.is ∙ ap (λ (b : ℕ). b ∷ []) second)
     (text.second_is.second_is.joined ∙ ap₂ (λ (a b : List ℕ). a ++ b) (three.is ∙ ap (λ (b : ℕ). b ∷ []) third) (last.is ∙ ap (λ (b : ℕ). b ∷ []) fourth)))
 
-one_or_two : (n : ℕ) → 1 ≤ n → n ≤ 2 → (n ≡ 1) ⊎ (n ≡ 2)
+pub one_or_two : (n : ℕ) → 1 ≤ n → n ≤ 2 → (n ≡ 1) ⊎ (n ≡ 2)
 one_or_two zero some few = absurd (omega (arith, some))
 one_or_two (suc zero) some few = inl refl
 one_or_two (suc (suc zero)) some few = inr refl

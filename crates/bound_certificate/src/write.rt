@@ -2,7 +2,8 @@ ghost use Rattle.std.specs.Prelude.{◌≡◌, ◌^◌, ◌<◌, ◌≤◌, ◌+
 ghost use Rattle.std.specs.List.{flat_map};
 ghost use Rattle.std.specs.Int.{w16, w32, w64, to_be_bytes};
 ghost use Rattle.bit_lists.specs.Fields.{flag};
-ghost use Rattle.bound_certificate.specs.Reading.{IsWritable};
+ghost use Rattle.bound_certificate.specs.Cert.{IsCert};
+ghost use Rattle.bound_certificate.specs.Reading.{Holds, IsRead, IsWritable};
 ghost use Rattle.bound_certificate.specs.Spelling.{bytes_of_multiplier, bytes_of_node, bytes_of_window, spelling};
 
 use crate::cert::{Cert, Node};
@@ -15,7 +16,9 @@ use std::alloc::Global;
 #[tactic(auto, unfolding(crate::specs::Spelling::spelling))]
 pub fn write_cert(alloc: Global, cert: &Cert) -> Result<ListOf<u8>, OutOfMemory>
     requires { IsWritable cert.now }
-    ensures { IfOk result (λ bytes. bytes ≡ spelling cert.now) }
+    ensures bytes { IfOk result (λ bytes. bytes ≡ spelling cert.now) }
+    // What is written is read as this certificate, whose numbers have room in their bytes by their types.
+    ensures read { IfOk result (λ bytes. IsCert cert.now → IsRead bytes (Holds cert.now)) }
 {
     let mut out = Vec::new(alloc);
     out.extend_from_slice(b"RMXC")?;

@@ -12,5 +12,5 @@ returns-in_err-block-clause-stop c =
 pub returns-in_err-block-2-clause-stop : goal.returns-in_err-block-2-clause-stop
 returns-in_err-block-2-clause-stop c =
     let p = err_from_is_err_and c.from_residual-in_err-block-2.result c.from_residual-in_err-block-2.ensures.1 in
-    let refused = subst (λ (n : ℕ). IsStop (IsBlock n) c.block.new.self c.in_err-block-2.field-0.0) c.short_number.ensures.value c.in_err-block-2.ensures.stop in
+    let refused = subst (λ (n : ℕ). IsStop (IsBlock n) c.block.new.self c.in_err-block-2.field-0.0) c.short_number-count.ensures.value c.in_err-block-2.ensures.stop in
     rw (p.1, p.2) (stop_versions c.args.cursor.now c.in_ok-block.field-0.now c.block.new.self c.in_err-block-2.field-0.0 c.in_ok-block.ensures.size c.in_ok-block.ensures.next refused)
