@@ -12,7 +12,8 @@ pub is_byte : (least most byte : ℕ) → least ≤ byte → byte ≤ most → m
 is_byte least most byte low high fits = one_of (λ b. (least ≤ b) × (b ≤ most)) byte (low, high) (omega (arith, high, fits))
 
 -- refused behind a byte
-pub stop_byte : (least most byte : ℕ) (second : List ℕ → List ℕ → Type 0) (bytes rest : List ℕ) (stop : Stop) → bytes ≡ byte ∷ rest → least ≤ byte → byte ≤ most → most < 2 ^ 8 → IsStop (second (byte ∷ [])) rest stop → IsStop (Then (IsByte least most) second) bytes stop
+pub stop_byte : (least most byte : ℕ) (second : List ℕ → List ℕ → Type 0) (bytes rest : List ℕ) (stop : Stop) → bytes ≡ byte ∷ rest → least ≤ byte → byte ≤ most → most < 2 ^ 8
+    → IsStop (second (byte ∷ [])) rest stop → IsStop (Then (IsByte least most) second) bytes stop
 stop_byte least most byte second bytes rest stop same low high fits refused =
     stop_next (IsByte least most) second bytes (byte ∷ []) rest stop (ends_byte least most) (is_byte least most byte low high fits) same refused
 
@@ -71,7 +72,8 @@ last_fits second = by_test (second == 16)
 
 pub some_fourth : (second third : List ℕ) → slice_index second 0 ≤ 16 → (x : List ℕ) × AfterThird second third x
 some_fourth second third few =
-    some_byte (last_least (slice_index second 0) (slice_index third 0)) (last_most (slice_index second 0)) (least_of (slice_index second 0) (slice_index third 0) few) (last_fits (slice_index second 0))
+    some_byte (last_least (slice_index second 0) (slice_index third 0)) (last_most (slice_index second 0)) (least_of (slice_index second 0) (slice_index third 0) few)
+    (last_fits (slice_index second 0))
 
 some_third : (second : List ℕ) → slice_index second 0 ≤ 16 → (x : List ℕ) × AfterSecond second x
 some_third second few =

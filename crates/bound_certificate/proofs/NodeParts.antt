@@ -46,7 +46,8 @@ stop_items size count bytes rest stop few same refused =
 pub stop_node_kind : (version : ℕ) (bytes : List ℕ) (stop : Stop) → IsStop (IsOneOf (IsKind version)) bytes stop → IsStop (IsNode version) bytes stop
 stop_node_kind version bytes stop refused = stop_first (IsOneOf (IsKind version)) (λ kind. IsBody (slice_index kind 0)) bytes stop (λ kind _. body_of kind) refused
 
-pub stop_node_body : (version kind : ℕ) (bytes rest : List ℕ) (stop : Stop) → IsKind version kind → kind < 2 ^ 8 → bytes ≡ kind ∷ rest → IsStop (IsBody kind) rest stop → IsStop (IsNode version) bytes stop
+pub stop_node_body : (version kind : ℕ) (bytes rest : List ℕ) (stop : Stop) → IsKind version kind → kind < 2 ^ 8 → bytes ≡ kind ∷ rest → IsStop (IsBody kind) rest stop
+    → IsStop (IsNode version) bytes stop
 stop_node_body version kind bytes rest stop is fits same refused =
     stop_next (IsOneOf (IsKind version)) (λ k. IsBody (slice_index k 0)) bytes (kind ∷ []) rest stop (ends_one (IsKind version)) (one_of (IsKind version) kind is fits) same refused
 
@@ -76,7 +77,8 @@ pub record HasTaken {A : Type 0} (spelled : A → List ℕ) (holds : A → Type 
 pub taken_none : {A : Type 0} (spelled : A → List ℕ) (holds : A → Type 0) (size : ℕ) (block : List ℕ) → HasTaken spelled holds size block [] 0
 taken_none spelled holds size block = record { count = refl; hold = tt; bytes = ap (λ (n : ℕ). take n block) (let e : 0 ≡ size * 0 = omega arith in e) }
 
-pub taken_more : {A : Type 0} (spelled : A → List ℕ) (holds : A → Type 0) (size : ℕ) (block : List ℕ) (items : List A) (i : ℕ) (item : A) → HasTaken spelled holds size block items i → holds item → spelled item ≡ take size (drop (size * i) block) → HasTaken spelled holds size block (items ++ item ∷ []) (i + 1)
+pub taken_more : {A : Type 0} (spelled : A → List ℕ) (holds : A → Type 0) (size : ℕ) (block : List ℕ) (items : List A) (i : ℕ) (item : A) → HasTaken spelled holds size block items i
+    → holds item → spelled item ≡ take size (drop (size * i) block) → HasTaken spelled holds size block (items ++ item ∷ []) (i + 1)
 taken_more {A} spelled holds size block items i item taken is bytes = record {
   count = length_push items item ∙ ap (λ (n : ℕ). n + 1) taken.count;
   hold = AllByRecursion-push holds items item taken.hold is;

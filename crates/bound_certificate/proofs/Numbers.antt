@@ -1,5 +1,37 @@
 -- Numbers in bytes: which number a block holds, and that it is the only one.
-use Rattle.std.proofs.Common.{◌≡◌, ℕ, zero, suc, ◌+◌, ◌*◌, ◌/◌, ◌%◌, ◌^◌, ◌<◌, ◌≤◌, Bool, true, false, List, [], ◌∷◌, ◌++◌, length, get_or, take, drop, slice_index, refl, sym, ap, ap₂, subst, ◌∙◌, arith, lit<}
+use Rattle.std.proofs.Common.{
+  ◌≡◌,
+  ℕ,
+  zero,
+  suc,
+  ◌+◌,
+  ◌*◌,
+  ◌/◌,
+  ◌%◌,
+  ◌^◌,
+  ◌<◌,
+  ◌≤◌,
+  Bool,
+  true,
+  false,
+  List,
+  [],
+  ◌∷◌,
+  ◌++◌,
+  length,
+  get_or,
+  take,
+  drop,
+  slice_index,
+  refl,
+  sym,
+  ap,
+  ap₂,
+  subst,
+  ◌∙◌,
+  arith,
+  lit<,
+}
 use Rattle.std.specs.Prelude.{◌==◌, if◌then◌else◌}
 use Rattle.std.specs.Int.{w16, w32, w64, to_be_bytes, from_be_bytes}
 use Rattle.std.proofs.lemmas.Bool.{eqb-true, eqb-false}
@@ -92,7 +124,8 @@ node_count_text n some few =
           behind = fourth ∷ [];
           joined = refl;
           first_is = is_byte 0 (last_most second) third (omega arith) (most_of second third (omega arith) (λ is. omega (arith, is, few))) (last_fits second);
-          second_is = is_byte (last_least second third) (last_most second) fourth (least_of second third fourth (λ is. omega (arith, is, some, few))) (most_of second fourth (omega arith) (λ is. omega (arith, is, few))) (last_fits second);
+          second_is = is_byte (last_least second third) (last_most second) fourth (least_of second third fourth (λ is. omega (arith, is, some, few)))
+              (most_of second fourth (omega arith) (λ is. omega (arith, is, few))) (last_fits second);
         };
       };
     }
@@ -103,6 +136,7 @@ at_most_last second n most = (by_test (second == 16) most, λ is. at_16 is)
     by_test : (test : Bool) → n ≤ (if test then 0 else 255) → n ≤ 255
     by_test true few = omega (arith, few)
     by_test false few = few
+
     at_16 : second ≡ 16 → n ≡ 0
     at_16 is =
         let few : n ≤ last_most 16 = subst (λ (s : ℕ). n ≤ last_most s) is most in
@@ -115,7 +149,8 @@ at_least_last second third n least first other =
     some
 
 -- the number that four bytes spell
-four : (second third fourth : ℕ) → second ≤ 16 → third ≤ last_most second → fourth ≤ last_most second → last_least second third ≤ fourth → (n : ℕ) × (1 ≤ n) × (n ≤ 1048576) × (0 ∷ second ∷ third ∷ fourth ∷ [] ≡ to_be_bytes w32 n)
+four : (second third fourth : ℕ) → second ≤ 16 → third ≤ last_most second → fourth ≤ last_most second → last_least second third ≤ fourth
+    → (n : ℕ) × (1 ≤ n) × (n ≤ 1048576) × (0 ∷ second ∷ third ∷ fourth ∷ [] ≡ to_be_bytes w32 n)
 four second third fourth few most last least =
     let a = at_most_last second third most in
     let b = at_most_last second fourth last in
@@ -123,14 +158,18 @@ four second third fourth few most last least =
     let first_is : 0 ≡ n / 16777216 % 256 = omega (arith, few, a.0, b.0) in
     let second_is : second ≡ n / 65536 % 256 = omega (arith, few, a.0, b.0) in
     let third_is : third ≡ n / 256 % 256 = omega (arith, few, a.0, b.0) in
-    let fourth_is : fourth ≡ n % 256 = omega (arith, few, a.0, b.0) in
-    (n, some n refl (second == 0) (third == 0) refl refl, high n refl (second == 16) refl,
-      ap₂ (λ (x y : ℕ). x ∷ y ∷ third ∷ fourth ∷ []) first_is second_is ∙ ap₂ (λ (x y : ℕ). n / 16777216 % 256 ∷ n / 65536 % 256 ∷ x ∷ y ∷ []) third_is fourth_is)
+    let fourth_is : fourth ≡ n % 256 = omega (arith, few, a.0, b.0) in (
+      n,
+      some n refl (second == 0) (third == 0) refl refl,
+      high n refl (second == 16) refl,
+      ap₂ (λ (x y : ℕ). x ∷ y ∷ third ∷ fourth ∷ []) first_is second_is ∙ ap₂ (λ (x y : ℕ). n / 16777216 % 256 ∷ n / 65536 % 256 ∷ x ∷ y ∷ []) third_is fourth_is,
+    )
   where
     some : (n : ℕ) → n ≡ second * 65536 + third * 256 + fourth → (p q : Bool) → (second == 0) ≡ p → (third == 0) ≡ q → 1 ≤ n
     some n is true true first other = omega (arith, is, at_least_last second third fourth least (eqb-true second 0 first) (eqb-true third 0 other))
     some n is true false first other = omega (arith, is, eqb-false third 0 other)
     some n is false q first other = omega (arith, is, eqb-false second 0 first)
+
     high : (n : ℕ) → n ≡ second * 65536 + third * 256 + fourth → (p : Bool) → (second == 16) ≡ p → n ≤ 1048576
     high n is true at =
         let e = eqb-true second 16 at in
@@ -146,9 +185,11 @@ count_of_text bytes is =
     let most : three.byte ≤ last_most two.byte = subst (λ (xs : List ℕ). three.byte ≤ last_most (slice_index xs 0)) two.is three.allows.1 in
     let last_most_is : last.byte ≤ last_most two.byte = subst (λ (xs : List ℕ). last.byte ≤ last_most (slice_index xs 0)) two.is last.allows.1 in
     let least : last_least two.byte three.byte ≤ last.byte =
-    subst (λ (xs : List ℕ). last_least two.byte (slice_index xs 0) ≤ last.byte) three.is (subst (λ (xs : List ℕ). last_least (slice_index xs 0) (slice_index is.second_is.second_is.front 0) ≤ last.byte) two.is last.allows.0) in
+    subst (λ (xs : List ℕ). last_least two.byte (slice_index xs 0) ≤ last.byte) three.is (subst (λ (xs : List ℕ). last_least (slice_index xs 0) (slice_index is.second_is.second_is.front 0) ≤
+    last.byte) two.is last.allows.0) in
     let zero_is : one.byte ≡ 0 = omega (arith, one.allows.1) in
     let found = four two.byte three.byte last.byte two.allows.1 most last_most_is least in
     let whole : bytes ≡ one.byte ∷ two.byte ∷ three.byte ∷ last.byte ∷ [] =
-    is.joined ∙ ap₂ (λ (a b : List ℕ). a ++ b) one.is (is.second_is.joined ∙ ap₂ (λ (a b : List ℕ). a ++ b) two.is (is.second_is.second_is.joined ∙ ap₂ (λ (a b : List ℕ). a ++ b) three.is last.is)) in
+    is.joined ∙ ap₂ (λ (a b : List ℕ). a ++ b) one.is (is.second_is.joined ∙ ap₂ (λ (a b : List ℕ). a ++ b) two.is
+    (is.second_is.second_is.joined ∙ ap₂ (λ (a b : List ℕ). a ++ b) three.is last.is)) in
     (found.0, found.1, found.2, whole ∙ ap (λ (b : ℕ). b ∷ two.byte ∷ three.byte ∷ last.byte ∷ []) zero_is ∙ found.3)

@@ -1,10 +1,61 @@
 -- The parts of which a certificate is made: where they end, that there are some, and where they are refused.
-use Rattle.std.proofs.Common.{◌≡◌, ◌≢◌, ℕ, zero, suc, ◌+◌, ◌-◌, ◌*◌, ◌^◌, ◌<◌, ◌≤◌, List, [], ◌∷◌, ◌++◌, length, get_or, replicate, slice_index, refl, sym, ap, subst, ◌∙◌, arith, length-append, append_assoc, lit<}
+use Rattle.std.proofs.Common.{
+  ◌≡◌,
+  ◌≢◌,
+  ℕ,
+  zero,
+  suc,
+  ◌+◌,
+  ◌-◌,
+  ◌*◌,
+  ◌^◌,
+  ◌<◌,
+  ◌≤◌,
+  List,
+  [],
+  ◌∷◌,
+  ◌++◌,
+  length,
+  get_or,
+  replicate,
+  slice_index,
+  refl,
+  sym,
+  ap,
+  subst,
+  ◌∙◌,
+  arith,
+  length-append,
+  append_assoc,
+  lit<,
+}
 use Rattle.std.proofs.lemmas.List.{append-nil, length-replicate}
 use Rattle.std.specs.Int.{w32, from_be_bytes}
 use Rattle.bit_lists.specs.Fields.{AreBytes}
 use Rattle.bit_lists.proofs.ByteLemmas.{AreBytes-append}
-use Rattle.bound_certificate.specs.Private.Texts.{Then, IsOneOf, IsByte, IsBlock, AreTexts, IsRefused, IsKind, IsCount, AreCounted, IsBody, IsNode, IsMark, IsChoice, IsNodeCount, AfterFirst, AfterSecond, AfterThird, IsTree, count_of, last_most, last_least}
+use Rattle.bound_certificate.specs.Private.Texts.{
+  Then,
+  IsOneOf,
+  IsByte,
+  IsBlock,
+  AreTexts,
+  IsRefused,
+  IsKind,
+  IsCount,
+  AreCounted,
+  IsBody,
+  IsNode,
+  IsMark,
+  IsChoice,
+  IsNodeCount,
+  AfterFirst,
+  AfterSecond,
+  AfterThird,
+  IsTree,
+  count_of,
+  last_most,
+  last_least,
+}
 use Rattle.bound_certificate.proofs.Refusals.{Ends, ends_then, ends_texts}
 
 -- ---- one byte
@@ -26,7 +77,8 @@ no_byte allowed bytes some allows fits none = record {
 }
 
 -- a byte that isn't allowed
-pub bad_byte : (allowed : ℕ → Type 0) (bytes : List ℕ) (byte : ℕ) (behind : List ℕ) (left some : ℕ) → allowed some → some < 2 ^ 8 → bytes ≡ byte ∷ behind → left ≡ length bytes → (allowed byte → ⊥) → IsRefused (IsOneOf allowed) bytes left
+pub bad_byte : (allowed : ℕ → Type 0) (bytes : List ℕ) (byte : ℕ) (behind : List ℕ) (left some : ℕ) → allowed some → some < 2 ^ 8 → bytes ≡ byte ∷ behind → left ≡ length bytes
+    → (allowed byte → ⊥) → IsRefused (IsOneOf allowed) bytes left
 bad_byte allowed bytes byte behind left some allows fits is left_is not = record {
   before = [];
   rest = bytes;

@@ -1,5 +1,36 @@
 -- Bytes are read in one way.
-use Rattle.std.proofs.Common.{◌≡◌, ℕ, zero, suc, ◌+◌, ◌<◌, ◌≤◌, ◌⊎◌, inl, inr, List, [], ◌∷◌, ◌++◌, length, get_or, refl, sym, ap, subst, ◌∙◌, arith, lit<, length-append, append_assoc, Result, Ok, Err, IfOk, IfErr}
+use Rattle.std.proofs.Common.{
+  ◌≡◌,
+  ℕ,
+  zero,
+  suc,
+  ◌+◌,
+  ◌<◌,
+  ◌≤◌,
+  ◌⊎◌,
+  inl,
+  inr,
+  List,
+  [],
+  ◌∷◌,
+  ◌++◌,
+  length,
+  get_or,
+  refl,
+  sym,
+  ap,
+  subst,
+  ◌∙◌,
+  arith,
+  lit<,
+  length-append,
+  append_assoc,
+  Result,
+  Ok,
+  Err,
+  IfOk,
+  IfErr,
+}
 use Rattle.std.proofs.lemmas.Bool.{cases_lt}
 use Rattle.bit_lists.specs.Fields.{AreBytes}
 use Rattle.bound_certificate.specs.declared.cert.Cert.{Cert}
@@ -47,7 +78,8 @@ reading_is_one bytes (RefusedAt n) (RefusedAt m) (inl long) (inr refused) = absu
 reading_is_one bytes (RefusedAt n) (RefusedAt m) (inr refused) (inl long) = absurd (omega (arith, long.0, refused.0))
 reading_is_one bytes (RefusedAt n) (RefusedAt m) (inr refused) (inr other) = ap RefusedAt (one_place bytes n m refused.1 other.1)
 
-pub only_answer : (bytes : List ℕ) (result : Result Cert CertFormat) → IfOk result (λ cert. IsRead bytes (Holds cert)) → IfErr result (IsFaultOf bytes) → (reading : CertReading) → IsRead bytes reading → Says result reading
+pub only_answer : (bytes : List ℕ) (result : Result Cert CertFormat) → IfOk result (λ cert. IsRead bytes (Holds cert)) → IfErr result (IsFaultOf bytes) → (reading : CertReading)
+    → IsRead bytes reading → Says result reading
 only_answer bytes (Ok cert) is fault reading read = subst (Says (Ok cert)) (reading_is_one bytes (Holds cert) reading is read) refl
 only_answer bytes (Err (CertSyntax n)) is fault reading read = subst (Says (Err (CertSyntax n))) (reading_is_one bytes (RefusedAt n) reading fault read) refl
 only_answer bytes (Err OutOfMemory) is fault reading read = tt

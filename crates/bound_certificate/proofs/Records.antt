@@ -1,5 +1,37 @@
 -- Texts of nodes, and the nodes of texts.
-use Rattle.std.proofs.Common.{◌≡◌, ℕ, zero, suc, ◌+◌, ◌*◌, ◌^◌, ◌<◌, ◌≤◌, Bool, true, false, List, [], ◌∷◌, ◌++◌, length, get_or, take, drop, slice_index, refl, sym, ap, ap₂, subst, ◌∙◌, arith, lit<, length-append, append_assoc}
+use Rattle.std.proofs.Common.{
+  ◌≡◌,
+  ℕ,
+  zero,
+  suc,
+  ◌+◌,
+  ◌*◌,
+  ◌^◌,
+  ◌<◌,
+  ◌≤◌,
+  Bool,
+  true,
+  false,
+  List,
+  [],
+  ◌∷◌,
+  ◌++◌,
+  length,
+  get_or,
+  take,
+  drop,
+  slice_index,
+  refl,
+  sym,
+  ap,
+  ap₂,
+  subst,
+  ◌∙◌,
+  arith,
+  lit<,
+  length-append,
+  append_assoc,
+}
 use Rattle.std.specs.List.{flat_map, AllByRecursion}
 use Rattle.std.specs.Int.{w16, w32, w64, to_be_bytes}
 use Rattle.std.proofs.lemmas.List.{take-append-drop, length-drop, length-take-le, nil_from_length}
@@ -53,7 +85,8 @@ items_block spelled holds size is (x ∷ items) =
     mul_more : (n k : ℕ) → n + n * k ≡ n * suc k
     mul_more n k = grind arith
 
-items_of_block : {A : Type 0} (spelled : A → List ℕ) (holds : A → Type 0) (size : ℕ) → IsItem spelled holds size → (count : ℕ) (bytes : List ℕ) → IsBlock (size * count) bytes → (items : List A) × (length items ≡ count) × AllByRecursion holds items × (bytes ≡ flat_map spelled items)
+items_of_block : {A : Type 0} (spelled : A → List ℕ) (holds : A → Type 0) (size : ℕ) → IsItem spelled holds size → (count : ℕ) (bytes : List ℕ) → IsBlock (size * count) bytes
+    → (items : List A) × (length items ≡ count) × AllByRecursion holds items × (bytes ≡ flat_map spelled items)
 items_of_block {A} spelled holds size is zero bytes block =
     ([], refl, tt, nil_from_length bytes (block.size ∙ (let e : size * 0 ≡ 0 = omega arith in e)))
 items_of_block {A} spelled holds size is (suc count) bytes block =
@@ -65,7 +98,8 @@ items_of_block {A} spelled holds size is (suc count) bytes block =
     mul_more : (n k : ℕ) → n * suc k ≡ n + n * k
     mul_more n k = grind arith
 
-items_same : {A : Type 0} (spelled : A → List ℕ) (holds : A → Type 0) (size : ℕ) → IsItem spelled holds size → (xs ys : List A) → length xs ≡ length ys → AllByRecursion holds xs → AllByRecursion holds ys → flat_map spelled xs ≡ flat_map spelled ys → xs ≡ ys
+items_same : {A : Type 0} (spelled : A → List ℕ) (holds : A → Type 0) (size : ℕ) → IsItem spelled holds size → (xs ys : List A) → length xs ≡ length ys → AllByRecursion holds xs
+    → AllByRecursion holds ys → flat_map spelled xs ≡ flat_map spelled ys → xs ≡ ys
 items_same spelled holds size is [] [] count first second same = refl
 items_same spelled holds size is [] (y ∷ ys) count first second same = absurd (omega (arith, count))
 items_same spelled holds size is (x ∷ xs) [] count first second same = absurd (omega (arith, count))
@@ -103,9 +137,11 @@ window_of bytes is =
     let others = split_block 8 8 16 (drop 8 bytes) refl parts.1 in
     let from = number_8 (take 8 bytes) parts.0 in
     let due = number_8 (take 8 (drop 8 bytes)) others.0 in
-    let lambda = number_8 (drop 8 (drop 8 bytes)) others.1 in
-    (record { from = from.0; due = due.0; lambda = lambda.0 }, (from.1, due.1, lambda.1),
-      parts.2 ∙ ap₂ (λ (a b : List ℕ). a ++ b) from.2 (others.2 ∙ ap₂ (λ (a b : List ℕ). a ++ b) due.2 lambda.2))
+    let lambda = number_8 (drop 8 (drop 8 bytes)) others.1 in (
+      record { from = from.0; due = due.0; lambda = lambda.0 },
+      (from.1, due.1, lambda.1),
+      parts.2 ∙ ap₂ (λ (a b : List ℕ). a ++ b) from.2 (others.2 ∙ ap₂ (λ (a b : List ℕ). a ++ b) due.2 lambda.2),
+    )
 
 window_one : (x y : PricedWindow) → IsStatedWindow x → IsStatedWindow y → bytes_of_window x ≡ bytes_of_window y → x ≡ y
 window_one x y first second same =
@@ -124,7 +160,8 @@ are_windows = record {
 
 -- ---- counted items
 
-counted_text : {A : Type 0} (spelled : A → List ℕ) (holds : A → Type 0) (size : ℕ) → IsItem spelled holds size → (items : List A) → length items ≤ 64 → AreCounted size (to_be_bytes w16 (length items) ++ flat_map spelled items)
+counted_text : {A : Type 0} (spelled : A → List ℕ) (holds : A → Type 0) (size : ℕ) → IsItem spelled holds size → (items : List A) → length items ≤ 64
+    → AreCounted size (to_be_bytes w16 (length items) ++ flat_map spelled items)
 counted_text spelled holds size is items few = record {
   front = 0 ∷ length items ∷ [];
   behind = flat_map spelled items;
@@ -133,7 +170,8 @@ counted_text spelled holds size is items few = record {
   second_is = items_block spelled holds size is items;
 }
 
-counted_items : {A : Type 0} (spelled : A → List ℕ) (holds : A → Type 0) (size : ℕ) → IsItem spelled holds size → (bytes : List ℕ) → AreCounted size bytes → (items : List A) × (length items ≤ 64) × AllByRecursion holds items × (bytes ≡ to_be_bytes w16 (length items) ++ flat_map spelled items)
+counted_items : {A : Type 0} (spelled : A → List ℕ) (holds : A → Type 0) (size : ℕ) → IsItem spelled holds size → (bytes : List ℕ) → AreCounted size bytes
+    → (items : List A) × (length items ≤ 64) × AllByRecursion holds items × (bytes ≡ to_be_bytes w16 (length items) ++ flat_map spelled items)
 counted_items spelled holds size is bytes text =
     let first = text.first_is.first_is in
     let count = text.first_is.second_is in
@@ -145,7 +183,8 @@ counted_items spelled holds size is bytes text =
     let count_is : text.front ≡ to_be_bytes w16 (length items.0) = front ∙ ap₂ (λ (a b : ℕ). a ∷ b ∷ []) zero_is (sym items.1) ∙ sym (short_count (length items.0) few) in
     (items.0, few, items.2, text.joined ∙ ap₂ (λ (a b : List ℕ). a ++ b) count_is items.3)
 
-counted_same : {A : Type 0} (spelled : A → List ℕ) (holds : A → Type 0) (size : ℕ) → IsItem spelled holds size → (xs ys : List A) → length xs ≤ 64 → length ys ≤ 64 → AllByRecursion holds xs → AllByRecursion holds ys
+counted_same : {A : Type 0} (spelled : A → List ℕ) (holds : A → Type 0) (size : ℕ) → IsItem spelled holds size → (xs ys : List A) → length xs ≤ 64 → length ys ≤ 64 → AllByRecursion holds xs
+    → AllByRecursion holds ys
     → to_be_bytes w16 (length xs) ++ flat_map spelled xs ≡ to_be_bytes w16 (length ys) ++ flat_map spelled ys → xs ≡ ys
 counted_same spelled holds size is xs ys few least first second same =
     let parts = same_parts (to_be_bytes w16 (length xs)) (flat_map spelled xs) (to_be_bytes w16 (length ys)) (flat_map spelled ys) same refl in
@@ -222,7 +261,8 @@ nodes_text version (node ∷ nodes) stand = record {
   second_is = nodes_text version nodes stand.1;
 }
 
-pub nodes_of_text : (version n : ℕ) (bytes : List ℕ) → AreTexts n (IsNode version) bytes → (nodes : List Node) × (length nodes ≡ n) × AllByRecursion (MayStand version) nodes × (bytes ≡ flat_map bytes_of_node nodes)
+pub nodes_of_text : (version n : ℕ) (bytes : List ℕ) → AreTexts n (IsNode version) bytes
+    → (nodes : List Node) × (length nodes ≡ n) × AllByRecursion (MayStand version) nodes × (bytes ≡ flat_map bytes_of_node nodes)
 nodes_of_text version zero bytes text = ([], refl, tt, text)
 nodes_of_text version (suc n) bytes text =
     let first = node_of_text version text.front text.first_is in
@@ -269,7 +309,8 @@ node_same (Window a) (Window b) first second same =
     let rest = behind_first 5 5 (to_be_bytes w16 (length a.items) ++ flat_map bytes_of_window a.items) (to_be_bytes w16 (length b.items) ++ flat_map bytes_of_window b.items) same in
     ap (λ (xs : List PricedWindow). Window (record { items = xs })) (counted_same bytes_of_window IsStatedWindow 24 are_windows a.items b.items first.0 second.0 first.1 second.1 rest)
 
-pub nodes_same : (version : ℕ) (xs ys : List Node) → length xs ≡ length ys → AllByRecursion (MayStand version) xs → AllByRecursion (MayStand version) ys → flat_map bytes_of_node xs ≡ flat_map bytes_of_node ys → xs ≡ ys
+pub nodes_same : (version : ℕ) (xs ys : List Node) → length xs ≡ length ys → AllByRecursion (MayStand version) xs → AllByRecursion (MayStand version) ys
+    → flat_map bytes_of_node xs ≡ flat_map bytes_of_node ys → xs ≡ ys
 nodes_same version [] [] count first second same = refl
 nodes_same version [] (y ∷ ys) count first second same = absurd (omega (arith, count))
 nodes_same version (x ∷ xs) [] count first second same = absurd (omega (arith, count))

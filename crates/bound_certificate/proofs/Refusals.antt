@@ -58,7 +58,8 @@ ends_texts (suc n) text ends a b s t same x y = ends_then text (λ _ rest. AreTe
 
 -- ---- refused in the first text
 
-refused_first : (first : List ℕ → Type 0) (second : List ℕ → List ℕ → Type 0) (bytes : List ℕ) (left : ℕ) → ((x : List ℕ) → first x → (more : List ℕ) × second x more) → IsRefused first bytes left → IsRefused (Then first second) bytes left
+refused_first : (first : List ℕ → Type 0) (second : List ℕ → List ℕ → Type 0) (bytes : List ℕ) (left : ℕ) → ((x : List ℕ) → first x → (more : List ℕ) × second x more)
+    → IsRefused first bytes left → IsRefused (Then first second) bytes left
 refused_first first second bytes left goes_on r =
     let start : List ℕ = r.before ++ r.more in
     let go = goes_on start r.begun in
@@ -74,7 +75,8 @@ refused_first first second bytes left goes_on r =
           r.whole text.front (text.behind ++ others) (same ∙ ap (λ (xs : List ℕ). xs ++ others) text.joined ∙ append_assoc text.front text.behind others) text.first_is;
     }
   where
-    refused_byte : (next : ℕ) (behind others : List ℕ) → r.rest ≡ next ∷ behind → (text : Then first second (r.before ++ next ∷ others)) → (length r.before < length text.front) ⊎ (length text.front ≤ length r.before) → ⊥
+    refused_byte : (next : ℕ) (behind others : List ℕ) → r.rest ≡ next ∷ behind → (text : Then first second (r.before ++ next ∷ others))
+        → (length r.before < length text.front) ⊎ (length text.front ≤ length r.before) → ⊥
     refused_byte next behind others at text (inl more) =
         let parts = longer (r.before ++ next ∷ []) others text.front text.behind (append_assoc r.before (next ∷ []) others ∙ text.joined) (omega (arith, more, length-append r.before (next ∷ []))) in
         r.byte next behind parts.0 at (subst first (parts.1 ∙ append_assoc r.before (next ∷ []) parts.0) text.first_is)
@@ -82,19 +84,22 @@ refused_first first second bytes left goes_on r =
         let parts = longer text.front text.behind r.before (next ∷ others) (sym text.joined) few in
         r.whole text.front (parts.0 ++ r.rest) (r.parts ∙ ap (λ (xs : List ℕ). xs ++ r.rest) parts.1 ∙ append_assoc text.front parts.0 r.rest) text.first_is
 
-pub stop_first : (first : List ℕ → Type 0) (second : List ℕ → List ℕ → Type 0) (bytes : List ℕ) (stop : Stop) → ((x : List ℕ) → first x → (more : List ℕ) × second x more) → IsStop first bytes stop → IsStop (Then first second) bytes stop
+pub stop_first : (first : List ℕ → Type 0) (second : List ℕ → List ℕ → Type 0) (bytes : List ℕ) (stop : Stop) → ((x : List ℕ) → first x → (more : List ℕ) × second x more)
+    → IsStop first bytes stop → IsStop (Then first second) bytes stop
 stop_first first second bytes OutOfMemory goes_on is = tt
 stop_first first second bytes (At left) goes_on is = λ are. refused_first first second bytes left goes_on (is are)
 
 -- ---- refused behind the first text
 
-behind_front : (first : List ℕ → Type 0) (second : List ℕ → List ℕ → Type 0) (front xs ys s : List ℕ) → Ends first → first front → (text : Then first second xs) → xs ++ s ≡ front ++ ys → (z : List ℕ) × (xs ≡ front ++ z) × (z ++ s ≡ ys) × second front z
+behind_front : (first : List ℕ → Type 0) (second : List ℕ → List ℕ → Type 0) (front xs ys s : List ℕ) → Ends first → first front → (text : Then first second xs) → xs ++ s ≡ front ++ ys
+    → (z : List ℕ) × (xs ≡ front ++ z) × (z ++ s ≡ ys) × second front z
 behind_front first second front xs ys s ends is text same =
     let whole : front ++ ys ≡ text.front ++ (text.behind ++ s) = sym same ∙ ap (λ (zs : List ℕ). zs ++ s) text.joined ∙ append_assoc text.front text.behind s in
     let parts = same_parts front ys text.front (text.behind ++ s) whole (ends front text.front ys (text.behind ++ s) whole is text.first_is) in
     (text.behind, text.joined ∙ ap (λ (zs : List ℕ). zs ++ text.behind) (sym parts.0), sym parts.1, subst (λ (zs : List ℕ). second zs text.behind) (sym parts.0) text.second_is)
 
-refused_next : (first : List ℕ → Type 0) (second : List ℕ → List ℕ → Type 0) (bytes front rest : List ℕ) (left : ℕ) → Ends first → first front → bytes ≡ front ++ rest → IsRefused (second front) rest left → IsRefused (Then first second) bytes left
+refused_next : (first : List ℕ → Type 0) (second : List ℕ → List ℕ → Type 0) (bytes front rest : List ℕ) (left : ℕ) → Ends first → first front → bytes ≡ front ++ rest
+    → IsRefused (second front) rest left → IsRefused (Then first second) bytes left
 refused_next first second bytes front rest left ends is same r = record {
   before = front ++ r.before;
   rest = r.rest;
@@ -104,27 +109,31 @@ refused_next first second bytes front rest left ends is same r = record {
   begun = record { front = front; behind = r.before ++ r.more; joined = append_assoc front r.before r.more; first_is = is; second_is = r.begun };
   byte = λ next behind others at text.
       let start : List ℕ = r.before ++ next ∷ others in
-      let parts = behind_front first second front ((front ++ r.before) ++ next ∷ others) start [] ends is text (append-nil ((front ++ r.before) ++ next ∷ others) ∙ append_assoc front r.before (next ∷ others)) in
+      let parts = behind_front first second front ((front ++ r.before) ++ next ∷ others) start [] ends is text
+      (append-nil ((front ++ r.before) ++ next ∷ others) ∙ append_assoc front r.before (next ∷ others)) in
       r.byte next behind others at (subst (second front) (sym (append-nil parts.0) ∙ parts.2) parts.3);
   whole = λ start others at text.
       let parts = behind_front first second front start rest others ends is text (sym at ∙ same) in
       r.whole parts.0 others (sym parts.2) parts.3;
 }
 
-pub stop_next : (first : List ℕ → Type 0) (second : List ℕ → List ℕ → Type 0) (bytes front rest : List ℕ) (stop : Stop) → Ends first → first front → bytes ≡ front ++ rest → IsStop (second front) rest stop → IsStop (Then first second) bytes stop
+pub stop_next : (first : List ℕ → Type 0) (second : List ℕ → List ℕ → Type 0) (bytes front rest : List ℕ) (stop : Stop) → Ends first → first front → bytes ≡ front ++ rest
+    → IsStop (second front) rest stop → IsStop (Then first second) bytes stop
 stop_next first second bytes front rest OutOfMemory ends is same refused = tt
 stop_next first second bytes front rest (At left) ends is same refused = λ are.
     refused_next first second bytes front rest left ends is same (refused (are_bytes_behind front rest (subst AreBytes same are)))
 
 -- the same, where the first one is such a text only as far as it is bytes
-pub stop_next_bytes : (first : List ℕ → Type 0) (second : List ℕ → List ℕ → Type 0) (bytes front rest : List ℕ) (stop : Stop) → Ends first → (AreBytes front → first front) → bytes ≡ front ++ rest → IsStop (second front) rest stop → IsStop (Then first second) bytes stop
+pub stop_next_bytes : (first : List ℕ → Type 0) (second : List ℕ → List ℕ → Type 0) (bytes front rest : List ℕ) (stop : Stop) → Ends first → (AreBytes front → first front)
+    → bytes ≡ front ++ rest → IsStop (second front) rest stop → IsStop (Then first second) bytes stop
 stop_next_bytes first second bytes front rest OutOfMemory ends is same refused = tt
 stop_next_bytes first second bytes front rest (At left) ends is same refused = λ are.
     let all = subst AreBytes same are in
     refused_next first second bytes front rest left ends (is (are_bytes_front front rest all)) same (refused (are_bytes_behind front rest all))
 
 -- behind some of so many texts
-pub stop_texts : (i n all : ℕ) (text : List ℕ → Type 0) (bytes front rest : List ℕ) (stop : Stop) → all ≡ i + n → Ends text → AreTexts i text front → bytes ≡ front ++ rest → IsStop (AreTexts n text) rest stop → IsStop (AreTexts all text) bytes stop
+pub stop_texts : (i n all : ℕ) (text : List ℕ → Type 0) (bytes front rest : List ℕ) (stop : Stop) → all ≡ i + n → Ends text → AreTexts i text front → bytes ≡ front ++ rest
+    → IsStop (AreTexts n text) rest stop → IsStop (AreTexts all text) bytes stop
 stop_texts zero n all text bytes front rest stop sum ends are same refused =
     let count : n ≡ all = omega (arith, sum) in
     let bytes_are : bytes ≡ rest = same ∙ ap (λ (xs : List ℕ). xs ++ rest) are in

@@ -70,7 +70,8 @@ pub stop_tree_count : (version : ℕ) (bytes : List ℕ) (stop : Stop) → IsSto
 stop_tree_count version bytes stop refused =
     stop_first IsNodeCount (λ count. AreTexts (from_be_bytes w32 count) (IsNode version)) bytes stop (tree_goes_on version) refused
 
-pub stop_tree_nodes : (version count : ℕ) (bytes rest : List ℕ) (stop : Stop) → 1 ≤ count → count ≤ 1048576 → bytes ≡ to_be_bytes w32 count ++ rest → IsStop (AreTexts count (IsNode version)) rest stop → IsStop (IsTree version) bytes stop
+pub stop_tree_nodes : (version count : ℕ) (bytes rest : List ℕ) (stop : Stop) → 1 ≤ count → count ≤ 1048576 → bytes ≡ to_be_bytes w32 count ++ rest
+    → IsStop (AreTexts count (IsNode version)) rest stop → IsStop (IsTree version) bytes stop
 stop_tree_nodes version count bytes rest stop some few same refused =
     let count_is : from_be_bytes w32 (to_be_bytes w32 count) ≡ count = from_be_bytes-to_be_bytes_4 count (omega (arith, few)) in
     stop_next IsNodeCount (λ c. AreTexts (from_be_bytes w32 c) (IsNode version)) bytes (to_be_bytes w32 count) rest stop ends_node_count (node_count_text count some few) same
@@ -103,17 +104,20 @@ pub stop_numbers : (bytes rest : List ℕ) (version : ℕ) (stop : Stop) → Has
 stop_numbers bytes rest version stop head refused =
     behind_version bytes rest version stop head (stop_first (IsBlock 16) (λ _. AfterNumbers (version ∷ [])) rest stop (λ _ _. some_after_numbers (version ∷ [])) refused)
 
-behind_numbers : (bytes rest numbers left : List ℕ) (version : ℕ) (stop : Stop) → HasHead bytes rest version → length numbers ≡ 16 → rest ≡ numbers ++ left → IsStop (AfterNumbers (version ∷ [])) left stop → IsStop IsText bytes stop
+behind_numbers : (bytes rest numbers left : List ℕ) (version : ℕ) (stop : Stop) → HasHead bytes rest version → length numbers ≡ 16 → rest ≡ numbers ++ left
+    → IsStop (AfterNumbers (version ∷ [])) left stop → IsStop IsText bytes stop
 behind_numbers bytes rest numbers left version stop head size same refused =
     behind_version bytes rest version stop head
     (stop_next_bytes (IsBlock 16) (λ _. AfterNumbers (version ∷ [])) rest numbers left stop (ends_block 16) (λ are. record { size = size; are_bytes = are }) same refused)
 
-pub stop_choice : (bytes rest numbers left : List ℕ) (version : ℕ) (stop : Stop) → HasHead bytes rest version → length numbers ≡ 16 → rest ≡ numbers ++ left → IsStop IsChoice left stop → IsStop IsText bytes stop
+pub stop_choice : (bytes rest numbers left : List ℕ) (version : ℕ) (stop : Stop) → HasHead bytes rest version → length numbers ≡ 16 → rest ≡ numbers ++ left → IsStop IsChoice left stop
+    → IsStop IsText bytes stop
 stop_choice bytes rest numbers left version stop head size same refused =
     behind_numbers bytes rest numbers left version stop head size same
     (stop_first IsChoice (λ _. IsTree version) left stop (λ _ _. some_tree version) refused)
 
-pub stop_tree : (bytes rest numbers left choice last : List ℕ) (version : ℕ) (stop : Stop) → HasHead bytes rest version → length numbers ≡ 16 → rest ≡ numbers ++ left → length choice < 2 ^ 32 → left ≡ to_be_bytes w32 (length choice) ++ (choice ++ last)
+pub stop_tree : (bytes rest numbers left choice last : List ℕ) (version : ℕ) (stop : Stop) → HasHead bytes rest version → length numbers ≡ 16 → rest ≡ numbers ++ left
+    → length choice < 2 ^ 32 → left ≡ to_be_bytes w32 (length choice) ++ (choice ++ last)
     → IsStop (IsTree version) last stop → IsStop IsText bytes stop
 stop_tree bytes rest numbers left choice last version stop head size same few left_is refused =
     let count : List ℕ = to_be_bytes w32 (length choice) in

@@ -22,7 +22,8 @@ pub record HasRead (version : ℕ) (start rest : List ℕ) (nodes : List Node) (
 pub read_none : (version : ℕ) (start : List ℕ) → HasRead version start start [] 0
 read_none version start = record { count = refl; stand = tt; bytes = refl }
 
-pub read_more : (version : ℕ) (start rest left : List ℕ) (nodes : List Node) (i : ℕ) (node : Node) → HasRead version start rest nodes i → MayStand version node → rest ≡ bytes_of_node node ++ left → HasRead version start left (nodes ++ node ∷ []) (i + 1)
+pub read_more : (version : ℕ) (start rest left : List ℕ) (nodes : List Node) (i : ℕ) (node : Node) → HasRead version start rest nodes i → MayStand version node
+    → rest ≡ bytes_of_node node ++ left → HasRead version start left (nodes ++ node ∷ []) (i + 1)
 read_more version start rest left nodes i node read stands next = record {
   count = length_push nodes node ∙ ap (λ (n : ℕ). n + 1) read.count;
   stand = AllByRecursion-push (MayStand version) nodes node read.stand stands;
@@ -34,8 +35,10 @@ read_more version start rest left nodes i node read stands next = record {
       ∙ ap (λ (xs : List ℕ). xs ++ left) (sym (flat_map-append bytes_of_node nodes (node ∷ [])));
 }
 
-pub stop_nodes : (version count i : ℕ) (start rest : List ℕ) (nodes : List Node) (stop : Stop) → HasRead version start rest nodes i → i < count → IsStop (IsNode version) rest stop → IsStop (AreTexts count (IsNode version)) start stop
+pub stop_nodes : (version count i : ℕ) (start rest : List ℕ) (nodes : List Node) (stop : Stop) → HasRead version start rest nodes i → i < count → IsStop (IsNode version) rest stop
+    → IsStop (AreTexts count (IsNode version)) start stop
 stop_nodes version count i start rest nodes stop read more refused =
     let left : ℕ = count - i - 1 in
     let first : IsStop (AreTexts (suc left) (IsNode version)) rest stop = stop_first (IsNode version) (λ _ xs. AreTexts left (IsNode version) xs) rest stop (λ _ _. some_nodes left version) refused in
-    stop_texts (length nodes) (suc left) count (IsNode version) start (flat_map bytes_of_node nodes) rest stop (omega (arith, more, read.count)) (ends_node version) (nodes_text version nodes read.stand) read.bytes first
+    stop_texts (length nodes) (suc left) count (IsNode version) start (flat_map bytes_of_node nodes) rest stop (omega (arith, more, read.count)) (ends_node version)
+    (nodes_text version nodes read.stand) read.bytes first

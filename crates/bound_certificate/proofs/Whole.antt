@@ -1,5 +1,38 @@
 -- Texts of certificates, and the certificates of texts.
-use Rattle.std.proofs.Common.{◌≡◌, ◌≢◌, ℕ, zero, suc, ◌+◌, ◌*◌, ◌^◌, ◌<◌, ◌≤◌, ◌⊎◌, inl, inr, List, [], ◌∷◌, ◌++◌, length, get_or, take, drop, slice_index, refl, sym, ap, ap₂, subst, ◌∙◌, arith, lit<, length-append, append_assoc}
+use Rattle.std.proofs.Common.{
+  ◌≡◌,
+  ◌≢◌,
+  ℕ,
+  zero,
+  suc,
+  ◌+◌,
+  ◌*◌,
+  ◌^◌,
+  ◌<◌,
+  ◌≤◌,
+  ◌⊎◌,
+  inl,
+  inr,
+  List,
+  [],
+  ◌∷◌,
+  ◌++◌,
+  length,
+  get_or,
+  take,
+  drop,
+  slice_index,
+  refl,
+  sym,
+  ap,
+  ap₂,
+  subst,
+  ◌∙◌,
+  arith,
+  lit<,
+  length-append,
+  append_assoc,
+}
 use Rattle.std.specs.List.{flat_map, AllByRecursion}
 use Rattle.std.specs.Int.{w32, w64, to_be_bytes, from_be_bytes}
 use Rattle.std.proofs.lemmas.List.{append-nil}
@@ -33,13 +66,19 @@ AfterMark = Then (IsByte 1 2) AfterVersion
 
 pub mark_text : IsMark mark
 mark_text = record {
-  front = 0x52 ∷ []; behind = 0x4D ∷ 0x58 ∷ 0x43 ∷ []; joined = refl;
+  front = 0x52 ∷ [];
+  behind = 0x4D ∷ 0x58 ∷ 0x43 ∷ [];
+  joined = refl;
   first_is = is_byte 0x52 0x52 0x52 (omega arith) (omega arith) (lit< tt);
   second_is = record {
-    front = 0x4D ∷ []; behind = 0x58 ∷ 0x43 ∷ []; joined = refl;
+    front = 0x4D ∷ [];
+    behind = 0x58 ∷ 0x43 ∷ [];
+    joined = refl;
     first_is = is_byte 0x4D 0x4D 0x4D (omega arith) (omega arith) (lit< tt);
     second_is = record {
-      front = 0x58 ∷ []; behind = 0x43 ∷ []; joined = refl;
+      front = 0x58 ∷ [];
+      behind = 0x43 ∷ [];
+      joined = refl;
       first_is = is_byte 0x58 0x58 0x58 (omega arith) (omega arith) (lit< tt);
       second_is = is_byte 0x43 0x43 0x43 (omega arith) (omega arith) (lit< tt);
     };
@@ -55,7 +94,8 @@ choice_text choice few are = record {
   second_is = record { size = sym (from_be_bytes-to_be_bytes_4 (length choice) few); are_bytes = are };
 }
 
-pub tree_text : (version : ℕ) (nodes : List Node) → 1 ≤ length nodes → length nodes ≤ 1048576 → AllByRecursion (MayStand version) nodes → IsTree version (to_be_bytes w32 (length nodes) ++ flat_map bytes_of_node nodes)
+pub tree_text : (version : ℕ) (nodes : List Node) → 1 ≤ length nodes → length nodes ≤ 1048576 → AllByRecursion (MayStand version) nodes
+    → IsTree version (to_be_bytes w32 (length nodes) ++ flat_map bytes_of_node nodes)
 tree_text version nodes some few stand =
     let count : from_be_bytes w32 (to_be_bytes w32 (length nodes)) ≡ length nodes = from_be_bytes-to_be_bytes_4 (length nodes) (omega (arith, few)) in
     record {
@@ -111,18 +151,26 @@ cert_text cert is =
 choice_of_text : (bytes : List ℕ) → IsChoice bytes → (choice : List ℕ) × (length choice < 2 ^ 32) × AreBytes choice × (bytes ≡ to_be_bytes w32 (length choice) ++ choice)
 choice_of_text bytes text =
     let count = number_4 text.front text.first_is in
-    let size : length text.behind ≡ count.0 = text.second_is.size ∙ ap (from_be_bytes w32) count.2 ∙ from_be_bytes-to_be_bytes_4 count.0 count.1 in
-    (text.behind, omega (arith, size, count.1), text.second_is.are_bytes,
-      text.joined ∙ ap (λ (xs : List ℕ). xs ++ text.behind) (count.2 ∙ ap (λ (n : ℕ). to_be_bytes w32 n) (sym size)))
+    let size : length text.behind ≡ count.0 = text.second_is.size ∙ ap (from_be_bytes w32) count.2 ∙ from_be_bytes-to_be_bytes_4 count.0 count.1 in (
+      text.behind,
+      omega (arith, size, count.1),
+      text.second_is.are_bytes,
+      text.joined ∙ ap (λ (xs : List ℕ). xs ++ text.behind) (count.2 ∙ ap (λ (n : ℕ). to_be_bytes w32 n) (sym size)),
+    )
 
-tree_of_text : (version : ℕ) (bytes : List ℕ) → IsTree version bytes → (nodes : List Node) × (1 ≤ length nodes) × (length nodes ≤ 1048576) × AllByRecursion (MayStand version) nodes × (bytes ≡ to_be_bytes w32 (length nodes) ++ flat_map bytes_of_node nodes)
+tree_of_text : (version : ℕ) (bytes : List ℕ) → IsTree version bytes
+    → (nodes : List Node) × (1 ≤ length nodes) × (length nodes ≤ 1048576) × AllByRecursion (MayStand version) nodes × (bytes ≡ to_be_bytes w32 (length nodes) ++ flat_map bytes_of_node nodes)
 tree_of_text version bytes text =
     let count = count_of_text text.front text.first_is in
     let count_is : from_be_bytes w32 text.front ≡ count.0 = ap (from_be_bytes w32) count.3 ∙ from_be_bytes-to_be_bytes_4 count.0 (omega (arith, count.2)) in
     let texts : AreTexts count.0 (IsNode version) text.behind = subst (λ (n : ℕ). AreTexts n (IsNode version) text.behind) count_is text.second_is in
-    let nodes = nodes_of_text version count.0 text.behind texts in
-    (nodes.0, omega (arith, nodes.1, count.1), omega (arith, nodes.1, count.2), nodes.2,
-      text.joined ∙ ap₂ (λ (a b : List ℕ). a ++ b) (count.3 ∙ ap (λ (n : ℕ). to_be_bytes w32 n) (sym nodes.1)) nodes.3)
+    let nodes = nodes_of_text version count.0 text.behind texts in (
+      nodes.0,
+      omega (arith, nodes.1, count.1),
+      omega (arith, nodes.1, count.2),
+      nodes.2,
+      text.joined ∙ ap₂ (λ (a b : List ℕ). a ++ b) (count.3 ∙ ap (λ (n : ℕ). to_be_bytes w32 n) (sym nodes.1)) nodes.3,
+    )
 
 mark_is : (bytes : List ℕ) → IsMark bytes → bytes ≡ mark
 mark_is bytes text =
@@ -162,8 +210,7 @@ cert_of_text bytes text =
     let rest : numbers.second_is.front ++ numbers.second_is.behind ≡ to_be_bytes w32 (length choice.0) ++ (choice.0 ++ nodes_are) =
     ap₂ (λ (a b : List ℕ). a ++ b) choice.3 nodes.4 ∙ append_assoc (to_be_bytes w32 (length choice.0)) choice.0 nodes_are in
     let behind : text.second_is.behind ≡ to_be_bytes w64 bound.0 ++ (to_be_bytes w64 distortion.0 ++ (to_be_bytes w32 (length choice.0) ++ (choice.0 ++ nodes_are))) =
-    numbers.joined ∙ ap₂ (λ (a b : List ℕ). a ++ b) numbers_are (numbers.second_is.joined ∙ rest) in
-    (
+    numbers.joined ∙ ap₂ (λ (a b : List ℕ). a ++ b) numbers_are (numbers.second_is.joined ∙ rest) in (
       cert,
       record {
         version = one_or_two version version_text.allows.0 version_text.allows.1;
@@ -194,7 +241,8 @@ one_cert a b first second same =
     let choice_a : List ℕ = to_be_bytes w32 (length a.choice) ++ (a.choice ++ nodes_a) in
     let choice_b : List ℕ = to_be_bytes w32 (length b.choice) ++ (b.choice ++ nodes_b) in
     let version : a.version ≡ b.version = ap (λ (xs : List ℕ). get_or xs 4 0) same in
-    let numbers : to_be_bytes w64 a.bound ++ (to_be_bytes w64 a.distortion ++ choice_a) ≡ to_be_bytes w64 b.bound ++ (to_be_bytes w64 b.distortion ++ choice_b) = ap (λ (xs : List ℕ). drop 5 xs) same in
+    let numbers : to_be_bytes w64 a.bound ++ (to_be_bytes w64 a.distortion ++ choice_a) ≡ to_be_bytes w64 b.bound ++ (to_be_bytes w64 b.distortion ++ choice_b) = ap
+    (λ (xs : List ℕ). drop 5 xs) same in
     let bounds = same_parts (to_be_bytes w64 a.bound) (to_be_bytes w64 a.distortion ++ choice_a) (to_be_bytes w64 b.bound) (to_be_bytes w64 b.distortion ++ choice_b) numbers refl in
     let distortions = same_parts (to_be_bytes w64 a.distortion) choice_a (to_be_bytes w64 b.distortion) choice_b bounds.1 refl in
     let counts = same_parts (to_be_bytes w32 (length a.choice)) (a.choice ++ nodes_a) (to_be_bytes w32 (length b.choice)) (b.choice ++ nodes_b) distortions.1 refl in
@@ -250,7 +298,8 @@ stop_behind bytes rest cert is same some = λ are. (
   where
     longer_than : IsCert cert → (other : Cert) (more : List ℕ) → IsCert other → spelling other ≡ spelling cert ++ more → 0 < length more → ⊥
     longer_than cert_is other more other_is spelled some_more =
-        let size : length (spelling other) ≡ length (spelling cert) = ends_text (spelling other) (spelling cert) [] more (append-nil (spelling other) ∙ spelled) (cert_text other other_is) (cert_text cert cert_is) in
+        let size : length (spelling other) ≡ length (spelling cert) = ends_text (spelling other) (spelling cert) [] more (append-nil (spelling other) ∙ spelled) (cert_text other other_is)
+        (cert_text cert cert_is) in
         omega (arith, size, ap length spelled, length-append (spelling cert) more, some_more)
 
 -- a certificate that isn't too long has few units

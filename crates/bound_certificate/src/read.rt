@@ -43,7 +43,9 @@ fn read_within(alloc: Global, bytes: &[u8]) -> Result<Cert, CertFormat>
 {
     match read_whole(alloc, bytes) {
         Ok(cert) => Ok(cert),
-        Err(Stop::At { left }) => Err(CertFormat::CertSyntax(bytes.len().saturating_sub(left) as u64)),
+        Err(Stop::At { left }) => Err(CertFormat::CertSyntax(
+            bytes.len().saturating_sub(left) as u64,
+        )),
         Err(Stop::OutOfMemory) => Err(CertFormat::OutOfMemory),
     }
 }
@@ -130,7 +132,12 @@ fn read_tree(alloc: Global, cursor: &mut Cursor<'_>, version: u8) -> Result<List
 }
 
 /// So many nodes.
-fn read_nodes(alloc: Global, cursor: &mut Cursor<'_>, version: u8, count: u32) -> Result<ListOf<Node>, Stop>
+fn read_nodes(
+    alloc: Global,
+    cursor: &mut Cursor<'_>,
+    version: u8,
+    count: u32,
+) -> Result<ListOf<Node>, Stop>
     requires { (version ≡ 1) ⊎ (version ≡ 2) }
     ensures count { IfOk result (λ nodes. length nodes ≡ count) }
     ensures stand { IfOk result (AllByRecursion (MayStand version)) }

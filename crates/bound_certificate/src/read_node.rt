@@ -57,13 +57,7 @@ fn kind_of(byte: u8, version: u8) -> Option<Kind>
 {
     match byte {
         1 => Some(Kind::Branch),
-        2 => {
-            if version == 1 {
-                Some(Kind::Dual)
-            } else {
-                None
-            }
-        }
+        2 => { if version == 1 { Some(Kind::Dual) } else { None } }
         3 => Some(Kind::Run),
         4 => Some(Kind::Open),
         5 => {

@@ -51,6 +51,9 @@ fn the_first_byte_that_no_certificate_has_is_named(rt: HostRuntime) -> Result<()
     assert_eq!(rt; fault_with(alloc, 27, 16), Some(CertFormat::CertSyntax(29)));
     assert_eq!(rt; fault_with(alloc, 32, 65), Some(CertFormat::CertSyntax(32)));
     assert_eq!(rt; fault_of(alloc, &[]), Some(CertFormat::CertSyntax(0)));
-    assert_eq!(rt; fault_of(alloc, &WITH_A_MULTIPLIER[..48]), Some(CertFormat::CertSyntax(48)));
+    assert_eq!(rt;
+        fault_of(alloc, &WITH_A_MULTIPLIER[..48]),
+        Some(CertFormat::CertSyntax(48))
+    );
     Ok(())
 }

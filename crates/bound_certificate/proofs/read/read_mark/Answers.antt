@@ -15,7 +15,7 @@ returns-in_err-byte-2-clause-stop c =
     let stop = c.in_err-byte-2.field-0.0 in
     let ok = c.in_ok-byte in
     rw (p.1, p.2) (stop_byte 0x52 0x52 ok.field-0 (λ _. MarkTwo) c.args.cursor.now c.byte.new.self stop ok.ensures.next ok.ensures.least ok.ensures.most (lit< tt)
-        (mark_two c.byte.new.self stop c.in_err-byte-2.ensures.stop))
+    (mark_two c.byte.new.self stop c.in_err-byte-2.ensures.stop))
 
 pub returns-in_err-byte-3-clause-stop : goal.returns-in_err-byte-3-clause-stop
 returns-in_err-byte-3-clause-stop c =
@@ -24,8 +24,8 @@ returns-in_err-byte-3-clause-stop c =
     let one = c.in_ok-byte in
     let two = c.in_ok-byte-2 in
     rw (p.1, p.2) (stop_byte 0x52 0x52 one.field-0 (λ _. MarkTwo) c.args.cursor.now c.byte.new.self stop one.ensures.next one.ensures.least one.ensures.most (lit< tt)
-        (stop_byte 0x4D 0x4D two.field-0 (λ _. MarkThree) c.byte.new.self c.byte-2.new.self stop two.ensures.next two.ensures.least two.ensures.most (lit< tt)
-        (mark_three c.byte-2.new.self stop c.in_err-byte-3.ensures.stop)))
+    (stop_byte 0x4D 0x4D two.field-0 (λ _. MarkThree) c.byte.new.self c.byte-2.new.self stop two.ensures.next two.ensures.least two.ensures.most (lit< tt)
+    (mark_three c.byte-2.new.self stop c.in_err-byte-3.ensures.stop)))
 
 pub returns-in_err-byte-4-clause-stop : goal.returns-in_err-byte-4-clause-stop
 returns-in_err-byte-4-clause-stop c =
@@ -35,6 +35,6 @@ returns-in_err-byte-4-clause-stop c =
     let two = c.in_ok-byte-2 in
     let three = c.in_ok-byte-3 in
     rw (p.1, p.2) (stop_byte 0x52 0x52 one.field-0 (λ _. MarkTwo) c.args.cursor.now c.byte.new.self stop one.ensures.next one.ensures.least one.ensures.most (lit< tt)
-        (stop_byte 0x4D 0x4D two.field-0 (λ _. MarkThree) c.byte.new.self c.byte-2.new.self stop two.ensures.next two.ensures.least two.ensures.most (lit< tt)
-        (stop_byte 0x58 0x58 three.field-0 (λ _. IsByte 0x43 0x43) c.byte-2.new.self c.byte-3.new.self stop three.ensures.next three.ensures.least three.ensures.most (lit< tt)
-        c.in_err-byte-4.ensures.stop)))
+    (stop_byte 0x4D 0x4D two.field-0 (λ _. MarkThree) c.byte.new.self c.byte-2.new.self stop two.ensures.next two.ensures.least two.ensures.most (lit< tt)
+    (stop_byte 0x58 0x58 three.field-0 (λ _. IsByte 0x43 0x43) c.byte-2.new.self c.byte-3.new.self stop three.ensures.next three.ensures.least three.ensures.most (lit< tt)
+    c.in_err-byte-4.ensures.stop)))

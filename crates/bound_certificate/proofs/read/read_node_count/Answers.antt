@@ -15,7 +15,7 @@ returns-in_err-second-clause-stop c =
     let stop = c.in_err-second.field-0.0 in
     let one = c.in_ok-byte in
     rw (p.1, p.2) (stop_byte 0 0 one.field-0 (λ _. AfterFirst) c.args.cursor.now c.byte.new.self stop one.ensures.next one.ensures.least one.ensures.most (lit< tt)
-        (nodes_two c.byte.new.self stop c.in_err-second.ensures.stop))
+    (nodes_two c.byte.new.self stop c.in_err-second.ensures.stop))
 
 pub returns-in_err-third-clause-stop : goal.returns-in_err-third-clause-stop
 returns-in_err-third-clause-stop c =
@@ -25,8 +25,8 @@ returns-in_err-third-clause-stop c =
     let two = c.in_ok-second in
     let refused = subst (λ (most : ℕ). IsStop (IsByte 0 most) c.byte-2.new.self stop) c.last_most-most.ensures c.in_err-third.ensures.stop in
     rw (p.1, p.2) (stop_byte 0 0 one.field-0 (λ _. AfterFirst) c.args.cursor.now c.byte.new.self stop one.ensures.next one.ensures.least one.ensures.most (lit< tt)
-        (stop_byte 0 16 two.second AfterSecond c.byte.new.self c.byte-2.new.self stop two.ensures.next two.ensures.least two.ensures.most (lit< tt)
-        (nodes_three (two.second ∷ []) c.byte-2.new.self stop two.ensures.most refused)))
+    (stop_byte 0 16 two.second AfterSecond c.byte.new.self c.byte-2.new.self stop two.ensures.next two.ensures.least two.ensures.most (lit< tt)
+    (nodes_three (two.second ∷ []) c.byte-2.new.self stop two.ensures.most refused)))
 
 pub returns-in_err-fourth-clause-stop : goal.returns-in_err-fourth-clause-stop
 returns-in_err-fourth-clause-stop c =
@@ -39,6 +39,6 @@ returns-in_err-fourth-clause-stop c =
     let refused = subst (λ (m : ℕ). IsStop (IsByte c.last_least-least.result m) c.byte-3.new.self stop) c.last_most-most.ensures c.in_err-fourth.ensures.stop in
     let refused_so = subst (λ (m : ℕ). IsStop (IsByte m (last_most two.second)) c.byte-3.new.self stop) c.last_least-least.ensures refused in
     rw (p.1, p.2) (stop_byte 0 0 one.field-0 (λ _. AfterFirst) c.args.cursor.now c.byte.new.self stop one.ensures.next one.ensures.least one.ensures.most (lit< tt)
-        (stop_byte 0 16 two.second AfterSecond c.byte.new.self c.byte-2.new.self stop two.ensures.next two.ensures.least two.ensures.most (lit< tt)
-        (stop_byte 0 (last_most two.second) three.third (AfterThird (two.second ∷ [])) c.byte-2.new.self c.byte-3.new.self stop three.ensures.next three.ensures.least most (last_fits two.second)
-        refused_so)))
+    (stop_byte 0 16 two.second AfterSecond c.byte.new.self c.byte-2.new.self stop two.ensures.next two.ensures.least two.ensures.most (lit< tt)
+    (stop_byte 0 (last_most two.second) three.third (AfterThird (two.second ∷ [])) c.byte-2.new.self c.byte-3.new.self stop three.ensures.next three.ensures.least most (last_fits two.second)
+    refused_so)))

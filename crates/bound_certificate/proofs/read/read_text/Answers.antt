@@ -17,26 +17,57 @@ pub returns-in_err-numbers-clause-stop : goal.returns-in_err-numbers-clause-stop
 returns-in_err-numbers-clause-stop c =
     let p = err_from_is_err_and c.from_residual-in_err-numbers.result c.from_residual-in_err-numbers.ensures.1 in
     let version = c.in_ok-version.version in
-    let head : HasHead c.args.cursor.now c.byte.new.self version = record { behind = c.read_mark.new.cursor; mark_is = c.in_ok-read_mark.ensures.next; version_is = c.in_ok-version.ensures.next; least = c.in_ok-version.ensures.least; most = c.in_ok-version.ensures.most } in
+    let head : HasHead c.args.cursor.now c.byte.new.self version = record {
+      behind = c.read_mark.new.cursor;
+      mark_is = c.in_ok-read_mark.ensures.next;
+      version_is =
+          c.in_ok-version.ensures.next;
+      least = c.in_ok-version.ensures.least;
+      most = c.in_ok-version.ensures.most;
+    } in
     rw (p.1, p.2) (stop_numbers c.args.cursor.now c.byte.new.self version c.in_err-numbers.field-0.0 head c.in_err-numbers.ensures.stop)
 
 pub returns-in_err-choice-clause-stop : goal.returns-in_err-choice-clause-stop
 returns-in_err-choice-clause-stop c =
     let p = err_from_is_err_and c.from_residual-in_err-choice.result c.from_residual-in_err-choice.ensures.1 in
     let version = c.in_ok-version.version in
-    let head : HasHead c.args.cursor.now c.byte.new.self version = record { behind = c.read_mark.new.cursor; mark_is = c.in_ok-read_mark.ensures.next; version_is = c.in_ok-version.ensures.next; least = c.in_ok-version.ensures.least; most = c.in_ok-version.ensures.most } in
-    rw (p.1, p.2) (stop_choice c.args.cursor.now c.byte.new.self c.in_ok-numbers.numbers.now c.block.new.self version c.in_err-choice.field-0.0 head c.in_ok-numbers.ensures.size c.in_ok-numbers.ensures.next c.in_err-choice.ensures.stop)
+    let head : HasHead c.args.cursor.now c.byte.new.self version = record {
+      behind = c.read_mark.new.cursor;
+      mark_is = c.in_ok-read_mark.ensures.next;
+      version_is =
+          c.in_ok-version.ensures.next;
+      least = c.in_ok-version.ensures.least;
+      most = c.in_ok-version.ensures.most;
+    } in
+    rw (p.1, p.2) (stop_choice c.args.cursor.now c.byte.new.self c.in_ok-numbers.numbers.now c.block.new.self version c.in_err-choice.field-0.0 head c.in_ok-numbers.ensures.size
+    c.in_ok-numbers.ensures.next c.in_err-choice.ensures.stop)
 
 pub returns-in_err-nodes-clause-stop : goal.returns-in_err-nodes-clause-stop
 returns-in_err-nodes-clause-stop c =
     let p = err_from_is_err_and c.from_residual-in_err-nodes.result c.from_residual-in_err-nodes.ensures.1 in
     let version = c.in_ok-version.version in
-    let head : HasHead c.args.cursor.now c.byte.new.self version = record { behind = c.read_mark.new.cursor; mark_is = c.in_ok-read_mark.ensures.next; version_is = c.in_ok-version.ensures.next; least = c.in_ok-version.ensures.least; most = c.in_ok-version.ensures.most } in
-    rw (p.1, p.2) (stop_tree c.args.cursor.now c.byte.new.self c.in_ok-numbers.numbers.now c.block.new.self c.in_ok-choice.choice c.read_choice.new.cursor version c.in_err-nodes.field-0.0 head c.in_ok-numbers.ensures.size c.in_ok-numbers.ensures.next c.in_ok-choice.ensures.few c.in_ok-choice.ensures.next c.in_err-nodes.ensures.stop)
+    let head : HasHead c.args.cursor.now c.byte.new.self version = record {
+      behind = c.read_mark.new.cursor;
+      mark_is = c.in_ok-read_mark.ensures.next;
+      version_is =
+          c.in_ok-version.ensures.next;
+      least = c.in_ok-version.ensures.least;
+      most = c.in_ok-version.ensures.most;
+    } in
+    rw (p.1, p.2) (stop_tree c.args.cursor.now c.byte.new.self c.in_ok-numbers.numbers.now c.block.new.self c.in_ok-choice.choice c.read_choice.new.cursor version c.in_err-nodes.field-0.0
+    head c.in_ok-numbers.ensures.size c.in_ok-numbers.ensures.next c.in_ok-choice.ensures.few c.in_ok-choice.ensures.next c.in_err-nodes.ensures.stop)
 
 pub returns-clause-cert : goal.returns-clause-cert
 returns-clause-cert c =
     let version = c.in_ok-version.version in
-    let head : HasHead c.args.cursor.now c.byte.new.self version = record { behind = c.read_mark.new.cursor; mark_is = c.in_ok-read_mark.ensures.next; version_is = c.in_ok-version.ensures.next; least = c.in_ok-version.ensures.least; most = c.in_ok-version.ensures.most } in
-    λ are. cert_in c.args.cursor.now c.byte.new.self c.in_ok-numbers.numbers.now c.block.new.self c.read_choice.new.cursor _ head (omega (arith, c.number_at.type_inv)) (omega (arith, c.number_at-2.type_inv))
+    let head : HasHead c.args.cursor.now c.byte.new.self version = record {
+      behind = c.read_mark.new.cursor;
+      mark_is = c.in_ok-read_mark.ensures.next;
+      version_is =
+          c.in_ok-version.ensures.next;
+      least = c.in_ok-version.ensures.least;
+      most = c.in_ok-version.ensures.most;
+    } in
+    λ are. cert_in c.args.cursor.now c.byte.new.self c.in_ok-numbers.numbers.now c.block.new.self c.read_choice.new.cursor _ head (omega (arith, c.number_at.type_inv))
+    (omega (arith, c.number_at-2.type_inv))
     c.in_ok-numbers.ensures.next c.in_ok-choice.ensures.few c.in_ok-choice.ensures.next c.in_ok-nodes.ensures.some c.in_ok-nodes.ensures.few c.in_ok-nodes.ensures.stand are

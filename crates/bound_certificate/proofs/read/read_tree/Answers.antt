@@ -14,5 +14,5 @@ returns-clause-stop c =
     let count = c.in_ok-count.count in
     let middle = c.read_node_count.new.cursor in
     if_err_more c.read_nodes.result (IsStop (AreTexts count (IsNode c.args.version)) middle) (IsStop (IsTree c.args.version) c.args.cursor.now)
-        (λ stop. stop_tree_nodes c.args.version count c.args.cursor.now middle stop c.in_ok-count.ensures.some c.in_ok-count.ensures.few c.in_ok-count.ensures.next)
-        c.read_nodes.ensures.stop
+    (λ stop. stop_tree_nodes c.args.version count c.args.cursor.now middle stop c.in_ok-count.ensures.some c.in_ok-count.ensures.few c.in_ok-count.ensures.next)
+    c.read_nodes.ensures.stop

@@ -12,7 +12,8 @@ returns-in_err-block-in-Branch-clause-stop c =
 pub returns-in_err-read_multipliers-in-Dual-clause-stop : goal.returns-in_err-read_multipliers-in-Dual-clause-stop
 returns-in_err-read_multipliers-in-Dual-clause-stop c =
     let p = err_from_is_err_and c.from_residual-in_err-read_multipliers-in-Dual.result c.from_residual-in_err-read_multipliers-in-Dual.ensures.1 in
-    rw (p.1, p.2) (subst (λ (kind : Kind). IsStop (IsBody (code_of kind)) c.args.cursor.now c.in_err-read_multipliers-in-Dual.field-0.0) (sym c.in-Dual.is) c.in_err-read_multipliers-in-Dual.ensures.stop)
+    rw (p.1, p.2) (subst (λ (kind : Kind). IsStop (IsBody (code_of kind)) c.args.cursor.now c.in_err-read_multipliers-in-Dual.field-0.0) (sym c.in-Dual.is)
+    c.in_err-read_multipliers-in-Dual.ensures.stop)
 
 pub returns-in_err-flag-in-Run-clause-stop : goal.returns-in_err-flag-in-Run-clause-stop
 returns-in_err-flag-in-Run-clause-stop c =
@@ -22,4 +23,5 @@ returns-in_err-flag-in-Run-clause-stop c =
 pub returns-in_err-read_windows-in-Window-clause-stop : goal.returns-in_err-read_windows-in-Window-clause-stop
 returns-in_err-read_windows-in-Window-clause-stop c =
     let p = err_from_is_err_and c.from_residual-in_err-read_windows-in-Window.result c.from_residual-in_err-read_windows-in-Window.ensures.1 in
-    rw (p.1, p.2) (subst (λ (kind : Kind). IsStop (IsBody (code_of kind)) c.args.cursor.now c.in_err-read_windows-in-Window.field-0.0) (sym c.in-Window.is) c.in_err-read_windows-in-Window.ensures.stop)
+    rw (p.1, p.2) (subst (λ (kind : Kind). IsStop (IsBody (code_of kind)) c.args.cursor.now c.in_err-read_windows-in-Window.field-0.0) (sym c.in-Window.is)
+    c.in_err-read_windows-in-Window.ensures.stop)

@@ -14,4 +14,4 @@ returns-in_err-count-clause-stop c =
     let p = err_from_is_err_and c.from_residual-in_err-count.result c.from_residual-in_err-count.ensures.1 in
     let one = c.in_ok-byte in
     rw (p.1, p.2) (stop_byte 0 0 one.field-0 (λ _. IsByte 0 64) c.args.cursor.now c.byte.new.self c.in_err-count.field-0.0 one.ensures.next one.ensures.least one.ensures.most (lit< tt)
-        c.in_err-count.ensures.stop)
+    c.in_err-count.ensures.stop)

@@ -10,4 +10,5 @@ returns-in_err-count-clause-stop c =
 pub returns-in_err-block-clause-stop : goal.returns-in_err-block-clause-stop
 returns-in_err-block-clause-stop c =
     let p = err_from_is_err_and c.from_residual-in_err-block.result c.from_residual-in_err-block.ensures.1 in
-    rw (p.1, p.2) (stop_items 16 c.in_ok-count.count c.args.cursor.now c.read_count.new.cursor c.in_err-block.field-0.0 c.in_ok-count.ensures.few c.in_ok-count.ensures.next c.in_err-block.ensures.stop)
+    rw (p.1, p.2) (stop_items 16 c.in_ok-count.count c.args.cursor.now c.read_count.new.cursor c.in_err-block.field-0.0 c.in_ok-count.ensures.few c.in_ok-count.ensures.next
+    c.in_err-block.ensures.stop)

@@ -14,5 +14,5 @@ returns-clause-stop c =
     let kind = c.in_ok-kind.kind in
     let middle = c.read_kind.new.cursor in
     if_err_more c.read_body.result (IsStop (IsBody (code_of kind)) middle) (IsStop (IsNode c.args.version) c.args.cursor.now)
-        (λ stop. stop_node_body c.args.version (code_of kind) c.args.cursor.now middle stop c.in_ok-kind.ensures.kind (code_fits kind) c.in_ok-kind.ensures.next)
-        c.read_body.ensures.stop
+    (λ stop. stop_node_body c.args.version (code_of kind) c.args.cursor.now middle stop c.in_ok-kind.ensures.kind (code_fits kind) c.in_ok-kind.ensures.next)
+    c.read_body.ensures.stop

@@ -13,6 +13,7 @@ pub returns-then-byte-least-clause-stop : goal.returns-then-byte-least-clause-st
 returns-then-byte-least-clause-stop c = λ are.
     let view : c.args.self.now ≡ c.self.inside.rest.now = search rules in
     let same : c.self.inside.rest.now ≡ c.in-Some.byte.now ∷ c.in-Some.behind.now = c.in-Some.ensures.cases.0 in
-    bad_byte (λ byte. (c.args.least ≤ byte) × (byte ≤ c.args.most)) c.args.self.now c.in-Some.byte.now c.in-Some.behind.now (length c.self.inside.rest.now) c.args.least (omega arith, c.requires) c.ranges.least.fits
-        (view ∙ same) (ap length (sym view))
-        (λ both. ⊎_elim (λ low. absurd (omega (arith, low, both.0))) (λ high. absurd (omega (arith, high, both.1))) c.then-byte-least.either)
+    bad_byte (λ byte. (c.args.least ≤ byte) × (byte ≤ c.args.most)) c.args.self.now c.in-Some.byte.now c.in-Some.behind.now (length c.self.inside.rest.now) c.args.least
+    (omega arith, c.requires) c.ranges.least.fits
+    (view ∙ same) (ap length (sym view))
+    (λ both. ⊎_elim (λ low. absurd (omega (arith, low, both.0))) (λ high. absurd (omega (arith, high, both.1))) c.then-byte-least.either)

@@ -1,0 +1,16 @@
+//! Certificates checked: whether the tree of a certificate shows its bound, or the first fault that it has.
+//!
+//! A doubter needs the table and the certificate, and not the search that made it: each node is worked out again. Stands on
+//! `bound_certificate`, `dual_bounds`, `slot_rule` and `version_table`.
+#![tactic(auto)]
+
+mod checker;
+mod faults;
+pub mod laws;
+mod path;
+mod places;
+mod walk;
+mod why;
+
+pub use checker::{CheckRoom, check};
+pub use why::{CertFault, Why};
