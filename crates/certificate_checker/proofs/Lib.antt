@@ -1,4 +1,3 @@
+pub mod Examples
 pub mod Outcomes
-pub mod Paths
 pub mod Soundness
-pub mod Units

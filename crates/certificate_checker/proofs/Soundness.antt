@@ -82,7 +82,8 @@ windows_bound_least : (table : Table) (n : ℕ) (fixed : List (Option ℕ)) (nod
 windows_bound_least table n fixed node valid most choice fits takes scheduled =
     omega (arith, most, windows_bound table fixed (windows_in node) valid choice fits takes scheduled)
 
-run_bounds : (table : Table) (n : ℕ) (fixed : List (Option ℕ)) (scheduled : Bool) → IsRight table fixed (Run scheduled) → IsAtMost n (bound_of_run table (choice_left fixed) scheduled) → IsBound table fixed n
+run_bounds : (table : Table) (n : ℕ) (fixed : List (Option ℕ)) (scheduled : Bool) → IsRight table fixed (Run scheduled) → IsAtMost n (bound_of_run table (choice_left fixed) scheduled)
+    → IsBound table fixed n
 run_bounds table n fixed true right most choice fits takes scheduled =
     let left : choice ≡ choice_left fixed = one_left (units_of table) fixed choice right.0 fits takes in
     subst (λ (c : List ℕ). n ≤ distortion_of_choice table c) (sym left) most

@@ -1,5 +1,4 @@
 pub mod Checked
 pub mod Faults
-pub mod Private
 pub mod Shown
 pub mod Walk
