@@ -1,0 +1,11 @@
+pub mod Heads
+pub mod NodeKinds
+pub mod NodeParts
+pub mod Numbers
+pub mod Parts
+pub mod Readings
+pub mod Records
+pub mod Refusals
+pub mod TextParts
+pub mod TreeParts
+pub mod Whole

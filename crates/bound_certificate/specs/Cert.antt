@@ -1,0 +1,50 @@
+-- Which records are certificates.
+use Rattle.std.specs.Prelude.{◌≡◌, ℕ, ◌^◌, ◌<◌, ◌≤◌, ◌⊎◌, length}
+use Rattle.std.specs.List.{AllByRecursion}
+use Rattle.bit_lists.specs.Fields.{AreBytes}
+use Rattle.version_table.specs.declared.limits.TheConstants.{NODES_MOST}
+use Rattle.dual_bounds.specs.declared.constants.TheConstants.{WINDOWS_MOST}
+use Rattle.dual_bounds.specs.declared.windows.Multiplier.{Multiplier}
+use Rattle.dual_bounds.specs.declared.windows.Window.{Window as PricedWindow}
+use Rattle.bound_certificate.specs.declared.cert.Node.{Node}
+use Rattle.bound_certificate.specs.declared.cert.Node.TheVariants.{Branch, Dual, Run, Open, Window}
+use Rattle.bound_certificate.specs.declared.cert.Cert.{Cert}
+
+-- the numbers of a multiplier are below 2^64
+abbrev pub IsStatedMultiplier : Multiplier → Type 0
+IsStatedMultiplier multiplier = (multiplier.due < 2 ^ 64) × (multiplier.lambda < 2 ^ 64)
+
+-- the numbers of a window are below 2^64
+abbrev pub IsStatedWindow : PricedWindow → Type 0
+IsStatedWindow window = (window.from < 2 ^ 64) × (window.due < 2 ^ 64) × (window.lambda < 2 ^ 64)
+
+-- multipliers stand in version 1 alone and windows in version 2 alone; the other nodes stand in both
+abbrev pub IsOfVersion : (version : ℕ) → Node → Type 0
+IsOfVersion version (Branch unit) = Unit {0}
+IsOfVersion version (Dual priced) = version ≡ 1
+IsOfVersion version (Run scheduled) = Unit {0}
+IsOfVersion version Open = Unit {0}
+IsOfVersion version (Window priced) = version ≡ 2
+
+-- the numbers of a node have room in its bytes, and it has up to 64 multipliers or windows
+abbrev pub HasRoom : Node → Type 0
+HasRoom (Branch unit) = unit < 2 ^ 32
+HasRoom (Dual priced) = (length priced.items ≤ WINDOWS_MOST) × AllByRecursion IsStatedMultiplier priced.items
+HasRoom (Run scheduled) = Unit {0}
+HasRoom Open = Unit {0}
+HasRoom (Window priced) = (length priced.items ≤ WINDOWS_MOST) × AllByRecursion IsStatedWindow priced.items
+
+-- a node that may stand in a certificate of this version
+abbrev pub MayStand : (version : ℕ) → Node → Type 0
+MayStand version node = IsOfVersion version node × HasRoom node
+
+-- a certificate: of version 1 or 2, with 1 to 1,048,576 nodes of that version, and numbers that have room in their bytes
+pub record IsCert (cert : Cert) : Type 0 where
+  pub version : (cert.version ≡ 1) ⊎ (cert.version ≡ 2)
+  pub bound : cert.bound < 2 ^ 64
+  pub distortion : cert.distortion < 2 ^ 64
+  pub few_units : length cert.choice < 2 ^ 32
+  pub choice : AreBytes cert.choice
+  pub some_nodes : 1 ≤ length cert.nodes
+  pub few_nodes : length cert.nodes ≤ NODES_MOST
+  pub nodes : AllByRecursion (MayStand cert.version) cert.nodes

@@ -1,0 +1,4 @@
+pub mod Cert
+pub mod Private
+pub mod Reading
+pub mod Spelling

@@ -1,0 +1,5 @@
+use Rattle.certificate_checker.proofs.Outcomes.{one_fault}
+use Rattle.certificate_checker.proofs.laws.first_fault_is_one.Goals as goal
+
+pub returns : goal.returns
+returns c = one_fault

@@ -1,0 +1,4 @@
+pub mod Checked
+pub mod Faults
+pub mod Shown
+pub mod Walk
