@@ -7,10 +7,12 @@ mod changes;
 pub mod constants;
 mod lambda;
 mod lists;
+mod relaxed;
 mod single;
 mod turns;
 mod window;
 
+pub use relaxed::relaxation;
 pub use single::best_single;
 pub use turns::{improve, improve_windows};
 pub use window::best_window;

@@ -1,6 +1,7 @@
-ghost use Rattle.std.specs.Prelude.{◌≡◌, ◌<◌, ◌≤◌, length, map, slice_set, IsTrue, ◌↔◌};
+ghost use Rattle.std.specs.Prelude.{◌≡◌, ◌<◌, ◌≤◌, length, map, slice_index_or, slice_set, false, IsTrue, ◌↔◌};
 ghost use Rattle.std.specs.List.{insert};
 ghost use Rattle.dual_bounds.specs.declared.constants.TheConstants.{WINDOWS_MOST};
+ghost use Rattle.dual_bounds.specs.declared.windows.Window.{Window};
 ghost use Rattle.dual_bounds.specs.Values.{from_start};
 ghost use Rattle.multiplier_search.specs.Windows.{Precedes};
 ghost use Rattle.multiplier_search.specs.Private.Turns.{AreFromStart, IsPlace};
@@ -50,6 +51,13 @@ pub fn place_of(windows: &[Window], window: Window) -> usize
         place += 1;
     }
     place
+}
+
+/// Whether the window at this place isn't preceded by another one.
+pub fn is_taken(windows: &[Window], place: usize, window: Window) -> bool
+    ensures { result ≡ false → (d : Window) → place < length windows.now → Precedes window (slice_index_or windows.now place d) }
+{
+    place < windows.len() && !precedes(window, windows[place])
 }
 
 /// Whether a window ends before another, or with it and begins before it.

@@ -1,5 +1,5 @@
-use crate::{best_single, best_window};
-use dual_bounds::{Multiplier, Window, nothing_fixed};
+use crate::{best_single, best_window, improve, improve_windows, relaxation};
+use dual_bounds::{Multiplier, Window, Windows, nothing_fixed, window_value};
 use std::alloc::Global;
 use std::process::Abort;
 use std::test::Fail;
@@ -70,5 +70,49 @@ fn a_window_that_ends_late_bounds_what_no_multiplier_does(rt: HostRuntime) -> Re
         lambda: 20,
     };
     assert_eq!(rt; found.as_slice().first().copied(), Some(best));
+    Ok(())
+}
+
+#[test]
+fn a_turn_adds_the_second_multiplier_of_three_units(rt: HostRuntime) -> Result<(), Fail> {
+    let text =
+        b"remux table 1\nslot 4000\nnodes 1\nevaluations 0\nprogram 112\nunit 27200 552:0 368:10\nunit 43200 552:0 368:4\nunit 47200 552:0 368:4\n";
+    let table = read_table(rt.alloc(), text)?;
+    let fixed = nothing_fixed(rt.alloc(), &table)?;
+    let start = best_single(&table, &fixed)?;
+    let found = improve(rt.alloc(), &table, &fixed, &start, 1)?;
+    let first = Multiplier {
+        due: 27_200,
+        lambda: 2_560,
+    };
+    let second = Multiplier {
+        due: 47_200,
+        lambda: 1_024,
+    };
+    assert_eq!(rt; found.as_slice().first().copied(), Some(first));
+    assert_eq!(rt; found.as_slice().get(1).copied(), Some(second));
+    assert_eq!(rt; found.len(), 2);
+    let relaxed = relaxation(rt.alloc(), &table, &fixed, &Windows::new())?;
+    assert_eq!(rt; window_value(&table, &fixed, relaxed.as_slice()), 3_584);
+    Ok(())
+}
+
+#[test]
+fn a_turn_finds_the_lambda_of_a_window(rt: HostRuntime) -> Result<(), Fail> {
+    let text =
+        b"remux table 1\nslot 40000\nnodes 1\nevaluations 0\nprogram 112\nunit 54000000 115000:0 92000:10\n";
+    let table = read_table(rt.alloc(), text)?;
+    let fixed = nothing_fixed(rt.alloc(), &table)?;
+    let best = Window {
+        from: 54_000_000,
+        due: 54_000_000,
+        lambda: 20,
+    };
+    let mut start = Windows::new();
+    start.push(Window { lambda: 0, ..best });
+    let found = improve_windows(rt.alloc(), &table, &fixed, &start, 1)?;
+    assert_eq!(rt; found.as_slice().first().copied(), Some(best));
+    let relaxed = relaxation(rt.alloc(), &table, &fixed, &Windows::new())?;
+    assert_eq!(rt; relaxed.as_slice().first().copied(), Some(best));
     Ok(())
 }

@@ -1,0 +1,125 @@
+//! Searches for bounds over a table, so that the search can be measured (bench/README.md).
+//!
+//! The words are what is searched for and the name of a table's file: `read` reads the table alone, `single` finds the
+//! best single multiplier, `improve` makes ten turns from it, `window` finds the best window, `relaxation` the windows of
+//! the linear relaxation. It prints the value, the bound and how many windows there are.
+#![tactic(auto)]
+
+ghost use Rattle.version_table.specs.Table.{IsValidTable};
+
+use dual_bounds::{Windows, bound_of, dual_value, nothing_fixed, window_value};
+use list_types::OutOfMemory;
+use multiplier_search::{best_single, best_window, improve, relaxation};
+use shelf_io::{FileShelf, read_file};
+use std::alloc::Global;
+use std::{env, io};
+use version_table::{Table, read_table};
+
+/// The most bytes that are read of a file.
+const FILE_BYTES: u64 = 1 << 30;
+/// Turns of `improve`.
+const TURNS: u32 = 10;
+
+/// What a search came to.
+#[derive(Clone, Copy)]
+struct Came {
+    value: i128,
+    windows: usize,
+}
+
+fn main(rt: HostRuntime) -> io::Result<()> {
+    let mut words = Vec::new(rt.alloc());
+    for word in env::args(&rt)?.skip(1) {
+        words.push(word)?;
+    }
+    let [what, name] = words.as_slice() else {
+        return println!(rt; "bench_bounds read|single|improve|window|relaxation TABLE");
+    };
+    let mut shelf = FileShelf::new(&rt);
+    let Ok(text) = read_file(rt.alloc(), &mut shelf, name.as_str(), FILE_BYTES) else {
+        return println!(rt; "no such file");
+    };
+    let Ok(table) = read_table(rt.alloc(), text.as_slice()) else {
+        return println!(rt; "no table");
+    };
+    let Ok(came) = search(rt.alloc(), &table, what.as_str()) else {
+        return println!(rt; "out of memory");
+    };
+    println!(rt;
+        "value {}, bound {}, {} windows",
+        came.value,
+        bound_of(came.value),
+        came.windows
+    )
+}
+
+/// Searches for what the word says.
+fn search(alloc: Global, table: &Table, what: &str) -> Result<Came, OutOfMemory>
+    requires { IsValidTable table.now }
+{
+    if what == "relaxation" {
+        return relaxed(alloc, table);
+    }
+    if what == "window" {
+        return window(alloc, table);
+    }
+    if what == "improve" {
+        return turned(alloc, table);
+    }
+    if what == "single" {
+        return single(alloc, table);
+    }
+    Ok(Came {
+        value: 0,
+        windows: 0,
+    })
+}
+
+/// The windows of the relaxation.
+fn relaxed(alloc: Global, table: &Table) -> Result<Came, OutOfMemory>
+    requires { IsValidTable table.now }
+{
+    let fixed = nothing_fixed(alloc, table)?;
+    let found = relaxation(alloc, table, &fixed, &Windows::new())?;
+    Ok(Came {
+        value: window_value(table, &fixed, found.as_slice()),
+        windows: found.len(),
+    })
+}
+
+/// The best window.
+fn window(alloc: Global, table: &Table) -> Result<Came, OutOfMemory>
+    requires { IsValidTable table.now }
+{
+    let fixed = nothing_fixed(alloc, table)?;
+    let found = best_window(table, &fixed)?;
+    Ok(Came {
+        value: window_value(table, &fixed, found.as_slice()),
+        windows: found.len(),
+    })
+}
+
+/// The best single multiplier.
+fn single(alloc: Global, table: &Table) -> Result<Came, OutOfMemory>
+    requires { IsValidTable table.now }
+{
+    let fixed = nothing_fixed(alloc, table)?;
+    let found = best_single(table, &fixed)?;
+    Ok(Came {
+        value: dual_value(table, &fixed, found.as_slice()),
+        windows: found.len(),
+    })
+}
+
+/// Ten turns from the best single multiplier.
+fn turned(alloc: Global, table: &Table) -> Result<Came, OutOfMemory>
+    requires { IsValidTable table.now }
+{
+    let fixed = nothing_fixed(alloc, table)?;
+    let start = best_single(table, &fixed)?;
+    let found = improve(alloc, table, &fixed, &start, TURNS)?;
+    Ok(Came {
+        value: dual_value(table, &fixed, found.as_slice()),
+        windows: found.len(),
+    })
+}
