@@ -177,7 +177,7 @@ sound_more file pids n sound here m fault below is = elim (cases_lt m n) [
   | inr not_before ↦ (let same : m ≡ n = omega arith in here fault (subst (λ (k : ℕ). IsStreamFault file pids k fault) same is))
 ]
 
-fault_within : (file pids : List ℕ) (n : ℕ) (fault : DemuxFault) → IsStreamFault file pids n fault → n < piece_count file
+pub fault_within : (file pids : List ℕ) (n : ℕ) (fault : DemuxFault) → IsStreamFault file pids n fault → n < piece_count file
 fault_within file pids n fault (inl none) = none.0.within
 fault_within file pids n fault (inr has) = has.3.within
 

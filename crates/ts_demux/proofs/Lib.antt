@@ -10,4 +10,5 @@ pub mod Gathering
 pub mod GatherSteps
 pub mod OneStop
 pub mod OneAnswer
+pub mod SomeAnswer
 mod Examples

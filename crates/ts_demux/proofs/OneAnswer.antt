@@ -1,8 +1,7 @@
 -- A file has one answer.
-use Rattle.std.proofs.Common.{◌≡◌, ◌≢◌, ℕ, zero, suc, ◌+◌, ◌-◌, ◌*◌, ◌<◌, ◌≤◌, ◌⊎◌, inl, inr, List, [], ◌∷◌, length, map, Option, Some, None, Ok, Err, refl, sym, ap, ap₂, ◌∙◌, subst, arith}
+use Rattle.std.proofs.Common.{◌≡◌, ◌≢◌, ℕ, zero, suc, ◌+◌, ◌-◌, ◌*◌, ◌<◌, ◌≤◌, ◌⊎◌, inl, inr, List, [], ◌∷◌, length, map, Some, None, Ok, Err, refl, sym, ap, ap₂, ◌∙◌, subst, arith}
 use Rattle.stream_constants.specs.declared.packets.TheConstants.{PACKET_BYTES}
-use Rattle.ts_packets.specs.declared.pid_fault.PidFault.{PidFault}
-use Rattle.ts_packets.specs.TransportStream.{rest_of, pieces_of}
+use Rattle.ts_packets.specs.TransportStream.{pieces_of}
 use Rattle.psi_tables.specs.declared.pmt.TheConstants.{PACKET_SECTION_BYTES}
 use Rattle.psi_tables.specs.declared.program_map.ProgramMap.{ProgramMap}
 use Rattle.psi_tables.specs.declared.stream.Stream.{Stream}
@@ -15,7 +14,7 @@ use Rattle.ts_demux.specs.declared.demuxed.Demuxed.{Demuxed}
 use Rattle.ts_demux.specs.declared.demuxed.PesUnit.{PesUnit}
 use Rattle.ts_demux.specs.Faults.{of_pid}
 use Rattle.ts_demux.specs.Streams.{video_of, without_video, audios_of, others_of}
-use Rattle.ts_demux.specs.Tables.{piece, Names, IsPatSection, HasNoSync, HasPidFault, HasPat, HasProgram, NothingStops, Stop, refuse, take, StopsFirst, IsTablesFault, HasMap}
+use Rattle.ts_demux.specs.Tables.{piece, Names, IsPatSection, HasPidFault, HasPat, HasProgram, NothingStops, Stop, refuse, take, StopsFirst, IsTablesFault, HasMap}
 use Rattle.ts_demux.specs.Demux.{
   most_audios,
   IsCarriedMap,
@@ -41,13 +40,13 @@ use Rattle.ts_demux.proofs.OneStop.{one_stop, one_pid_fault, no_sync_first}
 -- ---- the tables
 
 -- why they aren't read, by what holds of the file
-data WhyNot (file : List ℕ) (program : ℕ) (fault : DemuxFault) : Type 0 where
+pub data WhyNot (file : List ℕ) (program : ℕ) (fault : DemuxFault) : Type 0 where
   no_pat : fault ≡ faults.NoPat 0 → NothingStops file program → (HasPat file → ⊥) → WhyNot file program fault
   no_program : fault ≡ faults.NoProgram 0 → NothingStops file program → HasPat file → (HasProgram file program → ⊥) → WhyNot file program fault
   no_pmt : fault ≡ faults.NoPmt 0 → NothingStops file program → HasProgram file program → WhyNot file program fault
   stopped : StopsFirst file program (refuse fault) → WhyNot file program fault
 
-why_not : (file : List ℕ) (program : ℕ) (fault : DemuxFault) → IsTablesFault file program fault → WhyNot file program fault
+pub why_not : (file : List ℕ) (program : ℕ) (fault : DemuxFault) → IsTablesFault file program fault → WhyNot file program fault
 why_not file program (faults.NoPat at) (e, nothing, none) = no_pat (ap faults.NoPat e) nothing none
 why_not file program (faults.NoProgram at) (e, nothing, some, none) = no_program (ap faults.NoProgram e) nothing some none
 why_not file program (faults.NoPmt at) (e, nothing, some) = no_pmt (ap faults.NoPmt e) nothing some

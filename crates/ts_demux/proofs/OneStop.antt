@@ -1,11 +1,10 @@
 -- The reading of a file's tables ends in one way.
-use Rattle.std.proofs.Common.{◌≡◌, ◌≢◌, ℕ, ◌+◌, ◌*◌, ◌==◌, ◌⊎◌, inl, inr, Bool, true, false, cond, List, [], ◌∷◌, Option, Some, Ok, Err, refl, sym, ap, ◌∙◌, subst, arith}
+use Rattle.std.proofs.Common.{◌≡◌, ◌≢◌, ℕ, ◌+◌, ◌*◌, ◌==◌, ◌⊎◌, inl, inr, Bool, true, false, cond, List, [], ◌∷◌, Some, Ok, Err, refl, sym, ap, ◌∙◌, subst, arith}
 use Rattle.std.specs.Prelude.{not, option_and_then}
 use Rattle.std.specs.List.{find}
 use Rattle.std.specs.Option.{option_map, option_or}
 use Rattle.std.proofs.lemmas.Bool.Decides.{nat_tests}
 use Rattle.stream_constants.specs.declared.packets.TheConstants.{PACKET_BYTES}
-use Rattle.ts_packets.specs.declared.packet_fault.PacketFault.{PacketFault}
 use Rattle.ts_packets.specs.declared.packet_fault.PacketFault.TheVariants as packet_faults
 use Rattle.ts_packets.specs.declared.pid_fault.PidFault.{PidFault}
 use Rattle.ts_packets.specs.declared.pid_fault.PidFault.TheVariants.{Refused}
@@ -14,14 +13,12 @@ use Rattle.ts_packets.specs.TransportStream.{Piece, is_of_pid, pieces_of}
 use Rattle.ts_packets.specs.Carried.{order_fault, pid_fault}
 use Rattle.psi_tables.specs.declared.program_map.ProgramMap.{ProgramMap}
 use Rattle.psi_tables.specs.declared.section.SectionFault.{SectionFault}
-use Rattle.psi_tables.specs.Section.{content, table_id}
+use Rattle.psi_tables.specs.Section.{content}
 use Rattle.psi_tables.specs.Sections.{Found}
 use Rattle.psi_tables.specs.Pat.{IsProgram, map_pid}
-use Rattle.psi_tables.specs.Pmt.{IsPmt}
 use Rattle.psi_tables.proofs.Rows.{same_row}
 use Rattle.psi_tables.proofs.ProgramRows.{programs_told}
 use Rattle.psi_tables.proofs.MapContents.{one_map}
-use Rattle.ts_demux.specs.declared.demux_fault.DemuxFault.{DemuxFault}
 use Rattle.ts_demux.specs.declared.demux_fault.DemuxFault.TheVariants.{Sync}
 use Rattle.ts_demux.specs.Faults.{of_pid, of_section}
 use Rattle.ts_demux.specs.Tables.{

@@ -1,9 +1,11 @@
-//! Laws of the definitions, each the contract of a function that does nothing.
-ghost use Rattle.std.specs.Prelude.{◌≡◌, ◌≢◌, ℕ, List};
+//! Laws of the definitions, each the contract of a function that nobody needs to call.
+ghost use Rattle.std.specs.Prelude.{◌≡◌, ◌≢◌, ◌⊎◌, ℕ, List};
 ghost use Rattle.ts_demux.specs.declared.demux_fault.DemuxFault.{DemuxFault};
 ghost use Rattle.ts_demux.specs.declared.demux_fault.DemuxFault.TheVariants.{OutOfMemory};
 ghost use Rattle.ts_demux.specs.declared.demuxed.Demuxed.{Demuxed};
 ghost use Rattle.ts_demux.specs.Demux.{IsDemuxed, IsRefused};
+
+use crate::table_walk::read_map;
 
 /// A file, a program and the PIDs that are to be dropped have one answer: what is taken out is one thing, the refusal is one
 /// fault, and never both stand; but for want of memory, which may be said of every file.
@@ -15,3 +17,12 @@ pub fn one_answer()
     ensures never_both { (file : List ℕ) (program : ℕ) (drop : List ℕ) (demuxed : Demuxed) (fault : DemuxFault) →
         IsDemuxed file program drop demuxed → IsRefused file program drop fault → fault ≡ OutOfMemory }
 {}
+
+/// Every file in memory has an answer: something is taken out of it, or a refusal stands that isn't want of memory. Where its
+/// tables end is found by reading them; the rest is counted out over the definitions.
+pub fn some_answer(file: &[u8], program: u16, drop: &[u16])
+    ensures { ((demuxed : Demuxed) × IsDemuxed file.now program drop.now demuxed)
+        ⊎ ((fault : DemuxFault) × (fault ≢ OutOfMemory) × IsRefused file.now program drop.now fault) }
+{
+    let _tables = read_map(file, program);
+}

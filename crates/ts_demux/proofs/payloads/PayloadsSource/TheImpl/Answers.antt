@@ -1,5 +1,5 @@
 -- A take of a source over bytes in memory always answers Ok.
-use Rattle.std.proofs.Common.{◌≡◌, ◌≤◌, ◌+◌, ◌-◌, ◌^◌, [], ◌∷◌, arith}
+use Rattle.std.proofs.Common.{arith}
 use Rattle.shelf_io.proofs.Infallible.{if_ok, on_err, never_err, takes, takes_byte}
 use Rattle.ts_demux.proofs.payloads.PayloadsSource.TheImpl.Goals as goal
 
