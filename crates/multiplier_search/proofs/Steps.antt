@@ -36,7 +36,7 @@ use Rattle.std.proofs.Common.{
 use Rattle.std.specs.List.{All, Contains, flat_map, insert}
 use Rattle.std.proofs.lemmas.Bool.{cases_eq, cases_lt}
 use Rattle.std.proofs.lemmas.Int.{ints}
-use Rattle.std.proofs.lemmas.List.{get_or-set_other, get_or-set_same, flat_map_more, get_or_default, get_or_read, length-set, length-take-le, map-append, map_more, set_at, take-append-drop, take_more}
+use Rattle.std.proofs.lemmas.List.{get_or-set_other, get_or-set_same, flat_map_more, get_or-map, length-map, get_or_default, get_or_read, length-set, length-take-le, map-append, map_more, set_at, take-append-drop, take_more}
 use Rattle.std.proofs.lemmas.List.Edits.{get_or-insert_above, get_or-insert_at, get_or-insert_below, length-insert}
 use Rattle.std.proofs.lemmas.List.Elements.{All-append, All-cons, All-drop, All-map, All-set, All-take, Contains-append_cases}
 use Rattle.std.proofs.lemmas.Option.{get_or_from_slice_get, slice_get_within}
@@ -48,7 +48,7 @@ use Rattle.dual_bounds.specs.declared.windows.Multiplier.{Multiplier}
 use Rattle.dual_bounds.specs.declared.windows.Window.{Window}
 use Rattle.dual_bounds.specs.Values.{from_start, value_of_windows}
 use Rattle.dual_bounds.proofs.ValueLaws.{any_order}
-use Rattle.multiplier_search.specs.Single.{dues_of}
+use Rattle.multiplier_search.specs.Single.{AreInOrder, dues_of}
 use Rattle.multiplier_search.specs.Turns.{BeatAdditions, BeatChanges, with_lambda}
 use Rattle.multiplier_search.specs.Windows.{AreSearched, IsSound, Precedes}
 use Rattle.multiplier_search.specs.Private.Lambda.{EndsRise, RisesTo, value_with}
@@ -288,3 +288,34 @@ dues-more-programs programs i program within is =
 
 pub from-start : (multipliers : List Multiplier) → AreFromStart (map from_start multipliers)
 from-start multipliers = All-map (λ (w : Window). w.from ≡ 0) from_start multipliers (λ k d low. refl)
+
+-- multipliers in order are windows as a search gives them, and the other way round
+at-from-start : (multipliers : List Multiplier) (k : ℕ) (d : Multiplier) (e : Window) → k < length multipliers → get_or (map from_start multipliers) k e ≡ from_start (get_or multipliers k d)
+at-from-start multipliers k d e within = get_or-map from_start multipliers k d e within
+
+pub order-searched : (multipliers : List Multiplier) → AreInOrder multipliers → AreSearched (map from_start multipliers)
+order-searched multipliers order = record {
+  sound = All-map IsSound from_start multipliers (λ k d low. record { order = omega arith; lambda = order.lambdas k d low });
+  rise = λ k e low. (let d : Multiplier = record { due = 0; lambda = 0 } in
+      let size = length-map multipliers from_start in
+      let within : k + 1 < length multipliers = omega arith in
+      let here = ap (λ (w : Window). w.due) (at-from-start multipliers k d e (omega arith)) in
+      let next = ap (λ (w : Window). w.due) (at-from-start multipliers (k + 1) d e within) in
+      inl (omega (arith, order.rise k d within)));
+}
+
+pub searched-order : (multipliers : List Multiplier) → AreSearched (map from_start multipliers) → AreInOrder multipliers
+searched-order multipliers searched = record {
+  lambdas = λ k d low. (let size = length-map multipliers from_start in
+      let here = ap (λ (w : Window). w.lambda) (at-from-start multipliers k d (from_start d) low) in
+      omega (arith, (searched.sound k (from_start d) (omega arith)).lambda));
+  rise = λ k d low. (let size = length-map multipliers from_start in
+      let e = from_start d in
+      let here = at-from-start multipliers k d e (omega arith) in
+      let next = at-from-start multipliers (k + 1) d e low in
+      let rise : Precedes (get_or (map from_start multipliers) k e) (get_or (map from_start multipliers) (k + 1) e) = searched.rise k e (omega arith) in
+      elim rise as (λ _. (get_or multipliers k d).due < (get_or multipliers (k + 1) d).due) [
+        | inl less ↦ omega (arith, ap (λ (w : Window). w.due) here, ap (λ (w : Window). w.due) next)
+        | inr same ↦ absurd (omega (arith, ap (λ (w : Window). w.from) here, ap (λ (w : Window). w.from) next, same.1))
+      ]);
+}

@@ -1,5 +1,5 @@
 -- The first best multiplier alone.
-use Rattle.std.specs.Prelude.{◌≡◌, ℕ, ◌<◌, ◌≤◌, ◌⊎◌, List, [], ◌∷◌, map, Option, ℤ, ◌<ℤ◌}
+use Rattle.std.specs.Prelude.{◌≡◌, ℕ, ◌+◌, ◌<◌, ◌≤◌, ◌⊎◌, List, [], ◌∷◌, length, map, All, Option, ℤ, ◌<ℤ◌, slice_index_or}
 use Rattle.std.specs.List.{Contains}
 use Rattle.version_table.specs.declared.table.Unit.{Unit as CodedUnit}
 use Rattle.version_table.specs.declared.table.Table.{Table}
@@ -16,6 +16,11 @@ dues_of units = map (λ unit. unit.due) units
 pub record IsCandidate (dues : List ℕ) (multiplier : Multiplier) : Type 0 where
   pub due : Contains dues multiplier.due
   pub lambda : multiplier.lambda ≤ LAMBDA_MOST
+
+-- multipliers as a search gives them: in the order of their due times, with lambdas within their limit
+pub record AreInOrder (multipliers : List Multiplier) : Type 0 where
+  pub lambdas : All (λ multiplier. multiplier.lambda ≤ LAMBDA_MOST) multipliers
+  pub rise : (k : ℕ) (d : Multiplier) → k + 1 < length multipliers → (slice_index_or multipliers k d).due < (slice_index_or multipliers (k + 1) d).due
 
 -- the value of one multiplier alone
 unfoldable pub value_alone : Table → List (Option ℕ) → Multiplier → ℤ

@@ -4,7 +4,7 @@ ghost use Rattle.dual_bounds.specs.declared.constants.TheConstants.{WINDOWS_MOST
 ghost use Rattle.dual_bounds.specs.Fixed.{FixesVersions};
 ghost use Rattle.dual_bounds.specs.Values.{from_start, value_of_multipliers, value_of_windows};
 ghost use Rattle.multiplier_search.specs.Private.Turns.{AreFromStart, AreNext};
-ghost use Rattle.multiplier_search.specs.Single.{dues_of};
+ghost use Rattle.multiplier_search.specs.Single.{AreInOrder, dues_of};
 ghost use Rattle.multiplier_search.specs.Turns.{BeatAdditions, BeatChanges};
 ghost use Rattle.multiplier_search.specs.Windows.{AreSearched};
 
@@ -28,9 +28,9 @@ pub fn improve(
 ) -> Result<Multipliers, OutOfMemory>
     requires valid { IsValidTable table.now }
     requires fixed { FixesVersions table.now fixed.now }
-    requires searched { AreSearched (map from_start from.now.items) }
+    requires order { AreInOrder from.now.items }
     ensures few { IfOk result (λ found. length found.items ≤ length from.now.items + turns) }
-    ensures searched { IfOk result (λ found. AreSearched (map from_start found.items)) }
+    ensures order { IfOk result (λ found. AreInOrder found.items) }
     ensures start { IfOk result (λ found. value_of_multipliers table.now fixed.now from.now.items ≤ℤ value_of_multipliers table.now fixed.now found.items) }
     ensures changes { 1 ≤ turns → IfOk result (λ found. BeatChanges table.now fixed.now (map from_start from.now.items) (map from_start found.items)) }
     ensures additions { 1 ≤ turns → length from.now.items < WINDOWS_MOST → IfOk result (λ found.

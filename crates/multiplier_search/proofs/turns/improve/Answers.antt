@@ -10,7 +10,7 @@ use Rattle.multiplier_search.specs.Private.Turns.{AreFromStart, AreNext}
 use Rattle.multiplier_search.specs.Single.{dues_of}
 use Rattle.multiplier_search.specs.Turns.{BeatAdditions, BeatChanges}
 use Rattle.multiplier_search.specs.Windows.{AreSearched}
-use Rattle.multiplier_search.proofs.Steps.{additions-rise, changes-rise, from-start}
+use Rattle.multiplier_search.proofs.Steps.{additions-rise, changes-rise, from-start, order-searched, searched-order}
 use Rattle.multiplier_search.proofs.turns.improve.Goals as goal
 
 pub loop-left-init : goal.loop-left-init
@@ -25,7 +25,7 @@ loop-left-init c =
     record {
       order = omega arith;
       few = omega (arith, ap (length {A = Window}) is, length-map from from_start);
-      searched = subst (λ (x : List Window). AreSearched x) (sym is) c.requires.searched;
+      searched = subst (λ (x : List Window). AreSearched x) (sym is) (order-searched from c.requires.order);
       starts = subst (λ (x : List Window). AreFromStart x) (sym is) (from-start from);
       value = subst (λ (x : List Window). value_of_windows table fixed start ≤ℤ value_of_windows table fixed x) (sym is) same;
       fresh = λ _. is;
@@ -80,3 +80,8 @@ returns-clause-start c =
     let start : List Window = map from_start c.args.from.now.items in
     let is : map from_start c.multipliers_of.result.items ≡ c.loop-left.with.items = c.multipliers_of.ensures ∙ c.as_slice-2.ensures.value in
     subst (λ (x : List Window). value_of_windows table fixed start ≤ℤ value_of_windows table fixed x) (sym is) c.loop-left.invariant.value
+
+pub returns-clause-order : goal.returns-clause-order
+returns-clause-order c =
+    let is : map from_start c.multipliers_of.result.items ≡ c.loop-left.with.items = c.multipliers_of.ensures ∙ c.as_slice-2.ensures.value in
+    searched-order c.multipliers_of.result.items (subst (λ (x : List Window). AreSearched x) (sym is) c.loop-left.invariant.searched)
