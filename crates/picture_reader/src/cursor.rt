@@ -73,7 +73,8 @@ impl UnitCursor {
                 at: behind,
             }),
             Part::End { sequence_end } => {
-                let count = rows(&self.headers.seq, &self.headers.coding) * columns(&self.headers.seq);
+                let count = rows(&self.headers.seq, &self.headers.coding)
+                    * columns(&self.headers.seq);
                 let is_whole = self.coverage.is_whole(count);
                 if is_whole {
                     Ok(UnitPart::End { sequence_end })

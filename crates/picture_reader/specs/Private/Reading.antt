@@ -47,6 +47,6 @@ pub record SliceRead (seq : SeqState) (coding : PicCoding) (row : ℕ) (keep : K
   pub found : Slice
   pub spelled : (slice seq coding row).Spells found bits (drop walked.bits bits)
   pub within : walked.bits ≤ length bits
-  pub in_row : walked.slice.row ≡ found.row
+  pub in_row : found.row ≡ row
   pub spans : IsSpan found.macroblocks walked.span
   pub kept : keep ≡ Tree → walked.slice ≡ found
