@@ -9,7 +9,7 @@ use Rattle.picture_grammar.specs.Picture.{addresses}
 use Rattle.picture_grammar.specs.Slice.{columns}
 use Rattle.picture_reader.specs.declared.coverage.Coverage.{Coverage}
 use Rattle.picture_reader.specs.declared.coverage.Span.{Span}
-use Rattle.picture_reader.specs.Private.Coverage.{IsSpan, Covers}
+use Rattle.picture_reader.specs.Coverage.{IsSpan, Covers}
 
 pub ranges-join : (a m n b : ℕ) → a + m ≡ b → range_with_len a m ++ range_with_len b n ≡ range_with_len a (m + n)
 ranges-join a zero n b e = ap₂ (λ (j k : ℕ). range_with_len j k) (let s : b ≡ a = omega (arith, e) in s) (let s : n ≡ 0 + n = omega arith in s)

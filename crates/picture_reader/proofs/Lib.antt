@@ -1,4 +1,5 @@
 pub mod Covering
+pub mod Cursors
 pub mod Parts
 pub mod Refusals
 pub mod Slices

@@ -58,8 +58,9 @@ use Rattle.picture_grammar.specs.Picture.{whole_slice, next_slice}
 use Rattle.picture_laws.proofs.StartCodes.{code-made}
 use Rattle.picture_laws.proofs.WrittenPicture.{code_other}
 use Rattle.grammar_reading.specs.BitsRead.{PlacedRefusal}
-use Rattle.picture_reader.specs.Private.Reading.{RefusesTold}
-use Rattle.picture_reader.specs.Private.Parts.{bits_from, ZerosTo, StandsAt, ByteStands, IsBehind, SliceComes}
+use Rattle.picture_reader.specs.Told.{RefusesTold}
+use Rattle.picture_reader.specs.Private.Parts.{ZerosTo, StandsAt, ByteStands}
+use Rattle.picture_reader.specs.UnitCursor.{bits_from, IsBehind, SliceComes}
 use Rattle.picture_reader.proofs.Refusals.{
   zero_byte-bits,
   NoCode,

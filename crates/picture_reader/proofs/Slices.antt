@@ -16,8 +16,8 @@ use Rattle.macroblock_reader.specs.declared.fault.SliceFault.{SliceFault}
 use Rattle.macroblock_reader.specs.declared.fault.SliceFault.TheVariants.{NoCode, TooMany, BadEscape, BadType, BadAddress, BadPattern, End, Outside, OutOfMemory}
 use Rattle.macroblock_reader.specs.declared.head.SliceHead.{SliceHead}
 use Rattle.macroblock_reader.specs.SliceHead.{slice_head}
-use Rattle.picture_reader.specs.Private.Faults.{IsInside}
-use Rattle.picture_reader.specs.Private.Reading.{RefusesTold}
+use Rattle.picture_reader.specs.Told.{IsInside}
+use Rattle.picture_reader.specs.Told.{RefusesTold}
 
 -- a source that never fails
 pub inside-when : (f : SliceFault) → (f ≡ Outside Failed → ⊥) → (f ≡ Outside Missing → ⊥) → IsInside f

@@ -18,8 +18,9 @@ use Rattle.syntax_types.specs.declared.picture.SeqState.{SeqState}
 use Rattle.picture_grammar.specs.Picture.{first_column}
 use Rattle.picture_grammar.specs.Slice.{next_macroblock}
 use Rattle.picture_reader.specs.declared.coverage.Span.{Span}
-use Rattle.picture_reader.specs.Private.Coverage.{IsSpan}
-use Rattle.picture_reader.specs.Private.Reading.{HasLeft, RefusesTold, IsSpanSoFar}
+use Rattle.picture_reader.specs.Coverage.{IsSpan}
+use Rattle.picture_reader.specs.Told.{HasLeft, RefusesTold}
+use Rattle.picture_reader.specs.Coverage.{IsSpanSoFar}
 
 module _ {A S : Type 0} {g : Ghosts S} (grammar : Grammar A) (old : BitReader S g) (end : ℕ) (bits : List ℕ) where
   -- a value that was read is spelled by the bits that were left

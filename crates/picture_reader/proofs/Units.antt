@@ -26,9 +26,10 @@ use Rattle.picture_reader.specs.declared.unit.UnitWalked.{UnitWalked}
 use Rattle.picture_reader.specs.declared.keep.Keep.{Keep}
 use Rattle.picture_reader.specs.Picture.{HasHeaders, IsPictureOf, SpellsHeaders, IsRefusedAs}
 use Rattle.picture_reader.specs.PictureFault.{refusal_told}
-use Rattle.picture_reader.specs.Private.Parts.{bits_from}
-use Rattle.picture_reader.specs.Private.Reading.{RefusesTold}
-use Rattle.picture_reader.specs.Private.Unit.{HeadStands, UnitRead, picture_of}
+use Rattle.picture_reader.specs.UnitCursor.{bits_from}
+use Rattle.picture_reader.specs.Told.{RefusesTold}
+use Rattle.picture_reader.specs.Private.Unit.{UnitRead}
+use Rattle.picture_reader.specs.UnitCursor.{HeadStands, picture_of}
 use Rattle.picture_reader.proofs.Slices.{rest-dropped}
 use Rattle.picture_reader.proofs.Wholes.{bit_list-drop}
 

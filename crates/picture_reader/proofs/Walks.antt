@@ -5,8 +5,8 @@ use Rattle.syntax_types.specs.declared.picture.SeqState.{SeqState}
 use Rattle.syntax_types.specs.declared.slice.Slice.{Slice}
 use Rattle.picture_grammar.specs.Picture.{next_slice, whole_slice}
 use Rattle.grammar_reading.specs.BitsRead.{PlacedRefusal}
-use Rattle.picture_reader.specs.Private.Parts.{SliceComes}
-use Rattle.picture_reader.specs.Private.Reading.{RefusesTold}
+use Rattle.picture_reader.specs.UnitCursor.{SliceComes}
+use Rattle.picture_reader.specs.Told.{RefusesTold}
 
 -- a refusal of a slice is one of the list of slices
 pub comes-told : (seq : SeqState) (coding : PicCoding) (before : List Slice) (code : ℕ) (bits behind : List ℕ) → SliceComes seq coding before code bits behind → (told : Option PlacedRefusal) (end : ℕ)

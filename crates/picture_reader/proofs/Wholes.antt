@@ -17,8 +17,8 @@ use Rattle.picture_grammar.specs.Picture.{whole_slice}
 use Rattle.picture_laws.proofs.ShortSlices.{slice-closes}
 use Rattle.grammar_reading.specs.BitsRead.{PlacedRefusal}
 use Rattle.picture_reader.specs.Private.Faults.{moved}
-use Rattle.picture_reader.specs.Private.Parts.{bits_from}
-use Rattle.picture_reader.specs.Private.Reading.{RefusesTold}
+use Rattle.picture_reader.specs.UnitCursor.{bits_from}
+use Rattle.picture_reader.specs.Told.{RefusesTold}
 
 pub bit_list-drop : (n : ℕ) (bytes : List ℕ) → n ≤ length bytes → bit_list (drop n bytes) ≡ drop (8 * n) (bit_list bytes)
 bit_list-drop n bytes le =

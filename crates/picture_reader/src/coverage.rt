@@ -5,8 +5,8 @@ ghost use Rattle.syntax_types.specs.declared.slice.Slice.{Slice};
 ghost use Rattle.syntax_types.specs.declared.picture.SeqState.{SeqState};
 ghost use Rattle.picture_grammar.specs.Picture.{addresses, rows as rows_of};
 ghost use Rattle.picture_grammar.specs.Slice.{columns as columns_of};
-ghost use Rattle.picture_reader.specs.Private.Coverage.{Covers, IsSpan};
-ghost use Rattle.picture_reader.specs.Private.Reading.{IsSpanSoFar};
+ghost use Rattle.picture_reader.specs.Coverage.{Covers, IsSpan};
+ghost use Rattle.picture_reader.specs.Coverage.{IsSpanSoFar};
 ghost use Rattle.syntax_types.specs.declared.macroblock.Macroblock.{Macroblock};
 
 use picture_grammar::limits::MACROBLOCK_SIZE;

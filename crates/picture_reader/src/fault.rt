@@ -65,7 +65,8 @@ impl From<OutOfMemory> for PictureFault {
 ghost use Rattle.std.specs.Prelude.{◌≡◌, ◌+◌, ◌<◌, ◌≤◌, ◌^◌, IfSome};
 ghost use Rattle.macroblock_reader.specs.SliceFault.{refusal_told as slice_told};
 ghost use Rattle.picture_reader.specs.PictureFault.{refusal_told};
-ghost use Rattle.picture_reader.specs.Private.Faults.{IsInside, moved};
+ghost use Rattle.picture_reader.specs.Private.Faults.{moved};
+ghost use Rattle.picture_reader.specs.Told.{IsInside};
 
 /// The fault of a slice that begins at this place of a unit.
 pub(crate) fn fault_of_slice(fault: SliceFault, first: u64) -> PictureFault

@@ -6,8 +6,8 @@ ghost use Rattle.picture_grammar.specs.Head.{head};
 ghost use Rattle.video_headers.specs.HeadFault.{refusal_told as head_told};
 ghost use Rattle.picture_reader.specs.PictureFault.{refusal_told};
 ghost use Rattle.picture_reader.specs.Private.Faults.{IsInsideHead};
-ghost use Rattle.picture_reader.specs.Private.Reading.{RefusesTold};
-ghost use Rattle.picture_reader.specs.Private.Unit.{HeadStands};
+ghost use Rattle.picture_reader.specs.Told.{RefusesTold};
+ghost use Rattle.picture_reader.specs.UnitCursor.{HeadStands};
 
 use crate::fault::PictureFault;
 use bit_cursor::BitReader;

@@ -6,8 +6,9 @@ ghost use Rattle.syntax_types.specs.declared.slice.Slice.{Slice};
 ghost use Rattle.picture_grammar.specs.StartCode.{only_zero_bytes, is_slice as is_slice_of};
 ghost use Rattle.picture_grammar.specs.Picture.{next_slice};
 ghost use Rattle.picture_reader.specs.PictureFault.{refusal_told};
-ghost use Rattle.picture_reader.specs.Private.Parts.{IsBehind, IsSeen, IsSeenWithin, IsWithin, PartRead, ZerosTo, bits_from};
-ghost use Rattle.picture_reader.specs.Private.Reading.{RefusesTold};
+ghost use Rattle.picture_reader.specs.Private.Parts.{IsSeen, IsSeenWithin, IsWithin, PartRead, ZerosTo};
+ghost use Rattle.picture_reader.specs.UnitCursor.{IsBehind, bits_from};
+ghost use Rattle.picture_reader.specs.Told.{RefusesTold};
 
 use crate::fault::PictureFault;
 use stream_constants::start_codes::{FIRST_SLICE, LAST_SLICE, SEQUENCE_END};

@@ -61,11 +61,7 @@ pub fn read_picture(
 }
 
 /// The picture of a unit, or its refusal.
-fn read_tree(
-    alloc: Global,
-    unit: &[u8],
-    before: Option<&SeqState>,
-) -> Result<Picture, PictureFault>
+fn read_tree(alloc: Global, unit: &[u8], before: Option<&SeqState>) -> Result<Picture, PictureFault>
     requires { length unit.now ≤ 2 ^ 60 }
     ensures { MatchResult result (IsPictureOf (option_copied before.entry) unit.now) (IsRefusedAs (option_copied before.entry) unit.now) }
 {

@@ -8,8 +8,9 @@ ghost use Rattle.picture_grammar.specs.Picture.{IsCoding};
 ghost use Rattle.picture_grammar.specs.Slice.{next_macroblock, slice};
 ghost use Rattle.macroblock_reader.specs.SliceFault.{refusal_told};
 ghost use Rattle.picture_reader.specs.declared.keep.Keep.TheVariants.{Tree};
-ghost use Rattle.picture_reader.specs.Private.Faults.{IsInside};
-ghost use Rattle.picture_reader.specs.Private.Reading.{HasLeft, RefusesTold, AllRead, SliceRead};
+ghost use Rattle.picture_reader.specs.Told.{IsInside};
+ghost use Rattle.picture_reader.specs.Private.Reading.{AllRead, SliceRead};
+ghost use Rattle.picture_reader.specs.Told.{HasLeft, RefusesTold};
 
 use crate::coverage::{Span, columns};
 use crate::keep::Keep;

@@ -1,14 +1,15 @@
 //! A unit from its head to its end (6.2.2).
-ghost use Rattle.std.specs.Prelude.{◌≤◌, ◌*◌, ◌^◌, length, MatchResult};
+ghost use Rattle.std.specs.Prelude.{◌≡◌, ◌≤◌, ◌^◌, ◌++◌, ◌∷◌, [], drop, length, MatchResult, OnOk};
 ghost use Rattle.std.specs.Option.{option_copied};
+ghost use Rattle.picture_reader.specs.declared.keep.Keep.TheVariants.{Tree};
 ghost use Rattle.picture_reader.specs.Picture.{IsRefusedAs};
 ghost use Rattle.picture_reader.specs.Private.Unit.{UnitRead};
 
+use crate::cursor::{UnitCursor, UnitPart};
 use crate::fault::PictureFault;
-use crate::head::head_of;
 use crate::keep::Keep;
-use crate::walk::walk_slices;
-use list_types::ListOf;
+use crate::slice::walk_slice;
+use list_types::{ListOf, OutOfMemory};
 use std::alloc::Global;
 use syntax_types::{SeqState, Slice};
 use video_headers::Headers;
@@ -33,27 +34,61 @@ pub fn walk_unit(
     requires { length unit.now ≤ 2 ^ 60 }
     ensures { MatchResult result (UnitRead (option_copied before.entry) unit.now keep) (IsRefusedAs (option_copied before.entry) unit.now) }
 {
-    let headers = match head_of(unit, before) {
-        Ok(headers) => headers,
+    let mut cursor = match UnitCursor::new(unit, before) {
+        Ok(cursor) => cursor,
         Err(fault) => return Err(fault),
     };
-    let walked = match walk_slices(
-        unit,
-        headers.slices_at as usize,
-        &headers.seq,
-        &headers.coding,
-        keep,
-        alloc,
-    ) {
-        Ok(walked) => walked,
-        Err(fault) => return Err(fault),
-    };
-    if !walked.is_covered {
-        return Err(PictureFault::Uncovered { at: 0 });
+    let mut lent = Macroblock::empty();
+    let mut slices = ListOf::new(alloc);
+    'slices: loop {
+        let part = match cursor.next(unit) {
+            Ok(part) => part,
+            Err(fault) => return Err(fault),
+        };
+        match part {
+            UnitPart::End { sequence_end } => {
+                return Ok(UnitWalked {
+                    headers: cursor.headers,
+                    slices,
+                    sequence_end,
+                });
+            }
+            UnitPart::Slice { row, at } => {
+                let bytes = bytes_from(unit, at);
+                let headers = cursor.headers;
+                let walked = match walk_slice(
+                    bytes,
+                    &headers.seq,
+                    &headers.coding,
+                    row,
+                    keep,
+                    &mut lent,
+                    alloc,
+                ) {
+                    Ok(walked) => walked,
+                    Err(fault) => return Err(cursor.fault_of(unit, row, at, fault)),
+                };
+                cursor = cursor.past(unit, row, at, walked.bits, walked.span);
+                keep_slice(keep, &mut slices, walked.slice)?;
+            }
+        }
     }
-    Ok(UnitWalked {
-        headers,
-        slices: walked.slices,
-        sequence_end: walked.sequence_end,
-    })
+}
+
+/// The bytes from this one on.
+fn bytes_from(unit: &[u8], first: usize) -> &[u8]
+    requires { first ≤ length unit.now }
+    ensures { result.now ≡ drop first unit.now }
+{
+    &unit[first..]
+}
+
+/// Puts a slice behind those that are kept, if they are.
+fn keep_slice(keep: Keep, kept: &mut ListOf<Slice>, slice: Slice) -> Result<(), OutOfMemory>
+    ensures { OnOk result (keep ≡ Tree → kept.new ≡ kept.old ++ slice ∷ []) }
+{
+    match keep {
+        Keep::Tree => kept.push(slice),
+        Keep::Nothing => Ok(()),
+    }
 }

@@ -7,20 +7,6 @@ use Rattle.video_headers.specs.declared.fault.HeadFault.{HeadFault}
 use Rattle.video_headers.specs.declared.fault.HeadFault.TheVariants as head_fault
 use Rattle.macroblock_reader.specs.declared.fault.SliceFault.TheVariants.{NoCode, TooMany, BadEscape, BadType, BadAddress, BadPattern, End, Outside, OutOfMemory}
 
--- no source failed
-abbrev pub IsInside : SliceFault → Type 0
-IsInside (Outside outside.Failed) = ⊥
-IsInside (Outside outside.Missing) = ⊥
-IsInside (Outside outside.OutOfMemory) = Unit {0}
-IsInside (NoCode at) = Unit {0}
-IsInside (TooMany at) = Unit {0}
-IsInside (BadEscape at) = Unit {0}
-IsInside (BadType at) = Unit {0}
-IsInside (BadAddress at) = Unit {0}
-IsInside (BadPattern at) = Unit {0}
-IsInside (End at) = Unit {0}
-IsInside OutOfMemory = Unit {0}
-
 -- no source failed, in a head
 abbrev pub IsInsideHead : HeadFault → Type 0
 IsInsideHead (head_fault.Outside outside.Failed) = ⊥

@@ -8,14 +8,11 @@ use Rattle.picture_grammar.specs.Refusal.{Refusal}
 use Rattle.picture_grammar.specs.Grammar.Next.{more, last}
 use Rattle.picture_grammar.specs.StartCode.{is_slice}
 use Rattle.picture_grammar.specs.Picture.{whole_slice, next_slice}
+use Rattle.picture_reader.specs.UnitCursor.{bits_from, SliceComes}
 use Rattle.picture_reader.specs.declared.part.Part.{Part}
 use Rattle.picture_reader.specs.declared.part.Part.TheVariants as part
 use Rattle.picture_reader.specs.declared.part.Seen.{Seen}
 use Rattle.picture_reader.specs.declared.part.Seen.TheVariants as seen
-
--- the bits of a unit from a byte on
-abbrev pub bits_from : List ℕ → ℕ → List ℕ
-bits_from unit at = bit_list (drop at unit)
 
 -- behind so many zero bytes the bytes from a place on go on at another place
 pub record ZerosTo (unit : List ℕ) (at end : ℕ) : Type 0 where
@@ -53,17 +50,6 @@ IsSeenWithin unit seen.End = Unit {0}
 IsSeenWithin unit (seen.Byte place) = place ≤ length unit
 IsSeenWithin unit (seen.Cut place) = place ≤ length unit
 IsSeenWithin unit (seen.Code place code) = place + 4 ≤ length unit
-
--- no slice was read before, or some
-abbrev pub IsBehind : Bool → List Slice → Type 0
-IsBehind true before = before ≡ []
-IsBehind false before = before ≢ []
-
--- one more slice comes with this start code: what it spells and refuses behind it, the list of slices does from the place before
-pub record SliceComes (seq : SeqState) (coding : PicCoding) (before : List Slice) (code : ℕ) (bits behind : List ℕ) : Type 0 where
-  pub is_one : is_slice code ≡ true
-  pub spelled : (s : Slice) (rest : List ℕ) → (whole_slice seq coding code).Spells s behind rest → (next_slice seq coding before).Spells (more s) bits rest
-  pub refused : (refusal : Refusal) (left : List ℕ) → (whole_slice seq coding code).Refuses behind refusal left → (next_slice seq coding before).Refuses bits refusal left
 
 -- a part that comes at a place of a unit
 abbrev pub PartRead : SeqState → PicCoding → List Slice → Part → List ℕ → ℕ → Type 0

@@ -9,7 +9,6 @@ use Rattle.syntax_types.specs.declared.picture.PicCoding.{PicCoding}
 use Rattle.syntax_types.specs.declared.picture.SeqState.{SeqState}
 use Rattle.syntax_types.specs.declared.slice.Slice.{Slice}
 use Rattle.picture_grammar.specs.Grammar.{Grammar, many}
-use Rattle.picture_grammar.specs.Picture.{first_column}
 use Rattle.picture_grammar.specs.Slice.{columns, next_macroblock, slice}
 use Rattle.grammar_reading.specs.BitsRead.{PlacedRefusal}
 use Rattle.grammar_reading.specs.Several.{SpellsFront}
@@ -20,21 +19,8 @@ use Rattle.picture_reader.specs.declared.keep.Keep.{Keep}
 use Rattle.picture_reader.specs.declared.keep.Keep.TheVariants.{Tree}
 use Rattle.picture_reader.specs.declared.slice.MacroblocksWalked.{MacroblocksWalked}
 use Rattle.picture_reader.specs.declared.slice.SliceWalked.{SliceWalked}
-use Rattle.picture_reader.specs.Private.Coverage.{IsSpan}
-
--- what a reader has left, which is told, up to an end place
-pub record HasLeft {S : Type 0} {g : Ghosts S} (reader : BitReader S g) (end : ℕ) (bits : List ℕ) : Type 0 where
-  pub told : bits_left reader ≡ Some bits
-  pub ends : place reader + length bits ≡ end
-
--- where a fault tells a refusal, these bits, up to an end place, are refused so
-abbrev pub RefusesTold : {A : Type 0} → Grammar A → Option PlacedRefusal → ℕ → List ℕ → Type 0
-RefusesTold grammar told end bits = IfSome told (λ said. (left : List ℕ) × grammar.Refuses bits said.refusal left × (said.at + length left ≡ end))
-
--- the columns that these macroblocks of a slice hold so far
-pub record IsSpanSoFar (macroblocks : List Macroblock) (span : Span) : Type 0 where
-  pub first : span.first ≡ first_column macroblocks
-  pub end : span.end ≡ sum_by (λ m. m.skipped_before + 1) macroblocks
+use Rattle.picture_reader.specs.Coverage.{IsSpan, IsSpanSoFar}
+use Rattle.picture_reader.specs.Told.{HasLeft, RefusesTold}
 
 -- the first macroblocks of a slice were read, and kept where they are to be
 pub record MacroblocksRead {S : Type 0} {g : Ghosts S} (seq : SeqState) (coding : PicCoding) (keep : Keep) (list : List Macroblock) (span : Span)
@@ -61,6 +47,6 @@ pub record SliceRead (seq : SeqState) (coding : PicCoding) (row : ℕ) (keep : K
   pub found : Slice
   pub spelled : (slice seq coding row).Spells found bits (drop walked.bits bits)
   pub within : walked.bits ≤ length bits
-  pub in_row : walked.slice.row ≡ found.row
+  pub in_row : found.row ≡ row
   pub spans : IsSpan found.macroblocks walked.span
   pub kept : keep ≡ Tree → walked.slice ≡ found

@@ -3,7 +3,8 @@ use Rattle.std.proofs.lemmas.Bool.{both_ways}
 use Rattle.std.proofs.lemmas.Result.{err_from_is_err_and}
 use Rattle.picture_grammar.specs.Refusal.Refusal.{BadHeader, End}
 use Rattle.picture_reader.specs.PictureFault.{refusal_told}
-use Rattle.picture_reader.specs.Private.Parts.{bits_from, IsBehind, StandsAt}
+use Rattle.picture_reader.specs.Private.Parts.{StandsAt}
+use Rattle.picture_reader.specs.UnitCursor.{bits_from, IsBehind}
 use Rattle.picture_reader.proofs.Parts.{
   may,
   may-first,

@@ -2,7 +2,7 @@ use Rattle.std.proofs.Common.{List, ℕ, take, refl, sym, subst}
 use Rattle.std.specs.Option.{option_copied}
 use Rattle.syntax_types.specs.declared.slice.Slice.{Slice}
 use Rattle.picture_reader.specs.Picture.{IsPictureOf}
-use Rattle.picture_reader.specs.Private.Unit.{picture_of}
+use Rattle.picture_reader.specs.UnitCursor.{picture_of}
 use Rattle.picture_reader.proofs.picture.read_tree.Goals as goal
 
 pub returns : goal.returns

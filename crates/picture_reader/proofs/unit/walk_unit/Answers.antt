@@ -1,50 +1,31 @@
-use Rattle.std.proofs.Common.{◌≡◌, not, Bool, true, false, refl, arith}
+use Rattle.std.proofs.Common.{◌≡◌, ◌++◌, ◌∷◌, ℕ, List, [], ap₂, subst, ◌∙◌, arith}
 use Rattle.std.specs.Option.{option_copied}
-use Rattle.std.proofs.lemmas.Bool.{both_ways}
-use Rattle.picture_reader.specs.PictureFault.{refusal_told}
+use Rattle.bit_lists.specs.Fields.{bit_list}
+use Rattle.syntax_types.specs.declared.slice.Slice.{Slice}
+use Rattle.picture_reader.specs.declared.cursor.UnitPart.{UnitPart}
+use Rattle.picture_reader.specs.UnitCursor.{IsNextPart, bits_from}
+use Rattle.picture_reader.specs.Private.Reading.{SliceRead}
 use Rattle.picture_reader.proofs.Parts.{are-bytes}
-use Rattle.picture_reader.proofs.Units.{head-coding, head-told, slices-told, unit-uncovered, unit-whole}
+use Rattle.picture_reader.proofs.Units.{head-coding}
 use Rattle.picture_reader.proofs.unit.walk_unit.Goals as goal
 
-not-true : (b : Bool) → not b ≡ true → b ≡ false
-not-true true e = absurd (both_ways false refl e)
-not-true false e = refl
-
-not-false : (b : Bool) → not b ≡ false → b ≡ true
-not-false true e = refl
-not-false false e = absurd (both_ways true e refl)
-
-pub returns-in-Err : goal.returns-in-Err
-returns-in-Err c = head-told (option_copied c.args.before) c.args.unit.now (refusal_told c.in-Err.fault) c.in-Err.ensures
-
-pub walk_slices-requires-clause-coding : goal.walk_slices-requires-clause-coding
-walk_slices-requires-clause-coding c =
+pub walk_slice-requires-clause-coding : goal.walk_slice-requires-clause-coding
+walk_slice-requires-clause-coding c =
     let unit = c.args.unit.now in
-    head-coding (option_copied c.args.before) unit (are-bytes unit (λ i. omega (arith, c.type_inv.unit i))) c.in-Ok.headers c.in-Ok.ensures
+    head-coding (option_copied c.args.before) unit (are-bytes unit (λ i. omega (arith, c.type_inv.unit i))) c.slices.cursor.headers c.slices.invariant.stands.headed
 
-pub returns-in-Err-walk_slices : goal.returns-in-Err-walk_slices
-returns-in-Err-walk_slices c =
+pub slices-preserved : goal.slices-preserved
+slices-preserved c =
+    let before = option_copied c.args.before in
     let unit = c.args.unit.now in
-    let are = are-bytes unit (λ i. omega (arith, c.type_inv.unit i)) in
-    slices-told (option_copied c.args.before) unit are c.in-Ok.headers c.in-Ok.ensures (refusal_told c.in-Err-walk_slices.fault) c.in-Err-walk_slices.ensures
-
-pub returns-then-not-walked : goal.returns-then-not-walked
-returns-then-not-walked c =
-    let unit = c.args.unit.now in
-    let are = are-bytes unit (λ i. omega (arith, c.type_inv.unit i)) in
-    let read = c.in-Ok-walk_slices.ensures in
-    unit-uncovered (option_copied c.args.before) unit are c.in-Ok.headers c.in-Ok.ensures read.slices c.in-Ok-walk_slices.walked.sequence_end read.spelled
-    (λ all. both_ways c.in-Ok-walk_slices.walked.is_covered (not-true c.in-Ok-walk_slices.walked.is_covered c.if-not-walked.true) (read.covered.1 all))
-
-pub returns : goal.returns
-returns c =
-    let unit = c.args.unit.now in
-    let are = are-bytes unit (λ i. omega (arith, c.type_inv.unit i)) in
-    let read = c.in-Ok-walk_slices.ensures in
+    let inv = c.slices.invariant in
+    let cursor = c.slices.cursor in
+    let walked = c.in-Ok-walk_slice.walked in
+    let w : SliceRead cursor.headers.seq cursor.headers.coding c.in-Slice.row c.args.keep walked (bits_from unit c.in-Slice.at) =
+    subst (λ (b : List ℕ). SliceRead cursor.headers.seq cursor.headers.coding c.in-Slice.row c.args.keep walked (bit_list b)) c.bytes_from-bytes.ensures c.in-Ok-walk_slice.ensures.gives in
+    let begins = subst (λ (p : UnitPart). IsNextPart before unit inv.slices cursor p) c.in-Slice.is (c.in-Ok-next.ensures before inv.slices inv.stands) in
     record {
-      slices = read.slices;
-      within = c.in-Ok.ensures.within;
-      whole = unit-whole (option_copied c.args.before) unit are c.in-Ok.headers c.in-Ok.ensures read.slices c.in-Ok-walk_slices.walked.sequence_end read.spelled
-          (read.covered.0 (not-false c.in-Ok-walk_slices.walked.is_covered c.if-not-walked.false));
-      kept = read.kept;
+      slices = inv.slices ++ w.found ∷ [];
+      stands = c.past-cursor.ensures.stands before inv.slices w.found inv.stands begins (record { spelled = w.spelled; within = w.within; in_row = w.in_row; spans = w.spans });
+      kept = λ k. c.in_ok-keep_slice-in-Slice.ensures k ∙ ap₂ (λ (l : List Slice) (s : Slice). l ++ s ∷ []) (inv.kept k) (w.kept k);
     }

@@ -18,3 +18,8 @@ pub record IsSpan (macroblocks : List Macroblock) (span : Span) : Type 0 where
 pub record Covers (seq : SeqState) (slices : List Slice) (coverage : Coverage) : Type 0 where
   pub whole : coverage.is_broken ≡ false → flat_map (addresses seq) slices ≡ range_with_len 0 coverage.next
   pub broken : coverage.is_broken ≡ true → (later : List Slice) (count : ℕ) → flat_map (addresses seq) (slices ++ later) ≢ range_with_len 0 count
+
+-- the columns that these macroblocks of a slice hold so far
+pub record IsSpanSoFar (macroblocks : List Macroblock) (span : Span) : Type 0 where
+  pub first : span.first ≡ first_column macroblocks
+  pub end : span.end ≡ sum_by (λ m. m.skipped_before + 1) macroblocks
