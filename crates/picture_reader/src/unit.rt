@@ -11,7 +11,7 @@ use crate::keep::Keep;
 use crate::slice::walk_slice;
 use list_types::{ListOf, OutOfMemory};
 use std::alloc::Global;
-use syntax_types::{SeqState, Slice};
+use syntax_types::{Macroblock, SeqState, Slice};
 use video_headers::Headers;
 
 /// A unit that was read.
