@@ -20,7 +20,7 @@ returns-in-Ok c =
     let told : bits_left c.new-reader.result ≡ Some (bit_list unit) = c.new-reader.ensures.left ∙ ap (λ b. Some (bit_list b)) c.new-source.ensures in
     let read : HeadRead before c.in-Ok.found (bit_list unit) c.read_head.new.reader =
     subst (λ (o : Option (List ℕ)). IfSome o (λ bits. HeadRead before c.in-Ok.found bits c.read_head.new.reader)) told c.in-Ok.ensures.read in
-    head-stands before unit c.in-Ok.found.headers read.rest read.spelled read.size
+    head-stands before unit c.in-Ok.found.headers read.begins.rest read.begins.spelled read.begins.size
 
 pub returns-in-Err : goal.returns-in-Err
 returns-in-Err c =
