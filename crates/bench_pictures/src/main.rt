@@ -16,6 +16,7 @@ use syntax_types::{FRAME_PICTURE, PicCoding, SeqState};
 const UNIT_MOST: usize = 1 << 30;
 
 /// How many pictures were read.
+#[derive(Drop)]
 struct Count {
     types: [u32; 4],
     fields: u32,
