@@ -1,0 +1,6 @@
+//! The generated program: a transport stream that is drawn from a seed.
+#![tactic(auto)]
+
+mod draws;
+mod format;
+mod macroblocks;
