@@ -6,7 +6,7 @@ use Rattle.picture_laws.proofs.Computing.{answers}
 use Rattle.program_maker.specs.Draws.{state_after, pick}
 use Rattle.program_maker.specs.Heads.{coding_of, head_of}
 use Rattle.program_maker.specs.Macroblocks.{run_level, coded_block, block_at, drawn_kind, quantiser_code, coded_pattern, drawn_macroblock}
-use Rattle.program_maker.specs.Streams.{drawn_frame, frame_header}
+use Rattle.program_maker.specs.Streams.{drawn_bytes, drawn_frame, frame_header}
 
 -- ---- the first draws of seed 1
 
@@ -83,11 +83,11 @@ with_a_code-leaves = refl
 -- ---- an audio frame
 
 first_bytes : take 12 (drawn_frame 1).0 ≡ 255 ∷ 253 ∷ 164 ∷ 0 ∷ 223 ∷ 37 ∷ 28 ∷ 136 ∷ 153 ∷ 10 ∷ 70 ∷ 15 ∷ []
-unfolding state_after pick drawn_frame
+unfolding state_after pick drawn_bytes drawn_frame
 first_bytes = refl
 
 last_bytes : drop 572 (drawn_frame 1).0 ≡ 71 ∷ 43 ∷ 151 ∷ 100 ∷ []
-unfolding state_after pick drawn_frame
+unfolding state_after pick drawn_bytes drawn_frame
 last_bytes = refl
 
 -- the PTS of the second frame is 92,160

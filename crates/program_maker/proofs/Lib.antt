@@ -1,3 +1,6 @@
+mod Counting
 mod Drawing
 mod Examples
+mod HeadBytes
 mod Spelled
+mod Writing

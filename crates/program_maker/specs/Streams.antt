@@ -22,10 +22,14 @@ frame_pts j = FIRST_TIME + FRAME_TIME * j
 
 -- ---- audio frames (ISO/IEC 11172-3, 2.4)
 
--- a header of MPEG-1 Layer II, 192 kbit/s, 48,000 Hz, stereo, and bytes below 255, so that no syncword stands within
+-- bytes below 255, so that no syncword stands within
+unfoldable pub drawn_bytes : Drawn (List ℕ)
+drawn_bytes = each (range_with_len 0 FRAME_DATA_BYTES) (λ _. pick 255)
+
+-- a header of MPEG-1 Layer II, 192 kbit/s, 48,000 Hz, stereo, and such bytes
 unfoldable pub drawn_frame : Drawn (List ℕ)
 drawn_frame = do
-  bytes ← each (range_with_len 0 FRAME_DATA_BYTES) (λ _. pick 255)
+  bytes ← drawn_bytes
   done (0xFF ∷ 0xFD ∷ 0xA4 ∷ 0x00 ∷ bytes)
 
 -- whole frames during so many pictures: a picture lasts as long as 5/3 frames

@@ -3,4 +3,7 @@
 
 mod draws;
 mod format;
+mod heads;
 mod macroblocks;
+mod output;
+mod pictures;
