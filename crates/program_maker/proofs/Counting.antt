@@ -1,14 +1,16 @@
 -- Packets and their counters, one packet more.
-use Rattle.std.proofs.Common.{◌≡◌, ◌≢◌, ◌+◌, ◌%◌, ◌<◌, ◌==◌, ◌&&◌, nat_eq, nat_lt, ℕ, suc, Bool, true, false, cond, List, [], ◌∷◌, ◌++◌, length, refl, sym, ap, subst, ◌∙◌, append_assoc, append-nil, length-append, eq-eqb, arith}
+use Rattle.std.proofs.Common.{◌≡◌, ◌≢◌, ◌+◌, ◌%◌, ◌<◌, ◌==◌, ◌&&◌, nat_eq, nat_lt, ℕ, suc, Option, Some, None, replicate, ◌-◌, Bool, true, false, cond, List, [], ◌∷◌, ◌++◌, length, drop, refl, sym, ap, subst, ◌∙◌, append_assoc, append-nil, length-append, eq-eqb, arith}
 use Rattle.std.specs.List.{filter, flat_map}
 use Rattle.std.proofs.lemmas.Bool.{lt-ltb, ne_eqb}
+use Rattle.std.proofs.lemmas.List.{drop-replicate, length-replicate}
 use Rattle.std.proofs.lemmas.List.Concat.{flat_map-append}
 use Rattle.std.proofs.lemmas.List.Elements.{filter-append}
+use Rattle.ts_packets.specs.declared.adaptation_field.AdaptationField.{AdaptationField}
 use Rattle.ts_packets.specs.Packet.{PacketRecord, written}
 use Rattle.program_maker.specs.declared.output.Carried.{Carried}
 use Rattle.program_maker.specs.declared.output.Carried.TheVariants.{Video, Audio}
 use Rattle.program_maker.specs.declared.output.Output.{Output}
-use Rattle.program_maker.specs.Packets.{payload_packet, stuffing, payloads_of, pcr_packet, counter_behind, counted}
+use Rattle.program_maker.specs.Packets.{payload_packet, stuffing, section_payload, section_packet, payloads_of, pcr_packet, counter_behind, counted}
 use Rattle.program_maker.specs.Private.Output.{IsBehind, TakesCounter, pid_of}
 
 abbrev with_counter : PacketRecord → ℕ → PacketRecord
@@ -47,29 +49,32 @@ behind-more packets old new p is bytes video audio = record {
   audio_is = audio;
 }
 
+abbrev one_if : Bool → ℕ
+one_if b = cond b 1 0
+
 -- a packet with payload, of another PID than this one, or of this one
 other-pid : (pid : ℕ) (packets : List PacketRecord) (p : PacketRecord) → p.pid ≢ pid → payloads_of pid (packets ++ p ∷ []) ≡ payloads_of pid packets
 other-pid pid packets p other =
     let count = payloads-more pid packets p in
-    let none : cond ((p.pid == pid) && nat_lt 0 (length p.payload)) 1 0 ≡ 0 = ap (λ (b : Bool). cond (b && nat_lt 0 (length p.payload)) 1 0) (ne_eqb p.pid pid other) in
+    let none : one_if ((p.pid == pid) && nat_lt 0 (length p.payload)) ≡ 0 = ap (λ (b : Bool). one_if (b && nat_lt 0 (length p.payload))) (ne_eqb p.pid pid other) in
     omega (arith, count, none)
 
 this-pid : (pid : ℕ) (packets : List PacketRecord) (p : PacketRecord) → p.pid ≡ pid → 0 < length p.payload → payloads_of pid (packets ++ p ∷ []) ≡ payloads_of pid packets + 1
 this-pid pid packets p same some =
     let count = payloads-more pid packets p in
-    let one : cond ((p.pid == pid) && nat_lt 0 (length p.payload)) 1 0 ≡ 1 =
-        ap (λ (b : Bool). cond (b && nat_lt 0 (length p.payload)) 1 0) (eq-eqb p.pid pid same) ∙ ap (λ (b : Bool). cond b 1 0) (lt-ltb 0 (length p.payload) some) in
+    let one : one_if ((p.pid == pid) && nat_lt 0 (length p.payload)) ≡ 1 =
+        ap (λ (b : Bool). one_if (b && nat_lt 0 (length p.payload))) (eq-eqb p.pid pid same) ∙ ap (λ (b : Bool). one_if b) (lt-ltb 0 (length p.payload) some) in
     omega (arith, count, one)
 
-and-nothing : (b : Bool) → cond (b && false) 1 0 ≡ 0
+and-nothing : (b : Bool) → one_if (b && false) ≡ 0
 and-nothing true = refl
 and-nothing false = refl
 
 no-payload : (pid : ℕ) (packets : List PacketRecord) (p : PacketRecord) → p.payload ≡ [] → payloads_of pid (packets ++ p ∷ []) ≡ payloads_of pid packets
 no-payload pid packets p none =
     let count = payloads-more pid packets p in
-    let zero_more : cond ((p.pid == pid) && nat_lt 0 (length p.payload)) 1 0 ≡ 0 =
-        ap (λ (bytes : List ℕ). cond ((p.pid == pid) && nat_lt 0 (length bytes)) 1 0) none ∙ and-nothing (p.pid == pid) in
+    let zero_more : one_if ((p.pid == pid) && nat_lt 0 (length p.payload)) ≡ 0 =
+        ap (λ (bytes : List ℕ). one_if ((p.pid == pid) && nat_lt 0 (length bytes))) none ∙ and-nothing (p.pid == pid) in
     omega (arith, count, zero_more)
 
 payload-counter : (packets : List PacketRecord) (p : PacketRecord) → 0 < length p.payload → counter_behind packets p ≡ payloads_of p.pid packets % 16
@@ -124,3 +129,31 @@ first-behind packets old new p is some zero_is none not_video not_audio bytes vi
     let counts : p.counter ≡ counter_behind packets p = zero_is ∙ sym (payload-counter packets p some ∙ ap (λ n. n % 16) none) in
     behind-more packets old new p is (bytes ∙ ap (λ n. old.bytes.items ++ written (record p { counter = n })) counts)
     (video ∙ is.video_is ∙ ap (λ n. n % 16) (sym (other-pid 0x101 packets p not_video))) (audio ∙ is.audio_is ∙ ap (λ n. n % 16) (sym (other-pid 0x102 packets p not_audio)))
+
+-- a packet as it is put
+pub as-payload : (carried : Carried) (pid : ℕ) (start : Bool) (counter : ℕ) (field : Option AdaptationField) (payload : List ℕ)
+    → pid ≡ pid_of carried → field ≡ stuffing (length payload)
+    → written (record { pid = pid; start = start; counter = counter; field = field; payload = payload }) ≡ written_payload (pid_of carried) start payload counter
+as-payload carried pid start counter field payload e f =
+    ap (λ (n : ℕ). written (record { pid = n; start = start; counter = counter; field = field; payload = payload })) e
+    ∙ ap (λ (g : Option AdaptationField). written (record { pid = pid_of carried; start = start; counter = counter; field = g; payload = payload })) f
+
+-- a section fills its packet
+pub section-size : (section : List ℕ) → length section < 184 → length (section_payload section) ≡ 184
+section-size section few =
+    let rest : List ℕ = replicate (184 - 1 - length section) 0xFF in
+    let parts : length (section ++ rest) ≡ length section + length rest = length-append section rest in
+    let filled : length rest ≡ 184 - 1 - length section = length-replicate (184 - 1 - length section) 0xFF in
+    let one : length (section_payload section) ≡ suc (length (section ++ rest)) = refl in
+    omega (arith, parts, filled, one, few)
+
+pub section-as : (pid : ℕ) (section payload : List ℕ) → length section < 184 → payload ≡ section_payload section
+    → written (record { pid = pid; start = true; counter = 0; field = None; payload = payload }) ≡ written (section_packet pid section)
+section-as pid section payload few is =
+    ap (λ (bytes : List ℕ). written (record { pid = pid; start = true; counter = 0; field = None; payload = bytes })) is
+    ∙ ap (λ (field : Option AdaptationField). written (record { pid = pid; start = true; counter = 0; field = field; payload = section_payload section }))
+      (sym (ap (λ (b : Bool). cond b None (Some (record { discontinuity = false; pcr = None }))) (eq-eqb (length (section_payload section)) 184 (section-size section few))))
+
+-- what stays behind a section that was copied into its packet
+pub behind-section : (n : ℕ) → n < 184 → drop {A = ℕ} (1 + n - 1) (replicate 183 0xFF) ≡ replicate (184 - 1 - n) 0xFF
+behind-section n few = drop-replicate (1 + n - 1) 183 0xFF ∙ ap (λ k. replicate k 0xFF) (let e : 183 - (1 + n - 1) ≡ 184 - 1 - n = omega (arith, few) in e)

@@ -66,3 +66,6 @@ pub const AUDIO_TYPE: u8 = 3;
 
 /// The most pictures of a generated program.
 pub const PICTURES_MOST: u32 = 4_096;
+
+/// A number above that of all audio frames, 5/3 of that of the pictures.
+pub const FRAMES_MOST: u32 = 2 * PICTURES_MOST;

@@ -190,7 +190,9 @@ fn section_bytes(section: &[u8]) -> [u8; PAYLOAD_BYTES]
 /// The bytes in the n-th packet of a PES packet.
 fn chunk(bytes: &[u8], n: usize) -> &[u8]
     requires { n * PAYLOAD_BYTES < length bytes.now }
-    ensures { result.now ≡ slice_chunk bytes.now PAYLOAD_BYTES n }
+    ensures chunk { result.now ≡ slice_chunk bytes.now PAYLOAD_BYTES n }
+    ensures some { 0 < length result.now }
+    ensures few { length result.now ≤ PAYLOAD_BYTES }
 {
     let rest = &bytes[n * PAYLOAD_BYTES..];
     if rest.len() < PAYLOAD_BYTES {
