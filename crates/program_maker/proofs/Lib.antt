@@ -2,5 +2,6 @@ mod Counting
 mod Drawing
 mod Examples
 mod HeadBytes
+mod Placing
 mod Spelled
 mod Writing

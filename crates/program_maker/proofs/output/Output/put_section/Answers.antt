@@ -1,4 +1,4 @@
-use Rattle.std.proofs.Common.{◌≡◌, ◌<◌, ◌+◌, ◌-◌, ◌++◌, List, ℕ, None, true, length, length-append, length-replicate, refl, ap, sym, ◌∙◌, arith, replicate}
+use Rattle.std.proofs.Common.{◌≡◌, ◌<◌, ◌+◌, ◌-◌, ◌++◌, List, ℕ, None, true, length, refl, ap, sym, ◌∙◌, arith}
 use Rattle.std.proofs.lemmas.Result.{on_ok_weaker}
 use Rattle.ts_packets.specs.Packet.{written}
 use Rattle.program_maker.specs.Packets.{section_payload, section_packet}
