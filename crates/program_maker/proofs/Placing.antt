@@ -66,7 +66,9 @@ module _ (test : ℕ → Bool) (low high : ℕ) (yes : (j : ℕ) → low ≤ j �
 
 -- the frames behind picture k
 frames-in : (k j : ℕ) → first_frame k ≤ j → j < first_frame (k + 1) → is_behind k j ≡ true
-frames-in k j least most = and_from (le-leb (90000 + 3600 * k) (90000 + 2160 * j) (omega (arith, least))) (lt-ltb (90000 + 2160 * j) (90000 + 3600 * (k + 1)) (omega (arith, most)))
+frames-in k j least most =
+    and_from (nat_le (90000 + 3600 * k) (90000 + 2160 * j)) (nat_lt (90000 + 2160 * j) (90000 + 3600 * (k + 1)))
+    (le-leb (90000 + 3600 * k) (90000 + 2160 * j) (omega (arith, least))) (lt-ltb (90000 + 2160 * j) (90000 + 3600 * (k + 1)) (omega (arith, most)))
 
 frames-out : (k j : ℕ) → (j < first_frame k) ⊎ (first_frame (k + 1) ≤ j) → is_behind k j ≡ false
 frames-out k j (inl below) = and_left (nat_le (90000 + 3600 * k) (90000 + 2160 * j)) (nat_lt (90000 + 2160 * j) (90000 + 3600 * (k + 1)))
