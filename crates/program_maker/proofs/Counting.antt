@@ -1,5 +1,5 @@
 -- Packets and their counters, one packet more.
-use Rattle.std.proofs.Common.{◌≡◌, ◌≢◌, ◌+◌, ◌%◌, ◌<◌, ◌==◌, ◌&&◌, nat_eq, nat_lt, ℕ, suc, Option, Some, None, replicate, ◌-◌, Bool, true, false, cond, List, [], ◌∷◌, ◌++◌, length, drop, refl, sym, ap, subst, ◌∙◌, append_assoc, append-nil, length-append, eq-eqb, arith}
+use Rattle.std.proofs.Common.{◌≡◌, ◌≢◌, ◌+◌, ◌%◌, ◌<◌, ◌==◌, ◌&&◌, nat_lt, ℕ, suc, Option, Some, None, replicate, ◌-◌, Bool, true, false, cond, List, [], ◌∷◌, ◌++◌, length, drop, refl, sym, ap, ◌∙◌, append_assoc, append-nil, length-append, eq-eqb, arith}
 use Rattle.std.specs.List.{filter, flat_map}
 use Rattle.std.proofs.lemmas.Bool.{lt-ltb, ne_eqb}
 use Rattle.std.proofs.lemmas.List.{drop-replicate, length-replicate}
@@ -63,7 +63,7 @@ this-pid : (pid : ℕ) (packets : List PacketRecord) (p : PacketRecord) → p.pi
 this-pid pid packets p same some =
     let count = payloads-more pid packets p in
     let one : one_if ((p.pid == pid) && nat_lt 0 (length p.payload)) ≡ 1 =
-        ap (λ (b : Bool). one_if (b && nat_lt 0 (length p.payload))) (eq-eqb p.pid pid same) ∙ ap (λ (b : Bool). one_if b) (lt-ltb 0 (length p.payload) some) in
+    ap (λ (b : Bool). one_if (b && nat_lt 0 (length p.payload))) (eq-eqb p.pid pid same) ∙ ap (λ (b : Bool). one_if b) (lt-ltb 0 (length p.payload) some) in
     omega (arith, count, one)
 
 and-nothing : (b : Bool) → one_if (b && false) ≡ 0
@@ -74,7 +74,7 @@ no-payload : (pid : ℕ) (packets : List PacketRecord) (p : PacketRecord) → p.
 no-payload pid packets p none =
     let count = payloads-more pid packets p in
     let zero_more : one_if ((p.pid == pid) && nat_lt 0 (length p.payload)) ≡ 0 =
-        ap (λ (bytes : List ℕ). one_if ((p.pid == pid) && nat_lt 0 (length bytes))) none ∙ and-nothing (p.pid == pid) in
+    ap (λ (bytes : List ℕ). one_if ((p.pid == pid) && nat_lt 0 (length bytes))) none ∙ and-nothing (p.pid == pid) in
     omega (arith, count, zero_more)
 
 payload-counter : (packets : List PacketRecord) (p : PacketRecord) → 0 < length p.payload → counter_behind packets p ≡ payloads_of p.pid packets % 16
@@ -152,7 +152,7 @@ pub section-as : (pid : ℕ) (section payload : List ℕ) → length section < 1
 section-as pid section payload few is =
     ap (λ (bytes : List ℕ). written (record { pid = pid; start = true; counter = 0; field = None; payload = bytes })) is
     ∙ ap (λ (field : Option AdaptationField). written (record { pid = pid; start = true; counter = 0; field = field; payload = section_payload section }))
-      (sym (ap (λ (b : Bool). cond b None (Some (record { discontinuity = false; pcr = None }))) (eq-eqb (length (section_payload section)) 184 (section-size section few))))
+    (sym (ap (λ (b : Bool). cond b None (Some (record { discontinuity = false; pcr = None }))) (eq-eqb (length (section_payload section)) 184 (section-size section few))))
 
 -- what stays behind a section that was copied into its packet
 pub behind-section : (n : ℕ) → n < 184 → drop {A = ℕ} (1 + n - 1) (replicate 183 0xFF) ≡ replicate (184 - 1 - n) 0xFF

@@ -1,5 +1,5 @@
 -- Things that are drawn one behind the other.
-use Rattle.std.proofs.Common.{◌≡◌, ◌+◌, ◌<◌, ℕ, zero, suc, List, [], ◌∷◌, ◌++◌, length, refl, sym, ap, subst, ◌∙◌, arith}
+use Rattle.std.proofs.Common.{◌≡◌, ◌+◌, ℕ, zero, suc, List, [], ◌∷◌, ◌++◌, length, refl, sym, ap, ◌∙◌, arith}
 use Rattle.std.specs.List.{range_with_len}
 use Rattle.std.proofs.lemmas.List.FromFn.{length-range_with_len}
 use Rattle.program_maker.specs.Draws.{Drawn, each}
@@ -31,10 +31,11 @@ module _ {A : Type 0} (thing : ℕ → Drawn A) where
       → (made ≡ (each (range_with_len 0 n) thing start).0) × (state ≡ (each (range_with_len 0 n) thing start).1)
       → value ≡ (thing n state).0 → next ≡ (thing n state).1 → more ≡ made ++ value ∷ []
       → (more ≡ (each (range_with_len 0 (n + 1)) thing start).0) × (next ≡ (each (range_with_len 0 (n + 1)) thing start).1)
-  drawn-more n start made more value state next (e, f) is leaves added =
-      ( added ∙ ap (λ (xs : List A). xs ++ value ∷ []) e
-        ∙ ap (λ (x : A). (each (range_with_len 0 n) thing start).0 ++ x ∷ []) (is ∙ ap (λ s. (thing n s).0) f) ∙ sym (each-more n start)
-      , leaves ∙ ap (λ s. (thing n s).1) f ∙ sym (state-more n start))
+  drawn-more n start made more value state next (e, f) is leaves added = (
+    added ∙ ap (λ (xs : List A). xs ++ value ∷ []) e
+        ∙ ap (λ (x : A). (each (range_with_len 0 n) thing start).0 ++ x ∷ []) (is ∙ ap (λ s. (thing n s).0) f) ∙ sym (each-more n start),
+    leaves ∙ ap (λ s. (thing n s).1) f ∙ sym (state-more n start),
+  )
 
 length-each : {I A : Type 0} (thing : I → Drawn A) (is : List I) (start : ℕ) → length (each is thing start).0 ≡ length is
 length-each thing [] start = refl

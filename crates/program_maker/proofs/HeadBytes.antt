@@ -1,10 +1,10 @@
 -- The heads of pictures, byte by byte.
-use Rattle.std.proofs.Common.{◌≡◌, ◌≢◌, ◌+◌, ◌*◌, ◌/◌, ◌%◌, ◌<◌, ◌^◌, ℕ, zero, suc, List, [], ◌∷◌, ◌++◌, nat_eq, nat_lt, not, Bool, true, false, refl, sym, ap, subst, ◌∙◌, inl, inr, eq-eqb, arith}
+use Rattle.std.proofs.Common.{◌≡◌, ◌≢◌, ◌+◌, ◌*◌, ◌/◌, ◌%◌, ◌<◌, ℕ, zero, suc, List, [], ◌∷◌, ◌++◌, nat_eq, nat_lt, not, Bool, true, false, refl, sym, ap, subst, ◌∙◌, inl, inr, eq-eqb, arith}
 use Rattle.std.proofs.lemmas.Bool.{and_parts, ltb-true, ne_eqb, cases_Bool, eqb-true, eqb-false}
 use Rattle.std.specs.List.{list_all}
 use Rattle.std.proofs.lemmas.Nat.{mod_below}
 use Rattle.bit_lists.specs.Fields.{AreBytes}
-use Rattle.program_maker.specs.Heads.{both, coding_of, headers_before, picture_header, picture_coding_extension, temporal_reference, head_of}
+use Rattle.program_maker.specs.Heads.{coding_of, headers_before, picture_header, picture_coding_extension, head_of}
 
 -- the head of a P-picture by its temporal reference
 abbrev pub p_bytes : ℕ → List ℕ
@@ -47,11 +47,61 @@ unfolding head_of
 later-head k not_first = sym (ap (λ (b : Bool). fields b (k % 12)) (ne_eqb (k % 12) 0 not_first))
 
 p-are : (r : ℕ) → r < 12 → AreBytes (p_bytes r)
-p-are r lt =
-    (omega arith, (omega arith, (omega arith, (omega arith, (omega arith, (omega arith,
-    (omega arith, (omega arith, (omega arith, (omega arith, (omega arith, (omega arith,
-    (omega arith, (omega arith, (omega arith, (omega arith, (omega arith, (omega arith,
-    tt))))))))))))))))))
+p-are r lt = (
+  omega arith,
+  (
+    omega arith,
+    (
+      omega arith,
+      (
+        omega arith,
+        (
+          omega arith,
+          (
+            omega arith,
+            (
+              omega arith,
+              (
+                omega arith,
+                (
+                  omega arith,
+                  (
+                    omega arith,
+                    (
+                      omega arith,
+                      (
+                        omega arith,
+                        (
+                          omega arith,
+                          (
+                            omega arith,
+                            (
+                              omega arith,
+                              (
+                                omega arith,
+                                (
+                                  omega arith,
+                                  (
+                                    omega arith,
+                                    tt,
+                                  ),
+                                ),
+                              ),
+                            ),
+                          ),
+                        ),
+                      ),
+                    ),
+                  ),
+                ),
+              ),
+            ),
+          ),
+        ),
+      ),
+    ),
+  ),
+)
 
 -- bytes, by a test
 are-bytes : (xs : List ℕ) → list_all (λ byte. nat_lt byte 256) xs ≡ true → AreBytes xs

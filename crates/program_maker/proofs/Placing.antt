@@ -1,5 +1,5 @@
 -- Where frames stand among the pictures.
-use Rattle.std.proofs.Common.{◌≡◌, ◌⊎◌, ◌+◌, ◌-◌, ◌*◌, ◌/◌, ◌<◌, ◌≤◌, ◌==◌, ◌&&◌, nat_le, nat_lt, min, ℕ, zero, suc, Bool, true, false, cond, List, [], ◌∷◌, ◌++◌, length, slice_index_or, refl, sym, ap, subst, ◌∙◌, inl, inr, append_assoc, append-nil, arith}
+use Rattle.std.proofs.Common.{◌≡◌, ◌⊎◌, ◌+◌, ◌-◌, ◌*◌, ◌/◌, ◌<◌, ◌≤◌, nat_le, nat_lt, min, ℕ, zero, suc, Bool, true, false, cond, List, [], ◌∷◌, ◌++◌, length, slice_index_or, refl, sym, ap, ◌∙◌, inl, inr, append_assoc, append-nil, arith}
 use Rattle.std.specs.List.{filter, flat_map, range_with_len}
 use Rattle.std.proofs.lemmas.Bool.{and_from, and_left, and_right, cases_lt, le-leb, lt-ltb, lt-leb, le-ltb}
 use Rattle.std.proofs.lemmas.List.Elements.{filter-append}
@@ -97,7 +97,7 @@ frames-of pictures start k end is =
     let number = end - first_frame k in
     flat-same (λ j. pes_packets 0x102 (frame_pes j (drawn_frame (frames_state start j)).0)) (frame_packets frames) (first_frame k) number
     (λ j least most. ap (λ bytes. pes_packets 0x102 (frame_pes j bytes))
-        (sym (thing-of (λ _. drawn_frame) (5 * pictures / 3) 0 j start [] (omega (arith, least, most, is)))))
+    (sym (thing-of (λ _. drawn_frame) (5 * pictures / 3) 0 j start [] (omega (arith, least, most, is)))))
     ∙ ap (λ n. flat_map (frame_packets frames) (range_with_len (first_frame k) (n - first_frame k))) is
     ∙ sym (ap (flat_map (frame_packets frames)) (behind-are pictures k))
 
@@ -117,7 +117,7 @@ any-default (x ∷ xs) (suc i) d e lt = any-default xs i d e (omega (arith, lt))
 pub picture-more : (packets : List PacketRecord) (units : List (List ℕ)) (start k end : ℕ) (unit : List ℕ) (default : List ℕ) → k < length units
     → unit ≡ slice_index_or units k default → end ≡ min (first_frame (k + 1)) (5 * length units / 3)
     → ((packets ++ flat_map (packets_at units (drawn_frames (length units) start).0) (range_with_len 0 k)) ++ (pcr_packet k ∷ pes_packets 0x101 (picture_pes k unit)))
-        ++ frames_packets start (first_frame k) (end - first_frame k)
+    ++ frames_packets start (first_frame k) (end - first_frame k)
     ≡ packets ++ flat_map (packets_at units (drawn_frames (length units) start).0) (range_with_len 0 (k + 1))
 picture-more packets units start k end unit default lt is end_is =
     let frames : List (List ℕ) = (drawn_frames (length units) start).0 in

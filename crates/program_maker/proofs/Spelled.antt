@@ -1,47 +1,5 @@
 -- Each macroblock that is drawn is one that some bits spell.
-use Rattle.std.proofs.Common.{
-  ◌≡◌,
-  ◌⊎◌,
-  ◌+◌,
-  ◌*◌,
-  ◌/◌,
-  ◌<◌,
-  ◌≤◌,
-  ◌^◌,
-  ◌==◌,
-  ◌&&◌,
-  ◌||◌,
-  ℕ,
-  zero,
-  suc,
-  pos,
-  unsigned_abs,
-  nat_le,
-  nat_lt,
-  not,
-  is_some,
-  Option,
-  Some,
-  None,
-  List,
-  [],
-  ◌∷◌,
-  ◌++◌,
-  length,
-  slice_index_or,
-  Bool,
-  true,
-  false,
-  cond,
-  refl,
-  sym,
-  ap,
-  subst,
-  ◌∙◌,
-  inl,
-  inr,
-  arith,
-}
+use Rattle.std.proofs.Common.{◌≡◌, ◌⊎◌, ◌+◌, ◌*◌, ◌/◌, ◌<◌, ◌≤◌, ◌^◌, ◌==◌, ◌&&◌, ◌||◌, ℕ, zero, suc, unsigned_abs, nat_lt, not, is_some, Option, Some, None, List, [], ◌∷◌, ◌++◌, length, slice_index_or, Bool, true, false, cond, refl, sym, ap, subst, ◌∙◌, inl, inr, arith}
 use Rattle.std.specs.List.{AllByRecursion, list_all, range_with_len, sum_by}
 use Rattle.std.proofs.lemmas.Nat.{mod_below}
 use Rattle.std.proofs.lemmas.Bool.{and_parts, cases_lt, le-leb, ne_eqb}
@@ -50,33 +8,15 @@ use Rattle.prefix_codes.proofs.Computing.{tables}
 use Rattle.prefix_codes.specs.TableName.{code_in}
 use Rattle.prefix_codes.specs.declared.table_name.TableName.TheVariants.{Pattern}
 use Rattle.bit_lists.specs.Bits.{bits_of}
-use Rattle.syntax_types.specs.declared.block.Block.{Block}
 use Rattle.syntax_types.specs.declared.block.RunLevel.{RunLevel}
 use Rattle.syntax_types.specs.declared.macroblock.Kind.{Kind}
 use Rattle.syntax_types.specs.declared.macroblock.Macroblock.{Macroblock}
 use Rattle.picture_grammar.specs.Refusal.Refusal.{BadPattern}
 use Rattle.picture_grammar.specs.Grammar.{optional, when}
 use Rattle.picture_grammar.specs.Element.{vlclbf}
-use Rattle.picture_grammar.specs.Block.{dc_coefficient, next_place, first_place, signed}
+use Rattle.picture_grammar.specs.Block.{dc_coefficient, first_place, signed}
 use Rattle.picture_grammar.specs.Motion.{motion_vectors}
-use Rattle.picture_grammar.specs.Macroblock.{
-  address_increment,
-  most_increment,
-  macroblock_type,
-  motion_type,
-  dct_type,
-  quantiser_scale_code,
-  has_forward,
-  f_codes,
-  motion_format,
-  block_way,
-  is_coded,
-  no_block,
-  blocks,
-  macroblock,
-  type_table,
-  type_symbol,
-}
+use Rattle.picture_grammar.specs.Macroblock.{address_increment, most_increment, macroblock_type, motion_type, dct_type, quantiser_scale_code, has_forward, f_codes, motion_format, block_way, is_coded, no_block, macroblock, type_table, type_symbol}
 use Rattle.picture_grammar.specs.Written.{written_macroblock}
 use Rattle.picture_grammar.proofs.WrittenBlock.{unsigned_abs-signed}
 use Rattle.picture_laws.specs.Spellable.{IsSpellable, HasSpellableCoefficients, IsSpellableBlock, AreSpellableBlocks, HasSpellableParts}
@@ -87,23 +27,7 @@ use Rattle.picture_laws.proofs.WrittenBlocks.{of_blocks}
 use Rattle.picture_laws.proofs.WrittenMacroblock.{anywhere-macroblock}
 use Rattle.program_maker.specs.Draws.{Drawn, state_after, pick, each}
 use Rattle.program_maker.specs.Heads.{coding_of}
-use Rattle.program_maker.specs.Macroblocks.{
-  run_level,
-  number_of_pairs,
-  coded_block,
-  block_at,
-  intra_kind,
-  predicted,
-  kind_of,
-  drawn_kind,
-  code_by_chance,
-  quantiser_code,
-  coded_pattern,
-  drawn_blocks,
-  still,
-  macroblock_of,
-  drawn_macroblock,
-}
+use Rattle.program_maker.specs.Macroblocks.{run_level, number_of_pairs, coded_block, block_at, intra_kind, predicted, drawn_kind, code_by_chance, quantiser_code, coded_pattern, drawn_blocks, still, macroblock_of, drawn_macroblock}
 use Rattle.program_maker.proofs.Drawing.{number-each}
 
 -- ---- numbers that are drawn
@@ -371,7 +295,7 @@ module _ (p first : Bool) (columns : ℕ) (some : 1 ≤ columns) where
   -- whatever code is drawn
   any-code : (kind : Kind) → ((quant : Bool) → IsSpellable (macroblock_type (coding_of p)) (record kind { quant = quant }))
       → ((code : Option ℕ) → IsSpellable (macroblock_type (coding_of p)) (record kind { quant = is_some code })
-          → IsSpellable (optional (is_some code) quantiser_scale_code) code → IsFrontSpelled p kind code)
+      → IsSpellable (optional (is_some code) quantiser_scale_code) code → IsFrontSpelled p kind code)
       → (state : ℕ) → HasParts p first columns (made kind (code_by_chance (pick 8 state).0 (pick 8 state).1))
   any-code kind types front state =
       let behind = (pick 8 state).1 in

@@ -1,5 +1,5 @@
 -- Drawn things that are written one behind the other.
-use Rattle.std.proofs.Common.{◌≡◌, ◌+◌, ◌<◌, ◌^◌, ℕ, List, [], ◌∷◌, ◌++◌, Ok, Err, OnOk, Result, refl, sym, ap, subst, ◌∙◌, append_assoc, append-nil, Bool, true, false, arith}
+use Rattle.std.proofs.Common.{◌≡◌, ◌+◌, ℕ, List, [], ◌∷◌, ◌++◌, Ok, Err, OnOk, Result, refl, sym, ap, subst, ◌∙◌, append-nil, Bool, false}
 use Rattle.std.specs.List.{flat_map, range_with_len}
 use Rattle.std.proofs.lemmas.List.Concat.{flat_map-append}
 use Rattle.shelf_io.specs.declared.fault.Fault.{Fault}
@@ -79,6 +79,7 @@ made-picture k state predicted first mid last given none head is adds same =
     let mid_is : mid ≡ head_of k = same-bytes mid (first ++ head_of k) head ∙ ap (λ xs. xs ++ head_of k) none in
     let bytes : given ≡ head_of k ++ adds.bytes = same ∙ same-bytes last (mid ++ adds.bytes) adds.at_the_end ∙ ap (λ xs. xs ++ adds.bytes) mid_is in
     let bits : bit_list given ≡ bit_list (head_of k) ++ slices (is_predicted k) =
-        ap bit_list bytes ∙ bit_list-append (head_of k) adds.bytes ∙ ap (λ b. bit_list (head_of k) ++ b) (adds.spelled ∙ ap slices is) in
-    ( subst AreBytes (sym bytes) (AreBytes-append (head_of k) adds.bytes (head-are k) adds.are_bytes)
-    , bits ∙ sym (append-nil (bit_list (head_of k) ++ slices (is_predicted k))))
+    ap bit_list bytes ∙ bit_list-append (head_of k) adds.bytes ∙ ap (λ b. bit_list (head_of k) ++ b) (adds.spelled ∙ ap slices is) in (
+      subst AreBytes (sym bytes) (AreBytes-append (head_of k) adds.bytes (head-are k) adds.are_bytes),
+      bits ∙ sym (append-nil (bit_list (head_of k) ++ slices (is_predicted k))),
+    )

@@ -1,5 +1,5 @@
 -- What stands before the slices of a generated picture (ISO/IEC 13818-2, 6.2.2 and 6.2.3).
-use Rattle.std.specs.Prelude.{ℕ, ◌+◌, ◌-◌, ◌*◌, ◌/◌, ◌%◌, ◌^◌, ◌==◌, Bool, true, false, not, List, [], ◌∷◌, ◌++◌, drop, replicate, slice_index, slice_index_or, if◌then◌else◌}
+use Rattle.std.specs.Prelude.{ℕ, ◌+◌, ◌-◌, ◌*◌, ◌%◌, ◌^◌, ◌==◌, Bool, true, false, not, List, [], ◌∷◌, ◌++◌, drop, slice_index, if◌then◌else◌}
 use Rattle.std.specs.Int.{w64, to_be_bytes}
 use Rattle.stream_constants.specs.declared.start_codes.TheConstants.{PICTURE, SEQUENCE_HEADER, EXTENSION, GROUP, SEQUENCE_EXTENSION, PICTURE_CODING}
 use Rattle.bit_lists.specs.Fields.{flag}

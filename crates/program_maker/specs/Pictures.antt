@@ -1,5 +1,5 @@
 -- The pictures of a generated program (for their syntax see ISO/IEC 13818-2, 6.2).
-use Rattle.std.specs.Prelude.{ℕ, ◌+◌, Bool, false, None, List, [], ◌∷◌, if◌then◌else◌}
+use Rattle.std.specs.Prelude.{ℕ, Bool, false, None, List, [], ◌∷◌}
 use Rattle.std.specs.List.{range_with_len}
 use Rattle.syntax_types.specs.declared.macroblock.Macroblock.{Macroblock}
 use Rattle.syntax_types.specs.declared.picture.Picture.{Picture}

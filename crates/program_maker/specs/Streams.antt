@@ -1,5 +1,5 @@
 -- The PES packets of a generated program (ISO/IEC 13818-1, 2.4.3.6 and 2.4.3.7), and their times in units of 1/90,000 s.
-use Rattle.std.specs.Prelude.{ℕ, ◌+◌, ◌*◌, ◌/◌, Some, List, [], ◌∷◌, ◌++◌}
+use Rattle.std.specs.Prelude.{ℕ, ◌+◌, ◌*◌, ◌/◌, Some, List, ◌∷◌, ◌++◌}
 use Rattle.std.specs.List.{range_with_len}
 use Rattle.pes_units.specs.declared.times.Times.{Times}
 use Rattle.pes_units.specs.VideoHeader.{written_header, time_bytes}

@@ -3,7 +3,9 @@ ghost use Rattle.std.specs.Prelude.{◌≡◌, ◌<◌, ◌++◌, OnOk};
 ghost use Rattle.program_maker.specs.Streams.{drawn_bytes, drawn_frame, frame_header as header_of_frame, frame_pes, picture_pes};
 
 use crate::draws::Draws;
-use crate::format::{FIRST_TIME, FRAME_DATA_BYTES, FRAME_TIME, FRAMES_MOST, PICTURE_TIME, PICTURES_MOST};
+use crate::format::{
+    FIRST_TIME, FRAME_DATA_BYTES, FRAME_TIME, FRAMES_MOST, PICTURE_TIME, PICTURES_MOST,
+};
 use list_types::OutOfMemory;
 use pes_units::{MOST_HEADER_BYTES, Times, write_video_header};
 

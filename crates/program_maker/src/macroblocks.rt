@@ -131,11 +131,7 @@ fn draw_pattern(draws: &mut Draws, stands: bool) -> u8
     ensures drawn { result ≡ (coded_pattern stands draws.old.state).0 }
     ensures state { draws.new.state ≡ (coded_pattern stands draws.old.state).1 }
 {
-    if stands {
-        1 + draws.pick(63) as u8
-    } else {
-        0
-    }
+    if stands { 1 + draws.pick(63) as u8 } else { 0 }
 }
 
 // The vector of motion codes 0 where there is forward motion.

@@ -13,8 +13,8 @@ ghost use Rattle.program_maker.specs.Private.Program.{IsBehindTables, frames_sta
 
 use crate::draws::Draws;
 use crate::format::{
-    AUDIO_PID, AUDIO_TYPE, FRAMES_MOST, PAT_PID, PICTURES_MOST, PMT_PID, PROGRAM, STREAM_ID, VIDEO_PID,
-    VIDEO_TYPE,
+    AUDIO_PID, AUDIO_TYPE, FRAMES_MOST, PAT_PID, PICTURES_MOST, PMT_PID, PROGRAM, STREAM_ID,
+    VIDEO_PID, VIDEO_TYPE,
 };
 use crate::frames::{make_frame_pes, make_picture_pes};
 use crate::macroblocks::empty_macroblock;
@@ -26,11 +26,7 @@ use psi_tables::{ProgramMap, Section, Stream, write_pat, write_pmt};
 use std::alloc::Global;
 
 /// The program of a seed with so many pictures, at most 4,096: the bytes of a transport stream (ISO/IEC 13818-1, 2.4.3).
-pub fn make_program(
-    alloc: Global,
-    seed: u64,
-    pictures: u32,
-) -> Result<ListOf<u8>, OutOfMemory>
+pub fn make_program(alloc: Global, seed: u64, pictures: u32) -> Result<ListOf<u8>, OutOfMemory>
     requires { pictures ≤ PICTURES_MOST }
     ensures { IfOk result (IsProgram seed pictures) }
 {
@@ -136,12 +132,7 @@ fn frames_before(k: u32) -> u32
 }
 
 // The PCR before a picture, and the picture.
-fn put_picture(
-    out: &mut Output,
-    pes: &mut Vec<u8>,
-    k: u32,
-    bytes: &[u8],
-) -> Result<(), OutOfMemory>
+fn put_picture(out: &mut Output, pes: &mut Vec<u8>, k: u32, bytes: &[u8]) -> Result<(), OutOfMemory>
     requires { k < PICTURES_MOST }
     ensures { (packets : List PacketRecord) → IsBehind packets out.old →
         OnOk result (IsBehind (packets ++ (pcr_packet k ∷ pes_packets VIDEO_PID (picture_pes k bytes.now))) out.new) }

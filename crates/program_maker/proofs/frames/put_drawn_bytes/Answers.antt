@@ -12,7 +12,7 @@ loop-i-preserved c =
     let made : List ℕ = (each (range_with_len 0 c.loop-i._i) (λ _. pick 255) start).0 in
     let x = c.pick.result in
     let more = drawn-more (λ _. pick 255) c.loop-i._i start made (made ++ x ∷ []) x c.loop-i.draws.state c.pick.new.self.state
-        (refl, c.loop-i.invariant.1) c.pick.ensures.number c.pick.ensures.state refl in
+    (refl, c.loop-i.invariant.1) c.pick.ensures.number c.pick.ensures.state refl in
     (c.in_ok-push.ensures.items ∙ ap (λ xs. xs ++ x ∷ []) c.loop-i.invariant.0 ∙ append_assoc before made (x ∷ []) ∙ ap (λ xs. before ++ xs) more.0, more.1)
 
 pub returns-clause-made : goal.returns-clause-made

@@ -1,7 +1,7 @@
 use Rattle.std.proofs.Common.{◌≡◌, ap, ◌∙◌}
 use Rattle.std.proofs.lemmas.Result.{on_ok_weaker}
 use Rattle.shelf_io.specs.Sink.{with_bytes}
-use Rattle.program_maker.proofs.HeadBytes.{i-head, i_fields, p_fields, later-head}
+use Rattle.program_maker.proofs.HeadBytes.{i-head, i_fields, later-head}
 use Rattle.program_maker.proofs.heads.write_head.Goals as goal
 
 pub returns-then-reference-eq0 : goal.returns-then-reference-eq0

@@ -1,5 +1,4 @@
-use Rattle.std.proofs.Common.{◌≡◌, ◌+◌, ◌-◌, ◌∷◌, ◌++◌, ℕ, List, length, replicate, refl, ap, ap₂, sym, ◌∙◌, arith}
-use borrow.Rule.Slice.PartMut.{post_of}
+use Rattle.std.proofs.Common.{◌∷◌, ◌++◌, ℕ, List, length, ap₂}
 use Rattle.program_maker.proofs.Counting.{behind-section}
 use Rattle.program_maker.proofs.output.section_bytes.Goals as goal
 

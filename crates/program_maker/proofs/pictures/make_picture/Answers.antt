@@ -1,4 +1,4 @@
-use Rattle.std.proofs.Common.{◌≡◌, ap, ◌∙◌}
+use Rattle.std.proofs.Common.{ap, ◌∙◌}
 use Rattle.program_maker.specs.Pictures.{drawn_slices, drawn_picture}
 use Rattle.program_maker.proofs.Writing.{made-picture}
 use Rattle.program_maker.proofs.pictures.make_picture.Goals as goal

@@ -18,11 +18,13 @@ use Rattle.program_maker.proofs.pictures.put_macroblocks.Goals as goal
 pub write_macroblock-requires-clause-spelled : goal.write_macroblock-requires-clause-spelled
 write_macroblock-requires-clause-spelled g c =
     let p = c.args.predicted in
-    let m = c.draw_macroblock.new.into in
-    (true, 1,
-    subst (λ (coding : PicCoding). IsSpellable (macroblock coding true 1) m) (sym c.coding-coding.ensures)
-    (subst (λ (made : Macroblock). IsSpellable (macroblock (coding_of p) true 1) made) (sym c.draw_macroblock.ensures.drawn)
-    (drawn-spelled p true 1 c.loop-i.draws.state (omega arith))))
+    let m = c.draw_macroblock.new.into in (
+      true,
+      1,
+      subst (λ (coding : PicCoding). IsSpellable (macroblock coding true 1) m) (sym c.coding-coding.ensures)
+          (subst (λ (made : Macroblock). IsSpellable (macroblock (coding_of p) true 1) made) (sym c.draw_macroblock.ensures.drawn)
+          (drawn-spelled p true 1 c.loop-i.draws.state (omega arith))),
+    )
 
 pub loop-i-preserved : goal.loop-i-preserved
 loop-i-preserved g c =
@@ -30,9 +32,10 @@ loop-i-preserved g c =
     let start = c.args.draws.now.state in
     let written = written_macroblock (coding_of p) in
     let is = ap (λ (coding : PicCoding). written_macroblock coding c.draw_macroblock.new.into) c.coding-coding.ensures
-        ∙ ap written (c.draw_macroblock.ensures.drawn ∙ ap (λ s. (drawn_macroblock p s).0) c.loop-i.invariant.1) in
-    (goes-as (goes-then c.loop-i.invariant.0 (goes-as (goes-from c.in_ok-write_macroblock.ensures.writes) is)) (bits-more (λ _. drawn_macroblock p) written c.loop-i._i start),
-    c.draw_macroblock.ensures.state ∙ ap (λ s. (drawn_macroblock p s).1) c.loop-i.invariant.1 ∙ sym (state-more (λ _. drawn_macroblock p) c.loop-i._i start))
+    ∙ ap written (c.draw_macroblock.ensures.drawn ∙ ap (λ s. (drawn_macroblock p s).0) c.loop-i.invariant.1) in (
+      goes-as (goes-then c.loop-i.invariant.0 (goes-as (goes-from c.in_ok-write_macroblock.ensures.writes) is)) (bits-more (λ _. drawn_macroblock p) written c.loop-i._i start),
+      c.draw_macroblock.ensures.state ∙ ap (λ s. (drawn_macroblock p s).1) c.loop-i.invariant.1 ∙ sym (state-more (λ _. drawn_macroblock p) c.loop-i._i start),
+    )
 
 pub returns-clause-written : goal.returns-clause-written
 unfolding drawn_row

@@ -1,4 +1,4 @@
-use Rattle.std.proofs.Common.{◌≡◌, ◌+◌, ◌<◌, ◌^◌, ◌*◌, ℕ, ◌∷◌, [], ◌++◌, refl, ap, ◌∙◌, arith}
+use Rattle.std.proofs.Common.{◌≡◌, ◌+◌, ◌<◌, ◌^◌, ◌*◌, ℕ, ◌∷◌, [], ◌++◌, ap, ◌∙◌, arith}
 use Rattle.bit_lists.specs.Bits.{bits_of}
 use Rattle.bit_lists.proofs.JoinedLemmas.{bits_of-put}
 use Rattle.picture_grammar.specs.StartCode.{start_code_bits}

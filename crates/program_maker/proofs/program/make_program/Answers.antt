@@ -1,4 +1,4 @@
-use Rattle.std.proofs.Common.{◌≡◌, ◌≤◌, ◌∷◌, [], length, List, ℕ, sym, ap, subst, ◌∙◌, arith}
+use Rattle.std.proofs.Common.{◌≡◌, ◌∷◌, [], length, List, ℕ, sym, ap, subst, ◌∙◌, arith}
 use Rattle.std.specs.List.{flat_map}
 use Rattle.ts_packets.specs.Packet.{written}
 use Rattle.program_maker.specs.Packets.{section_packet, counted}
@@ -15,7 +15,7 @@ same-number number state units are = written-number (drawn_pictures number state
 pub put_units-requires : goal.put_units-requires
 put_units-requires c =
     let number : length c.as_slice.result.now ≡ c.args.pictures =
-        ap length c.as_slice.ensures ∙ same-number c.args.pictures c.new-draws.result.state _ c.in_ok-units.ensures.written in
+    ap length c.as_slice.ensures ∙ same-number c.args.pictures c.new-draws.result.state _ c.in_ok-units.ensures.written in
     omega (arith, number, c.requires)
 
 pub returns : goal.returns

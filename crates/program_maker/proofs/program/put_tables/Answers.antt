@@ -1,4 +1,4 @@
-use Rattle.std.proofs.Common.{◌≡◌, ◌∷◌, [], refl, sym, subst, arith}
+use Rattle.std.proofs.Common.{◌∷◌, [], refl, sym, subst, arith}
 use Rattle.std.proofs.lemmas.Result.{on_ok_weaker}
 use Rattle.psi_tables.specs.Pat.{written_pat}
 use Rattle.psi_tables.specs.Pmt.{written_pmt}

@@ -1,4 +1,4 @@
-use Rattle.std.proofs.Common.{◌≡◌, ◌+◌, ◌-◌, ◌*◌, ◌/◌, ◌<◌, ◌++◌, ◌∷◌, min, length, List, ℕ, [], sym, ap, subst, ◌∙◌, append-nil, refl, arith}
+use Rattle.std.proofs.Common.{◌≡◌, ◌+◌, ◌-◌, ◌*◌, ◌/◌, ◌<◌, ◌++◌, ◌∷◌, min, length, List, ap, subst, ◌∙◌, arith}
 use Rattle.std.specs.List.{flat_map, range_with_len}
 use Rattle.ts_packets.specs.Packet.{PacketRecord}
 use Rattle.program_maker.specs.Program.{packets_at}
@@ -22,11 +22,12 @@ loop-k-preserved c = λ packets is.
     let before : List PacketRecord = packets ++ flat_map (packets_at units (drawn_frames (length units) start).0) (range_with_len 0 k) in
     let shown : List PacketRecord = before ++ (pcr_packet k ∷ pes_packets 0x101 (picture_pes k c.as_slice.result.now)) in
     let picture = c.in_ok-put_picture.ensures before invariant.0 in
-    let frames = c.in_ok-put_frames.ensures shown start picture (invariant.1 ∙ ap (frames_state start) at) in
-    (subst (λ (ps : List PacketRecord). IsBehind ps c.put_frames.new.out)
-    (ap (λ n. shown ++ frames_packets start n (c.min.result - n)) first
-    ∙ picture-more packets units start k c.min.result c.as_slice.result.now _ within (c.as_slice.ensures ∙ c.index-units-k.is) most) frames.0,
-    frames.1 ∙ ap (frames_state start) most)
+    let frames = c.in_ok-put_frames.ensures shown start picture (invariant.1 ∙ ap (frames_state start) at) in (
+      subst (λ (ps : List PacketRecord). IsBehind ps c.put_frames.new.out)
+          (ap (λ n. shown ++ frames_packets start n (c.min.result - n)) first
+          ∙ picture-more packets units start k c.min.result c.as_slice.result.now _ within (c.as_slice.ensures ∙ c.index-units-k.is) most) frames.0,
+      frames.1 ∙ ap (frames_state start) most,
+    )
 
 pub returns : goal.returns
 returns c = λ packets is.

@@ -1,4 +1,4 @@
-use Rattle.std.proofs.Common.{◌≡◌, ◌+◌, ◌++◌, ℕ, List, length, min, ◌*◌, ◌/◌}
+use Rattle.std.proofs.Common.{◌≡◌, ◌++◌, List, length, min, ◌*◌, ◌/◌}
 use Rattle.std.specs.List.{flat_map, range_with_len}
 use Rattle.ts_packets.specs.Packet.{PacketRecord}
 use Rattle.program_maker.specs.Program.{packets_at}

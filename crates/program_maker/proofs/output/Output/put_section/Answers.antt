@@ -1,7 +1,6 @@
-use Rattle.std.proofs.Common.{◌≡◌, ◌<◌, ◌+◌, ◌-◌, ◌++◌, List, ℕ, None, true, length, refl, ap, sym, ◌∙◌, arith}
+use Rattle.std.proofs.Common.{◌++◌, refl, ap, ◌∙◌, arith}
 use Rattle.std.proofs.lemmas.Result.{on_ok_weaker}
-use Rattle.ts_packets.specs.Packet.{written}
-use Rattle.program_maker.specs.Packets.{section_payload, section_packet}
+use Rattle.program_maker.specs.Packets.{section_packet}
 use Rattle.program_maker.proofs.Counting.{first-behind, section-as}
 use Rattle.program_maker.proofs.output.Output.put_section.Goals as goal
 
