@@ -1,0 +1,7 @@
+mod Counting
+mod Drawing
+mod Examples
+mod HeadBytes
+mod Placing
+mod Spelled
+mod Writing
