@@ -1,0 +1,29 @@
+ghost use Rattle.std.specs.Prelude.{◌≤◌, ◌<◌, ℕ, length, IfSome, MatchResult};
+ghost use Rattle.std.specs.Option.{option_map};
+ghost use Rattle.picture_grammar.specs.Picture.{MayPrecede, RefusesPicture};
+ghost use Rattle.picture_reader.specs.PictureFault.{refusal_told};
+ghost use Rattle.version_maker.specs.Versions.{AreSizes};
+
+use crate::limits::UNIT_BYTES_MOST;
+use crate::version::VersionSize;
+use arrayvec::ArrayVec;
+use picture_reader::PictureFault;
+use std::alloc::Global;
+use syntax_types::SeqState;
+use version_table::limits::VERSIONS_MOST;
+
+/// How long all versions of a unit are, and their distortions, in the order of `versions_of`, which refuses the same units.
+pub fn sizes_of(
+    alloc: Global,
+    unit: &[u8],
+    before: Option<&SeqState>,
+    coarser: &[u16],
+) -> Result<ArrayVec<VersionSize, VERSIONS_MOST>, PictureFault>
+    requires unit { length unit.now ≤ UNIT_BYTES_MOST }
+    requires before { MayPrecede (option_map (λ state. state.now) before) }
+    requires coarser { length coarser.now < VERSIONS_MOST }
+    ensures { MatchResult result (λ sizes. AreSizes (option_map (λ state. state.now) before) unit.now coarser.now sizes.items)
+        (λ fault. IfSome (refusal_told fault) (λ said. RefusesPicture (option_map (λ state. state.now) before) unit.now said.refusal said.at)) }
+{
+    Err(PictureFault::OutOfMemory)
+}
