@@ -1,3 +1,4 @@
+pub mod Counts
 pub mod Examples
 pub mod Writable
 pub mod WritableSlices

@@ -3,9 +3,9 @@ use Rattle.std.specs.Prelude.{◌≡◌, ◌++◌, ℕ, Option, IfSome, List, �
 use Rattle.std.specs.List.{AllZip, slice_get}
 use Rattle.syntax_types.specs.declared.picture.Picture.{Picture}
 use Rattle.syntax_types.specs.declared.picture.SeqState.{SeqState}
-use Rattle.picture_grammar.specs.Picture.{IsCovered, SpellsPicture}
 use Rattle.picture_grammar.specs.Written.{IsWritten}
 use Rattle.picture_heads.specs.Heads.{IsHeadWithoutDelay}
+use Rattle.picture_reader.specs.Picture.{IsPictureOf}
 use Rattle.requantiser.specs.Distortion.{distortion_between}
 use Rattle.requantiser.specs.Version.{IsVersion}
 use Rattle.version_maker.specs.declared.version.UnitVersion.{UnitVersion}
@@ -36,12 +36,11 @@ pub record AreVersionsOf (picture : Picture) (unit coarser : List ℕ) (versions
   pub source : IsSourceVersion picture unit first
   pub coarser_ones : AllZip (IsCoarserVersion picture) coarser others
 
--- The unit spells a picture behind this state, or behind none, whose slices hold all its macroblocks (6.1.2), and these are
--- all its versions at these ratios.
+-- behind the state, or behind none, the unit spells a picture whose slices hold all its macroblocks (6.1.2), and these are
+-- all its versions at these ratios
 pub record AreVersions (before : Option SeqState) (unit coarser : List ℕ) (versions : List UnitVersion) : Type 0 where
   pub picture : Picture
-  pub spelled : SpellsPicture before picture unit
-  pub covered : IsCovered picture
+  pub whole : IsPictureOf before unit picture
   pub of_picture : AreVersionsOf picture unit coarser versions
 
 -- these are the bytes of the version with this number

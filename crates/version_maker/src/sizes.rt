@@ -1,7 +1,7 @@
-ghost use Rattle.std.specs.Prelude.{◌≤◌, ◌<◌, ℕ, length, IfSome, MatchResult};
-ghost use Rattle.std.specs.Option.{option_map};
-ghost use Rattle.picture_grammar.specs.Picture.{MayPrecede, RefusesPicture};
-ghost use Rattle.picture_reader.specs.PictureFault.{refusal_told};
+ghost use Rattle.std.specs.Prelude.{◌≤◌, ◌<◌, ℕ, length, MatchResult};
+ghost use Rattle.std.specs.Option.{option_copied};
+ghost use Rattle.picture_grammar.specs.Picture.{MayPrecede};
+ghost use Rattle.picture_reader.specs.Picture.{IsRefusedAs};
 ghost use Rattle.version_maker.specs.Versions.{AreSizes};
 
 use crate::limits::UNIT_BYTES_MOST;
@@ -20,10 +20,10 @@ pub fn sizes_of(
     coarser: &[u16],
 ) -> Result<ArrayVec<VersionSize, VERSIONS_MOST>, PictureFault>
     requires unit { length unit.now ≤ UNIT_BYTES_MOST }
-    requires before { MayPrecede (option_map (λ state. state.now) before) }
+    requires before { MayPrecede (option_copied before.entry) }
     requires coarser { length coarser.now < VERSIONS_MOST }
-    ensures { MatchResult result (λ sizes. AreSizes (option_map (λ state. state.now) before) unit.now coarser.now sizes.items)
-        (λ fault. IfSome (refusal_told fault) (λ said. RefusesPicture (option_map (λ state. state.now) before) unit.now said.refusal said.at)) }
+    ensures { MatchResult result (λ sizes. AreSizes (option_copied before.entry) unit.now coarser.now sizes.items)
+        (IsRefusedAs (option_copied before.entry) unit.now) }
 {
     Err(PictureFault::OutOfMemory)
 }

@@ -1,7 +1,7 @@
-ghost use Rattle.std.specs.Prelude.{◌≤◌, ℕ, length, IfSome, MatchResult};
-ghost use Rattle.std.specs.Option.{option_map};
-ghost use Rattle.picture_grammar.specs.Picture.{MayPrecede, RefusesPicture};
-ghost use Rattle.picture_reader.specs.PictureFault.{refusal_told};
+ghost use Rattle.std.specs.Prelude.{◌≤◌, ℕ, length, MatchResult};
+ghost use Rattle.std.specs.Option.{option_copied};
+ghost use Rattle.picture_grammar.specs.Picture.{MayPrecede};
+ghost use Rattle.picture_reader.specs.Picture.{IsRefusedAs};
 ghost use Rattle.version_maker.specs.Versions.{AreVersions, IsVersionAt};
 
 use crate::limits::UNIT_BYTES_MOST;
@@ -21,9 +21,9 @@ pub fn versions_of(
     coarser: &[u16],
 ) -> Result<ListOf<UnitVersion>, PictureFault>
     requires unit { length unit.now ≤ UNIT_BYTES_MOST }
-    requires before { MayPrecede (option_map (λ state. state.now) before) }
-    ensures { MatchResult result (AreVersions (option_map (λ state. state.now) before) unit.now coarser.now)
-        (λ fault. IfSome (refusal_told fault) (λ said. RefusesPicture (option_map (λ state. state.now) before) unit.now said.refusal said.at)) }
+    requires before { MayPrecede (option_copied before.entry) }
+    ensures { MatchResult result (AreVersions (option_copied before.entry) unit.now coarser.now)
+        (IsRefusedAs (option_copied before.entry) unit.now) }
 {
     Err(PictureFault::OutOfMemory)
 }
@@ -37,10 +37,10 @@ pub fn version_of(
     index: u8,
 ) -> Result<ListOf<u8>, PictureFault>
     requires unit { length unit.now ≤ UNIT_BYTES_MOST }
-    requires before { MayPrecede (option_map (λ state. state.now) before) }
+    requires before { MayPrecede (option_copied before.entry) }
     requires index { index ≤ length coarser.now }
-    ensures { MatchResult result (IsVersionAt (option_map (λ state. state.now) before) unit.now coarser.now index)
-        (λ fault. IfSome (refusal_told fault) (λ said. RefusesPicture (option_map (λ state. state.now) before) unit.now said.refusal said.at)) }
+    ensures { MatchResult result (IsVersionAt (option_copied before.entry) unit.now coarser.now index)
+        (IsRefusedAs (option_copied before.entry) unit.now) }
 {
     Err(PictureFault::OutOfMemory)
 }
