@@ -22,9 +22,8 @@ part_where false part n is = refl
 
 -- the same bits over and over
 pub over_and_over : (part : List ℕ) (from n : ℕ) → length (flat_map (λ _. part) (range_with_len from n)) ≡ n * length part
-over_and_over part from zero = refl
-over_and_over part from (suc n) =
-    length-append part (flat_map (λ _. part) (range_with_len (suc from) n)) ∙ ap (λ (k : ℕ). length part + k) (over_and_over part (suc from) n)
+over_and_over part from zero = omega arith
+over_and_over part from (suc n) = omega (arith, length-append part (flat_map (λ _. part) (range_with_len (suc from) n)), over_and_over part (suc from) n)
 
 -- ---- a list, one item after the other
 

@@ -5,4 +5,4 @@ use Rattle.picture_grammar.specs.Written.{if_any}
 use Rattle.macroblock_writer.proofs.bit_counts.quantiser_bits.Goals as goal
 
 pub returns-in-Some-clause-value : goal.returns-in-Some-clause-value
-returns-in-Some-clause-value c = sym (length-bits_of 5 c.in-Some.code) ∙ ap (λ code. length (if_any (bits_of 5) code)) (sym c.in-Some.is)
+returns-in-Some-clause-value c = sym (length-bits_of 5 c.in-Some._code) ∙ ap (λ code. length (if_any (bits_of 5) code)) (sym c.in-Some.is)
