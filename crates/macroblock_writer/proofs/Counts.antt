@@ -23,7 +23,10 @@ part_where false part n is = refl
 -- the same bits over and over
 pub over_and_over : (part : List ℕ) (from n : ℕ) → length (flat_map (λ _. part) (range_with_len from n)) ≡ n * length part
 over_and_over part from zero = omega arith
-over_and_over part from (suc n) = omega (arith, length-append part (flat_map (λ _. part) (range_with_len (suc from) n)), over_and_over part (suc from) n)
+over_and_over part from (suc n) =
+    let others = length (flat_map (λ _. part) (range_with_len (from + 1) n)) in
+    let split : length (flat_map (λ _. part) (range_with_len from (suc n))) ≡ length part + others = length-append part (flat_map (λ _. part) (range_with_len (from + 1) n)) in
+    split ∙ (let left : others ≡ n * length part = over_and_over part (from + 1) n in let sum : length part + others ≡ suc n * length part = omega (arith, left) in sum)
 
 -- ---- a list, one item after the other
 
