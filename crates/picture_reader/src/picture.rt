@@ -78,8 +78,8 @@ fn read_tree(
         seq: walked.headers.seq,
         coding: walked.headers.coding,
         head,
-        slices: walked.slices.slices,
-        sequence_end: walked.slices.sequence_end,
+        slices: walked.slices,
+        sequence_end: walked.sequence_end,
     })
 }
 

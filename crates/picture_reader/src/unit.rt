@@ -7,16 +7,20 @@ ghost use Rattle.picture_reader.specs.Private.Unit.{UnitRead};
 use crate::fault::PictureFault;
 use crate::head::head_of;
 use crate::keep::Keep;
-use crate::walk::{SlicesWalked, walk_slices};
+use crate::walk::walk_slices;
+use list_types::ListOf;
 use std::alloc::Global;
-use syntax_types::SeqState;
+use syntax_types::{SeqState, Slice};
 use video_headers::Headers;
 
 /// A unit that was read.
 #[derive(Drop)]
 pub struct UnitWalked {
     pub headers: Headers,
-    pub slices: SlicesWalked,
+    /// The slices, where they are kept.
+    pub slices: ListOf<Slice>,
+    /// A sequence end code stands behind them.
+    pub sequence_end: bool,
 }
 
 /// Goes through a unit, from its head to its end, and keeps its slices or nothing.
@@ -33,7 +37,7 @@ pub fn walk_unit(
         Ok(headers) => headers,
         Err(fault) => return Err(fault),
     };
-    let slices = match walk_slices(
+    let walked = match walk_slices(
         unit,
         headers.slices_at as usize,
         &headers.seq,
@@ -41,11 +45,15 @@ pub fn walk_unit(
         keep,
         alloc,
     ) {
-        Ok(slices) => slices,
+        Ok(walked) => walked,
         Err(fault) => return Err(fault),
     };
-    if !slices.is_covered {
+    if !walked.is_covered {
         return Err(PictureFault::Uncovered { at: 0 });
     }
-    Ok(UnitWalked { headers, slices })
+    Ok(UnitWalked {
+        headers,
+        slices: walked.slices,
+        sequence_end: walked.sequence_end,
+    })
 }
