@@ -1,5 +1,5 @@
 -- The versions of a unit: the unit itself without its vbv_delay, and its picture under coarser codes as it is written.
-use Rattle.std.specs.Prelude.{◌≡◌, ◌++◌, ℕ, Option, IfSome, List, ◌∷◌, length, map}
+use Rattle.std.specs.Prelude.{◌≡◌, ◌≤◌, ◌++◌, ℕ, Option, IfSome, List, ◌∷◌, length, map}
 use Rattle.std.specs.List.{AllZip, slice_get}
 use Rattle.syntax_types.specs.declared.picture.Picture.{Picture}
 use Rattle.syntax_types.specs.declared.picture.SeqState.{SeqState}

@@ -14,7 +14,7 @@ pub struct UnitVersion {
 #[derive(Clone, Copy, Debug, Default, PartialEq, Eq)]
 pub struct VersionSize {
     /// Its bytes.
-    pub bytes: u32,
+    pub bytes: u64,
     /// The distortion of the version.
     pub distortion: u64,
 }
