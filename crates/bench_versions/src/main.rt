@@ -29,7 +29,9 @@ fn main(rt: HostRuntime) -> io::Result<()> {
         words.push(word)?;
     }
     let [what, from, rest @ ..] = words.as_slice() else {
-        return println!(rt; "bench_versions read|sizes|last|compare STREAM [RATIO ..], or write STREAM OUT [RATIO ..]");
+        return println!(rt;
+            "bench_versions read|sizes|last|compare STREAM [RATIO ..], or write STREAM OUT [RATIO ..]"
+        );
     };
     let task = Task::named(what.as_str());
     let mut ratios: ArrayVec<u16, RATIOS_MOST> = ArrayVec::new();
@@ -76,7 +78,10 @@ fn main(rt: HostRuntime) -> io::Result<()> {
     }
     println!(rt; "{} bytes, {} units", file.len(), units.cuts.len())?;
     for at in 0..totals.count.min(VERSIONS_MOST) {
-        println!(rt; "{} bytes, distortion {}", totals.bytes[at], totals.distortion[at])?;
+        println!(rt;
+            "{} bytes, distortion {}",
+            totals.bytes[at], totals.distortion[at]
+        )?;
     }
     Ok(())
 }

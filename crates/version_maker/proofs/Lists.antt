@@ -191,13 +191,11 @@ source-length picture unit version is =
 pub bytes-at-later : (picture : Picture) (unit coarser : List ℕ) (index : ℕ) (bytes : List ℕ) → (index ≡ 0 → ⊥) → AreCoarserBytes picture (slice_index coarser (index - 1)) bytes
     → AreBytesAt picture unit coarser index bytes
 bytes-at-later picture unit coarser zero bytes some is = absurd (some refl)
-bytes-at-later picture unit coarser (suc k) bytes some is = is
+bytes-at-later picture unit coarser (suc k) bytes some is =
+    let same : suc k - 1 ≡ k = omega arith in
+    subst (λ (n : ℕ). AreCoarserBytes picture (slice_index coarser n) bytes) same is
 
 pub source-size : (picture : Picture) (unit : List ℕ) (version : UnitVersion) → IsSourceVersion picture unit version
     → (let size : VersionSize = record { bytes = length unit; distortion = 0 } in size) ≡ size_of version
 source-size picture unit version is =
     ap₂ (λ (b d : ℕ). let size : VersionSize = record { bytes = b; distortion = d } in size) (sym (source-length picture unit version is)) (sym is.distortion)
-
-pub sizes-pushed : (versions : List UnitVersion) (version : UnitVersion) → map size_of versions ++ size_of version ∷ [] ≡ map size_of (versions ++ version ∷ [])
-sizes-pushed [] version = refl
-sizes-pushed (v ∷ vs) version = ap (λ (sizes : List VersionSize). size_of v ∷ sizes) (sizes-pushed vs version)

@@ -106,11 +106,7 @@ fn bytes_at(
 }
 
 // The unit with the head without its vbv_delay.
-fn source_bytes(
-    alloc: Global,
-    unit: &[u8],
-    picture: &Picture,
-) -> Result<ListOf<u8>, OutOfMemory>
+fn source_bytes(alloc: Global, unit: &[u8], picture: &Picture) -> Result<ListOf<u8>, OutOfMemory>
     requires lawful { IsLawful picture.now }
     requires begins { (behind : List ℕ) × (unit.now ≡ picture.now.head ++ behind) }
     ensures { IfOk result (AreSourceBytes picture.now unit.now) }

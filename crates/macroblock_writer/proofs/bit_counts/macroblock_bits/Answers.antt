@@ -11,7 +11,13 @@ returns-clause-value c =
     let m = c.args.macroblock.now in
     let n = c.from.result + 1 in
     let sum : c.increment_bits.result + c.modes_bits.result + c.motion_bits.result + c.coefficients_bits.result
-        ≡ length (written_increment n ++ written_modes coding m ++ written_motion coding m ++ written_coefficients coding m) =
-    omega (arith, c.increment_bits.ensures.value, c.modes_bits.ensures.value, c.motion_bits.ensures.value, c.coefficients_bits.ensures.value,
-    four_parts (written_increment n) (written_modes coding m) (written_motion coding m) (written_coefficients coding m)) in
+    ≡ length (written_increment n ++ written_modes coding m ++ written_motion coding m ++ written_coefficients coding m) =
+    omega (
+      arith,
+      c.increment_bits.ensures.value,
+      c.modes_bits.ensures.value,
+      c.motion_bits.ensures.value,
+      c.coefficients_bits.ensures.value,
+      four_parts (written_increment n) (written_modes coding m) (written_motion coding m) (written_coefficients coding m),
+    ) in
     sum ∙ ap length (grouped coding m c.from.result c.from.ensures)

@@ -19,5 +19,11 @@ returns-clause-value c =
     c.bits_where.ensures ∙ ap (λ (stands : Bool). if stands then 2 else 0) c.has_motion_type.ensures ∙ sym (part_where (has_motion_type coding m.kind) motion 2 (length-bits_of 2 m.motion_type)) in
     let third : c.bits_where-2.result ≡ length (if has_dct_type coding m.kind then dct else []) =
     c.bits_where-2.ensures ∙ ap (λ (stands : Bool). if stands then 1 else 0) c.has_dct_type.ensures ∙ sym (part_where (has_dct_type coding m.kind) dct 1 refl) in
-    omega (arith, first, second, third, c.quantiser_bits.ensures.value,
-    four_parts code (if has_motion_type coding m.kind then motion else []) (if has_dct_type coding m.kind then dct else []) (if_any (bits_of 5) m.code))
+    omega (
+      arith,
+      first,
+      second,
+      third,
+      c.quantiser_bits.ensures.value,
+      four_parts code (if has_motion_type coding m.kind then motion else []) (if has_dct_type coding m.kind then dct else []) (if_any (bits_of 5) m.code),
+    )

@@ -30,5 +30,11 @@ returns-clause-value c =
     let sign = flag (int_lt c.args.code (pos 0)) in
     let first : c.code_bits-bits.result ≡ length (code_for Motion size) = c.code_bits-bits.ensures.value ∙ ap (λ n. length (code_for Motion n)) is in
     let third : c.saturating_sub.result ≡ c.args.f_code - 1 = c.saturating_sub.ensures ∙ ap (λ n. n - 1) c.from-2.ensures in
-    omega (arith, first, sign_count size sign some, third, residual_count c.args.f_code size c.args.residual some,
-    three_parts (code_for Motion size) (if size == 0 then [] else sign ∷ []) (if has_residual c.args.f_code size then bits_of (c.args.f_code - 1) c.args.residual else []))
+    omega (
+      arith,
+      first,
+      sign_count size sign some,
+      third,
+      residual_count c.args.f_code size c.args.residual some,
+      three_parts (code_for Motion size) (if size == 0 then [] else sign ∷ []) (if has_residual c.args.f_code size then bits_of (c.args.f_code - 1) c.args.residual else []),
+    )

@@ -1,6 +1,8 @@
 use Rattle.std.proofs.Common.{◌≡◌, ◌+◌, ◌<◌, ℕ, List, [], ◌∷◌, ◌++◌, length, rules, ap, ap₂, sym, ◌∙◌, arith}
+use Rattle.std.proofs.lemmas.List.{map-append}
 use Rattle.version_maker.specs.declared.version.VersionSize.{VersionSize}
-use Rattle.version_maker.proofs.Lists.{all-versions, one-more-version, sizes-pushed, source-size, source-so-far, source-version}
+use Rattle.version_maker.specs.Versions.{size_of}
+use Rattle.version_maker.proofs.Lists.{all-versions, one-more-version, source-size, source-so-far, source-version}
 use Rattle.version_maker.proofs.sizes.sizes_of_picture.Goals as goal
 
 pub loop-m-init : goal.loop-m-init
@@ -24,7 +26,7 @@ loop-m-preserved c =
       so_far = one-more-version c.args.picture.now c.args.unit.now c.args.coarser.now c.loop-m.m-index so_far.versions version within so_far.so_far c.in_ok-version.ensures;
       each = c.push-in-loop-m.ensures.items
           ∙ ap₂ (λ (xs : List VersionSize) (n : ℕ). let size : VersionSize = record { bytes = n; distortion = version.distortion } in xs ++ size ∷ []) so_far.each c.len.ensures
-          ∙ sizes-pushed so_far.versions version;
+          ∙ sym (map-append size_of so_far.versions (version ∷ []));
       len = search rules;
     }
 
