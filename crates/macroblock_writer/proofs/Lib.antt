@@ -1,4 +1,6 @@
+pub mod Counts
 pub mod Examples
+pub mod Groups
 pub mod Writable
 pub mod WritableSlices
 pub mod Writing

@@ -9,7 +9,7 @@ use prefix_codes::{TableName, symbol};
 use shelf_io::{Fault, Sink};
 
 /// What macroblock_escape adds to the increment that follows (6.3.17).
-const ESCAPE_INCREMENT: u32 = limits::ESCAPE_INCREMENT as u32;
+pub const ESCAPE_INCREMENT: u32 = limits::ESCAPE_INCREMENT as u32;
 
 /// Writes macroblock_address_increment with the escapes before it (6.2.5).
 pub fn write_increment<K: Sink>(to: &mut BitWriter<'_, K>, increment: u32) -> Result<(), Fault>

@@ -2,15 +2,19 @@
 //!
 //! `write_macroblock` and `write_slice` put the written spelling of a part into a `BitWriter`, for each part that some bits
 //! spell by the grammar of `picture_grammar`: the tables' code wherever there is one, and nothing else. What is written is
-//! read as that part again. No call takes memory. Stands on `block_coeffs`, `bit_cursor`, `prefix_codes`, `syntax_types`
+//! read as that part again. `macroblock_bits` counts the bits that a macroblock is written in. No call takes memory. Stands on `block_coeffs`, `bit_cursor`, `prefix_codes`, `syntax_types`
 //! and `picture_grammar`, with the laws of `picture_laws`.
 #![tactic(auto)]
 
+mod bit_counts;
+mod block_counts;
 mod increment;
 mod macroblock;
 mod modes;
 mod slice;
+mod vector_counts;
 mod vectors;
 
+pub use bit_counts::macroblock_bits;
 pub use macroblock::write_macroblock;
 pub use slice::write_slice;

@@ -1,0 +1,45 @@
+use version_maker::{UnitVersion, VersionSize};
+use version_table::limits::VERSIONS_MOST;
+
+/// The bytes and the distortion of each version over all units.
+#[derive(Clone, Copy)]
+pub struct Totals {
+    pub bytes: [u64; VERSIONS_MOST],
+    pub distortion: [u64; VERSIONS_MOST],
+    /// How many versions there were.
+    pub count: usize,
+}
+
+impl Totals {
+    pub fn new() -> Totals {
+        Totals {
+            bytes: [0; VERSIONS_MOST],
+            distortion: [0; VERSIONS_MOST],
+            count: 0,
+        }
+    }
+
+    /// With the sizes of one more unit.
+    pub fn add(&mut self, sizes: &[VersionSize]) {
+        for (at, size) in sizes.iter().enumerate() {
+            if at < VERSIONS_MOST {
+                self.bytes[at] = self.bytes[at].wrapping_add(size.bytes);
+                self.distortion[at] = self.distortion[at].wrapping_add(size.distortion);
+            }
+        }
+        self.count = sizes.len();
+    }
+}
+
+/// Whether the sizes aren't those of the versions.
+pub fn differ(sizes: &[VersionSize], versions: &[UnitVersion]) -> bool {
+    if sizes.len() != versions.len() {
+        return true;
+    }
+    for (size, version) in sizes.iter().zip(versions) {
+        if size.bytes != version.bytes.len() as u64 || size.distortion != version.distortion {
+            return true;
+        }
+    }
+    false
+}
