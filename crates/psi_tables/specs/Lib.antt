@@ -6,4 +6,5 @@ pub mod Pat
 pub mod Descriptors
 pub mod Streams
 pub mod Pmt
+pub mod PmtOf
 pub mod Private

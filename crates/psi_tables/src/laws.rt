@@ -1,9 +1,12 @@
 //! Laws of the definitions, each the contract of a function that does nothing.
 
-ghost use Rattle.std.specs.Prelude.{◌≡◌, ℕ, ◌<◌, ◌↔◌, List, [], ◌∷◌, ◌++◌, ◌+◌, length, map, replicate, true, Ok};
+ghost use Rattle.std.specs.Prelude.{◌≡◌, ℕ, ◌<◌, ◌↔◌, List, [], ◌∷◌, ◌++◌, ◌+◌, length, map, replicate, true, Some, Ok};
 ghost use Rattle.std.specs.List.{concat};
+ghost use Rattle.psi_tables.specs.declared.program_map.ProgramMap.{ProgramMap};
 ghost use Rattle.psi_tables.specs.Crc.{IsCrcOf, HasRightCrc};
 ghost use Rattle.payload_lists.specs.Payload.{Payload};
+ghost use Rattle.psi_tables.specs.Pmt.{IsPmt, HasRoom};
+ghost use Rattle.psi_tables.specs.PmtOf.{pmt_of};
 ghost use Rattle.psi_tables.specs.Sections.{Found, added, crc_over, found_at, going, sections_of, stuffing_byte, GivesInTurn};
 
 /// The CRC by long division, of which sections are made, is the one that the division of polynomials leaves.
@@ -46,4 +49,10 @@ pub fn a_section_in_any_pieces()
 /// What payloads give stays what is given first, whatever follows: so each payload adds to the sections of those before.
 pub fn each_payload_adds()
     ensures { (before : List Payload) (payload : Payload) → sections_of (before ++ payload ∷ []) ≡ sections_of before ++ added before payload }
+{}
+
+/// What a section says of a program, as a relation and as a function: bytes are a current PMT section of the program, with room
+/// for what is kept of it, exactly where the function has it.
+pub fn pmt_by_function()
+    ensures { (section : List ℕ) (program : ProgramMap) → (pmt_of section ≡ Some program) ↔ (IsPmt program section × HasRoom program) }
 {}

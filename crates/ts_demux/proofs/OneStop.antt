@@ -1,5 +1,5 @@
 -- The reading of a file's tables ends in one way.
-use Rattle.std.proofs.Common.{◌≡◌, ◌≢◌, ℕ, ◌+◌, ◌*◌, ◌==◌, ◌⊎◌, inl, inr, Bool, true, false, cond, List, [], ◌∷◌, Some, Ok, Err, refl, sym, ap, ◌∙◌, subst, arith}
+use Rattle.std.proofs.Common.{◌≡◌, ◌≢◌, ℕ, ◌+◌, ◌*◌, ◌==◌, ◌⊎◌, inl, inr, Bool, true, false, cond, List, [], ◌∷◌, Some, None, Ok, Err, refl, sym, ap, ◌∙◌, subst, arith}
 use Rattle.std.specs.Prelude.{not, option_and_then}
 use Rattle.std.specs.List.{find}
 use Rattle.std.specs.Option.{option_map, option_or}
@@ -18,7 +18,7 @@ use Rattle.psi_tables.specs.Sections.{Found}
 use Rattle.psi_tables.specs.Pat.{IsProgram, map_pid}
 use Rattle.psi_tables.proofs.Rows.{same_row}
 use Rattle.psi_tables.proofs.ProgramRows.{programs_told}
-use Rattle.psi_tables.proofs.MapContents.{one_map}
+use Rattle.psi_tables.proofs.PmtFunction.{pmt_is}
 use Rattle.ts_demux.specs.declared.demux_fault.DemuxFault.TheVariants.{Sync}
 use Rattle.ts_demux.specs.Faults.{of_pid, of_section}
 use Rattle.ts_demux.specs.Tables.{
@@ -160,14 +160,16 @@ one_pid_fault file pid from n a b has other = let e : Some a ≡ Some b = sym ha
 verdict_one : (program n : ℕ) (found : Found) (a b : Stop) → Verdict program n found a → Verdict program n found b → a ≡ b
 verdict_one program n (Ok section) a b (inl (f, bad, e)) (inl (f', bad', e')) = e ∙ ap (λ (x : SectionFault). refuse (of_section (PACKET_BYTES * n) x)) (bad.0 ∙ sym bad'.0) ∙ sym e'
 verdict_one program n (Ok section) a b (inl (f, bad, e)) (inr (inl (f', bad', e'))) = e ∙ ap (λ (x : SectionFault). refuse (of_section (PACKET_BYTES * n) x)) (bad.0 ∙ sym bad'.0) ∙ sym e'
-verdict_one program n (Ok section) a b (inl (f, bad, e)) (inr (inr (m, is, e'))) = absurd (omega (arith, bad.1.table_is, is.0.current.table_is))
+verdict_one program n (Ok section) a b (inl (f, bad, e)) (inr (inr (m, is, e'))) = absurd (omega (arith, bad.1.table_is, (pmt_is section m is.0).0.current.table_is))
 verdict_one program n (Ok section) a b (inr (inl (f, bad, e))) (inl (f', bad', e')) = e ∙ ap (λ (x : SectionFault). refuse (of_section (PACKET_BYTES * n) x)) (bad.0 ∙ sym bad'.0) ∙ sym e'
 verdict_one program n (Ok section) a b (inr (inl (f, bad, e))) (inr (inl (f', bad', e'))) = e ∙ ap (λ (x : SectionFault). refuse (of_section (PACKET_BYTES * n) x)) (bad.0 ∙ sym bad'.0) ∙ sym e'
-verdict_one program n (Ok section) a b (inr (inl (f, bad, e))) (inr (inr (m, is, e'))) = absurd (bad.2 m is.0 is.1)
-verdict_one program n (Ok section) a b (inr (inr (m, is, e))) (inl (f, bad, e')) = absurd (omega (arith, bad.1.table_is, is.0.current.table_is))
-verdict_one program n (Ok section) a b (inr (inr (m, is, e))) (inr (inl (f, bad, e'))) = absurd (bad.2 m is.0 is.1)
+verdict_one program n (Ok section) a b (inr (inl (f, bad, e))) (inr (inr (m, is, e'))) = (let none : None ≡ Some m = sym bad.2 ∙ is.0 in absurd cc)
+verdict_one program n (Ok section) a b (inr (inr (m, is, e))) (inl (f, bad, e')) = absurd (omega (arith, bad.1.table_is, (pmt_is section m is.0).0.current.table_is))
+verdict_one program n (Ok section) a b (inr (inr (m, is, e))) (inr (inl (f, bad, e'))) = (let none : None ≡ Some m = sym bad.2 ∙ is.0 in absurd cc)
 verdict_one program n (Ok section) a b (inr (inr (m, is, e))) (inr (inr (m', is', e'))) =
-    e ∙ ap take (one_map m m' (content section) is.0.content_is is'.0.content_is (is.0.number ∙ sym is'.0.number)) ∙ sym e'
+    let both : Some m ≡ Some m' = sym is.0 ∙ is'.0 in
+    let same : m ≡ m' = cc in
+    e ∙ ap take same ∙ sym e'
 verdict_one program n (Err fault) a b (inl (f, bad, e)) (inl (f', bad', e')) = e ∙ ap (λ (x : SectionFault). refuse (of_section (PACKET_BYTES * n) x)) (sym bad ∙ bad') ∙ sym e'
 verdict_one program n (Err fault) a b (inl (f, bad, e)) (inr (inl (f', bad', e'))) = e ∙ ap (λ (x : SectionFault). refuse (of_section (PACKET_BYTES * n) x)) (sym bad ∙ bad') ∙ sym e'
 verdict_one program n (Err fault) a b (inl (f, bad, e)) (inr (inr (m, never, e'))) = absurd never

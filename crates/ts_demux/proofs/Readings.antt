@@ -8,6 +8,8 @@ use Rattle.psi_tables.specs.declared.section.SectionFault.TheVariants.{BadSectio
 use Rattle.psi_tables.specs.Section.{table_id, current_next_indicator, IsCurrent}
 use Rattle.psi_tables.specs.Pat.{IsPat, map_pid}
 use Rattle.psi_tables.specs.Pmt.{IsPmt, HasRoom}
+use Rattle.psi_tables.specs.PmtOf.{pmt_of}
+use Rattle.psi_tables.proofs.PmtFunction.{pmt_is, pmt_made}
 use Rattle.ts_demux.specs.declared.table_walk.Known.{Known}
 use Rattle.ts_demux.specs.declared.table_walk.Known.TheVariants.{Nothing, OtherPrograms, MapOn}
 use Rattle.ts_demux.specs.Tables.{Names, IsBadPat, IsBadPmt, IsMapOf}
@@ -92,17 +94,22 @@ bad_map section fault says bad = (
     | inl current ↦ current
     | inr not_current ↦ let e : Err fault ≡ Ok None = says.none.1 not_current in absurd cc
   ],
-  λ program is room. let e : Err fault ≡ Ok (Some program) = says.only program is room in absurd cc,
+  by_map (pmt_of section) refl,
 )
+  where
+    by_map : (said : Option ProgramMap) → pmt_of section ≡ said → pmt_of section ≡ None
+    by_map None is = is
+    by_map (Some program) is = let p = pmt_is section program is in let e : Err fault ≡ Ok (Some program) = says.only program p.0 p.1 in absurd cc
 
 pub no_map : (program : ℕ) (section : List ℕ) → SaysMap section (Ok None) → ((fault : SectionFault) → IsBadPmt (Ok section) fault → ⊥) × ((map : ProgramMap) → IsMapOf program (Ok section) map → ⊥)
-no_map program section says = let not_current = says.none.0 refl in (λ fault bad. not_current bad.1, λ map is. not_current is.0.current)
+no_map program section says = let not_current = says.none.0 refl in (λ fault bad. not_current bad.1, λ map is. not_current (pmt_is section map is.0).0.current)
 
 pub sound_map : (section : List ℕ) (map : ProgramMap) → IsPmt map section × HasRoom map → (fault : SectionFault) → IsBadPmt (Ok section) fault → ⊥
-sound_map section map is fault bad = bad.2 map is.0 is.1
+sound_map section map is fault bad = let e : None ≡ Some map = sym bad.2 ∙ pmt_made section map is.0 is.1 in absurd cc
 
 pub other_map : (program : ℕ) (section : List ℕ) (map : ProgramMap) → SaysMap section (Ok (Some map)) → (map.number ≡ program → ⊥) → (other : ProgramMap) → IsMapOf program (Ok section) other → ⊥
 other_map program section map says number other is =
-    let e : Ok (Some map) ≡ Ok (Some other) = says.only other is.0 is.1 in
+    let p = pmt_is section other is.0 in
+    let e : Ok (Some map) ≡ Ok (Some other) = says.only other p.0 p.1 in
     let same : map ≡ other = cc in
-    number (ap (λ (m : ProgramMap). m.number) same ∙ is.2)
+    number (ap (λ (m : ProgramMap). m.number) same ∙ is.1)

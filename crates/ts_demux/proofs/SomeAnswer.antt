@@ -135,7 +135,8 @@ first_or_sound : (file pids : List ℕ) (n : ℕ) → ((fault : DemuxFault) × I
 first_or_sound file pids zero = inr (λ m fault below is. omega (arith, below))
 first_or_sound file pids (suc n) = more (first_or_sound file pids n) (refused_or_not file pids n)
   where
-    more : ((fault : DemuxFault) × IsFirstStreamFault file pids fault) ⊎ AreSoundBefore file pids n → Refused file pids n → ((fault : DemuxFault) × IsFirstStreamFault file pids fault) ⊎ AreSoundBefore file pids (suc n)
+    more : ((fault : DemuxFault) × IsFirstStreamFault file pids fault) ⊎ AreSoundBefore file pids n → Refused file pids n
+        → ((fault : DemuxFault) × IsFirstStreamFault file pids fault) ⊎ AreSoundBefore file pids (suc n)
     more (inl found) here = inl found
     more (inr sound) (inl (fault, is)) = inl (fault, record { packet = n; stands = is; first = λ m other below stands. sound m other below stands })
     more (inr sound) (inr none) = let e : n + 1 ≡ suc n = omega arith in inr (subst (AreSoundBefore file pids) e (sound_more file pids n sound none))

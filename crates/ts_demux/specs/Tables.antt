@@ -1,6 +1,6 @@
 -- The PAT and the PMT section of a program in a file (ISO/IEC 13818-1, 2.4.4.3 and 2.4.4.8; which ones are taken is this
 -- project's).
-use Rattle.std.specs.Prelude.{◌≡◌, ◌≢◌, ℕ, ◌+◌, ◌*◌, ◌<◌, ◌≤◌, ◌==◌, ◌⊎◌, true, List, length, drop, map, slice_get, Some, Ok, Err, if◌then◌else◌}
+use Rattle.std.specs.Prelude.{◌≡◌, ◌≢◌, ℕ, ◌+◌, ◌*◌, ◌<◌, ◌≤◌, ◌==◌, ◌⊎◌, true, List, length, drop, map, slice_get, Some, None, Ok, Err, if◌then◌else◌}
 use Rattle.stream_constants.specs.declared.packets.TheConstants.{PACKET_BYTES}
 use Rattle.payload_lists.specs.Payload.{Payload}
 use Rattle.ts_packets.specs.declared.pid_fault.PidFault.{PidFault}
@@ -13,7 +13,7 @@ use Rattle.psi_tables.specs.declared.section.SectionFault.TheVariants.{BadSectio
 use Rattle.psi_tables.specs.Section.{IsCurrent}
 use Rattle.psi_tables.specs.Sections.{Found, sections_of}
 use Rattle.psi_tables.specs.Pat.{IsPat, map_pid}
-use Rattle.psi_tables.specs.Pmt.{IsPmt, HasRoom}
+use Rattle.psi_tables.specs.PmtOf.{pmt_of}
 use Rattle.ts_demux.specs.declared.demux_fault.DemuxFault.{DemuxFault}
 use Rattle.ts_demux.specs.declared.demux_fault.DemuxFault.TheVariants.{Sync, NoPat, NoProgram, NoPmt}
 use Rattle.ts_demux.specs.Faults.{of_pid, of_section}
@@ -101,12 +101,12 @@ IsBadPat (Err found) fault = found ≡ fault
 
 -- a PMT section whose loops don't fill it or that has more than is kept, or what is no section
 abbrev pub IsBadPmt : Found → SectionFault → Type 0
-IsBadPmt (Ok section) fault = (fault ≡ BadSection) × IsCurrent 2 section × ((program : ProgramMap) → IsPmt program section → HasRoom program → ⊥)
+IsBadPmt (Ok section) fault = (fault ≡ BadSection) × IsCurrent 2 section × (pmt_of section ≡ None)
 IsBadPmt (Err found) fault = found ≡ fault
 
 -- a current PMT section of the program
 abbrev pub IsMapOf : ℕ → Found → ProgramMap → Type 0
-IsMapOf program (Ok section) map = IsPmt map section × HasRoom map × (map.number ≡ program)
+IsMapOf program (Ok section) map = (pmt_of section ≡ Some map) × (map.number ≡ program)
 IsMapOf program (Err fault) map = ⊥
 
 -- ---- what ends the reading of the tables

@@ -1,6 +1,7 @@
 use Rattle.std.proofs.Common.{Option, Ok, subst, ap, ◌∙◌, IfSome}
 use Rattle.psi_tables.specs.declared.program_map.ProgramMap.{ProgramMap}
 use Rattle.psi_tables.specs.Pmt.{IsPmt, HasRoom}
+use Rattle.psi_tables.proofs.PmtFunction.{pmt_made}
 use Rattle.ts_demux.specs.Faults.{of_section}
 use Rattle.ts_demux.proofs.Readings.{SaysMap, bad_map, no_map, sound_map, other_map}
 use Rattle.ts_demux.proofs.table_walk.read_program_map.Goals as goal
@@ -29,4 +30,4 @@ returns-then-map-program c =
 pub returns : goal.returns
 returns c =
     let is = subst (λ (said : Option ProgramMap). IfSome said (λ (map : ProgramMap). IsPmt map c.args.section.now.items × HasRoom map)) c.in-Some.is c.in-Ok.ensures.map in
-    (is.0, is.1, c.if-map-program.false)
+    (pmt_made c.args.section.now.items c.in-Some.map is.0 is.1, c.if-map-program.false)
