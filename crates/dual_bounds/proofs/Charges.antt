@@ -2,8 +2,6 @@
 use Rattle.std.proofs.Common.{
   ◌≡◌,
   ℕ,
-  zero,
-  suc,
   ◌+◌,
   ◌-◌,
   ◌*◌,
@@ -21,7 +19,6 @@ use Rattle.std.proofs.Common.{
   take,
   get_or,
   fold,
-  min,
   sum,
   sum_by,
   Option,
@@ -57,22 +54,8 @@ use Rattle.dual_bounds.specs.Bounds.{bound_of_value}
 use Rattle.dual_bounds.specs.Fixed.{Takes}
 use Rattle.dual_bounds.specs.Room.{is_within, free_slots, audio_due, room}
 use Rattle.dual_bounds.specs.Values.{charge, cost, least_cost, least_costs, packets_of, price, worth}
+use Rattle.version_table.proofs.Least.{least-le}
 use Rattle.dual_bounds.proofs.UnitPackets.{Chosen, packets_due}
-
--- ---- the least of some numbers
-fold-min-le-start : (a : ℕ) (numbers : List ℕ) → fold min a numbers ≤ a
-fold-min-le-start a [] = omega arith
-fold-min-le-start a (n ∷ numbers) = omega (arith, fold-min-le-start (min a n) numbers)
-
-fold-min-le : (a : ℕ) (numbers : List ℕ) (k : ℕ) → k < length numbers → fold min a numbers ≤ get_or numbers k 0
-fold-min-le a [] k lt = absurd (omega arith)
-fold-min-le a (n ∷ numbers) zero lt = omega (arith, fold-min-le-start (min a n) numbers)
-fold-min-le a (n ∷ numbers) (suc k) lt = fold-min-le (min a n) numbers k (omega arith)
-
-pub least-le : (numbers : List ℕ) (k : ℕ) → k < length numbers → least numbers ≤ get_or numbers k 0
-least-le [] k lt = absurd (omega arith)
-least-le (n ∷ numbers) zero lt = fold-min-le-start n numbers
-least-le (n ∷ numbers) (suc k) lt = fold-min-le n numbers k (omega arith)
 
 -- ---- a unit costs at least its least cost
 pub least_cost-le : (windows : List Window) (unit : CodedUnit) (fixed : Option ℕ) (k : ℕ) → HasVersion unit k → Takes fixed k

@@ -50,7 +50,8 @@ use Rattle.dual_bounds.specs.declared.windows.Window.{Window}
 use Rattle.dual_bounds.specs.Fixed.{allowed}
 use Rattle.dual_bounds.specs.Room.{is_within, room}
 use Rattle.dual_bounds.specs.Values.{cost, least_cost, least_costs, packets_of, price, value_of_windows}
-use Rattle.dual_bounds.proofs.Charges.{least-le, price-more, worth-more}
+use Rattle.version_table.proofs.Least.{least-le}
+use Rattle.dual_bounds.proofs.Charges.{price-more, worth-more}
 
 -- ---- the least of some numbers is one of them
 fold-min-is : (a : ℕ) (numbers : List ℕ) → (fold min a numbers ≡ a) ⊎ ((k : ℕ) × (k < length numbers) × (fold min a numbers ≡ get_or numbers k 0))

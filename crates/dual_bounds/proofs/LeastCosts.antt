@@ -52,7 +52,7 @@ use Rattle.dual_bounds.specs.Fixed.{FixesVersions, NamesVersion}
 use Rattle.dual_bounds.specs.Private.Costs.{AreCharging}
 use Rattle.dual_bounds.specs.Room.{is_within}
 use Rattle.dual_bounds.specs.Values.{charge, cost, least_cost, least_costs, packets_of, price}
-use Rattle.dual_bounds.proofs.Charges.{least-le}
+use Rattle.version_table.proofs.Least.{least-le}
 
 -- ---- prices
 pub price_none : (time : ℕ) → price [] time ≡ 0

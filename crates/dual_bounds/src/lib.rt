@@ -17,7 +17,7 @@ mod windows;
 pub use bounds::bound_of;
 pub use fixed::{Fixed, nothing_fixed};
 pub use room::{capacity, window_capacity};
-pub use values::{dual_value, window_value};
+pub use values::{dual_value, window_value, windows_of};
 pub use windows::{Multiplier, Multipliers, Window, Windows};
 
 #[cfg(test)]

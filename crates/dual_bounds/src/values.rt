@@ -41,7 +41,7 @@ pub fn window_value(table: &Table, fixed: &Fixed, with: &[Window]) -> i128
 }
 
 /// Multipliers as windows from time 0 on.
-fn windows_of(multipliers: &[Multiplier]) -> Windows
+pub fn windows_of(multipliers: &[Multiplier]) -> Windows
     requires { length multipliers.now ≤ WINDOWS_MOST }
     ensures { result.items ≡ map from_start multipliers.now }
 {

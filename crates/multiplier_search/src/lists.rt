@@ -67,22 +67,6 @@ fn precedes(window: Window, other: Window) -> bool
     window.due < other.due || (window.due == other.due && window.from < other.from)
 }
 
-/// Multipliers as windows from time 0 on.
-pub fn windows_of(multipliers: &[Multiplier]) -> Windows
-    requires { length multipliers.now ≤ WINDOWS_MOST }
-    ensures { result.items ≡ map from_start multipliers.now }
-{
-    let mut windows = Windows::new();
-    for multiplier in multipliers {
-        windows.push(Window {
-            from: 0,
-            due: multiplier.due,
-            lambda: multiplier.lambda,
-        });
-    }
-    windows
-}
-
 /// Windows from time 0 on as multipliers.
 pub fn multipliers_of(windows: &[Window]) -> Multipliers
     requires few { length windows.now ≤ WINDOWS_MOST }

@@ -9,9 +9,9 @@ ghost use Rattle.multiplier_search.specs.Turns.{BeatAdditions, BeatChanges};
 ghost use Rattle.multiplier_search.specs.Windows.{AreSearched};
 
 use crate::changes::{best_addition, best_change, of_greater_value};
-use crate::lists::{copied, multipliers_of, windows_of};
+use crate::lists::{copied, multipliers_of};
 use dual_bounds::constants::WINDOWS_MOST;
-use dual_bounds::{Fixed, Multipliers, Window, Windows, window_value};
+use dual_bounds::{Fixed, Multipliers, Window, Windows, window_value, windows_of};
 use list_types::OutOfMemory;
 use std::alloc::Global;
 use version_table::Table;

@@ -24,7 +24,7 @@ fold-min-le a (n ∷ numbers) zero lt = omega (arith, fold-min-le-start (min a n
 fold-min-le a (n ∷ numbers) (suc k) lt = fold-min-le (min a n) numbers k (omega arith)
 
 -- the least of some numbers is at most each of them
-least-le : (numbers : List ℕ) (k : ℕ) → k < length numbers → least numbers ≤ get_or numbers k 0
+pub least-le : (numbers : List ℕ) (k : ℕ) → k < length numbers → least numbers ≤ get_or numbers k 0
 least-le [] k lt = absurd (omega arith)
 least-le (n ∷ numbers) zero lt = fold-min-le-start n numbers
 least-le (n ∷ numbers) (suc k) lt = fold-min-le n numbers k (omega arith)

@@ -24,7 +24,7 @@ pub fn windows(alloc: Global, table: &Table, fixed: &Fixed) -> Result<Windows, O
         Some(interval) => vec![in alloc; interval; 1]?,
         None => priced(alloc, &mut slack, mixed.steps.as_slice())?,
     };
-    Ok(windows_of(&slack, units, intervals.as_slice()))
+    Ok(windows_of_intervals(&slack, units, intervals.as_slice()))
 }
 
 /// The first interval whose room is too small for the smallest versions.
@@ -117,7 +117,7 @@ fn fill(
 }
 
 /// The windows of some intervals, where they aren't too many.
-fn windows_of(slack: &Slack, units: &[MixedUnit], intervals: &[Interval]) -> Windows
+fn windows_of_intervals(slack: &Slack, units: &[MixedUnit], intervals: &[Interval]) -> Windows
     ensures { AreSearched result.items }
 {
     let mut windows = Windows::new();
