@@ -59,13 +59,13 @@ beside_none (Shows c behind) = refl
 beside_none (Stops why left) = refl
 
 -- ---- what is fixed
-unfix-fix : (unit k : ℕ) (fixed : List (Option ℕ)) → unfix unit (fix unit k fixed) ≡ unfix unit fixed
+pub unfix-fix : (unit k : ℕ) (fixed : List (Option ℕ)) → unfix unit (fix unit k fixed) ≡ unfix unit fixed
 unfix-fix unit k fixed = set-set fixed unit (Some k) None
 
 fix-unfix : (unit k : ℕ) (fixed : List (Option ℕ)) → fix unit k (unfix unit fixed) ≡ fix unit k fixed
 fix-unfix unit k fixed = set-set fixed unit None (Some k)
 
-unfix-free : (unit k : ℕ) (fixed : List (Option ℕ)) → IsFree fixed unit → unfix unit (fix unit k fixed) ≡ fixed
+pub unfix-free : (unit k : ℕ) (fixed : List (Option ℕ)) → IsFree fixed unit → unfix unit (fix unit k fixed) ≡ fixed
 unfix-free unit k fixed free = unfix-fix unit k fixed ∙ ap (λ (entry : Option ℕ). set fixed unit entry) (sym free) ∙ set-get_or fixed unit None
 
 pub version-fix : (unit k : ℕ) (fixed : List (Option ℕ)) → unit < length fixed → version_in (fix unit k fixed) unit ≡ k
@@ -96,35 +96,33 @@ resumed table fixed before unit k least outer walked whole within same resumes =
     subst (λ (n : ℕ). IsResumed table (unfix unit (fix unit k fixed)) unit n least outer walked whole) (version-fix unit k fixed within) resumes in
     subst (λ (f : List (Option ℕ)). IsResumed table f unit k least outer walked whole) same by_version
 
-pub next_child : (table : Table) (fixed : List (Option ℕ)) (branch : OpenBranch) (outer : List OpenBranch) (bound : Option ℕ) (k : ℕ) → k ≡ version_in fixed branch.unit + 1
-    → branch.unit < length fixed → k < versions_of table branch.unit → (nodes : List Node) (walked whole : Walked) → Walks table (fix branch.unit k fixed) nodes walked
-    → Resumes table (fix branch.unit k fixed) (record { unit = branch.unit; least = lesser branch.least bound } ∷ outer) walked whole
-    → Resumes table fixed (branch ∷ outer) (Shows bound nodes) whole
-next_child table fixed branch outer bound k k_is within some nodes walked whole walks resumes =
-    let unit : ℕ = branch.unit in
+pub next_child : (table : Table) (fixed : List (Option ℕ)) (own : OpenBranch) (outer : List OpenBranch) (bound : Option ℕ) (k : ℕ) → k ≡ version_in fixed own.unit + 1
+    → own.unit < length fixed → k < versions_of table own.unit → (nodes : List Node) (walked whole : Walked) → Walks table (fix own.unit k fixed) nodes walked
+    → Resumes table (fix own.unit k fixed) (record { unit = own.unit; least = lesser own.least bound } ∷ outer) walked whole
+    → Resumes table fixed (own ∷ outer) (Shows bound nodes) whole
+next_child table fixed own outer bound k k_is within some nodes walked whole walks resumes =
+    let unit : ℕ = own.unit in
     let before : List (Option ℕ) = unfix unit fixed in
-    let parts = resumed table fixed before unit k (lesser branch.least bound) outer walked whole within (unfix-fix unit k fixed) resumes in
+    let parts = resumed table fixed before unit k (lesser own.least bound) outer walked whole within (unfix-fix unit k fixed) resumes in
     let here : Walks table (fix unit k before) nodes walked = subst (λ (f : List (Option ℕ)). Walks table f nodes walked) (sym (fix-unfix unit k fixed)) walks in
     let each = joined table before unit k nodes walked parts.0 some here parts.1 in
-    let last = subst (λ (n : ℕ). WalksEach table before unit n (versions_of table unit - n) nodes parts.0) k_is each in
-    (
+    let last = subst (λ (n : ℕ). WalksEach table before unit n (versions_of table unit - n) nodes parts.0) k_is each in (
       beside bound parts.0,
       (parts.0, last, refl),
-      subst (λ (w : Walked). Resumes table before outer w whole) (beside_lesser branch.least bound parts.0) parts.2,
+      subst (λ (w : Walked). Resumes table before outer w whole) (beside_lesser own.least bound parts.0) parts.2,
     )
 
-pub last_child : (table : Table) (fixed : List (Option ℕ)) (branch : OpenBranch) (outer : List OpenBranch) (bound : Option ℕ) → versions_of table branch.unit ≤ version_in fixed branch.unit + 1
-    → (nodes : List Node) (whole : Walked) → Resumes table (unfix branch.unit fixed) outer (Shows (lesser branch.least bound) nodes) whole
-    → Resumes table fixed (branch ∷ outer) (Shows bound nodes) whole
-last_child table fixed branch outer bound all nodes whole resumes =
-    let unit : ℕ = branch.unit in
+pub last_child : (table : Table) (fixed : List (Option ℕ)) (own : OpenBranch) (outer : List OpenBranch) (bound : Option ℕ) → versions_of table own.unit ≤ version_in fixed own.unit + 1
+    → (nodes : List Node) (whole : Walked) → Resumes table (unfix own.unit fixed) outer (Shows (lesser own.least bound) nodes) whole
+    → Resumes table fixed (own ∷ outer) (Shows bound nodes) whole
+last_child table fixed own outer bound all nodes whole resumes =
+    let unit : ℕ = own.unit in
     let before : List (Option ℕ) = unfix unit fixed in
     let k : ℕ = version_in fixed unit + 1 in
-    let no_more : zero ≡ versions_of table unit - k = omega (arith, all) in
-    (
+    let no_more : zero ≡ versions_of table unit - k = omega (arith, all) in (
       Shows (lesser bound None) nodes,
       (Shows None nodes, subst (λ (n : ℕ). WalksEach table before unit k n nodes (Shows None nodes)) no_more (none before unit k nodes), refl),
-      subst (λ (x : Option ℕ). Resumes table before outer (Shows (lesser branch.least x) nodes) whole) (sym (lesser_none bound)) resumes,
+      subst (λ (x : Option ℕ). Resumes table before outer (Shows (lesser own.least x) nodes) whole) (sym (lesser_none bound)) resumes,
     )
 
 pub first_child : (table : Table) (fixed : List (Option ℕ)) (unit : ℕ) (outer : List OpenBranch) → IsRight table fixed (Branch unit) → unit < length fixed → 0 < versions_of table unit
@@ -134,8 +132,7 @@ pub first_child : (table : Table) (fixed : List (Option ℕ)) (unit : ℕ) (oute
 first_child table fixed unit outer right within some nodes walked whole walks resumes =
     let parts = resumed table fixed fixed unit 0 None outer walked whole within (unfix-free unit 0 fixed right.1) resumes in
     let each = joined table fixed unit 0 nodes walked parts.0 some walks parts.1 in
-    let count : versions_of table unit - 0 ≡ versions_of table unit = omega arith in
-    (
+    let count : versions_of table unit - 0 ≡ versions_of table unit = omega arith in (
       parts.0,
       branch fixed unit nodes parts.0 right (subst (λ (n : ℕ). WalksEach table fixed unit 0 n nodes parts.0) count each),
       subst (λ (w : Walked). Resumes table fixed outer w whole) (beside_none parts.0) parts.2,
@@ -144,7 +141,7 @@ first_child table fixed unit outer right within some nodes walked whole walks re
 -- a fault in hand is that of the whole
 pub stops_whole : (table : Table) (fixed : List (Option ℕ)) (branches : List OpenBranch) (why : Why) (left : ℕ) → Resumes table fixed branches (Stops why left) (Stops why left)
 stops_whole table fixed [] why left = refl
-stops_whole table fixed (branch ∷ branches) why left = (Stops why left, refl, stops_whole table (unfix branch.unit fixed) branches why left)
+stops_whole table fixed (own ∷ branches) why left = (Stops why left, refl, stops_whole table (unfix own.unit fixed) branches why left)
 
 -- ---- open branches are no more than there are units
 fixed_count : List (Option ℕ) → ℕ
@@ -179,8 +176,8 @@ fixed_count-free (Some n ∷ fixed) (suc unit) within free = omega (arith, fixed
 
 open_few : (table : Table) (fixed : List (Option ℕ)) (branches : List OpenBranch) → AreOpen table fixed branches → length branches ≤ fixed_count fixed
 open_few table fixed [] opened = omega arith
-open_few table fixed (branch ∷ branches) opened =
-    omega (arith, open_few table (unfix branch.unit fixed) branches opened.3, fixed_count-unfix fixed branch.unit (version_in fixed branch.unit) opened.1)
+open_few table fixed (own ∷ branches) opened =
+    omega (arith, open_few table (unfix own.unit fixed) branches opened.3, fixed_count-unfix fixed own.unit (version_in fixed own.unit) opened.1)
 
 pub room_for_one : (table : Table) (fixed : List (Option ℕ)) (branches : List OpenBranch) (unit : ℕ) → AreOpen table fixed (reverse branches) → unit < length fixed → IsFree fixed unit
     → length branches < length fixed
@@ -188,14 +185,13 @@ room_for_one table fixed branches unit opened within free =
     omega (arith, open_few table fixed (reverse branches) opened, length-reverse branches, fixed_count-free fixed unit within free)
 
 -- ---- the branches with one more, the innermost first
-pub reverse-push : (branches : List OpenBranch) (branch : OpenBranch) → reverse (branches ++ branch ∷ []) ≡ branch ∷ reverse branches
-reverse-push branches branch = reverse-append branches (branch ∷ [])
+pub reverse-push : (branches : List OpenBranch) (own : OpenBranch) → reverse (branches ++ own ∷ []) ≡ own ∷ reverse branches
+reverse-push branches own = reverse-append branches (own ∷ [])
 
 pub opened : (table : Table) (fixed before : List (Option ℕ)) (unit k : ℕ) (least : Option ℕ) (outer : List OpenBranch) → unit < length fixed → k < versions_of table unit
     → unfix unit (fix unit k fixed) ≡ before → AreOpen table before outer → AreOpen table (fix unit k fixed) (record { unit = unit; least = least } ∷ outer)
 opened table fixed before unit k least outer within some same are =
-    let version : version_in (fix unit k fixed) unit ≡ k = version-fix unit k fixed within in
-    (
+    let version : version_in (fix unit k fixed) unit ≡ k = version-fix unit k fixed within in (
       omega (arith, within, length-set fixed unit (Some k)),
       get_or-set_same fixed unit (Some k) None within ∙ ap (λ (n : ℕ). Some n) (sym version),
       omega (arith, version, some),

@@ -22,6 +22,12 @@ use Rattle.std.proofs.Common.{
   Option,
   Some,
   None,
+  Result,
+  Ok,
+  Err,
+  IfOk,
+  IfErr,
+  OnOk,
   slice_get,
   refl,
   sym,
@@ -47,6 +53,7 @@ use Rattle.dual_bounds.proofs.ValueLaws.{branch_bounds}
 use Rattle.bound_certificate.specs.declared.cert.Cert.{Cert}
 use Rattle.bound_certificate.specs.declared.cert.Node.{Node}
 use Rattle.bound_certificate.specs.declared.cert.Node.TheVariants.{Branch, Dual, Run, Open, Window}
+use Rattle.certificate_checker.specs.declared.why.CertFault.{CertFault}
 use Rattle.certificate_checker.specs.Shown.{bound_of_leaf, bound_of_run, choice_left, fix, lesser, unfixed, version_left, versions_of, windows_in}
 use Rattle.certificate_checker.specs.Faults.{IsRight, IsSettled, LeavesOne}
 use Rattle.certificate_checker.specs.Walk.{IsLeaf, Shows, Stops, Walked, Walks, WalksEach, beside, missing, wrong, leaf, branch, none, stop, next}
@@ -82,7 +89,8 @@ windows_bound_least : (table : Table) (n : ℕ) (fixed : List (Option ℕ)) (nod
 windows_bound_least table n fixed node valid most choice fits takes scheduled =
     omega (arith, most, windows_bound table fixed (windows_in node) valid choice fits takes scheduled)
 
-run_bounds : (table : Table) (n : ℕ) (fixed : List (Option ℕ)) (scheduled : Bool) → IsRight table fixed (Run scheduled) → IsAtMost n (bound_of_run table (choice_left fixed) scheduled) → IsBound table fixed n
+run_bounds : (table : Table) (n : ℕ) (fixed : List (Option ℕ)) (scheduled : Bool) → IsRight table fixed (Run scheduled) → IsAtMost n (bound_of_run table (choice_left fixed) scheduled)
+    → IsBound table fixed n
 run_bounds table n fixed true right most choice fits takes scheduled =
     let left : choice ≡ choice_left fixed = one_left (units_of table) fixed choice right.0 fits takes in
     subst (λ (c : List ℕ). n ≤ distortion_of_choice table c) (sym left) most
@@ -131,6 +139,7 @@ next_shown table n fixed unit k more bound (Shows other behind) first others =
     at_first : (j d : ℕ) → j ≡ k + d → IsAtMost n bound → IsAtMost n other → d < suc more → IsBound table (fix unit j fixed) n
     at_first j zero is most_first most_other high = subst (λ (i : ℕ). IsBound table (fix unit i fixed) n) (omega (arith, is)) (first most_first)
     at_first j (suc d) is most_first most_other high = others most_other j (omega (arith, is)) (omega (arith, is, high))
+
     next_at : (j : ℕ) → IsAtMost n bound → IsAtMost n other → k ≤ j → j < k + suc more → IsBound table (fix unit j fixed) n
     next_at j most_first most_other low high = at_first j (j - k) (omega (arith, low)) most_first most_other (omega (arith, low, high))
 
@@ -163,3 +172,9 @@ pub faultless_bound : (table : Table) (cert : Cert) → IsValidTable table → I
 faultless_bound table cert valid right choice fits scheduled =
     tree_bounds table cert.bound valid (unfixed table) cert.nodes (Shows right.shown []) right.tree (length-map (units_of table) (λ (unit : CodedUnit). None)) right.bound choice fits
     (takes_nothing (units_of table) choice fits) scheduled
+
+pub answer_sound : (table : Table) (cert : Cert) (result : Result ℕ CertFault) → IsValidTable table → IfOk result (λ bound. bound ≡ cert.bound) → OnOk result (IsFaultless table cert)
+    → IfOk result (λ bound. (choice : List ℕ) → Fits table choice → IsScheduled table choice → bound ≤ distortion_of_choice table choice)
+answer_sound table cert (Ok bound) valid same faultless = λ choice fits scheduled.
+    subst (λ (n : ℕ). n ≤ distortion_of_choice table choice) (sym same) (faultless_bound table cert valid faultless choice fits scheduled)
+answer_sound table cert (Err fault) valid same faultless = tt

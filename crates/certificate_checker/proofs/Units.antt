@@ -8,6 +8,10 @@ use Rattle.std.proofs.Common.{
   ◌-◌,
   ◌<◌,
   ◌≤◌,
+  ◌↔◌,
+  IsTrue,
+  true,
+  false,
   List,
   [],
   ◌∷◌,
@@ -34,8 +38,9 @@ use Rattle.std.proofs.Common.{
   arith,
 }
 use Rattle.std.specs.List.{AllZip}
-use Rattle.std.proofs.lemmas.Bool.{cases_eq}
-use Rattle.std.proofs.lemmas.List.{get_or-replicate, get_or-set_other, get_or-set_same, get_or_append_left, get_or-append_right, length-replicate, same_lists}
+use Rattle.std.proofs.lemmas.Bool.{cases_lt, false≢true}
+use Rattle.std.proofs.lemmas.List.{get_or_default, get_or_past, get_or-replicate, get_or_append_left, get_or-append_right, length-replicate, same_lists}
+use Rattle.version_table.specs.declared.limits.TheConstants.{VERSIONS_MOST}
 use Rattle.version_table.specs.declared.table.Unit.{Unit as CodedUnit}
 use Rattle.version_table.specs.declared.table.ProgramRow.{ProgramRow}
 use Rattle.version_table.specs.declared.table.Table.{Table}
@@ -104,9 +109,23 @@ all_zip_size R [] (x ∷ xs) all = absurd all
 all_zip_size R (unit ∷ units) [] all = absurd all
 all_zip_size R (unit ∷ units) (x ∷ xs) all = ap suc (all_zip_size R units xs all.1)
 
+-- what an early return and the end of a test say
+pub never : {P : Type 0} → (P → ⊥) → IsTrue false ↔ P
+never not = (λ so. absurd (false≢true so), λ p. absurd (not p))
+
+pub always : {P : Type 0} → P → IsTrue true ↔ P
+always p = (λ so. p, λ q. refl)
+
 -- a unit of a valid table has a version
 pub some_version : (table : Table) (unit : ℕ) → IsValidTable table → unit < length (units_of table) → 0 < versions_of table unit
 some_version table unit valid within = omega (arith, (valid_units table valid unit no_unit within).some_version)
+
+-- a unit of a valid table has few versions
+pub few_versions_of : (table : Table) (unit : ℕ) → IsValidTable table → versions_of table unit ≤ VERSIONS_MOST
+few_versions_of table unit valid = elim (cases_lt unit (length (units_of table))) [
+  | inl within ↦ (valid_units table valid unit no_unit within).few_versions
+  | inr past ↦ subst (λ (u : CodedUnit). length u.versions.items ≤ VERSIONS_MOST) (sym (get_or_past (units_of table) unit no_unit past)) (omega arith)
+]
 
 -- ---- what is fixed
 names_set_in : (units : List CodedUnit) (fixed : List (Option ℕ)) (u : ℕ) (entry : Option ℕ) → AllZip NamesVersion units fixed → NamesVersion (get_or units u no_unit) entry
@@ -142,11 +161,11 @@ pub fits_left : (table : Table) (fixed : List (Option ℕ)) → IsValidTable tab
 fits_left table fixed valid fixes = fits_left_in table.slot (units_of table) fixed (valid_units table valid) fixes
 
 -- where nothing is fixed of any unit
-pub unfixed_is : (units : List CodedUnit) → replicate (length units) None ≡ map (λ (unit : CodedUnit). None) units
+pub unfixed_is : (units : List CodedUnit) → replicate {A = Option ℕ} (length units) None ≡ map (λ (unit : CodedUnit). None) units
 unfixed_is [] = refl
 unfixed_is (unit ∷ units) = ap (λ (xs : List (Option ℕ)). None ∷ xs) (unfixed_is units)
 
-pub zeros_left : (n : ℕ) → replicate n 0 ≡ choice_left (replicate n None)
+pub zeros_left : (n : ℕ) → replicate n 0 ≡ choice_left (replicate {A = Option ℕ} n None)
 zeros_left zero = refl
 zeros_left (suc n) = ap (λ (xs : List ℕ). 0 ∷ xs) (zeros_left n)
 
@@ -155,12 +174,7 @@ fixes_nothing [] = tt
 fixes_nothing (unit ∷ units) = (tt, fixes_nothing units)
 
 -- ---- a list filled from the front
-pub filled_more : {A : Type 0} (xs : List A) (n : ℕ) (x : A) → n < length xs → ((k : ℕ) (d : A) → k < n → get_or xs k d ≡ x) → (k : ℕ) (d : A) → k < n + 1 → get_or (set xs n x) k d ≡ x
-filled_more xs n x within each k d below = elim (cases_eq k n) [
-  | inl same ↦ subst (λ (i : ℕ). get_or (set xs n x) i d ≡ x) (sym same) (get_or-set_same xs n x d within)
-  | inr other ↦ get_or-set_other xs n k x d other ∙ each k d (omega (arith, below, other))
-]
-
-pub filled_all : {A : Type 0} (xs : List A) (n : ℕ) (x : A) → length xs ≡ n → ((k : ℕ) (d : A) → k < n → get_or xs k d ≡ x) → xs ≡ replicate n x
-filled_all xs n x size each = same_lists xs (replicate n x) (size ∙ sym (length-replicate n x))
-    (λ k d within. each k d (omega (arith, within, size)) ∙ sym (get_or-replicate n k x d (omega (arith, within, size))))
+pub filled_all : {A : Type 0} (xs : List A) (n : ℕ) (x : A) → length xs ≡ n → ((k : ℕ) → k < n → get_or xs k x ≡ x) → xs ≡ replicate n x
+filled_all xs n x size each =
+    same_lists xs (replicate n x) (size ∙ sym (length-replicate n x))
+    (λ k d within. get_or_default xs k d x within ∙ each k (omega (arith, within, size)) ∙ sym (get_or-replicate n k x d (omega (arith, within, size))))

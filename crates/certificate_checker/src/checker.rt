@@ -82,11 +82,27 @@ pub fn check(table: &Table, cert: &Cert, room: &mut CheckRoom) -> Result<u64, Ce
     ensures sound { IfOk result (λ bound. (choice : List ℕ) → Fits table.now choice → IsScheduled table.now choice → bound ≤ distortion_of_choice table.now choice) }
     ensures room { room.new ≡ room.old }
 {
-    if let Some(why) = fault_of_head(table, cert, room.path.fixed.list().len()) {
-        return Err(CertFault { node: 0, why });
+    match fault_of_head(table, cert, room.path.fixed.list().len()) {
+        Some(why) => Err(CertFault { node: 0, why }),
+        None => check_tree(table, cert, &mut room.path),
     }
-    clear(&mut room.path);
-    let tree = walk(table, cert.nodes.as_slice(), &mut room.path)?;
+}
+
+/// Checks the tree of a certificate whose head is right.
+fn check_tree(table: &Table, cert: &Cert, path: &mut Path) -> Result<u64, CertFault>
+    requires valid { IsValidTable table.now }
+    requires room { HasRoomFor path.old }
+    requires units { length path.old.fixed ≡ length (units_of table.now) }
+    requires few { length cert.now.nodes < 2 ^ 32 }
+    requires head { IsHeadRight table.now cert.now }
+    ensures room { HasRoomFor path.new }
+    ensures units { length path.new.fixed ≡ length path.old.fixed }
+    ensures bound { IfOk result (λ bound. bound ≡ cert.now.bound) }
+    ensures faultless { OnOk result (IsFaultless table.now cert.now) }
+    ensures fault { IfErr result (IsFirstFault table.now cert.now) }
+{
+    clear(path);
+    let tree = walk(table, cert.nodes.as_slice(), path)?;
     if tree.nodes < cert.nodes.len() {
         return Err(CertFault {
             node: tree.nodes as u32,
@@ -128,8 +144,9 @@ fn fits(table: &Table, choice: &Choice) -> bool
     requires { length choice.now ≡ length (units_of table.now) }
     ensures { IsTrue result ↔ Fits table.now choice.now }
 {
-    for (unit, k) in choice.as_slice().iter().enumerate() {
-        if usize::from(*k) >= versions_of(table, unit) {
+    let choice = choice.as_slice();
+    for unit in 0..choice.len() {
+        if usize::from(choice[unit]) >= versions_of(table, unit) {
             return false;
         }
     }

@@ -1,12 +1,13 @@
 ghost use Rattle.std.specs.Prelude.{◌≡◌, ◌≤◌, ◌↔◌, IsTrue, length, map, MatchOption};
 ghost use Rattle.version_table.specs.declared.table.Table.{Table};
+ghost use Rattle.version_table.specs.declared.table.Unit.{Unit as CodedUnit};
 ghost use Rattle.version_table.specs.Choice.{Fits};
 ghost use Rattle.version_table.specs.Table.{IsValidTable};
 ghost use Rattle.slot_rule.specs.Schedule.{IsScheduled};
 ghost use Rattle.dual_bounds.specs.Fixed.{FixesVersions};
 ghost use Rattle.dual_bounds.specs.Values.{from_start};
 ghost use Rattle.bound_certificate.specs.declared.cert.Node.TheVariants.{Branch};
-ghost use Rattle.certificate_checker.specs.Faults.{AreRight, GoesBefore, IsFirstOfBranch, IsFirstOfRun, IsFirstOfWindows, IsFlagOf, IsRight, KeepLimit, LeavesOne, NoneEmpty, Rise};
+ghost use Rattle.certificate_checker.specs.Faults.{AreRight, GoesBefore, IsFirstOfBranch, IsFirstOfRun, IsFirstOfWindows, IsFlagOf, IsRight, IsSettled, KeepLimit, LeavesOne, NoneEmpty, Rise};
 ghost use Rattle.certificate_checker.specs.Shown.{bound_of_run, choice_left};
 ghost use Rattle.certificate_checker.specs.Private.Paths.{IsPath};
 
@@ -21,11 +22,10 @@ use version_table::{Choice, Table, distortion_of};
 pub(crate) fn fault_of_branch(unit: u32, path: &Path) -> Option<Why>
     ensures { (table : Table) → IsPath table path.now → MatchOption result (IsRight table path.now.fixed (Branch unit)) (IsFirstOfBranch table path.now.fixed unit) }
 {
-    let fixed = path.fixed.list().as_slice();
-    if unit as usize >= fixed.len() {
+    if unit as usize >= path.fixed.list().len() {
         return Some(Why::UnitRange);
     }
-    match fixed[unit as usize] {
+    match path.version(unit) {
         Some(_k) => Some(Why::UnitFixed),
         None => None,
     }
@@ -126,12 +126,23 @@ fn leaves_one(table: &Table, fixed: &Fixed) -> bool
     requires { FixesVersions table.now fixed.now }
     ensures { IsTrue result ↔ LeavesOne table.now fixed.now }
 {
-    for (unit, entry) in fixed.as_slice().iter().enumerate() {
-        if entry.is_none() && versions_of(table, unit) > 1 {
+    let fixed = fixed.as_slice();
+    for unit in 0..fixed.len() {
+        if !is_settled(versions_of(table, unit), fixed[unit]) {
             return false;
         }
     }
     true
+}
+
+/// Whether a unit of so many versions is fixed or has one version.
+fn is_settled(versions: usize, entry: Option<u8>) -> bool
+    ensures { (unit : CodedUnit) → length unit.versions.items ≡ versions → IsTrue result ↔ IsSettled unit entry }
+{
+    match entry {
+        Some(_k) => true,
+        None => versions <= 1,
+    }
 }
 
 /// Whether a choice is scheduled.
@@ -149,9 +160,8 @@ pub(crate) fn bound_of_run(table: &Table, scheduled: bool, choice: &Choice) -> O
     requires fits { Fits table.now choice.now }
     ensures { result ≡ bound_of_run table.now choice.now scheduled }
 {
-    if scheduled {
-        Some(u128::from(distortion_of(table, choice)))
-    } else {
-        None
+    match scheduled {
+        true => Some(u128::from(distortion_of(table, choice))),
+        false => None,
     }
 }

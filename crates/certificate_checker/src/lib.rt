@@ -14,3 +14,6 @@ mod why;
 
 pub use checker::{CheckRoom, check};
 pub use why::{CertFault, Why};
+
+#[cfg(test)]
+mod tests;

@@ -1,6 +1,6 @@
-ghost use Rattle.std.specs.Prelude.{◌≡◌, ◌<◌, ◌≤◌, [], ◌∷◌, ◌++◌, length, None, vec_capacity};
+ghost use Rattle.std.specs.Prelude.{◌≡◌, ◌<◌, ◌≤◌, [], ◌∷◌, ◌++◌, length, slice_index_or, None, vec_capacity};
 ghost use Rattle.certificate_checker.specs.Shown.{choice_left, fix, versions_of};
-ghost use Rattle.certificate_checker.specs.Private.Paths.{unfix, version_in};
+ghost use Rattle.certificate_checker.specs.Private.Paths.{unfix};
 
 use crate::places::Places;
 use version_table::Table;
@@ -47,12 +47,12 @@ impl Path {
         self.choice.put(unit as usize, k);
     }
 
-    /// The version that is fixed of a unit; 0 where none is.
-    pub(crate) fn version(&self, unit: u32) -> u8
+    /// The version that is fixed of a unit; none where each may be.
+    pub(crate) fn version(&self, unit: u32) -> Option<u8>
         requires within { unit < length self.now.fixed }
-        ensures { result ≡ version_in self.now.fixed unit }
+        ensures { result ≡ slice_index_or self.now.fixed unit None }
     {
-        self.fixed.list().as_slice()[unit as usize].unwrap_or(0)
+        self.fixed.list().as_slice()[unit as usize]
     }
 
     /// Goes to the first child of a branch on a unit.

@@ -1,3 +1,5 @@
+ghost use Rattle.std.specs.Prelude.{◌≡◌, length, replicate};
+
 use list_types::ListOf;
 use std::marker::Model;
 
@@ -61,10 +63,17 @@ impl<T: Copy + Drop> Places<T> {
         let Some(list) = self.list.take() else {
             unreachable!();
         };
-        let mut items = list.into_vec();
-        for place in 0..items.len() {
-            items[place] = item;
-        }
-        self.list = Some(ListOf::from_vec(items));
+        self.list = Some(filled(list, item));
     }
+}
+
+/// A list with an item in every place.
+fn filled<T: Copy + Drop>(list: ListOf<T>, item: T) -> ListOf<T>
+    ensures { result ≡ replicate (length list) item }
+{
+    let mut items = list.into_vec();
+    for place in 0..items.len() {
+        items[place] = item;
+    }
+    ListOf::from_vec(items)
 }

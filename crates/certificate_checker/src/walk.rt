@@ -47,8 +47,14 @@ pub(crate) fn walk(table: &Table, nodes: &[Node], path: &mut Path) -> Result<Tre
     for (at, node) in nodes.iter().enumerate() {
         match take_node(table, node, path) {
             Ok(Next::Needed) => {}
-            Ok(Next::Whole(bound)) => return Ok(Tree { bound, nodes: at + 1 }),
-            Err(why) => return Err(CertFault { node: at as u32, why }),
+            Ok(Next::Whole(bound)) => return Ok(Tree {
+                bound,
+                nodes: at + 1,
+            }),
+            Err(why) => return Err(CertFault {
+                node: at as u32,
+                why,
+            }),
         }
     }
     Err(CertFault {
@@ -82,11 +88,13 @@ fn take_branch(table: &Table, unit: u32, path: &mut Path) -> Result<Next, Why>
     ensures next { IfOk result (IsTaken table.now path.old path.new (nodes.Branch unit)) }
     ensures wrong { IfErr result (IsFirstOfBranch table.now path.old.fixed unit) }
 {
-    if let Some(why) = fault_of_branch(unit, path) {
-        return Err(why);
+    match fault_of_branch(unit, path) {
+        Some(why) => Err(why),
+        None => {
+            path.enter(unit);
+            Ok(Next::Needed)
+        }
     }
-    path.enter(unit);
-    Ok(Next::Needed)
 }
 
 /// Takes a node that these windows bound.
@@ -99,11 +107,13 @@ fn take_windows(table: &Table, windows: &[Window], path: &mut Path) -> Result<Ne
     ensures closed { IfOk result (IsClosed table.now path.old path.new (bound_of_windows table.now path.old.fixed windows.now)) }
     ensures wrong { IfErr result (IsFirstOfWindows windows.now) }
 {
-    if let Some(why) = fault_of_windows(windows) {
-        return Err(why);
+    match fault_of_windows(windows) {
+        Some(why) => Err(why),
+        None => {
+            let value = window_value(table, path.fixed.list(), windows);
+            Ok(close(table, Some(bound_of(value)), path))
+        }
     }
-    let value = window_value(table, path.fixed.list(), windows);
-    Ok(close(table, Some(bound_of(value)), path))
 }
 
 /// Takes a choice that was tried.
@@ -114,15 +124,18 @@ fn take_run(table: &Table, scheduled: bool, path: &mut Path) -> Result<Next, Why
     ensures next { IfOk result (IsTaken table.now path.old path.new (nodes.Run scheduled)) }
     ensures wrong { IfErr result (IsFirstOfRun table.now path.old.fixed scheduled) }
 {
-    if let Some(why) = fault_of_run(table, scheduled, path) {
-        return Err(why);
+    match fault_of_run(table, scheduled, path) {
+        Some(why) => Err(why),
+        None => {
+            let bound = bound_of_run(table, scheduled, path.choice.list());
+            Ok(close(table, bound, path))
+        }
     }
-    let bound = bound_of_run(table, scheduled, path.choice.list());
-    Ok(close(table, bound, path))
 }
 
 /// Closes the tree in hand, which shows a bound, and each branch of which it is the last child.
 fn close(table: &Table, bound: Option<u128>, path: &mut Path) -> Next
+    requires valid { IsValidTable table.now }
     requires path { IsPath table.now path.old }
     ensures path { IsPath table.now path.new }
     ensures next { IsClosed table.now path.old path.new bound result }
@@ -139,6 +152,7 @@ fn close(table: &Table, bound: Option<u128>, path: &mut Path) -> Next
 
 /// Closes a child of the innermost branch, which shows a bound.
 fn close_child(table: &Table, bound: Option<u128>, path: &mut Path) -> Closing
+    requires valid { IsValidTable table.now }
     requires path { IsPath table.now path.old }
     requires some { 0 < length path.old.branches.items }
     ensures path { IsPath table.now path.new }
@@ -148,7 +162,7 @@ fn close_child(table: &Table, bound: Option<u128>, path: &mut Path) -> Closing
         unreachable!();
     };
     let least = lesser(branch.least, bound);
-    let next = path.version(branch.unit) + 1;
+    let next = path.version(branch.unit).unwrap_or(0) + 1;
     if usize::from(next) < versions_of(table, branch.unit as usize) {
         path.fix(branch.unit, next);
         path.keep(OpenBranch {
