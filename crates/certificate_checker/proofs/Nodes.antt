@@ -1,5 +1,5 @@
 -- The loop over the nodes: what comes of those that are left comes of all.
-use Rattle.std.proofs.Common.{◌≡◌, ℕ, zero, suc, ◌+◌, ◌-◌, ◌<◌, ◌≤◌, List, [], ◌∷◌, length, reverse, get_or, drop, Option, refl, sym, ap, subst, ◌∙◌, arith}
+use Rattle.std.proofs.Common.{◌≡◌, ℕ, suc, ◌+◌, ◌<◌, ◌≤◌, List, [], ◌∷◌, length, reverse, get_or, drop, Option, sym, ap, subst, ◌∙◌, arith}
 use Rattle.std.proofs.lemmas.List.{drop_all, drop_more, length-drop}
 use Rattle.version_table.specs.declared.table.Table.{Table}
 use Rattle.bound_certificate.specs.declared.cert.Node.{Node}
@@ -8,11 +8,10 @@ use Rattle.certificate_checker.specs.declared.path.OpenBranch.{OpenBranch}
 use Rattle.certificate_checker.specs.declared.path.Path.{Path}
 use Rattle.certificate_checker.specs.declared.why.Why.{Why}
 use Rattle.certificate_checker.specs.declared.why.Why.TheVariants as whys
-use Rattle.certificate_checker.specs.declared.why.CertFault.{CertFault}
 use Rattle.certificate_checker.specs.Shown.{unfixed}
 use Rattle.certificate_checker.specs.Faults.{IsFirstOfNode}
 use Rattle.certificate_checker.specs.Walk.{Shows, Stops, Walked, Walks, missing, wrong}
-use Rattle.certificate_checker.specs.Private.Paths.{Ahead, Completes, IsFaultIn, IsTaken, Resumes}
+use Rattle.certificate_checker.specs.Private.Paths.{Ahead, IsFaultIn, IsTaken, Resumes}
 use Rattle.certificate_checker.proofs.Paths.{stops_whole}
 
 -- what comes of these nodes comes of all

@@ -29,7 +29,6 @@ use Rattle.std.proofs.Common.{
 }
 use Rattle.std.proofs.lemmas.List.{get_or-set_same, set-set, set-get_or, reverse-append, length-reverse, length-set}
 use Rattle.version_table.specs.declared.table.Table.{Table}
-use Rattle.version_table.specs.Table.{units_of}
 use Rattle.bound_certificate.specs.declared.cert.Node.{Node}
 use Rattle.bound_certificate.specs.declared.cert.Node.TheVariants.{Branch}
 use Rattle.certificate_checker.specs.declared.path.OpenBranch.{OpenBranch}

@@ -1,42 +1,5 @@
 -- What a tree without fault shows is a bound: no scheduled choice that takes what is fixed has less distortion.
-use Rattle.std.proofs.Common.{
-  ◌≡◌,
-  ℕ,
-  zero,
-  suc,
-  ◌+◌,
-  ◌-◌,
-  ◌<◌,
-  ◌≤◌,
-  min,
-  Bool,
-  true,
-  false,
-  List,
-  [],
-  ◌∷◌,
-  length,
-  map,
-  get_or,
-  set,
-  Option,
-  Some,
-  None,
-  Result,
-  Ok,
-  Err,
-  IfOk,
-  IfErr,
-  OnOk,
-  slice_get,
-  refl,
-  sym,
-  ap,
-  ap₂,
-  subst,
-  ◌∙◌,
-  arith,
-}
+use Rattle.std.proofs.Common.{◌≡◌, ℕ, zero, suc, ◌+◌, ◌-◌, ◌<◌, ◌≤◌, Bool, true, false, List, [], ◌∷◌, length, map, get_or, Option, Some, None, Result, Ok, Err, IfOk, OnOk, slice_get, refl, sym, ap₂, subst, ◌∙◌, arith}
 use Rattle.std.specs.List.{AllZip}
 use Rattle.std.proofs.lemmas.List.{length-map, length-set}
 use Rattle.std.proofs.lemmas.Option.{slice_get-get_or}
@@ -46,7 +9,7 @@ use Rattle.version_table.specs.Choice.{Fits, HasVersion, distortion_of_choice}
 use Rattle.version_table.specs.Table.{IsValidTable, units_of}
 use Rattle.slot_rule.specs.Schedule.{IsScheduled}
 use Rattle.dual_bounds.specs.Bounds.{IsBound, bound_of_value}
-use Rattle.dual_bounds.specs.Fixed.{Takes, TakesFixed}
+use Rattle.dual_bounds.specs.Fixed.{TakesFixed}
 use Rattle.dual_bounds.specs.Values.{value_of_windows}
 use Rattle.dual_bounds.proofs.Duality.{windows_bound}
 use Rattle.dual_bounds.proofs.ValueLaws.{branch_bounds}
@@ -54,8 +17,8 @@ use Rattle.bound_certificate.specs.declared.cert.Cert.{Cert}
 use Rattle.bound_certificate.specs.declared.cert.Node.{Node}
 use Rattle.bound_certificate.specs.declared.cert.Node.TheVariants.{Branch, Dual, Run, Open, Window}
 use Rattle.certificate_checker.specs.declared.why.CertFault.{CertFault}
-use Rattle.certificate_checker.specs.Shown.{bound_of_leaf, bound_of_run, choice_left, fix, lesser, unfixed, version_left, versions_of, windows_in}
-use Rattle.certificate_checker.specs.Faults.{IsRight, IsSettled, LeavesOne}
+use Rattle.certificate_checker.specs.Shown.{bound_of_leaf, bound_of_run, choice_left, fix, lesser, unfixed, versions_of, windows_in}
+use Rattle.certificate_checker.specs.Faults.{IsRight, IsSettled}
 use Rattle.certificate_checker.specs.Walk.{IsLeaf, Shows, Stops, Walked, Walks, WalksEach, beside, missing, wrong, leaf, branch, none, stop, next}
 use Rattle.certificate_checker.specs.Checked.{IsAtMost, IsFaultless}
 

@@ -1,35 +1,5 @@
 -- The path after each step of the code: a branch entered, a child closed, a branch closed.
-use Rattle.std.proofs.Common.{
-  ◌≡◌,
-  ℕ,
-  zero,
-  suc,
-  ◌+◌,
-  ◌-◌,
-  ◌<◌,
-  ◌≤◌,
-  List,
-  [],
-  ◌∷◌,
-  ◌++◌,
-  length,
-  reverse,
-  Option,
-  Some,
-  None,
-  vec_capacity,
-  Result,
-  Ok,
-  Err,
-  IfOk,
-  OnOk,
-  refl,
-  sym,
-  ap,
-  subst,
-  ◌∙◌,
-  arith,
-}
+use Rattle.std.proofs.Common.{◌≡◌, ℕ, ◌+◌, ◌<◌, ◌≤◌, List, [], ◌∷◌, ◌++◌, length, reverse, Option, Some, None, vec_capacity, Result, Ok, Err, IfOk, OnOk, refl, sym, ap, subst, ◌∙◌, arith}
 use Rattle.std.proofs.lemmas.List.{length-append, length-set}
 use Rattle.version_table.specs.declared.table.Table.{Table}
 use Rattle.version_table.specs.Table.{IsValidTable, units_of}
@@ -47,8 +17,8 @@ use Rattle.certificate_checker.specs.declared.why.Why.{Why}
 use Rattle.certificate_checker.specs.declared.walk.Closing.TheVariants.{NextChild, Shown}
 use Rattle.certificate_checker.specs.Shown.{bound_of_leaf, bound_of_windows, choice_left, fix, lesser, versions_of, windows_in}
 use Rattle.certificate_checker.specs.Faults.{AreRight, IsRight}
-use Rattle.certificate_checker.specs.Walk.{IsLeaf, Shows, Stops, Walked, Walks, leaf}
-use Rattle.certificate_checker.specs.Private.Paths.{Ahead, AreOpen, Completes, IsClosed, IsClosing, IsPath, IsTaken, Resumes, unfix, version_in}
+use Rattle.certificate_checker.specs.Walk.{IsLeaf, Shows, Walks, leaf}
+use Rattle.certificate_checker.specs.Private.Paths.{AreOpen, IsClosed, IsClosing, IsPath, IsTaken, Resumes, unfix, version_in}
 use Rattle.certificate_checker.proofs.Paths.{first_child, last_child, next_child, opened, reverse-push, room_for_one, unfix-fix, unfix-free}
 use Rattle.certificate_checker.proofs.Units.{all_zip_size, fixes_none, fixes_one, some_version}
 

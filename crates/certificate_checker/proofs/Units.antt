@@ -1,42 +1,5 @@
 -- Units by their numbers: how many versions they have, and what is fixed of them.
-use Rattle.std.proofs.Common.{
-  ◌≡◌,
-  ℕ,
-  zero,
-  suc,
-  ◌+◌,
-  ◌-◌,
-  ◌<◌,
-  ◌≤◌,
-  ◌↔◌,
-  IsTrue,
-  true,
-  false,
-  List,
-  [],
-  ◌∷◌,
-  ◌++◌,
-  length,
-  map,
-  get_or,
-  set,
-  take,
-  drop,
-  replicate,
-  All,
-  Option,
-  Some,
-  None,
-  refl,
-  sym,
-  ap,
-  ap₂,
-  subst,
-  ◌∙◌,
-  inl,
-  inr,
-  arith,
-}
+use Rattle.std.proofs.Common.{◌≡◌, ℕ, zero, suc, ◌+◌, ◌-◌, ◌<◌, ◌≤◌, ◌↔◌, IsTrue, true, false, List, [], ◌∷◌, ◌++◌, length, map, get_or, set, replicate, All, Option, Some, None, refl, sym, ap, subst, ◌∙◌, inl, inr, arith}
 use Rattle.std.specs.List.{AllZip}
 use Rattle.std.proofs.lemmas.Bool.{cases_lt, false≢true}
 use Rattle.std.proofs.lemmas.List.{get_or_default, get_or_past, get_or-replicate, get_or_append_left, get_or-append_right, length-replicate, same_lists}
@@ -49,8 +12,7 @@ use Rattle.version_table.specs.Table.{IsValidTable, IsValidUnit, units_of}
 use Rattle.version_table.proofs.Chosen.{units_from, units_from_more, units_from_all}
 use Rattle.version_table.proofs.ValidUnits.{valid_units}
 use Rattle.dual_bounds.specs.Fixed.{FixesVersions, NamesVersion}
-use Rattle.certificate_checker.specs.Shown.{choice_left, unfixed, version_left, versions_of}
-use Rattle.certificate_checker.specs.Faults.{IsSettled, LeavesOne}
+use Rattle.certificate_checker.specs.Shown.{choice_left, version_left, versions_of}
 
 -- ---- how many versions a unit has
 abbrev pub no_unit : CodedUnit

@@ -15,14 +15,26 @@ const WITH_A_MULTIPLIER: [u8; 49] = [
     0, 0, 1, 2, 0, 1, 0, 0, 0, 0, 0, 0, 0x6A, 0x40, 0, 0, 0, 0, 0, 0, 0x0A, 0,
 ];
 
-/// Asserts how a certificate of the table is answered.
+/// One unit, of which 625 or 500 packets are due at 54,000,000 ticks; of its slots 599 begin a second before that or later.
+const LATE: &[u8] =
+    b"remux table 1\nslot 40000\nnodes 1\nevaluations 0\nprogram 112\nunit 54000000 115000:0 92000:10\n";
+
+/// Its version 1, with one window at the due time and a lambda of 20.
+const WITH_A_WINDOW: [u8; 57] = [
+    0x52, 0x4D, 0x58, 0x43, 2, 0, 0, 0, 0, 0, 0, 0, 3, 0, 0, 0, 0, 0, 0, 0, 10, 0, 0, 0, 1, 1, 0,
+    0, 0, 1, 5, 0, 1, 0, 0, 0, 0, 3, 0x37, 0xF9, 0x80, 0, 0, 0, 0, 3, 0x37, 0xF9, 0x80, 0, 0, 0, 0,
+    0, 0, 0, 20,
+];
+
+/// Asserts how a certificate of a table's text is answered.
 fn assert_answer(
     rt: &impl Abort,
     alloc: Global,
+    text: &[u8],
     bytes: &[u8],
     wanted: Result<u64, CertFault>,
 ) -> Result<(), Fail> {
-    let table = read_table(alloc, TABLE)?;
+    let table = read_table(alloc, text)?;
     let cert = read_cert(alloc, bytes)?;
     let mut room = CheckRoom::new(alloc, &table)?;
     assert_eq!(rt; check(&table, &cert, &mut room), wanted);
@@ -41,7 +53,7 @@ fn assert_changed(
     if place < bytes.len() {
         bytes[place] = byte;
     }
-    assert_answer(rt, alloc, &bytes, Err(CertFault { node: 0, why }))
+    assert_answer(rt, alloc, TABLE, &bytes, Err(CertFault { node: 0, why }))
 }
 
 /// The same with other nodes.
@@ -56,7 +68,7 @@ fn assert_nodes(
     bytes.extend_from_slice(&WITH_A_MULTIPLIER[..29])?;
     bytes.push(count)?;
     bytes.extend_from_slice(nodes)?;
-    assert_answer(rt, alloc, bytes.as_slice(), wanted)
+    assert_answer(rt, alloc, TABLE, bytes.as_slice(), wanted)
 }
 
 /// A fault of a node.
@@ -66,7 +78,7 @@ fn fault(node: u32, why: Why) -> Result<u64, CertFault> {
 
 #[test]
 fn a_bound_that_a_multiplier_shows_is_accepted(rt: HostRuntime) -> Result<(), Fail> {
-    assert_answer(&rt, rt.alloc(), &WITH_A_MULTIPLIER, Ok(10))
+    assert_answer(&rt, rt.alloc(), TABLE, &WITH_A_MULTIPLIER, Ok(10))
 }
 
 #[test]
@@ -108,4 +120,16 @@ fn each_tree_is_walked_to_its_first_fault(rt: HostRuntime) -> Result<(), Fail> {
         &[1, 0, 0, 0, 0, 1, 0, 0, 0, 0],
         fault(1, Why::UnitFixed),
     )
+}
+
+#[test]
+fn a_window_bounds_by_the_room_from_where_it_begins(rt: HostRuntime) -> Result<(), Fail> {
+    let alloc = rt.alloc();
+    assert_answer(&rt, alloc, LATE, &WITH_A_WINDOW, Ok(3))?;
+    let mut from_the_start = WITH_A_WINDOW;
+    from_the_start[37] = 0;
+    assert_answer(&rt, alloc, LATE, &from_the_start, fault(0, Why::BoundHigh))?;
+    let mut empty = WITH_A_WINDOW;
+    empty[40] = 0x81;
+    assert_answer(&rt, alloc, LATE, &empty, fault(0, Why::WindowEmpty))
 }

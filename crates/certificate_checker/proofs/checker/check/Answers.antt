@@ -1,4 +1,4 @@
-use Rattle.std.proofs.Common.{◌≡◌, ℕ, Ok, Err, refl}
+use Rattle.std.proofs.Common.{Err, refl}
 use Rattle.certificate_checker.specs.Checked.{in_head}
 use Rattle.certificate_checker.proofs.Outcomes.{answer_fault, answer_faultless}
 use Rattle.certificate_checker.proofs.Soundness.{answer_sound}

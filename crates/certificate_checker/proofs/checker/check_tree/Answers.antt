@@ -1,4 +1,4 @@
-use Rattle.std.proofs.Common.{rules, ◌≡◌, ◌<◌, ◌≤◌, false, length, arith}
+use Rattle.std.proofs.Common.{rules, ◌≡◌, false, arith}
 use Rattle.std.proofs.lemmas.Bool.{iff_false}
 use Rattle.std.proofs.lemmas.Result.{err_from_is_err_and}
 use Rattle.certificate_checker.proofs.Verdicts.{bound_high, cleared_fixed, cleared_path, extra_node, fault_in_tree, path_size}

@@ -1,7 +1,6 @@
-use Rattle.std.proofs.Common.{rules, ◌≡◌, ℕ, ◌+◌, ◌<◌, ◌≤◌, List, length, get_or, sym, ap, subst, arith}
+use Rattle.std.proofs.Common.{◌≡◌, ℕ, ◌<◌, List, length, get_or, ap, arith}
 use Rattle.version_table.specs.Choice.{HasVersion}
 use Rattle.version_table.specs.Table.{units_of}
-use Rattle.certificate_checker.specs.Shown.{versions_of}
 use Rattle.certificate_checker.proofs.Units.{all_zip_at, all_zip_from, always, never, no_unit}
 use Rattle.certificate_checker.proofs.checker.fits.Goals as goal
 

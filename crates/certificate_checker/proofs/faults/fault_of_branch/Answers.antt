@@ -1,4 +1,4 @@
-use Rattle.std.proofs.Common.{◌≡◌, ℕ, ◌<◌, ◌≤◌, length, sym, ap, ◌∙◌, arith}
+use Rattle.std.proofs.Common.{length, sym, ap, ◌∙◌, arith}
 use Rattle.std.proofs.lemmas.Option.{none-some}
 use Rattle.version_table.specs.Table.{units_of}
 use Rattle.dual_bounds.specs.Fixed.{NamesVersion}

@@ -1,4 +1,4 @@
-use Rattle.std.proofs.Common.{rules, ◌≡◌, ℕ, ◌+◌, ◌<◌, ◌≤◌, ◌↔◌, IsTrue, false, List, Option, None, length, get_or, sym, ap, subst, refl, arith}
+use Rattle.std.proofs.Common.{rules, ◌≡◌, ℕ, ◌<◌, false, List, Option, None, length, get_or, sym, ap, subst, arith}
 use Rattle.std.proofs.lemmas.Bool.{iff_false}
 use Rattle.version_table.specs.Table.{units_of}
 use Rattle.dual_bounds.specs.Fixed.{NamesVersion}
@@ -24,5 +24,5 @@ returns c =
     let fixed = c.args.fixed.now in
     let size : length fixed ≡ length units = all_zip_size NamesVersion units fixed c.requires in
     always (all_zip_from IsSettled units fixed no_unit None size (λ u below.
-        subst (λ (xs : List (Option ℕ)). IsSettled (get_or units u no_unit) (get_or xs u None)) c.as_slice-fixed.ensures
-        (c.loop-unit.invariant u (omega (arith, below, size, c.loop-unit-test.false, ap length c.as_slice-fixed.ensures)))))
+    subst (λ (xs : List (Option ℕ)). IsSettled (get_or units u no_unit) (get_or xs u None)) c.as_slice-fixed.ensures
+    (c.loop-unit.invariant u (omega (arith, below, size, c.loop-unit-test.false, ap length c.as_slice-fixed.ensures)))))

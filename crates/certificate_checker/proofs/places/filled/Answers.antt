@@ -1,4 +1,4 @@
-use Rattle.std.proofs.Common.{◌≡◌, ℕ, ◌<◌, length, ap, ◌∙◌, arith}
+use Rattle.std.proofs.Common.{◌≡◌, length, ap, ◌∙◌, arith}
 use Rattle.certificate_checker.proofs.Units.{filled_all}
 use Rattle.certificate_checker.proofs.places.filled.Goals as goal
 

@@ -1,4 +1,4 @@
-use Rattle.std.proofs.Common.{ℕ, List, length}
+use Rattle.std.proofs.Common.{List, length}
 use Rattle.bound_certificate.specs.declared.cert.Node.{Node}
 use Rattle.certificate_checker.specs.Walk.{Shows, Walked}
 use Rattle.certificate_checker.specs.Private.Paths.{Completes, IsPath}

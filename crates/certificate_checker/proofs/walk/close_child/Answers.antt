@@ -1,4 +1,4 @@
-use Rattle.std.proofs.Common.{◌≡◌, ℕ, ◌+◌, ◌<◌, ◌≤◌, List, [], ◌∷◌, ◌++◌, Option, vec_capacity, sym, ap, subst, ◌∙◌, arith}
+use Rattle.std.proofs.Common.{◌≡◌, ℕ, ◌+◌, ◌<◌, ◌≤◌, [], ◌∷◌, ◌++◌, Option, vec_capacity, sym, ap, subst, ◌∙◌, arith}
 use Rattle.certificate_checker.specs.declared.path.OpenBranch.{OpenBranch}
 use Rattle.certificate_checker.specs.declared.walk.Closing.TheVariants.{Shown}
 use Rattle.certificate_checker.specs.Shown.{choice_left, lesser, version_left, versions_of}

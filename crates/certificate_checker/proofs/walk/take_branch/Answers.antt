@@ -1,4 +1,4 @@
-use Rattle.std.proofs.Common.{◌≡◌, ℕ, ◌<◌, ◌≤◌, length, arith}
+use Rattle.std.proofs.Common.{arith}
 use Rattle.version_table.specs.Table.{units_of}
 use Rattle.dual_bounds.specs.Fixed.{NamesVersion}
 use Rattle.bound_certificate.specs.declared.cert.Node.TheVariants.{Branch}

@@ -1,4 +1,4 @@
-use Rattle.std.proofs.Common.{◌≡◌, List, [], map, sym, ap, subst, ◌∙◌}
+use Rattle.std.proofs.Common.{◌≡◌, [], map, sym, ap, subst, ◌∙◌}
 use Rattle.dual_bounds.specs.Values.{from_start}
 use Rattle.bound_certificate.specs.declared.cert.Node.TheVariants.{Dual, Window}
 use Rattle.certificate_checker.specs.Shown.{windows_in}

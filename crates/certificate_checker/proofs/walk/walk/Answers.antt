@@ -1,4 +1,4 @@
-use Rattle.std.proofs.Common.{rules, ◌≡◌, length, refl, sym, subst}
+use Rattle.std.proofs.Common.{rules, ◌≡◌, length, refl, subst}
 use Rattle.certificate_checker.specs.declared.path.Next.{Next}
 use Rattle.certificate_checker.specs.declared.path.Next.TheVariants.{Needed, Whole}
 use Rattle.certificate_checker.specs.Private.Paths.{IsTaken}
@@ -9,7 +9,8 @@ pub returns-in-Ok-Whole-clause-shown : goal.returns-in-Ok-Whole-clause-shown
 returns-in-Ok-Whole-clause-shown c =
     let table = c.args.table.now in
     let node = c.index-nodes-at.result in
-    let same : c.in-Ok-Whole.field-0 ≡ Whole c.in-Ok-Whole.bound = first_of (c.in-Ok-Whole.field-0-is, first_of (sym c.in-Ok-Whole.field-0-is, search rules)) in
+    let same : c.in-Ok-Whole.field-0 ≡ Whole c.in-Ok-Whole.bound =
+    let is = c.in-Ok-Whole.field-0-is in first_of (cc, search rules) in
     let taken = subst (λ (n : Next). IsTaken table c.loop-at.path c.take_node.new.path node n) same c.in-Ok-Whole.ensures.next in
     whole_shown table c.args.nodes.now c.loop-at.path c.take_node.new.path c.loop-at.at node c.in-Ok-Whole.bound c.loop-at-test.true c.index-nodes-at.is c.loop-at.invariant.ahead taken
 
@@ -22,7 +23,8 @@ pub loop-at-preserved : goal.loop-at-preserved
 loop-at-preserved c =
     let table = c.args.table.now in
     let node = c.index-nodes-at.result in
-    let same : c.in-Ok-Needed.field-0 ≡ Needed = first_of (c.in-Ok-Needed.field-0-is, first_of (sym c.in-Ok-Needed.field-0-is, search rules)) in
+    let same : c.in-Ok-Needed.field-0 ≡ Needed =
+    let is = c.in-Ok-Needed.field-0-is in first_of (cc, search rules) in
     let taken = subst (λ (n : Next). IsTaken table c.loop-at.path c.take_node.new.path node n) same c.in-Ok-Needed.ensures.next in
     record {
       path = c.take_node.ensures.path;
