@@ -1,5 +1,39 @@
 -- Units by their numbers: how many versions they have, and what is fixed of them.
-use Rattle.std.proofs.Common.{◌≡◌, ℕ, zero, suc, ◌+◌, ◌-◌, ◌<◌, ◌≤◌, ◌↔◌, IsTrue, true, false, List, [], ◌∷◌, ◌++◌, length, map, get_or, set, replicate, All, Option, Some, None, refl, sym, ap, subst, ◌∙◌, inl, inr, arith}
+use Rattle.std.proofs.Common.{
+  ◌≡◌,
+  ℕ,
+  zero,
+  suc,
+  ◌+◌,
+  ◌-◌,
+  ◌<◌,
+  ◌≤◌,
+  ◌↔◌,
+  IsTrue,
+  true,
+  false,
+  List,
+  [],
+  ◌∷◌,
+  ◌++◌,
+  length,
+  map,
+  get_or,
+  set,
+  replicate,
+  All,
+  Option,
+  Some,
+  None,
+  refl,
+  sym,
+  ap,
+  subst,
+  ◌∙◌,
+  inl,
+  inr,
+  arith,
+}
 use Rattle.std.specs.List.{AllZip}
 use Rattle.std.proofs.lemmas.Bool.{cases_lt, false≢true}
 use Rattle.std.proofs.lemmas.List.{get_or_default, get_or_past, get_or-replicate, get_or_append_left, get_or-append_right, length-replicate, same_lists}
