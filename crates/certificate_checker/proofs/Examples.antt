@@ -1,20 +1,17 @@
 -- Worked examples: one unit, of which three packets without distortion or two with a distortion of 10 are due at 27,200, in slots of
 -- 4,000 ticks; two slots end in time.
-use Rattle.std.proofs.Common.{◌≡◌, ℕ, zero, suc, ◌+◌, ◌<◌, ◌≤◌, ◌⊎◌, List, [], ◌∷◌, length, get_or, Option, Some, None, Bool, true, false, inl, inr, refl, arith, lit<}
-use Rattle.version_table.specs.declared.table.Unit.{Unit as CodedUnit}
+use Rattle.std.proofs.Common.{◌≡◌, ℕ, zero, suc, ◌<◌, ◌≤◌, ◌⊎◌, List, [], ◌∷◌, get_or, Option, Some, None, true, false, inl, inr, refl, arith, lit<}
 use Rattle.version_table.specs.declared.table.Version.{Version}
 use Rattle.version_table.specs.declared.table.Table.{Table}
-use Rattle.version_table.specs.Table.{units_of}
-use Rattle.dual_bounds.specs.declared.windows.Multiplier.{Multiplier}
 use Rattle.dual_bounds.specs.declared.windows.Window.{Window as PricedWindow}
 use Rattle.dual_bounds.specs.Room.{serves, free_slots, audio_due, room}
 use Rattle.dual_bounds.specs.Values.{price, least_cost, least_costs, worth, value_of_windows}
 use Rattle.bound_certificate.specs.declared.cert.Node.{Node}
 use Rattle.bound_certificate.specs.declared.cert.Node.TheVariants.{Branch, Dual, Run, Open, Window}
 use Rattle.certificate_checker.specs.declared.why.Why.TheVariants as whys
-use Rattle.certificate_checker.specs.Shown.{bound_of_leaf, choice_left, fix, lesser, unfixed, versions_of}
+use Rattle.certificate_checker.specs.Shown.{bound_of_leaf, fix, lesser, unfixed, versions_of}
 use Rattle.certificate_checker.specs.Faults.{IsFirstOfNode, IsRight}
-use Rattle.certificate_checker.specs.Walk.{Shows, Stops, Walks, WalksEach, missing, wrong, leaf, branch, none, stop, next}
+use Rattle.certificate_checker.specs.Walk.{Shows, Stops, Walks, missing, wrong, leaf, branch, stop, next}
 
 abbrev version : (bytes distortion : ℕ) → Version
 version bytes distortion = record { bytes = bytes; distortion = distortion }
@@ -110,12 +107,11 @@ from_above_due : IsFirstOfNode one_unit [] (Window (record { items = record { fr
 from_above_due = ((λ k d within. absurd (omega (arith, within))), (λ none. omega (arith, none 0 (record { from = 0; due = 0; lambda = 0 }) (omega arith))))
 
 lambda_above : IsFirstOfNode one_unit [] (one_multiplier 1099511627777) whys.LambdaLimit
-lambda_above =
-    (
-      (λ k d within. absurd (omega (arith, within))),
-      (λ k d within. at_start k d within),
-      (λ keeps. omega (arith, keeps 0 (record { from = 0; due = 0; lambda = 0 }) (omega arith))),
-    )
+lambda_above = (
+  (λ k d within. absurd (omega (arith, within))),
+  (λ k d within. at_start k d within),
+  (λ keeps. omega (arith, keeps 0 (record { from = 0; due = 0; lambda = 0 }) (omega arith))),
+)
   where
     at_start : (k : ℕ) (d : PricedWindow) → k < 1
         → (get_or (record { from = 0; due = 27200; lambda = 1099511627777 } ∷ []) k d).from ≤ (get_or (record { from = 0; due = 27200; lambda = 1099511627777 } ∷ []) k d).due

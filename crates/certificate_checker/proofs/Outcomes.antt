@@ -1,35 +1,5 @@
 -- From the same nodes one thing comes: a bound or one first fault.
-use Rattle.std.proofs.Common.{
-  ◌≡◌,
-  ◌≢◌,
-  ℕ,
-  zero,
-  suc,
-  ◌+◌,
-  ◌<◌,
-  ◌≤◌,
-  Bool,
-  true,
-  false,
-  List,
-  [],
-  ◌∷◌,
-  length,
-  All,
-  Option,
-  Some,
-  None,
-  ◌⊎◌,
-  inl,
-  inr,
-  refl,
-  sym,
-  ap,
-  ap₂,
-  subst,
-  ◌∙◌,
-  arith,
-}
+use Rattle.std.proofs.Common.{◌≡◌, ◌≢◌, ℕ, zero, suc, ◌+◌, ◌<◌, Bool, List, [], ◌∷◌, length, Option, None, Result, Ok, Err, IfOk, IfErr, OnOk, ◌⊎◌, inl, inr, refl, sym, ap, ap₂, subst, ◌∙◌, arith}
 use Rattle.std.specs.List.{AllZip}
 use Rattle.version_table.specs.declared.table.Unit.{Unit as CodedUnit}
 use Rattle.version_table.specs.declared.table.Table.{Table}
@@ -343,3 +313,14 @@ none_in_cert table cert fault faultless (inr (walked, right, walks, is)) =
 
 pub no_fault : (table : Table) (cert : Cert) (fault : CertFault) → IsFaultless table cert → IsFirstFault table cert fault → ⊥
 no_fault table cert fault faultless first = none_in_cert table cert fault faultless (in_cert_of table cert fault first)
+
+-- ---- what the answers of a checker say
+pub answer_faultless : (table : Table) (cert : Cert) (result : Result ℕ CertFault) → IfOk result (λ bound. bound ≡ cert.bound) → IfErr result (IsFirstFault table cert) → IsFaultless table cert
+    → result ≡ Ok cert.bound
+answer_faultless table cert (Ok bound) same first faultless = ap (λ (n : ℕ). Ok n) same
+answer_faultless table cert (Err fault) same first faultless = absurd (no_fault table cert fault faultless first)
+
+pub answer_fault : (table : Table) (cert : Cert) (result : Result ℕ CertFault) → OnOk result (IsFaultless table cert) → IfErr result (IsFirstFault table cert)
+    → (fault : CertFault) → IsFirstFault table cert fault → result ≡ Err fault
+answer_fault table cert (Ok bound) faultless first fault is = absurd (no_fault table cert fault faultless is)
+answer_fault table cert (Err other) faultless first fault is = ap (λ (f : CertFault). Err f) (one_fault table cert other fault first is)

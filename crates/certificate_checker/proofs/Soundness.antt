@@ -8,7 +8,6 @@ use Rattle.std.proofs.Common.{
   ◌-◌,
   ◌<◌,
   ◌≤◌,
-  min,
   Bool,
   true,
   false,
@@ -18,14 +17,17 @@ use Rattle.std.proofs.Common.{
   length,
   map,
   get_or,
-  set,
   Option,
   Some,
   None,
+  Result,
+  Ok,
+  Err,
+  IfOk,
+  OnOk,
   slice_get,
   refl,
   sym,
-  ap,
   ap₂,
   subst,
   ◌∙◌,
@@ -40,15 +42,16 @@ use Rattle.version_table.specs.Choice.{Fits, HasVersion, distortion_of_choice}
 use Rattle.version_table.specs.Table.{IsValidTable, units_of}
 use Rattle.slot_rule.specs.Schedule.{IsScheduled}
 use Rattle.dual_bounds.specs.Bounds.{IsBound, bound_of_value}
-use Rattle.dual_bounds.specs.Fixed.{Takes, TakesFixed}
+use Rattle.dual_bounds.specs.Fixed.{TakesFixed}
 use Rattle.dual_bounds.specs.Values.{value_of_windows}
 use Rattle.dual_bounds.proofs.Duality.{windows_bound}
 use Rattle.dual_bounds.proofs.ValueLaws.{branch_bounds}
 use Rattle.bound_certificate.specs.declared.cert.Cert.{Cert}
 use Rattle.bound_certificate.specs.declared.cert.Node.{Node}
 use Rattle.bound_certificate.specs.declared.cert.Node.TheVariants.{Branch, Dual, Run, Open, Window}
-use Rattle.certificate_checker.specs.Shown.{bound_of_leaf, bound_of_run, choice_left, fix, lesser, unfixed, version_left, versions_of, windows_in}
-use Rattle.certificate_checker.specs.Faults.{IsRight, IsSettled, LeavesOne}
+use Rattle.certificate_checker.specs.declared.why.CertFault.{CertFault}
+use Rattle.certificate_checker.specs.Shown.{bound_of_leaf, bound_of_run, choice_left, fix, lesser, unfixed, versions_of, windows_in}
+use Rattle.certificate_checker.specs.Faults.{IsRight, IsSettled}
 use Rattle.certificate_checker.specs.Walk.{IsLeaf, Shows, Stops, Walked, Walks, WalksEach, beside, missing, wrong, leaf, branch, none, stop, next}
 use Rattle.certificate_checker.specs.Checked.{IsAtMost, IsFaultless}
 
@@ -132,6 +135,7 @@ next_shown table n fixed unit k more bound (Shows other behind) first others =
     at_first : (j d : ℕ) → j ≡ k + d → IsAtMost n bound → IsAtMost n other → d < suc more → IsBound table (fix unit j fixed) n
     at_first j zero is most_first most_other high = subst (λ (i : ℕ). IsBound table (fix unit i fixed) n) (omega (arith, is)) (first most_first)
     at_first j (suc d) is most_first most_other high = others most_other j (omega (arith, is)) (omega (arith, is, high))
+
     next_at : (j : ℕ) → IsAtMost n bound → IsAtMost n other → k ≤ j → j < k + suc more → IsBound table (fix unit j fixed) n
     next_at j most_first most_other low high = at_first j (j - k) (omega (arith, low)) most_first most_other (omega (arith, low, high))
 
@@ -164,3 +168,9 @@ pub faultless_bound : (table : Table) (cert : Cert) → IsValidTable table → I
 faultless_bound table cert valid right choice fits scheduled =
     tree_bounds table cert.bound valid (unfixed table) cert.nodes (Shows right.shown []) right.tree (length-map (units_of table) (λ (unit : CodedUnit). None)) right.bound choice fits
     (takes_nothing (units_of table) choice fits) scheduled
+
+pub answer_sound : (table : Table) (cert : Cert) (result : Result ℕ CertFault) → IsValidTable table → IfOk result (λ bound. bound ≡ cert.bound) → OnOk result (IsFaultless table cert)
+    → IfOk result (λ bound. (choice : List ℕ) → Fits table choice → IsScheduled table choice → bound ≤ distortion_of_choice table choice)
+answer_sound table cert (Ok bound) valid same faultless = λ choice fits scheduled.
+    subst (λ (n : ℕ). n ≤ distortion_of_choice table choice) (sym same) (faultless_bound table cert valid faultless choice fits scheduled)
+answer_sound table cert (Err fault) valid same faultless = tt

@@ -1,4 +1,5 @@
 pub mod Checked
 pub mod Faults
+pub mod Private
 pub mod Shown
 pub mod Walk

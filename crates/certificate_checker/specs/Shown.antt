@@ -1,6 +1,6 @@
 -- What the nodes of a tree show where versions are fixed on the way to them.
 use Rattle.std.specs.Prelude.{ℕ, min, Bool, true, false, List, [], map, length, slice_index_or, slice_set, Option, Some, None}
-use Rattle.version_table.specs.declared.table.Unit.{Unit as CodedUnit}
+use Rattle.std.specs.Option.{unwrap_or}
 use Rattle.version_table.specs.declared.table.Table.{Table}
 use Rattle.version_table.specs.Choice.{distortion_of_choice}
 use Rattle.version_table.specs.Table.{units_of}
@@ -24,8 +24,7 @@ versions_of table unit = length (slice_index_or (units_of table) unit (record { 
 
 -- the version that is fixed of a unit, or 0
 abbrev pub version_left : Option ℕ → ℕ
-version_left None = 0
-version_left (Some k) = k
+version_left entry = unwrap_or entry 0
 
 -- the one choice that is left where each unit is fixed or has one version
 abbrev pub choice_left : List (Option ℕ) → List ℕ

@@ -3,7 +3,7 @@
 use Rattle.std.specs.Prelude.{ℕ, suc, zero, ◌+◌, List, [], ◌∷◌, length, Option, None}
 use Rattle.version_table.specs.declared.table.Table.{Table}
 use Rattle.bound_certificate.specs.declared.cert.Node.{Node}
-use Rattle.bound_certificate.specs.declared.cert.Node.TheVariants.{Branch, Dual, Run, Open, Window}
+use Rattle.bound_certificate.specs.declared.cert.Node.TheVariants.{Branch}
 use Rattle.certificate_checker.specs.declared.why.Why.{Why}
 use Rattle.certificate_checker.specs.declared.why.Why.TheVariants as whys
 use Rattle.certificate_checker.specs.Shown.{bound_of_leaf, fix, lesser, versions_of}

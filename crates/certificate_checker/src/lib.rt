@@ -4,7 +4,16 @@
 //! `bound_certificate`, `dual_bounds`, `slot_rule` and `version_table`.
 #![tactic(auto)]
 
+mod checker;
+mod faults;
 pub mod laws;
+mod path;
+mod places;
+mod walk;
 mod why;
 
+pub use checker::{CheckRoom, check};
 pub use why::{CertFault, Why};
+
+#[cfg(test)]
+mod tests;

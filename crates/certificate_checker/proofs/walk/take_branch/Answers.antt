@@ -1,0 +1,26 @@
+use Rattle.std.proofs.Common.{arith}
+use Rattle.version_table.specs.Table.{units_of}
+use Rattle.dual_bounds.specs.Fixed.{NamesVersion}
+use Rattle.bound_certificate.specs.declared.cert.Node.TheVariants.{Branch}
+use Rattle.certificate_checker.specs.Faults.{IsRight}
+use Rattle.certificate_checker.proofs.Steps.{enter_path, enter_taken, room_to_enter}
+use Rattle.certificate_checker.proofs.Units.{all_zip_size}
+use Rattle.certificate_checker.proofs.walk.take_branch.Goals as goal
+
+pub enter-requires-clause-within : goal.enter-requires-clause-within
+enter-requires-clause-within c =
+    let right : IsRight c.args.table.now c.args.path.now.fixed (Branch c.args.unit) = c.in-None.ensures c.args.table.now c.requires.path in
+    omega (arith, right.0, all_zip_size NamesVersion (units_of c.args.table.now) c.args.path.now.fixed c.requires.path.fixes)
+
+pub enter-requires-clause-room : goal.enter-requires-clause-room
+enter-requires-clause-room c = room_to_enter c.args.table.now c.args.path.now c.args.unit c.requires.path (c.in-None.ensures c.args.table.now c.requires.path)
+
+pub returns-in-None-clause-path : goal.returns-in-None-clause-path
+returns-in-None-clause-path c =
+    enter_path c.args.table.now c.args.path.now c.enter.new.self c.args.unit c.requires.valid c.requires.path (c.in-None.ensures c.args.table.now c.requires.path)
+    c.enter.ensures.fixed c.enter.ensures.choice c.enter.ensures.branches c.enter.ensures.room
+
+pub returns-in-None-clause-next : goal.returns-in-None-clause-next
+returns-in-None-clause-next c =
+    enter_taken c.args.table.now c.args.path.now c.enter.new.self c.args.unit c.requires.valid c.requires.path (c.in-None.ensures c.args.table.now c.requires.path)
+    c.enter.ensures.fixed c.enter.ensures.branches
