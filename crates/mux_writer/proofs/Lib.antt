@@ -5,3 +5,4 @@ pub mod Sections
 pub mod Counting
 pub mod Fronts
 pub mod Told
+pub mod Layouts

@@ -7,7 +7,6 @@ use Rattle.std.proofs.lemmas.List.Elements.{All-cons, All-nil}
 use Rattle.psi_tables.specs.declared.program_map.ProgramMap.{ProgramMap}
 use Rattle.psi_tables.specs.Pat.{written_pat, written_program}
 use Rattle.psi_tables.specs.Section.{IsWithCrc, written_header}
-use Rattle.psi_tables.specs.Sections.{crc_over}
 use Rattle.psi_tables.proofs.CrcDivision.{crc_over-only}
 use Rattle.psi_tables.proofs.WrittenPat.{length-written_programs}
 use Rattle.mux_writer.specs.Layout.{map_pid}

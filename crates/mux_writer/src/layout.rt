@@ -1,8 +1,10 @@
-ghost use Rattle.std.specs.Prelude.{◌≡◌, ◌<◌};
-ghost use Rattle.mux_writer.specs.Layout.{map_pid, video_pid, with_output_pids};
+ghost use Rattle.std.specs.Prelude.{◌≡◌, ◌<◌, ◌≤◌, [], ◌∷◌, ◌++◌, length};
+ghost use Rattle.psi_tables.specs.Pmt.{IsWritableMap, pmt_length};
+ghost use Rattle.mux_writer.specs.Layout.{map_pid, video_pid, with_output_pids, IsLayout};
 
 use arrayvec::ArrayVec;
-use psi_tables::ProgramMap;
+use pcr_writer::PCR_MODULUS;
+use psi_tables::{PACKET_SECTION_BYTES, ProgramMap};
 use version_table::limits::{AUDIOS_MOST, PROGRAMS_MOST};
 
 /// The most streams of a program of the output: its video and eight audio streams.
@@ -26,6 +28,41 @@ pub struct Layout {
     pub maps: ArrayVec<ProgramMap, PROGRAMS_MOST>,
     /// The value of each program's clock at the first byte of the stream, in ticks of 1/27,000,000 s.
     pub bases: ArrayVec<u64, PROGRAMS_MOST>,
+}
+
+impl Layout {
+    /// A stream of this `transport_stream_id` without programs.
+    pub fn new(stream_id: u16) -> Layout
+        ensures layout { IsLayout result }
+        ensures id { result.stream_id ≡ stream_id }
+        ensures none { result.maps.items ≡ [] }
+    {
+        Layout {
+            stream_id,
+            maps: ArrayVec::new(),
+            bases: ArrayVec::new(),
+        }
+    }
+
+    /// One more program behind the others: its map as it goes out under this `program_number`, with the PIDs of its place
+    /// (`output_map`), and the value of its clock at the first byte. It needs room for it, a map that `write_pmt` writes,
+    /// with at most nine streams, the video first, and a base below 300 times 2^33.
+    pub fn push(&mut self, number: u16, map: ProgramMap, base: u64)
+        requires layout { IsLayout self.old }
+        requires room { length self.old.maps.items < PROGRAMS_MOST }
+        requires map { IsWritableMap map }
+        requires streams { length map.streams.items ≤ PROGRAM_STREAMS_MOST }
+        requires fits { pmt_length map ≤ PACKET_SECTION_BYTES }
+        requires base { base < PCR_MODULUS }
+        ensures layout { IsLayout self.new }
+        ensures maps { self.new.maps.items ≡ self.old.maps.items ++ with_output_pids (length self.old.maps.items) number map ∷ [] }
+        ensures bases { self.new.bases.items ≡ self.old.bases.items ++ base ∷ [] }
+        ensures id { self.new.stream_id ≡ self.old.stream_id }
+    {
+        let program = self.maps.len() as u8;
+        self.maps.push(output_map(program, number, map));
+        self.bases.push(base);
+    }
 }
 
 /// A program's map as it goes out: with this `program_number`, and the PIDs that the program of number `program` from 0 has

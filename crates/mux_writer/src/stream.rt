@@ -45,7 +45,7 @@ pub fn write_stream<K: Sink, P: PieceSource>(
     ensures ok { OnOk result (IfSome (P.told pieces.old) (λ told. K.written to.new ≡ with_bytes (K.written to.old) (output_stream layout.now slot told schedule.now.rows))) }
     ensures err { OnErr result (IfSome (P.told pieces.old) (λ told. AddsPrefix (K.written to.old) (K.written to.new) (output_stream layout.now slot told schedule.now.rows))) }
 
-    ensures causes { StreamCauses K.faults P.faults (IsErrOf result Fault.Failed) (IsErrOf result Fault.Missing) to.old to.new pieces.old pieces.new }
+    ensures causes { StreamCauses K.faults K.since_fault P.faults (IsErrOf result Fault.Failed) (IsErrOf result Fault.Missing) to.old to.new pieces.old pieces.new }
     ensures keeps_sink { K.keeps to.old to.new }
     ensures keeps_pieces { P.keeps pieces.old pieces.new }
     ensures same_pieces { P.told pieces.new ≡ P.told pieces.old }

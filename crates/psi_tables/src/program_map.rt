@@ -2,7 +2,7 @@ use crate::stream::{STREAMS_MOST, Stream};
 use arrayvec::ArrayVec;
 
 /// What is kept of a program map section (ISO/IEC 13818-1, 2.4.4.8).
-#[derive(Debug, PartialEq, Eq, Drop)]
+#[derive(Debug, Default, PartialEq, Eq, Drop)]
 pub struct ProgramMap {
     /// `program_number`.
     pub number: u16,

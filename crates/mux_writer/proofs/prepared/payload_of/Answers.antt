@@ -1,4 +1,4 @@
-use Rattle.std.proofs.Common.{◌≡◌, ℕ, ◌+◌, ◌-◌, List, ◌∷◌, ◌++◌, length, drop, replicate, ap, ap₂, ◌∙◌, arith}
+use Rattle.std.proofs.Common.{◌≡◌, ℕ, ◌+◌, ◌-◌, List, ◌∷◌, ◌++◌, length, drop, replicate, ap₂, ◌∙◌, arith}
 use Rattle.mux_writer.proofs.Sections.{stuffing-left}
 use Rattle.mux_writer.proofs.prepared.payload_of.Goals as goal
 

@@ -3,7 +3,7 @@ use Rattle.std.specs.Prelude.{IfSome}
 use Rattle.std.proofs.lemmas.List.{take_more}
 use Rattle.std.proofs.lemmas.List.Elements.{All-same}
 use Rattle.std.proofs.lemmas.Option.{IfSome_then}
-use Rattle.shelf_io.specs.Sink.{AddsPrefix, Told, with_bytes}
+use Rattle.shelf_io.specs.Sink.{AddsPrefix, Told}
 use Rattle.shelf_io.proofs.Written.{with_bytes-none}
 use Rattle.slot_rule.specs.declared.sent.Sent.{Sent}
 use Rattle.slot_rule.specs.declared.sent.Sent.TheVariants.{Null}

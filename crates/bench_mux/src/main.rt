@@ -1,0 +1,55 @@
+//! Writes output streams of made-up schedules, so that their instructions can be counted and their bytes be compared with
+//! another program's (bench/README.md).
+//!
+//! The words are how many slots the stream has, and for `write` the file that it goes to: `rows` makes the schedule alone,
+//! `count` gives its packets to a sink that counts them, `write` keeps them and writes the file.
+#![tactic(auto)]
+
+mod made_layout;
+mod made_pieces;
+mod made_rows;
+
+use crate::made_layout::made_layout;
+use crate::made_pieces::MadePieces;
+use crate::made_rows::made_rows;
+use mux_writer::write_stream;
+use shelf_io::{CountSink, VecSink};
+use std::rt::Files;
+use std::{env, fs, io};
+
+/// Ticks of a slot, for a stream of 37.6 Mbit/s.
+const SLOT: u32 = 1_080;
+
+#[tactic(auto, using(crate::proofs::Made::all_of_layout))]
+fn main(rt: HostRuntime) -> io::Result<()> {
+    let mut words = Vec::new(rt.alloc());
+    for word in env::args(&rt)?.skip(1) {
+        words.push(word)?;
+    }
+    let [what, number, behind @ ..] = words.as_slice() else {
+        return println!(rt; "bench_mux rows|count|write SLOTS [OUT]");
+    };
+    let Ok(slots) = number.as_str().parse::<u32>() else {
+        return println!(rt; "no number of slots");
+    };
+    let layout = made_layout();
+    let Ok(schedule) = made_rows(rt.alloc(), slots) else {
+        return println!(rt; "out of memory");
+    };
+    let mut pieces = MadePieces { calls: 0 };
+    if what.as_str() == "rows" {
+        return println!(rt; "{} slots", schedule.slots);
+    }
+    let Some(to) = behind.first() else {
+        let mut counted = CountSink::new();
+        return match write_stream(&mut counted, &layout, SLOT, &schedule, &mut pieces) {
+            Ok(()) => println!(rt; "{} bytes", counted.count()),
+            Err(fault) => println!(rt; "{fault}"),
+        };
+    };
+    let mut kept = VecSink::new(rt.alloc());
+    match write_stream(&mut kept, &layout, SLOT, &schedule, &mut pieces) {
+        Ok(()) => fs::write(&rt, to.as_str(), kept.bytes()),
+        Err(fault) => println!(rt; "{fault}"),
+    }
+}
