@@ -1,0 +1,59 @@
+-- The definitions computed at worked examples.
+use Rattle.std.proofs.Common.{◌≡◌, ℕ, ◌+◌, ◌<◌, ◌≤◌, Bool, true, false, List, [], ◌∷◌, ◌++◌, length, replicate, Option, Some, None, refl, inl, inr, arith, ℤ, pos, ◌+ℤ◌, ◌-ℤ◌, ◌*ℤ◌}
+use Rattle.syntax_types.specs.declared.picture.PicCoding.{PicCoding}
+use Rattle.syntax_types.specs.declared.picture.SeqState.{SeqState}
+use Rattle.pes_units.specs.TimeAxis.{IsUnwrapped}
+use Rattle.picture_grammar.specs.Macroblock.{is_frame}
+use Rattle.program_reader.specs.declared.pes_packets.PlacedPacket.{PlacedPacket}
+use Rattle.program_reader.specs.declared.program_fault.ProgramFault.TheVariants.{Refused}
+use Rattle.program_reader.specs.declared.program_fault.SourceKind.TheVariants as kinds
+use Rattle.program_reader.specs.declared.timed_picture.Role.TheVariants.{Frame, FirstField, SecondField}
+use Rattle.program_reader.specs.declared.timed_picture.TimedPicture.{TimedPicture}
+use Rattle.program_reader.specs.Units.{role_behind, frame_period, share_of, IsTimed, HasNoTime, IsUnpaired, IsCoded, IsUnitRefused}
+use Rattle.program_reader.specs.Audio.{IsDue}
+
+-- ---- decoding times 2^33 - 3,600 and 0: the second is one frame period later, and due 1,080,000 ticks later
+
+across_the_round : (before : TimedPicture) → before.stated ≡ pos 8589930992 → IsTimed (Some before) (Some 0) (pos 8589934592) (pos 2576980377600)
+across_the_round before is = ?
+
+dues_apart : IsDue 13500000 (pos 2576979297600) (pos 2576979297600) 13500000 × IsDue 13500000 (pos 2576979297600) (pos 2576980377600) 14580000
+dues_apart = (refl, refl)
+
+-- ---- fields at 25 frames a second: a first field at 27,000,000 ticks, then a second field and a first field without times
+
+fields_25 : (27000000 + share_of FirstField (frame_period 3) ≡ 27540000) × (27540000 + share_of SecondField (frame_period 3) ≡ 28080000)
+fields_25 = (refl, refl)
+
+-- at 24,000/1,001 frames a second half a period is rounded down, and the second field takes the rest
+fields_24 : (27000000 + share_of FirstField (frame_period 1) ≡ 27563062) × (27563062 + share_of SecondField (frame_period 1) ≡ 28126125)
+fields_24 = (refl, refl)
+
+-- a frame lasts a frame period
+frames_30 : share_of Frame (frame_period 4) ≡ 900900
+frames_30 = refl
+
+-- a second field follows a first one, and a field behind a second one or behind a frame is a first one
+roles : (role_behind false (Some FirstField) ≡ SecondField) × (role_behind false (Some SecondField) ≡ FirstField) × (role_behind false (Some Frame) ≡ FirstField)
+    × (role_behind false None ≡ FirstField) × (role_behind true (Some SecondField) ≡ Frame)
+roles = (refl, refl, refl, refl, refl)
+
+-- ---- no time: for the first unit, and behind a picture that repeats a field
+
+no_time_first : HasNoTime None None
+no_time_first = tt
+
+no_time_behind : (before : TimedPicture) → before.coding.repeat_first_field ≡ true → HasNoTime (Some before) None
+no_time_behind before is = is
+
+-- a unit behind a frame that repeats none is a frame period later
+timed_behind : (before : TimedPicture) → before.role ≡ Frame → before.seq.rate_code ≡ 3 → before.coding.repeat_first_field ≡ false → before.ticks ≡ pos 27000000 →
+    IsTimed (Some before) None before.stated (pos 28080000)
+timed_behind before role rate none ticks = ?
+
+-- ---- a frame behind a first field refuses also the last unit, which isn't dropped for it
+
+last_unpaired : (es : List ℕ) (packets : List PlacedPacket) (before : TimedPicture) (unit : ℕ × ℕ) (seq : SeqState) (coding : PicCoding) →
+    IsCoded es (Some before) unit seq coding → before.role ≡ FirstField → is_frame coding ≡ true →
+    IsUnitRefused es packets (Some before) unit true (Refused kinds.FieldPair unit.0)
+last_unpaired es packets before unit seq coding coded role frame = IsUnitRefused.unpaired seq coding coded (role, inl frame) refl

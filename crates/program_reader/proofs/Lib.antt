@@ -1,0 +1,4 @@
+pub mod PlaceLemmas
+pub mod TakenLemmas
+pub mod TimeRange
+mod Examples

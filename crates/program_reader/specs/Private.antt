@@ -1,0 +1,2 @@
+pub mod TakenPackets
+pub mod TimedPictures
