@@ -1,5 +1,5 @@
 -- The definitions computed at worked examples.
-use Rattle.std.proofs.Common.{◌≡◌, ℕ, ◌+◌, ◌<◌, ◌≤◌, Bool, true, false, List, [], ◌∷◌, ◌++◌, length, replicate, Option, Some, None, refl, inl, inr, arith, ℤ, pos, ◌+ℤ◌, ◌-ℤ◌, ◌*ℤ◌}
+use Rattle.std.proofs.Common.{◌≡◌, ℕ, ◌+◌, ◌<◌, ◌≤◌, Bool, true, false, List, [], ◌∷◌, ◌++◌, length, replicate, Option, Some, None, refl, sym, subst, inl, inr, arith, ℤ, pos, ◌+ℤ◌, ◌-ℤ◌, ◌*ℤ◌}
 use Rattle.syntax_types.specs.declared.picture.PicCoding.{PicCoding}
 use Rattle.syntax_types.specs.declared.picture.SeqState.{SeqState}
 use Rattle.pes_units.specs.TimeAxis.{IsUnwrapped}
@@ -7,6 +7,7 @@ use Rattle.picture_grammar.specs.Macroblock.{is_frame}
 use Rattle.program_reader.specs.declared.pes_packets.PlacedPacket.{PlacedPacket}
 use Rattle.program_reader.specs.declared.program_fault.ProgramFault.TheVariants.{Refused}
 use Rattle.program_reader.specs.declared.program_fault.SourceKind.TheVariants as kinds
+use Rattle.program_reader.specs.declared.timed_picture.Role.{Role}
 use Rattle.program_reader.specs.declared.timed_picture.Role.TheVariants.{Frame, FirstField, SecondField}
 use Rattle.program_reader.specs.declared.timed_picture.TimedPicture.{TimedPicture}
 use Rattle.program_reader.specs.Units.{role_behind, frame_period, share_of, IsTimed, HasNoTime, IsUnpaired, IsCoded, IsUnitRefused}
@@ -15,7 +16,9 @@ use Rattle.program_reader.specs.Audio.{IsDue}
 -- ---- decoding times 2^33 - 3,600 and 0: the second is one frame period later, and due 1,080,000 ticks later
 
 across_the_round : (before : TimedPicture) → before.stated ≡ pos 8589930992 → IsTimed (Some before) (Some 0) (pos 8589934592) (pos 2576980377600)
-across_the_round before is = ?
+across_the_round before is =
+    let placed : IsUnwrapped (pos 8589930992) 0 (pos 8589934592) = record { congruent = (pos 1, refl); not_too_early = omega arith; not_too_late = omega arith } in
+    (subst (λ (time : ℤ). IsUnwrapped time 0 (pos 8589934592)) (sym is) placed, refl)
 
 dues_apart : IsDue 13500000 (pos 2576979297600) (pos 2576979297600) 13500000 × IsDue 13500000 (pos 2576979297600) (pos 2576980377600) 14580000
 dues_apart = (refl, refl)
@@ -49,7 +52,10 @@ no_time_behind before is = is
 -- a unit behind a frame that repeats none is a frame period later
 timed_behind : (before : TimedPicture) → before.role ≡ Frame → before.seq.rate_code ≡ 3 → before.coding.repeat_first_field ≡ false → before.ticks ≡ pos 27000000 →
     IsTimed (Some before) None before.stated (pos 28080000)
-timed_behind before role rate none ticks = ?
+timed_behind before role rate none ticks = (none, refl, one_period before.ticks before.role before.seq.rate_code ticks role rate)
+  where
+    one_period : (ticks : ℤ) (role : Role) (code : ℕ) → ticks ≡ pos 27000000 → role ≡ Frame → code ≡ 3 → pos 28080000 ≡ ticks +ℤ pos (share_of role (frame_period code))
+    one_period ticks role code t r c = rw (t, r, c) refl
 
 -- ---- a frame behind a first field refuses also the last unit, which isn't dropped for it
 

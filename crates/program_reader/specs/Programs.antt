@@ -12,6 +12,7 @@ use Rattle.std.specs.Prelude.{
   ◌≤◌,
   min,
   true,
+  false,
   List,
   [],
   ◌∷◌,

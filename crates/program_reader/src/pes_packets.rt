@@ -1,5 +1,5 @@
 //! The PES packets of a stream that are taken (ISO/IEC 13818-1, 2.4.3.6).
-ghost use Rattle.std.specs.Prelude.{◌≡◌, ◌⊎◌, ◌∷◌, ◌++◌, [], List, drop, true, None, MatchResult, OnOk, IfErr, IfOk, if◌then◌else◌};
+ghost use Rattle.std.specs.Prelude.{◌≡◌, ◌⊎◌, ◌∷◌, ◌++◌, [], List, drop, length, true, None, MatchResult, OnOk, IfErr, IfOk, if◌then◌else◌};
 ghost use Rattle.pes_units.specs.PesHeader.{fields_of};
 ghost use Rattle.ts_demux.specs.declared.demuxed.PesUnit.{PesUnit};
 ghost use Rattle.pes_units.specs.PesPackets.{is_dropped, packet_refusal, last_refusal};
@@ -109,9 +109,9 @@ impl TakenPackets {
         ensures { OnOk result (Adds (packet.now ∷ []) self.old self.new) }
     {
         let payload = bytes_behind(packet.bytes.as_slice(), header.len as usize);
-        let from = self.payload.len() as u64;
+        let from = count_of(&self.payload);
         self.payload.extend_from_slice(payload)?;
-        let end = self.payload.len() as u64;
+        let end = count_of(&self.payload);
         self.packets.push(PlacedPacket { from, end, header })?;
         Ok(())
     }
@@ -126,4 +126,11 @@ fn bytes_behind(bytes: &[u8], count: usize) -> &[u8]
     } else {
         &[]
     }
+}
+
+/// The number of bytes.
+fn count_of(bytes: &Vec<u8>) -> u64
+    ensures { result ≡ length bytes.now.items }
+{
+    bytes.as_slice().len() as u64
 }

@@ -65,7 +65,7 @@ pub fn timed_picture(
     requires rate { (1 ≤ seq.now.rate_code) × (seq.now.rate_code ≤ 5) }
     requires order { begin ≤ end }
     requires times { IfSome (decoding_time times) (λ time. time < 2 ^ 33) }
-    requires before { IfSome (option_copied before.entry) IsPossible }
+    requires before { IfSome (option_copied before) IsPossible }
     ensures { (es : List ℕ) (packets : List PlacedPacket) → IsCoded es (option_copied before.entry) (begin, end) seq.now coding.now → times ≡ times_of_unit es packets (begin, end) →
         MatchResult result (IsNext es packets (option_copied before.entry) (begin, end))
         (λ fault. (last : Bool) → IsUnitRefused es packets (option_copied before.entry) (begin, end) last fault) }
@@ -139,7 +139,7 @@ fn field_behind(before: Role) -> Role
 /// The time of a picture with these times behind the one before, if it has one.
 fn time_of(before: Option<&TimedPicture>, times: Times) -> Option<PictureTime>
     requires times { IfSome (decoding_time times) (λ time. time < 2 ^ 33) }
-    requires before { IfSome (option_copied before.entry) IsPossible }
+    requires before { IfSome (option_copied before) IsPossible }
     ensures { MatchOption result (HasNoTime (option_copied before.entry) (decoding_time times)) (λ time. IsTimed (option_copied before.entry) (decoding_time times) time.stated time.ticks) }
 {
     match before {
