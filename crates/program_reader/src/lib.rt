@@ -4,9 +4,11 @@
 //! Stands on `ts_demux`, `pes_units`, `es_units`, `audio_frames`, `picture_reader`, `job_report` and those below them.
 #![tactic(auto)]
 
+mod audio_starts;
 pub mod limits;
 mod pes_packets;
 mod picture_places;
+mod picture_times;
 mod program;
 mod program_fault;
 mod timed_picture;

@@ -1,5 +1,5 @@
 //! A coded picture with its time behind the one before.
-ghost use Rattle.std.specs.Prelude.{◌≡◌, ◌≤◌, ◌<◌, ◌^◌, ◌↔◌, ℕ, List, Bool, false, IfSome, IsTrue, MatchOption, MatchResult, Some, None};
+ghost use Rattle.std.specs.Prelude.{◌≡◌, ◌≤◌, ◌<◌, ◌^◌, ℕ, List, Bool, true, false, IfSome, MatchOption, MatchResult, Some, None};
 ghost use Rattle.std.specs.Option.{option_copied};
 ghost use Rattle.picture_grammar.specs.Macroblock.{is_frame};
 ghost use Rattle.program_reader.specs.declared.pes_packets.PlacedPacket.{PlacedPacket};
@@ -79,7 +79,7 @@ pub fn timed_picture(
     let Some(time) = time_of(before, times) else {
         return Err(ProgramFault::Refused { kind: SourceKind::NoTime, at: begin });
     };
-    if !is_later(before, time.ticks) {
+    if !is_later(before, &time) {
         return Err(ProgramFault::Refused { kind: SourceKind::TimeOrder, at: begin });
     }
     Ok(TimedPicture {
@@ -94,7 +94,8 @@ pub fn timed_picture(
 
 /// True where a first field isn't completed: behind it stands a frame, or a field of the same parity.
 fn is_unpaired(before: Option<&TimedPicture>, coding: &PicCoding) -> bool
-    ensures { IsTrue result ↔ IsUnpaired (option_copied before.entry) coding.now }
+    ensures yes { result ≡ true → IsUnpaired (option_copied before.entry) coding.now }
+    ensures no { result ≡ false → IsUnpaired (option_copied before.entry) coding.now → ⊥ }
 {
     match before {
         Some(before) => {
@@ -215,7 +216,7 @@ fn frame_period(rate_code: u8) -> u32
 }
 
 /// The DTS, or the PTS where none stands.
-fn decoding_time(times: Times) -> Option<u64>
+pub fn decoding_time(times: Times) -> Option<u64>
     ensures { result ≡ decoding_time times }
 {
     match times.dts {
@@ -224,12 +225,13 @@ fn decoding_time(times: Times) -> Option<u64>
     }
 }
 
-/// True where a time in ticks is later than that of the picture before.
-fn is_later(before: Option<&TimedPicture>, ticks: i64) -> bool
-    ensures { IsTrue result ↔ IsLater (option_copied before.entry) ticks }
+/// True where a time is later than that of the picture before.
+fn is_later(before: Option<&TimedPicture>, time: &PictureTime) -> bool
+    ensures yes { result ≡ true → IsLater (option_copied before.entry) time.now.ticks }
+    ensures no { result ≡ false → IsLater (option_copied before.entry) time.now.ticks → ⊥ }
 {
     match before {
-        Some(before) => ticks > before.ticks,
+        Some(before) => time.ticks > before.ticks,
         None => true,
     }
 }
