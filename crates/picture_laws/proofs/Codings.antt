@@ -137,8 +137,12 @@ coding-of_part seq found bits rest (
     let is = coding-of_extension seq.progressive kind delay coding m11 m12 (leb-true 1 kind range.0) (leb-true kind 3 range.1) fit5 s in
     subst (λ (x : SeqState × PicCoding). IsCoding x.1) (sym e) is
 
+pub coding-of_head : (before : Option SeqState) (found : SeqState × PicCoding) (bits rest : List ℕ) → (head before).Spells found bits rest → IsCoding found.1
+unfolding head
+coding-of_head before found bits rest (seq, m1, s1, (group, m2, s2, (headers, m3, s3, (byte, m4, s4, (h, h'))))) =
+    subst (λ (x : SeqState × PicCoding). IsCoding x.1) (sym h) (coding-of_part seq headers m2 m3 s3)
+
 pub coding-of_unit : (before : Option SeqState) (picture : Picture) (bits rest : List ℕ) → (picture_unit before).Spells picture bits rest → IsCoding picture.coding
-unfolding picture_unit head
-coding-of_unit before picture bits rest (headers, m, ((seq, m1, s1, (group, m2, s2, (found, m3, s3, (byte, m4, s4, (h, h'))))), are, split), (slices, m', t, (e, f))) =
-    let is : IsCoding headers.0.1 = subst (λ (x : SeqState × PicCoding). IsCoding x.1) (sym h) (coding-of_part seq found m2 m3 s3) in
-    subst (λ (p : Picture). IsCoding p.coding) (sym e) is
+unfolding picture_unit
+coding-of_unit before picture bits rest (headers, m, (s, are, split), (slices, m', t, (e, f))) =
+    subst (λ (p : Picture). IsCoding p.coding) (sym e) (coding-of_head before headers.0 bits m s)

@@ -20,6 +20,7 @@ pub mod ReadBack
 pub mod ShortBlocks
 pub mod ShortMacroblocks
 pub mod ShortSlices
+pub mod SpelledStates
 pub mod StandingSlices
 pub mod StartCodes
 pub mod Steady

@@ -1,41 +1,5 @@
 -- Zero bytes and start codes that are refused (ISO/IEC 13818-2, 5.2.3), by bytes.
-use Rattle.std.proofs.Common.{
-  ◌≡◌,
-  ◌≢◌,
-  ◌==◌,
-  ◌||◌,
-  ◌&&◌,
-  ◌⊎◌,
-  ℕ,
-  zero,
-  suc,
-  ◌+◌,
-  ◌*◌,
-  ◌^◌,
-  ◌<◌,
-  ◌≤◌,
-  nat_eq,
-  List,
-  [],
-  ◌∷◌,
-  ◌++◌,
-  length,
-  drop,
-  replicate,
-  Bool,
-  true,
-  false,
-  refl,
-  sym,
-  ap,
-  ap₂,
-  subst,
-  ◌∙◌,
-  inl,
-  inr,
-  arith,
-  append-nil,
-}
+use Rattle.std.proofs.Common.{◌≡◌, ◌≢◌, ◌==◌, ◌&&◌, ℕ, zero, suc, ◌^◌, ◌<◌, nat_eq, List, [], ◌∷◌, ◌++◌, length, drop, replicate, Bool, true, false, refl, sym, ap, ap₂, subst, ◌∙◌, inl, inr, arith, append-nil}
 use Rattle.std.proofs.lemmas.Bool.{both_ways, ne_eqb}
 use Rattle.std.proofs.lemmas.List.{length-append}
 use Rattle.bit_lists.specs.Bits.{IsPrefix, bits_of}

@@ -1,37 +1,5 @@
 -- Slices up to a whole byte.
-use Rattle.std.proofs.Common.{
-  ◌≡◌,
-  ℕ,
-  ◌+◌,
-  ◌-◌,
-  ◌*◌,
-  ◌/◌,
-  ◌%◌,
-  ◌^◌,
-  ◌<◌,
-  ◌≤◌,
-  List,
-  [],
-  ◌∷◌,
-  ◌++◌,
-  length,
-  take,
-  drop,
-  replicate,
-  Option,
-  Some,
-  None,
-  IfSome,
-  refl,
-  sym,
-  ap,
-  subst,
-  ◌∙◌,
-  inl,
-  inr,
-  arith,
-  append_assoc,
-}
+use Rattle.std.proofs.Common.{◌≡◌, ℕ, ◌+◌, ◌-◌, ◌*◌, ◌/◌, ◌%◌, ◌^◌, ◌<◌, ◌≤◌, List, ◌++◌, length, take, drop, replicate, Option, Some, None, IfSome, refl, sym, ap, subst, ◌∙◌, inl, inr, arith, append_assoc}
 use Rattle.std.proofs.lemmas.List.{length-drop, length-take, drop-drop, drop_at, length-replicate, replicate-append-replicate}
 use Rattle.bit_lists.specs.Fields.{bit_list}
 use Rattle.bit_lists.proofs.ByteLemmas.{length-bit_list, bit_list-take}
@@ -52,7 +20,7 @@ use Rattle.picture_reader.specs.Private.Faults.{moved}
 use Rattle.picture_reader.specs.Private.Parts.{bits_from}
 use Rattle.picture_reader.specs.Private.Reading.{RefusesTold}
 
-bit_list-drop : (n : ℕ) (bytes : List ℕ) → n ≤ length bytes → bit_list (drop n bytes) ≡ drop (8 * n) (bit_list bytes)
+pub bit_list-drop : (n : ℕ) (bytes : List ℕ) → n ≤ length bytes → bit_list (drop n bytes) ≡ drop (8 * n) (bit_list bytes)
 bit_list-drop n bytes le =
     sym (ap (drop (8 * n)) (bit_list-take n bytes) ∙ drop_at (bit_list (take n bytes)) (bit_list (drop n bytes)) (8 * n)
     (length-bit_list (take n bytes) ∙ (let l : length (take n bytes) ≡ n = omega (arith, length-take n bytes) in ap (λ k. 8 * k) l)))

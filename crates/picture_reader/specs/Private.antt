@@ -2,4 +2,5 @@ pub mod Coverage
 pub mod Faults
 pub mod Parts
 pub mod Reading
+pub mod Unit
 pub mod Walk

@@ -1,5 +1,5 @@
 -- Parts of a unit as they are read, where all bytes are told.
-use Rattle.std.specs.Prelude.{◌≡◌, ◌+◌, ◌≤◌, ℕ, List, [], ◌++◌, length, drop, Option, Some, IfSome}
+use Rattle.std.specs.Prelude.{◌≡◌, ◌+◌, ◌≤◌, ℕ, List, [], length, drop, Option, Some, IfSome}
 use Rattle.std.specs.List.{sum_by}
 use Rattle.shelf_io.specs.declared.source.Source.{Ghosts}
 use Rattle.bit_cursor.specs.declared.bit_reader.BitReader.{BitReader}

@@ -1,4 +1,4 @@
-use Rattle.std.proofs.Common.{◌≡◌, ◌<◌, ◌+◌, ◌-◌, length, get_or, inl, inr, refl, arith}
+use Rattle.std.proofs.Common.{◌<◌, ◌+◌, ◌-◌, length, get_or, inl, inr, refl, arith}
 use Rattle.picture_reader.proofs.Parts.{are-bytes, seen-byte, seen-cut, seen-code}
 use Rattle.picture_reader.proofs.part.seen_from.Goals as goal
 

@@ -1,4 +1,4 @@
-use Rattle.std.proofs.Common.{◌≡◌, ◌+◌, ◌*◌, ◌-◌, ◌^◌, ◌<◌, ℕ, List, Option, IfSome, length, sym, ap, subst, ◌∙◌}
+use Rattle.std.proofs.Common.{◌+◌, ◌*◌, ◌-◌, ◌^◌, ◌<◌, ℕ, List, Option, IfSome, length, sym, ap, subst, ◌∙◌}
 use Rattle.bit_lists.specs.Fields.{bit_list}
 use Rattle.stream_constants.specs.declared.start_codes.TheConstants.{FIRST_SLICE}
 use Rattle.grammar_reading.specs.BitsRead.{PlacedRefusal}
