@@ -1,6 +1,8 @@
 -- Times of PES packets, one more behind those before.
-use Rattle.std.proofs.Common.{◌≡◌, ℕ, ◌+◌, ◌*◌, ◌^◌, ◌<◌, ◌≤◌, List, [], ◌∷◌, ◌++◌, Option, Some, None, unwrap_or, IfSome, refl, sym, ap, ◌∙◌, subst, arith, All, ℤ, pos, neg_ℤ, ◌+ℤ◌, ◌-ℤ◌, ◌≤ℤ◌, ◌<ℤ◌}
+use Rattle.std.proofs.Common.{◌≡◌, ℕ, ◌+◌, ◌*◌, ◌^◌, ◌<◌, ◌≤◌, List, [], ◌∷◌, ◌++◌, Option, Some, None, unwrap_or, IfSome, refl, sym, ap, ◌∙◌, subst, arith, All, take, get_or, length, ℤ, pos, neg_ℤ, ◌+ℤ◌, ◌-ℤ◌, ◌≤ℤ◌, ◌<ℤ◌}
 use Rattle.std.proofs.lemmas.Int.{ints}
+use Rattle.std.proofs.lemmas.List.{take_more}
+use Rattle.std.proofs.lemmas.List.Elements.{All-push}
 use Rattle.audio_frames.specs.declared.pes_start.PesStart.{PesStart}
 use Rattle.pes_units.specs.TimeAxis.{IsUnwrapped}
 use Rattle.program_reader.specs.declared.pes_packets.PlacedPacket.{PlacedPacket}
@@ -62,3 +64,28 @@ near_behind before value time n near is = by_value value time is
 pub near_start : (before : ℤ) (value : Option ℕ) (time : Option ℤ) (n m : ℕ) → n + 1 ≤ m → IsNear n before → IsPlacedTime before value time → IfSome time (IsNear m)
 near_start before None time n m le near is = rw is tt
 near_start before (Some v) time n m le near is = rw is.1 (near_more is.0 (n + 1) m le (near_step before is.0 v n near is.2))
+
+-- one more packet of a loop over them
+pub record Begun (first : ℤ) (packets : List PlacedPacket) (i : ℕ) (starts : List PesStart) (before : ℤ) : Type 0 where
+  pub starts_are : AreStartsOf first (take i packets) starts
+  pub before_is : before ≡ last_time first starts
+  pub near : IsNear i before
+  pub all_near : All (λ start. IfSome start.time (IsNear 2855696)) starts
+
+pub begun_step : (first : ℤ) (packets : List PlacedPacket) (i : ℕ) (d : PlacedPacket) (starts news : List PesStart) (start : PesStart) (before after : ℤ) → i < length packets →
+    length packets ≤ 2855696 → start.at ≡ (get_or packets i d).from → IsPlacedTime before (decoding_time (get_or packets i d).header.times) start.time →
+    after ≡ unwrap_or start.time before → news ≡ starts ++ start ∷ [] → Begun first packets i starts before → Begun first packets (i + 1) news after
+begun_step first packets i d starts news start before after lt few at time is_after pushed begun =
+    let packet = get_or packets i d in
+    let more : take (i + 1) packets ≡ take i packets ++ packet ∷ [] = take_more packets i d lt in
+    let placed : IsPlacedTime (last_time first starts) (decoding_time packet.header.times) start.time =
+    subst (λ (t : ℤ). IsPlacedTime t (decoding_time packet.header.times) start.time) begun.before_is time in
+    let le : i + 1 ≤ 2855696 = omega arith in record {
+      starts_are = subst (λ (all : List PesStart). AreStartsOf first (take (i + 1) packets) all) (sym pushed)
+          (subst (λ (ps : List PlacedPacket). AreStartsOf first ps (starts ++ start ∷ [])) (sym more) (starts_push first (take i packets) starts packet start begun.starts_are at placed));
+      before_is = is_after ∙ ap (λ (t : ℤ). unwrap_or start.time t) begun.before_is ∙ sym (last_push first starts start) ∙ ap (last_time first) (sym pushed);
+      near = subst (IsNear (i + 1)) (sym is_after) (near_behind before (decoding_time packet.header.times) start.time i begun.near time);
+      all_near = subst (λ (all : List PesStart). All (λ start. IfSome start.time (IsNear 2855696)) all) (sym pushed)
+          (All-push (λ start. IfSome start.time (IsNear 2855696)) starts start begun.all_near
+          (near_start before (decoding_time packet.header.times) start.time i 2855696 le begun.near time));
+    }
