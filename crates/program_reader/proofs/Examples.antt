@@ -1,5 +1,7 @@
 -- The definitions computed at worked examples.
-use Rattle.std.proofs.Common.{◌≡◌, ℕ, ◌+◌, ◌<◌, ◌≤◌, Bool, true, false, List, [], ◌∷◌, ◌++◌, length, replicate, Option, Some, None, refl, sym, subst, inl, inr, arith, ℤ, pos, ◌+ℤ◌, ◌-ℤ◌, ◌*ℤ◌}
+use Rattle.std.proofs.Common.{◌≡◌, ℕ, ◌+◌, true, false, List, [], ◌∷◌, ◌++◌, take, Option, Some, None, refl, sym, subst, inl, inr, arith, ℤ, pos, ◌+ℤ◌, ◌-ℤ◌, ◌*ℤ◌}
+use Rattle.bit_lists.specs.Fields.{bit, bits}
+use Rattle.ts_demux.specs.declared.demuxed.PesUnit.{PesUnit}
 use Rattle.syntax_types.specs.declared.picture.PicCoding.{PicCoding}
 use Rattle.syntax_types.specs.declared.picture.SeqState.{SeqState}
 use Rattle.pes_units.specs.TimeAxis.{IsUnwrapped}
@@ -11,7 +13,9 @@ use Rattle.program_reader.specs.declared.timed_picture.Role.{Role}
 use Rattle.program_reader.specs.declared.timed_picture.Role.TheVariants.{Frame, FirstField, SecondField}
 use Rattle.program_reader.specs.declared.timed_picture.TimedPicture.{TimedPicture}
 use Rattle.program_reader.specs.Units.{role_behind, frame_period, share_of, IsTimed, HasNoTime, IsUnpaired, IsCoded, IsUnitRefused}
-use Rattle.program_reader.specs.Audio.{IsDue}
+use Rattle.program_reader.specs.Packets.{taken, packets_dropped}
+use Rattle.program_reader.specs.PictureTimes.{begins_picture}
+use Rattle.program_reader.specs.Audio.{IsDue, payload_place, piece_places, piece_size}
 
 -- ---- decoding times 2^33 - 3,600 and 0: the second is one frame period later, and due 1,080,000 ticks later
 
@@ -63,3 +67,36 @@ last_unpaired : (es : List ℕ) (packets : List PlacedPacket) (before : TimedPic
     IsCoded es (Some before) unit seq coding → before.role ≡ FirstField → is_frame coding ≡ true →
     IsUnitRefused es packets (Some before) unit true (Refused kinds.FieldPair unit.0)
 last_unpaired es packets before unit seq coding coded role frame = IsUnitRefused.unpaired seq coding coded (role, inl frame) refl
+
+-- ---- the last PES packet of a stream: 14 bytes of a video header with a PTS, and no length stated
+
+abbrev cut_video : List ℕ
+cut_video = 0x00 ∷ 0x00 ∷ 0x01 ∷ 0xE0 ∷ 0x00 ∷ 0x00 ∷ 0x80 ∷ 0x80 ∷ 0x05 ∷ 0x21 ∷ 0x00 ∷ 0x05 ∷ 0xBF ∷ 0x21 ∷ []
+
+abbrev unit_of : List ℕ → List PesUnit
+unit_of bytes = record { at = 0; bytes = bytes } ∷ []
+
+-- with its header whole it is taken, also where nothing follows; with a byte less it is dropped and counted
+cut_header : (taken true (unit_of cut_video) ≡ unit_of cut_video) × (taken true (unit_of (take 13 cut_video)) ≡ []) × (packets_dropped true (unit_of (take 13 cut_video)) ≡ 1)
+unfolding bit bits
+cut_header = (refl, refl, refl)
+
+-- an audio packet that states 255 bytes and has 8 is dropped
+cut_audio : taken false (unit_of (0x00 ∷ 0x00 ∷ 0x01 ∷ 0xC0 ∷ 0x00 ∷ 0xFF ∷ 0x80 ∷ 0x80 ∷ 0x05 ∷ 0x21 ∷ 0x00 ∷ 0x05 ∷ 0xBF ∷ 0x21 ∷ [])) ≡ []
+unfolding bit bits
+cut_audio = refl
+
+-- ---- where pictures begin: the time code of a group of pictures header may look like a picture start code
+
+no_picture : (begins_picture (0x00 ∷ 0x00 ∷ 0x01 ∷ 0xB8 ∷ 0x00 ∷ 0x00 ∷ 0x01 ∷ 0x00 ∷ 0x00 ∷ 0x00 ∷ 0x01 ∷ 0x00 ∷ []) 4 ≡ false)
+    × (begins_picture (0x00 ∷ 0x00 ∷ 0x01 ∷ 0xB8 ∷ 0x00 ∷ 0x00 ∷ 0x01 ∷ 0x00 ∷ 0x00 ∷ 0x00 ∷ 0x01 ∷ 0x00 ∷ []) 8 ≡ true)
+no_picture = (refl, refl)
+
+-- ---- a PES packet of 590 bytes has four pieces, the last one of 38 bytes
+
+pieces_590 : (piece_places 590 ≡ 0 ∷ 184 ∷ 368 ∷ 552 ∷ []) × (piece_size 590 0 ≡ 184) × (piece_size 590 552 ≡ 38)
+pieces_590 = (refl, refl, refl)
+
+-- a byte of its header counts with its first payload byte
+header_byte : (packet : PlacedPacket) → packet.from ≡ 576 → packet.header.len ≡ 14 → (payload_place packet 0 ≡ 576) × (payload_place packet 14 ≡ 576) × (payload_place packet 15 ≡ 577)
+header_byte packet from len = rw (from, len) (refl, refl, refl)

@@ -43,9 +43,9 @@ pub placed_push : (from : ℕ) (packets : List PesUnit) (packet : PesUnit) →
 placed_push from [] packet = ap (λ (n : ℕ). placed_at n packet ∷ []) (omega arith)
 placed_push from (x ∷ xs) packet =
     ap (λ (placed : List PlacedPacket). placed_at from x ∷ placed) (
-      placed_push (from + length (payload_of x)) xs packet
-          ∙ ap (λ (n : ℕ). placed_from (from + length (payload_of x)) xs ++ placed_at n packet ∷ [])
-          (omega (arith, length-append (payload_of x) (joined xs)))
+    placed_push (from + length (payload_of x)) xs packet
+    ∙ ap (λ (n : ℕ). placed_from (from + length (payload_of x)) xs ++ placed_at n packet ∷ [])
+    (omega (arith, length-append (payload_of x) (joined xs)))
     )
 
 pub joined_push : (packets : List PesUnit) (packet : PesUnit) → joined (packets ++ packet ∷ []) ≡ joined packets ++ payload_of packet

@@ -5,6 +5,7 @@
 #![tactic(auto)]
 
 mod audio_starts;
+mod audio_stream;
 pub mod limits;
 mod pes_packets;
 mod picture_places;
@@ -12,6 +13,7 @@ mod picture_times;
 mod program;
 mod program_fault;
 mod timed_picture;
+mod unit_picture;
 
 pub use pes_packets::PlacedPacket;
 pub use program::{AudioPiece, AudioSource, Program, UnitSource};

@@ -46,9 +46,5 @@ fn has_code(es: &[u8], at: usize, value: u8) -> bool
     requires { at < length es.now }
     ensures { result ≡ has_code (λ found. found == value) es.now at }
 {
-    es.len() - at > 3
-        && es[at] == 0
-        && es[at + 1] == 0
-        && es[at + 2] == 1
-        && es[at + 3] == value
+    es.len() - at > 3 && es[at] == 0 && es[at + 1] == 0 && es[at + 2] == 1 && es[at + 3] == value
 }

@@ -71,16 +71,28 @@ pub fn timed_picture(
         (λ fault. (last : Bool) → IsUnitRefused es packets (option_copied before.entry) (begin, end) last fault) }
 {
     if is_unpaired(before, coding) {
-        return Err(ProgramFault::Refused { kind: SourceKind::FieldPair, at: begin });
+        return Err(ProgramFault::Refused {
+            kind: SourceKind::FieldPair,
+            at: begin,
+        });
     }
     if end - begin > UNIT_BYTES_MOST {
-        return Err(ProgramFault::Refused { kind: SourceKind::ProgramLimit, at: 0 });
+        return Err(ProgramFault::Refused {
+            kind: SourceKind::ProgramLimit,
+            at: 0,
+        });
     }
     let Some(time) = time_of(before, times) else {
-        return Err(ProgramFault::Refused { kind: SourceKind::NoTime, at: begin });
+        return Err(ProgramFault::Refused {
+            kind: SourceKind::NoTime,
+            at: begin,
+        });
     };
     if !is_later(before, &time) {
-        return Err(ProgramFault::Refused { kind: SourceKind::TimeOrder, at: begin });
+        return Err(ProgramFault::Refused {
+            kind: SourceKind::TimeOrder,
+            at: begin,
+        });
     }
     Ok(TimedPicture {
         seq: *seq,

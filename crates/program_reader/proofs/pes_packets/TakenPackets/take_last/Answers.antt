@@ -13,7 +13,7 @@ moved video read bytes packet is same = is ∙ ap (λ (xs : List ℕ). if is_dro
 
 pub add-requires : goal.add-requires
 add-requires c = (read_some (is_dropped c.args.video c.args.packet.now.bytes) c.in-Ok.read c.in-Some.header (fields_of c.args.packet.now.bytes)
-  (moved c.args.video c.in-Ok.read c.as_slice.result.now c.args.packet.now.bytes c.in-Ok.ensures.header c.as_slice.ensures) c.in-Some.is).1
+    (moved c.args.video c.in-Ok.read c.as_slice.result.now c.args.packet.now.bytes c.in-Ok.ensures.header c.as_slice.ensures) c.in-Some.is).1
 
 pub returns-in_ok-add-in-Some-clause-adds : goal.returns-in_ok-add-in-Some-clause-adds
 returns-in_ok-add-in-Some-clause-adds c = λ before holds.
