@@ -1,5 +1,5 @@
 -- The definitions computed at worked examples.
-use Rattle.std.proofs.Common.{◌≡◌, ℕ, ◌+◌, true, false, List, [], ◌∷◌, ◌++◌, take, Option, Some, None, refl, sym, subst, inl, inr, arith, ℤ, pos, ◌+ℤ◌, ◌-ℤ◌, ◌*ℤ◌}
+use Rattle.std.proofs.Common.{◌≡◌, ℕ, ◌+◌, true, false, List, [], ◌∷◌, take, Some, None, refl, sym, subst, inl, arith, ℤ, pos, ◌+ℤ◌}
 use Rattle.bit_lists.specs.Fields.{bit, bits}
 use Rattle.ts_demux.specs.declared.demuxed.PesUnit.{PesUnit}
 use Rattle.syntax_types.specs.declared.picture.PicCoding.{PicCoding}
@@ -12,7 +12,7 @@ use Rattle.program_reader.specs.declared.program_fault.SourceKind.TheVariants as
 use Rattle.program_reader.specs.declared.timed_picture.Role.{Role}
 use Rattle.program_reader.specs.declared.timed_picture.Role.TheVariants.{Frame, FirstField, SecondField}
 use Rattle.program_reader.specs.declared.timed_picture.TimedPicture.{TimedPicture}
-use Rattle.program_reader.specs.Units.{role_behind, frame_period, share_of, IsTimed, HasNoTime, IsUnpaired, IsCoded, IsUnitRefused}
+use Rattle.program_reader.specs.Units.{role_behind, frame_period, share_of, IsTimed, HasNoTime, IsCoded, IsUnitRefused}
 use Rattle.program_reader.specs.Packets.{taken, packets_dropped}
 use Rattle.program_reader.specs.PictureTimes.{begins_picture}
 use Rattle.program_reader.specs.Audio.{IsDue, payload_place, piece_places, piece_size}

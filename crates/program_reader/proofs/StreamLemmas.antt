@@ -1,5 +1,40 @@
 -- The PES packets of an audio stream give starts that its frames can be read by.
-use Rattle.std.proofs.Common.{◌≡◌, ◌⊎◌, ℕ, zero, suc, ◌+◌, ◌-◌, ◌*◌, ◌^◌, ◌<◌, ◌≤◌, Bool, true, false, List, [], ◌∷◌, ◌++◌, length, Option, None, Some, IfSome, refl, sym, ap, ◌∙◌, subst, inl, inr, arith, All, map, drop, if◌then◌else◌, slice_index, ℤ, pos, neg_ℤ, ◌≤ℤ◌, is_some}
+use Rattle.std.proofs.Common.{
+  ◌≡◌,
+  ℕ,
+  zero,
+  suc,
+  ◌+◌,
+  ◌^◌,
+  ◌<◌,
+  ◌≤◌,
+  Bool,
+  true,
+  false,
+  List,
+  [],
+  ◌∷◌,
+  length,
+  Option,
+  None,
+  Some,
+  IfSome,
+  refl,
+  sym,
+  ap,
+  ◌∙◌,
+  subst,
+  arith,
+  All,
+  map,
+  if◌then◌else◌,
+  slice_index,
+  ℤ,
+  pos,
+  neg_ℤ,
+  ◌≤ℤ◌,
+  is_some,
+}
 use Rattle.std.specs.List.{sum_by}
 use Rattle.std.specs.List.Sorted.{IsStrictlyIncreasing}
 use Rattle.std.proofs.lemmas.List.{length-append, length-drop}
@@ -11,7 +46,7 @@ use Rattle.audio_frames.specs.Times.{AreStarts, IsAudioRefused}
 use Rattle.pes_units.specs.declared.pes_fault.PesFault.{PesFault}
 use Rattle.pes_units.specs.declared.pes_fault.PesFault.TheVariants.{BadLength}
 use Rattle.pes_units.specs.PesHeader.{header_length, refusal}
-use Rattle.pes_units.specs.PesPackets.{is_cut, is_dropped, is_length_sound, packet_refusal, last_refusal}
+use Rattle.pes_units.specs.PesPackets.{is_cut, is_dropped, is_length_sound, packet_refusal}
 use Rattle.pes_units.proofs.Refusals.{passes-header}
 use Rattle.ts_demux.specs.declared.demuxed.AudioStream.{AudioStream}
 use Rattle.ts_demux.specs.declared.demuxed.PesUnit.{PesUnit}

@@ -2,7 +2,6 @@
 use Rattle.std.proofs.Common.{◌≡◌, ◌⊎◌, ℕ, suc, ◌+◌, ◌<◌, List, [], ◌∷◌, ◌++◌, length, sym, ap, ◌∙◌, subst, inl, inr, map, take, drop, get_or, ℤ}
 use Rattle.std.proofs.Math.Seq.{split_at}
 use Rattle.std.proofs.lemmas.List.{take_more}
-use Rattle.audio_frames.specs.declared.frame.Frame.{Frame}
 use Rattle.ts_demux.specs.declared.demuxed.AudioStream.{AudioStream}
 use Rattle.program_reader.specs.declared.audio_stream.ReadStream.{ReadStream}
 use Rattle.program_reader.specs.declared.program_fault.ProgramFault.{ProgramFault}

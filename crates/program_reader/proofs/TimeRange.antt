@@ -1,5 +1,5 @@
 -- Times of PES headers have 33 bits.
-use Rattle.std.proofs.Common.{◌≡◌, ℕ, ◌+◌, ◌*◌, ◌^◌, ◌<◌, ◌==◌, nat_le, Bool, true, false, List, Option, Some, None, IfSome, if◌then◌else◌, arith}
+use Rattle.std.proofs.Common.{ℕ, ◌+◌, ◌*◌, ◌^◌, ◌<◌, ◌==◌, nat_le, Bool, true, false, List, Option, Some, None, IfSome, if◌then◌else◌, arith}
 use Rattle.bit_lists.specs.Fields.{bits}
 use Rattle.bit_lists.proofs.WordLemmas.{bits_below}
 use Rattle.pes_units.specs.Times.{time_at, times_of, pts_dts_flags}

@@ -1,8 +1,8 @@
 -- A unit as a coded picture.
-use Rattle.std.proofs.Common.{◌≡◌, ◌⊎◌, ℕ, ◌+◌, ◌/◌, ◌≤◌, Bool, true, false, List, [], Option, None, Some, IfSome, MatchResult, refl, sym, subst, ap, ◌∙◌, inl, inr}
+use Rattle.std.proofs.Common.{◌≡◌, ℕ, ◌+◌, ◌/◌, ◌≤◌, Bool, true, false, List, [], Option, None, Some, IfSome, MatchResult, refl, sym, subst, inl, inr}
 use Rattle.bit_lists.specs.Fields.{bit_list}
 use Rattle.syntax_types.specs.declared.picture.SeqState.{SeqState}
-use Rattle.picture_grammar.specs.Picture.{IsState, MayPrecede, RefusesPicture}
+use Rattle.picture_grammar.specs.Picture.{MayPrecede, RefusesPicture}
 use Rattle.picture_laws.proofs.SpelledStates.{state-of_unit}
 use Rattle.grammar_reading.specs.BitsRead.{PlacedRefusal}
 use Rattle.video_headers.specs.declared.head.Headers.{Headers}
@@ -10,7 +10,7 @@ use Rattle.picture_reader.specs.Picture.{SpellsHeaders}
 use Rattle.program_reader.specs.declared.pes_packets.PlacedPacket.{PlacedPacket}
 use Rattle.program_reader.specs.declared.timed_picture.TimedPicture.{TimedPicture}
 use Rattle.program_reader.specs.declared.unit_picture.TimedUnit.{TimedUnit}
-use Rattle.program_reader.specs.Units.{unit_bytes, state_behind, IsCoded, IsBroken, IsUnitRefused}
+use Rattle.program_reader.specs.Units.{unit_bytes, state_behind, IsCoded, IsUnitRefused}
 use Rattle.program_reader.specs.Private.TimedPictures.{IsPossible, IsFound, IsNotFound, broken_answer}
 
 pub may_precede : (before : Option TimedPicture) → IfSome before IsPossible → MayPrecede (state_behind before)

@@ -1,5 +1,5 @@
 -- Which times of PES headers belong to which coded picture (ISO/IEC 13818-1, 2.4.3.7).
-use Rattle.std.specs.Prelude.{ℕ, ◌+◌, ◌-◌, ◌==◌, Bool, false, not, ◌&&◌, List, Option, Some, None}
+use Rattle.std.specs.Prelude.{ℕ, ◌+◌, ◌-◌, ◌==◌, Bool, false, not, ◌&&◌, List, Option, None}
 use Rattle.std.specs.List.{find, list_any}
 use Rattle.std.specs.Option.{option_map_or}
 use Rattle.stream_constants.specs.declared.start_codes.TheConstants.{PICTURE, GROUP}

@@ -1,36 +1,5 @@
 -- The program of a file, and the first refusal of a file, in the order of reading (this project's).
-use Rattle.std.specs.Prelude.{
-  ◌≡◌,
-  ◌≢◌,
-  ◌⊎◌,
-  ℕ,
-  ◌+◌,
-  ◌-◌,
-  ◌*◌,
-  ◌^◌,
-  ◌<◌,
-  ◌≤◌,
-  min,
-  true,
-  false,
-  List,
-  [],
-  ◌∷◌,
-  ◌++◌,
-  length,
-  map,
-  All,
-  Contains,
-  Option,
-  Some,
-  None,
-  ℤ,
-  pos,
-  ◌+ℤ◌,
-  ◌-ℤ◌,
-  ◌*ℤ◌,
-  ◌≤ℤ◌,
-}
+use Rattle.std.specs.Prelude.{◌≡◌, ◌⊎◌, ℕ, ◌+◌, ◌-◌, ◌*◌, ◌^◌, ◌<◌, ◌≤◌, min, true, false, List, [], ◌∷◌, ◌++◌, length, map, All, Contains, Some, None, ℤ, pos, ◌+ℤ◌, ◌-ℤ◌, ◌*ℤ◌, ◌≤ℤ◌}
 use Rattle.std.specs.List.{flat_map, sum_by}
 use Rattle.stream_constants.specs.declared.clock.TheConstants.{TICKS_PER_TIME_UNIT}
 use Rattle.audio_frames.specs.declared.frame.Frame.{Frame}
@@ -39,7 +8,6 @@ use Rattle.es_units.specs.Units.{units_of}
 use Rattle.picture_grammar.specs.Refusal.{Refusal}
 use Rattle.ts_demux.specs.declared.demux_fault.DemuxFault.{DemuxFault}
 use Rattle.ts_demux.specs.declared.demuxed.Demuxed.{Demuxed}
-use Rattle.ts_demux.specs.declared.demuxed.PesUnit.{PesUnit}
 use Rattle.ts_demux.specs.Demux.{IsDemuxed, IsRefused}
 use Rattle.version_table.specs.declared.limits.TheConstants.{UNITS_MOST}
 use Rattle.program_reader.specs.declared.limits.TheConstants.{FILE_BYTES_MOST}

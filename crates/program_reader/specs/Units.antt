@@ -1,36 +1,6 @@
 -- The coded pictures of a video stream with their times: which are kept, and what refuses them. (Field pairs by ISO/IEC 13818-2,
 -- 6.1.1.4.1; the times of pictures that state none, and the order of refusals, are this project's.)
-use Rattle.std.specs.Prelude.{
-  ◌≡◌,
-  ◌⊎◌,
-  ℕ,
-  ◌+◌,
-  ◌-◌,
-  ◌/◌,
-  ◌<◌,
-  ◌≤◌,
-  ◌==◌,
-  Bool,
-  true,
-  false,
-  List,
-  [],
-  ◌∷◌,
-  ◌++◌,
-  length,
-  map,
-  slice_index,
-  slice_range,
-  Option,
-  Some,
-  None,
-  ℤ,
-  pos,
-  ◌+ℤ◌,
-  ◌*ℤ◌,
-  ◌≤ℤ◌,
-  ◌<ℤ◌,
-}
+use Rattle.std.specs.Prelude.{◌≡◌, ◌⊎◌, ℕ, ◌+◌, ◌-◌, ◌/◌, ◌<◌, ◌≤◌, Bool, true, false, List, [], ◌∷◌, ◌++◌, slice_index, slice_range, Option, Some, None, ℤ, pos, ◌+ℤ◌, ◌*ℤ◌, ◌<ℤ◌}
 use Rattle.std.specs.List.{last_or}
 use Rattle.std.specs.Option.{option_map}
 use Rattle.stream_constants.specs.declared.clock.TheConstants.{TICKS_PER_TIME_UNIT}

@@ -1,5 +1,5 @@
 -- Which times a picture may have, so that those behind it are numbers of 64 bits.
-use Rattle.std.specs.Prelude.{◌≡◌, ◌⊎◌, ℕ, ◌+◌, ◌/◌, ◌^◌, ◌≤◌, true, List, Option, Some, None, Result, Ok, Err, if◌then◌else◌, ℤ, pos, neg_ℤ, ◌≤ℤ◌}
+use Rattle.std.specs.Prelude.{◌≡◌, ◌⊎◌, ℕ, ◌+◌, ◌/◌, ◌^◌, true, List, Option, Some, None, Result, Ok, Err, if◌then◌else◌, pos, neg_ℤ, ◌≤ℤ◌}
 use Rattle.picture_grammar.specs.Refusal.{Refusal}
 use Rattle.picture_grammar.specs.Picture.{IsState}
 use Rattle.grammar_reading.specs.BitsRead.{PlacedRefusal}

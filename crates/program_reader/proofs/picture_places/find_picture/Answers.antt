@@ -1,4 +1,4 @@
-use Rattle.std.proofs.Common.{ℕ, ◌-◌, ◌≤◌, ◌<◌, ◌≡◌, false, sym, ◌∙◌, below_more, arith}
+use Rattle.std.proofs.Common.{◌-◌, sym, ◌∙◌, arith}
 use Rattle.list_types.proofs.Search.{find_range}
 use Rattle.audio_frames.proofs.Places.{no_place}
 use Rattle.program_reader.specs.PictureTimes.{begins_picture}

@@ -1,4 +1,4 @@
-use Rattle.std.proofs.Common.{ℕ, ◌-◌, ◌+◌, ◌==◌, ◌≤◌, ◌<◌, ◌≡◌, false, sym, ◌∙◌, arith}
+use Rattle.std.proofs.Common.{◌-◌, ◌+◌, ◌==◌, sym, ◌∙◌, arith}
 use Rattle.stream_constants.specs.declared.start_codes.TheConstants.{GROUP}
 use Rattle.es_units.specs.StartCodes.{has_code}
 use Rattle.program_reader.proofs.PlaceLemmas.{some_place, none_passes}
@@ -10,4 +10,5 @@ returns-then-has_code c =
     (sym c.has_code.ensures ∙ c.if-has_code.true))
 
 pub returns : goal.returns
-returns c = sym (none_passes (has_code (λ value. value == GROUP) c.args.es.now) (c.args.at - (c.args.at + 1 - 8)) (c.args.at + 1 - 8) (λ at b u. c.loop-group.invariant at (omega arith) (omega arith)))
+returns c =
+    sym (none_passes (has_code (λ value. value == GROUP) c.args.es.now) (c.args.at - (c.args.at + 1 - 8)) (c.args.at + 1 - 8) (λ at b u. c.loop-group.invariant at (omega arith) (omega arith)))

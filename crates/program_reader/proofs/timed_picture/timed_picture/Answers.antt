@@ -1,4 +1,4 @@
-use Rattle.std.proofs.Common.{◌≡◌, subst, refl, arith}
+use Rattle.std.proofs.Common.{subst, refl}
 use Rattle.std.specs.Option.{option_copied}
 use Rattle.pes_units.specs.declared.times.Times.{Times}
 use Rattle.program_reader.specs.Packets.{decoding_time}

@@ -1,4 +1,4 @@
-use Rattle.std.proofs.Common.{◌≡◌, ℕ, List, Option, IfSome, MatchResult, refl, sym, subst, ap, ◌∙◌, inl, inr}
+use Rattle.std.proofs.Common.{Option, MatchResult, sym, subst, inr}
 use Rattle.std.specs.Option.{option_copied}
 use Rattle.syntax_types.specs.declared.picture.SeqState.{SeqState}
 use Rattle.picture_reader.specs.Picture.{IsRefusedAs}

@@ -1,6 +1,4 @@
-use Rattle.std.proofs.Common.{◌≡◌, ◌∷◌, [], ℕ, List, length, drop, ap, ◌∙◌, refl}
-use Rattle.ts_demux.specs.declared.demuxed.PesUnit.{PesUnit}
-use Rattle.program_reader.specs.Private.TakenPackets.{Holds, Adds}
+use Rattle.std.proofs.Common.{ℕ, List, length, drop, ap, ◌∙◌, refl}
 use Rattle.program_reader.proofs.TakenLemmas.{held_more}
 use Rattle.program_reader.proofs.pes_packets.TakenPackets.add.Goals as goal
 

@@ -1,9 +1,7 @@
-use Rattle.std.proofs.Common.{◌≡◌, ◌∷◌, ◌++◌, [], List, ℕ, Bool, true, false, None, Some, Option, ap, sym, ◌∙◌, if◌then◌else◌}
+use Rattle.std.proofs.Common.{◌≡◌, List, ℕ, Bool, None, Some, Option, ap, ◌∙◌, if◌then◌else◌}
 use Rattle.pes_units.specs.declared.pes_header.PesHeader.{PesHeader}
 use Rattle.pes_units.specs.PesHeader.{fields_of}
 use Rattle.pes_units.specs.PesPackets.{is_dropped}
-use Rattle.ts_demux.specs.declared.demuxed.PesUnit.{PesUnit}
-use Rattle.program_reader.specs.Private.TakenPackets.{Holds}
 use Rattle.program_reader.proofs.TakenLemmas.{read_some, read_none, count_dropped, count_taken, holds_taken, holds_dropped}
 use Rattle.program_reader.proofs.pes_packets.TakenPackets.take_last.Goals as goal
 
