@@ -1,0 +1,8 @@
+pub mod PlaceLemmas
+pub mod StartLemmas
+pub mod StreamLemmas
+pub mod StreamsLemmas
+pub mod TakenLemmas
+pub mod UnitLemmas
+pub mod TimeRange
+mod Examples

@@ -1,0 +1,4 @@
+pub mod AudioStarts
+pub mod StampedPictures
+pub mod TakenPackets
+pub mod TimedPictures

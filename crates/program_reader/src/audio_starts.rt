@@ -1,0 +1,71 @@
+//! Where the payloads of audio PES packets begin, with their times on one axis (ISO/IEC 13818-1, 2.4.3.7).
+ghost use Rattle.std.specs.Prelude.{◌≡◌, ◌≤◌, ◌<◌, ◌^◌, length, All, IfOk, IfSome, unwrap_or, pos, neg_ℤ, ◌≤ℤ◌};
+ghost use Rattle.program_reader.specs.Packets.{decoding_time};
+ghost use Rattle.program_reader.specs.Audio.{IsPlacedTime, AreStartsOf};
+ghost use Rattle.program_reader.specs.Private.AudioStarts.{IsNear, AreNear};
+
+use crate::limits::PACKETS_MOST;
+use crate::pes_packets::PlacedPacket;
+use crate::timed_picture::decoding_time;
+use audio_frames::PesStart;
+use pes_units::unwrap_time;
+use std::alloc::{AllocError, Global};
+
+/// A time on a program's axis, in units of 1/90,000 s.
+#[derive(Clone, Copy)]
+pub struct AxisTime {
+    pub time: i64,
+}
+
+impl AxisTime {
+    /// The time of a PES packet, or this one where it has none.
+    fn moved_to(self, start: &PesStart) -> AxisTime
+        ensures { result.time ≡ unwrap_or start.now.time self.time }
+    {
+        match start.time {
+            Some(time) => AxisTime { time },
+            None => self,
+        }
+    }
+}
+
+/// Where the payload of each PES packet begins, with its time on the axis of the last time before it; the first one is
+/// placed behind `first`. Times are in units of 1/90,000 s.
+pub fn audio_starts(
+    alloc: Global,
+    packets: &[PlacedPacket],
+    first: &AxisTime,
+) -> Result<Vec<PesStart>, AllocError>
+    requires few { length packets.now ≤ PACKETS_MOST }
+    requires first { IsNear 0 first.now.time }
+    requires times { All (λ packet. IfSome (decoding_time packet.header.times) (λ time. time < 2 ^ 33)) packets.now }
+    ensures starts { IfOk result (λ starts. AreStartsOf first.now.time packets.now starts.items) }
+    ensures near { IfOk result (λ starts. AreNear PACKETS_MOST starts.items) }
+{
+    let mut starts = Vec::new(alloc);
+    let mut before = *first;
+    for packet in packets {
+        let start = start_behind(&before, packet);
+        starts.push(start)?;
+        before = before.moved_to(&start);
+    }
+    Ok(starts)
+}
+
+/// Where the payload of a PES packet begins, with its time behind the last one before it.
+fn start_behind(before: &AxisTime, packet: &PlacedPacket) -> PesStart
+    requires low { neg_ℤ (pos (2 ^ 54)) ≤ℤ before.now.time }
+    requires high { before.now.time ≤ℤ pos (2 ^ 54) }
+    requires time { IfSome (decoding_time packet.now.header.times) (λ time. time < 2 ^ 33) }
+    ensures at { result.at ≡ packet.now.from }
+    ensures time { IsPlacedTime before.now.time (decoding_time packet.now.header.times) result.time }
+{
+    let time = match decoding_time(packet.header.times) {
+        Some(value) => Some(unwrap_time(before.time, value)),
+        None => None,
+    };
+    PesStart {
+        at: packet.from,
+        time,
+    }
+}

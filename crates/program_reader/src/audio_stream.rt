@@ -1,0 +1,69 @@
+//! An audio stream of a program: its PES packets, and its frames with their times.
+ghost use Rattle.std.specs.Prelude.{◌≡◌, ◌⊎◌, ◌≤◌, ◌<◌, ◌^◌, length, All, MatchResult};
+ghost use Rattle.std.specs.List.{sum_by};
+ghost use Rattle.program_reader.specs.declared.program_fault.ProgramFault.TheVariants.{OutOfMemory};
+ghost use Rattle.program_reader.specs.Audio.{IsAudioFault, IsStreamRefused};
+ghost use Rattle.program_reader.specs.Private.AudioStarts.{IsNear, IsStreamRead, AreStreamsRead};
+
+use crate::audio_starts::{AxisTime, audio_starts};
+use crate::limits::PACKETS_MOST;
+use crate::pes_packets::{TakenPackets, take_packets};
+use crate::program_fault::{ProgramFault, audio_refused};
+use audio_frames::{Frame, frames};
+use list_types::ListOf;
+use std::alloc::Global;
+use ts_demux::AudioStream;
+
+/// What is read of an audio stream.
+#[derive(Drop)]
+pub struct ReadStream {
+    /// Its PES packets.
+    pub taken: TakenPackets,
+    pub frames: ListOf<Frame>,
+}
+
+/// Reads an audio stream of a program whose video begins at a time. An error is the first fault of its PES packets, or else
+/// of its frames.
+pub fn read_stream(
+    alloc: Global,
+    stream: &AudioStream,
+    first: &AxisTime,
+) -> Result<ReadStream, ProgramFault>
+    requires few { length stream.now.packets ≤ PACKETS_MOST }
+    requires size { sum_by (λ packet. length packet.bytes) stream.now.packets < 2 ^ 30 }
+    requires first { IsNear 0 first.now.time }
+    ensures { MatchResult result (IsStreamRead first.now.time stream.now) (λ fault. (fault ≡ OutOfMemory) ⊎ IsStreamRefused first.now.time stream.now fault) }
+{
+    let taken = match take_packets(alloc, stream.packets.as_slice(), false) {
+        Ok(taken) => taken,
+        Err(fault) => return Err(fault),
+    };
+    let starts = audio_starts(alloc, taken.packets.as_slice(), first)?;
+    let read = frames(alloc, taken.payload.as_slice(), starts.as_slice());
+    match read {
+        Ok(frames) => Ok(ReadStream { taken, frames }),
+        Err(fault) => Err(audio_refused(fault)),
+    }
+}
+
+/// Reads the audio streams of a program whose video begins at a time, in order. An error is the first refusal of the first
+/// stream that is refused.
+pub fn read_streams(
+    alloc: Global,
+    streams: &[AudioStream],
+    first: &AxisTime,
+) -> Result<Vec<ReadStream>, ProgramFault>
+    requires few { All (λ stream. length stream.packets ≤ PACKETS_MOST) streams.now }
+    requires size { All (λ stream. sum_by (λ packet. length packet.bytes) stream.packets < 2 ^ 30) streams.now }
+    requires first { IsNear 0 first.now.time }
+    ensures { MatchResult result (λ read. AreStreamsRead first.now.time streams.now read.items) (λ fault. (fault ≡ OutOfMemory) ⊎ IsAudioFault first.now.time streams.now fault) }
+{
+    let mut read = Vec::new(alloc);
+    for stream in streams {
+        match read_stream(alloc, stream, first) {
+            Ok(one) => read.push(one)?,
+            Err(fault) => return Err(fault),
+        }
+    }
+    Ok(read)
+}

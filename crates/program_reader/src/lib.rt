@@ -1,0 +1,21 @@
+//! A program of a transport stream is read: its video units and audio packets with the times at which a decoder wants them.
+//!
+//! `read_program` answers a program, or the first refusal of its file with its place. Its steps stand in a file each.
+//! Stands on `ts_demux`, `pes_units`, `es_units`, `audio_frames`, `picture_reader`, `job_report` and those below them.
+#![tactic(auto)]
+
+mod audio_starts;
+mod audio_stream;
+pub mod limits;
+mod pes_packets;
+mod picture_places;
+mod picture_times;
+mod program;
+mod program_fault;
+mod timed_picture;
+mod unit_picture;
+
+pub use pes_packets::PlacedPacket;
+pub use program::{AudioPiece, AudioSource, Program, UnitSource};
+pub use program_fault::{ProgramFault, SourceKind};
+pub use timed_picture::{Role, TimedPicture};

@@ -1,0 +1,249 @@
+//! A coded picture with its time behind the one before.
+ghost use Rattle.std.specs.Prelude.{◌≡◌, ◌≤◌, ◌<◌, ◌^◌, ℕ, List, Bool, true, false, IfSome, MatchOption, MatchResult, Some, None};
+ghost use Rattle.std.specs.Option.{option_copied};
+ghost use Rattle.picture_grammar.specs.Macroblock.{is_frame};
+ghost use Rattle.program_reader.specs.declared.pes_packets.PlacedPacket.{PlacedPacket};
+ghost use Rattle.program_reader.specs.Packets.{decoding_time};
+ghost use Rattle.program_reader.specs.PictureTimes.{times_of_unit};
+ghost use Rattle.program_reader.specs.Units.{frame_period, ticks_behind, role_behind, role_of, IsUnpaired, IsTimed, HasNoTime, IsLater, IsCoded, IsNext, IsUnitRefused};
+ghost use Rattle.program_reader.specs.Private.TimedPictures.{IsPossible};
+
+use crate::limits::UNIT_BYTES_MOST;
+use crate::program_fault::{ProgramFault, SourceKind};
+use pes_units::{Times, unwrap_time};
+use stream_constants::clock::TICKS_PER_TIME_UNIT;
+use syntax_types::{FRAME_PICTURE, PicCoding, SeqState};
+
+/// What a coded picture is among those before it (ISO/IEC 13818-2, 6.1.1.4.1).
+#[derive(Clone, Copy, Debug, PartialEq, Eq)]
+pub enum Role {
+    /// A frame picture.
+    Frame,
+    /// A field picture whose frame the next one completes.
+    FirstField,
+    /// A field picture that completes a frame.
+    SecondField,
+}
+
+/// A coded picture with its time.
+#[derive(Clone, Copy)]
+pub struct TimedPicture {
+    /// The state in force for it.
+    pub seq: SeqState,
+    /// How it is coded.
+    pub coding: PicCoding,
+    pub role: Role,
+    /// The times of its PES header, where it has any.
+    pub times: Times,
+    /// The last decoding time that was stated up to it, on the program's axis, in units of 1/90,000 s.
+    pub stated: i64,
+    /// Its own decoding time, in ticks of 1/27,000,000 s.
+    pub ticks: i64,
+}
+
+/// The time of a picture: the last one that was stated up to it, in units of 1/90,000 s, and its own, in ticks.
+#[derive(Clone, Copy)]
+pub struct PictureTime {
+    pub stated: i64,
+    pub ticks: i64,
+}
+
+/// Ticks of a frame period by frame_rate_code from 1 on (13818-2, Table 6-4): 24,000/1,001, 24, 25, 30,000/1,001 and 30
+/// frames a second.
+static FRAME_PERIODS: [u32; 5] = [1_126_125, 1_125_000, 1_080_000, 900_900, 900_000];
+
+/// A picture so coded in a unit from a place of the video up to another, with its times, behind the one before. The error is
+/// FieldPair, ProgramLimit, NoTime or TimeOrder, in this order.
+pub fn timed_picture(
+    seq: &SeqState,
+    coding: &PicCoding,
+    begin: u64,
+    end: u64,
+    times: Times,
+    before: Option<&TimedPicture>,
+) -> Result<TimedPicture, ProgramFault>
+    requires rate { (1 ≤ seq.now.rate_code) × (seq.now.rate_code ≤ 5) }
+    requires order { begin ≤ end }
+    requires times { IfSome (decoding_time times) (λ time. time < 2 ^ 33) }
+    requires before { IfSome (option_copied before) IsPossible }
+    ensures { (es : List ℕ) (packets : List PlacedPacket) → IsCoded es (option_copied before.entry) (begin, end) seq.now coding.now → times ≡ times_of_unit es packets (begin, end) →
+        MatchResult result (IsNext es packets (option_copied before.entry) (begin, end))
+        (λ fault. (last : Bool) → IsUnitRefused es packets (option_copied before.entry) (begin, end) last fault) }
+{
+    if is_unpaired(before, coding) {
+        return Err(ProgramFault::Refused {
+            kind: SourceKind::FieldPair,
+            at: begin,
+        });
+    }
+    if end - begin > UNIT_BYTES_MOST {
+        return Err(ProgramFault::Refused {
+            kind: SourceKind::ProgramLimit,
+            at: 0,
+        });
+    }
+    let Some(time) = time_of(before, times) else {
+        return Err(ProgramFault::Refused {
+            kind: SourceKind::NoTime,
+            at: begin,
+        });
+    };
+    if !is_later(before, &time) {
+        return Err(ProgramFault::Refused {
+            kind: SourceKind::TimeOrder,
+            at: begin,
+        });
+    }
+    Ok(TimedPicture {
+        seq: *seq,
+        coding: *coding,
+        role: role_of(before, coding),
+        times,
+        stated: time.stated,
+        ticks: time.ticks,
+    })
+}
+
+/// True where a first field isn't completed: behind it stands a frame, or a field of the same parity.
+fn is_unpaired(before: Option<&TimedPicture>, coding: &PicCoding) -> bool
+    ensures yes { result ≡ true → IsUnpaired (option_copied before.entry) coding.now }
+    ensures no { result ≡ false → IsUnpaired (option_copied before.entry) coding.now → ⊥ }
+{
+    match before {
+        Some(before) => {
+            before.role == Role::FirstField
+                && (is_frame(coding) || coding.structure == before.coding.structure)
+        }
+        None => false,
+    }
+}
+
+/// True for a frame picture.
+fn is_frame(coding: &PicCoding) -> bool
+    ensures { result ≡ is_frame coding.now }
+{
+    coding.structure == FRAME_PICTURE
+}
+
+/// What a picture so coded is behind the one before.
+fn role_of(before: Option<&TimedPicture>, coding: &PicCoding) -> Role
+    ensures { result ≡ role_of (option_copied before.entry) coding.now }
+{
+    if is_frame(coding) {
+        return Role::Frame;
+    }
+    match before {
+        Some(before) => field_behind(before.role),
+        None => Role::FirstField,
+    }
+}
+
+/// What a field picture is behind another picture.
+fn field_behind(before: Role) -> Role
+    ensures { result ≡ role_behind false (Some before) }
+{
+    match before {
+        Role::FirstField => Role::SecondField,
+        Role::SecondField => Role::FirstField,
+        Role::Frame => Role::FirstField,
+    }
+}
+
+/// The time of a picture with these times behind the one before, if it has one.
+fn time_of(before: Option<&TimedPicture>, times: Times) -> Option<PictureTime>
+    requires times { IfSome (decoding_time times) (λ time. time < 2 ^ 33) }
+    requires before { IfSome (option_copied before) IsPossible }
+    ensures { MatchOption result (HasNoTime (option_copied before.entry) (decoding_time times)) (λ time. IsTimed (option_copied before.entry) (decoding_time times) time.stated time.ticks) }
+{
+    match before {
+        Some(before) => time_behind(before, decoding_time(times)),
+        None => first_time(decoding_time(times)),
+    }
+}
+
+/// The time of the first picture.
+fn first_time(decoding: Option<u64>) -> Option<PictureTime>
+    requires { IfSome decoding (λ time. time < 2 ^ 33) }
+    ensures { MatchOption result (HasNoTime None decoding) (λ time. IsTimed None decoding time.stated time.ticks) }
+{
+    let value = decoding?;
+    let stated = value as i64;
+    Some(PictureTime {
+        stated,
+        ticks: TICKS_PER_TIME_UNIT as i64 * stated,
+    })
+}
+
+/// The time of a picture behind another one.
+fn time_behind(before: &TimedPicture, decoding: Option<u64>) -> Option<PictureTime>
+    requires times { IfSome decoding (λ time. time < 2 ^ 33) }
+    requires before { IsPossible before.now }
+    ensures { MatchOption result (HasNoTime (Some before.now) decoding) (λ time. IsTimed (Some before.now) decoding time.stated time.ticks) }
+{
+    let Some(value) = decoding else {
+        return time_untold(before);
+    };
+    let stated = unwrap_time(before.stated, value);
+    Some(PictureTime {
+        stated,
+        ticks: TICKS_PER_TIME_UNIT as i64 * stated,
+    })
+}
+
+/// The time of a picture that states none, behind one that repeats no field.
+fn time_untold(before: &TimedPicture) -> Option<PictureTime>
+    requires { IsPossible before.now }
+    ensures { MatchOption result (HasNoTime (Some before.now) None) (λ time. IsTimed (Some before.now) None time.stated time.ticks) }
+{
+    if before.coding.repeat_first_field {
+        return None;
+    }
+    Some(PictureTime {
+        stated: before.stated,
+        ticks: before.ticks + i64::from(ticks_behind(before)),
+    })
+}
+
+/// Ticks up to the next picture where that states no time.
+fn ticks_behind(before: &TimedPicture) -> u32
+    requires { (1 ≤ before.now.seq.rate_code) × (before.now.seq.rate_code ≤ 5) }
+    ensures value { result ≡ ticks_behind before.now }
+    ensures most { result ≤ 1126125 }
+{
+    let period = frame_period(before.seq.rate_code);
+    match before.role {
+        Role::Frame => period,
+        Role::FirstField => period / 2,
+        Role::SecondField => period - period / 2,
+    }
+}
+
+/// Ticks of a frame period.
+fn frame_period(rate_code: u8) -> u32
+    requires { (1 ≤ rate_code) × (rate_code ≤ 5) }
+    ensures value { result ≡ frame_period rate_code }
+    ensures most { result ≤ 1126125 }
+{
+    FRAME_PERIODS[rate_code as usize - 1]
+}
+
+/// The DTS, or the PTS where none stands.
+pub fn decoding_time(times: Times) -> Option<u64>
+    ensures { result ≡ decoding_time times }
+{
+    match times.dts {
+        Some(dts) => Some(dts),
+        None => times.pts,
+    }
+}
+
+/// True where a time is later than that of the picture before.
+fn is_later(before: Option<&TimedPicture>, time: &PictureTime) -> bool
+    ensures yes { result ≡ true → IsLater (option_copied before.entry) time.now.ticks }
+    ensures no { result ≡ false → IsLater (option_copied before.entry) time.now.ticks → ⊥ }
+{
+    match before {
+        Some(before) => time.ticks > before.ticks,
+        None => true,
+    }
+}
