@@ -10,6 +10,7 @@ mod draws;
 mod format;
 mod frames;
 mod heads;
+pub mod laws;
 mod macroblocks;
 mod output;
 mod pictures;
