@@ -1,5 +1,5 @@
 -- Worked examples, computed from the definitions. The values are those of another program, which shares nothing with this crate.
-use Rattle.std.proofs.Common.{◌≡◌, ◌^◌, [], ◌∷◌, take, drop, true, false, refl}
+use Rattle.std.proofs.Common.{◌≡◌, ◌^◌, [], ◌∷◌, ◌++◌, take, drop, true, false, refl}
 use Rattle.prefix_codes.specs.Entry.{printed_bits}
 use Rattle.picture_grammar.specs.Written.{written_macroblock}
 use Rattle.picture_laws.proofs.Computing.{answers}
@@ -22,7 +22,8 @@ second_draw = refl
 
 -- the first one of seed 1, in an I-picture
 first_macroblock : written_macroblock (coding_of false) (drawn_macroblock false 1).0
-    ≡ printed_bits "1 1 100 0001100 00000000101001 0000000101000 10 100 0110 001001011 0111 000001 000011 111111111011 10 100 0001101 00000000100111 10 100 001001101 0110 001001011 001001101 10 00 110 00000000100110 10 00 00001101 10"
+    ≡ printed_bits "1 1 100 0001100 00000000101001 0000000101000 10 100 0110 001001011 0111 000001 000011 111111111011"
+    ++ printed_bits "10 100 0001101 00000000100111 10 100 001001101 0110 001001011 001001101 10 00 110 00000000100110 10 00 00001101 10"
 unfolding answers written_macroblock state_after pick run_level coded_block block_at drawn_kind quantiser_code coded_pattern drawn_macroblock
 first_macroblock = refl
 

@@ -1,5 +1,39 @@
 -- Where frames stand among the pictures.
-use Rattle.std.proofs.Common.{◌≡◌, ◌⊎◌, ◌+◌, ◌-◌, ◌*◌, ◌/◌, ◌<◌, ◌≤◌, nat_le, nat_lt, min, ℕ, zero, suc, Bool, true, false, cond, List, [], ◌∷◌, ◌++◌, length, slice_index_or, refl, sym, ap, ◌∙◌, inl, inr, append_assoc, append-nil, arith}
+use Rattle.std.proofs.Common.{
+  ◌≡◌,
+  ◌⊎◌,
+  ◌+◌,
+  ◌-◌,
+  ◌*◌,
+  ◌/◌,
+  ◌<◌,
+  ◌≤◌,
+  nat_le,
+  nat_lt,
+  min,
+  ℕ,
+  zero,
+  suc,
+  Bool,
+  true,
+  false,
+  cond,
+  List,
+  [],
+  ◌∷◌,
+  ◌++◌,
+  length,
+  slice_index_or,
+  refl,
+  sym,
+  ap,
+  ◌∙◌,
+  inl,
+  inr,
+  append_assoc,
+  append-nil,
+  arith,
+}
 use Rattle.std.specs.List.{filter, flat_map, range_with_len}
 use Rattle.std.proofs.lemmas.Bool.{and_from, and_left, and_right, cases_lt, le-leb, lt-ltb, lt-leb, le-ltb}
 use Rattle.std.proofs.lemmas.List.Elements.{filter-append}
@@ -44,10 +78,14 @@ module _ (test : ℕ → Bool) (low high : ℕ) (yes : (j : ℕ) → low ≤ j �
       let at : n ≡ low + (n - low) = omega (arith, least) in
       ap (λ k. range_with_len low k ++ n ∷ []) now ∙ ap (λ x. range_with_len low (n - low) ++ x ∷ []) at ∙ sym (ap (range_with_len low) next ∙ range-last low (n - low))
 
+  same-number : (n : ℕ) → (n < low) ⊎ (high ≤ n) → min high n - low ≡ min high (suc n) - low
+  same-number n (inl below) = omega (arith, below)
+  same-number n (inr above) = omega (arith, above)
+
   one-out : (n : ℕ) → (n < low) ⊎ (high ≤ n) → range_with_len low (min high n - low) ++ [] ≡ range_with_len low (min high (suc n) - low)
   one-out n out =
       append-nil (range_with_len low (min high n - low))
-      ∙ ap (range_with_len low) (elim out [ inl below ↦ (let e : min high n - low ≡ min high (suc n) - low = omega (arith, below) in e) | inr above ↦ (let e : min high n - low ≡ min high (suc n) - low = omega (arith, above) in e) ])
+      ∙ ap (range_with_len low) (same-number n out)
 
   one-more : (n : ℕ) → range_with_len low (min high n - low) ++ cond (test n) (n ∷ []) [] ≡ range_with_len low (min high (suc n) - low)
   one-more n = elim (cases_lt n low) [

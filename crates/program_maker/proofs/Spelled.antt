@@ -1,5 +1,45 @@
 -- Each macroblock that is drawn is one that some bits spell.
-use Rattle.std.proofs.Common.{◌≡◌, ◌⊎◌, ◌+◌, ◌*◌, ◌/◌, ◌<◌, ◌≤◌, ◌^◌, ◌==◌, ◌&&◌, ◌||◌, ℕ, zero, suc, unsigned_abs, nat_lt, not, is_some, Option, Some, None, List, [], ◌∷◌, ◌++◌, length, slice_index_or, Bool, true, false, cond, refl, sym, ap, subst, ◌∙◌, inl, inr, arith}
+use Rattle.std.proofs.Common.{
+  ◌≡◌,
+  ◌⊎◌,
+  ◌+◌,
+  ◌*◌,
+  ◌/◌,
+  ◌<◌,
+  ◌≤◌,
+  ◌^◌,
+  ◌==◌,
+  ◌&&◌,
+  ◌||◌,
+  ℕ,
+  zero,
+  suc,
+  unsigned_abs,
+  nat_lt,
+  not,
+  is_some,
+  Option,
+  Some,
+  None,
+  List,
+  [],
+  ◌∷◌,
+  ◌++◌,
+  length,
+  slice_index_or,
+  Bool,
+  true,
+  false,
+  cond,
+  refl,
+  sym,
+  ap,
+  subst,
+  ◌∙◌,
+  inl,
+  inr,
+  arith,
+}
 use Rattle.std.specs.List.{AllByRecursion, list_all, range_with_len, sum_by}
 use Rattle.std.proofs.lemmas.Nat.{mod_below}
 use Rattle.std.proofs.lemmas.Bool.{and_parts, cases_lt, le-leb, ne_eqb}
@@ -16,7 +56,23 @@ use Rattle.picture_grammar.specs.Grammar.{optional, when}
 use Rattle.picture_grammar.specs.Element.{vlclbf}
 use Rattle.picture_grammar.specs.Block.{dc_coefficient, first_place, signed}
 use Rattle.picture_grammar.specs.Motion.{motion_vectors}
-use Rattle.picture_grammar.specs.Macroblock.{address_increment, most_increment, macroblock_type, motion_type, dct_type, quantiser_scale_code, has_forward, f_codes, motion_format, block_way, is_coded, no_block, macroblock, type_table, type_symbol}
+use Rattle.picture_grammar.specs.Macroblock.{
+  address_increment,
+  most_increment,
+  macroblock_type,
+  motion_type,
+  dct_type,
+  quantiser_scale_code,
+  has_forward,
+  f_codes,
+  motion_format,
+  block_way,
+  is_coded,
+  no_block,
+  macroblock,
+  type_table,
+  type_symbol,
+}
 use Rattle.picture_grammar.specs.Written.{written_macroblock}
 use Rattle.picture_grammar.proofs.WrittenBlock.{unsigned_abs-signed}
 use Rattle.picture_laws.specs.Spellable.{IsSpellable, HasSpellableCoefficients, IsSpellableBlock, AreSpellableBlocks, HasSpellableParts}
@@ -27,7 +83,22 @@ use Rattle.picture_laws.proofs.WrittenBlocks.{of_blocks}
 use Rattle.picture_laws.proofs.WrittenMacroblock.{anywhere-macroblock}
 use Rattle.program_maker.specs.Draws.{Drawn, state_after, pick, each}
 use Rattle.program_maker.specs.Heads.{coding_of}
-use Rattle.program_maker.specs.Macroblocks.{run_level, number_of_pairs, coded_block, block_at, intra_kind, predicted, drawn_kind, code_by_chance, quantiser_code, coded_pattern, drawn_blocks, still, macroblock_of, drawn_macroblock}
+use Rattle.program_maker.specs.Macroblocks.{
+  run_level,
+  number_of_pairs,
+  coded_block,
+  block_at,
+  intra_kind,
+  predicted,
+  drawn_kind,
+  code_by_chance,
+  quantiser_code,
+  coded_pattern,
+  drawn_blocks,
+  still,
+  macroblock_of,
+  drawn_macroblock,
+}
 use Rattle.program_maker.proofs.Drawing.{number-each}
 
 -- ---- numbers that are drawn
@@ -86,8 +157,12 @@ some-pairs false state = inr (omega arith)
 dc-spelled : (intra luma : Bool) → IsSpellable (optional intra (dc_coefficient (record { intra = intra; luma = luma; vlc_one = false })))
     (cond intra (Some (record { size = 0; bits = 0 })) None)
 unfolding answers
-dc-spelled true true = spellable _ _ (1 ∷ 0 ∷ 0 ∷ []) [] (record { size = 0; bits = 0 }, [], (said (decided-dc (record { intra = true; luma = true; vlc_one = false })) (1 ∷ 0 ∷ 0 ∷ []) refl).0, (refl, refl))
-dc-spelled true false = spellable _ _ (0 ∷ 0 ∷ []) [] (record { size = 0; bits = 0 }, [], (said (decided-dc (record { intra = true; luma = false; vlc_one = false })) (0 ∷ 0 ∷ []) refl).0, (refl, refl))
+dc-spelled true true =
+    let bits : List ℕ = 1 ∷ 0 ∷ 0 ∷ [] in
+    spellable _ _ bits [] (record { size = 0; bits = 0 }, [], (said (decided-dc (record { intra = true; luma = true; vlc_one = false })) bits refl).0, (refl, refl))
+dc-spelled true false =
+    let bits : List ℕ = 0 ∷ 0 ∷ [] in
+    spellable _ _ bits [] (record { size = 0; bits = 0 }, [], (said (decided-dc (record { intra = true; luma = false; vlc_one = false })) bits refl).0, (refl, refl))
 dc-spelled false luma = spellable _ _ [] [] (refl, refl)
 
 first-most : (intra luma : Bool) → first_place (record { intra = intra; luma = luma; vlc_one = false }) ≤ 1
@@ -265,7 +340,9 @@ predicted-front forward pattern code kind_is code_is = record {
   motion_type_is = motion-usual forward;
   field_dct_is = spellable _ _ [] [] (refl, refl);
   code_is = code_is;
-  forward_is = subst (λ (stands : Bool). IsSpellable (when stands (motion_vectors (f_codes (coding_of true) 0) (motion_format (coding_of true) 2)) []) (cond forward (still ∷ []) [])) (sym (or-false forward)) (vectors-front forward);
+  forward_is =
+      subst (λ (stands : Bool). IsSpellable (when stands (motion_vectors (f_codes (coding_of true) 0) (motion_format (coding_of true) 2)) []) (cond forward (still ∷ []) []))
+      (sym (or-false forward)) (vectors-front forward);
   backward_is = spellable _ _ [] [] (refl, refl);
 }
 

@@ -10,7 +10,7 @@ use list_types::OutOfMemory;
 use pes_units::{MOST_HEADER_BYTES, Times, write_video_header};
 
 /// Bytes of a frame's PES header: nine, and five of its PTS.
-const FRAME_HEADER_BYTES: usize = 14;
+const FRAME_PES_HEADER_BYTES: usize = 14;
 
 /// The header of each audio frame.
 const FRAME_HEADER: [u8; 4] = [0xFF, 0xFD, 0xA4, 0x00];
@@ -58,7 +58,7 @@ fn put_drawn_bytes(pes: &mut Vec<u8>, draws: &mut Draws) -> Result<(), OutOfMemo
 }
 
 // The PES header of frame j, with its PTS where a video packet's header has one.
-fn frame_header(j: u32) -> [u8; FRAME_HEADER_BYTES]
+fn frame_header(j: u32) -> [u8; FRAME_PES_HEADER_BYTES]
     requires { j < FRAMES_MOST }
     ensures { result ≡ header_of_frame j }
 {

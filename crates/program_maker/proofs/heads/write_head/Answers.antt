@@ -13,4 +13,5 @@ pub returns-else-reference-eq0 : goal.returns-else-reference-eq0
 returns-else-reference-eq0 g c =
     let told = g.K.Sink.written c.args.to.now in
     let call = c.put_all-else-reference-eq0 in
-    on_ok_weaker call.result (λ (e : g.K.Sink.written call.new.sink ≡ with_bytes told c.p_head.result). e ∙ ap (with_bytes told) (c.p_head.ensures ∙ later-head c.args.k c.if-reference-eq0.false)) call.ensures.ok
+    on_ok_weaker call.result (λ (e : g.K.Sink.written call.new.sink ≡ with_bytes told c.p_head.result).
+    e ∙ ap (with_bytes told) (c.p_head.ensures ∙ later-head c.args.k c.if-reference-eq0.false)) call.ensures.ok

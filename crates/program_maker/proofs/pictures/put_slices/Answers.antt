@@ -14,7 +14,8 @@ loop-row-preserved g c =
     let row = c.loop-row.row in
     let start = c.args.draws.now.state in
     let written = written_whole_slice (coding_of p) in (
-      goes-as (goes-then c.loop-row.invariant.0 (goes-as c.in_ok-put_slice.ensures.written (ap (λ s. written (drawn_slice p row s).0) c.loop-row.invariant.1))) (bits-more (drawn_slice p) written row start),
+      goes-as (goes-then c.loop-row.invariant.0 (goes-as c.in_ok-put_slice.ensures.written (ap (λ s. written (drawn_slice p row s).0) c.loop-row.invariant.1)))
+          (bits-more (drawn_slice p) written row start),
       c.in_ok-put_slice.ensures.state ∙ ap (λ s. (drawn_slice p row s).1) c.loop-row.invariant.1 ∙ sym (state-more (drawn_slice p) row start),
       c.in_ok-put_slice.ensures.whole,
     )
