@@ -29,7 +29,7 @@ pub coded_of : (es : List ℕ) (before : Option TimedPicture) (state : Option Se
     SpellsHeaders state (unit_bytes es unit) headers → IsCoded es before unit headers.seq headers.coding
 coded_of es before state unit headers is found =
     let spelled : SpellsHeaders (state_behind before) (unit_bytes es unit) headers = subst (λ (s : Option SeqState). SpellsHeaders s (unit_bytes es unit) headers) is found in
-    record { picture = spelled.picture; spelled = spelled.whole.spelled; covered = spelled.whole.covered; seq_is = spelled.headed.seq; coding_is = spelled.headed.coding }
+    record { picture = spelled.picture; whole = spelled.whole; seq_is = spelled.headed.seq; coding_is = spelled.headed.coding }
 
 -- what a unit that is refused is answered by
 pub broken_is : (es : List ℕ) (packets : List PlacedPacket) (before : Option TimedPicture) (unit : TimedUnit) (told : Option PlacedRefusal) →

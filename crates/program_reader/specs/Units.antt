@@ -9,8 +9,9 @@ use Rattle.syntax_types.specs.declared.picture.Picture.{Picture}
 use Rattle.syntax_types.specs.declared.picture.SeqState.{SeqState}
 use Rattle.pes_units.specs.TimeAxis.{IsUnwrapped}
 use Rattle.picture_grammar.specs.Macroblock.{is_frame}
-use Rattle.picture_grammar.specs.Picture.{SpellsPicture, RefusesPicture, IsCovered}
+use Rattle.picture_grammar.specs.Picture.{RefusesPicture}
 use Rattle.picture_grammar.specs.Refusal.{Refusal}
+use Rattle.picture_reader.specs.Picture.{IsPictureOf}
 use Rattle.program_reader.specs.declared.limits.TheConstants.{UNIT_BYTES_MOST}
 use Rattle.program_reader.specs.declared.pes_packets.PlacedPacket.{PlacedPacket}
 use Rattle.program_reader.specs.declared.program_fault.ProgramFault.{ProgramFault}
@@ -40,8 +41,7 @@ state_behind before = option_map (λ picture. picture.seq) before
 -- the unit is a coded picture behind the one before, with this state in force and so coded
 pub record IsCoded (es : List ℕ) (before : Option TimedPicture) (unit : ℕ × ℕ) (seq : SeqState) (coding : PicCoding) : Type 0 where
   pub picture : Picture
-  pub spelled : SpellsPicture (state_behind before) picture (unit_bytes es unit)
-  pub covered : IsCovered picture
+  pub whole : IsPictureOf (state_behind before) (unit_bytes es unit) picture
   pub seq_is : picture.seq ≡ seq
   pub coding_is : picture.coding ≡ coding
 
