@@ -9,6 +9,7 @@ use Rattle.psi_tables.specs.Section.{IsWithCrc}
 use Rattle.psi_tables.specs.Pat.{IsPat, map_pid, written_pat}
 use Rattle.psi_tables.specs.Streams.{StreamInfo}
 use Rattle.psi_tables.specs.Pmt.{IsPmt, written_pmt}
+use Rattle.psi_tables.specs.PmtOf.{pmt_of}
 
 -- ---- the CRC of an ASCII text
 
@@ -138,3 +139,25 @@ other_pmt-read = record {
     dropped_are = refl;
   };
 }
+
+-- ---- both by the function; and a section in which a descriptor has no room, a section that isn't current, and a PAT section
+
+pmt-by_function : pmt_of (pmt_front ++ (0x4E ∷ 0x4E ∷ 0xFA ∷ 0x05 ∷ [])) ≡ Some pmt_map
+unfolding bit bits
+pmt-by_function = refl
+
+other-by_function : pmt_of other_pmt ≡ Some other_map
+unfolding bit bits
+other-by_function = refl
+
+without_room : pmt_of (take 14 other_pmt ++ 0x05 ∷ 0x02 ∷ drop 16 other_pmt) ≡ None
+unfolding bit bits
+without_room = refl
+
+not_current : pmt_of (take 5 other_pmt ++ 0x0A ∷ drop 6 other_pmt) ≡ None
+unfolding bit bits
+not_current = refl
+
+pat-by_function : pmt_of pat_bytes ≡ None
+unfolding bit bits
+pat-by_function = refl

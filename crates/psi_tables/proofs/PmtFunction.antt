@@ -1,5 +1,40 @@
 -- The function of a PMT section and the relation say the same.
-use Rattle.std.proofs.Common.{◌≡◌, ℕ, zero, suc, ◌+◌, ◌<◌, ◌≤◌, ◌==◌, ◌&&◌, Bool, true, false, cond, List, [], ◌∷◌, ◌++◌, All, length, get_or, take, drop, map, Option, Some, None, refl, sym, ap, ap₂, subst, ◌∙◌, arith, length-append, length-drop}
+use Rattle.std.proofs.Common.{
+  ◌≡◌,
+  ℕ,
+  zero,
+  suc,
+  ◌+◌,
+  ◌<◌,
+  ◌≤◌,
+  ◌==◌,
+  ◌&&◌,
+  Bool,
+  true,
+  false,
+  cond,
+  List,
+  [],
+  ◌∷◌,
+  ◌++◌,
+  All,
+  length,
+  get_or,
+  take,
+  drop,
+  map,
+  Option,
+  Some,
+  None,
+  refl,
+  sym,
+  ap,
+  ap₂,
+  subst,
+  ◌∙◌,
+  arith,
+  length-append,
+}
 use Rattle.std.specs.Prelude.{nat_le, nat_lt, option_and_then}
 use Rattle.std.specs.List.{list_all}
 use Rattle.std.specs.Option.{option_map}
@@ -11,8 +46,8 @@ use Rattle.psi_tables.specs.declared.program_map.ProgramMap.{ProgramMap}
 use Rattle.psi_tables.specs.declared.section.TheConstants.{SECTION_LENGTH_LEAST}
 use Rattle.psi_tables.specs.declared.stream.Stream.{Stream}
 use Rattle.psi_tables.specs.declared.stream.TheConstants.{DESCRIPTOR_BYTES, STREAMS_MOST}
-use Rattle.psi_tables.specs.Section.{IsItemRow, table_id, section_length, table_id_extension, current_next_indicator, content}
-use Rattle.psi_tables.specs.Descriptors.{descriptor_length, IsDescriptor}
+use Rattle.psi_tables.specs.Section.{IsItemRow, table_id, section_length, current_next_indicator, content}
+use Rattle.psi_tables.specs.Descriptors.{IsDescriptor}
 use Rattle.psi_tables.specs.Streams.{StreamInfo, ES_info_length, IsStreamInfo, stream_of}
 use Rattle.psi_tables.specs.Pmt.{program_info_length, IsMapContent, IsPmt, HasRoom}
 use Rattle.psi_tables.specs.PmtOf.{items_in, descriptor_size, descriptors_in, info_size, info_with, infos_in, has_room, is_pmt, program_with, pmt_of}
