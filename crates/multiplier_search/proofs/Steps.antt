@@ -1,42 +1,24 @@
 -- Windows with one changed or one added, as a search gives them.
-use Rattle.std.proofs.Common.{
-  ◌≡◌,
-  ◌≢◌,
-  ℕ,
-  suc,
-  ◌+◌,
-  ◌-◌,
-  ◌<◌,
-  ◌≤◌,
-  ◌⊎◌,
-  List,
-  [],
-  ◌∷◌,
-  ◌++◌,
-  length,
-  map,
-  take,
-  drop,
-  get_or,
-  set,
-  Option,
-  Some,
-  slice_get,
-  refl,
-  sym,
-  ap,
-  subst,
-  ◌∙◌,
-  inl,
-  inr,
-  arith,
-  ℤ,
-  ◌≤ℤ◌,
-}
-use Rattle.std.specs.List.{All, Contains, flat_map, insert}
+use Rattle.std.proofs.Common.{◌≡◌, ◌≢◌, ℕ, ◌+◌, ◌-◌, ◌<◌, ◌≤◌, List, [], ◌∷◌, ◌++◌, length, map, take, drop, get_or, set, Option, Some, slice_get, refl, sym, ap, subst, ◌∙◌, inl, inr, arith, ◌≤ℤ◌}
+use Rattle.std.specs.List.{flat_map, insert}
 use Rattle.std.proofs.lemmas.Bool.{cases_eq, cases_lt}
 use Rattle.std.proofs.lemmas.Int.{ints}
-use Rattle.std.proofs.lemmas.List.{get_or-set_other, get_or-set_same, flat_map_more, get_or-map, length-map, get_or_default, get_or_read, length-set, length-take-le, map-append, map_more, set_at, take-append-drop, take_more}
+use Rattle.std.proofs.lemmas.List.{
+  flat_map_more,
+  get_or-map,
+  get_or-set_other,
+  get_or-set_same,
+  get_or_default,
+  get_or_read,
+  length-map,
+  length-set,
+  length-take-le,
+  map-append,
+  map_more,
+  set_at,
+  take-append-drop,
+  take_more,
+}
 use Rattle.std.proofs.lemmas.List.Edits.{get_or-insert_above, get_or-insert_at, get_or-insert_below, length-insert}
 use Rattle.std.proofs.lemmas.List.Elements.{All-append, All-cons, All-drop, All-map, All-set, All-take, Contains-append_cases}
 use Rattle.std.proofs.lemmas.Option.{get_or_from_slice_get, slice_get_within}
@@ -263,7 +245,8 @@ module _ (start added : List Window) (place due lambda : ℕ) (w : Window) (sear
       let size : length wider ≡ length start + 1 = length-insert start place w at.within in
       let within : place < length wider = omega (arith, at.within) in
       let tried : Window = record { from = 0; due = due; lambda = l } in
-      let le : value_of_windows table fixed (set wider place tried) ≤ℤ value_of_windows table fixed (set wider place own) = greatest-with table fixed wider place 0 due within lambda l rises ends most in
+      let le : value_of_windows table fixed (set wider place tried) ≤ℤ value_of_windows table fixed (set wider place own) =
+      greatest-with table fixed wider place 0 due within lambda l rises ends most in
       let moved : value_of_windows table fixed (set wider place tried) ≡ value_of_windows table fixed (tried ∷ start) =
       ap (value_of_windows table fixed) (set-insert start place w tried at.within) ∙ insert-value table fixed start place tried in
       let second : value_of_windows table fixed (set wider place own) ≤ℤ value_of_windows table fixed best' =

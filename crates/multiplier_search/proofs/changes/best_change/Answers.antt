@@ -1,4 +1,4 @@
-use Rattle.std.proofs.Common.{List, subst, sym, arith}
+use Rattle.std.proofs.Common.{arith}
 use Rattle.std.proofs.lemmas.Int.{ints}
 use Rattle.multiplier_search.proofs.Steps.{changed-next, changes-more, greater-next}
 use Rattle.multiplier_search.proofs.changes.best_change.Goals as goal
