@@ -37,28 +37,6 @@ pub fn draw_macroblock(draws: &mut Draws, predicted: bool, into: &mut Macroblock
     into.pattern = pattern;
 }
 
-/// A macroblock to be lent: one with nothing in it.
-pub fn empty_macroblock() -> Macroblock {
-    Macroblock {
-        skipped_before: 0,
-        kind: intra(),
-        motion_type: FRAME_BASED,
-        field_dct: false,
-        code: None,
-        forward: ArrayVec::new(),
-        backward: ArrayVec::new(),
-        pattern: 0,
-        blocks: [
-            Block::default(),
-            Block::default(),
-            Block::default(),
-            Block::default(),
-            Block::default(),
-            Block::default(),
-        ],
-    }
-}
-
 // The flags of an intra macroblock.
 fn intra() -> Kind
     ensures { result ≡ intra_kind }

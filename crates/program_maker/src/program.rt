@@ -17,13 +17,13 @@ use crate::format::{
     VIDEO_PID, VIDEO_TYPE,
 };
 use crate::frames::{make_frame_pes, make_picture_pes};
-use crate::macroblocks::empty_macroblock;
 use crate::output::{Carried, Output};
 use crate::pictures::make_picture;
 use arrayvec::ArrayVec;
 use list_types::{ListOf, OutOfMemory};
 use psi_tables::{ProgramMap, Section, Stream, write_pat, write_pmt};
 use std::alloc::Global;
+use syntax_types::Macroblock;
 
 /// The program of a seed with so many pictures, at most 4,096: the bytes of a transport stream (ISO/IEC 13818-1, 2.4.3).
 pub fn make_program(alloc: Global, seed: u64, pictures: u32) -> Result<ListOf<u8>, OutOfMemory>
@@ -47,7 +47,7 @@ fn make_pictures(
     ensures written { IfOk result (λ units. AreWritten (drawn_pictures pictures draws.old.state).0 units) }
     ensures state { OnOk result (draws.new.state ≡ (drawn_pictures pictures draws.old.state).1) }
 {
-    let mut lent = empty_macroblock();
+    let mut lent = Macroblock::empty();
     let mut units = ListOf::new(alloc);
     for k in 0..pictures {
         let unit = make_picture(alloc, draws, k, &mut lent)?;
