@@ -1,5 +1,6 @@
 -- Each packet of an output stream can be written, so that it is read as it is.
-use Rattle.std.proofs.Common.{◌≡◌, ℕ, ◌+◌, ◌-◌, ◌*◌, ◌<◌, ◌≤◌, ◌%◌, Bool, true, cond, eqb, inl, inr, lit<, List, [], All, Some, None, length, get_or, map, replicate, refl, sym, ap, subst, ◌∙◌, arith, length-append, append-nil}
+use Rattle.std.proofs.Common.{◌≡◌, ℕ, ◌+◌, ◌-◌, ◌*◌, ◌<◌, ◌≤◌, ◌%◌, Bool, true, cond, eqb, inl, inr, lit<, List, [], All, Some}
+use Rattle.std.proofs.Common.{None, length, get_or, map, replicate, refl, sym, ap, subst, ◌∙◌, arith, length-append, append-nil}
 use Rattle.std.specs.List.{flat_map}
 use Rattle.std.proofs.lemmas.Bool.{cases_eq, ne_eqb}
 use Rattle.payload_lists.specs.Payload.{Payload}
@@ -75,11 +76,13 @@ piece-writable pid counter payload low small size =
     elim (cases_eq (length payload.bytes) 184) [
       | inl full ↦
           let none : piece_record pid counter payload ≡ full_record pid payload.start counter payload.bytes =
-          ap (λ (b : Bool). record { pid = pid; start = payload.start; counter = counter; field = cond b None (Some stuffing_field); payload = payload.bytes }) (same-eqb (length payload.bytes) 184 full) in
+          ap (λ (b : Bool). record { pid = pid; start = payload.start; counter = counter; field = cond b None (Some stuffing_field); payload = payload.bytes })
+          (same-eqb (length payload.bytes) 184 full) in
           subst IsWritable (sym none) (full-writable pid payload.start counter payload.bytes low small full)
       | inr less ↦
           let some : piece_record pid counter payload ≡ stuffed_record pid counter payload =
-          ap (λ (b : Bool). record { pid = pid; start = payload.start; counter = counter; field = cond b None (Some stuffing_field); payload = payload.bytes }) (ne_eqb (length payload.bytes) 184 less) in
+          ap (λ (b : Bool). record { pid = pid; start = payload.start; counter = counter; field = cond b None (Some stuffing_field); payload = payload.bytes })
+          (ne_eqb (length payload.bytes) 184 less) in
           subst IsWritable (sym some) (record { pid = low; counter = small; pcr = tt; payload = omega (arith, size.fits, less) })
     ]
 
