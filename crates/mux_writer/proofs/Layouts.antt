@@ -1,6 +1,6 @@
 -- Layouts, program by program.
-use Rattle.std.proofs.Common.{◌≡◌, ℕ, suc, ◌+◌, ◌^◌, ◌<◌, ◌≤◌, List, [], ◌∷◌, ◌++◌, All, length, map, refl, sym, ap, ap₂, subst, ◌∙◌, arith, inl, inr, length-append}
-use Rattle.std.specs.Prelude.{slice_get, Some, ◌⊎◌}
+use Rattle.std.proofs.Common.{◌≡◌, ℕ, suc, ◌+◌, ◌^◌, ◌<◌, ◌≤◌, List, [], ◌∷◌, ◌++◌, All, length, map, refl, sym, ap, subst, ◌∙◌, arith, inl, inr, length-append}
+use Rattle.std.specs.Prelude.{slice_get, Some}
 use Rattle.std.specs.List.{flat_map, range_with_len}
 use Rattle.std.proofs.lemmas.List.Elements.{All-cons, All-head, All-nil, All-push, All-tail}
 use Rattle.std.proofs.lemmas.Option.{slice_get_within}
@@ -11,7 +11,7 @@ use Rattle.psi_tables.specs.Pmt.{IsWritableMap, pmt_length}
 use Rattle.psi_tables.specs.Streams.{IsStreamWritable, written_stream}
 use Rattle.pcr_writer.specs.declared.pcr.TheConstants.{PCR_MODULUS}
 use Rattle.mux_writer.specs.declared.layout.Layout.{Layout}
-use Rattle.mux_writer.specs.Layout.{video_pid, with_pids_from, with_output_pids, pids_of, IsOutputMap, IsLayout}
+use Rattle.mux_writer.specs.Layout.{video_pid, with_pids_from, with_output_pids, IsOutputMap, IsLayout}
 
 -- ---- a map that goes out
 

@@ -6,3 +6,4 @@ pub mod Counting
 pub mod Fronts
 pub mod Told
 pub mod Layouts
+pub mod Written

@@ -47,7 +47,7 @@ map-counted program program_map few is =
 pub map-of : (layout : Layout) (program : ℕ) (d : ProgramMap) → IsLayout layout → program < length layout.maps.items → IsOutputMap program (get_or layout.maps.items program d)
 map-of layout program d is within = is.maps program (get_or layout.maps.items program d) (slice_get-get_or layout.maps.items program d within)
 
-no_map : ProgramMap
+pub no_map : ProgramMap
 no_map = record { number = 0; pcr_pid = 0; streams = record { items = [] }; dropped = 0 }
 
 pub layout-counted : (layout : Layout) → IsLayout layout → length layout.maps.items ≤ 8 → All (λ (pid : ℕ). pid < PIDS) (stream_pids layout)

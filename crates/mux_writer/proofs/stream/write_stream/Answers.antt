@@ -44,7 +44,8 @@ returns-in_err-put_all-clause-err g c =
     let mid : Told = g.K.Sink.written c.loop-n.to in
     let now : Told = g.K.Sink.written c.put_all.new.sink in
     let within : n < length rows = omega (arith, c.loop-n-test.true, c.requires.slots, ap length c.as_slice-rows.ensures) in
-    let all : All (IsOfLayout c.args.layout.now (g.P.PieceSource.has c.args.pieces.now)) rows = All-same (IsOfLayout c.args.layout.now (g.P.PieceSource.has c.args.pieces.now)) rows c.args.schedule.now.rows c.as_slice-rows.ensures c.requires.rows in
+    let all : All (IsOfLayout c.args.layout.now (g.P.PieceSource.has c.args.pieces.now)) rows =
+    All-same (IsOfLayout c.args.layout.now (g.P.PieceSource.has c.args.pieces.now)) rows c.args.schedule.now.rows c.as_slice-rows.ensures c.requires.rows in
     let made : IfSome (g.P.PieceSource.told c.args.pieces.now) (λ (pieces : Pieces). c.in_ok-packet.packet ≡ written (packet_in c.args.layout.now c.args.slot pieces rows n)) =
     told-packet c.args.layout.now (g.P.PieceSource.has c.args.pieces.now) c.args.slot (g.P.PieceSource.told c.args.pieces.now) rows n c.loop-n.counters c.in_ok-packet.packet
     c.of-prepared.ensures.few c.of-prepared.ensures.counted all within c.loop-n.invariant.counters
@@ -63,7 +64,8 @@ loop-n-preserved g c =
     let within : n < length rows = omega (arith, c.loop-n-test.true, c.requires.slots, ap length c.as_slice-rows.ensures) in
     let rows-more : take (n + 1) rows ≡ take n rows ++ sent ∷ [] = take_more rows n Null within in
     let counters : c.slot_packet.new.counters ≡ counted c.args.layout.now sent c.loop-n.counters = c.in_ok-packet.ensures.counters in
-    let all : All (IsOfLayout c.args.layout.now (g.P.PieceSource.has c.args.pieces.now)) rows = All-same (IsOfLayout c.args.layout.now (g.P.PieceSource.has c.args.pieces.now)) rows c.args.schedule.now.rows c.as_slice-rows.ensures c.requires.rows in
+    let all : All (IsOfLayout c.args.layout.now (g.P.PieceSource.has c.args.pieces.now)) rows =
+    All-same (IsOfLayout c.args.layout.now (g.P.PieceSource.has c.args.pieces.now)) rows c.args.schedule.now.rows c.as_slice-rows.ensures c.requires.rows in
     let made : IfSome (g.P.PieceSource.told c.args.pieces.now) (λ (pieces : Pieces). c.in_ok-packet.packet ≡ written (packet_in c.args.layout.now c.args.slot pieces rows n)) =
     told-packet c.args.layout.now (g.P.PieceSource.has c.args.pieces.now) c.args.slot (g.P.PieceSource.told c.args.pieces.now) rows n c.loop-n.counters c.in_ok-packet.packet
     c.of-prepared.ensures.few c.of-prepared.ensures.counted all within c.loop-n.invariant.counters

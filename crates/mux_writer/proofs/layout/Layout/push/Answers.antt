@@ -1,5 +1,4 @@
-use Rattle.std.proofs.Common.{◌≡◌, ℕ, ◌<◌, length, arith, sym, subst}
-use Rattle.psi_tables.specs.declared.program_map.ProgramMap.{ProgramMap}
+use Rattle.std.proofs.Common.{ℕ, ◌<◌, length, arith, sym, subst}
 use Rattle.mux_writer.specs.Layout.{IsOutputMap, with_output_pids}
 use Rattle.mux_writer.proofs.Layouts.{goes-out, layout-more}
 use Rattle.mux_writer.proofs.layout.Layout.push.Goals as goal
