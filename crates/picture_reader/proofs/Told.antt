@@ -19,7 +19,8 @@ use Rattle.picture_grammar.specs.Picture.{first_column}
 use Rattle.picture_grammar.specs.Slice.{next_macroblock}
 use Rattle.picture_reader.specs.declared.coverage.Span.{Span}
 use Rattle.picture_reader.specs.Coverage.{IsSpan}
-use Rattle.picture_reader.specs.Told.{HasLeft, RefusesTold}
+use Rattle.picture_reader.specs.Told.{RefusesTold}
+use Rattle.picture_reader.specs.Private.Reading.{HasLeft}
 use Rattle.picture_reader.specs.Coverage.{IsSpanSoFar}
 
 module _ {A S : Type 0} {g : Ghosts S} (grammar : Grammar A) (old : BitReader S g) (end : ℕ) (bits : List ℕ) where

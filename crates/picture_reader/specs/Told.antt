@@ -1,18 +1,10 @@
--- What readers have left and what faults tell, where all bits are told.
+-- What faults tell, where all bits are told.
 use Rattle.std.specs.Prelude.{◌≡◌, ◌+◌, ℕ, List, length, Option, Some, IfSome}
-use Rattle.shelf_io.specs.declared.source.Source.{Ghosts}
-use Rattle.bit_cursor.specs.declared.bit_reader.BitReader.{BitReader}
-use Rattle.bit_cursor.specs.BitReader.{bits_left, place}
 use Rattle.picture_grammar.specs.Grammar.{Grammar}
 use Rattle.grammar_reading.specs.BitsRead.{PlacedRefusal}
 use Rattle.shelf_io.specs.declared.fault.Fault.TheVariants as outside
 use Rattle.macroblock_reader.specs.declared.fault.SliceFault.{SliceFault}
 use Rattle.macroblock_reader.specs.declared.fault.SliceFault.TheVariants.{NoCode, TooMany, BadEscape, BadType, BadAddress, BadPattern, End, Outside, OutOfMemory}
-
--- what a reader has left, which is told, up to an end place
-pub record HasLeft {S : Type 0} {g : Ghosts S} (reader : BitReader S g) (end : ℕ) (bits : List ℕ) : Type 0 where
-  pub told : bits_left reader ≡ Some bits
-  pub ends : place reader + length bits ≡ end
 
 -- where a fault tells a refusal, these bits, up to an end place, are refused so
 abbrev pub RefusesTold : {A : Type 0} → Grammar A → Option PlacedRefusal → ℕ → List ℕ → Type 0

@@ -10,7 +10,8 @@ ghost use Rattle.macroblock_reader.specs.SliceFault.{refusal_told};
 ghost use Rattle.picture_reader.specs.declared.keep.Keep.TheVariants.{Tree};
 ghost use Rattle.picture_reader.specs.Told.{IsInside};
 ghost use Rattle.picture_reader.specs.Private.Reading.{AllRead, SliceRead};
-ghost use Rattle.picture_reader.specs.Told.{HasLeft, RefusesTold};
+ghost use Rattle.picture_reader.specs.Told.{RefusesTold};
+ghost use Rattle.picture_reader.specs.Private.Reading.{HasLeft};
 
 use crate::coverage::{Span, columns};
 use crate::keep::Keep;

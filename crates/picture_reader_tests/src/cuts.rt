@@ -1,7 +1,7 @@
 //! The same unit cut behind every byte: the refusal is End, at the first bit of the element that is cut; where a start
 //! code must come, at the cut, or at a prefix that is whole. Places were counted by hand.
 
-use crate::fixtures::{Unit, i_unit, refusal};
+use crate::fixtures::{GRAY, Unit, i_unit, refusal};
 use picture_reader::PictureFault;
 
 /// The place of the cut element, for cuts behind 0, 1, 2 .. bytes.
@@ -21,7 +21,7 @@ const PLACES: [u64; 48] = [
 
 #[test]
 fn a_unit_that_is_cut_ends_at_the_cut_element(rt: HostRuntime) {
-    let whole = i_unit("00001 0 1 1 100 10 100 10 100 10 100 10 00 10 00 10");
+    let whole = i_unit(GRAY);
     assert!(rt; whole.len() == 48);
     for (count, at) in PLACES.iter().enumerate() {
         let mut cut = Unit::new();

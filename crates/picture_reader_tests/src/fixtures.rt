@@ -9,13 +9,19 @@ use syntax_types::Picture;
 pub type Unit = ArrayVec<u8, 128>;
 
 /// A sequence header of 16 columns and 16 rows, 25 pictures a second, a buffer of 112 units: 12 bytes.
-pub const SEQUENCE_16: &[u8] = &[0, 0, 1, 0xB3, 0x01, 0x00, 0x10, 0x13, 0x24, 0x9F, 0x23, 0x80];
+pub const SEQUENCE_16: &[u8] = &[
+    0, 0, 1, 0xB3, 0x01, 0x00, 0x10, 0x13, 0x24, 0x9F, 0x23, 0x80,
+];
 
 /// The same of 32 columns.
-pub const SEQUENCE_32: &[u8] = &[0, 0, 1, 0xB3, 0x02, 0x00, 0x10, 0x13, 0x24, 0x9F, 0x23, 0x80];
+pub const SEQUENCE_32: &[u8] = &[
+    0, 0, 1, 0xB3, 0x02, 0x00, 0x10, 0x13, 0x24, 0x9F, 0x23, 0x80,
+];
 
 /// The same of 48 columns.
-pub const SEQUENCE_48: &[u8] = &[0, 0, 1, 0xB3, 0x03, 0x00, 0x10, 0x13, 0x24, 0x9F, 0x23, 0x80];
+pub const SEQUENCE_48: &[u8] = &[
+    0, 0, 1, 0xB3, 0x03, 0x00, 0x10, 0x13, 0x24, 0x9F, 0x23, 0x80,
+];
 
 /// The extension of a progressive sequence: 10 bytes.
 pub const PROGRESSIVE: &[u8] = &[0, 0, 1, 0xB5, 0x14, 0x8A, 0x00, 0x01, 0x00, 0x00];
@@ -43,8 +49,9 @@ pub const P_FIELD: &[u8] = &[
     0, 0, 1, 0, 0x00, 0x17, 0xFF, 0xFB, 0x80, 0, 0, 1, 0xB5, 0x81, 0x1F, 0xF1, 0x00, 0x00,
 ];
 
-/// An intra macroblock whose blocks are flat: address, type, four blocks of luminance, two of chrominance. 30 bits.
-pub const GRAY: &str = "1 1 100 10 100 10 100 10 100 10 00 10 00 10";
+/// A slice of one intra macroblock whose blocks are flat: quantiser code 1 and no information; address, type, four blocks of
+/// luminance, two of chrominance. 36 bits.
+pub const GRAY: &str = "00001 0 1 1 100 10 100 10 100 10 100 10 00 10 00 10";
 
 /// A unit with these parts of a head.
 pub fn head_of(parts: &[&[u8]]) -> Unit {
@@ -55,33 +62,39 @@ pub fn head_of(parts: &[&[u8]]) -> Unit {
     unit
 }
 
-/// Puts a slice of this row behind a unit: its start code, the printed bits, and zero bits to a whole byte.
-pub fn put_slice(unit: &mut Unit, row: u8, printed: &[&str]) {
-    let _ = unit.try_extend_from_slice(&[0, 0, 1, row.saturating_add(1)]);
-    let mut byte = 0u8;
-    let mut held = 0u32;
-    for part in printed {
-        for c in part.bytes() {
-            if c != b' ' {
-                byte = byte.wrapping_mul(2).wrapping_add(u8::from(c == b'1'));
-                held = held.wrapping_add(1) % 8;
-                if held == 0 {
-                    let _ = unit.try_push(byte);
-                }
+/// The bits of a byte that is begun, and how many they are.
+#[derive(Clone, Copy)]
+struct Begun {
+    bits: u8,
+    count: u32,
+}
+
+/// Puts printed bits behind a unit and the byte that is begun there.
+fn put_bits(unit: &mut Unit, begun: Begun, printed: &str) -> Begun {
+    let mut bits = begun.bits;
+    let mut count = begun.count;
+    for c in printed.bytes() {
+        if c != b' ' {
+            bits = bits.wrapping_mul(2).wrapping_add(u8::from(c == b'1'));
+            count = count.wrapping_add(1) % 8;
+            if count == 0 {
+                let _ = unit.try_push(bits);
             }
         }
     }
-    while held != 0 {
-        byte = byte.wrapping_mul(2);
-        held = held.wrapping_add(1) % 8;
-        if held == 0 {
-            let _ = unit.try_push(byte);
-        }
-    }
+    Begun { bits, count }
+}
+
+/// Puts a slice of this row behind a unit: its start code, the printed bits, and zero bits to a whole byte.
+pub fn put_slice(unit: &mut Unit, row: u8, printed: &str) {
+    let _ = unit.try_extend_from_slice(&[0, 0, 1, row.saturating_add(1)]);
+    let begun = put_bits(unit, Begun { bits: 0, count: 0 }, printed);
+    let filled = put_bits(unit, begun, "0000000");
+    let _ = filled;
 }
 
 /// A unit with one slice, of the first row.
-pub fn unit_of(parts: &[&[u8]], printed: &[&str]) -> Unit {
+pub fn unit_of(parts: &[&[u8]], printed: &str) -> Unit {
     let mut unit = head_of(parts);
     put_slice(&mut unit, 0, printed);
     unit
@@ -89,7 +102,7 @@ pub fn unit_of(parts: &[&[u8]], printed: &[&str]) -> Unit {
 
 /// An I-picture of 16 x 16, whose head has 39 bytes.
 pub fn i_unit(printed: &str) -> Unit {
-    unit_of(&[SEQUENCE_16, PROGRESSIVE, I_FRAME], &[printed])
+    unit_of(&[SEQUENCE_16, PROGRESSIVE, I_FRAME], printed)
 }
 
 pub fn picture(alloc: Global, unit: &Unit) -> Result<Picture, PictureFault> {

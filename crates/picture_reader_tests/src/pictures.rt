@@ -44,7 +44,7 @@ fn pictures_have_the_macroblocks_that_are_spelled(rt: HostRuntime) {
     let rows: [(&str, Unit, u64, &[Told]); 5] = [
         (
             "an I-picture of 16 x 16",
-            unit_of(&[SEQUENCE_16, PROGRESSIVE, I_FRAME], &["00001 0", GRAY]),
+            unit_of(&[SEQUENCE_16, PROGRESSIVE, I_FRAME], GRAY),
             39,
             &[gray],
         ),
@@ -52,7 +52,7 @@ fn pictures_have_the_macroblocks_that_are_spelled(rt: HostRuntime) {
             "a P-picture of 48 x 16, whose second macroblock is skipped",
             unit_of(
                 &[SEQUENCE_48, PROGRESSIVE, P_FRAME],
-                &["00010 0 1 001 1 1 011 001 1 1"],
+                "00010 0 1 001 1 1 011 001 1 1",
             ),
             40,
             &[(0, 1, 0, false), (1, 1, 0, false)],
@@ -61,7 +61,7 @@ fn pictures_have_the_macroblocks_that_are_spelled(rt: HostRuntime) {
             "a B-picture of 48 x 16: both ways, one skipped, forward",
             unit_of(
                 &[SEQUENCE_48, PROGRESSIVE, B_FRAME],
-                &["00010 0 1 10 1 1 1 1 011 0010 1 1"],
+                "00010 0 1 10 1 1 1 1 011 0010 1 1",
             ),
             40,
             &[(0, 1, 1, false), (1, 1, 0, false)],
@@ -70,10 +70,7 @@ fn pictures_have_the_macroblocks_that_are_spelled(rt: HostRuntime) {
             "a P-picture of 32 x 16: forward, intra",
             unit_of(
                 &[SEQUENCE_32, PROGRESSIVE, P_FRAME],
-                &[
-                    "00010 0 1 001 1 1",
-                    "1 00011 100 10 100 10 100 10 100 10 00 10 00 10",
-                ],
+                "00010 0 1 001 1 1 1 00011 100 10 100 10 100 10 100 10 00 10 00 10",
             ),
             40,
             &[(0, 1, 0, false), gray],
@@ -82,7 +79,7 @@ fn pictures_have_the_macroblocks_that_are_spelled(rt: HostRuntime) {
             "the top field of a frame of 32 x 16: two vectors of 16 x 8, then one",
             unit_of(
                 &[SEQUENCE_32, INTERLACED, P_FIELD],
-                &["00010 0 1 001 10 0 1 1 1 1 1", "1 001 01 0 1 1"],
+                "00010 0 1 001 10 0 1 1 1 1 1 1 001 01 0 1 1",
             ),
             40,
             &[(0, 2, 0, false), (0, 1, 0, false)],
@@ -98,8 +95,10 @@ fn pictures_have_the_macroblocks_that_are_spelled(rt: HostRuntime) {
 }
 
 #[test]
-fn zero_bytes_and_a_sequence_end_code_may_stand_behind_a_slice(rt: HostRuntime) -> Result<(), Fail> {
-    let mut unit = unit_of(&[SEQUENCE_16, PROGRESSIVE, I_FRAME], &["00001 0", GRAY]);
+fn zero_bytes_and_a_sequence_end_code_may_stand_behind_a_slice(
+    rt: HostRuntime,
+) -> Result<(), Fail> {
+    let mut unit = unit_of(&[SEQUENCE_16, PROGRESSIVE, I_FRAME], GRAY);
     assert!(rt; matches!(picture(rt.alloc(), &unit), Ok(read) if !read.sequence_end));
     let _ = unit.try_extend_from_slice(&[0, 0, 0, 0, 1, 0xB7, 0]);
     assert!(rt; matches!(picture(rt.alloc(), &unit), Ok(read) if read.sequence_end));

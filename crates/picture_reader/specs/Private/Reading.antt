@@ -20,7 +20,11 @@ use Rattle.picture_reader.specs.declared.keep.Keep.TheVariants.{Tree}
 use Rattle.picture_reader.specs.declared.slice.MacroblocksWalked.{MacroblocksWalked}
 use Rattle.picture_reader.specs.declared.slice.SliceWalked.{SliceWalked}
 use Rattle.picture_reader.specs.Coverage.{IsSpan, IsSpanSoFar}
-use Rattle.picture_reader.specs.Told.{HasLeft, RefusesTold}
+
+-- what a reader has left, which is told, up to an end place
+pub record HasLeft {S : Type 0} {g : Ghosts S} (reader : BitReader S g) (end : ℕ) (bits : List ℕ) : Type 0 where
+  pub told : bits_left reader ≡ Some bits
+  pub ends : place reader + length bits ≡ end
 
 -- the first macroblocks of a slice were read, and kept where they are to be
 pub record MacroblocksRead {S : Type 0} {g : Ghosts S} (seq : SeqState) (coding : PicCoding) (keep : Keep) (list : List Macroblock) (span : Span)

@@ -8,7 +8,8 @@ use Rattle.grammar_reading.specs.BitsRead.{PlacedRefusal}
 use Rattle.video_headers.specs.HeadFault.{refusal_told as head_told}
 use Rattle.video_headers.specs.HeadRead.{HeadRead}
 use Rattle.picture_reader.specs.PictureFault.{refusal_told}
-use Rattle.picture_reader.specs.Told.{HasLeft, RefusesTold}
+use Rattle.picture_reader.specs.Told.{RefusesTold}
+use Rattle.picture_reader.specs.Private.Reading.{HasLeft}
 use Rattle.picture_reader.proofs.Told.{explains-told}
 use Rattle.picture_reader.proofs.Units.{head-stands}
 use Rattle.picture_reader.proofs.head.head_of.Goals as goal

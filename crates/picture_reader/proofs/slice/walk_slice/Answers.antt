@@ -8,7 +8,7 @@ use Rattle.picture_grammar.specs.Slice.{slice}
 use Rattle.picture_grammar.proofs.MacroblockLaws.{exact-slice}
 use Rattle.macroblock_reader.specs.SliceHead.{slice_head}
 use Rattle.macroblock_reader.specs.SliceFault.{refusal_told}
-use Rattle.picture_reader.specs.Told.{HasLeft}
+use Rattle.picture_reader.specs.Private.Reading.{HasLeft}
 use Rattle.picture_reader.proofs.Told.{reads-told, explains-told}
 use Rattle.picture_reader.proofs.Slices.{inside-when, rest-dropped, head-told, rest-told, slice-spelled}
 use Rattle.picture_reader.proofs.slice.walk_slice.Goals as goal
