@@ -14,8 +14,7 @@ use arrayvec::ArrayVec;
 use picture_grammar::stands::{block_way, has_dct_type, is_coded};
 use quant_math::map_code;
 use syntax_types::{
-    BLOCKS, Block, Kind, Macroblock, PicCoding, RunLevel, SeqState,
-    VECTORS_MOST, Vector,
+    BLOCKS, Block, Kind, Macroblock, PicCoding, RunLevel, SeqState, VECTORS_MOST, Vector,
 };
 
 /// Writes the blocks that stand in the coarser picture for those of a macroblock, and says whether it is coded there.
