@@ -2,6 +2,7 @@ pub mod PlaceLemmas
 pub mod StartLemmas
 pub mod StreamLemmas
 pub mod StreamsLemmas
+pub mod StampLemmas
 pub mod TakenLemmas
 pub mod UnitLemmas
 pub mod TimeRange
