@@ -12,6 +12,7 @@ mod picture_places;
 mod picture_times;
 mod program;
 mod program_fault;
+mod stamp_walk;
 mod timed_picture;
 mod unit_picture;
 
