@@ -1,3 +1,4 @@
+pub mod KeepLemmas
 pub mod PlaceLemmas
 pub mod StartLemmas
 pub mod StreamLemmas

@@ -38,7 +38,7 @@ rises : (from end : ℕ) (packet : PlacedPacket) (stamps : List StampedPicture) 
 rises from end packet stamps None bounds le rising = rising_less from end stamps le rising
 rises from end packet stamps (Some at) bounds le rising = ((bounds at refl).0, rising_less (at + 1) end stamps (omega (arith, (bounds at refl).1)) rising)
 
-within : (test : ℕ → Bool) (from end at : ℕ) → from ≤ end → find test (range_with_len from (end - from)) ≡ Some at → (from ≤ at) × (at < end)
+pub within : (test : ℕ → Bool) (from end at : ℕ) → from ≤ end → find test (range_with_len from (end - from)) ≡ Some at → (from ≤ at) × (at < end)
 within test from end at le is = (found_from test (end - from) from at is, omega (arith, (found_passes test (end - from) from at is).1))
 
 pub stamps_rise : (es : List ℕ) (from : ℕ) (packets : List PesUnit) → AreRising from (stamps_of es (placed_from from packets))

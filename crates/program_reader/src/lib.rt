@@ -6,6 +6,7 @@
 
 mod audio_starts;
 mod audio_stream;
+mod kept_units;
 pub mod limits;
 mod pes_packets;
 mod picture_places;
