@@ -4,8 +4,8 @@ ghost use Rattle.program_reader.specs.declared.program_fault.ProgramFault.TheVar
 ghost use Rattle.program_reader.specs.Units.{IsUnitsFault};
 ghost use Rattle.program_reader.specs.Private.KeptUnits.{IsVideo, Fits, row_of, AreUnitsKept};
 
-use crate::picture_times::stamped_pictures;
 use crate::pes_packets::TakenPackets;
+use crate::picture_times::stamped_pictures;
 use crate::program_fault::ProgramFault;
 use crate::stamp_walk::unit_times;
 use crate::timed_picture::TimedPicture;
