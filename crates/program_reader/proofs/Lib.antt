@@ -1,7 +1,9 @@
+pub mod KeepLemmas
 pub mod PlaceLemmas
 pub mod StartLemmas
 pub mod StreamLemmas
 pub mod StreamsLemmas
+pub mod StampLemmas
 pub mod TakenLemmas
 pub mod UnitLemmas
 pub mod TimeRange

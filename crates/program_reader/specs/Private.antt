@@ -1,4 +1,5 @@
 pub mod AudioStarts
+pub mod KeptUnits
 pub mod StampedPictures
 pub mod TakenPackets
 pub mod TimedPictures

@@ -6,12 +6,14 @@
 
 mod audio_starts;
 mod audio_stream;
+mod kept_units;
 pub mod limits;
 mod pes_packets;
 mod picture_places;
 mod picture_times;
 mod program;
 mod program_fault;
+mod stamp_walk;
 mod timed_picture;
 mod unit_picture;
 
