@@ -1,7 +1,7 @@
 ghost use Rattle.std.specs.Prelude.{◌≡◌, ◌≤◌, All, length, IfOk, IfErr, OnOk};
 ghost use Rattle.version_table.specs.Table.{IsValidTable};
 ghost use Rattle.version_table.specs.declared.limits.TheConstants.{EVALUATIONS_MOST, NODES_MOST};
-ghost use Rattle.bound_certificate.specs.Cert.{IsCert};
+ghost use Rattle.bound_certificate.specs.Reading.{IsWritable};
 ghost use Rattle.certificate_checker.specs.Checked.{IsFaultless};
 ghost use Rattle.certificate_checker.specs.Faults.{IsHeadRight};
 ghost use Rattle.branch_plan.specs.Bound.{HaveFewWindows, IsAtLeastEachPair, IsAtLeastEachTried};
@@ -76,7 +76,7 @@ pub fn plan(
 
     // The certificate is right, and its bound is true.
     ensures version { IfOk result (λ planned. planned.cert.version ≡ 2) }
-    ensures written { IfOk result (λ planned. IsCert planned.cert) }
+    ensures written { IfOk result (λ planned. IsWritable planned.cert) }
     ensures head { IfOk result (λ planned. IsHeadRight table.now planned.cert) }
     ensures root { IfOk result (λ planned. ShowsItsBound table.now planned.cert) }
     ensures faultless { IfOk result (λ planned. IsFaultless table.now planned.cert) }
