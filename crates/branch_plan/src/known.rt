@@ -34,12 +34,13 @@ pub(crate) fn best_premise(
     ensures missed { IfErr result (IsMissOfSmallest table.now) }
 {
     let choice = smallest(alloc, table)?;
-    if let Some(miss) = run.run(&choice) {
-        return Err(PlanFault::Missed(miss));
+    match run.run(&choice) {
+        Some(miss) => Err(PlanFault::Missed(miss)),
+        None => {
+            let distortion = distortion_of(table, &choice);
+            Ok(best_level(alloc, table, run, Known { choice, distortion })?)
+        }
     }
-    let distortion = distortion_of(table, &choice);
-    let best = best_level(alloc, table, run, Known { choice, distortion })?;
-    Ok(best)
 }
 
 /// The best of a known choice and the level choices, the earlier among equals.

@@ -11,3 +11,5 @@ mod root;
 
 pub use planner::{PlanFault, Planned, Search, plan};
 
+#[cfg(test)]
+mod tests;

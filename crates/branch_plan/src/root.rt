@@ -1,5 +1,6 @@
 ghost use Rattle.std.specs.Prelude.{◌≡◌, ◌<◌, ◌≤◌, ◌^◌, ℕ, length, IfOk, ◌≤ℤ◌};
 ghost use Rattle.version_table.specs.Table.{IsValidTable};
+ghost use Rattle.dual_bounds.specs.declared.constants.TheConstants.{WINDOWS_MOST};
 ghost use Rattle.dual_bounds.specs.Bounds.{bound_of_value};
 ghost use Rattle.dual_bounds.specs.Fixed.{FixesVersions};
 ghost use Rattle.dual_bounds.specs.Values.{value_of_windows};
@@ -78,7 +79,8 @@ pub(crate) fn root_bound(table: &Table, fixed: &Fixed, windows: &Windows, known:
     requires fixed { fixed.now ≡ unfixed table.now }
     requires windows { AreSearched windows.now.items }
     requires known { IsKnown table.now known.now }
-    ensures { result ≡ bound_of_value (value_of_windows table.now (unfixed table.now) windows.now.items) }
+    ensures bound { result ≡ bound_of_value (value_of_windows table.now (unfixed table.now) windows.now.items) }
+    ensures few { length windows.now.items ≤ WINDOWS_MOST }
 {
     bound_of(window_value(table, fixed, windows.as_slice())) as u64
 }

@@ -1,4 +1,6 @@
-use Rattle.std.proofs.Common.{◌≡◌, ℕ, ◌<◌, ◌≤◌, ◌^◌, List, Option, sym, subst, arith}
+use Rattle.std.proofs.Common.{◌≡◌, ℕ, ◌<◌, ◌≤◌, ◌^◌, List, Option, sym, ap, ap₂, subst, ◌∙◌, arith, rules, SFits}
+use mir.Syntax.{w128}
+use Rattle.std.proofs.lemmas.Int.{to_z-of_z}
 use Rattle.version_table.specs.Table.{units_of}
 use Rattle.version_table.specs.Choice.{distortion_of_choice}
 use Rattle.version_table.proofs.Chosen.{distortion_fits}
@@ -21,5 +23,7 @@ overflow_cast-result c =
     let small : distortion_of_choice table known.choice < 2 ^ 64 = distortion_fits table known.choice c.requires.valid c.requires.known.fits in
     let most : bound_of_value (value_of_windows table (unfixed table) c.args.windows.now.items) ≤ known.distortion =
     root_at_most table c.args.windows.now known c.requires.valid c.requires.windows c.requires.known in
-    let same : c.bound_of.result ≡ bound_of_value (value_of_windows table (unfixed table) c.args.windows.now.items) = cc in
+    let fits : SFits w128 c.window_value.result = search rules in
+    let same : c.bound_of.result ≡ bound_of_value (value_of_windows table (unfixed table) c.args.windows.now.items) =
+    c.bound_of.ensures ∙ ap bound_of_value (to_z-of_z w128 c.window_value.result fits ∙ c.window_value.ensures.value ∙ ap₂ (value_of_windows table) c.requires.fixed c.as_slice.ensures.value) in
     omega (arith, small, most, same, c.requires.known.distortion)
