@@ -1,0 +1,52 @@
+-- Worked examples, by hand: three units of two versions in slots of 4,000 ticks, due at 27,200, 43,200 and 47,200, by which 2, 6 and 7
+-- packets can be sent; and trees of few nodes.
+use Rattle.std.proofs.Common.{◌≡◌, ℕ, List, [], ◌∷◌, Option, Some, None, true, refl}
+use Rattle.version_table.specs.declared.table.Unit.{Unit as CodedUnit}
+use Rattle.version_table.specs.declared.table.Table.{Table}
+use Rattle.dual_bounds.specs.Bounds.{bound_of_value}
+use Rattle.dual_bounds.specs.Room.{serves, free_slots, audio_due, room}
+use Rattle.dual_bounds.specs.Values.{price, least_cost, least_costs, worth, value_of_windows, value_of_multipliers}
+use Rattle.bound_certificate.specs.declared.cert.Node.TheVariants.{Branch, Run, Open}
+use Rattle.certificate_checker.specs.Shown.{fix, unfixed}
+use Rattle.branch_plan.specs.Changes.{change_count}
+use Rattle.branch_plan.specs.Tree.{HasLeaf, here, below, in_first, nodes_of_whole_tree, version_counts}
+
+abbrev coded : (due distortion : ℕ) → CodedUnit
+coded due distortion = record {
+  due = due;
+  versions = record { items = record { bytes = 552; distortion = 0 } ∷ record { bytes = 368; distortion = distortion } ∷ [] };
+}
+
+abbrev three_units : Table
+three_units = record {
+  slot = 4000;
+  nodes = 1;
+  evaluations = 0;
+  programs = record { vbv = 112; units = coded 27200 10 ∷ coded 43200 4 ∷ coded 47200 4 ∷ []; audios = [] } ∷ [];
+}
+
+-- the first best multiplier bounds by 10; with one more the bound is 14
+pair_bound : bound_of_value (value_of_multipliers three_units (unfixed three_units) (record { due = 47200; lambda = 1024 } ∷ record { due = 27200; lambda = 2560 } ∷ [])) ≡ 14
+unfolding serves free_slots audio_due room price least_cost least_costs worth value_of_windows value_of_multipliers
+pair_bound = refl
+
+-- one version is left out of each unit's changes
+changes_of_three : change_count three_units ≡ 3
+changes_of_three = refl
+
+counts_of_three : version_counts three_units ≡ 2 ∷ 2 ∷ 2 ∷ []
+counts_of_three = refl
+
+-- 1 and 2 and 4 and 8 nodes; 1 and 3 and 6 nodes; without a unit of two versions the root alone
+whole_tree_of_three : nodes_of_whole_tree (2 ∷ 2 ∷ 2 ∷ []) ≡ 15
+whole_tree_of_three = refl
+
+whole_tree_of_two : nodes_of_whole_tree (3 ∷ 2 ∷ []) ≡ 10
+whole_tree_of_two = refl
+
+whole_tree_of_none : nodes_of_whole_tree [] ≡ 1
+whole_tree_of_none = refl
+
+-- in the first child of a branch on unit 0 its version 0 is fixed
+first_leaf : HasLeaf three_units Open (fix 0 0 (unfixed three_units)) (unfixed three_units) (Branch 0 ∷ Open ∷ Open ∷ [])
+first_leaf = below (unfixed three_units) 0 (Open ∷ Open ∷ []) (in_first (unfixed three_units) 0 0 1 (Open ∷ Open ∷ []) (here (Open ∷ []) tt))

@@ -1,0 +1,111 @@
+-- A tree of one node with windows: what it shows, and how great its bound is at least.
+use Rattle.std.proofs.Common.{◌≡◌, ◌≢◌, ℕ, ◌<◌, ◌≤◌, ◌⊎◌, List, [], ◌∷◌, length, map, get_or, All, Option, Some, refl, sym, ap₂, subst, inl, inr, arith, ℤ, ◌≤ℤ◌, ◌<ℤ◌}
+use Rattle.std.specs.List.{Contains}
+use Rattle.std.proofs.lemmas.Int.{ints}
+use Rattle.std.proofs.lemmas.List.Elements.{All-cons}
+use Rattle.arrayvec.specs.ArrayVec.{ArrayVec}
+use Rattle.version_table.specs.declared.table.Unit.{Unit as CodedUnit}
+use Rattle.version_table.specs.declared.table.Table.{Table}
+use Rattle.version_table.specs.Choice.{distortion_of_choice}
+use Rattle.version_table.specs.Table.{IsValidTable, units_of}
+use Rattle.dual_bounds.specs.declared.constants.TheConstants.{WINDOWS_MOST}
+use Rattle.dual_bounds.specs.declared.windows.Multiplier.{Multiplier}
+use Rattle.dual_bounds.specs.declared.windows.Window.{Window as PricedWindow}
+use Rattle.dual_bounds.specs.Bounds.{bound_of_value}
+use Rattle.dual_bounds.specs.Values.{from_start, value_of_multipliers, value_of_windows}
+use Rattle.dual_bounds.proofs.ValueLaws.{bounds_rise}
+use Rattle.multiplier_search.specs.Single.{AreInOrder, IsBestSingle, IsCandidate, IsFirstBest, IsNoWorse, dues_of, value_alone}
+use Rattle.multiplier_search.specs.Turns.{BeatAdditions}
+use Rattle.multiplier_search.specs.Windows.{AreSearched, BeatEachTried, IsTried}
+use Rattle.bound_certificate.specs.declared.cert.Cert.{Cert}
+use Rattle.bound_certificate.specs.declared.cert.Node.{Node}
+use Rattle.bound_certificate.specs.declared.cert.Node.TheVariants.{Window}
+use Rattle.certificate_checker.specs.Shown.{unfixed}
+use Rattle.certificate_checker.specs.Faults.{AreRight, IsHeadRight}
+use Rattle.certificate_checker.specs.Walk.{Shows, Walks, leaf}
+use Rattle.certificate_checker.specs.Checked.{IsFaultless}
+use Rattle.certificate_checker.proofs.Soundness.{faultless_bound}
+use Rattle.branch_plan.specs.Bound.{IsAtLeastEachPair, IsAtLeastEachTried, unit_dues}
+use Rattle.branch_plan.specs.Plan.{ShowsItsBound}
+use Rattle.branch_plan.specs.declared.known.Known.{Known}
+use Rattle.branch_plan.specs.Private.Known.{IsKnown}
+use Rattle.branch_plan.specs.Private.Root.{BeatEachPair}
+
+-- ---- the tree
+searched_right : (windows : List PricedWindow) → AreSearched windows → AreRight windows
+searched_right windows searched = (searched.rise, (λ k d low. (searched.sound k d low).order), (λ k d low. (searched.sound k d low).lambda))
+
+root_shows : (table : Table) (priced : ArrayVec PricedWindow) → AreSearched priced.items
+    → Walks table (unfixed table) (Window priced ∷ []) (Shows (Some (bound_of_value (value_of_windows table (unfixed table) priced.items))) [])
+root_shows table priced searched = leaf (unfixed table) (Window priced) [] tt (searched_right priced.items searched)
+
+pub shows_its_bound : (table : Table) (cert : Cert) (priced : ArrayVec PricedWindow) → cert.nodes ≡ Window priced ∷ [] → AreSearched priced.items
+    → cert.bound ≡ bound_of_value (value_of_windows table (unfixed table) priced.items) → ShowsItsBound table cert
+shows_its_bound table cert priced nodes searched bound =
+    subst (λ (ns : List Node). Walks table (unfixed table) ns (Shows (Some cert.bound) [])) (sym nodes)
+    (subst (λ (n : ℕ). Walks table (unfixed table) (Window priced ∷ []) (Shows (Some n) [])) (sym bound) (root_shows table priced searched))
+
+-- a certificate that shows its bound has no fault, where its head has none
+pub faultless : (table : Table) (cert : Cert) → IsHeadRight table cert → ShowsItsBound table cert → IsFaultless table cert
+faultless table cert head shows = record { head = head; shown = Some cert.bound; tree = shows; bound = omega arith }
+
+-- the bound of windows at the root is at most the distortion of a known choice
+pub root_at_most : (table : Table) (priced : ArrayVec PricedWindow) (known : Known) → IsValidTable table → AreSearched priced.items → IsKnown table known
+    → bound_of_value (value_of_windows table (unfixed table) priced.items) ≤ known.distortion
+root_at_most table priced known valid searched is =
+    let bound = bound_of_value (value_of_windows table (unfixed table) priced.items) in
+    let cert : Cert = record { version = 2; bound = bound; distortion = known.distortion; choice = known.choice; nodes = Window priced ∷ [] } in
+    let head : IsHeadRight table cert = record { fits = is.fits; scheduled = is.scheduled; distortion = is.distortion } in
+    let right : IsFaultless table cert = faultless table cert head (root_shows table priced searched) in
+    subst (λ (n : ℕ). bound ≤ n) (sym is.distortion) (faultless_bound table cert valid right known.choice is.fits is.scheduled)
+
+-- ---- its bound
+pub tried_bounds : (table : Table) (windows : List PricedWindow) (bound : ℕ) → BeatEachTried table (unfixed table) (unit_dues table) windows
+    → bound ≡ bound_of_value (value_of_windows table (unfixed table) windows) → IsAtLeastEachTried table bound
+tried_bounds table windows bound beaten same tried is =
+    subst (λ (n : ℕ). bound_of_value (value_of_windows table (unfixed table) (tried ∷ [])) ≤ n) (sym same)
+    (bounds_rise (value_of_windows table (unfixed table) (tried ∷ [])) (value_of_windows table (unfixed table) windows) (beaten tried is))
+
+pub pair_bounds : (table : Table) (windows : List PricedWindow) (bound : ℕ) → BeatEachPair table (unfixed table) windows
+    → bound ≡ bound_of_value (value_of_windows table (unfixed table) windows) → IsAtLeastEachPair table bound
+pair_bounds table windows bound beaten same first other best is differs =
+    subst (λ (n : ℕ). bound_of_value (value_of_multipliers table (unfixed table) (other ∷ first ∷ [])) ≤ n) (sym same)
+    (bounds_rise (value_of_multipliers table (unfixed table) (other ∷ first ∷ [])) (value_of_windows table (unfixed table) windows) (beaten first other best is differs))
+
+-- ---- the first best multiplier is one
+same_multiplier : (a b : Multiplier) → a.due ≡ b.due → a.lambda ≡ b.lambda → a ≡ b
+same_multiplier a b due lambda = ap₂ (λ (d l : ℕ). record { due = d; lambda = l }) due lambda
+
+no_worse_both : (table : Table) (fixed : List (Option ℕ)) (a b : Multiplier) → IsNoWorse table fixed a b → IsNoWorse table fixed b a → a ≡ b
+no_worse_both table fixed a b (inl more) (inl less) = absurd (omega (arith, ints, more, less))
+no_worse_both table fixed a b (inl more) (inr same) = absurd (omega (arith, ints, more, same.0))
+no_worse_both table fixed a b (inr same) (inl more) = absurd (omega (arith, ints, more, same.0))
+no_worse_both table fixed a b (inr same) (inr like) = order same.1 like.1
+  where
+    order : (a.due < b.due) ⊎ ((a.due ≡ b.due) × (a.lambda ≤ b.lambda)) → (b.due < a.due) ⊎ ((b.due ≡ a.due) × (b.lambda ≤ a.lambda)) → a ≡ b
+    order (inl less) (inl more) = absurd (omega (arith, less, more))
+    order (inl less) (inr at) = absurd (omega (arith, less, at.0))
+    order (inr at) (inl less) = absurd (omega (arith, less, at.0))
+    order (inr at) (inr also) = same_multiplier a b at.0 (omega (arith, at.1, also.1))
+
+one_first_best : (table : Table) (fixed : List (Option ℕ)) (dues : List ℕ) (a b : Multiplier) → IsFirstBest table fixed dues a → IsFirstBest table fixed dues b → a ≡ b
+one_first_best table fixed dues a b first second = no_worse_both table fixed a b (first.first b second.candidate) (second.first a first.candidate)
+
+no_due : (units : List CodedUnit) (due : ℕ) → units ≡ [] → Contains (dues_of units) due → ⊥
+no_due [] due none (k, within, is) = absurd (omega (arith, within))
+no_due (unit ∷ units) due none there = cc
+
+-- one turn behind the first best multiplier reaches each pair with it
+pub pairs_beaten : (table : Table) (fixed : List (Option ℕ)) (single pair : List Multiplier) → IsBestSingle table fixed single
+    → (length single < WINDOWS_MOST → BeatAdditions table fixed (dues_of (units_of table)) (map from_start single) (map from_start pair))
+    → BeatEachPair table fixed (map from_start pair)
+unfolding value_of_multipliers
+pairs_beaten table fixed [] pair none additions first other best is differs = absurd (no_due (units_of table) other.due none is.due)
+pairs_beaten table fixed (one ∷ []) pair single additions first other best is differs =
+    let same : first ≡ one = one_first_best table fixed (unit_dues table) first one best single in
+    let apart : one.due ≢ other.due = (λ at. differs (sym (subst (λ (m : Multiplier). m.due ≡ other.due) (sym same) at))) in
+    let all : All (λ (w : PricedWindow). w.due ≢ other.due) (map from_start (one ∷ [])) =
+    All-cons (λ (w : PricedWindow). w.due ≢ other.due) (from_start one) [] apart (λ k d low. absurd (omega (arith, low))) in
+    let beaten = additions (omega arith) other.due other.lambda is.due all is.lambda in
+    subst (λ (m : Multiplier). value_of_multipliers table fixed (other ∷ m ∷ []) ≤ℤ value_of_windows table fixed (map from_start pair)) (sym same) beaten
+pairs_beaten table fixed (one ∷ two ∷ more) pair single additions first other best is differs = absurd single

@@ -1,0 +1,5 @@
+pub mod Bound
+pub mod Changes
+pub mod Plan
+pub mod Private
+pub mod Tree

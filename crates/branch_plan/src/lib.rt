@@ -1,0 +1,15 @@
+//! Plans: of each coded picture the version that is sent, and a certificate of how far a plan can be from the best one.
+//!
+//! A plan is a choice that can be sent in time. Its certificate holds a tree whose bound no such choice falls below. Stands
+//! on `multiplier_search`, `certificate_checker` and those below them.
+#![tactic(auto)]
+
+mod known;
+pub mod limits;
+mod planner;
+mod root;
+
+pub use planner::{PlanFault, Planned, Search, plan};
+
+#[cfg(test)]
+mod tests;

@@ -1,0 +1,6 @@
+//! Limits of the trees of plans.
+
+/// With more nodes allowed than so many, each node has few windows, so that a certificate stays within its bytes.
+pub const NODES_WITH_MANY_WINDOWS_MOST: u32 = 32_768;
+/// Windows of a node, at most, where there may be few.
+pub const FEW_WINDOWS_MOST: usize = 2;

@@ -1,0 +1,118 @@
+ghost use Rattle.std.specs.Prelude.{◌≡◌, ◌≤◌, All, length, IfOk, IfErr, OnOk};
+ghost use Rattle.version_table.specs.Table.{IsValidTable};
+ghost use Rattle.version_table.specs.declared.limits.TheConstants.{EVALUATIONS_MOST, NODES_MOST};
+ghost use Rattle.bound_certificate.specs.Reading.{IsWritable};
+ghost use Rattle.certificate_checker.specs.Checked.{IsFaultless};
+ghost use Rattle.certificate_checker.specs.Faults.{IsHeadRight};
+ghost use Rattle.branch_plan.specs.Bound.{HaveFewWindows, IsAtLeastEachPair, IsAtLeastEachTried};
+ghost use Rattle.branch_plan.specs.Plan.{BoundsAll, IsMissOfSmallest, IsNoWorse, SaysOptimal, ShowsItsBound, SmallestIsScheduled};
+ghost use Rattle.branch_plan.specs.Tree.{BranchesOnMany};
+
+use crate::known::best_premise;
+use crate::root::{root_bound, root_windows};
+use bound_certificate::{Cert, Node};
+use dual_bounds::nothing_fixed;
+use list_types::{ListOf, OutOfMemory};
+use slot_rule::{Miss, SlotRun};
+use std::alloc::Global;
+use thiserror::Error;
+use version_table::Table;
+
+/// A plan with its certificate, of version 2.
+#[derive(Drop)]
+pub struct Planned {
+    /// The choice, its distortion, and the tree that bounds it.
+    pub cert: Cert,
+    /// What ended the search.
+    pub search: Search,
+}
+
+/// What ended a search.
+#[derive(Clone, Copy, Debug, PartialEq, Eq)]
+pub enum Search {
+    /// The bound has come up to the distortion: no choice that can be sent in time has less.
+    Optimal,
+    /// A budget ended it before.
+    Budget,
+}
+
+/// Why there is no plan.
+#[derive(Debug, Drop, Error)]
+pub enum PlanFault {
+    /// The smallest choice has this first miss.
+    #[error("the smallest choice can't be scheduled")]
+    Missed(Miss),
+    /// Memory was wanted and not there.
+    #[error("out of memory")]
+    OutOfMemory,
+}
+
+impl From<OutOfMemory> for PlanFault {
+    ghost use Rattle.std.specs.Prelude.{◌≡◌};
+    ghost use Rattle.branch_plan.specs.declared.planner.PlanFault.TheVariants.{OutOfMemory as NoMemory};
+
+    ghost from_gives = { λ _ fault. fault ≡ NoMemory };
+
+    fn from(_e: OutOfMemory) -> PlanFault {
+        PlanFault::OutOfMemory
+    }
+}
+
+/// A plan of a table, found with at most so many nodes and so many runs of the slot rule on single changes. Missed exactly
+/// where the smallest choice can't be scheduled, with its first miss; else it fails only for want of memory.
+pub fn plan(
+    alloc: Global,
+    table: &Table,
+    nodes: u32,
+    evaluations: u32,
+) -> Result<Planned, PlanFault>
+    requires valid { IsValidTable table.now }
+    requires some_nodes { 1 ≤ nodes }
+    requires nodes { nodes ≤ NODES_MOST }
+    requires evaluations { evaluations ≤ EVALUATIONS_MOST }
+    // Whether there is a plan.
+    ensures possible { OnOk result (SmallestIsScheduled table.now) }
+    ensures missed { IfErr result (IsMissOfSmallest table.now) }
+
+    // The certificate is right, and its bound is true.
+    ensures version { IfOk result (λ planned. planned.cert.version ≡ 2) }
+    ensures written { IfOk result (λ planned. IsWritable planned.cert) }
+    ensures head { IfOk result (λ planned. IsHeadRight table.now planned.cert) }
+    ensures root { IfOk result (λ planned. ShowsItsBound table.now planned.cert) }
+    ensures faultless { IfOk result (λ planned. IsFaultless table.now planned.cert) }
+    ensures bound { IfOk result (λ planned. BoundsAll table.now planned.cert.bound) }
+    ensures optimal { IfOk result SaysOptimal }
+
+    // What the nodes are.
+    ensures few_nodes { IfOk result (λ planned. length planned.cert.nodes ≤ nodes) }
+    ensures few_windows { IfOk result (λ planned. HaveFewWindows nodes planned.cert.nodes) }
+    ensures branches { IfOk result (λ planned. All (BranchesOnMany table.now) planned.cert.nodes) }
+
+    // How good bound and choice are at least.
+    ensures tried { IfOk result (λ planned. IsAtLeastEachTried table.now planned.cert.bound) }
+    ensures pairs { IfOk result (λ planned. IsAtLeastEachPair table.now planned.cert.bound) }
+    ensures no_worse { IfOk result (λ planned. IsNoWorse table.now planned.cert.distortion) }
+{
+    let mut run = SlotRun::new(alloc, table)?;
+    let known = best_premise(alloc, table, &mut run)?;
+    let fixed = nothing_fixed(alloc, table)?;
+    let windows = root_windows(alloc, table, &fixed, nodes)?;
+    let bound = root_bound(table, &fixed, &windows, &known);
+    let mut tree = ListOf::new(alloc);
+    tree.push(Node::Window { with: windows })?;
+    let search = if bound == known.distortion {
+        Search::Optimal
+    } else {
+        Search::Budget
+    };
+    Ok(Planned {
+        cert: Cert {
+            version: 2,
+            bound,
+            distortion: known.distortion,
+            choice: known.choice,
+            nodes: tree,
+        },
+        search,
+    })
+}

@@ -1,0 +1,86 @@
+ghost use Rattle.std.specs.Prelude.{◌≡◌, ◌<◌, ◌≤◌, ◌^◌, ℕ, length, IfOk, ◌≤ℤ◌};
+ghost use Rattle.version_table.specs.Table.{IsValidTable};
+ghost use Rattle.dual_bounds.specs.declared.constants.TheConstants.{WINDOWS_MOST};
+ghost use Rattle.dual_bounds.specs.Bounds.{bound_of_value};
+ghost use Rattle.dual_bounds.specs.Fixed.{FixesVersions};
+ghost use Rattle.dual_bounds.specs.Values.{value_of_windows};
+ghost use Rattle.multiplier_search.specs.Windows.{AreSearched, BeatEachTried};
+ghost use Rattle.certificate_checker.specs.Shown.{unfixed};
+ghost use Rattle.branch_plan.specs.Bound.{unit_dues};
+ghost use Rattle.branch_plan.specs.declared.limits.TheConstants.{FEW_WINDOWS_MOST, NODES_WITH_MANY_WINDOWS_MOST};
+ghost use Rattle.branch_plan.specs.Private.Known.{IsKnown};
+ghost use Rattle.branch_plan.specs.Private.Root.{BeatEachPair};
+
+use crate::known::Known;
+use crate::limits::NODES_WITH_MANY_WINDOWS_MOST;
+use dual_bounds::{Fixed, Windows, bound_of, window_value, windows_of};
+use list_types::OutOfMemory;
+use multiplier_search::{best_single, best_window, improve, relaxation};
+use std::alloc::Global;
+use version_table::Table;
+
+/// The windows of a tree's root, in a search of so many nodes. Their value is at least that of each window that is tried
+/// alone, and of the first best multiplier with any other one. Where many nodes are allowed they are two at most. Fails only
+/// for want of memory.
+pub(crate) fn root_windows(
+    alloc: Global,
+    table: &Table,
+    fixed: &Fixed,
+    nodes: u32,
+) -> Result<Windows, OutOfMemory>
+    requires valid { IsValidTable table.now }
+    requires fixed { FixesVersions table.now fixed.now }
+    ensures searched { IfOk result (λ found. AreSearched found.items) }
+    ensures few { NODES_WITH_MANY_WINDOWS_MOST < nodes → IfOk result (λ found. length found.items ≤ FEW_WINDOWS_MOST) }
+    ensures tried { IfOk result (λ found. BeatEachTried table.now fixed.now (unit_dues table.now) found.items) }
+    ensures pairs { IfOk result (λ found. BeatEachPair table.now fixed.now found.items) }
+{
+    let alone = best_window(table, fixed)?;
+    let pair = best_pair(alloc, table, fixed)?;
+    let start = of_greater_value(table, fixed, alone, pair);
+    if nodes > NODES_WITH_MANY_WINDOWS_MOST {
+        return Ok(start);
+    }
+    relaxation(alloc, table, fixed, &start)
+}
+
+/// The first best multiplier after one turn of the search, as windows.
+fn best_pair(alloc: Global, table: &Table, fixed: &Fixed) -> Result<Windows, OutOfMemory>
+    requires valid { IsValidTable table.now }
+    requires fixed { FixesVersions table.now fixed.now }
+    ensures searched { IfOk result (λ found. AreSearched found.items) }
+    ensures few { IfOk result (λ found. length found.items ≤ FEW_WINDOWS_MOST) }
+    ensures pairs { IfOk result (λ found. BeatEachPair table.now fixed.now found.items) }
+{
+    let first = best_single(table, fixed)?;
+    let pair = improve(alloc, table, fixed, &first, 1)?;
+    Ok(windows_of(pair.as_slice()))
+}
+
+/// The windows of greater value, the first ones where they have the same.
+fn of_greater_value(table: &Table, fixed: &Fixed, a: Windows, b: Windows) -> Windows
+    requires valid { IsValidTable table.now }
+    requires fixed { FixesVersions table.now fixed.now }
+    requires first { AreSearched a.items }
+    requires second { AreSearched b.items }
+    ensures searched { AreSearched result.items }
+    ensures few { length a.items ≤ FEW_WINDOWS_MOST → length b.items ≤ FEW_WINDOWS_MOST → length result.items ≤ FEW_WINDOWS_MOST }
+    ensures first { value_of_windows table.now fixed.now a.items ≤ℤ value_of_windows table.now fixed.now result.items }
+    ensures second { value_of_windows table.now fixed.now b.items ≤ℤ value_of_windows table.now fixed.now result.items }
+{
+    let value = window_value(table, fixed, a.as_slice());
+    let other = window_value(table, fixed, b.as_slice());
+    if value < other { b } else { a }
+}
+
+/// The bound of some windows with nothing fixed, which no scheduled choice falls below.
+pub(crate) fn root_bound(table: &Table, fixed: &Fixed, windows: &Windows, known: &Known) -> u64
+    requires valid { IsValidTable table.now }
+    requires fixed { fixed.now ≡ unfixed table.now }
+    requires windows { AreSearched windows.now.items }
+    requires known { IsKnown table.now known.now }
+    ensures bound { result ≡ bound_of_value (value_of_windows table.now (unfixed table.now) windows.now.items) }
+    ensures few { length windows.now.items ≤ WINDOWS_MOST }
+{
+    bound_of(window_value(table, fixed, windows.as_slice())) as u64
+}

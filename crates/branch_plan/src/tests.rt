@@ -1,0 +1,101 @@
+use crate::{PlanFault, Search, plan};
+use slot_rule::Miss;
+use std::alloc::Global;
+use std::process::Abort;
+use std::test::Fail;
+use version_table::read_table;
+
+/// What a plan comes to.
+#[derive(Clone, Copy, Debug, PartialEq)]
+struct Came {
+    bound: u64,
+    distortion: u64,
+    search: Search,
+}
+
+/// Asserts what the plan of a table's text comes to, with one node and without evaluations.
+fn assert_plan(
+    rt: &impl Abort,
+    alloc: Global,
+    text: &[u8],
+    choice: &[u8],
+    came: Came,
+) -> Result<(), Fail> {
+    let table = read_table(alloc, text)?;
+    let planned = plan(alloc, &table, 1, 0)?;
+    let cert = &planned.cert;
+    assert_eq!(rt; cert.choice.as_slice(), choice);
+    let is = Came {
+        bound: cert.bound,
+        distortion: cert.distortion,
+        search: planned.search,
+    };
+    assert_eq!(rt; is, came);
+    assert_eq!(rt; cert.nodes.len(), 1);
+    Ok(())
+}
+
+#[test]
+fn of_three_units_a_pair_bounds_most(rt: HostRuntime) -> Result<(), Fail> {
+    let text =
+        b"remux table 1\nslot 4000\nnodes 1\nevaluations 0\nprogram 112\nunit 27200 552:0 368:10\nunit 43200 552:0 368:4\nunit 47200 552:0 368:4\n";
+    let came = Came {
+        bound: 14,
+        distortion: 18,
+        search: Search::Budget,
+    };
+    assert_plan(&rt, rt.alloc(), text, &[1, 1, 1], came)
+}
+
+#[test]
+fn one_multiplier_shows_that_a_plan_is_the_best(rt: HostRuntime) -> Result<(), Fail> {
+    let text =
+        b"remux table 1\nslot 4000\nnodes 1\nevaluations 0\nprogram 112\nunit 27200 552:0 368:10\n";
+    let came = Came {
+        bound: 10,
+        distortion: 10,
+        search: Search::Optimal,
+    };
+    assert_plan(&rt, rt.alloc(), text, &[1], came)
+}
+
+#[test]
+fn a_window_bounds_where_multipliers_do_not(rt: HostRuntime) -> Result<(), Fail> {
+    let text =
+        b"remux table 1\nslot 40000\nnodes 1\nevaluations 0\nprogram 112\nunit 54000000 115000:0 92000:10\n";
+    let came = Came {
+        bound: 3,
+        distortion: 10,
+        search: Search::Budget,
+    };
+    assert_plan(&rt, rt.alloc(), text, &[1], came)
+}
+
+#[test]
+fn without_units_the_plan_is_empty(rt: HostRuntime) -> Result<(), Fail> {
+    let text = b"remux table 1\nslot 1080\nnodes 4\nevaluations 0\nprogram 112\n";
+    let came = Came {
+        bound: 0,
+        distortion: 0,
+        search: Search::Optimal,
+    };
+    assert_plan(&rt, rt.alloc(), text, &[], came)
+}
+
+#[test]
+fn a_smallest_choice_that_misses_is_told(rt: HostRuntime) -> Result<(), Fail> {
+    let text =
+        b"remux table 1\nslot 1080\nnodes 4\nevaluations 0\nprogram 112\nunit 36935 1840:0\n";
+    let table = read_table(rt.alloc(), text)?;
+    let miss = Miss {
+        stream: 0,
+        unit: 0,
+        slot: 22,
+        due: 36_935,
+    };
+    match plan(rt.alloc(), &table, 4, 0) {
+        Err(PlanFault::Missed(found)) => assert_eq!(rt; found, miss),
+        _other => assert_eq!(rt; 0, 1),
+    }
+    Ok(())
+}
