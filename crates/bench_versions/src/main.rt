@@ -21,7 +21,6 @@ use std::io::Write;
 use std::rt::Files;
 use std::{env, fs, io};
 use version_maker::UNIT_BYTES_MOST;
-use version_table::limits::VERSIONS_MOST;
 
 fn main(rt: HostRuntime) -> io::Result<()> {
     let mut words = Vec::new(rt.alloc());
@@ -77,11 +76,9 @@ fn main(rt: HostRuntime) -> io::Result<()> {
         }
     }
     println!(rt; "{} bytes, {} units", file.len(), units.cuts.len())?;
-    for at in 0..totals.count.min(VERSIONS_MOST) {
-        println!(rt;
-            "{} bytes, distortion {}",
-            totals.bytes[at], totals.distortion[at]
-        )?;
+    let sums = totals.sizes();
+    for size in sums.iter().take(totals.count) {
+        println!(rt; "{} bytes, distortion {}", size.bytes, size.distortion)?;
     }
     Ok(())
 }

@@ -4,8 +4,7 @@ use version_table::limits::VERSIONS_MOST;
 /// The bytes and the distortion of each version over all units.
 #[derive(Clone, Copy)]
 pub struct Totals {
-    pub bytes: [u64; VERSIONS_MOST],
-    pub distortion: [u64; VERSIONS_MOST],
+    sizes: [VersionSize; VERSIONS_MOST],
     /// How many versions there were.
     pub count: usize,
 }
@@ -13,8 +12,7 @@ pub struct Totals {
 impl Totals {
     pub fn new() -> Totals {
         Totals {
-            bytes: [0; VERSIONS_MOST],
-            distortion: [0; VERSIONS_MOST],
+            sizes: [VersionSize::default(); VERSIONS_MOST],
             count: 0,
         }
     }
@@ -23,11 +21,19 @@ impl Totals {
     pub fn add(&mut self, sizes: &[VersionSize]) {
         for (at, size) in sizes.iter().enumerate() {
             if at < VERSIONS_MOST {
-                self.bytes[at] = self.bytes[at].wrapping_add(size.bytes);
-                self.distortion[at] = self.distortion[at].wrapping_add(size.distortion);
+                let sum = self.sizes[at];
+                self.sizes[at] = VersionSize {
+                    bytes: sum.bytes.wrapping_add(size.bytes),
+                    distortion: sum.distortion.wrapping_add(size.distortion),
+                };
             }
         }
         self.count = sizes.len();
+    }
+
+    /// The sums of all versions.
+    pub fn sizes(&self) -> [VersionSize; VERSIONS_MOST] {
+        self.sizes
     }
 }
 
