@@ -9,6 +9,7 @@
 pub mod laws;
 mod limits;
 mod sizes;
+mod slice_count;
 mod version;
 mod versions;
 
