@@ -9,7 +9,6 @@
 pub mod laws;
 mod limits;
 mod sizes;
-mod slice_count;
 mod version;
 mod versions;
 
