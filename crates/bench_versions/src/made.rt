@@ -1,11 +1,13 @@
 ghost use Rattle.std.specs.Prelude.{◌≤◌, length};
+ghost use Rattle.std.specs.Option.{option_copied};
+ghost use Rattle.picture_grammar.specs.Picture.{MayPrecede};
 
-use crate::running::Running;
 use crate::totals::differ;
 use arrayvec::ArrayVec;
 use list_types::ListOf;
 use picture_reader::PictureFault;
 use std::alloc::Global;
+use syntax_types::SeqState;
 use version_maker::{UNIT_BYTES_MOST, VersionSize, sizes_of, version_of, versions_of};
 use version_table::limits::VERSIONS_MOST;
 
@@ -48,15 +50,16 @@ pub fn made_of(
     alloc: Global,
     task: Task,
     unit: &[u8],
-    before: &Running,
+    before: Option<&SeqState>,
     ratios: &ArrayVec<u16, RATIOS_MOST>,
 ) -> Result<Made, PictureFault>
-    requires { length unit.now ≤ UNIT_BYTES_MOST }
+    requires unit { length unit.now ≤ UNIT_BYTES_MOST }
+    requires before { MayPrecede (option_copied before) }
 {
     match task {
         Task::Read => Ok(of_sizes(alloc, ArrayVec::new(), false)),
         Task::Sizes => {
-            let sizes = sizes_of(alloc, unit, before.state.as_ref(), ratios.as_slice())?;
+            let sizes = sizes_of(alloc, unit, before, ratios.as_slice())?;
             Ok(of_sizes(alloc, sizes, false))
         }
         Task::Compare => compared(alloc, unit, before, ratios),
@@ -78,13 +81,14 @@ fn of_sizes(alloc: Global, sizes: ArrayVec<VersionSize, VERSIONS_MOST>, differs:
 fn compared(
     alloc: Global,
     unit: &[u8],
-    before: &Running,
+    before: Option<&SeqState>,
     ratios: &ArrayVec<u16, RATIOS_MOST>,
 ) -> Result<Made, PictureFault>
-    requires { length unit.now ≤ UNIT_BYTES_MOST }
+    requires unit { length unit.now ≤ UNIT_BYTES_MOST }
+    requires before { MayPrecede (option_copied before) }
 {
-    let sizes = sizes_of(alloc, unit, before.state.as_ref(), ratios.as_slice())?;
-    let versions = versions_of(alloc, unit, before.state.as_ref(), ratios.as_slice())?;
+    let sizes = sizes_of(alloc, unit, before, ratios.as_slice())?;
+    let versions = versions_of(alloc, unit, before, ratios.as_slice())?;
     let differs = differ(sizes.as_slice(), versions.as_slice());
     Ok(of_sizes(alloc, sizes, differs))
 }
@@ -93,19 +97,14 @@ fn compared(
 fn last_version(
     alloc: Global,
     unit: &[u8],
-    before: &Running,
+    before: Option<&SeqState>,
     ratios: &ArrayVec<u16, RATIOS_MOST>,
 ) -> Result<Made, PictureFault>
-    requires { length unit.now ≤ UNIT_BYTES_MOST }
+    requires unit { length unit.now ≤ UNIT_BYTES_MOST }
+    requires before { MayPrecede (option_copied before) }
 {
     let index = ratios.len() as u8;
-    let bytes = version_of(
-        alloc,
-        unit,
-        before.state.as_ref(),
-        ratios.as_slice(),
-        index,
-    )?;
+    let bytes = version_of(alloc, unit, before, ratios.as_slice(), index)?;
     let mut sizes = ArrayVec::new();
     sizes.push(VersionSize {
         bytes: bytes.len() as u64,

@@ -9,7 +9,6 @@
 #![tactic(auto)]
 
 mod made;
-mod running;
 mod stream;
 mod totals;
 

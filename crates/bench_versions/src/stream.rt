@@ -1,12 +1,14 @@
-ghost use Rattle.std.specs.Prelude.{◌≤◌, length};
+ghost use Rattle.std.specs.Prelude.{◌≤◌, length, IfOk};
+ghost use Rattle.std.specs.Option.{option_copied};
+ghost use Rattle.picture_grammar.specs.Picture.{IsState, MayPrecede};
 
 use crate::made::{RATIOS_MOST, Task, made_of};
-use crate::running::Running;
 use crate::totals::Totals;
 use arrayvec::ArrayVec;
 use es_units::{UnitFault, split_units};
-use picture_reader::PictureFault;
+use picture_reader::{PictureFault, check_picture};
 use std::alloc::Global;
+use syntax_types::SeqState;
 use version_maker::UNIT_BYTES_MOST;
 
 /// What was made of a stream.
@@ -36,11 +38,11 @@ pub fn stream_of(
         totals: Totals::new(),
         bytes: Vec::new(alloc),
     };
-    let mut before = Running::new();
-    for (begin, end) in units.cuts.as_slice() {
+    let mut before: Option<SeqState> = None;
+    'units: for (begin, end) in units.cuts.as_slice() {
         let unit = unit_at(stream, *begin as usize, *end as usize);
-        match one_more(alloc, task, unit, &before, ratios, &mut made) {
-            Ok(behind) => before = behind,
+        match one_more(alloc, task, unit, before.as_ref(), ratios, &mut made) {
+            Ok(behind) => before = Some(behind),
             Err(fault) => {
                 made.refused = Some(fault);
                 return Ok(made);
@@ -64,19 +66,17 @@ fn one_more(
     alloc: Global,
     task: Task,
     unit: &[u8],
-    before: &Running,
+    before: Option<&SeqState>,
     ratios: &ArrayVec<u16, RATIOS_MOST>,
     made: &mut StreamMade,
-) -> Result<Running, PictureFault>
-    requires { length unit.now ≤ UNIT_BYTES_MOST }
+) -> Result<SeqState, PictureFault>
+    requires unit { length unit.now ≤ UNIT_BYTES_MOST }
+    requires before { MayPrecede (option_copied before) }
+    ensures { IfOk result IsState }
 {
-    let behind = before.behind(alloc, unit)?;
+    let behind = state_behind(alloc, unit, before)?;
     let one = made_of(alloc, task, unit, before, ratios)?;
-    if made
-        .bytes
-        .extend_from_slice(one.bytes.as_slice())
-        .is_err()
-    {
+    if made.bytes.extend_from_slice(one.bytes.as_slice()).is_err() {
         return Err(PictureFault::OutOfMemory);
     }
     made.totals.add(one.sizes.as_slice());
@@ -85,4 +85,20 @@ fn one_more(
         made.different = made.different.wrapping_add(1);
     }
     Ok(behind)
+}
+
+/// The state behind a unit.
+fn state_behind(
+    alloc: Global,
+    unit: &[u8],
+    before: Option<&SeqState>,
+) -> Result<SeqState, PictureFault>
+    requires unit { length unit.now ≤ UNIT_BYTES_MOST }
+    requires before { MayPrecede (option_copied before) }
+    ensures { IfOk result IsState }
+{
+    match check_picture(alloc, unit, before) {
+        Ok(headers) => Ok(headers.seq),
+        Err(fault) => Err(fault),
+    }
 }
