@@ -24,12 +24,12 @@ fits_put table choice place k fits within there =
     let inside : place < length choice = omega (arith, within, long) in
     all_zip_from HasVersion units (set choice place k) no_unit 0 (length-set choice place k ∙ long)
     (λ u below. elim (cases_eq u place) as (λ _. HasVersion (get_or units u no_unit) (get_or (set choice place k) u 0)) [
-        | inl same ↦
-            subst (λ (i : ℕ). HasVersion (get_or units i no_unit) (get_or (set choice place k) i 0)) (sym same)
-            (subst (λ (n : ℕ). HasVersion (get_or units place no_unit) n) (sym (get_or-set_same choice place k 0 inside)) there)
-        | inr other ↦
-            subst (λ (n : ℕ). HasVersion (get_or units u no_unit) n) (sym (get_or-set_other choice place u k 0 other))
-            (all_zip_at HasVersion units choice u no_unit 0 fits below)
+      | inl same ↦
+          subst (λ (i : ℕ). HasVersion (get_or units i no_unit) (get_or (set choice place k) i 0)) (sym same)
+          (subst (λ (n : ℕ). HasVersion (get_or units place no_unit) n) (sym (get_or-set_same choice place k 0 inside)) there)
+      | inr other ↦
+          subst (λ (n : ℕ). HasVersion (get_or units u no_unit) n) (sym (get_or-set_other choice place u k 0 other))
+          (all_zip_at HasVersion units choice u no_unit 0 fits below)
     ])
 
 -- the version that was there put back

@@ -10,6 +10,6 @@ pub bounds-deref-chosen : goal.bounds-deref-chosen
 bounds-deref-chosen c =
     let there = version_there c.args.table.now c.args.known.choice c.args.place c.requires.known.fits c.requires.place in
     let version = ap (λ (xs : List ℕ). get_or xs c.args.place 0) c.as_slice.ensures in
-    let count = ap length c.deref.ensures in
+    let count = ap length c.deref.ensures.0 in
     let unit = ap (λ (u : CodedUnit). length u.versions.items) c.unit_at-unit.ensures in
     omega (arith, there, version, count, unit)

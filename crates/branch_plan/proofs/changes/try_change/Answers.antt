@@ -22,7 +22,7 @@ run-requires c = record {
   fits =
       subst (λ (t : Table). Fits t c.put-changed.result) (sym c.requires.run)
       (subst (λ (xs : List ℕ). Fits c.args.table.now xs) (sym c.put-changed.ensures)
-          (fits_put c.args.table.now c.args.known.choice c.args.place c.args.k c.requires.known.fits c.requires.place c.requires.version));
+      (fits_put c.args.table.now c.args.known.choice c.args.place c.args.k c.requires.known.fits c.requires.place c.requires.version));
 }
 
 pub put-requires : goal.put-requires
