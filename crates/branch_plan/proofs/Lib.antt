@@ -1,3 +1,4 @@
+pub mod Changing
 pub mod Examples
 pub mod Premises
 pub mod Roots

@@ -4,6 +4,7 @@
 //! on `multiplier_search`, `certificate_checker` and those below them.
 #![tactic(auto)]
 
+mod changes;
 mod known;
 pub mod limits;
 mod planner;

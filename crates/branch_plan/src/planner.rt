@@ -8,6 +8,7 @@ ghost use Rattle.branch_plan.specs.Bound.{HaveFewWindows, IsAtLeastEachPair, IsA
 ghost use Rattle.branch_plan.specs.Plan.{BoundsAll, IsMissOfSmallest, IsNoWorse, SaysOptimal, ShowsItsBound, SmallestIsScheduled};
 ghost use Rattle.branch_plan.specs.Tree.{BranchesOnMany};
 
+use crate::changes::after_changes;
 use crate::known::best_premise;
 use crate::root::{root_bound, root_windows};
 use bound_certificate::{Cert, Node};
@@ -94,7 +95,8 @@ pub fn plan(
     ensures no_worse { IfOk result (λ planned. IsNoWorse table.now planned.cert.distortion) }
 {
     let mut run = SlotRun::new(alloc, table)?;
-    let known = best_premise(alloc, table, &mut run)?;
+    let premise = best_premise(alloc, table, &mut run)?;
+    let known = after_changes(table, &mut run, premise, evaluations);
     let fixed = nothing_fixed(alloc, table)?;
     let windows = root_windows(alloc, table, &fixed, nodes)?;
     let bound = root_bound(table, &fixed, &windows, &known);

@@ -13,16 +13,17 @@ struct Came {
     search: Search,
 }
 
-/// Asserts what the plan of a table's text comes to, with one node and without evaluations.
+/// Asserts what the plan of a table's text comes to, with one node and so many evaluations.
 fn assert_plan(
     rt: &impl Abort,
     alloc: Global,
     text: &[u8],
+    evaluations: u32,
     choice: &[u8],
     came: Came,
 ) -> Result<(), Fail> {
     let table = read_table(alloc, text)?;
-    let planned = plan(alloc, &table, 1, 0)?;
+    let planned = plan(alloc, &table, 1, evaluations)?;
     let cert = &planned.cert;
     assert_eq!(rt; cert.choice.as_slice(), choice);
     let is = Came {
@@ -44,7 +45,7 @@ fn of_three_units_a_pair_bounds_most(rt: HostRuntime) -> Result<(), Fail> {
         distortion: 18,
         search: Search::Budget,
     };
-    assert_plan(&rt, rt.alloc(), text, &[1, 1, 1], came)
+    assert_plan(&rt, rt.alloc(), text, 0, &[1, 1, 1], came)
 }
 
 #[test]
@@ -56,7 +57,7 @@ fn one_multiplier_shows_that_a_plan_is_the_best(rt: HostRuntime) -> Result<(), F
         distortion: 10,
         search: Search::Optimal,
     };
-    assert_plan(&rt, rt.alloc(), text, &[1], came)
+    assert_plan(&rt, rt.alloc(), text, 0, &[1], came)
 }
 
 #[test]
@@ -68,7 +69,31 @@ fn a_window_bounds_where_multipliers_do_not(rt: HostRuntime) -> Result<(), Fail>
         distortion: 10,
         search: Search::Budget,
     };
-    assert_plan(&rt, rt.alloc(), text, &[1], came)
+    assert_plan(&rt, rt.alloc(), text, 0, &[1], came)
+}
+
+/// Two units, of which the first can't be sent as its version 0.
+const TWO_UNITS: &[u8] =
+    b"remux table 1\nslot 4000\nnodes 1\nevaluations 0\nprogram 112\nunit 27200 552:0 368:10\nunit 2000000 552:0 368:10\n";
+
+#[test]
+fn a_single_change_makes_a_plan_the_best(rt: HostRuntime) -> Result<(), Fail> {
+    let came = Came {
+        bound: 10,
+        distortion: 10,
+        search: Search::Optimal,
+    };
+    assert_plan(&rt, rt.alloc(), TWO_UNITS, 2, &[1, 0], came)
+}
+
+#[test]
+fn without_evaluations_nothing_is_changed(rt: HostRuntime) -> Result<(), Fail> {
+    let came = Came {
+        bound: 10,
+        distortion: 20,
+        search: Search::Budget,
+    };
+    assert_plan(&rt, rt.alloc(), TWO_UNITS, 0, &[1, 1], came)
 }
 
 #[test]
@@ -79,7 +104,7 @@ fn without_units_the_plan_is_empty(rt: HostRuntime) -> Result<(), Fail> {
         distortion: 0,
         search: Search::Optimal,
     };
-    assert_plan(&rt, rt.alloc(), text, &[], came)
+    assert_plan(&rt, rt.alloc(), text, 0, &[], came)
 }
 
 #[test]
