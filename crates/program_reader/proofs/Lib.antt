@@ -1,3 +1,5 @@
+pub mod DueLemmas
+pub mod FrameLemmas
 pub mod KeepLemmas
 pub mod PlaceLemmas
 pub mod StartLemmas

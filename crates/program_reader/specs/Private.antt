@@ -1,4 +1,6 @@
 pub mod AudioStarts
+pub mod Dues
+pub mod FrameWalk
 pub mod KeptUnits
 pub mod StampedPictures
 pub mod TakenPackets

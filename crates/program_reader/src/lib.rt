@@ -6,6 +6,8 @@
 
 mod audio_starts;
 mod audio_stream;
+mod due;
+mod frame_walk;
 mod kept_units;
 pub mod limits;
 mod pes_packets;
