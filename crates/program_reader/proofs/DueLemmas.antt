@@ -95,6 +95,7 @@ base_is (pos a) earliest start base d is = record {
   where
     below_pos : (a base : ℕ) → pos base ≡ int_rem_euclid (pos a) (pos 2576980377600) → base < 2576980377600
     below_pos a base is = omega (arith, ints)
+
     turned : (a : ℕ) (earliest : ℤ) (start base : ℕ) → pos a ≡ earliest -ℤ pos start → pos base ≡ int_rem_euclid (pos a) (pos 2576980377600) →
         pos base ≡ ((earliest -ℤ pos start) +ℤ neg_ℤ (pos (a / 2576980377600)) *ℤ pos 2576980377600)
     turned a earliest start base d is = omega (arith, ints)
@@ -105,6 +106,7 @@ base_is (negsuc a) earliest start base d is = record {
   where
     below_neg : (a base : ℕ) → pos base ≡ int_rem_euclid (negsuc a) (pos 2576980377600) → base < 2576980377600
     below_neg a base is = omega (arith, ints)
+
     turned : (a : ℕ) (earliest : ℤ) (start base : ℕ) → negsuc a ≡ earliest -ℤ pos start → pos base ≡ int_rem_euclid (negsuc a) (pos 2576980377600) →
         pos base ≡ ((earliest -ℤ pos start) +ℤ pos (a / 2576980377600 + 1) *ℤ pos 2576980377600)
     turned a earliest start base d is = omega (arith, ints)

@@ -1,6 +1,7 @@
 pub mod DueLemmas
 pub mod FrameLemmas
 pub mod KeepLemmas
+pub mod PieceLemmas
 pub mod PlaceLemmas
 pub mod StartLemmas
 pub mod StreamLemmas

@@ -13,6 +13,7 @@ pub mod limits;
 mod pes_packets;
 mod picture_places;
 mod picture_times;
+mod pieces;
 mod program;
 mod program_fault;
 mod stamp_walk;
