@@ -70,7 +70,8 @@ use Rattle.program_reader.specs.declared.timed_picture.TimedPicture.{TimedPictur
 use Rattle.program_reader.specs.declared.unit_picture.TimedUnit.{TimedUnit}
 use Rattle.program_reader.specs.Packets.{decoding_time, payload_of, joined, placed_from}
 use Rattle.program_reader.specs.PictureTimes.{first_picture, is_first_in, no_times, times_at, times_of_unit}
-use Rattle.program_reader.specs.Units.{unit_bytes, state_behind, frame_period, share_of, ticks_behind, IsTimed, IsNext, IsBroken, IsUnitRefused, AreInOrder, last_of, is_none_left, IsUnitsFault, AreKept}
+use Rattle.program_reader.specs.Units.{unit_bytes, state_behind, frame_period, share_of, ticks_behind, IsTimed, IsNext, IsBroken, IsUnitRefused}
+use Rattle.program_reader.specs.Units.{AreInOrder, last_of, is_none_left, IsUnitsFault, AreKept}
 use Rattle.program_reader.specs.Private.AudioStarts.{IsNear}
 use Rattle.program_reader.specs.Private.Dues.{IsTime}
 use Rattle.program_reader.specs.Private.KeptUnits.{IsVideo, Fits, row_of, AreRows, first_of, far, IsPictureNear, Keep, AreUnitsKept}
@@ -367,7 +368,8 @@ kept_more es packets cuts i unit left behind old new times picture lt few is ran
         IsNear 0 (unwrap_or f picture).stated
     first_step (Some f) l picture pictures first last near range timed = near
     first_step None l picture [] first last near range timed =
-        first_near (decoding_time picture.times) picture.stated picture.ticks range (subst (λ (b : Option TimedPicture). IsTimed b (decoding_time picture.times) picture.stated picture.ticks) last timed)
+        first_near (decoding_time picture.times) picture.stated picture.ticks range
+        (subst (λ (b : Option TimedPicture). IsTimed b (decoding_time picture.times) picture.stated picture.ticks) last timed)
     first_step None l picture (p ∷ ps) first last near range timed = absurd cc
 
 -- ---- the last unit, and a refused one

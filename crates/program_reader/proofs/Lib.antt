@@ -6,6 +6,7 @@ pub mod PlaceLemmas
 pub mod StartLemmas
 pub mod StreamLemmas
 pub mod StreamsLemmas
+pub mod SizeLemmas
 pub mod StampLemmas
 pub mod TakenLemmas
 pub mod UnitLemmas

@@ -102,7 +102,8 @@ piece_end size k lt = omega arith
 next_end : (from len size k : ℕ) → 184 * k < size → from + (184 * k + min 184 (size - 184 * k) - 1 - len) ≤ from + (min (184 * (k + 1)) size - 1 - len)
 next_end from len size k lt = omega arith
 
-pub piece_times : (earliest : ℤ) (frames left : List Frame) (packet : PlacedPacket) (k : ℕ) → TellsFrom (payload_place packet (min (184 * k) (packet_size packet) - 1)) frames left → HasTimes earliest frames packet →
+pub piece_times : (earliest : ℤ) (frames left : List Frame) (packet : PlacedPacket) (k : ℕ) →
+    TellsFrom (payload_place packet (min (184 * k) (packet_size packet) - 1)) frames left → HasTimes earliest frames packet →
     (byte : ℕ) → 184 * k ≤ byte → byte < packet_size packet → IsTimeFrom earliest (time_of_byte left (payload_place packet byte))
 piece_times earliest frames left packet k tells times byte le lt =
     subst (λ (time : ℤ). IsTimeFrom earliest time) (sym (tells (payload_place packet byte) (place_before packet.from packet.header.len (packet_size packet) k byte le))) (times byte lt)

@@ -17,6 +17,7 @@ mod pieces;
 mod program;
 mod program_fault;
 mod stamp_walk;
+mod stream_sizes;
 mod timed_picture;
 mod unit_picture;
 
