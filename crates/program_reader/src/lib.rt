@@ -10,6 +10,7 @@ mod due;
 mod frame_walk;
 mod kept_units;
 pub mod limits;
+mod packet_bytes;
 mod pes_packets;
 mod picture_places;
 mod picture_times;
