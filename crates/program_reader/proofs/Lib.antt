@@ -1,3 +1,4 @@
+pub mod CutLemmas
 pub mod DueLemmas
 pub mod FrameLemmas
 pub mod KeepLemmas

@@ -149,7 +149,7 @@ placed_less (x ∷ xs) short = by_packet (packet_of x.bytes) refl (placed_less x
 
 -- ---- the packets of a file
 
-filter_count : (test : ℕ → Bool) (ks : List ℕ) → length (filter test ks) ≤ length ks
+pub filter_count : (test : ℕ → Bool) (ks : List ℕ) → length (filter test ks) ≤ length ks
 filter_count test [] = omega arith
 filter_count test (k ∷ ks) = by_test (test k) (filter_count test ks)
   where

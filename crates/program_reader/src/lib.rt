@@ -6,6 +6,7 @@
 
 mod audio_starts;
 mod audio_stream;
+mod cut_places;
 mod due;
 mod frame_walk;
 mod kept_units;
