@@ -70,9 +70,11 @@ use Rattle.program_reader.specs.declared.timed_picture.TimedPicture.{TimedPictur
 use Rattle.program_reader.specs.declared.unit_picture.TimedUnit.{TimedUnit}
 use Rattle.program_reader.specs.Packets.{decoding_time, payload_of, joined, placed_from}
 use Rattle.program_reader.specs.PictureTimes.{first_picture, is_first_in, no_times, times_at, times_of_unit}
-use Rattle.program_reader.specs.Units.{unit_bytes, state_behind, frame_period, share_of, ticks_behind, IsTimed, IsNext, IsBroken, IsUnitRefused, AreInOrder, last_of, is_none_left, IsUnitsFault, AreKept}
+use Rattle.program_reader.specs.Units.{unit_bytes, state_behind, frame_period, share_of, ticks_behind, IsTimed, IsNext, IsBroken, IsUnitRefused}
+use Rattle.program_reader.specs.Units.{AreInOrder, last_of, is_none_left, IsUnitsFault, AreKept}
 use Rattle.program_reader.specs.Private.AudioStarts.{IsNear}
-use Rattle.program_reader.specs.Private.KeptUnits.{IsVideo, Fits, row_of, AreRows, first_of, far, IsPictureNear, IsTick, Keep, AreUnitsKept}
+use Rattle.program_reader.specs.Private.Dues.{IsTime}
+use Rattle.program_reader.specs.Private.KeptUnits.{IsVideo, Fits, row_of, AreRows, first_of, far, IsPictureNear, Keep, AreUnitsKept}
 use Rattle.program_reader.specs.Private.StampedPictures.{stamp_at, stamps_of, times_of_stamp, AreRising, TellTimes, IsCounted}
 use Rattle.program_reader.specs.Private.TimedPictures.{IsPossible, IsFound}
 use Rattle.program_reader.proofs.StartLemmas.{near_step, near_more, near_low, near_high}
@@ -113,6 +115,10 @@ first_push [] picture = refl
 first_push (p ∷ ps) picture = refl
 
 -- ---- how far times are from 0
+
+-- a kept unit with such a time
+abbrev pub IsTickUnit : KeptUnit → Type 0
+IsTickUnit unit = IsTime unit.ticks
 
 period_most : (code : ℕ) → 1 ≤ code → code ≤ 5 → frame_period code ≤ 1126125
 period_most zero l m = absurd (omega arith)
@@ -253,7 +259,7 @@ kept_none es packets cuts left kept fits tells few none first last dropped = rec
     first_is = first;
     first_near = subst (λ (f : Option TimedPicture). IfSome f (λ picture. IsNear 0 picture.stated)) (sym first) tt;
     last_is = last;
-    ticks = subst (All IsTick) (sym none) (All-nil IsTick);
+    ticks = subst (All IsTickUnit) (sym none) (All-nil IsTickUnit);
   };
   dropped = dropped;
   from = 0;
@@ -330,7 +336,7 @@ kept_more es packets cuts i unit left behind old new times picture lt few is ran
     let timed = timed_near old.last (decoding_time picture.times) picture.stated picture.ticks so_far.count step.0 i range so_far.near stated next.timed in
     let possible = possible_before es packets cuts i left old lt few so_far in
     let next_few : step.0 ≤ 2855696 = omega (arith, step.2) in
-    let tick : IsTick (row_of unit picture) = (let far = far_tick picture.ticks step.0 (i + 1) next_few (omega (arith, lt, few)) timed.1 in record { least = far.0; most = far.1 }) in
+    let tick : IsTickUnit (row_of unit picture) = (let far = far_tick picture.ticks step.0 (i + 1) next_few (omega (arith, lt, few)) timed.1 in record { least = far.0; most = far.1 }) in
     let more : take (i + 1) cuts ≡ take i cuts ++ unit ∷ [] = take_more cuts i (0, 0) lt ∙ ap (λ (u : ℕ × ℕ). take i cuts ++ u ∷ []) (sym is) in
     let in_order : AreInOrder es packets None (take i cuts ++ unit ∷ []) (so_far.pictures ++ picture ∷ []) =
     order_push es packets None (take i cuts) so_far.pictures unit picture keep.in_order (subst (λ (b : Option TimedPicture). IsNext es packets b unit picture) keep.last_is next) in
@@ -345,7 +351,7 @@ kept_more es packets cuts i unit left behind old new times picture lt few is ran
         first_near = subst (λ (f : Option TimedPicture). IfSome f (λ picture. IsNear 0 picture.stated)) (sym first)
             (first_step old.first old.last picture so_far.pictures keep.first_is keep.last_is keep.first_near range next.timed);
         last_is = last ∙ sym (last_push so_far.pictures picture);
-        ticks = subst (All IsTick) (sym items) (All-push IsTick old.units.items (row_of unit picture) keep.ticks tick);
+        ticks = subst (All IsTickUnit) (sym items) (All-push IsTickUnit old.units.items (row_of unit picture) keep.ticks tick);
       };
       dropped = dropped ∙ so_far.dropped;
       from = unit.1;
@@ -362,7 +368,8 @@ kept_more es packets cuts i unit left behind old new times picture lt few is ran
         IsNear 0 (unwrap_or f picture).stated
     first_step (Some f) l picture pictures first last near range timed = near
     first_step None l picture [] first last near range timed =
-        first_near (decoding_time picture.times) picture.stated picture.ticks range (subst (λ (b : Option TimedPicture). IsTimed b (decoding_time picture.times) picture.stated picture.ticks) last timed)
+        first_near (decoding_time picture.times) picture.stated picture.ticks range
+        (subst (λ (b : Option TimedPicture). IsTimed b (decoding_time picture.times) picture.stated picture.ticks) last timed)
     first_step None l picture (p ∷ ps) first last near range timed = absurd cc
 
 -- ---- the last unit, and a refused one
@@ -426,7 +433,7 @@ kept_but_last es packets cuts i unit left old new refusal at is_last lt is last 
         first_is = first ∙ keep.first_is;
         first_near = subst (λ (f : Option TimedPicture). IfSome f (λ picture. IsNear 0 picture.stated)) (sym first) keep.first_near;
         last_is = last_same ∙ keep.last_is;
-        ticks = subst (All IsTick) (sym items) keep.ticks;
+        ticks = subst (All IsTickUnit) (sym items) keep.ticks;
       };
     }
 

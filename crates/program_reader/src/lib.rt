@@ -6,14 +6,20 @@
 
 mod audio_starts;
 mod audio_stream;
+mod cut_places;
+mod due;
+mod frame_walk;
 mod kept_units;
 pub mod limits;
+mod packet_bytes;
 mod pes_packets;
 mod picture_places;
 mod picture_times;
+mod pieces;
 mod program;
 mod program_fault;
 mod stamp_walk;
+mod stream_sizes;
 mod timed_picture;
 mod unit_picture;
 

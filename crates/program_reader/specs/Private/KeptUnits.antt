@@ -10,6 +10,7 @@ use Rattle.program_reader.specs.declared.pes_packets.TakenPackets.{TakenPackets}
 use Rattle.program_reader.specs.declared.timed_picture.TimedPicture.{TimedPicture}
 use Rattle.program_reader.specs.Units.{AreKept, AreInOrder, last_of}
 use Rattle.program_reader.specs.Private.AudioStarts.{IsNear}
+use Rattle.program_reader.specs.Private.Dues.{IsTime}
 use Rattle.program_reader.specs.Private.TakenPackets.{Holds}
 
 -- what is taken of a stream of a file within its limit
@@ -50,11 +51,6 @@ pub record IsPictureNear (count units : ℕ) (picture : TimedPicture) : Type 0 w
   pub least : neg_ℤ (pos (far count units)) ≤ℤ picture.ticks
   pub most : picture.ticks ≤ℤ pos (far count units)
 
--- a time in ticks of a kept unit
-pub record IsTick (row : KeptUnit) : Type 0 where
-  pub least : neg_ℤ (pos (4 * 10 ^ 18)) ≤ℤ row.ticks
-  pub most : row.ticks ≤ℤ pos (4 * 10 ^ 18)
-
 -- units are kept as these pictures
 pub record Keep (es : List ℕ) (packets : List PlacedPacket) (units : List (ℕ × ℕ)) (pictures : List TimedPicture) (kept : KeptUnits) : Type 0 where
   pub in_order : AreInOrder es packets None units pictures
@@ -62,7 +58,7 @@ pub record Keep (es : List ℕ) (packets : List PlacedPacket) (units : List (ℕ
   pub first_is : kept.first ≡ first_of pictures
   pub first_near : IfSome kept.first (λ picture. IsNear 0 picture.stated)
   pub last_is : kept.last ≡ last_of pictures
-  pub ticks : All IsTick kept.units.items
+  pub ticks : All (λ unit. IsTime unit.ticks) kept.units.items
 
 -- the units of a video that are kept, with their pictures
 pub record AreUnitsKept (es : List ℕ) (packets : List PlacedPacket) (cuts : List (ℕ × ℕ)) (kept : KeptUnits) : Type 0 where

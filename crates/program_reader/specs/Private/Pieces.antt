@@ -1,0 +1,32 @@
+-- Pieces of a PES packet that are added, and the frames that are left behind them.
+use Rattle.std.specs.Prelude.{◌≡◌, ℕ, ◌+◌, ◌<◌, ◌≤◌, ◌^◌, List, [], ◌∷◌, ◌++◌, map, ℤ}
+use Rattle.audio_frames.specs.declared.frame.Frame.{Frame}
+use Rattle.program_reader.specs.declared.pes_packets.PlacedPacket.{PlacedPacket}
+use Rattle.program_reader.specs.declared.program.AudioPiece.{AudioPiece}
+use Rattle.program_reader.specs.Audio.{time_of_byte, payload_place, packet_size, piece_places, ArePieces}
+use Rattle.program_reader.specs.Private.Dues.{IsTimeFrom}
+
+-- a PES packet at a place of its stream: its payload has bytes, and all places are small
+pub record IsSized (at : ℕ) (packet : PlacedPacket) : Type 0 where
+  pub some : packet.from < packet.end
+  pub small : packet.end < 2 ^ 32
+  pub place : at < 2 ^ 60
+
+-- PES packets, each with payload bytes, whose payloads stand behind a place one behind the other
+abbrev pub Follow : ℕ → List PlacedPacket → Type 0
+Follow from [] = Unit {0}
+Follow from (packet ∷ packets) = (from ≤ packet.from) × (packet.from < packet.end) × (packet.end < 2 ^ 32) × Follow packet.end packets
+
+-- frames tell the same times of payload bytes as others, from a place on
+abbrev pub TellsFrom : ℕ → List Frame → List Frame → Type 0
+TellsFrom place frames left = (later : ℕ) → place ≤ later → time_of_byte left later ≡ time_of_byte frames later
+
+-- each byte of a PES packet has a time that isn't before the earliest one
+abbrev pub HasTimes : ℤ → List Frame → PlacedPacket → Type 0
+HasTimes earliest frames packet = (byte : ℕ) → byte < packet_size packet → IsTimeFrom earliest (time_of_byte frames (payload_place packet byte))
+
+-- the pieces of a PES packet are added to some
+pub record AddsPieces (start : ℕ) (earliest : ℤ) (frames : List Frame) (packet : PlacedPacket) (at : ℕ) (old new : List AudioPiece) : Type 0 where
+  pub added : List AudioPiece
+  pub new_is : new ≡ old ++ added
+  pub pieces : ArePieces start earliest frames (map (λ from. (packet, at, from)) (piece_places (packet_size packet))) added
