@@ -1,6 +1,6 @@
 -- Whether some place passes a test.
-use Rattle.std.proofs.Common.{◌≡◌, ℕ, zero, suc, ◌+◌, ◌<◌, ◌≤◌, Bool, true, false, ◌||◌, refl, sym, subst, inl, inr, arith}
-use Rattle.std.specs.List.{list_any, range_with_len}
+use Rattle.std.proofs.Common.{◌≡◌, ℕ, zero, suc, ◌+◌, ◌<◌, ◌≤◌, Bool, true, false, ◌||◌, cond, Some, refl, sym, subst, inl, inr, arith}
+use Rattle.std.specs.List.{find, list_any, range_with_len}
 use Rattle.std.proofs.lemmas.Bool.{cases_eq}
 
 or_later : (a b : Bool) → b ≡ true → (a || b) ≡ true
@@ -19,3 +19,12 @@ none_passes test zero from none = refl
 none_passes test (suc n) from none =
     let here : test from ≡ false = none from (omega arith) (omega arith) in
     rw here (none_passes test n (from + 1) (λ at b u. none at (omega arith) (omega arith)))
+
+pub found_from : (test : ℕ → Bool) (n from found : ℕ) → find test (range_with_len from n) ≡ Some found → from ≤ found
+found_from test zero from found is = absurd (cc)
+found_from test (suc n) from found is = by_test (test from) is (found_from test n (from + 1) found)
+  where
+    by_test : (here : Bool) → cond here (Some from) (find test (range_with_len (from + 1) n)) ≡ Some found →
+        (find test (range_with_len (from + 1) n) ≡ Some found → from + 1 ≤ found) → from ≤ found
+    by_test true is later = let same : from ≡ found = cc in omega (arith, same)
+    by_test false is later = omega (arith, later is)

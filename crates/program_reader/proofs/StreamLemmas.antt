@@ -204,11 +204,11 @@ taken_starts first packets held placed payload starts given are placed_is payloa
     (subst (λ (xs : List PlacedPacket). AreStartsOf first xs starts) (placed_is ∙ are.holds.placed) starts_are) (taken_payloads packets are.sound) near)
 
 pub frames_refused : (first : ℤ) (stream : AudioStream) (packets : List PesUnit) (held : TakenPackets) (placed : List PlacedPacket) (payload : List ℕ) (starts given : List PesStart)
-    (found : AudioFault) (fault : ProgramFault) → packets ≡ stream.packets → AreTaken false packets held → placed ≡ held.packets.items → payload ≡ held.payload.items →
+    (found : AudioFault) (fault : ProgramFault) → packets ≡ stream.units → AreTaken false packets held → placed ≡ held.packets.items → payload ≡ held.payload.items →
     given ≡ starts → AreStartsOf first placed starts → IsAudioRefused payload given found → fault ≡ of_audio found → IsStreamRefused first stream fault
 frames_refused first stream packets held placed payload starts given found fault packets_are are placed_is payload_is same starts_are refused fault_is =
-    let taken_is : taken false packets ≡ taken false stream.packets = ap (taken false) packets_are in
-    let placed_all : placed ≡ placed_from 0 (taken false stream.packets) = placed_is ∙ are.holds.placed ∙ ap (placed_from 0) taken_is in
-    let payload_all : payload ≡ joined (taken false stream.packets) = payload_is ∙ are.holds.payload ∙ ap joined taken_is in
+    let taken_is : taken false packets ≡ taken false stream.units = ap (taken false) packets_are in
+    let placed_all : placed ≡ placed_from 0 (taken false stream.units) = placed_is ∙ are.holds.placed ∙ ap (placed_from 0) taken_is in
+    let payload_all : payload ≡ joined (taken false stream.units) = payload_is ∙ are.holds.payload ∙ ap joined taken_is in
     IsStreamRefused.bad_frames starts found (subst (AreSound false) packets_are are.sound) (subst (λ (xs : List PlacedPacket). AreStartsOf first xs starts) placed_all starts_are)
     (subst (λ (xs : List ℕ). IsAudioRefused xs starts found) payload_all (subst (λ (xs : List PesStart). IsAudioRefused payload xs found) same refused)) fault_is

@@ -37,19 +37,19 @@ AreStartsOf before (packet ∷ packets) (start ∷ starts) =
 
 -- the PES packets of an audio stream that are taken
 abbrev pub taken_of : AudioStream → List PesUnit
-taken_of stream = taken false stream.packets
+taken_of stream = taken false stream.units
 
 -- The frames of an audio stream of a program whose video begins at this time, in units of 1/90,000 s.
 pub record HasFrames (first : ℤ) (stream : AudioStream) (frames : List Frame) : Type 0 where
-  pub sound : AreSound false stream.packets
+  pub sound : AreSound false stream.units
   pub starts : List PesStart
   pub starts_are : AreStartsOf first (placed_from 0 (taken_of stream)) starts
   pub frames_are : AreFramesOf (joined (taken_of stream)) starts frames
 
 -- What refuses it: first its PES packets, and then its frames.
 pub data IsStreamRefused (first : ℤ) (stream : AudioStream) (fault : ProgramFault) : Type 0 where
-  bad_packet : IsPacketFault false stream.packets fault → IsStreamRefused first stream fault
-  bad_frames : (starts : List PesStart) (found : AudioFault) → AreSound false stream.packets → AreStartsOf first (placed_from 0 (taken_of stream)) starts
+  bad_packet : IsPacketFault false stream.units fault → IsStreamRefused first stream fault
+  bad_frames : (starts : List PesStart) (found : AudioFault) → AreSound false stream.units → AreStartsOf first (placed_from 0 (taken_of stream)) starts
       → IsAudioRefused (joined (taken_of stream)) starts found → fault ≡ of_audio found → IsStreamRefused first stream fault
 
 -- the frames of streams, each with its own

@@ -2,11 +2,10 @@
 use Rattle.std.specs.Prelude.{ℕ, ◌+◌, ◌-◌, ◌==◌, Bool, false, not, ◌&&◌, List, Option, None}
 use Rattle.std.specs.List.{find, list_any}
 use Rattle.std.specs.Option.{option_map_or}
-use Rattle.stream_constants.specs.declared.start_codes.TheConstants.{PICTURE, GROUP}
+use Rattle.stream_constants.specs.declared.start_codes.TheConstants.{PICTURE, GROUP, GROUP_HEADER_BYTES}
 use Rattle.start_codes.specs.StartCodes.{has_code}
 use Rattle.es_units.specs.Units.{places}
 use Rattle.pes_units.specs.declared.times.Times.{Times}
-use Rattle.program_reader.specs.declared.limits.TheConstants.{GROUP_HEADER_BYTES}
 use Rattle.program_reader.specs.declared.pes_packets.PlacedPacket.{PlacedPacket}
 
 -- a group of pictures header, whose time code may look like a start code, reaches over the place (13818-2, 6.2.2.6)

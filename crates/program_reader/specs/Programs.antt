@@ -87,7 +87,7 @@ AreUnitSources start earliest units pictures sources = ⊥
 
 -- how many PES packets are dropped in all
 abbrev pub all_packets_dropped : Demuxed → ℕ
-all_packets_dropped demuxed = packets_dropped true demuxed.video + sum_by (λ stream. packets_dropped false stream.packets) demuxed.audios
+all_packets_dropped demuxed = packets_dropped true demuxed.video + sum_by (λ stream. packets_dropped false stream.units) demuxed.audios
 
 -- The program of what is taken out of a file, with its earliest time due at `start`.
 pub record IsProgram (start : ℕ) (demuxed : Demuxed) (program : Program) : Type 0 where

@@ -29,12 +29,12 @@ pub fn read_stream(
     stream: &AudioStream,
     first: &AxisTime,
 ) -> Result<ReadStream, ProgramFault>
-    requires few { length stream.now.packets ≤ PACKETS_MOST }
-    requires size { sum_by (λ packet. length packet.bytes) stream.now.packets < 2 ^ 30 }
+    requires few { length stream.now.units ≤ PACKETS_MOST }
+    requires size { sum_by (λ packet. length packet.bytes) stream.now.units < 2 ^ 30 }
     requires first { IsNear 0 first.now.time }
     ensures { MatchResult result (IsStreamRead first.now.time stream.now) (λ fault. (fault ≡ OutOfMemory) ⊎ IsStreamRefused first.now.time stream.now fault) }
 {
-    let taken = match take_packets(alloc, stream.packets.as_slice(), false) {
+    let taken = match take_packets(alloc, stream.units.as_slice(), false) {
         Ok(taken) => taken,
         Err(fault) => return Err(fault),
     };
@@ -53,8 +53,8 @@ pub fn read_streams(
     streams: &[AudioStream],
     first: &AxisTime,
 ) -> Result<Vec<ReadStream>, ProgramFault>
-    requires few { All (λ stream. length stream.packets ≤ PACKETS_MOST) streams.now }
-    requires size { All (λ stream. sum_by (λ packet. length packet.bytes) stream.packets < 2 ^ 30) streams.now }
+    requires few { All (λ stream. length stream.units ≤ PACKETS_MOST) streams.now }
+    requires size { All (λ stream. sum_by (λ packet. length packet.bytes) stream.units < 2 ^ 30) streams.now }
     requires first { IsNear 0 first.now.time }
     ensures { MatchResult result (λ read. AreStreamsRead first.now.time streams.now read.items) (λ fault. (fault ≡ OutOfMemory) ⊎ IsAudioFault first.now.time streams.now fault) }
 {

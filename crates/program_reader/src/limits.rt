@@ -8,7 +8,5 @@ pub const FILE_BYTES_MOST: usize = 536_870_912;
 pub const UNIT_BYTES_MOST: u64 = 1_048_576;
 /// Payload bytes of a piece of an audio PES packet, at most: those of a transport packet.
 pub const PIECE_BYTES: u64 = 184;
-/// Bytes of a group of pictures header with its start code (13818-2, 6.2.2.6).
-pub const GROUP_HEADER_BYTES: usize = 8;
 /// Transport packets of a file, at most, and so PES packets of a stream.
 pub const PACKETS_MOST: usize = FILE_BYTES_MOST / PACKET_BYTES;

@@ -3,8 +3,7 @@ ghost use Rattle.std.specs.Prelude.{◌≡◌, ◌==◌, ◌≤◌, ◌<◌, len
 ghost use Rattle.start_codes.specs.StartCodes.{has_code};
 ghost use Rattle.program_reader.specs.PictureTimes.{is_in_group, begins_picture, first_picture};
 
-use crate::limits::GROUP_HEADER_BYTES;
-use stream_constants::start_codes::{GROUP, PICTURE};
+use stream_constants::start_codes::{GROUP, GROUP_HEADER_BYTES, PICTURE};
 
 /// Where the first picture begins from one place of a video stream up to another.
 pub fn find_picture(es: &[u8], from: usize, end: usize) -> Option<usize>

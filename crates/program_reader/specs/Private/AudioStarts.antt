@@ -22,7 +22,7 @@ AreNear count starts = All (λ start. IfSome start.time (IsNear count)) starts
 
 -- an audio stream of a program whose video begins at this time is read: its PES packets are taken, and these are its frames
 pub record IsStreamRead (first : ℤ) (stream : AudioStream) (read : ReadStream) : Type 0 where
-  pub taken_are : AreTaken false stream.packets read.taken
+  pub taken_are : AreTaken false stream.units read.taken
   pub frames_are : HasFrames first stream read.frames
 
 -- audio streams are read, each so
