@@ -1,0 +1,10 @@
+//! The pieces of programs in chosen versions, made as they are sent.
+//!
+//! `VersionSource` is a `PieceSource` of `mux_writer` over programs that were read: the audio packets as they stand, and each coded
+//! picture as a PES packet in the version that a choice names. It keeps, for each video, one sequence state and the PES packet
+//! of the one unit that is being sent. Stands on `mux_writer`, `program_reader`, `version_maker` and `pes_units`.
+#![tactic(auto)]
+
+mod state;
+
+pub use state::state_behind;
