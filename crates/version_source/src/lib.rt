@@ -5,6 +5,8 @@
 //! of the one unit that is being sent. Stands on `mux_writer`, `program_reader`, `version_maker` and `pes_units`.
 #![tactic(auto)]
 
+mod packet;
 mod state;
 
+pub use packet::{audio_piece, packet_piece, unit_packet};
 pub use state::state_behind;
