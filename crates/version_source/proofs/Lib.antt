@@ -1,1 +1,4 @@
+mod AllVersions
+mod Cuts
+mod PacketLemmas
 mod StateLemmas

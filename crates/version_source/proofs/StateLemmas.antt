@@ -99,3 +99,8 @@ pub left-precedes : (es : List ℕ) (before : Option SeqState) (units : List Uni
 left-precedes es before units zero state may same = subst MayPrecede same may
 left-precedes es before [] (suc k) state may behind = absurd behind
 left-precedes es before (unit ∷ units) (suc k) state may (after, (left, behind)) = left-precedes es (Some after) units k state (state-left before (bytes_of es unit) after may left) behind
+
+-- the same where the bytes of the unit are known by an equation
+pub not-refused-of : (before : Option SeqState) (bytes unit : List ℕ) (fault : PictureFault) → bytes ≡ unit → (after : SeqState) × Leaves before unit after
+    → IsRefusedAs before bytes fault → refusal_told fault ≡ None
+not-refused-of before bytes unit fault same there refused = not-refused before unit fault there (subst (λ (b : List ℕ). IsRefusedAs before b fault) same refused)

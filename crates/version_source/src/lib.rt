@@ -5,8 +5,11 @@
 //! of the one unit that is being sent. Stands on `mux_writer`, `program_reader`, `version_maker` and `pes_units`.
 #![tactic(auto)]
 
+pub mod laws;
 mod packet;
+mod sent_video;
 mod state;
 
 pub use packet::{audio_piece, packet_piece, unit_packet};
+pub use sent_video::{SentVideo, Video};
 pub use state::state_behind;

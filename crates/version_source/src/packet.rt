@@ -1,5 +1,5 @@
 //! PES packets and the pieces that are cut of them (ISO/IEC 13818-1, 2.4.3.6).
-ghost use Rattle.std.specs.Prelude.{◌≡◌, ◌≤◌, ◌<◌, ◌++◌, length, IfOk};
+ghost use Rattle.std.specs.Prelude.{◌≡◌, ◌≤◌, ◌<◌, ◌++◌, length, take, drop, IfOk};
 ghost use Rattle.std.specs.Option.{option_copied};
 ghost use Rattle.syntax_types.specs.declared.picture.SeqState.{SeqState};
 ghost use Rattle.pes_units.specs.VideoHeader.{AreInRange, IsBesidePts, written_header};
@@ -39,7 +39,7 @@ pub fn unit_packet(
         Ok(version) => version,
         Err(fault) => return Err(want_of_memory(fault)),
     };
-    let packet = with_header(alloc, &unit.times, version.as_slice())?;
+    let packet = with_header(alloc, &unit.times, &version)?;
     Ok(packet)
 }
 
@@ -53,7 +53,7 @@ pub fn unit_bytes<'a>(es: &'a [u8], unit: &UnitSource) -> &'a [u8]
 }
 
 /// A version with the header of a PES packet before it, which says these times.
-fn with_header(alloc: Global, times: &Times, version: &[u8]) -> Result<ListOf<u8>, OutOfMemory>
+fn with_header(alloc: Global, times: &Times, version: &ListOf<u8>) -> Result<ListOf<u8>, OutOfMemory>
     requires in_range { AreInRange times.now }
     requires beside { IsBesidePts times.now }
     ensures { IfOk result (λ packet. packet ≡ written_header times.now ++ version.now) }
@@ -61,7 +61,7 @@ fn with_header(alloc: Global, times: &Times, version: &[u8]) -> Result<ListOf<u8
     let mut header = [0; MOST_HEADER_BYTES];
     let len = write_video_header(times, &mut header);
     let mut packet = header[..usize::from(len)].to_vec(alloc)?;
-    packet.extend_from_slice(version)?;
+    packet.extend_from_slice(version.as_slice())?;
     Ok(ListOf::from_vec(packet))
 }
 
@@ -71,13 +71,26 @@ pub fn packet_piece(packet: &[u8], k: u32, into: &mut [u8; PAYLOAD_BYTES]) -> Fi
     ensures size { HasPayloadSize result.bytes }
     ensures piece { IsFilledWith (piece_of packet.now k) result into.new }
 {
-    let from = k as usize * PAYLOAD_BYTES;
-    let size = std::cmp::min(PAYLOAD_BYTES, packet.len() - from);
-    into[..size].copy_from_slice(&packet[from..from + size]);
+    let part = part_from(packet, PAYLOAD_BYTES * k as usize);
+    let size = part.len();
+    into[..size].copy_from_slice(part);
     Filled {
         bytes: size as u8,
         start: k == 0,
     }
+}
+
+/// The bytes from a place on, as many as a packet has room for.
+fn part_from(packet: &[u8], from: usize) -> &[u8]
+    requires { from < length packet.now }
+    ensures part { result.now ≡ take PAYLOAD_BYTES (drop from packet.now) }
+    ensures size { HasPayloadSize (length result.now) }
+{
+    let rest = &packet[from..];
+    if rest.len() <= PAYLOAD_BYTES {
+        return rest;
+    }
+    &rest[..PAYLOAD_BYTES]
 }
 
 /// Puts a piece of an audio stream into the front of `into`.
