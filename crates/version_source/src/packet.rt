@@ -66,6 +66,7 @@ fn with_header(alloc: Global, times: &Times, version: &ListOf<u8>) -> Result<Lis
 }
 
 /// Puts piece k of a PES packet into the front of `into`.
+#[tactic(auto, using(crate::proofs::Cuts::place_stands, crate::proofs::Cuts::part_size))]
 pub fn packet_piece(packet: &[u8], k: u32, into: &mut [u8; PAYLOAD_BYTES]) -> Filled
     requires { k < packets_for (length packet.now) }
     ensures size { HasPayloadSize result.bytes }
@@ -81,16 +82,15 @@ pub fn packet_piece(packet: &[u8], k: u32, into: &mut [u8; PAYLOAD_BYTES]) -> Fi
 }
 
 /// The bytes from a place on, as many as a packet has room for.
+#[tactic(auto, using(crate::proofs::Cuts::part_rest, crate::proofs::Cuts::part_full))]
 fn part_from(packet: &[u8], from: usize) -> &[u8]
     requires { from < length packet.now }
-    ensures part { result.now ≡ take PAYLOAD_BYTES (drop from packet.now) }
-    ensures size { HasPayloadSize (length result.now) }
+    ensures { result.now ≡ take PAYLOAD_BYTES (drop from packet.now) }
 {
-    let rest = &packet[from..];
-    if rest.len() <= PAYLOAD_BYTES {
-        return rest;
+    if packet.len() - from <= PAYLOAD_BYTES {
+        return &packet[from..];
     }
-    &rest[..PAYLOAD_BYTES]
+    &packet[from..from + PAYLOAD_BYTES]
 }
 
 /// Puts a piece of an audio stream into the front of `into`.
