@@ -24,13 +24,19 @@ are-unit-bytes es unit are = AreBytes-take (unit.end - unit.begin) (drop unit.be
 
 -- ---- some
 
+head-of : {X : Type 0} {P : X → Type 0} (x : X) (xs : List X) → All P (x ∷ xs) → P x
+head-of x xs all = all 0 x (omega arith)
+
+rest-of : {X : Type 0} {P : X → Type 0} (x : X) (xs : List X) → All P (x ∷ xs) → All P xs
+rest-of x xs all = λ k d within. all (suc k) d (omega (arith, within))
+
 video-versions : (es coarser : List ℕ) (before : Option SeqState) (units : List UnitSource) → AreBytes es → MayPrecede before → SpellInOrder es before units
     → (versions : List (List UnitVersion)) × AreVideoVersions es coarser before units versions
 video-versions es coarser before [] are may spelled = ([], tt)
-video-versions es coarser before (unit ∷ units) are may (after, (leaves, spelled)) =
+video-versions es coarser before (unit ∷ units) are may (after, leaves, spelled) =
     let (first, those) = some-list before leaves.picture (bytes_of es unit) coarser may (are-unit-bytes es unit are) leaves.whole in
     let (more, others) = video-versions es coarser (Some after) units are (state-left before (bytes_of es unit) after may leaves) spelled in
-    (first ∷ more, (after, (leaves, (those, others))))
+    (first ∷ more, (after, leaves, those, others))
 
 pub all-versions : (programs : List Program) (ratios : List (List ℕ)) → length ratios ≡ length programs → All IsSendable programs → All (λ program. AreBytes program.video) programs
     → (versions : List (List (List UnitVersion))) × AreAllVersions programs ratios versions
@@ -38,8 +44,8 @@ all-versions [] [] same sendable are = ([], tt)
 all-versions [] (r ∷ rs) same sendable are = absurd (cc)
 all-versions (p ∷ ps) [] same sendable are = absurd (cc)
 all-versions (program ∷ programs) (coarser ∷ ratios) same sendable are =
-    let (first, those) = video-versions program.video coarser None program.units are.0 tt sendable.0.pictures in
-    let (more, others) = all-versions programs ratios (omega (arith, same)) sendable.1 are.1 in
+    let (first, those) = video-versions program.video coarser None program.units (head-of program programs are) tt (head-of program programs sendable).pictures in
+    let (more, others) = all-versions programs ratios (omega (arith, same)) (rest-of program programs sendable) (rest-of program programs are) in
     (first ∷ more, (those, others))
 
 -- ---- no others
@@ -51,7 +57,7 @@ one-video es coarser before [] [] (v ∷ vs) p q = absurd q
 one-video es coarser before [] (v ∷ vs) b p q = absurd p
 one-video es coarser before (unit ∷ units) [] b p q = absurd p
 one-video es coarser before (unit ∷ units) (v ∷ vs) [] p q = absurd q
-one-video es coarser before (unit ∷ units) (v ∷ vs) (w ∷ ws) (after, (leaves, (here, rest))) (other, (left, (there, others))) =
+one-video es coarser before (unit ∷ units) (v ∷ vs) (w ∷ ws) (after, leaves, here, rest) (other, left, there, others) =
     let same : after ≡ other = one-state before (bytes_of es unit) after other leaves left in
     ap₂ (λ (x : List UnitVersion) (xs : List (List UnitVersion)). x ∷ xs) (one-list before (bytes_of es unit) coarser v w here there)
     (one-video es coarser (Some other) units vs ws (subst (λ (s : SeqState). AreVideoVersions es coarser (Some s) units vs) same rest) others)
@@ -69,7 +75,7 @@ one-all (program ∷ programs) (r ∷ rs) (v ∷ vs) (w ∷ ws) p q =
 
 -- ---- how long they are
 
-none : VersionSize
+abbrev pub none : VersionSize
 none = record { bytes = 0; distortion = 0 }
 
 size-chosen : (versions : List UnitVersion) (index : ℕ) → length (chosen_bytes versions index) ≡ (slice_index_or (map size_of versions) index none).bytes

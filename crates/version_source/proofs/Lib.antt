@@ -1,4 +1,5 @@
 mod AllVersions
 mod Cuts
+mod Items
 mod PacketLemmas
 mod StateLemmas

@@ -64,17 +64,17 @@ pub one-more : (es : List ℕ) (before : Option SeqState) (units : List UnitSour
     → LeaveBehind es before units k state → k < length units → Leaves state (bytes_of es (get_or units k d)) next → LeaveBehind es before units (suc k) (Some next)
 one-more es before [] k state d next behind within leaves = absurd (let e : k < 0 = within in omega (arith, e))
 one-more es before (unit ∷ units) zero state d next same within leaves =
-    (next, (subst (λ (s : Option SeqState). Leaves s (bytes_of es unit) next) (sym same) leaves, refl))
-one-more es before (unit ∷ units) (suc k) state d next (after, (left, behind)) within leaves =
-    (after, (left, one-more es (Some after) units k state d next behind (omega (arith, within)) leaves))
+    (next, subst (λ (s : Option SeqState). Leaves s (bytes_of es unit) next) (sym same) leaves, refl)
+one-more es before (unit ∷ units) (suc k) state d next (after, left, behind) within leaves =
+    (after, left, one-more es (Some after) units k state d next behind (omega (arith, within)) leaves)
 
 -- the next unit spells a picture
 pub next-there : (es : List ℕ) (before : Option SeqState) (units : List UnitSource) (k : ℕ) (state : Option SeqState) (d : UnitSource)
     → SpellInOrder es before units → LeaveBehind es before units k state → k < length units → (after : SeqState) × Leaves state (bytes_of es (get_or units k d)) after
 next-there es before [] k state d spelled behind within = absurd (let e : k < 0 = within in omega (arith, e))
-next-there es before (unit ∷ units) zero state d (after, (leaves, spelled)) same within =
+next-there es before (unit ∷ units) zero state d (after, leaves, spelled) same within =
     (after, subst (λ (s : Option SeqState). Leaves s (bytes_of es unit) after) same leaves)
-next-there es before (unit ∷ units) (suc k) state d (after, (leaves, spelled)) (other, (left, behind)) within =
+next-there es before (unit ∷ units) (suc k) state d (after, leaves, spelled) (other, left, behind) within =
     let same : after ≡ other = one-state before (bytes_of es unit) after other leaves left in
     next-there es (Some other) units k state d (subst (λ (s : SeqState). SpellInOrder es (Some s) units) same spelled) behind (omega (arith, within))
 
@@ -84,9 +84,9 @@ pub versions-there : (es coarser : List ℕ) (before : Option SeqState) (units :
     → AreVersions state (bytes_of es (get_or units k d)) coarser (slice_index_or versions k [])
 versions-there es coarser before [] versions k state d are behind within = absurd (let e : k < 0 = within in omega (arith, e))
 versions-there es coarser before (unit ∷ units) [] k state d are behind within = absurd are
-versions-there es coarser before (unit ∷ units) (first ∷ more) zero state d (after, (leaves, (here, are))) same within =
+versions-there es coarser before (unit ∷ units) (first ∷ more) zero state d (after, leaves, here, are) same within =
     subst (λ (s : Option SeqState). AreVersions s (bytes_of es unit) coarser first) same here
-versions-there es coarser before (unit ∷ units) (first ∷ more) (suc k) state d (after, (leaves, (here, are))) (other, (left, behind)) within =
+versions-there es coarser before (unit ∷ units) (first ∷ more) (suc k) state d (after, leaves, here, are) (other, left, behind) within =
     let same : after ≡ other = one-state before (bytes_of es unit) after other leaves left in
     versions-there es coarser (Some other) units more k state d (subst (λ (s : SeqState). AreVideoVersions es coarser (Some s) units more) same are) behind (omega (arith, within))
 
@@ -98,9 +98,13 @@ pub left-precedes : (es : List ℕ) (before : Option SeqState) (units : List Uni
     → MayPrecede state
 left-precedes es before units zero state may same = subst MayPrecede same may
 left-precedes es before [] (suc k) state may behind = absurd behind
-left-precedes es before (unit ∷ units) (suc k) state may (after, (left, behind)) = left-precedes es (Some after) units k state (state-left before (bytes_of es unit) after may left) behind
+left-precedes es before (unit ∷ units) (suc k) state may (after, left, behind) = left-precedes es (Some after) units k state (state-left before (bytes_of es unit) after may left) behind
 
 -- the same where the bytes of the unit are known by an equation
 pub not-refused-of : (before : Option SeqState) (bytes unit : List ℕ) (fault : PictureFault) → bytes ≡ unit → (after : SeqState) × Leaves before unit after
     → IsRefusedAs before bytes fault → refusal_told fault ≡ None
 not-refused-of before bytes unit fault same there refused = not-refused before unit fault there (subst (λ (b : List ℕ). IsRefusedAs before b fault) same refused)
+
+pub head-leaves-of : (before : Option SeqState) (bytes unit : List ℕ) (headers : Headers) → bytes ≡ unit → (after : SeqState) × Leaves before unit after → HeadStands before bytes headers
+    → Leaves before unit headers.seq
+head-leaves-of before bytes unit headers same there stands = head-leaves before unit headers there (subst (λ (b : List ℕ). HeadStands before b headers) same stands)

@@ -6,7 +6,7 @@ ghost use Rattle.version_source.specs.Sendable.{IsUnitOf, SpellInOrder};
 ghost use Rattle.version_source.specs.Private.Kept.{IsKept, IsVideo};
 ghost use Rattle.version_source.specs.Private.Sending.{IsPacketOf, LeaveBehind};
 
-use crate::packet::{unit_bytes, unit_packet};
+use crate::packet::unit_packet;
 use crate::state::state_behind;
 use list_types::{ListOf, OutOfMemory};
 use program_reader::UnitSource;
@@ -111,7 +111,7 @@ pub fn state_before(
 {
     let mut state = before;
     for k in from..number {
-        let next = state_behind(unit_bytes(es, &units[k]), state.as_ref())?;
+        let next = state_behind(es, &units[k], state.as_ref())?;
         state = Some(next);
     }
     Ok(state)
