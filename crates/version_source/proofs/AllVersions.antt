@@ -24,12 +24,6 @@ are-unit-bytes es unit are = AreBytes-take (unit.end - unit.begin) (drop unit.be
 
 -- ---- some
 
-head-of : {X : Type 0} {P : X → Type 0} (x : X) (xs : List X) → All P (x ∷ xs) → P x
-head-of x xs all = all 0 x (omega arith)
-
-rest-of : {X : Type 0} {P : X → Type 0} (x : X) (xs : List X) → All P (x ∷ xs) → All P xs
-rest-of x xs all = λ k d within. all (suc k) d (omega (arith, within))
-
 video-versions : (es coarser : List ℕ) (before : Option SeqState) (units : List UnitSource) → AreBytes es → MayPrecede before → SpellInOrder es before units
     → (versions : List (List UnitVersion)) × AreVideoVersions es coarser before units versions
 video-versions es coarser before [] are may spelled = ([], tt)
@@ -44,8 +38,12 @@ all-versions [] [] same sendable are = ([], tt)
 all-versions [] (r ∷ rs) same sendable are = absurd (cc)
 all-versions (p ∷ ps) [] same sendable are = absurd (cc)
 all-versions (program ∷ programs) (coarser ∷ ratios) same sendable are =
-    let (first, those) = video-versions program.video coarser None program.units (head-of program programs are) tt (head-of program programs sendable).pictures in
-    let (more, others) = all-versions programs ratios (omega (arith, same)) (rest-of program programs sendable) (rest-of program programs are) in
+    let here : IsSendable program = sendable 0 program (omega arith) in
+    let byte : AreBytes program.video = are 0 program (omega arith) in
+    let later : All IsSendable programs = λ k d within. sendable (suc k) d (omega (arith, within)) in
+    let bytes : All (λ (p : Program). AreBytes p.video) programs = λ k d within. are (suc k) d (omega (arith, within)) in
+    let (first, those) = video-versions program.video coarser None program.units byte tt here.pictures in
+    let (more, others) = all-versions programs ratios (omega (arith, same)) later bytes in
     (first ∷ more, (those, others))
 
 -- ---- no others

@@ -1,5 +1,5 @@
 mod AllVersions
 mod Cuts
-mod Items
+mod Examples
 mod PacketLemmas
 mod StateLemmas

@@ -1,15 +1,10 @@
-//! The pieces of programs in chosen versions, made as they are sent.
+//! What programs in chosen versions send: the pieces of their streams, as definitions, and what a source of them is made of.
 //!
-//! `VersionSource` is a `PieceSource` of `mux_writer` over programs that were read: the audio packets as they stand, and each coded
-//! picture as a PES packet in the version that a choice names. It keeps, for each video, one sequence state and the PES packet
-//! of the one unit that is being sent. Stands on `mux_writer`, `program_reader`, `version_maker` and `pes_units`.
+//! Each coded picture goes out as a PES packet in the version that a choice names, in pieces of 184 bytes; audio packets go out as
+//! they stand. `laws` says that programs have versions, and that the pieces are those that the slot rule queues. Stands on
+//! `mux_writer`, `program_reader`, `version_maker` and `pes_units`.
 #![tactic(auto)]
 
 pub mod laws;
 mod packet;
-mod sent_video;
 mod state;
-
-pub use packet::{audio_piece, packet_piece, unit_packet};
-pub use sent_video::{SentVideo, Video};
-pub use state::state_behind;
