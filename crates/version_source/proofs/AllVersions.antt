@@ -1,5 +1,5 @@
 -- The versions of programs: that there are some, and no others.
-use Rattle.std.proofs.Common.{◌≡◌, ℕ, zero, suc, ◌+◌, ◌-◌, List, [], ◌∷◌, length, drop, map, slice_index_or, All, Option, Some, None, refl, ap, ap₂, subst, sym, ◌∙◌, arith}
+use Rattle.std.proofs.Common.{◌≡◌, ℕ, zero, suc, ◌+◌, ◌-◌, List, [], ◌∷◌, length, drop, map, slice_index_or, All, Option, Some, None, refl, ap, ap₂, subst, ◌∙◌, arith}
 use Rattle.std.proofs.lemmas.List.{length-append}
 use Rattle.bit_lists.specs.Fields.{AreBytes}
 use Rattle.bit_lists.proofs.ByteLemmas.{AreBytes-take}
@@ -11,7 +11,7 @@ use Rattle.program_reader.specs.declared.program.Program.{Program}
 use Rattle.program_reader.specs.declared.program.UnitSource.{UnitSource}
 use Rattle.version_maker.specs.declared.version.UnitVersion.{UnitVersion}
 use Rattle.version_maker.specs.declared.version.VersionSize.{VersionSize}
-use Rattle.version_maker.specs.Versions.{AreVersions, size_of}
+use Rattle.version_maker.specs.Versions.{size_of}
 use Rattle.version_maker.proofs.Lists.{one-list, some-list}
 use Rattle.version_source.specs.Sendable.{IsSendable, SpellInOrder, bytes_of}
 use Rattle.version_source.specs.Pieces.{pes_packet}

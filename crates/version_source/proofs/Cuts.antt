@@ -17,7 +17,6 @@ cut-from f c last from (suc n) each at =
     let end : f ((from + 1) + n) ≡ last = ap f (let e : (from + 1) + n ≡ from + suc n = omega arith in e) ∙ at in
     ap₂ (λ (x : ℕ) (xs : List ℕ). x ∷ xs) first (cut-from f c last (from + 1) n later end)
 
-
 lengths : (packet : List ℕ) (ks : List ℕ) → map (λ (piece : Payload). length piece.bytes) (map (piece_of packet) ks) ≡ map (λ (k : ℕ). length (piece_of packet k).bytes) ks
 lengths packet [] = refl
 lengths packet (k ∷ ks) = ap (λ (xs : List ℕ). length (piece_of packet k).bytes ∷ xs) (lengths packet ks)

@@ -1,15 +1,14 @@
 -- PES packets in chosen versions, and their pieces.
-use Rattle.std.proofs.Common.{◌≡◌, ℕ, zero, suc, ◌+◌, ◌-◌, ◌*◌, ◌/◌, ◌<◌, ◌≤◌, List, [], ◌∷◌, ◌++◌, length, Option, Some, IfSome, refl, ap, subst, sym, ◌∙◌, arith}
+use Rattle.std.proofs.Common.{◌≡◌, ℕ, zero, suc, ◌<◌, List, [], ◌∷◌, ◌++◌, length, Option, IfSome, refl, ap, subst, sym, ◌∙◌, arith}
 use Rattle.std.specs.List.{AllZip, slice_get}
 use Rattle.syntax_types.specs.declared.picture.Picture.{Picture}
 use Rattle.syntax_types.specs.declared.picture.SeqState.{SeqState}
 use Rattle.pes_units.specs.VideoHeader.{written_header}
 use Rattle.program_reader.specs.declared.program.UnitSource.{UnitSource}
 use Rattle.version_maker.specs.declared.version.UnitVersion.{UnitVersion}
-use Rattle.version_maker.specs.Versions.{AreVersions, AreVersionsOf, IsCoarserVersion, IsVersionAt}
+use Rattle.version_maker.specs.Versions.{AreVersions, IsCoarserVersion, IsVersionAt}
 use Rattle.version_maker.proofs.Lists.{one-list}
 use Rattle.version_source.specs.Sendable.{bytes_of}
-use Rattle.version_source.specs.Pieces.{pes_packet}
 use Rattle.version_source.specs.Versions.{chosen_bytes}
 use Rattle.version_source.specs.Private.Sending.{IsPacketOf}
 

@@ -53,7 +53,11 @@ pub fn unit_bytes<'a>(es: &'a [u8], unit: &UnitSource) -> &'a [u8]
 }
 
 /// A version with the header of a PES packet before it, which says these times.
-fn with_header(alloc: Global, times: &Times, version: &ListOf<u8>) -> Result<ListOf<u8>, OutOfMemory>
+fn with_header(
+    alloc: Global,
+    times: &Times,
+    version: &ListOf<u8>,
+) -> Result<ListOf<u8>, OutOfMemory>
     requires in_range { AreInRange times.now }
     requires beside { IsBesidePts times.now }
     ensures { IfOk result (λ packet. packet ≡ written_header times.now ++ version.now) }
