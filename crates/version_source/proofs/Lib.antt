@@ -1,0 +1,5 @@
+mod AllVersions
+mod Cuts
+mod Examples
+mod PacketLemmas
+mod StateLemmas

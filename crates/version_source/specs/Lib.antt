@@ -1,0 +1,4 @@
+pub mod Pieces
+pub mod Private
+pub mod Sendable
+pub mod Versions

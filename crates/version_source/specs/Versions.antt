@@ -1,0 +1,29 @@
+-- All versions of the units of programs.
+use Rattle.std.specs.Prelude.{ℕ, List, [], ◌∷◌, Option, Some, None}
+use Rattle.std.specs.Option.{option_map_or}
+use Rattle.std.specs.List.{slice_get}
+use Rattle.syntax_types.specs.declared.picture.SeqState.{SeqState}
+use Rattle.program_reader.specs.declared.program.Program.{Program}
+use Rattle.program_reader.specs.declared.program.UnitSource.{UnitSource}
+use Rattle.version_maker.specs.declared.version.UnitVersion.{UnitVersion}
+use Rattle.version_maker.specs.Versions.{AreVersions}
+use Rattle.version_source.specs.Sendable.{Leaves, bytes_of}
+
+-- the versions of units of a video at some ratios, each unit behind the state that the one before leaves
+abbrev pub AreVideoVersions : (es coarser : List ℕ) → Option SeqState → List UnitSource → List (List UnitVersion) → Type 0
+AreVideoVersions es coarser before [] [] = Unit {0}
+AreVideoVersions es coarser before (unit ∷ units) (versions ∷ more) =
+    (after : SeqState) × Leaves before (bytes_of es unit) after × AreVersions before (bytes_of es unit) coarser versions
+    × AreVideoVersions es coarser (Some after) units more
+AreVideoVersions es coarser before units versions = ⊥
+
+-- the versions of all units of programs, program by program, each at ratios of its own
+abbrev pub AreAllVersions : List Program → (ratios : List (List ℕ)) → List (List (List UnitVersion)) → Type 0
+AreAllVersions [] [] [] = Unit {0}
+AreAllVersions (program ∷ programs) (coarser ∷ ratios) (versions ∷ more) =
+    AreVideoVersions program.video coarser None program.units versions × AreAllVersions programs ratios more
+AreAllVersions programs ratios versions = ⊥
+
+-- the bytes of the version of this number; where there is none, none
+abbrev pub chosen_bytes : List UnitVersion → (index : ℕ) → List ℕ
+chosen_bytes versions index = option_map_or (λ version. version.bytes) (slice_get versions index) []
