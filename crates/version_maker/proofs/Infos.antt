@@ -47,7 +47,6 @@ extension-few info bits rest (intra, a, (code, coded, passing, split), (reserved
       length-append code' b,
     )
 
-
 extended-few : (extended : Bool) (info : Option SliceInfo) (bits rest : List ℕ) → (optional extended slice_extension).Spells info bits rest → IfSome info (λ i. length i.bytes ≤ length bits)
 extended-few true info bits rest (value, m, s, (e, f)) = subst (λ (o : Option SliceInfo). IfSome o (λ i. length i.bytes ≤ length bits)) (sym e) (extension-few value bits m s)
 extended-few false info bits rest (e, f) = subst (λ (o : Option SliceInfo). IfSome o (λ i. length i.bytes ≤ length bits)) (sym e) tt

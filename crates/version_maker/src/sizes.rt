@@ -67,7 +67,8 @@ pub fn sizes_of(
 
 /// The bytes of a sequence end code, where one stands behind the slices.
 fn end_bytes(sequence_end: bool) -> u64
-    ensures { result ≡ (if sequence_end then 4 else 0) }
+    ensures value { result ≡ (if sequence_end then 4 else 0) }
+    ensures few { result ≤ 4 }
 {
     if sequence_end { 4 } else { 0 }
 }

@@ -97,7 +97,7 @@ returns-in-End c =
     let whole = subst (λ (p : UnitPart). IsNextPart before unit inv.slices cursor p) c.in-End.is (c.in-Ok-next.ensures before inv.slices inv.stands) in
     let around : ℕ = headers.slices_at + c.end_bytes.result in
     let sizes = unit-sizes before picture unit coarser around c.slices.sizes.items c.requires.before are whole
-    (omega (arith, length-take-le headers.slices_at unit inv.stands.headed.within, c.end_bytes.ensures))
-    (omega (arith, inv.stands.headed.within, c.requires.unit, c.end_bytes.ensures))
+    (omega (arith, length-take-le headers.slices_at unit inv.stands.headed.within, c.end_bytes.ensures.value))
+    (omega (arith, inv.stands.headed.within, c.requires.unit, c.end_bytes.ensures.few))
     (omega (arith, inv.few, inv.stands.within, c.requires.unit)) inv.sized in
     subst (AreSizes before unit coarser) (sym (c.all_sizes.ensures ∙ ap₂ (λ (n : ℕ) (xs : List VersionSize). first_size n ∷ map (with_bytes around) xs) refl c.as_slice.ensures.value)) sizes
