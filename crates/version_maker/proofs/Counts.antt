@@ -1,5 +1,5 @@
 -- Versions counted step by step.
-use Rattle.std.proofs.Common.{◌≡◌, ℕ, zero, suc, ◌+◌, ◌-◌, ◌*◌, ◌/◌, ◌%◌, ◌^◌, ◌<◌, ◌≤◌, min, Option, Some, None, List, [], ◌∷◌, ◌++◌, Bool, true, false, refl, sym, ◌∙◌, ap, ap₂, subst, arith, length, take, drop, get_or, add-one, replicate}
+use Rattle.std.proofs.Common.{◌≡◌, ℕ, zero, suc, ◌+◌, ◌-◌, ◌*◌, ◌/◌, ◌%◌, ◌^◌, ◌<◌, ◌≤◌, Option, Some, None, List, [], ◌∷◌, ◌++◌, Bool, refl, sym, ◌∙◌, ap, ap₂, subst, arith, length, take, drop, get_or, add-one, replicate}
 use Rattle.std.specs.Prelude.{◌==◌, ◌&&◌, not, is_some, if◌then◌else◌}
 use Rattle.std.specs.Option.{option_to_list}
 use Rattle.std.specs.List.{AllByRecursion, flat_map, sum_by}
@@ -19,9 +19,9 @@ use Rattle.stream_constants.specs.declared.start_codes.TheConstants.{FIRST_SLICE
 use Rattle.picture_grammar.specs.StartCode.{start_code_bits, start_code_prefix}
 use Rattle.picture_grammar.specs.Written.{to_whole_bytes, written_macroblock, written_slice, written_slice_info}
 use Rattle.requantiser.specs.declared.version_state.VersionState.{VersionState}
-use Rattle.requantiser.specs.Steps.{AreSteps, IsStep, Step, distortion_of, made_by, state_behind, taken_by}
+use Rattle.requantiser.specs.Steps.{IsStep, Step, distortion_of, made_by, state_behind, taken_by}
 use Rattle.requantiser.specs.VersionState.{IsSpelledMacroblock, IsStateBehind}
-use Rattle.requantiser.proofs.MacroblockSteps.{none_or, one_span, span_of}
+use Rattle.requantiser.proofs.MacroblockSteps.{one_span, span_of}
 use Rattle.requantiser.proofs.Steps.{length-taken, one-more-step}
 use Rattle.version_maker.specs.declared.slice_count.SliceCount.{SliceCount}
 use Rattle.version_maker.specs.declared.slice_count.VersionCount.{VersionCount}

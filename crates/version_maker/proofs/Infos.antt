@@ -1,7 +1,7 @@
 -- Slices that bits spell can be counted.
-use Rattle.std.proofs.Common.{◌≡◌, ℕ, zero, suc, ◌+◌, ◌-◌, ◌*◌, ◌/◌, ◌^◌, ◌<◌, ◌≤◌, Option, Some, None, List, [], ◌∷◌, ◌++◌, Bool, true, false, refl, sym, ◌∙◌, ap, subst, arith, length, IfSome, append_assoc}
+use Rattle.std.proofs.Common.{◌≡◌, ℕ, ◌+◌, ◌^◌, ◌≤◌, Option, Some, None, List, [], ◌∷◌, ◌++◌, Bool, true, false, refl, sym, ◌∙◌, ap, subst, arith, length, IfSome, append_assoc}
 use Rattle.std.specs.Prelude.{◌==◌}
-use Rattle.std.specs.List.{AllByRecursion, sum_by}
+use Rattle.std.specs.List.{AllByRecursion}
 use Rattle.std.proofs.lemmas.List.{length-append}
 use Rattle.syntax_types.specs.declared.macroblock.Macroblock.{Macroblock}
 use Rattle.syntax_types.specs.declared.picture.PicCoding.{PicCoding}
@@ -11,7 +11,6 @@ use Rattle.syntax_types.specs.declared.slice.SliceInfo.{SliceInfo}
 use Rattle.picture_grammar.specs.Element.{uimsbf}
 use Rattle.picture_grammar.specs.Grammar.{SpellsList, optional, Next}
 use Rattle.picture_grammar.specs.Grammar.Next.{more}
-use Rattle.picture_grammar.specs.Macroblock.{macroblock}
 use Rattle.picture_grammar.specs.Slice.{columns, columns_left, extra_information, slice, slice_extension, slice_info}
 use Rattle.picture_laws.specs.Spellable.{HasSpellableMacroblocks, HasSpellableParts}
 use Rattle.picture_laws.proofs.WrittenMacroblock.{anywhere-macroblock}

@@ -1,5 +1,5 @@
 -- The versions of a picture: that there are some, and no others.
-use Rattle.std.proofs.Common.{◌≡◌, ℕ, zero, suc, ◌<◌, ◌≤◌, ◌+◌, ◌-◌, ◌*◌, List, [], ◌∷◌, ◌++◌, length, map, drop, drop-cons, get_or, add-one, append_assoc, append-nil, slice_index, Option, Some, IfSome, refl, ap, ap₂, subst, sym, ◌∙◌, arith}
+use Rattle.std.proofs.Common.{◌≡◌, ℕ, zero, suc, ◌<◌, ◌≤◌, ◌+◌, ◌-◌, ◌*◌, List, [], ◌∷◌, ◌++◌, length, drop, drop-cons, get_or, add-one, append_assoc, append-nil, slice_index, Option, IfSome, refl, ap, ap₂, subst, sym, ◌∙◌, arith}
 use Rattle.std.proofs.lemmas.List.{append_cancel_left, drop_all, length-append}
 use Rattle.std.specs.List.{AllZip, slice_get}
 use Rattle.bit_lists.specs.Bits.{bits_of}
@@ -19,7 +19,6 @@ use Rattle.picture_heads.proofs.DelayPlaces.{has-without, one-without}
 use Rattle.picture_laws.proofs.WrittenBits.{written-bytes}
 use Rattle.picture_reader.specs.Picture.{IsPictureOf}
 use Rattle.requantiser.specs.Distortion.{distortion_between}
-use Rattle.requantiser.specs.Version.{IsVersion}
 use Rattle.requantiser.proofs.LawfulVersions.{some-version}
 use Rattle.requantiser.proofs.Versions.{lawful-delay, one-version}
 use Rattle.version_maker.specs.declared.version.UnitVersion.{UnitVersion}

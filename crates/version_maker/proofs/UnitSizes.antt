@@ -1,12 +1,11 @@
 -- What was counted of the slices of a unit are the sizes of its versions.
-use Rattle.std.proofs.Common.{◌≡◌, ℕ, zero, suc, ◌+◌, ◌-◌, ◌*◌, ◌/◌, ◌%◌, ◌^◌, ◌<◌, ◌≤◌, Option, List, [], ◌∷◌, ◌++◌, Bool, true, false, refl, sym, ◌∙◌, ap, ap₂, subst, arith, length, map}
+use Rattle.std.proofs.Common.{◌≡◌, ℕ, ◌+◌, ◌-◌, ◌*◌, ◌/◌, ◌%◌, ◌^◌, ◌≤◌, Option, List, [], ◌∷◌, ◌++◌, Bool, true, false, refl, ap, ap₂, arith, length, map}
 use Rattle.std.specs.Prelude.{if◌then◌else◌}
-use Rattle.std.specs.List.{AllZip, flat_map, sum_by, range_with_len}
+use Rattle.std.specs.List.{AllZip, flat_map, sum_by}
 use Rattle.std.proofs.Math.Nat.{le_trans, mul-le-mul_left, mul-le-mul_right}
 use Rattle.std.proofs.lemmas.List.{length-append}
 use Rattle.std.proofs.lemmas.List.FromFn.{length-range_with_len}
 use Rattle.std.proofs.lemmas.List.Sums.{sum_by-cons}
-use Rattle.bit_lists.specs.Bits.{bits_of}
 use Rattle.bit_lists.specs.Fields.{AreBytes, bit_list}
 use Rattle.bit_lists.proofs.ByteLemmas.{length-bit_list}
 use Rattle.syntax_types.specs.declared.macroblock.Macroblock.{Macroblock}
@@ -16,7 +15,7 @@ use Rattle.syntax_types.specs.declared.picture.SeqState.{SeqState}
 use Rattle.syntax_types.specs.declared.slice.Slice.{Slice}
 use Rattle.stream_constants.specs.declared.start_codes.TheConstants.{SEQUENCE_END}
 use Rattle.picture_grammar.specs.Macroblock.{is_frame}
-use Rattle.picture_grammar.specs.Picture.{IsCovered, IsLawful, IsState, MayPrecede, addresses, first_column, rows}
+use Rattle.picture_grammar.specs.Picture.{IsLawful, IsState, MayPrecede, addresses, first_column, rows}
 use Rattle.picture_grammar.specs.Slice.{columns}
 use Rattle.picture_grammar.specs.StartCode.{start_code_bits}
 use Rattle.picture_grammar.specs.Written.{written_macroblock, written_picture, written_slice}

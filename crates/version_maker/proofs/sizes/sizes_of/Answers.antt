@@ -1,16 +1,15 @@
-use Rattle.std.proofs.Common.{◌≡◌, ◌++◌, ◌∷◌, ◌+◌, ◌*◌, ◌^◌, ◌<◌, ◌≤◌, ℕ, List, [], length, take, drop, refl, sym, ap, ap₂, subst, ◌∙◌, arith}
+use Rattle.std.proofs.Common.{◌++◌, ◌∷◌, ◌+◌, ◌<◌, ℕ, List, [], length, take, drop, refl, sym, ap, ap₂, subst, ◌∙◌, arith}
 use Rattle.std.specs.Prelude.{map}
 use Rattle.std.specs.Option.{option_copied}
 use Rattle.std.proofs.lemmas.List.{length-append, length-drop, length-take-le}
 use Rattle.bit_lists.specs.Fields.{AreBytes, bit_list}
 use Rattle.bit_lists.proofs.ByteLemmas.{length-bit_list}
-use Rattle.syntax_types.specs.declared.slice.Slice.{Slice}
 use Rattle.video_headers.specs.declared.head.Headers.{Headers}
 use Rattle.picture_reader.specs.declared.cursor.UnitPart.{UnitPart}
 use Rattle.picture_reader.specs.UnitCursor.{IsNextPart, bits_from, picture_of}
 use Rattle.picture_reader.proofs.Parts.{are-bytes}
 use Rattle.picture_reader.proofs.Units.{head-coding}
-use Rattle.requantiser.proofs.SpelledHeads.{IsUsable, head-usable}
+use Rattle.requantiser.proofs.SpelledHeads.{head-usable}
 use Rattle.version_maker.specs.declared.version.VersionSize.{VersionSize}
 use Rattle.version_maker.specs.Versions.{AreSizes}
 use Rattle.version_maker.specs.Private.Read.{IsSliceRead}

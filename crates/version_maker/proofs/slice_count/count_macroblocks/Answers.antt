@@ -1,4 +1,4 @@
-use Rattle.std.proofs.Common.{◌≡◌, ◌<◌, ◌≤◌, ◌+◌, ◌*◌, ◌^◌, ℕ, [], length, refl, sym, subst, arith}
+use Rattle.std.proofs.Common.{◌≡◌, ℕ, [], length, refl, subst, arith}
 use Rattle.version_maker.specs.Private.Counts.{AreCounted}
 use Rattle.requantiser.proofs.MacroblockSteps.{one_span}
 use Rattle.version_maker.proofs.Counts.{few-macroblocks, one-more-counted}

@@ -1,4 +1,4 @@
-use Rattle.std.proofs.Common.{◌≡◌, ◌≤◌, ◌+◌, ℕ, List, length, refl, sym, ap, subst, arith}
+use Rattle.std.proofs.Common.{◌≤◌, ◌+◌, List, length, refl, ap, subst, arith}
 use Rattle.syntax_types.specs.declared.macroblock.Macroblock.{Macroblock}
 use Rattle.version_maker.specs.Private.Counts.{AreCounted}
 use Rattle.version_maker.proofs.Counts.{all-counted, few-macroblocks}
