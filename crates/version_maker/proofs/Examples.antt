@@ -2,12 +2,10 @@
 -- versions. The bytes were worked out by hand.
 use Rattle.std.proofs.Common.{◌≡◌, ℕ, List, [], ◌∷◌, ◌++◌, Bool, map, refl}
 use Rattle.syntax_types.specs.declared.picture.PicCoding.{PicCoding}
-use Rattle.syntax_types.specs.declared.picture.Picture.{Picture}
 use Rattle.syntax_types.specs.declared.picture.SeqState.{SeqState}
 use Rattle.syntax_types.specs.declared.slice.Slice.{Slice}
 use Rattle.picture_heads.proofs.Examples.{behind_group}
 use Rattle.version_maker.specs.declared.version.UnitVersion.{UnitVersion}
-use Rattle.version_maker.specs.declared.version.VersionSize.{VersionSize}
 use Rattle.version_maker.specs.Versions.{IsSourceVersion, size_of}
 
 -- a group of pictures header, an I-picture with vbv_delay 1234 in hexadecimal, and its coding extension

@@ -1,3 +1,7 @@
 pub mod Examples
+pub mod Counts
+pub mod Infos
 pub mod Lists
 pub mod Units
+pub mod SizedSlices
+pub mod UnitSizes

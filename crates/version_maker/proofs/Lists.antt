@@ -1,5 +1,5 @@
 -- The versions of a picture: that there are some, and no others.
-use Rattle.std.proofs.Common.{◌≡◌, ℕ, zero, suc, ◌<◌, ◌≤◌, ◌+◌, ◌-◌, ◌*◌, List, [], ◌∷◌, ◌++◌, length, map, drop, drop-cons, get_or, add-one, append_assoc, append-nil, slice_index, Option, Some, IfSome, refl, ap, ap₂, subst, sym, ◌∙◌, arith}
+use Rattle.std.proofs.Common.{◌≡◌, ℕ, zero, suc, ◌<◌, ◌≤◌, ◌+◌, ◌-◌, ◌*◌, List, [], ◌∷◌, ◌++◌, length, drop, drop-cons, get_or, add-one, append_assoc, append-nil, slice_index, Option, IfSome, refl, ap, ap₂, subst, sym, ◌∙◌, arith}
 use Rattle.std.proofs.lemmas.List.{append_cancel_left, drop_all, length-append}
 use Rattle.std.specs.List.{AllZip, slice_get}
 use Rattle.bit_lists.specs.Bits.{bits_of}
@@ -14,11 +14,11 @@ use Rattle.picture_grammar.specs.Written.{IsWritten}
 use Rattle.picture_grammar.proofs.HeaderLaws.{exact-picture_unit}
 use Rattle.picture_grammar.specs.declared.limits.TheConstants.{VBV_DELAY_BITS}
 use Rattle.picture_heads.specs.declared.TheConstants.{NO_DELAY}
+use Rattle.picture_heads.specs.Heads.{IsHeadWithoutDelay}
 use Rattle.picture_heads.proofs.DelayPlaces.{has-without, one-without}
 use Rattle.picture_laws.proofs.WrittenBits.{written-bytes}
 use Rattle.picture_reader.specs.Picture.{IsPictureOf}
 use Rattle.requantiser.specs.Distortion.{distortion_between}
-use Rattle.requantiser.specs.Version.{IsVersion}
 use Rattle.requantiser.proofs.LawfulVersions.{some-version}
 use Rattle.requantiser.proofs.Versions.{lawful-delay, one-version}
 use Rattle.version_maker.specs.declared.version.UnitVersion.{UnitVersion}
@@ -175,17 +175,21 @@ module _ (picture : Picture) (unit coarser : List ℕ) where
     coarser_ones = all-coarser picture coarser i so_far.others past so_far.coarser_ones;
   }
 
+-- a head without its vbv_delay is as long as before
+pub head-length : (from to : List ℕ) → IsHeadWithoutDelay from to → length to ≡ length from
+head-length from to h =
+    let no = bits_of VBV_DELAY_BITS NO_DELAY in
+    let old : 8 * length from ≡ length h.front + length h.delay + length h.back =
+    sym (length-bit_list from) ∙ ap length h.source.parts ∙ length-append (h.front ++ h.delay) h.back ∙ ap (λ (n : ℕ). n + length h.back) (length-append h.front h.delay) in
+    let new : 8 * length to ≡ length h.front + length no + length h.back =
+    sym (length-bit_list to) ∙ ap length h.without ∙ length-append (h.front ++ no) h.back ∙ ap (λ (n : ℕ). n + length h.back) (length-append h.front no) in
+    let delay : length h.delay ≡ length no = h.source.delay_bits ∙ sym (length-bits_of VBV_DELAY_BITS NO_DELAY) in
+    omega (arith, old, new, delay)
+
 -- version 0 is as long as its unit
 pub source-length : (picture : Picture) (unit : List ℕ) (version : UnitVersion) → IsSourceVersion picture unit version → length version.bytes ≡ length unit
 source-length picture unit version is =
-    let h = is.without in
-    let no = bits_of VBV_DELAY_BITS NO_DELAY in
-    let old : 8 * length picture.head ≡ length h.front + length h.delay + length h.back =
-    sym (length-bit_list picture.head) ∙ ap length h.source.parts ∙ length-append (h.front ++ h.delay) h.back ∙ ap (λ (n : ℕ). n + length h.back) (length-append h.front h.delay) in
-    let new : 8 * length is.head ≡ length h.front + length no + length h.back =
-    sym (length-bit_list is.head) ∙ ap length h.without ∙ length-append (h.front ++ no) h.back ∙ ap (λ (n : ℕ). n + length h.back) (length-append h.front no) in
-    let delay : length h.delay ≡ length no = h.source.delay_bits ∙ sym (length-bits_of VBV_DELAY_BITS NO_DELAY) in
-    let heads : length is.head ≡ length picture.head = omega (arith, old, new, delay) in
+    let heads : length is.head ≡ length picture.head = head-length picture.head is.head is.without in
     ap length is.bytes ∙ length-append is.head is.behind ∙ ap (λ (n : ℕ). n + length is.behind) heads ∙ sym (length-append picture.head is.behind) ∙ sym (ap length is.source)
 
 -- the bytes at a later place

@@ -1,5 +1,5 @@
 -- The picture that a unit spells: its head begins the unit, and it is lawful.
-use Rattle.std.proofs.Common.{◌≡◌, ℕ, ◌<◌, ◌^◌, List, [], ◌∷◌, ◌++◌, take, drop, Option, refl, ap, ap₂, subst, sym}
+use Rattle.std.proofs.Common.{◌≡◌, ℕ, List, [], ◌∷◌, ◌++◌, take, drop, Option, refl, ap, ap₂, subst, sym}
 use Rattle.bit_lists.specs.Fields.{AreBytes, bit_list, bits_of_byte}
 use Rattle.bit_lists.proofs.PrefixLemmas.{bits_of_byte-same}
 use Rattle.syntax_types.specs.declared.picture.Picture.{Picture}

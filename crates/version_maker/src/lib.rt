@@ -9,6 +9,9 @@
 pub mod laws;
 mod limits;
 mod sizes;
+mod slice_count;
+mod slice_read;
+mod unit_sizes;
 mod version;
 mod versions;
 

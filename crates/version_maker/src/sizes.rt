@@ -1,21 +1,21 @@
-ghost use Rattle.std.specs.Prelude.{◌≡◌, ◌++◌, ◌≤◌, ◌<◌, ℕ, List, length, IfOk, MatchResult};
+ghost use Rattle.std.specs.Prelude.{◌≡◌, ◌≤◌, ◌<◌, ◌+◌, length, drop, if◌then◌else◌, MatchResult};
 ghost use Rattle.std.specs.Option.{option_copied};
-ghost use Rattle.picture_grammar.specs.Picture.{IsLawful, MayPrecede};
+ghost use Rattle.picture_grammar.specs.Picture.{MayPrecede};
 ghost use Rattle.picture_reader.specs.Picture.{IsRefusedAs};
 ghost use Rattle.version_maker.specs.Versions.{AreSizes};
-ghost use Rattle.version_maker.specs.Private.Bytes.{AreSizesOf};
 
 use crate::limits::UNIT_BYTES_MOST;
+use crate::slice_read::read_one_slice;
+use crate::unit_sizes::{all_sizes, no_sizes, with_slice};
 use crate::version::VersionSize;
-use crate::versions::coarser_version;
 use arrayvec::ArrayVec;
-use list_types::OutOfMemory;
-use picture_reader::{PictureFault, read_picture};
+use picture_reader::{PictureFault, UnitCursor, UnitPart};
 use std::alloc::Global;
-use syntax_types::{Picture, SeqState};
+use syntax_types::{Macroblock, SeqState};
 use version_table::limits::VERSIONS_MOST;
 
 /// How long all versions of a unit are, and their distortions, in the order of `versions_of`, which refuses the same units.
+/// It goes once through the unit, and keeps one slice at a time.
 pub fn sizes_of(
     alloc: Global,
     unit: &[u8],
@@ -28,37 +28,55 @@ pub fn sizes_of(
     ensures { MatchResult result (λ sizes. AreSizes (option_copied before.entry) unit.now coarser.now sizes.items)
         (IsRefusedAs (option_copied before.entry) unit.now) }
 {
-    let picture = match read_picture(alloc, unit, before) {
-        Ok(picture) => picture,
+    let mut cursor = match UnitCursor::new(unit, before) {
+        Ok(cursor) => cursor,
         Err(fault) => return Err(fault),
     };
-    let sizes = sizes_of_picture(alloc, unit, &picture, coarser)?;
-    Ok(sizes)
+    let mut lent = Macroblock::empty();
+    let mut sizes = no_sizes(coarser);
+    'slices: loop {
+        let part = match cursor.next(unit) {
+            Ok(part) => part,
+            Err(fault) => return Err(fault),
+        };
+        match part {
+            UnitPart::End { sequence_end } => {
+                let around = cursor.headers.slices_at + end_bytes(sequence_end);
+                return Ok(all_sizes(unit.len() as u64, around, sizes.as_slice()));
+            }
+            UnitPart::Slice { row, at } => {
+                let headers = cursor.headers;
+                let bytes = bytes_from(unit, at);
+                let read = match read_one_slice(alloc, bytes, &headers.seq, &headers.coding, row) {
+                    Ok(read) => read,
+                    Err(fault) => return Err(cursor.fault_of(unit, row, at, fault)),
+                };
+                cursor = cursor.past(unit, row, at, read.bits, read.span);
+                sizes = with_slice(
+                    &headers.seq,
+                    &headers.coding,
+                    &read.slice,
+                    coarser,
+                    sizes.as_slice(),
+                    &mut lent,
+                );
+            }
+        }
+    }
 }
 
-// The sizes of the versions of the picture that the unit spells. Version 0 is as long as the unit.
-fn sizes_of_picture(
-    alloc: Global,
-    unit: &[u8],
-    picture: &Picture,
-    coarser: &[u16],
-) -> Result<ArrayVec<VersionSize, VERSIONS_MOST>, OutOfMemory>
-    requires lawful { IsLawful picture.now }
-    requires begins { (behind : List ℕ) × (unit.now ≡ picture.now.head ++ behind) }
-    requires coarser { length coarser.now < VERSIONS_MOST }
-    ensures { IfOk result (λ sizes. AreSizesOf picture.now unit.now coarser.now sizes.items) }
+/// The bytes of a sequence end code, where one stands behind the slices.
+fn end_bytes(sequence_end: bool) -> u64
+    ensures value { result ≡ (if sequence_end then 4 else 0) }
+    ensures few { result ≤ 4 }
 {
-    let mut sizes = ArrayVec::new();
-    sizes.push(VersionSize {
-        bytes: unit.len() as u64,
-        distortion: 0,
-    });
-    for m in coarser {
-        let version = coarser_version(alloc, picture, *m)?;
-        sizes.push(VersionSize {
-            bytes: version.bytes.len() as u64,
-            distortion: version.distortion,
-        });
-    }
-    Ok(sizes)
+    if sequence_end { 4 } else { 0 }
+}
+
+/// The bytes from this one on.
+fn bytes_from(unit: &[u8], first: usize) -> &[u8]
+    requires { first ≤ length unit.now }
+    ensures { result.now ≡ drop first unit.now }
+{
+    &unit[first..]
 }

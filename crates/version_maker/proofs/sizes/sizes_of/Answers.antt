@@ -1,9 +1,102 @@
-use Rattle.std.proofs.Common.{arith}
+use Rattle.std.proofs.Common.{◌++◌, ◌∷◌, ◌+◌, ◌<◌, ℕ, List, [], length, take, drop, refl, sym, ap, ap₂, subst, ◌∙◌, arith}
+use Rattle.std.specs.Prelude.{map}
 use Rattle.std.specs.Option.{option_copied}
+use Rattle.std.proofs.lemmas.List.{length-append, length-drop, length-take-le}
+use Rattle.bit_lists.specs.Fields.{AreBytes, bit_list}
+use Rattle.bit_lists.proofs.ByteLemmas.{length-bit_list}
+use Rattle.video_headers.specs.declared.head.Headers.{Headers}
+use Rattle.picture_reader.specs.declared.cursor.UnitPart.{UnitPart}
+use Rattle.picture_reader.specs.UnitCursor.{IsNextPart, bits_from, picture_of}
 use Rattle.picture_reader.proofs.Parts.{are-bytes}
-use Rattle.version_maker.proofs.Units.{head-begins}
+use Rattle.picture_reader.proofs.Units.{head-coding}
+use Rattle.requantiser.proofs.SpelledHeads.{head-usable}
+use Rattle.version_maker.specs.declared.version.VersionSize.{VersionSize}
+use Rattle.version_maker.specs.Versions.{AreSizes}
+use Rattle.version_maker.specs.Private.Read.{IsSliceRead}
+use Rattle.version_maker.specs.Private.Sized.{AreSized, IsSized, first_size, with_bytes}
+use Rattle.version_maker.proofs.Infos.{spelled-countable}
+use Rattle.version_maker.proofs.SizedSlices.{all-zip-length}
+use Rattle.version_maker.proofs.UnitSizes.{unit-sizes}
 use Rattle.version_maker.proofs.sizes.sizes_of.Goals as goal
 
-pub sizes_of_picture-requires-clause-begins : goal.sizes_of_picture-requires-clause-begins
-sizes_of_picture-requires-clause-begins c =
-    head-begins (option_copied c.args.before) c.in-Ok.picture c.args.unit.now (are-bytes c.args.unit.now (λ i. omega (arith, c.type_inv.unit i))) c.in-Ok.ensures.ok.spelled
+pub read_one_slice-requires-clause-coding : goal.read_one_slice-requires-clause-coding
+read_one_slice-requires-clause-coding c =
+    let unit = c.args.unit.now in
+    head-coding (option_copied c.args.before) unit (are-bytes unit (λ i. omega (arith, c.type_inv.unit i))) c.slices.cursor.headers c.slices.invariant.stands.headed
+
+pub with_slice-sizes-requires-clause-weights : goal.with_slice-sizes-requires-clause-weights
+with_slice-sizes-requires-clause-weights c =
+    let unit = c.args.unit.now in
+    let headers = c.slices.cursor.headers in
+    (head-usable (option_copied c.args.before) (headers.seq, headers.coding) (bit_list unit) (bits_from unit headers.slices_at) c.requires.before c.slices.invariant.stands.headed.spelled).weights
+
+pub with_slice-sizes-requires-clause-countable : goal.with_slice-sizes-requires-clause-countable
+with_slice-sizes-requires-clause-countable c =
+    let unit = c.args.unit.now in
+    let headers = c.slices.cursor.headers in
+    let read = c.in-Ok-read_one_slice.read in
+    let usable = head-usable (option_copied c.args.before) (headers.seq, headers.coding) (bit_list unit) (bits_from unit headers.slices_at) c.requires.before
+    c.slices.invariant.stands.headed.spelled in
+    let w : IsSliceRead headers.seq headers.coding c.in-Slice.row read (bits_from unit c.in-Slice.at) =
+    subst (λ (b : List ℕ). IsSliceRead headers.seq headers.coding c.in-Slice.row read (bit_list b)) c.bytes_from-bytes.ensures c.in-Ok-read_one_slice.ensures.gives in
+    spelled-countable headers.seq headers.coding c.in-Slice.row read.slice (bits_from unit c.in-Slice.at) (drop read.bits (bits_from unit c.in-Slice.at))
+    (omega (arith, usable.width))
+    (omega (arith, length-bit_list (drop c.in-Slice.at unit), length-drop c.in-Slice.at unit, c.requires.unit)) w.spelled
+
+pub with_slice-sizes-requires-clause-as_many : goal.with_slice-sizes-requires-clause-as_many
+with_slice-sizes-requires-clause-as_many c =
+    let headers = c.slices.cursor.headers in
+    let inv = c.slices.invariant in
+    ap (λ (xs : List VersionSize). length xs) c.as_slice-in-Slice.ensures.value
+    ∙ sym (all-zip-length (IsSized headers.seq headers.coding inv.slices) c.args.coarser.now c.slices.sizes.items inv.sized)
+
+pub slices-preserved : goal.slices-preserved
+slices-preserved c =
+    let before = option_copied c.args.before in
+    let unit = c.args.unit.now in
+    let coarser = c.args.coarser.now in
+    let inv = c.slices.invariant in
+    let cursor = c.slices.cursor in
+    let seq = cursor.headers.seq in
+    let coding = cursor.headers.coding in
+    let read = c.in-Ok-read_one_slice.read in
+    let w : IsSliceRead seq coding c.in-Slice.row read (bits_from unit c.in-Slice.at) =
+    subst (λ (b : List ℕ). IsSliceRead seq coding c.in-Slice.row read (bit_list b)) c.bytes_from-bytes.ensures c.in-Ok-read_one_slice.ensures.gives in
+    let begins = subst (λ (p : UnitPart). IsNextPart before unit inv.slices cursor p) c.in-Slice.is (c.in-Ok-next.ensures before inv.slices inv.stands) in
+    record {
+      slices = inv.slices ++ read.slice ∷ [];
+      stands = c.past-cursor.ensures.stands before inv.slices read.slice inv.stands begins (record { spelled = w.spelled; within = w.within; in_row = w.in_row; spans = w.spans });
+      few = omega (arith, inv.few, begins.onward, c.past-cursor.ensures.onward, length-append inv.slices (read.slice ∷ []));
+      sized = subst (λ (h : Headers). AreSized h.seq h.coding (inv.slices ++ read.slice ∷ []) coarser c.with_slice-sizes.result.items) (sym c.past-cursor.ensures.headers)
+          (c.with_slice-sizes.ensures inv.slices (subst (AreSized seq coding inv.slices coarser) (sym c.as_slice-in-Slice.ensures.value) inv.sized));
+    }
+
+pub all_sizes-requires : goal.all_sizes-requires
+all_sizes-requires c =
+    let headers = c.slices.cursor.headers in
+    let inv = c.slices.invariant in
+    let few : length c.as_slice.result.now < 8 = omega (
+      arith,
+      ap (λ (xs : List VersionSize). length xs) c.as_slice.ensures.value,
+      all-zip-length (IsSized headers.seq headers.coding inv.slices) c.args.coarser.now c.slices.sizes.items inv.sized,
+      c.requires.coarser,
+    ) in
+    record { few = few }
+
+pub returns-in-End : goal.returns-in-End
+returns-in-End c =
+    let before = option_copied c.args.before in
+    let unit = c.args.unit.now in
+    let coarser = c.args.coarser.now in
+    let inv = c.slices.invariant in
+    let cursor = c.slices.cursor in
+    let headers = cursor.headers in
+    let are : AreBytes unit = are-bytes unit (λ i. omega (arith, c.type_inv.unit i)) in
+    let picture = picture_of headers (take headers.slices_at unit) inv.slices c.in-End.sequence_end in
+    let whole = subst (λ (p : UnitPart). IsNextPart before unit inv.slices cursor p) c.in-End.is (c.in-Ok-next.ensures before inv.slices inv.stands) in
+    let around : ℕ = headers.slices_at + c.end_bytes.result in
+    let sizes = unit-sizes before picture unit coarser around c.slices.sizes.items c.requires.before are whole
+    (omega (arith, length-take-le headers.slices_at unit inv.stands.headed.within, c.end_bytes.ensures.value))
+    (omega (arith, inv.stands.headed.within, c.requires.unit, c.end_bytes.ensures.few))
+    (omega (arith, inv.few, inv.stands.within, c.requires.unit)) inv.sized in
+    subst (AreSizes before unit coarser) (sym (c.all_sizes.ensures ∙ ap₂ (λ (n : ℕ) (xs : List VersionSize). first_size n ∷ map (with_bytes around) xs) refl c.as_slice.ensures.value)) sizes

@@ -1,4 +1,4 @@
-use Rattle.std.proofs.Common.{◌≡◌, ◌≤◌, length, subst, arith}
+use Rattle.std.proofs.Common.{subst, arith}
 use Rattle.std.specs.Option.{option_copied}
 use Rattle.picture_reader.proofs.Parts.{are-bytes}
 use Rattle.version_maker.specs.Private.Bytes.{AreBytesAt}

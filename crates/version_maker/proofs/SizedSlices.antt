@@ -1,0 +1,109 @@
+-- Sizes of versions, slice by slice.
+use Rattle.std.proofs.Common.{◌≡◌, ℕ, zero, suc, ◌+◌, ◌%◌, ◌^◌, ◌<◌, List, [], ◌∷◌, ◌++◌, refl, sym, ◌∙◌, ap, subst, arith, length, take, get_or, add-one, replicate}
+use Rattle.std.specs.List.{AllZip, flat_map, sum_by}
+use Rattle.std.proofs.Math.Seq.{take-suc}
+use Rattle.std.proofs.lemmas.Grind.{flat_map-append}
+use Rattle.std.proofs.lemmas.List.{length-append}
+use Rattle.std.proofs.lemmas.List.Sums.{sum_by-append, sum_by-cons}
+use Rattle.syntax_types.specs.declared.picture.PicCoding.{PicCoding}
+use Rattle.syntax_types.specs.declared.picture.SeqState.{SeqState}
+use Rattle.syntax_types.specs.declared.slice.Slice.{Slice}
+use Rattle.requantiser.specs.Steps.{MakeSlice, MakeSlices, Step, distortion_of}
+use Rattle.version_maker.specs.declared.slice_count.SliceCount.{SliceCount}
+use Rattle.version_maker.specs.declared.version.VersionSize.{VersionSize}
+use Rattle.version_maker.specs.Private.Counts.{IsCountedSlice, written_whole}
+use Rattle.version_maker.specs.Private.Sized.{AreSized, IsSized, first_size}
+
+-- ---- lists side by side
+
+all-zip-more : {A B : Type 0} (P : A → B → Type 0) (xs : List A) (ys : List B) (x : A) (y : B) → AllZip P xs ys → P x y → AllZip P (xs ++ x ∷ []) (ys ++ y ∷ [])
+all-zip-more P [] [] x y are is = (is, tt)
+all-zip-more P [] (b ∷ bs) x y are is = absurd are
+all-zip-more P (a ∷ xs) [] x y are is = absurd are
+all-zip-more P (a ∷ xs) (b ∷ bs) x y are is = (are.0, all-zip-more P xs bs x y are.1 is)
+
+pub all-zip-at : {A B : Type 0} (P : A → B → Type 0) (xs : List A) (ys : List B) (i : ℕ) (d : A) (e : B) → AllZip P xs ys → i < length xs → P (get_or xs i d) (get_or ys i e)
+all-zip-at P [] ys i d e are within = absurd (let h : i < 0 = within in omega (arith, h))
+all-zip-at P (a ∷ xs) [] i d e are within = absurd are
+all-zip-at P (a ∷ xs) (b ∷ bs) zero d e are within = are.0
+all-zip-at P (a ∷ xs) (b ∷ bs) (suc i) d e are within = all-zip-at P xs bs i d e are.1 (omega (arith, within))
+
+pub all-zip-length : {A B : Type 0} (P : A → B → Type 0) (xs : List A) (ys : List B) → AllZip P xs ys → length xs ≡ length ys
+all-zip-length P [] [] are = refl
+all-zip-length P [] (b ∷ bs) are = absurd are
+all-zip-length P (a ∷ xs) [] are = absurd are
+all-zip-length P (a ∷ xs) (b ∷ bs) are = ap suc (all-zip-length P xs bs are.1)
+
+-- ---- one more slice
+
+makes-more : (seq : SeqState) (coding : PicCoding) (m : ℕ) (slices tos : List Slice) (steps : List (List Step)) (from to : Slice) (ss : List Step)
+    → MakeSlices seq coding m slices tos steps → MakeSlice seq coding m from to ss → MakeSlices seq coding m (slices ++ from ∷ []) (tos ++ to ∷ []) (steps ++ ss ∷ [])
+makes-more seq coding m [] [] [] from to ss are is = (is, tt)
+makes-more seq coding m [] [] (t ∷ ts) from to ss are is = absurd are
+makes-more seq coding m [] (t ∷ ts) steps from to ss are is = absurd are
+makes-more seq coding m (s ∷ slices) [] steps from to ss are is = absurd are
+makes-more seq coding m (s ∷ slices) (t ∷ tos) [] from to ss are is = absurd are
+makes-more seq coding m (s ∷ slices) (t ∷ tos) (x ∷ steps) from to ss are is = (are.0, makes-more seq coding m slices tos steps from to ss are.1 is)
+
+none-sized : (seq : SeqState) (coding : PicCoding) (m : ℕ) (size : VersionSize) → size ≡ record { bytes = 0; distortion = 0 } → IsSized seq coding [] m size
+none-sized seq coding m size is = record {
+  tos = [];
+  steps = [];
+  makes = tt;
+  count = 0;
+  bytes = refl;
+  few = omega arith;
+  counted = ap (λ (s : VersionSize). s.bytes) is;
+  small = omega arith;
+  distortion = ap (λ (s : VersionSize). s.distortion) is;
+}
+
+pub one-more-sized : (seq : SeqState) (coding : PicCoding) (slices : List Slice) (m : ℕ) (from : Slice) (count : SliceCount) (before size : VersionSize) → IsSized seq coding slices m before
+    → IsCountedSlice seq coding m from count → size.bytes ≡ (before.bytes + count.bytes) % 2 ^ 64 → size.distortion ≡ (before.distortion + count.distortion) % 2 ^ 64
+    → IsSized seq coding (slices ++ from ∷ []) m size
+one-more-sized seq coding slices m from count before size was is bytes distortion =
+    let written : flat_map (written_whole coding) (was.tos ++ is.to ∷ []) ≡ flat_map (written_whole coding) was.tos ++ flat_map (written_whole coding) (is.to ∷ []) =
+    flat_map-append (written_whole coding) was.tos (is.to ∷ []) in
+    let one : length (flat_map (written_whole coding) (is.to ∷ [])) ≡ length (written_whole coding is.to) + 0 = length-append (written_whole coding is.to) [] in
+    let sums : sum_by distortion_of (was.steps ++ is.steps ∷ []) ≡ sum_by distortion_of was.steps + sum_by distortion_of (is.steps ∷ []) =
+    sum_by-append distortion_of was.steps (is.steps ∷ []) in
+    let last : sum_by distortion_of (is.steps ∷ []) ≡ distortion_of is.steps + 0 = sum_by-cons distortion_of is.steps [] in
+    let size_of_slice : Slice → ℕ = λ s. length s.macroblocks in
+    let columns : sum_by size_of_slice (slices ++ from ∷ []) ≡ sum_by size_of_slice slices + sum_by size_of_slice (from ∷ []) = sum_by-append size_of_slice slices (from ∷ []) in
+    let here : sum_by size_of_slice (from ∷ []) ≡ length from.macroblocks + 0 = sum_by-cons size_of_slice from [] in
+    record {
+      tos = was.tos ++ is.to ∷ [];
+      steps = was.steps ++ is.steps ∷ [];
+      makes = makes-more seq coding m slices was.tos was.steps from is.to is.steps was.makes is.makes;
+      count = was.count + count.bytes;
+      bytes = omega (arith, was.bytes, is.bytes, ap length written, one, length-append (flat_map (written_whole coding) was.tos) (flat_map (written_whole coding) (is.to ∷ [])));
+      few = omega (arith, was.few, is.few, length-append slices (from ∷ []));
+      counted = omega (arith, bytes, was.counted);
+      small = omega (arith, was.small, is.small, is.distortion, sums, last, columns, here);
+      distortion = omega (arith, distortion, was.distortion, is.distortion, sums, last);
+    }
+
+-- at one more ratio
+pub one-more-ratio : (seq : SeqState) (coding : PicCoding) (slices : List Slice) (from : Slice) (coarser : List ℕ) (before made : List VersionSize) (i d : ℕ) (e : VersionSize)
+    (count : SliceCount) (size : VersionSize) → i < length coarser → AreSized seq coding slices coarser before
+    → AllZip (IsSized seq coding (slices ++ from ∷ [])) (take i coarser) made → IsCountedSlice seq coding (get_or coarser i d) from count
+    → size.bytes ≡ ((get_or before i e).bytes + count.bytes) % 2 ^ 64 → size.distortion ≡ ((get_or before i e).distortion + count.distortion) % 2 ^ 64
+    → AllZip (IsSized seq coding (slices ++ from ∷ [])) (take (i + 1) coarser) (made ++ size ∷ [])
+one-more-ratio seq coding slices from coarser before made i d e count size within was so_far is bytes distortion =
+    let front : take (i + 1) coarser ≡ take i coarser ++ get_or coarser i d ∷ [] = ap (λ (n : ℕ). take n coarser) (add-one i) ∙ take-suc coarser i d within in
+    subst (λ (ms : List ℕ). AllZip (IsSized seq coding (slices ++ from ∷ [])) ms (made ++ size ∷ [])) (sym front)
+    (all-zip-more (IsSized seq coding (slices ++ from ∷ [])) (take i coarser) made (get_or coarser i d) size so_far
+    (one-more-sized seq coding slices (get_or coarser i d) from count (get_or before i e) size (all-zip-at (IsSized seq coding slices) coarser before i d e was within) is bytes distortion))
+
+-- ---- before the first slice
+
+pub none-all : (seq : SeqState) (coding : PicCoding) (coarser : List ℕ) → AreSized seq coding [] coarser (replicate (length coarser) (first_size 0))
+none-all seq coding [] = tt
+none-all seq coding (m ∷ ms) = (none-sized seq coding m (first_size 0) refl, none-all seq coding ms)
+
+one-behind : (n : ℕ) → replicate n (first_size 0) ++ first_size 0 ∷ [] ≡ replicate (suc n) (first_size 0)
+one-behind zero = refl
+one-behind (suc n) = ap (λ (xs : List VersionSize). first_size 0 ∷ xs) (one-behind n)
+
+pub one-more-none : (n : ℕ) → replicate n (first_size 0) ++ first_size 0 ∷ [] ≡ replicate (n + 1) (first_size 0)
+one-more-none n = one-behind n ∙ ap (λ (k : ℕ). replicate k (first_size 0)) (sym (add-one n))

@@ -1,0 +1,60 @@
+-- A version of a slice while it is counted, and behind that.
+use Rattle.std.specs.Prelude.{◌≡◌, ◌≤◌, ◌+◌, ◌++◌, ◌*◌, ◌^◌, ℕ, List, length, take, drop, IfSome}
+use Rattle.std.specs.List.{AllByRecursion, flat_map, sum_by}
+use Rattle.std.specs.Option.{option_to_list}
+use Rattle.quant_math.specs.Scales.{IsCode}
+use Rattle.syntax_types.specs.declared.macroblock.Macroblock.{Macroblock}
+use Rattle.syntax_types.specs.declared.picture.PicCoding.{PicCoding}
+use Rattle.syntax_types.specs.declared.picture.SeqState.{SeqState}
+use Rattle.syntax_types.specs.declared.slice.Slice.{Slice}
+use Rattle.stream_constants.specs.declared.start_codes.TheConstants.{FIRST_SLICE}
+use Rattle.picture_grammar.specs.StartCode.{start_code_bits}
+use Rattle.picture_grammar.specs.Written.{to_whole_bytes, written_macroblock, written_slice}
+use Rattle.requantiser.specs.declared.version_state.VersionState.{VersionState}
+use Rattle.requantiser.specs.Slices.{end_column}
+use Rattle.requantiser.specs.Steps.{AreSteps, MakeSlice, Step, distortion_of, made_by, state_behind, taken_by}
+use Rattle.requantiser.specs.VersionState.{IsSpelledMacroblock}
+use Rattle.version_maker.specs.declared.slice_count.SliceCount.{SliceCount}
+use Rattle.version_maker.specs.declared.slice_count.VersionCount.{VersionCount}
+
+-- a step was counted: its state, the bits of what it made, and its distortion
+pub record IsCountedStep (coding : PicCoding) (step : Step) (before behind : VersionCount) : Type 0 where
+  pub state : behind.state ≡ step.behind
+  pub bits : behind.bits ≡ before.bits + length (flat_map (written_macroblock coding) (option_to_list step.made))
+  pub few : behind.bits ≤ before.bits + 2 ^ 17
+  pub distortion : behind.distortion ≡ before.distortion + step.distortion
+  pub small : behind.distortion ≤ before.distortion + 2 ^ 41
+
+-- the first so many macroblocks of a slice were counted
+pub record AreCounted (seq : SeqState) (coding : PicCoding) (start : VersionState) (macroblocks : List Macroblock) (so_many : ℕ) (count : VersionCount) : Type 0 where
+  pub steps : List Step
+  pub in_order : AreSteps seq coding (length macroblocks) 0 start steps
+  pub taken : taken_by steps ≡ take so_many macroblocks
+  pub state : state_behind start steps ≡ count.state
+  pub bits : count.bits ≡ length (flat_map (written_macroblock coding) (made_by steps))
+  pub few : count.bits ≤ so_many * 2 ^ 17
+  pub distortion : count.distortion ≡ distortion_of steps
+  pub small : count.distortion ≤ so_many * 2 ^ 41
+  pub room : count.state.skipped + sum_by (λ m. m.skipped_before + 1) (drop so_many macroblocks) ≤ 65535
+
+-- what counting needs of a slice: its code is one, some bits spell each of its macroblocks, which stand in a row, and what
+-- its header says besides isn't too long
+pub record IsCountable (coding : PicCoding) (slice : Slice) : Type 0 where
+  pub code : IsCode slice.code
+  pub spelled : AllByRecursion (IsSpelledMacroblock coding) slice.macroblocks
+  pub room : end_column slice ≤ 65535
+  pub info : IfSome slice.info (λ i. length i.bytes ≤ 2 ^ 32)
+
+-- a slice behind its start code as it is written, up to a whole byte
+abbrev pub written_whole : PicCoding → Slice → List ℕ
+written_whole coding slice = to_whole_bytes (start_code_bits (slice.row + FIRST_SLICE) ++ written_slice coding slice)
+
+-- the slice of the version at m sixteenths was counted
+pub record IsCountedSlice (seq : SeqState) (coding : PicCoding) (m : ℕ) (from : Slice) (count : SliceCount) : Type 0 where
+  pub to : Slice
+  pub steps : List Step
+  pub makes : MakeSlice seq coding m from to steps
+  pub bytes : 8 * count.bytes ≡ length (written_whole coding to)
+  pub few : count.bytes ≤ 2 ^ 40
+  pub distortion : count.distortion ≡ distortion_of steps
+  pub small : count.distortion ≤ length from.macroblocks * 2 ^ 41
