@@ -11,6 +11,3 @@ mod planner;
 mod root;
 
 pub use planner::{PlanFault, Planned, Search, plan};
-
-#[cfg(test)]
-mod tests;
