@@ -1,6 +1,8 @@
 mod Answered
 mod Counted
+mod Decimals
 mod Ending
+mod Generated
 mod Held
 mod LevelChoices
 mod LineStatus
