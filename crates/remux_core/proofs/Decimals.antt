@@ -1,8 +1,11 @@
--- Words that are numbers in decimal.
-use Rattle.std.proofs.Common.{◌≡◌, ◌≢◌, ◌<◌, ◌^◌, ◌⊎◌, ℕ, List, length, get_or, decimal, Result, Ok, Err, sym, subst, ap, ◌∙◌, inl, inr, cases_lt, arith}
+-- Words that are numbers in decimal, and where they stand in those of `gen`.
+use Rattle.std.proofs.Common.{◌≡◌, ◌≢◌, ◌<◌, ◌≤◌, ◌^◌, ℕ, List, [], ◌∷◌, length, get_or, decimal, Ok, Err, sym, ap, subst, ◌∙◌, inl, inr, arith}
+use Rattle.std.proofs.lemmas.Bool.{cases_lt}
 use Rattle.std.specs.Str.Parse.{ParsesUnsigned, AllDigits, digits_value}
-use Rattle.std.proofs.lemmas.Fmt.{decimal_digit, first_decimal, decimal_nonempty, digits_decimal, decimal-digits_value, parse-decimal}
+use Rattle.std.proofs.lemmas.Fmt.{decimal_injective, decimal_digit, first_decimal, decimal_nonempty, digits_decimal, decimal-digits_value, parse-decimal}
 use Rattle.std.proofs.lemmas.Str.Parse.{IsNumeralModel, numerals_by_value, tells_digits, not_in_digits, parse_plain}
+use Rattle.program_maker.specs.declared.format.TheConstants.{PICTURES_MOST}
+use Rattle.remux_core.specs.Command.{Plan, Gen, IsCommand}
 
 digits : IsNumeralModel (AllDigits 10) (digits_value 10)
 digits = numerals_by_value (AllDigits 10) tells_digits
@@ -12,9 +15,9 @@ abbrev pub BeginsPlainly : List ℕ → Type 0
 BeginsPlainly word = (get_or word 0 0 ≢ 43) × (get_or word 0 0 ≡ 48 → length word ≡ 1)
 
 -- such a word that is parsed is its number in decimal
-pub parsed_is_decimal : {E : Type 0} (word : List ℕ) (n : ℕ) → ParsesUnsigned {E} 64 10 word (Ok n) → BeginsPlainly word → (n < 2 ^ 64) × (word ≡ decimal n)
+pub parsed_is_decimal : (word : List ℕ) (n : ℕ) → ParsesUnsigned {E = Unit {0}} 64 10 word (Ok n) → BeginsPlainly word → (n < 2 ^ 64) × (word ≡ decimal n)
 parsed_is_decimal word n parsed plain =
-    let (is, value) = parse_plain digits 64 word (Ok n) parsed plain.0 in
+    let (is, value) = parse_plain digits {E = Unit {0}} 64 word (Ok n) parsed plain.0 in
     let small : n < 2 ^ 64 = omega (arith, value, is.2) in
     (small, sym (ap decimal value ∙ decimal-digits_value digits word is.0 is.1 plain.1 is.2))
 
@@ -33,3 +36,14 @@ decimal_begins_plainly n small =
         | inr more ↦ let first = first_decimal n (omega arith) small in absurd (omega (arith, zero_first, first))
       ],
     )
+
+-- four words that say a command have a number of pictures in the third
+pub pictures_within : (verb seed pictures out : List ℕ) (n : ℕ) → (n < 2 ^ 64) × (pictures ≡ decimal n) → IsCommand (verb ∷ seed ∷ pictures ∷ out ∷ [])
+    → (1 ≤ n) × (n ≤ PICTURES_MOST)
+pictures_within verb seed pictures out n word (Plan table certificate, said) = let are = said.words_are in cc
+pictures_within verb seed pictures out n word (Gen start number name, said) =
+    let are = said.words_are in
+    let is = word.1 in
+    let words : decimal number ≡ decimal n = cc in
+    let same : number ≡ n = decimal_injective number n (omega (arith, said.few_pictures)) word.0 words in
+    (omega (arith, same, said.some_pictures), omega (arith, same, said.few_pictures))

@@ -2,6 +2,7 @@ mod Answered
 mod Counted
 mod Decimals
 mod Ending
+mod Examples
 mod Generated
 mod Held
 mod LevelChoices

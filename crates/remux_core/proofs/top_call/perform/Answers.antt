@@ -23,13 +23,13 @@ returns-in-None g c =
       asks = asks_same None (g.K.Shelf.asked c.args.shelf.now);
     }
 
-pub returns-in-Some : goal.returns-in-Some
-returns-in-Some g c =
-    let files = c.in-Some.files in
+pub returns-in-Some-Plan : goal.returns-in-Some-Plan
+returns-in-Some-Plan g c =
+    let files = c.in-Some-Plan.files in
     let asked = g.K.Shelf.asked in
     record {
       command = plan_of files;
-      said = c.in-Some.ensures;
+      said = c.in-Some-Plan.ensures;
       decided = c.plan_file.ensures.decided;
       cause = c.plan_file.ensures.cause;
       counts = c.plan_file.ensures.counts;
