@@ -1,5 +1,5 @@
 -- Words that are numbers in decimal, and where they stand in those of `gen`.
-use Rattle.std.proofs.Common.{◌≡◌, ◌≢◌, ◌<◌, ◌≤◌, ◌^◌, ℕ, List, [], ◌∷◌, length, get_or, decimal, Ok, Err, sym, ap, subst, ◌∙◌, inl, inr, arith}
+use Rattle.std.proofs.Common.{◌≡◌, ◌≢◌, ◌<◌, ◌≤◌, ◌^◌, ℕ, List, [], ◌∷◌, length, get_or, decimal, Ok, Err, sym, ap, ◌∙◌, inl, inr, arith}
 use Rattle.std.proofs.lemmas.Bool.{cases_lt}
 use Rattle.std.specs.Str.Parse.{ParsesUnsigned, AllDigits, digits_value}
 use Rattle.std.proofs.lemmas.Fmt.{decimal_injective, decimal_digit, first_decimal, decimal_nonempty, digits_decimal, decimal-digits_value, parse-decimal}
@@ -28,8 +28,7 @@ unparsed_is_none word e n refused small is = let same = parse-decimal 64 n word 
 -- a decimal begins so
 pub decimal_begins_plainly : (n : ℕ) → n < 2 ^ 64 → BeginsPlainly (decimal n)
 decimal_begins_plainly n small =
-    let some = decimal_nonempty n small in
-    (
+    let some = decimal_nonempty n small in (
       not_in_digits digits (decimal n) 43 (digits_decimal digits n small) (λ r. omega (arith, r)) 0 some,
       λ zero_first. elim (cases_lt n 10) [
         | inl one ↦ ap length (decimal_digit n one)

@@ -3,7 +3,6 @@ mod Counted
 mod Decimals
 mod Ending
 mod Examples
-mod Generated
 mod Held
 mod LevelChoices
 mod LineStatus

@@ -1,5 +1,5 @@
 -- Words say one command, and a command and files call for one status.
-use Rattle.std.proofs.Common.{◌≡◌, ◌<◌, ◌≤◌, ◌^◌, ℕ, List, Option, Some, None, decimal, refl, subst, arith}
+use Rattle.std.proofs.Common.{◌≡◌, ℕ, List, Option, Some, None, decimal, refl, subst, arith}
 use Rattle.std.proofs.lemmas.Fmt.{decimal_injective}
 use Rattle.std.specs.FinMap.{get}
 use Rattle.shelf_io.specs.Files.{Files}

@@ -30,7 +30,11 @@ pub fn gen_file<K: Shelf>(alloc: Global, words: &GenWords<'_>, shelf: &mut K) ->
     let Ok(program) = make_program(alloc, words.seed, words.pictures) else {
         return None;
     };
-    let done = end_with(alloc, Status::Ok, &gen_report(program.as_slice(), words.pictures))?;
+    let done = end_with(
+        alloc,
+        Status::Ok,
+        &gen_report(program.as_slice(), words.pictures),
+    )?;
     match write_file(shelf, words.out, program.as_slice()) {
         Ok(()) => Some(done),
         Err(Fault::Failed) => end_unwritten(alloc, words.out),

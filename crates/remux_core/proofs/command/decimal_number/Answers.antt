@@ -1,4 +1,4 @@
-use Rattle.std.proofs.Common.{◌≡◌, ℕ, decimal, Ok, Err, sym, subst, ◌∙◌, arith}
+use Rattle.std.proofs.Common.{sym, subst, ◌∙◌, arith}
 use Rattle.remux_core.proofs.Decimals.{BeginsPlainly, decimal_begins_plainly, parsed_is_decimal, unparsed_is_none}
 use Rattle.remux_core.proofs.command.decimal_number.Goals as goal
 
