@@ -8,7 +8,7 @@ use Rattle.shelf_io.specs.Files.{Files}
 use Rattle.remux_core.specs.declared.status.Status.{Status}
 use Rattle.remux_core.specs.declared.status.Status.TheVariants as statuses
 use Rattle.remux_core.specs.Answer.{Answer, CallsFor, IsDone, Leaves, EndsWithStatus, Decides, HasCause, AnswerHasCause}
-use Rattle.remux_core.specs.Command.{Command, Plan, IsCommand, IsSaid}
+use Rattle.remux_core.specs.Command.{Command, Plan, Gen, IsCommand, IsSaid}
 use Rattle.remux_core.specs.Outcome.{Outcome, BreaksOff, IsReported, WordsCallFor}
 use Rattle.remux_core.specs.Outside.{ShelfFacts, SinkFacts, OnFiles}
 use Rattle.remux_core.specs.Private.Ended.{Performs}
@@ -17,9 +17,10 @@ use Rattle.remux_core.specs.Status.{IsSameStatus}
 use Rattle.remux_core.proofs.One.{Laws, one_command, calls_for_one}
 use Rattle.remux_core.proofs.Told.{on_then, on_told}
 
--- a plan was made where the smallest choice is scheduled
+-- a plan was made where the smallest choice is scheduled, a program wherever it was asked for
 done_is_called_for : (command : Option Command) (files after : Files) (line : List ℕ) → IsDone command files line after → CallsFor command files statuses.Ok
 done_is_called_for (Some (Plan table certificate)) files after line (plan, has, said, written) = (has.table, has.holds, has.is_plan.possible)
+done_is_called_for (Some (Gen seed pictures out)) files after line done = tt
 done_is_called_for None files after line done = absurd done
 
 -- where nothing failed, a command ends as it is called for
@@ -137,12 +138,17 @@ done_leaves_others : (command : Option Command) (files after : Files) (line : Li
 done_leaves_others None files after line done = absurd done
 done_leaves_others (Some (Plan table certificate)) files after line (plan, has, said, written) = λ name apart.
     stays _ after name written ∙ get_other files certificate _ name apart
+done_leaves_others (Some (Gen seed pictures out)) files after line (program, is, said, written) = λ name apart.
+    stays _ after name written ∙ get_other files out _ name apart
 
 leaves_others : (command : Option Command) (files after : Files) → Leaves command files after → OthersStay command files after
 leaves_others None files after same = λ name apart. stays files after name same
 leaves_others (Some (Plan table certificate)) files after (inl same) = λ name apart. stays files after name same
 leaves_others (Some (Plan table certificate)) files after (inr (plan, has, k, few, written)) = λ name apart.
     stays _ after name written ∙ get_other files certificate _ name apart
+leaves_others (Some (Gen seed pictures out)) files after (inl same) = λ name apart. stays files after name same
+leaves_others (Some (Gen seed pictures out)) files after (inr (program, is, k, few, written)) = λ name apart.
+    stays _ after name written ∙ get_other files out _ name apart
 
 ends_leave_others : (command : Option Command) (files after : Files) (status : Status) (line : List ℕ) → EndsWithStatus command files status line after → OthersStay command files after
 ends_leave_others command files after statuses.Ok line ends = done_leaves_others command files after line ends

@@ -15,7 +15,7 @@ use Rattle.remux_core.specs.Answer.{Decides, EndsWithStatus, AnswerHasCause, Has
 use Rattle.remux_core.specs.Certificate.{Certificate, certificate_bytes}
 use Rattle.remux_core.specs.PlanCommand.{HasPlan}
 use Rattle.remux_core.proofs.Told.{HoldsPart, on_prefix}
-use Rattle.remux_core.specs.Command.{Command, Plan}
+use Rattle.remux_core.specs.Command.{Command, Plan, PlansTable}
 use Rattle.remux_core.specs.Outside.{ShelfFacts, OnFiles}
 use Rattle.remux_core.specs.Private.Ended.{answer_of, HoldsFront, refusal_by, IsRefusedFor}
 
@@ -64,14 +64,14 @@ refused_ends table certificate held front (Some ended) (faults.TableLimit name) 
 refused_ends table certificate held front (Some ended) faults.OutOfMemory holds is so = absurd so
 
 -- and that is its cause
-pub refused_cause : (command : Command) (old new : ShelfFacts) (result : Option Ended) (fault : TableFault)
+pub refused_cause : (command : Command) → PlansTable command → (old new : ShelfFacts) (result : Option Ended) (fault : TableFault)
     → IfSome result (IsRefusedFor (refusal_by fault)) → AnswerHasCause (Some command) old new (answer_of result)
-refused_cause command old new None fault so = tt
-refused_cause command old new (Some ended) (faults.TableSyntax n) so =
-    subst (λ (s : Status). HasCause (Some command) old new s ended.line.items) (sym so.0) so.1
-refused_cause command old new (Some ended) (faults.TableLimit name) so =
-    subst (λ (s : Status). HasCause (Some command) old new s ended.line.items) (sym so.0) so.1
-refused_cause command old new (Some ended) faults.OutOfMemory so = absurd so
+refused_cause command plans old new None fault so = tt
+refused_cause command plans old new (Some ended) (faults.TableSyntax n) so =
+    subst (λ (s : Status). HasCause (Some command) old new s ended.line.items) (sym so.0) (plans, so.1)
+refused_cause command plans old new (Some ended) (faults.TableLimit name) so =
+    subst (λ (s : Status). HasCause (Some command) old new s ended.line.items) (sym so.0) (plans, so.1)
+refused_cause command plans old new (Some ended) faults.OutOfMemory so = absurd so
 
 -- a front of the certificate of a plan is what `plan` may leave
 pub plan_leaves : (table certificate : List ℕ) (plan : Certificate) (files after : Files) → HasPlan files table plan

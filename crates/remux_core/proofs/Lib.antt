@@ -1,6 +1,8 @@
 mod Answered
 mod Counted
+mod Decimals
 mod Ending
+mod Examples
 mod Held
 mod LevelChoices
 mod LineStatus

@@ -21,9 +21,9 @@ tells_status None old new statuses.WriteFault line cause not_done = absurd cause
 tells_status None old new statuses.Missing line cause not_done = absurd cause
 tells_status None old new statuses.OutOfMemory line cause not_done = absurd cause
 tells_status (Some command) old new statuses.Usage line cause not_done = absurd cause
-tells_status (Some command) old new (statuses.JobRefused (TableSyntax n)) line cause not_done = record { report = refusal_report (TableSyntax n); line_is = cause; told = refl }
-tells_status (Some command) old new (statuses.JobRefused (TableLimit name)) line cause not_done = record { report = refusal_report (TableLimit name); line_is = cause; told = refl }
-tells_status (Some command) old new (statuses.Unschedulable miss) line cause not_done = record { report = miss_report miss; line_is = cause; told = refl }
+tells_status (Some command) old new (statuses.JobRefused (TableSyntax n)) line cause not_done = record { report = refusal_report (TableSyntax n); line_is = cause.1; told = refl }
+tells_status (Some command) old new (statuses.JobRefused (TableLimit name)) line cause not_done = record { report = refusal_report (TableLimit name); line_is = cause.1; told = refl }
+tells_status (Some command) old new (statuses.Unschedulable miss) line cause not_done = record { report = miss_report miss; line_is = cause.1; told = refl }
 tells_status (Some command) old new statuses.ReadFault line cause not_done = record { report = reports.ReadFault cause.name; line_is = cause.names; told = refl }
 tells_status (Some command) old new statuses.WriteFault line cause not_done = record { report = reports.WriteFault cause.name; line_is = cause.names; told = refl }
 tells_status (Some command) old new statuses.Missing line cause not_done = record { report = reports.Missing cause.name; line_is = cause.names; told = refl }

@@ -1,5 +1,6 @@
 -- Words say one command, and a command and files call for one status.
-use Rattle.std.proofs.Common.{◌≡◌, ℕ, List, Option, Some, None, refl, subst}
+use Rattle.std.proofs.Common.{◌≡◌, ℕ, List, Option, Some, None, decimal, refl, subst, arith}
+use Rattle.std.proofs.lemmas.Fmt.{decimal_injective}
 use Rattle.std.specs.FinMap.{get}
 use Rattle.shelf_io.specs.Files.{Files}
 use Rattle.version_table.specs.declared.table.Table.{Table}
@@ -12,7 +13,8 @@ use Rattle.remux_core.specs.declared.status.Status.TheVariants as statuses
 use Rattle.remux_core.specs.declared.status.JobRefusal.{JobRefusal}
 use Rattle.remux_core.specs.declared.status.JobRefusal.TheVariants.{TableSyntax, TableLimit}
 use Rattle.remux_core.specs.Answer.{CallsFor}
-use Rattle.remux_core.specs.Command.{Command, Plan, IsSaid}
+use Rattle.remux_core.specs.Command.{Command, Plan, Gen, IsSaid}
+use Rattle.remux_core.specs.GenCommand.{GenCallsFor}
 use Rattle.remux_core.specs.Outcome.{WordsCallFor}
 use Rattle.remux_core.specs.PlanCommand.{HoldsTable, IsTableRefused, PlanCallsFor}
 use Rattle.remux_core.specs.Status.{IsSameRefusal, IsSameStatus}
@@ -27,6 +29,17 @@ pub record Laws : Type 0 where
 -- words say one command
 pub one_command : (words : List (List ℕ)) (a b : Option Command) → IsSaid words a → IsSaid words b → a ≡ b
 one_command words (Some (Plan table certificate)) (Some (Plan other name)) a b = let x = a.words_are in let y = b.words_are in cc
+one_command words (Some (Gen seed pictures out)) (Some (Gen other count name)) a b =
+    let x = a.words_are in
+    let y = b.words_are in
+    let seed_words : decimal seed ≡ decimal other = cc in
+    let picture_words : decimal pictures ≡ decimal count = cc in
+    let seeds : seed ≡ other = decimal_injective seed other a.seed_below b.seed_below seed_words in
+    let counts : pictures ≡ count =
+    decimal_injective pictures count (omega (arith, a.few_pictures)) (omega (arith, b.few_pictures)) picture_words in
+    cc
+one_command words (Some (Plan table certificate)) (Some (Gen seed pictures out)) a b = let x = a.words_are in let y = b.words_are in cc
+one_command words (Some (Gen seed pictures out)) (Some (Plan table certificate)) a b = let x = a.words_are in let y = b.words_are in cc
 one_command words (Some a) None said none = absurd (none (a, said))
 one_command words None (Some b) none said = absurd (none (b, said))
 one_command words None None a b = refl
@@ -121,6 +134,21 @@ plan_calls_for_one laws files name s statuses.ReadFault a b = absurd b
 plan_calls_for_one laws files name s statuses.WriteFault a b = absurd b
 plan_calls_for_one laws files name s statuses.OutOfMemory a b = absurd b
 
+-- `gen` calls for Ok alone
+gen_calls_for_one : (s : Status) → GenCallsFor s → statuses.Ok ≡ s
+gen_calls_for_one statuses.Ok a = refl
+gen_calls_for_one statuses.Usage a = absurd a
+gen_calls_for_one (statuses.JobRefused refusal) a = absurd a
+gen_calls_for_one (statuses.Unschedulable miss) a = absurd a
+gen_calls_for_one statuses.ReadFault a = absurd a
+gen_calls_for_one statuses.WriteFault a = absurd a
+gen_calls_for_one statuses.Missing a = absurd a
+gen_calls_for_one statuses.OutOfMemory a = absurd a
+
+-- two statuses that are one are the same, where that one is the same as itself
+both_one : (one s t : Status) → one ≡ s → one ≡ t → IsSameStatus one one → IsSameStatus s t
+both_one one s t first second same = subst (λ (x : Status). IsSameStatus x t) first (subst (λ (x : Status). IsSameStatus one x) second same)
+
 -- words of no command call for Usage alone
 pub none_calls_for_one : (files : Files) (s : Status) → CallsFor None files s → statuses.Usage ≡ s
 none_calls_for_one files statuses.Usage a = refl
@@ -135,10 +163,8 @@ none_calls_for_one files statuses.OutOfMemory a = absurd a
 -- a command and files call for one status
 pub calls_for_one : Laws → (command : Option Command) (files : Files) (s t : Status) → CallsFor command files s → CallsFor command files t → IsSameStatus s t
 calls_for_one laws (Some (Plan table certificate)) files s t a b = plan_calls_for_one laws files table s t a b
-calls_for_one laws None files s t a b =
-    let first : statuses.Usage ≡ s = none_calls_for_one files s a in
-    let second : statuses.Usage ≡ t = none_calls_for_one files t b in
-    subst (λ (x : Status). IsSameStatus x t) first (subst (λ (x : Status). IsSameStatus statuses.Usage x) second refl)
+calls_for_one laws (Some (Gen seed pictures out)) files s t a b = both_one statuses.Ok s t (gen_calls_for_one s a) (gen_calls_for_one t b) refl
+calls_for_one laws None files s t a b = both_one statuses.Usage s t (none_calls_for_one files s a) (none_calls_for_one files t b) refl
 
 -- words and files call for one status
 pub words_call_for_one : Laws → (words : List (List ℕ)) (files : Files) (s t : Status) → WordsCallFor words files s → WordsCallFor words files t → IsSameStatus s t

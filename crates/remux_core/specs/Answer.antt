@@ -4,13 +4,15 @@ use Rattle.shelf_io.specs.Counts.{Rose}
 use Rattle.shelf_io.specs.Files.{Files, Lacks}
 use Rattle.job_report.specs.Report.{report_line}
 use Rattle.job_report.specs.declared.report.Report.TheVariants as reports
+use Rattle.program_maker.specs.Program.{IsProgram}
 use Rattle.remux_core.specs.declared.status.Status.{Status}
 use Rattle.remux_core.specs.declared.status.Status.TheVariants.{Ok, Usage, JobRefused, Unschedulable, ReadFault, WriteFault, Missing, OutOfMemory}
 use Rattle.remux_core.specs.Certificate.{Certificate}
-use Rattle.remux_core.specs.Command.{Command, Plan, ReadsFile, WritesFile}
+use Rattle.remux_core.specs.Command.{Command, Plan, Gen, ReadsFile, WritesFile, PlansTable}
+use Rattle.remux_core.specs.GenCommand.{GenCallsFor, GenDone, GenLeaves}
 use Rattle.remux_core.specs.Outside.{ShelfFacts}
 use Rattle.remux_core.specs.PlanCommand.{PlanCallsFor, PlanDone, PlanLeaves}
-use Rattle.remux_core.specs.Report.{plan_report, refusal_report, miss_report}
+use Rattle.remux_core.specs.Report.{plan_report, gen_report, refusal_report, miss_report}
 
 -- a status, and the line that reports it
 pub record Answer : Type 0 where
@@ -20,17 +22,20 @@ pub record Answer : Type 0 where
 -- a command and the files call for this status, whatever the outside does. Words of no command call for Usage.
 abbrev pub CallsFor : Option Command → Files → Status → Type 0
 CallsFor (Some (Plan table certificate)) files status = PlanCallsFor table files status
+CallsFor (Some (Gen seed pictures out)) files status = GenCallsFor status
 CallsFor None files Usage = Unit {0}
 CallsFor None files status = ⊥
 
 -- the work of a command was done, with this line and these files after it
 abbrev pub IsDone : Option Command → Files → (line : List ℕ) → (after : Files) → Type 0
 IsDone (Some (Plan table certificate)) files line after = PlanDone table certificate files line after
+IsDone (Some (Gen seed pictures out)) files line after = GenDone seed pictures out files line after
 IsDone None files line after = ⊥
 
 -- the files that a command leaves where it is broken off
 abbrev pub Leaves : Option Command → Files → (after : Files) → Type 0
 Leaves (Some (Plan table certificate)) files after = PlanLeaves table certificate files after
+Leaves (Some (Gen seed pictures out)) files after = GenLeaves seed pictures out files after
 Leaves None files after = after ≡ files
 
 -- What a command with this status and line does to the files. A refusal comes only where it is called for, and leaves them.
@@ -61,6 +66,7 @@ IsReadFile command name = (limit : ℕ) × ReadsFile command name limit
 -- the line of a command whose work was done
 abbrev pub IsDoneLine : Command → (line : List ℕ) → Type 0
 IsDoneLine (Plan table certificate) line = (plan : Certificate) × (line ≡ report_line (plan_report plan))
+IsDoneLine (Gen seed pictures out) line = (program : List ℕ) × IsProgram seed pictures program × (line ≡ report_line (gen_report program pictures))
 
 -- Why a command ends with this status and line, whether the shelf tells its files or not. A fault of the outside comes only
 -- where a count of its own rose; a name is missing only where told files lack it.
@@ -69,8 +75,8 @@ HasCause None old new Usage line = line ≡ report_line reports.Usage
 HasCause None old new status line = ⊥
 HasCause (Some command) old new Ok line = IsDoneLine command line
 HasCause (Some command) old new Usage line = ⊥
-HasCause (Some command) old new (JobRefused refusal) line = line ≡ report_line (refusal_report refusal)
-HasCause (Some command) old new (Unschedulable miss) line = line ≡ report_line (miss_report miss)
+HasCause (Some command) old new (JobRefused refusal) line = PlansTable command × (line ≡ report_line (refusal_report refusal))
+HasCause (Some command) old new (Unschedulable miss) line = PlansTable command × (line ≡ report_line (miss_report miss))
 HasCause (Some command) old new ReadFault line =
     FailsAt (IsReadFile (Some command)) (Rose old.counts.faults new.counts.faults) (λ name. report_line (reports.ReadFault name)) line new
 HasCause (Some command) old new WriteFault line =

@@ -1,6 +1,7 @@
 pub mod Answer
 pub mod Certificate
 pub mod Command
+pub mod GenCommand
 pub mod Outcome
 pub mod Outside
 pub mod Plan

@@ -1,5 +1,5 @@
--- What is reported of a plan, of a refused text and of a miss.
-use Rattle.std.specs.Prelude.{◌==◌, length}
+-- What is reported of a plan, of a generated program, of a refused text and of a miss.
+use Rattle.std.specs.Prelude.{◌==◌, ℕ, List, length}
 use Rattle.job_report.specs.declared.report.Report.{Report}
 use Rattle.job_report.specs.declared.report.Report.TheVariants as reports
 use Rattle.slot_rule.specs.declared.sent.Miss.{Miss}
@@ -10,6 +10,10 @@ use Rattle.remux_core.specs.Certificate.{Certificate}
 -- a plan: its bound, choice, distortion and number of nodes, and that it is optimal where its bound is reached
 abbrev pub plan_report : Certificate → Report
 plan_report plan = reports.Plan plan.bound plan.choice plan.distortion (length plan.nodes) (plan.bound == plan.distortion)
+
+-- a generated program: how many bytes and pictures it has
+abbrev pub gen_report : (program : List ℕ) → (pictures : ℕ) → Report
+gen_report program pictures = reports.Gen (length program) pictures
 
 -- a refused text: the first line that no table has, or the name of the first limit that is broken
 abbrev pub refusal_report : JobRefusal → Report

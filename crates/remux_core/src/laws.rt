@@ -8,7 +8,7 @@ ghost use Rattle.version_table.specs.Choice.{IsSmallestChoice};
 ghost use Rattle.slot_rule.specs.Schedule.{IsScheduled};
 ghost use Rattle.remux_core.specs.declared.status.Status.{Status as AnyStatus};
 ghost use Rattle.remux_core.specs.Answer.{HasCause};
-ghost use Rattle.remux_core.specs.Command.{IsPlanCommand, Command as AnyCommand};
+ghost use Rattle.remux_core.specs.Command.{IsPlanCommand, IsGenCommand, Command as AnyCommand};
 ghost use Rattle.remux_core.specs.Outcome.{WordsCallFor};
 ghost use Rattle.remux_core.specs.Outside.{ShelfFacts};
 ghost use Rattle.remux_core.specs.PlanCommand.{HoldsTable};
@@ -51,6 +51,9 @@ pub fn calm_run(
     ensures plans { (name certificate : List ℕ) (table : Table) → IsPlanCommand (map string_bytes words.now) name certificate
         → HoldsTable shelf.old.files name table
         → ((choice : List ℕ) → IsSmallestChoice table choice → IsScheduled table choice)
+        → (result ≡ Status.Ok) ⊎ (result ≡ Status.OutOfMemory) }
+    // And each program that is asked for is made.
+    ensures makes { (seed pictures : ℕ) (name : List ℕ) → IsGenCommand (map string_bytes words.now) seed pictures name
         → (result ≡ Status.Ok) ⊎ (result ≡ Status.OutOfMemory) }
 {
     run(alloc, words, shelf, out)

@@ -22,6 +22,16 @@ pub fn plan_report(plan: Certificate) -> Report
     }
 }
 
+/// A generated program.
+pub fn gen_report(program: &[u8], pictures: u32) -> Report
+    ensures { result ≡ spec.gen_report program.now pictures }
+{
+    Report::Gen {
+        bytes: program.len() as u64,
+        pictures,
+    }
+}
+
 /// A table text that is refused.
 pub fn refusal_report(refusal: &JobRefusal) -> Report
     ensures { result ≡ spec.refusal_report refusal.now }

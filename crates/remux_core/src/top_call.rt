@@ -9,8 +9,9 @@ ghost use Rattle.remux_core.specs.Private.Ended.{answer_of, Performs};
 ghost use Rattle.remux_core.specs.Promises.{NoneFailed};
 ghost use Rattle.remux_core.specs.Status.{IsSameStatus};
 
-use crate::command::plan_files;
+use crate::command::{Parsed, parse};
 use crate::ended::{Ended, end_with};
+use crate::gen_command::gen_file;
 use crate::plan_command::plan_file;
 use crate::status::Status;
 use job_report::Report;
@@ -21,8 +22,8 @@ use version_table::{one_reading, smallest_choice_is_one};
 
 /// Runs a command: words, a shelf of files, and a sink for the report line.
 ///
-/// The words `plan TABLE CERT` plan the table text in the file TABLE and write the certificate of the plan to CERT.
-/// All other words are a usage fault. One line of JSON goes to `out` for each status but want of memory.
+/// The words `plan TABLE CERT` plan the table text in the file TABLE and write the certificate of the plan to CERT. The words
+/// `gen SEED PICTURES OUT` write the generated program of a seed with so many pictures to OUT. All other words are a usage fault. One line of JSON goes to `out` for each status but want of memory.
 pub fn run<K: Shelf, O: Sink>(alloc: Global, words: &[String], shelf: &mut K, out: &mut O) -> Status
     // What the words and files decide, what failed outside, how it is reported, and what every command promises.
     ensures outcome { Outcome (map string_bytes words.now)
@@ -70,8 +71,9 @@ fn perform<K: Shelf>(alloc: Global, words: &[String], shelf: &mut K) -> Option<E
         (shelf_facts K.files K.counts K.asked K.since_fault shelf.new)
         (answer_of result) }
 {
-    match plan_files(words) {
-        Some(files) => plan_file(alloc, &files, shelf),
+    match parse(words) {
+        Some(Parsed::Plan(files)) => plan_file(alloc, &files, shelf),
+        Some(Parsed::Gen(words)) => gen_file(alloc, &words, shelf),
         None => end_with(alloc, Status::Usage, &Report::Usage),
     }
 }

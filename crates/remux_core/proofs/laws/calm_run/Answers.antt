@@ -1,7 +1,7 @@
 use Rattle.std.proofs.Common.{◌<◌, Some, refl, inl, inr, lit<, arith}
 use Rattle.shelf_io.specs.Counts.{Rose}
 use Rattle.remux_core.specs.declared.status.Status.TheVariants.{Ok}
-use Rattle.remux_core.specs.Command.{Plan}
+use Rattle.remux_core.specs.Command.{Plan, Gen}
 use Rattle.remux_core.proofs.One.{is_ok}
 use Rattle.remux_core.proofs.laws.calm_run.Goals as goal
 
@@ -16,6 +16,13 @@ returns-clause-called_for c = λ status calls.
 pub returns-clause-plans : goal.returns-clause-plans
 returns-clause-plans c = λ name certificate table command holds scheduled.
     elim (returns-clause-called_for c Ok (record { command = Some (Plan name certificate); said = command; called = (table, holds, scheduled) })) [
+      | inl same ↦ inl (is_ok c.run.result same)
+      | inr wanted ↦ inr wanted
+    ]
+
+pub returns-clause-makes : goal.returns-clause-makes
+returns-clause-makes c = λ seed pictures name command.
+    elim (returns-clause-called_for c Ok (record { command = Some (Gen seed pictures name); said = command; called = tt })) [
       | inl same ↦ inl (is_ok c.run.result same)
       | inr wanted ↦ inr wanted
     ]

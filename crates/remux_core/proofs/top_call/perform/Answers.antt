@@ -1,9 +1,12 @@
-use Rattle.std.proofs.Common.{None, refl}
+use Rattle.std.proofs.Common.{Some, None, map, refl, subst}
+use Rattle.std.specs.String.{string_bytes}
 use Rattle.job_report.specs.declared.report.Report.TheVariants as reports
 use Rattle.remux_core.specs.declared.status.Status.TheVariants.{Usage}
+use Rattle.remux_core.specs.declared.command.Parsed.{Parsed}
 use Rattle.remux_core.specs.Answer.{Decides, AnswerHasCause}
+use Rattle.remux_core.specs.Command.{IsSaid}
 use Rattle.remux_core.specs.Outside.{shelf_facts}
-use Rattle.remux_core.specs.Private.Parsed.{plan_of}
+use Rattle.remux_core.specs.Private.Parsed.{command_of, plan_of}
 use Rattle.remux_core.proofs.Counted.{counts_same, asks_same, asks_table}
 use Rattle.remux_core.proofs.Ending.{ends_so}
 use Rattle.remux_core.proofs.Told.{on_same}
@@ -23,13 +26,13 @@ returns-in-None g c =
       asks = asks_same None (g.K.Shelf.asked c.args.shelf.now);
     }
 
-pub returns-in-Some : goal.returns-in-Some
-returns-in-Some g c =
-    let files = c.in-Some.files in
+pub returns-in-Some-Plan : goal.returns-in-Some-Plan
+returns-in-Some-Plan g c =
+    let files = c.in-Some-Plan.files in
     let asked = g.K.Shelf.asked in
     record {
       command = plan_of files;
-      said = c.in-Some.ensures;
+      said = subst (λ (p : Parsed). IsSaid (map string_bytes c.args.words.now) (command_of (Some p))) c.in-Some-Plan.field-0-is c.in-Some-Plan.ensures;
       decided = c.plan_file.ensures.decided;
       cause = c.plan_file.ensures.cause;
       counts = c.plan_file.ensures.counts;

@@ -1,0 +1,74 @@
+-- Words that are those of `gen`, and words that aren't.
+use Rattle.std.proofs.Common.{◌≡◌, ◌<◌, ◌^◌, ℕ, true, List, [], ◌∷◌, length, get_or, decimal, codes, refl, sym, ap, ◌∙◌, lit<, lit≤, arith}
+use Rattle.std.specs.Str.{all_ascii_digits}
+use Rattle.std.specs.Str.Parse.{digits_value}
+use Rattle.std.proofs.lemmas.Fmt.{decimal_digit, decimal_is_IsNumeral, decimal-digits_value}
+use Rattle.std.proofs.lemmas.Str.Parse.{numerals_by_value, tells_all_ascii_digits}
+use Rattle.remux_core.specs.Command.{Plan, Gen, IsCommand}
+use Rattle.remux_core.proofs.Decimals.{decimal_begins_plainly, pictures_within}
+
+-- the words `gen SEED PICTURES a`
+abbrev gen_words : (seed pictures : List ℕ) → List (List ℕ)
+gen_words seed pictures = codes "gen" ∷ seed ∷ pictures ∷ codes "a" ∷ []
+
+-- digits without a needless zero are the decimal of their value
+decimal_of : (digits : List ℕ) → all_ascii_digits digits ≡ true → 0 < length digits → (get_or digits 0 0 ≡ 48 → length digits ≡ 1)
+    → digits_value 10 digits < 2 ^ 64 → decimal (digits_value 10 digits) ≡ digits
+decimal_of = decimal-digits_value (numerals_by_value _ tells_all_ascii_digits)
+
+one : decimal 1 ≡ codes "1"
+one = decimal_digit 1 (lit< tt)
+
+-- twelve pictures of seed 1
+twelve_pictures : IsCommand (gen_words (codes "1") (codes "12"))
+twelve_pictures =
+    let twelve : decimal 12 ≡ codes "12" = decimal_of (codes "12") refl (lit< tt) (λ e. absurd (omega (arith, e))) (lit< tt) in
+    let seed = one in
+    (Gen 1 12 (codes "a"), record { words_are = cc; seed_below = lit< tt; some_pictures = lit≤ tt; few_pictures = lit≤ tt; out_named = λ e. let none = e in cc })
+
+-- the greatest numbers
+greatest : IsCommand (gen_words (codes "18446744073709551615") (codes "4096"))
+greatest =
+    let seed : decimal 18446744073709551615 ≡ codes "18446744073709551615" =
+    decimal_of (codes "18446744073709551615") refl (lit< tt) (λ e. absurd (omega (arith, e))) (lit< tt) in
+    let pictures : decimal 4096 ≡ codes "4096" = decimal_of (codes "4096") refl (lit< tt) (λ e. absurd (omega (arith, e))) (lit< tt) in
+    (Gen 18446744073709551615 4096 (codes "a"), record { words_are = cc; seed_below = lit< tt; some_pictures = lit≤ tt; few_pictures = lit≤ tt; out_named = λ e. let none = e in cc })
+
+-- four words that say a command have the decimal of a number below 2^64 in the second
+seed_word : (verb seed pictures out : List ℕ) → IsCommand (verb ∷ seed ∷ pictures ∷ out ∷ []) → (n : ℕ) × (n < 2 ^ 64) × (seed ≡ decimal n)
+seed_word verb seed pictures out (Plan table certificate, said) = let are = said.words_are in cc
+seed_word verb seed pictures out (Gen start number name, said) = let are = said.words_are in (start, said.seed_below, cc)
+
+-- a needless zero
+needless_zero : IsCommand (gen_words (codes "01") (codes "12")) → ⊥
+needless_zero command =
+    let (n, small, is) = seed_word _ _ _ _ command in
+    let plain = rw (← is) at (decimal_begins_plainly n small) in
+    let one : 2 ≡ 1 = plain.1 refl in
+    omega (arith, one)
+
+-- a sign
+sign : IsCommand (gen_words (codes "+1") (codes "12")) → ⊥
+sign command =
+    let (n, small, is) = seed_word _ _ _ _ command in
+    (rw (← is) at (decimal_begins_plainly n small)).0 refl
+
+-- 2^64
+seed_too_great : IsCommand (gen_words (codes "18446744073709551616") (codes "1")) → ⊥
+seed_too_great command =
+    let (n, small, is) = seed_word _ _ _ _ command in
+    let value : 18446744073709551616 ≡ n = ap (digits_value 10) is ∙ (decimal_is_IsNumeral n small).1 in
+    omega (arith, value, small)
+
+-- no picture
+no_picture : IsCommand (gen_words (codes "1") (codes "0")) → ⊥
+no_picture command =
+    let within = pictures_within _ _ _ _ 0 (lit< tt, sym (decimal_digit 0 (lit< tt))) command in
+    omega (arith, within.0)
+
+-- 4,097 pictures
+too_many_pictures : IsCommand (gen_words (codes "1") (codes "4097")) → ⊥
+too_many_pictures command =
+    let many : decimal 4097 ≡ codes "4097" = decimal_of (codes "4097") refl (lit< tt) (λ e. absurd (omega (arith, e))) (lit< tt) in
+    let within = pictures_within _ _ _ _ 4097 (lit< tt, sym many) command in
+    omega (arith, within.1)
