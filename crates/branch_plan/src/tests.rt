@@ -1,3 +1,6 @@
+ghost use Rattle.std.specs.Prelude.{◌≤◌};
+ghost use Rattle.version_table.specs.declared.limits.TheConstants.{EVALUATIONS_MOST};
+
 use crate::{PlanFault, Search, plan};
 use slot_rule::Miss;
 use std::alloc::Global;
@@ -21,7 +24,9 @@ fn assert_plan(
     evaluations: u32,
     choice: &[u8],
     came: Came,
-) -> Result<(), Fail> {
+) -> Result<(), Fail>
+    requires { evaluations ≤ EVALUATIONS_MOST }
+{
     let table = read_table(alloc, text)?;
     let planned = plan(alloc, &table, 1, evaluations)?;
     let cert = &planned.cert;
