@@ -1,0 +1,131 @@
+ghost use Rattle.std.specs.Prelude.{◌≤◌};
+ghost use Rattle.version_table.specs.declared.limits.TheConstants.{EVALUATIONS_MOST};
+
+use crate::{PlanFault, Search, plan};
+use slot_rule::Miss;
+use std::alloc::Global;
+use std::process::Abort;
+use std::test::Fail;
+use version_table::read_table;
+
+/// What a plan comes to.
+#[derive(Clone, Copy, Debug, PartialEq)]
+struct Came {
+    bound: u64,
+    distortion: u64,
+    search: Search,
+}
+
+/// Asserts what the plan of a table's text comes to, with one node and so many evaluations.
+fn assert_plan(
+    rt: &impl Abort,
+    alloc: Global,
+    text: &[u8],
+    evaluations: u32,
+    choice: &[u8],
+    came: Came,
+) -> Result<(), Fail>
+    requires { evaluations ≤ EVALUATIONS_MOST }
+{
+    let table = read_table(alloc, text)?;
+    let planned = plan(alloc, &table, 1, evaluations)?;
+    let cert = &planned.cert;
+    assert_eq!(rt; cert.choice.as_slice(), choice);
+    let is = Came {
+        bound: cert.bound,
+        distortion: cert.distortion,
+        search: planned.search,
+    };
+    assert_eq!(rt; is, came);
+    assert_eq!(rt; cert.nodes.len(), 1);
+    Ok(())
+}
+
+#[test]
+fn of_three_units_a_pair_bounds_most(rt: HostRuntime) -> Result<(), Fail> {
+    let text =
+        b"remux table 1\nslot 4000\nnodes 1\nevaluations 0\nprogram 112\nunit 27200 552:0 368:10\nunit 43200 552:0 368:4\nunit 47200 552:0 368:4\n";
+    let came = Came {
+        bound: 14,
+        distortion: 18,
+        search: Search::Budget,
+    };
+    assert_plan(&rt, rt.alloc(), text, 0, &[1, 1, 1], came)
+}
+
+#[test]
+fn one_multiplier_shows_that_a_plan_is_the_best(rt: HostRuntime) -> Result<(), Fail> {
+    let text =
+        b"remux table 1\nslot 4000\nnodes 1\nevaluations 0\nprogram 112\nunit 27200 552:0 368:10\n";
+    let came = Came {
+        bound: 10,
+        distortion: 10,
+        search: Search::Optimal,
+    };
+    assert_plan(&rt, rt.alloc(), text, 0, &[1], came)
+}
+
+#[test]
+fn a_window_bounds_where_multipliers_do_not(rt: HostRuntime) -> Result<(), Fail> {
+    let text =
+        b"remux table 1\nslot 40000\nnodes 1\nevaluations 0\nprogram 112\nunit 54000000 115000:0 92000:10\n";
+    let came = Came {
+        bound: 3,
+        distortion: 10,
+        search: Search::Budget,
+    };
+    assert_plan(&rt, rt.alloc(), text, 0, &[1], came)
+}
+
+/// Two units, of which the first can't be sent as its version 0.
+const TWO_UNITS: &[u8] =
+    b"remux table 1\nslot 4000\nnodes 1\nevaluations 0\nprogram 112\nunit 27200 552:0 368:10\nunit 2000000 552:0 368:10\n";
+
+#[test]
+fn a_single_change_makes_a_plan_the_best(rt: HostRuntime) -> Result<(), Fail> {
+    let came = Came {
+        bound: 10,
+        distortion: 10,
+        search: Search::Optimal,
+    };
+    assert_plan(&rt, rt.alloc(), TWO_UNITS, 2, &[1, 0], came)
+}
+
+#[test]
+fn without_evaluations_nothing_is_changed(rt: HostRuntime) -> Result<(), Fail> {
+    let came = Came {
+        bound: 10,
+        distortion: 20,
+        search: Search::Budget,
+    };
+    assert_plan(&rt, rt.alloc(), TWO_UNITS, 0, &[1, 1], came)
+}
+
+#[test]
+fn without_units_the_plan_is_empty(rt: HostRuntime) -> Result<(), Fail> {
+    let text = b"remux table 1\nslot 1080\nnodes 4\nevaluations 0\nprogram 112\n";
+    let came = Came {
+        bound: 0,
+        distortion: 0,
+        search: Search::Optimal,
+    };
+    assert_plan(&rt, rt.alloc(), text, 0, &[], came)
+}
+
+#[test]
+fn a_smallest_choice_that_misses_is_told(rt: HostRuntime) -> Result<(), Fail> {
+    let text =
+        b"remux table 1\nslot 1080\nnodes 4\nevaluations 0\nprogram 112\nunit 36935 1840:0\n";
+    let table = read_table(rt.alloc(), text)?;
+    let miss = Miss {
+        stream: 0,
+        unit: 0,
+        slot: 22,
+        due: 36_935,
+    };
+    match plan(rt.alloc(), &table, 4, 0) {
+        Err(PlanFault::Missed(found)) => assert_eq!(rt; found, miss),
+        _other => assert_eq!(rt; 0, 1),
+    }
+    Ok(())
+}
