@@ -11,3 +11,6 @@ mod planner;
 mod root;
 
 pub use planner::{PlanFault, Planned, Search, plan};
+
+#[cfg(test)]
+mod tests;
