@@ -9,6 +9,7 @@ use Rattle.psi_tables.specs.Section.{IsWithCrc}
 use Rattle.psi_tables.specs.Pat.{IsPat, map_pid, written_pat}
 use Rattle.psi_tables.specs.Streams.{StreamInfo}
 use Rattle.psi_tables.specs.Pmt.{IsPmt, written_pmt}
+use Rattle.psi_tables.specs.PatOf.{pat_of}
 use Rattle.psi_tables.specs.PmtOf.{pmt_of}
 
 -- ---- the CRC of an ASCII text
@@ -161,3 +162,20 @@ not_current = refl
 pat-by_function : pmt_of pat_bytes ≡ None
 unfolding bit bits
 pat-by_function = refl
+
+programs-by_function : pat_of pat_bytes ≡ Some ((1, 0x100) ∷ [])
+unfolding bits bit
+programs-by_function = refl
+
+-- the same with the table_id of another table, not current yet, and with a length that no whole number of programs fills
+of_another_table : pat_of (2 ∷ drop 1 pat_bytes) ≡ None
+unfolding bits bit
+of_another_table = refl
+
+not_yet_current : pat_of (take 5 pat_bytes ++ 0xC0 ∷ drop 6 pat_bytes) ≡ None
+unfolding bits bit
+not_yet_current = refl
+
+half_a_program : pat_of (take 2 pat_bytes ++ 0x0B ∷ take 11 (drop 3 pat_bytes)) ≡ None
+unfolding bits bit
+half_a_program = refl

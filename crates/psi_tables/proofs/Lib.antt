@@ -8,6 +8,7 @@ pub mod GoodSection
 pub mod Headers
 pub mod Held
 pub mod Pieces
+pub mod PatFunction
 pub mod PmtFunction
 pub mod Reading
 pub mod Steps

@@ -59,7 +59,7 @@ use Rattle.psi_tables.proofs.MapContents.{one_map}
 -- ---- items
 
 -- an item is read from its own bytes, whose number its front says
-record IsReadBy {A : Type 0} (spells : A → List ℕ → Type 0) (size : List ℕ → ℕ) (item : List ℕ → Option A) : Type 0 where
+pub record IsReadBy {A : Type 0} (spells : A → List ℕ → Type 0) (size : List ℕ → ℕ) (item : List ℕ → Option A) : Type 0 where
   pub some : (x : A) (front : List ℕ) → spells x front → 0 < length front
   pub size_is : (x : A) (front behind : List ℕ) → spells x front → size (front ++ behind) ≡ length front
   pub reads : (x : A) (front : List ℕ) → spells x front → item front ≡ Some x
@@ -85,7 +85,7 @@ parts false (Some x) None all e = absurd cc
 parts false (Some x) (Some xs) all e = record { passes = refl; x = x; xs = xs; first_is = refl; others_are = refl; all_are = let f : x ∷ xs ≡ all = cc in sym f }
 
 module _ {A : Type 0} (spells : A → List ℕ → Type 0) (size : List ℕ → ℕ) (item : List ℕ → Option A) (is_read : IsReadBy spells size item) where
-  row_read : (xs : List A) (bytes : List ℕ) (n : ℕ) → length bytes ≤ n → IsItemRow spells xs bytes → items_in size item bytes n ≡ Some xs
+  pub row_read : (xs : List A) (bytes : List ℕ) (n : ℕ) → length bytes ≤ n → IsItemRow spells xs bytes → items_in size item bytes n ≡ Some xs
   row_read [] bytes n few row = ap (λ (b : List ℕ). items_in size item b n) row
   row_read (x ∷ xs) bytes n few row = by_front row.0 row.1 n row.2 row.3 (λ m less. row_read xs row.1 m less row.4) few
     where
@@ -106,7 +106,7 @@ module _ {A : Type 0} (spells : A → List ℕ → Type 0) (size : List ℕ → 
           ap (λ (r : List ℕ). items_in size item r (suc n)) split
           ∙ made (nat_lt (length whole) (size whole)) (item (take (size whole) whole)) (items_in size item (drop (size whole) whole) n) x xs test first later
 
-  row_spelled : (n : ℕ) (bytes : List ℕ) (xs : List A) → items_in size item bytes n ≡ Some xs → IsItemRow spells xs bytes
+  pub row_spelled : (n : ℕ) (bytes : List ℕ) (xs : List A) → items_in size item bytes n ≡ Some xs → IsItemRow spells xs bytes
   row_spelled n [] xs e = let none : [] ≡ xs = cc in subst (λ (ys : List A). IsItemRow spells ys []) none refl
   row_spelled zero (b ∷ bytes) xs e = absurd cc
   row_spelled (suc n) (b ∷ bytes) xs e =

@@ -3,6 +3,7 @@ pub mod Section
 pub mod Sections
 pub mod SectionBuilder
 pub mod Pat
+pub mod PatOf
 pub mod Descriptors
 pub mod Streams
 pub mod Pmt

@@ -6,6 +6,8 @@ ghost use Rattle.psi_tables.specs.declared.program_map.ProgramMap.{ProgramMap};
 ghost use Rattle.psi_tables.specs.Crc.{IsCrcOf, HasRightCrc};
 ghost use Rattle.payload_lists.specs.Payload.{Payload};
 ghost use Rattle.psi_tables.specs.Pmt.{IsPmt, HasRoom};
+ghost use Rattle.psi_tables.specs.Pat.{IsPat};
+ghost use Rattle.psi_tables.specs.PatOf.{pat_of};
 ghost use Rattle.psi_tables.specs.PmtOf.{pmt_of};
 ghost use Rattle.psi_tables.specs.Sections.{Found, added, crc_over, found_at, going, sections_of, stuffing_byte, GivesInTurn};
 
@@ -55,4 +57,10 @@ pub fn each_payload_adds()
 /// for what is kept of it, exactly where the function has it.
 pub fn pmt_by_function()
     ensures { (section : List ℕ) (program : ProgramMap) → (pmt_of section ≡ Some program) ↔ (IsPmt program section × HasRoom program) }
+{}
+
+/// What a PAT section says, as a relation and as a function: bytes are a current PAT section of these programs exactly where the
+/// function has them.
+pub fn pat_by_function()
+    ensures { (section : List ℕ) (programs : List (ℕ × ℕ)) → (pat_of section ≡ Some programs) ↔ IsPat programs section }
 {}
