@@ -3,6 +3,10 @@ pub const HELP: &str = "remux: a statistical remultiplexer for MPEG-2 whose prom
 
   remux plan TABLE CERT   plans the table of pictures in the file TABLE, writes a certificate of the
                           plan to CERT, and prints one line of JSON
+  remux gen SEED PICTURES OUT
+                          writes the generated program of SEED (0 to 18446744073709551615) with PICTURES
+                          pictures (1 to 4096), a transport stream for trials, to OUT, and prints one
+                          line of JSON
   remux --help            prints this text
   remux --version         prints the version
 

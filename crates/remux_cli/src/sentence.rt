@@ -5,7 +5,7 @@ use version_table::TableFault;
 /// Prints on standard error what is wrong, and what is allowed; nothing where the work was done.
 pub fn print_sentence<R: Eprint>(rt: &R, words: &[String], status: &Status) -> io::Result<()> {
     let table = word_at(words, 1);
-    let certificate = word_at(words, 2);
+    let written = last_word(words);
     match status {
         Status::Ok => Ok(()),
         Status::Usage => eprintln!(rt;
@@ -21,12 +21,12 @@ pub fn print_sentence<R: Eprint>(rt: &R, words: &[String], status: &Status) -> i
             "remux: {table} can't be read; is it a file that you may read?"
         ),
         Status::WriteFault => eprintln!(rt;
-            "remux: {certificate} or standard output can't be written, and may hold a front of its text alone; is there \
+            "remux: {written} or standard output can't be written, and may hold a front of its text alone; is there \
              room, and may you write there?"
         ),
         Status::Missing => eprintln!(rt; "remux: {table}: there is no such file"),
         Status::OutOfMemory => eprintln!(rt;
-            "remux: memory is wanting; nothing is claimed of {certificate}"
+            "remux: memory is wanting; nothing is claimed of {written}"
         ),
     }
 }
@@ -38,6 +38,14 @@ fn print_refusal<R: Eprint>(rt: &R, table: &str, refusal: &JobRefusal) -> io::Re
         JobRefusal::TableLimit(name) => TableFault::TableLimit(*name),
     };
     eprintln!(rt; "remux: {table}: {fault}")
+}
+
+/// The last word, which names the file that is written.
+fn last_word(words: &[String]) -> &str {
+    match words.last() {
+        Some(word) => word.as_str(),
+        None => "",
+    }
 }
 
 /// A word of the command; none is empty.
