@@ -1,0 +1,26 @@
+//! What holds of all versions of units.
+ghost use Rattle.std.specs.Prelude.{◌≤◌, ℕ, Option, List, All, length};
+ghost use Rattle.bit_lists.specs.Fields.{AreBytes};
+ghost use Rattle.syntax_types.specs.declared.picture.SeqState.{SeqState};
+ghost use Rattle.picture_grammar.specs.Picture.{MayPrecede};
+ghost use Rattle.version_maker.specs.declared.version.UnitVersion.{UnitVersion};
+ghost use Rattle.version_maker.specs.declared.version.VersionSize.{VersionSize};
+ghost use Rattle.version_maker.specs.Versions.{AreSizes, AreVersions};
+
+use crate::limits::{UNIT_VERSION_BYTES_MOST, UNIT_VERSION_DISTORTION_MOST};
+use version_maker::UNIT_BYTES_MOST;
+
+/// No version of a unit is empty or longer than a table allows with a PES header before it, and none is farther from its
+/// source than a table allows at the greatest weight.
+pub fn versions_are_bounded()
+    ensures { (before : Option SeqState) (unit coarser : List ℕ) (versions : List UnitVersion) → MayPrecede before → AreBytes unit → length unit ≤ UNIT_BYTES_MOST
+        → AreVersions before unit coarser versions
+        → All (λ version. (1 ≤ length version.bytes) × (length version.bytes ≤ UNIT_VERSION_BYTES_MOST) × (version.distortion ≤ UNIT_VERSION_DISTORTION_MOST)) versions }
+{}
+
+/// So are the sizes of a unit's versions.
+pub fn sizes_are_bounded()
+    ensures { (before : Option SeqState) (unit coarser : List ℕ) (sizes : List VersionSize) → MayPrecede before → AreBytes unit → length unit ≤ UNIT_BYTES_MOST
+        → AreSizes before unit coarser sizes
+        → All (λ size. (1 ≤ size.bytes) × (size.bytes ≤ UNIT_VERSION_BYTES_MOST) × (size.distortion ≤ UNIT_VERSION_DISTORTION_MOST)) sizes }
+{}
