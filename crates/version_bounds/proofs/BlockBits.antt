@@ -1,5 +1,5 @@
 -- How many bits a block is written in.
-use Rattle.std.proofs.Common.{◌≡◌, ℕ, ◌+◌, ◌*◌, ◌<◌, ◌≤◌, ℤ, pos, unsigned_abs, Option, Some, None, List, [], ◌∷◌, ◌++◌, Bool, true, false, refl, sym, subst, arith, length}
+use Rattle.std.proofs.Common.{◌≡◌, ℕ, ◌+◌, ◌*◌, ◌≤◌, pos, unsigned_abs, Option, Some, None, List, [], ◌∷◌, ◌++◌, Bool, true, false, refl, sym, subst, arith, length}
 use Rattle.std.specs.Prelude.{int_lt, if◌then◌else◌}
 use Rattle.std.specs.List.{sum_by}
 use Rattle.std.specs.Option.{option_map_or}

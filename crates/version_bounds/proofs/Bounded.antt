@@ -1,8 +1,8 @@
 -- No version of a unit is longer, or farther from its source, than its bounds say.
 use Rattle.std.proofs.Common.{◌≡◌, ℕ, zero, suc, ◌+◌, ◌-◌, ◌*◌, ◌/◌, ◌%◌, ◌<◌, ◌≤◌, Option, List, [], ◌∷◌, ◌++◌, Bool, true, false, sym, ◌∙◌, ap, subst, arith, length, get_or, replicate, map, All}
 use Rattle.std.specs.Prelude.{if◌then◌else◌}
-use Rattle.std.specs.List.{AllByRecursion, AllZip, flat_map, range_with_len, sum_by}
-use Rattle.std.proofs.Math.Nat.{mul-le-mul}
+use Rattle.std.specs.List.{AllByRecursion, AllZip, flat_map, sum_by}
+use Rattle.std.proofs.Math.Nat.{mul-le-mul, mul-le-mul_right}
 use Rattle.std.proofs.lemmas.List.{length-append}
 use Rattle.std.proofs.lemmas.List.FromFn.{length-range_with_len}
 use Rattle.std.proofs.lemmas.List.Sums.{sum_by-cons}
@@ -19,16 +19,16 @@ use Rattle.picture_grammar.specs.Macroblock.{is_frame}
 use Rattle.picture_grammar.specs.Picture.{IsCoding, IsLawful, IsState, MayPrecede, SpellsPicture, addresses, first_column, rows}
 use Rattle.picture_grammar.specs.Slice.{columns}
 use Rattle.picture_grammar.specs.StartCode.{start_code_bits}
-use Rattle.picture_grammar.specs.Written.{IsWritten, written_macroblock, written_picture, written_slice, written_slice_info}
+use Rattle.picture_grammar.specs.Written.{written_picture, written_slice, written_slice_info}
 use Rattle.picture_laws.proofs.Codings.{coding-of_unit}
 use Rattle.picture_laws.proofs.SpelledStates.{state-of_unit}
 use Rattle.picture_laws.proofs.WrittenPicture.{slices-of_picture}
 use Rattle.requantiser.specs.Slices.{IsCoarserSlice}
-use Rattle.requantiser.specs.Version.{IsVersion}
 use Rattle.requantiser.proofs.LawfulVersions.{version-lawful, version-spelled}
 use Rattle.requantiser.proofs.MacroblockSteps.{span_of}
 use Rattle.requantiser.proofs.SpelledPictures.{lawful-walkable}
 use Rattle.requantiser.proofs.StepSums.{steps-add-up}
+use Rattle.version_table.specs.Table.{IsValidVersion}
 use Rattle.version_maker.specs.declared.version.UnitVersion.{UnitVersion}
 use Rattle.version_maker.specs.declared.version.VersionSize.{VersionSize}
 use Rattle.version_maker.specs.Versions.{AreSizes, AreVersions, IsCoarserVersion, IsSourceVersion, size_of}
@@ -227,6 +227,29 @@ each-bounded before unit coarser versions may are short is =
 pub versions-bounded : (before : Option SeqState) (unit coarser : List ℕ) (versions : List UnitVersion) → MayPrecede before → AreBytes unit → length unit ≤ 1048576
     → AreVersions before unit coarser versions → All IsBounded versions
 versions-bounded before unit coarser versions may are short is = all-of IsBounded versions (each-bounded before unit coarser versions may are short is)
+
+-- ---- places in a table
+
+placed : (header weight bytes distortion : ℕ) → header ≤ 19 → 2609192632320 * weight < 281474976710656 → 1 ≤ bytes → bytes ≤ 4194285 → distortion ≤ 2609192632320
+    → IsValidVersion (record { bytes = header + bytes; distortion = distortion * weight })
+placed header weight bytes distortion short light some few near =
+    let product : distortion * weight ≤ 2609192632320 * weight = mul-le-mul_right weight near in
+    record { some_bytes = omega (arith, some); bytes = omega (arith, short, few); distortion = omega (arith, product, light) }
+
+pub versions-placed : (before : Option SeqState) (unit coarser : List ℕ) (versions : List UnitVersion) (header weight : ℕ) → MayPrecede before → AreBytes unit → length unit ≤ 1048576
+    → AreVersions before unit coarser versions → header ≤ 19 → 2609192632320 * weight < 281474976710656
+    → All (λ version. IsValidVersion (record { bytes = header + length version.bytes; distortion = version.distortion * weight })) versions
+versions-placed before unit coarser versions header weight may are short is fits light = at
+  where
+    each : All IsBounded versions
+    each = versions-bounded before unit coarser versions may are short is
+
+    at : (k : ℕ) (d : UnitVersion) → k < length versions
+        → (let version : UnitVersion = get_or versions k d in IsValidVersion (record { bytes = header + length version.bytes; distortion = version.distortion * weight }))
+    at k d within =
+        let version : UnitVersion = get_or versions k d in
+        let bounded : IsBounded version = each k d within in
+        placed header weight (length version.bytes) version.distortion fits light bounded.0 bounded.1 bounded.2
 
 -- ---- sizes
 

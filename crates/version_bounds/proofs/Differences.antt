@@ -1,5 +1,5 @@
 -- How far a macroblock of a version lies from the source's.
-use Rattle.std.proofs.Common.{◌≡◌, ℕ, zero, suc, ◌+◌, ◌*◌, ◌<◌, ◌≤◌, ℤ, pos, ◌-ℤ◌, unsigned_abs, ◌⊎◌, inl, inr, Option, Some, None, List, [], ◌∷◌, Bool, false, refl, sym, ◌∙◌, ap, subst, arith, length, get_or}
+use Rattle.std.proofs.Common.{◌≡◌, ℕ, zero, suc, ◌+◌, ◌*◌, ◌<◌, ◌≤◌, ℤ, pos, ◌-ℤ◌, unsigned_abs, ◌⊎◌, inl, inr, Option, Some, None, List, [], Bool, false, sym, ◌∙◌, ap, subst, arith, length}
 use Rattle.std.specs.Prelude.{slice_index_or}
 use Rattle.std.specs.Int.{int_signum}
 use Rattle.std.proofs.Math.Nat.{mul-le-mul}

@@ -1,5 +1,5 @@
 -- How many bits slices are written in, beside the information in their headers.
-use Rattle.std.proofs.Common.{◌≡◌, ℕ, ◌+◌, ◌-◌, ◌*◌, ◌%◌, ◌<◌, ◌≤◌, List, [], ◌∷◌, ◌++◌, Option, Some, None, true, replicate, refl, sym, ◌∙◌, ap, arith, length, append_assoc}
+use Rattle.std.proofs.Common.{◌≡◌, ℕ, ◌+◌, ◌-◌, ◌*◌, ◌%◌, ◌≤◌, List, [], ◌∷◌, ◌++◌, Option, Some, None, true, replicate, refl, sym, ◌∙◌, arith, length, append_assoc}
 use Rattle.std.specs.Prelude.{◌==◌}
 use Rattle.std.specs.List.{AllByRecursion, flat_map, sum_by}
 use Rattle.std.proofs.lemmas.List.{length-append, length-replicate}
@@ -16,7 +16,6 @@ use Rattle.picture_grammar.specs.StartCode.{is_slice, start_code_bits}
 use Rattle.picture_grammar.specs.Written.{written_macroblock, written_slice, written_slice_info}
 use Rattle.picture_laws.specs.Spellable.{HasSpellableMacroblocks}
 use Rattle.requantiser.specs.Private.Shapes.{IsWalkableSlice}
-use Rattle.requantiser.specs.Slices.{IsCoarserSlice, end_column}
 use Rattle.requantiser.proofs.MacroblockSteps.{span_of}
 use Rattle.version_maker.specs.Private.Counts.{written_whole}
 use Rattle.version_maker.proofs.Counts.{slice-length}

@@ -1,14 +1,12 @@
 -- What a unit has at least: its head, and what the headers of its slices say besides.
-use Rattle.std.proofs.Common.{◌≡◌, ℕ, ◌+◌, ◌-◌, ◌*◌, ◌<◌, ◌≤◌, List, [], ◌∷◌, ◌++◌, Option, Some, None, Bool, true, false, refl, sym, ◌∙◌, ap, subst, arith, length, inl, inr}
+use Rattle.std.proofs.Common.{◌≡◌, ℕ, ◌+◌, ◌-◌, ◌*◌, ◌≤◌, List, [], ◌∷◌, ◌++◌, Option, Some, Bool, true, false, sym, ◌∙◌, ap, subst, arith, length, inl, inr}
 use Rattle.std.specs.Prelude.{◌==◌, ◌||◌}
 use Rattle.std.specs.List.{sum_by}
 use Rattle.std.proofs.lemmas.List.{length-append}
 use Rattle.std.proofs.lemmas.List.Sums.{sum_by-cons}
-use Rattle.bit_lists.specs.Bits.{bits_of}
 use Rattle.bit_lists.specs.Fields.{bit_list}
 use Rattle.bit_lists.proofs.BitLemmas.{length-bits_of}
 use Rattle.bit_lists.proofs.ByteLemmas.{length-bit_list}
-use Rattle.syntax_types.specs.declared.macroblock.Macroblock.{Macroblock}
 use Rattle.syntax_types.specs.declared.picture.PicCoding.{PicCoding}
 use Rattle.syntax_types.specs.declared.picture.Picture.{Picture}
 use Rattle.syntax_types.specs.declared.picture.SeqState.{SeqState}
@@ -18,7 +16,7 @@ use Rattle.stream_constants.specs.declared.start_codes.TheConstants.{FIRST_SLICE
 use Rattle.picture_grammar.specs.Refusal.Refusal.{BadHeader}
 use Rattle.picture_grammar.specs.Element.{uimsbf}
 use Rattle.picture_grammar.specs.Exact.{IsExact}
-use Rattle.picture_grammar.specs.Grammar.{Grammar, SpellsList, many, more_of, optional, Next}
+use Rattle.picture_grammar.specs.Grammar.{Grammar, SpellsList, many, more_of, optional}
 use Rattle.picture_grammar.specs.Grammar.Next.{more, last}
 use Rattle.picture_grammar.specs.Picture.{SpellsPicture, next_slice, picture_unit, slice_or_end, whole_slice}
 use Rattle.picture_grammar.specs.Slice.{extra_information, next_macroblock, slice, slice_extension, slice_info}
