@@ -1,0 +1,4 @@
+mod Asks
+mod NextLemmas
+mod ReadLemmas
+mod ProbeLemmas
