@@ -12,8 +12,8 @@ use Rattle.job_programs.specs.declared.next.NextProgram.{NextProgram}
 use Rattle.job_programs.specs.declared.source_fault.SourceFault.{SourceFault}
 use Rattle.job_programs.specs.declared.source_fault.ProgramsFault.{ProgramsFault}
 use Rattle.job_programs.specs.declared.source_fault.ProgramsFault.TheVariants.{Refused, Failed, Missing, OutOfMemory}
-use Rattle.job_programs.specs.Programs.{IsNextProgram, IsNextRefused, many_bytes, file, many_units, late}
 use Rattle.job_programs.specs.Told.{HoldsContent}
+use Rattle.job_programs.specs.Private.Behind.{IsProgramBehind, IsRefusedBehind, many_bytes, file, many_units, late}
 use Rattle.job_programs.specs.Private.Next.{HasNextCause, IsContentFault, IsNextOn, IsNextRefusedOn}
 
 in-files : (files : Files) (name front : List ℕ) (n : ℕ) (made : Option (List ℕ)) → get files name ≡ made → IsSomeAnd made (λ content. front ≡ take (n + 1) content)
@@ -32,20 +32,20 @@ is-whole bytes n front content room is few =
     is ∙ take_all (n + 1) content (omega (arith, room, few, size))
 
 refused-whole : (slot start bytes units number : ℕ) (drop : List ℕ) (n : ℕ) (front content : List ℕ) (kind : SourceKind) (at : ℕ) → bytes + n ≡ FILE_BYTES_MOST
-    → front ≡ take (n + 1) content → IsNextRefused slot start bytes units number drop front kind at → IsNextRefused slot start bytes units number drop content kind at
+    → front ≡ take (n + 1) content → IsRefusedBehind slot start bytes units number drop front kind at → IsRefusedBehind slot start bytes units number drop content kind at
 refused-whole slot start bytes units number drop n front content kind at room is (many_bytes many k a) =
     let size : length front ≡ min (n + 1) (length content) = ap length is ∙ length-take (n + 1) content in
     many_bytes (omega (arith, many, size)) k a
 refused-whole slot start bytes units number drop n front content kind at room is (file few bad) =
-    subst (λ (l : List ℕ). IsNextRefused slot start bytes units number drop l kind at) (is-whole bytes n front content room is few) (file few bad)
+    subst (λ (l : List ℕ). IsRefusedBehind slot start bytes units number drop l kind at) (is-whole bytes n front content room is few) (file few bad)
 refused-whole slot start bytes units number drop n front content kind at room is (many_units program few holds many k a) =
-    subst (λ (l : List ℕ). IsNextRefused slot start bytes units number drop l kind at) (is-whole bytes n front content room is few) (many_units program few holds many k a)
+    subst (λ (l : List ℕ). IsRefusedBehind slot start bytes units number drop l kind at) (is-whole bytes n front content room is few) (many_units program few holds many k a)
 refused-whole slot start bytes units number drop n front content kind at room is (late program few holds past k a) =
-    subst (λ (l : List ℕ). IsNextRefused slot start bytes units number drop l kind at) (is-whole bytes n front content room is few) (late program few holds past k a)
+    subst (λ (l : List ℕ). IsRefusedBehind slot start bytes units number drop l kind at) (is-whole bytes n front content room is few) (late program few holds past k a)
 
 next-whole : (told : Option Files) (name : List ℕ) (slot start bytes units number : ℕ) (drop : List ℕ) (n : ℕ) (front : List ℕ) (size : ℕ) (program : Program)
     → bytes + n ≡ FILE_BYTES_MOST → length front ≤ n + 1 → IfTold told name (λ content. front ≡ take (n + 1) content)
-    → size ≡ length front → IsNextProgram slot start bytes units number drop front program
+    → size ≡ length front → IsProgramBehind slot start bytes units number drop front program
     → IsNextOn told name slot start bytes units number drop size program
 next-whole told name slot start bytes units number drop n front size program room short told_is size_is next =
     let f = found told name front n short told_is in
@@ -54,17 +54,17 @@ next-whole told name slot start bytes units number drop n front size program roo
       content = f.0;
       held = f.1;
       size_is = size_is ∙ ap length whole;
-      next = subst (λ (l : List ℕ). IsNextProgram slot start bytes units number drop l program) whole next;
+      next = subst (λ (l : List ℕ). IsProgramBehind slot start bytes units number drop l program) whole next;
     }
 
 -- the next program is the one of the file
 pub next-on : (told : Option Files) (name : List ℕ) (slot start bytes units number : ℕ) (drop : List ℕ) (n : ℕ) (content front : List ℕ) (result : Result NextProgram ProgramsFault)
     → bytes + n ≡ FILE_BYTES_MOST → length content ≤ n + 1 → IfTold told name (λ whole. content ≡ take (n + 1) whole) → front ≡ content
-    → IfOk result (λ next. (next.size ≡ length front) × IsNextProgram slot start bytes units number drop front next.program)
+    → IfOk result (λ next. (next.size ≡ length front) × IsProgramBehind slot start bytes units number drop front next.program)
     → IfOk result (λ next. IsNextOn told name slot start bytes units number drop next.size next.program)
 next-on told name slot start bytes units number drop n content front (Err fault) room short told_is same holds = tt
 next-on told name slot start bytes units number drop n content front (Ok next) room short told_is same holds =
-    let program = subst (λ (l : List ℕ). IsNextProgram slot start bytes units number drop l next.program) same holds.1 in
+    let program = subst (λ (l : List ℕ). IsProgramBehind slot start bytes units number drop l next.program) same holds.1 in
     next-whole told name slot start bytes units number drop n content next.size next.program room short told_is (holds.0 ∙ ap length same) program
 
 fault-on : (told : Option Files) (name : List ℕ) (slot start bytes units number : ℕ) (drop : List ℕ) (place n : ℕ) (content : List ℕ) (old new : ShelfCounts) (since : ℕ) (fault : ProgramsFault)

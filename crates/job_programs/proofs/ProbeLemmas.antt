@@ -1,5 +1,5 @@
 -- The packets of audio streams, one stream behind the other.
-use Rattle.std.proofs.Common.{◌≡◌, ℕ, ◌+◌, ◌-◌, ◌<◌, ◌≤◌, ◌↔◌, ◌⊎◌, Bool, true, false, IsTrue, inl, inr, List, length, take, Option, refl, get_or, sym, ap, subst, ◌∙◌, take_all, arith}
+use Rattle.std.proofs.Common.{◌≡◌, ℕ, ◌+◌, ◌-◌, ◌<◌, ◌≤◌, ◌↔◌, ◌⊎◌, Bool, true, false, IsTrue, inl, inr, List, [], length, take, Option, refl, get_or, sym, ap, subst, ◌∙◌, take_all, arith}
 use Rattle.std.specs.List.{sum_by}
 use Rattle.std.proofs.lemmas.Bool.{cases_order}
 use Rattle.std.proofs.lemmas.List.Sums.{sum_by_more, sum_by-take-le}
@@ -12,9 +12,10 @@ use Rattle.version_table.specs.declared.limits.TheConstants.{TEXT_AUDIO_PACKETS_
 use Rattle.job_programs.specs.declared.source_fault.SourceFault.{SourceFault}
 use Rattle.job_programs.specs.declared.source_fault.ProgramsFault.{ProgramsFault}
 use Rattle.job_programs.specs.declared.source_fault.ProgramsFault.TheVariants.{Refused, Failed, Missing, OutOfMemory}
-use Rattle.job_programs.specs.Probe.{audio_packets, refused, many_packets}
+use Rattle.job_programs.specs.Probe.{audio_packets, probed_job, refused, many_packets}
 use Rattle.job_programs.specs.Told.{HasProbeCause, IsProbedOn, IsProbeRefusedOn}
 use Rattle.job_programs.specs.Private.Next.{HasNextCause, IsNextOn}
+use Rattle.job_programs.proofs.Forms.{program-of, refused-of}
 
 one-stream : (audios : List AudioSource) (i : ℕ) (audio : AudioSource) → i < length audios → audio ≡ get_or audios i audio
     → audio_packets (take (i + 1) audios) ≡ audio_packets (take i audios) + length audio.pieces
@@ -41,19 +42,19 @@ too-many audios i audio room most within is before many =
 pub probed-on : (told : Option Files) (name : List ℕ) (slot start number : ℕ) (drop : List ℕ) (size : ℕ) (program : Program)
     → IsNextOn told name slot start 0 0 number drop size program → audio_packets program.audios ≤ TEXT_AUDIO_PACKETS_MOST → IsProbedOn told name slot start number drop program
 probed-on told name slot start number drop size program next few =
-    record { content = next.content; held = next.held; probed = record { is_program = next.next; few_packets = few } }
+    record { content = next.content; held = next.held; probed = record { is_program = program-of slot start [] [] (probed_job number drop) next.content program next.next; few_packets = few } }
 
 pub packets-refused : (told : Option Files) (name : List ℕ) (slot start number : ℕ) (drop : List ℕ) (size : ℕ) (program : Program) (fault : SourceFault)
     → IsNextOn told name slot start 0 0 number drop size program → TEXT_AUDIO_PACKETS_MOST < audio_packets program.audios
     → fault.program ≡ 0 → fault.kind ≡ ProgramLimit → fault.at ≡ 0 → IsProbeRefusedOn told name slot start number drop fault
 packets-refused told name slot start number drop size program fault next many first kind at =
-    record { first = first; content = next.content; held = next.held; refused = many_packets program next.next many kind at }
+    record { first = first; content = next.content; held = next.held; refused = many_packets program (program-of slot start [] [] (probed_job number drop) next.content program next.next) many kind at }
 
 -- the program isn't read, and for this cause
 pub probe-cause : (told : Option Files) (name : List ℕ) (slot start number : ℕ) (drop : List ℕ) (old new : ShelfCounts) (since : ℕ) (fault : ProgramsFault)
     → HasNextCause told name slot start 0 0 number drop 0 old new since fault → HasProbeCause told name slot start number drop old new since fault
 probe-cause told name slot start number drop old new since (Refused fault) cause =
-    record { first = cause.place_is; content = cause.content; held = cause.held; refused = refused cause.refused }
+    record { first = cause.place_is; content = cause.content; held = cause.held; refused = refused (refused-of slot start [] [] (probed_job number drop) cause.content fault.kind fault.at cause.refused) }
 probe-cause told name slot start number drop old new since (Failed place) cause = cause
 probe-cause told name slot start number drop old new since (Missing place) cause = cause
 probe-cause told name slot start number drop old new since OutOfMemory cause = tt

@@ -17,10 +17,12 @@ use Rattle.program_reader.specs.Programs.{IsProgramOf}
 use Rattle.job_programs.specs.declared.source_fault.SourceFault.{SourceFault}
 use Rattle.job_programs.specs.declared.source_fault.ProgramsFault.{ProgramsFault}
 use Rattle.job_programs.specs.declared.source_fault.ProgramsFault.TheVariants.{Refused, Failed, Missing, OutOfMemory}
-use Rattle.job_programs.specs.Programs.{AreProgramsOf, HoldPrograms, IsNextProgram, IsNextRefused, IsWithinTime, bytes_of_files, units_of_programs}
+use Rattle.job_programs.specs.Programs.{bytes_of_files, units_of_programs}
 use Rattle.job_programs.specs.Told.{AreProgramsOn, CountReads, HasReadCause, HoldContents, HoldsContent, IsRefusedOn, StopsAt}
+use Rattle.job_programs.specs.Private.Behind.{AreProgramsOf, HoldPrograms, IsProgramBehind, IsRefusedBehind, KeepsTime}
 use Rattle.job_programs.specs.Private.Next.{HasNextCause, IsNextOn, IsNextRefusedOn}
 use Rattle.job_programs.specs.Private.ReadSoFar.{ReadSoFar}
+use Rattle.job_programs.proofs.Forms.{next-of, refused-of}
 
 -- ---- lists
 
@@ -55,31 +57,31 @@ told-through (Some files) start jobs contents programs job after content hold he
 
 are-more : (slot start : ℕ) (jobs : List ProgramJob) (contents : List (List ℕ)) (programs : List Program) (job : ProgramJob) (content : List ℕ) (program : Program)
     → AreProgramsOf slot start jobs contents programs
-    → IsNextProgram slot start (bytes_of_files contents) (units_of_programs programs) job.program job.drop.items content program
+    → IsProgramBehind slot start (bytes_of_files contents) (units_of_programs programs) job.program job.drop.items content program
     → AreProgramsOf slot start (jobs ++ job ∷ []) (contents ++ content ∷ []) (programs ++ program ∷ [])
 are-more slot start jobs contents programs job content program are next = record {
   hold = hold-more start jobs contents programs job content program are.hold next.holds;
   few_bytes = subst (λ (n : ℕ). n ≤ FILE_BYTES_MOST) (sym (sum_by_push length contents content)) next.few_bytes;
   few_units = subst (λ (n : ℕ). n ≤ UNITS_MOST) (sym (sum_by_push (λ (p : Program). length p.units) programs program)) next.few_units;
-  within = All-push (IsWithinTime slot) programs program are.within next.within;
+  within = All-push (KeepsTime slot) programs program are.within next.within;
 }
 
 next-at : (slot start b u b' u' number : ℕ) (drop content : List ℕ) (program : Program) → b ≡ b' → u ≡ u'
-    → IsNextProgram slot start b u number drop content program → IsNextProgram slot start b' u' number drop content program
+    → IsProgramBehind slot start b u number drop content program → IsProgramBehind slot start b' u' number drop content program
 next-at slot start b u b' u' number drop content program eb eu next =
-    subst (λ (n : ℕ). IsNextProgram slot start b' n number drop content program) eu (subst (λ (n : ℕ). IsNextProgram slot start n u number drop content program) eb next)
+    subst (λ (n : ℕ). IsProgramBehind slot start b' n number drop content program) eu (subst (λ (n : ℕ). IsProgramBehind slot start n u number drop content program) eb next)
 
 refused-at : (slot start b u b' u' number : ℕ) (drop content : List ℕ) (kind : SourceKind) (at : ℕ) → b ≡ b' → u ≡ u'
-    → IsNextRefused slot start b u number drop content kind at → IsNextRefused slot start b' u' number drop content kind at
+    → IsRefusedBehind slot start b u number drop content kind at → IsRefusedBehind slot start b' u' number drop content kind at
 refused-at slot start b u b' u' number drop content kind at eb eu refused =
-    subst (λ (n : ℕ). IsNextRefused slot start b' n number drop content kind at) eu (subst (λ (n : ℕ). IsNextRefused slot start n u number drop content kind at) eb refused)
+    subst (λ (n : ℕ). IsRefusedBehind slot start b' n number drop content kind at) eu (subst (λ (n : ℕ). IsRefusedBehind slot start n u number drop content kind at) eb refused)
 
 -- none is read at first
 pub read-none : (told : Option Files) (slot start : ℕ) → ReadSoFar told slot start [] [] 0 0
 read-none told slot start = record {
   contents = [];
   held = told-none told;
-  are = record { hold = tt; few_bytes = omega arith; few_units = omega arith; within = All-nil (IsWithinTime slot) };
+  are = record { hold = tt; few_bytes = omega arith; few_units = omega arith; within = All-nil (KeepsTime slot) };
   bytes_are = refl;
   units_are = refl;
 }
@@ -114,7 +116,7 @@ read-more told slot start jobs i job programs bytes units size program within is
 -- all programs are read
 pub read-all : (told : Option Files) (job : Job) (programs : List Program) (bytes units : ℕ) → ReadSoFar told job.slot job.start job.programs programs bytes units
     → AreProgramsOn told job programs
-read-all told job programs bytes units read = record { contents = read.contents; held = read.held; are = read.are }
+read-all told job programs bytes units read = record { contents = read.contents; held = read.held; are = next-of job.slot job.start job.programs read.contents programs read.are }
 
 -- ---- what stops
 
@@ -141,10 +143,11 @@ refused-on told job i wanted programs bytes units fault within is read refused =
         further = [];
         contents_are = refl;
         programs = programs;
-        programs_are = read.are;
+        programs_are = next-of job.slot job.start (take i job.programs) read.contents programs read.are;
         number = refused.place_is ∙ sym (length-take-le i job.programs (omega arith));
-        refusal = refused-at job.slot job.start bytes units (bytes_of_files read.contents) (units_of_programs programs) wanted.program wanted.drop.items refused.content fault.kind fault.at
-            read.bytes_are read.units_are refused.refused;
+        refusal = refused-of job.slot job.start read.contents programs wanted refused.content fault.kind fault.at
+            (refused-at job.slot job.start bytes units (bytes_of_files read.contents) (units_of_programs programs) wanted.program wanted.drop.items refused.content fault.kind fault.at
+            read.bytes_are read.units_are refused.refused);
       };
     }
 
@@ -159,7 +162,7 @@ stops-at told job i wanted programs bytes units number within is read number_is 
   contents = read.contents;
   held = read.held;
   programs = programs;
-  programs_are = read.are;
+  programs_are = next-of job.slot job.start (take i job.programs) read.contents programs read.are;
 }
 
 -- a program isn't read: so the job's programs aren't, for its cause

@@ -5,7 +5,6 @@ use Rattle.job_report.specs.declared.job.Job.{Job}
 use Rattle.job_report.specs.declared.job.ProgramJob.{ProgramJob}
 use Rattle.version_table.specs.declared.limits.TheConstants.{TIME_SLOTS_MOST, UNITS_MOST}
 use Rattle.program_reader.specs.declared.limits.TheConstants.{FILE_BYTES_MOST}
-use Rattle.program_reader.specs.declared.program.AudioPiece.{AudioPiece}
 use Rattle.program_reader.specs.declared.program.Program.{Program}
 use Rattle.program_reader.specs.declared.program_fault.ProgramFault.TheVariants.{Refused}
 use Rattle.program_reader.specs.declared.program_fault.SourceKind.{SourceKind}
@@ -27,58 +26,52 @@ units_of_programs programs = sum_by (λ program. length program.units) programs
 abbrev pub last_time : (slot : ℕ) → ℕ
 last_time slot = TIME_SLOTS_MOST * slot
 
--- a packet of audio is due, and gone, no later than this
-abbrev pub IsPieceBy : (last : ℕ) → AudioPiece → Type 0
-IsPieceBy last piece = (piece.packet.due ≤ last) × (piece.packet.gone ≤ last)
-
 -- no unit of a program is due, and no audio packet due or gone, past the last time
 pub record IsWithinTime (slot : ℕ) (program : Program) : Type 0 where
   pub units : All (λ unit. unit.due ≤ last_time slot) program.units
-  pub audios : All (λ audio. All (IsPieceBy (last_time slot)) audio.pieces) program.audios
+  pub audio_dues : All (λ audio. All (λ piece. piece.packet.due ≤ last_time slot) audio.pieces) program.audios
+  pub audio_gones : All (λ audio. All (λ piece. piece.packet.gone ≤ last_time slot) audio.pieces) program.audios
 
 -- ---- one program behind others
 
--- Behind files of so many bytes, whose programs have so many units: a file holds this program of a number, and the limits that they
--- share are kept.
-pub record IsNextProgram (slot start bytes units number : ℕ) (drop : List ℕ) (content : List ℕ) (program : Program) : Type 0 where
-  pub few_bytes : bytes + length content ≤ FILE_BYTES_MOST
-  pub holds : IsProgramOf content number drop start program
-  pub few_units : units + length program.units ≤ UNITS_MOST
+-- the content of a file holds this program of a job, by itself
+abbrev pub HoldsProgram : (start : ℕ) → ProgramJob → (content : List ℕ) → Program → Type 0
+HoldsProgram start job content program = IsProgramOf content job.program job.drop.items start program
+
+-- The content of a file holds this program of a job, and with the files and programs before it the limits that they share are kept.
+pub record IsNextProgram (slot start : ℕ) (contents : List (List ℕ)) (programs : List Program) (job : ProgramJob) (content : List ℕ) (program : Program) : Type 0 where
+  pub few_bytes : bytes_of_files contents + length content ≤ FILE_BYTES_MOST
+  pub holds : HoldsProgram start job content program
+  pub few_units : units_of_programs programs + length program.units ≤ UNITS_MOST
   pub within : IsWithinTime slot program
 
--- What refuses the next program, in this order: the bytes of the files together; what refuses the file by itself; the units of the
--- programs together, and a time past the last.
-pub data IsNextRefused (slot start bytes units number : ℕ) (drop : List ℕ) (content : List ℕ) (kind : SourceKind) (at : ℕ) : Type 0 where
-  many_bytes : FILE_BYTES_MOST < bytes + length content → kind ≡ ProgramLimit → at ≡ 0
-      → IsNextRefused slot start bytes units number drop content kind at
-  file : bytes + length content ≤ FILE_BYTES_MOST → IsProgramRefused content number drop (Refused kind at)
-      → IsNextRefused slot start bytes units number drop content kind at
-  many_units : (program : Program) → bytes + length content ≤ FILE_BYTES_MOST → IsProgramOf content number drop start program
-      → UNITS_MOST < units + length program.units → kind ≡ ProgramLimit → at ≡ 0
-      → IsNextRefused slot start bytes units number drop content kind at
-  late : (program : Program) → bytes + length content ≤ FILE_BYTES_MOST → IsProgramOf content number drop start program
+-- What refuses the next program of a job behind these files and programs, in this order: the bytes of the files together; what
+-- refuses the file by itself; the units of the programs together, and a time past the last.
+pub data IsNextRefused (slot start : ℕ) (contents : List (List ℕ)) (programs : List Program) (job : ProgramJob) (content : List ℕ) (kind : SourceKind) (at : ℕ) : Type 0 where
+  many_bytes : FILE_BYTES_MOST < bytes_of_files contents + length content → kind ≡ ProgramLimit → at ≡ 0
+      → IsNextRefused slot start contents programs job content kind at
+  file : bytes_of_files contents + length content ≤ FILE_BYTES_MOST → IsProgramRefused content job.program job.drop.items (Refused kind at)
+      → IsNextRefused slot start contents programs job content kind at
+  many_units : (program : Program) → bytes_of_files contents + length content ≤ FILE_BYTES_MOST → HoldsProgram start job content program
+      → UNITS_MOST < units_of_programs programs + length program.units → kind ≡ ProgramLimit → at ≡ 0
+      → IsNextRefused slot start contents programs job content kind at
+  late : (program : Program) → bytes_of_files contents + length content ≤ FILE_BYTES_MOST → HoldsProgram start job content program
       → ¬ IsWithinTime slot program → kind ≡ ProgramLimit → at ≡ 0
-      → IsNextRefused slot start bytes units number drop content kind at
+      → IsNextRefused slot start contents programs job content kind at
 
 -- ---- all programs
 
--- each file holds the program that the job wants of it, by itself
-abbrev pub HoldPrograms : (start : ℕ) → List ProgramJob → (contents : List (List ℕ)) → List Program → Type 0
-HoldPrograms start [] [] [] = Unit {0}
-HoldPrograms start (job ∷ jobs) (content ∷ contents) (program ∷ programs) =
-    IsProgramOf content job.program job.drop.items start program × HoldPrograms start jobs contents programs
-HoldPrograms start jobs contents programs = ⊥
-
--- Files with these contents, one for each of these programs of a job, hold these programs, and the limits that they share are kept.
-pub record AreProgramsOf (slot start : ℕ) (jobs : List ProgramJob) (contents : List (List ℕ)) (programs : List Program) : Type 0 where
-  pub hold : HoldPrograms start jobs contents programs
-  pub few_bytes : bytes_of_files contents ≤ FILE_BYTES_MOST
-  pub few_units : units_of_programs programs ≤ UNITS_MOST
-  pub within : All (IsWithinTime slot) programs
+-- behind these files and programs, the files of the further ones hold these
+abbrev pub AreNextPrograms : (slot start : ℕ) → (contents : List (List ℕ)) → (programs : List Program) → List ProgramJob → (further : List (List ℕ)) → List Program → Type 0
+AreNextPrograms slot start contents programs [] [] [] = Unit {0}
+AreNextPrograms slot start contents programs (job ∷ jobs) (content ∷ further) (program ∷ more) =
+    IsNextProgram slot start contents programs job content program
+    × AreNextPrograms slot start (contents ++ content ∷ []) (programs ++ program ∷ []) jobs further more
+AreNextPrograms slot start contents programs jobs further more = ⊥
 
 -- The files with these contents, one for each program of the job, hold these programs.
 abbrev pub ArePrograms : Job → (contents : List (List ℕ)) → List Program → Type 0
-ArePrograms job contents programs = AreProgramsOf job.slot job.start job.programs contents programs
+ArePrograms job contents programs = AreNextPrograms job.slot job.start [] [] job.programs contents programs
 
 -- The first program of a job that is refused: the files before it hold programs. `contents` are those of the files up to its own,
 -- and of any behind it.
@@ -92,6 +85,6 @@ pub record IsFirstRefused (job : Job) (contents : List (List ℕ)) (fault : Sour
   pub further : List (List ℕ)
   pub contents_are : contents ≡ read ++ content ∷ further
   pub programs : List Program
-  pub programs_are : AreProgramsOf job.slot job.start before read programs
+  pub programs_are : AreNextPrograms job.slot job.start [] [] before read programs
   pub number : fault.program ≡ length before
-  pub refusal : IsNextRefused job.slot job.start (bytes_of_files read) (units_of_programs programs) refused.program refused.drop.items content fault.kind fault.at
+  pub refusal : IsNextRefused job.slot job.start read programs refused content fault.kind fault.at

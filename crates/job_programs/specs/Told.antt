@@ -11,7 +11,7 @@ use Rattle.job_programs.specs.declared.source_fault.SourceFault.{SourceFault}
 use Rattle.job_programs.specs.declared.source_fault.ProgramsFault.{ProgramsFault}
 use Rattle.job_programs.specs.declared.source_fault.ProgramsFault.TheVariants.{Refused, Failed, Missing, OutOfMemory}
 use Rattle.job_programs.specs.Probe.{IsProbed, IsProbeRefused}
-use Rattle.job_programs.specs.Programs.{AreProgramsOf, ArePrograms, IsFirstRefused}
+use Rattle.job_programs.specs.Programs.{AreNextPrograms, ArePrograms, IsFirstRefused}
 
 -- ---- contents
 
@@ -48,7 +48,7 @@ pub record StopsAt (told : Option Files) (job : Job) (number : ℕ) (stopped : P
   pub contents : List (List ℕ)
   pub held : IfSome told (λ files. HoldContents files before contents)
   pub programs : List Program
-  pub programs_are : AreProgramsOf job.slot job.start before contents programs
+  pub programs_are : AreNextPrograms job.slot job.start [] [] before contents programs
 
 -- Why the programs of a job weren't read: the first refusal; a read that failed, where the count of faults rose, or a file that
 -- isn't held, where the count of absences rose, and no call followed; or want of memory.

@@ -4,8 +4,8 @@ ghost use Rattle.std.specs.Prelude.{◌≡◌, ◌+◌, ◌≤◌, length, IfOk,
 ghost use Rattle.job_report.specs.declared.limits.TheConstants.{START_MOST};
 ghost use Rattle.shelf_io.specs.Asked.{AsksUpTo};
 ghost use Rattle.version_table.specs.declared.limits.TheConstants.{SLOT_MOST};
-ghost use Rattle.job_programs.specs.Programs.{IsNextProgram};
 ghost use Rattle.job_programs.specs.Told.{CountReads};
+ghost use Rattle.job_programs.specs.Private.Behind.{IsProgramBehind};
 ghost use Rattle.job_programs.specs.Private.Next.{IsContentFault, IsNextOn, HasNextCause, IsNextFault};
 
 use crate::source_fault::{ProgramsFault, SourceFault};
@@ -80,7 +80,7 @@ fn from_content(
     requires slot { wanted.now.slot ≤ SLOT_MOST }
     requires bytes { wanted.now.bytes ≤ FILE_BYTES_MOST }
     requires units { wanted.now.units ≤ UNITS_MOST }
-    ensures next { IfOk result (λ next. (next.size ≡ length content.now) × IsNextProgram wanted.now.slot wanted.now.start wanted.now.bytes wanted.now.units
+    ensures next { IfOk result (λ next. (next.size ≡ length content.now) × IsProgramBehind wanted.now.slot wanted.now.start wanted.now.bytes wanted.now.units
         wanted.now.number wanted.now.drop.now content.now next.program) }
     ensures fault { IfErr result (IsContentFault wanted.now.slot wanted.now.start wanted.now.bytes wanted.now.units
         wanted.now.number wanted.now.drop.now wanted.now.place content.now) }
@@ -106,7 +106,7 @@ fn next_program(alloc: Global, content: &[u8], wanted: &Wanted<'_>) -> Result<Pr
     requires bytes { wanted.now.bytes ≤ FILE_BYTES_MOST }
     requires units { wanted.now.units ≤ UNITS_MOST }
     ensures { MatchResult result
-        (IsNextProgram wanted.now.slot wanted.now.start wanted.now.bytes wanted.now.units wanted.now.number wanted.now.drop.now content.now)
+        (IsProgramBehind wanted.now.slot wanted.now.start wanted.now.bytes wanted.now.units wanted.now.number wanted.now.drop.now content.now)
         (IsNextFault wanted.now.slot wanted.now.start wanted.now.bytes wanted.now.units wanted.now.number wanted.now.drop.now content.now) }
 {
     if content.len() > FILE_BYTES_MOST - wanted.bytes {

@@ -2,7 +2,7 @@
 
 ghost use Rattle.std.specs.Prelude.{◌≡◌, ◌≤◌, ◌<◌, ◌^◌, ◌↔◌, IsTrue, All};
 ghost use Rattle.version_table.specs.declared.limits.TheConstants.{SLOT_MOST};
-ghost use Rattle.job_programs.specs.Programs.{IsPieceBy, IsWithinTime};
+ghost use Rattle.job_programs.specs.Private.Behind.{IsPieceBy, KeepsTime};
 
 use program_reader::{AudioPiece, AudioSource, Program, UnitSource};
 use version_table::limits::TIME_SLOTS_MOST;
@@ -11,7 +11,7 @@ use version_table::limits::TIME_SLOTS_MOST;
 /// reaches.
 pub(crate) fn is_within_time(program: &Program, slot: u32) -> bool
     requires { slot ≤ SLOT_MOST }
-    ensures { IsTrue result ↔ IsWithinTime slot program.now }
+    ensures { IsTrue result ↔ KeepsTime slot program.now }
 {
     let last = TIME_SLOTS_MOST * slot as u64;
     are_units_by(program.units.as_slice(), last) && are_audios_by(program.audios.as_slice(), last)

@@ -8,12 +8,12 @@ use Rattle.program_reader.specs.declared.program_fault.ProgramFault.TheVariants 
 use Rattle.job_programs.specs.declared.source_fault.SourceFault.{SourceFault}
 use Rattle.job_programs.specs.declared.source_fault.ProgramsFault.{ProgramsFault}
 use Rattle.job_programs.specs.declared.source_fault.ProgramsFault.TheVariants.{Refused, Failed, Missing, OutOfMemory}
-use Rattle.job_programs.specs.Programs.{IsNextProgram, IsNextRefused}
 use Rattle.job_programs.specs.Told.{HoldsContent}
+use Rattle.job_programs.specs.Private.Behind.{IsProgramBehind, IsRefusedBehind}
 
 -- what the next program's file is refused for, or want of memory
 abbrev pub IsNextFault : (slot start bytes units number : ℕ) → (drop content : List ℕ) → ProgramFault → Type 0
-IsNextFault slot start bytes units number drop content (faults.Refused kind at) = IsNextRefused slot start bytes units number drop content kind at
+IsNextFault slot start bytes units number drop content (faults.Refused kind at) = IsRefusedBehind slot start bytes units number drop content kind at
 IsNextFault slot start bytes units number drop content faults.OutOfMemory = Unit {0}
 
 -- the next program, of a file with so many bytes, by the file's content
@@ -21,14 +21,14 @@ pub record IsNextOn (told : Option Files) (name : List ℕ) (slot start bytes un
   pub content : List ℕ
   pub held : HoldsContent told name content
   pub size_is : size ≡ length content
-  pub next : IsNextProgram slot start bytes units number drop content program
+  pub next : IsProgramBehind slot start bytes units number drop content program
 
 -- the refusal of the next program, by its file's content
 pub record IsNextRefusedOn (told : Option Files) (name : List ℕ) (slot start bytes units number : ℕ) (drop : List ℕ) (place : ℕ) (fault : SourceFault) : Type 0 where
   pub place_is : fault.program ≡ place
   pub content : List ℕ
   pub held : HoldsContent told name content
-  pub refused : IsNextRefused slot start bytes units number drop content fault.kind fault.at
+  pub refused : IsRefusedBehind slot start bytes units number drop content fault.kind fault.at
 
 -- why the next program isn't read
 abbrev pub HasNextCause : Option Files → (name : List ℕ) → (slot start bytes units number : ℕ) → (drop : List ℕ) → (place : ℕ) → (old new : ShelfCounts) → (since_fault : ℕ)
@@ -44,7 +44,7 @@ HasNextCause told name slot start bytes units number drop place old new since_fa
 -- what the bytes of the next program's file are refused for, as that of the program at a place of its job, or want of memory
 abbrev pub IsContentFault : (slot start bytes units number : ℕ) → (drop : List ℕ) → (place : ℕ) → (content : List ℕ) → ProgramsFault → Type 0
 IsContentFault slot start bytes units number drop place content (Refused fault) =
-    (fault.program ≡ place) × IsNextRefused slot start bytes units number drop content fault.kind fault.at
+    (fault.program ≡ place) × IsRefusedBehind slot start bytes units number drop content fault.kind fault.at
 IsContentFault slot start bytes units number drop place content (Failed stopped) = ⊥
 IsContentFault slot start bytes units number drop place content (Missing stopped) = ⊥
 IsContentFault slot start bytes units number drop place content OutOfMemory = Unit {0}

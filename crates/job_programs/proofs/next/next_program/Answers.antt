@@ -5,7 +5,7 @@ use Rattle.std.proofs.lemmas.Result.{err_from_is_err_and}
 use Rattle.program_reader.specs.declared.program_fault.ProgramFault.{ProgramFault}
 use Rattle.program_reader.specs.declared.program_fault.ProgramFault.TheVariants.{Refused, OutOfMemory}
 use Rattle.program_reader.specs.Programs.{IsProgramRefused}
-use Rattle.job_programs.specs.Programs.{file, many_units, late}
+use Rattle.job_programs.specs.Private.Behind.{file, many_units, late}
 use Rattle.job_programs.specs.Private.Next.{IsNextFault}
 use Rattle.job_programs.proofs.next.next_program.Goals as goal
 

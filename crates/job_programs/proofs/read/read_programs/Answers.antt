@@ -1,10 +1,10 @@
-use Rattle.std.proofs.Common.{◌≡◌, ℕ, ◌+◌, ◌<◌, List, [], ◌∷◌, ◌++◌, length, take, map, get_or, Contains, sym, subst, ◌∙◌, arith}
+use Rattle.std.proofs.Common.{◌≡◌, ℕ, ◌+◌, ◌<◌, List, [], ◌∷◌, ◌++◌, length, take, map, get_or, take_all, Contains, sym, subst, ◌∙◌, arith}
 use Rattle.std.proofs.lemmas.Result.{err_from_is_err_and}
 use Rattle.job_report.specs.declared.job.ProgramJob.{ProgramJob}
 use Rattle.program_reader.specs.declared.program.Program.{Program}
 use Rattle.job_programs.specs.Private.ReadSoFar.{ReadSoFar}
 use Rattle.job_programs.proofs.Asks.{asks-more, counts-more, file-stands}
-use Rattle.job_programs.proofs.ReadLemmas.{went-on, stopped}
+use Rattle.job_programs.proofs.ReadLemmas.{read-all, went-on, stopped}
 use Rattle.job_programs.proofs.read.read_programs.Goals as goal
 
 pub returns-in_err-next-clause-cause : goal.returns-in_err-next-clause-cause
@@ -72,3 +72,12 @@ loop-wanted-preserved g c =
           stands l.invariant.asked c.read_next.ensures.asked;
       counts = counts-more (g.K.Shelf.counts c.args.shelf.now) (g.K.Shelf.counts l.shelf) (g.K.Shelf.counts c.read_next.new.shelf) l.invariant.counts c.read_next.ensures.counts;
     }
+
+pub returns-clause-programs : goal.returns-clause-programs
+returns-clause-programs g c =
+    let l = c.loop-wanted in
+    let job = c.args.job.now in
+    let told = g.K.Shelf.files c.args.shelf.now in
+    let all = take_all l.wanted-index c.as_slice-jobs.result.now c.loop-wanted-test.false ∙ c.as_slice-jobs.ensures in
+    read-all told job l.programs l.bytes l.units
+    (subst (λ (done : List ProgramJob). ReadSoFar told job.slot job.start done l.programs l.bytes l.units) all l.invariant.read)
