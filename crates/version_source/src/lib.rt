@@ -7,4 +7,7 @@
 
 pub mod laws;
 mod packet;
+mod source;
 mod state;
+
+pub use source::VersionSource;
