@@ -14,18 +14,22 @@ returns-in-Ok-clause-decided g c =
     (λ held after. HasPlan held files.table.now plan → Decides (plan_of files) held (answer_of c.write_plan.result) after)
     (λ held after. HoldsTable held files.table.now c.args.table.now → Decides (plan_of files) held (answer_of c.write_plan.result) after)
     c.write_plan.ensures.decided
-    (λ held after decides holds. decides (record { table = c.args.table.now; holds = holds; is_plan = record {
-      possible = is.possible;
-      version = is.version;
-      writable = is.written;
-      head = is.head;
-      root = is.root;
-      faultless = is.faultless;
-      bound = is.bound;
-      few_nodes = is.few_nodes;
-      few_windows = is.few_windows;
-      branches = is.branches;
-      tried = is.tried;
-      pairs = is.pairs;
-      no_worse = is.no_worse;
-    } }))
+    (λ held after decides holds. decides (record {
+      table = c.args.table.now;
+      holds = holds;
+      is_plan = record {
+        possible = is.possible;
+        version = is.version;
+        writable = is.written;
+        head = is.head;
+        root = is.root;
+        faultless = is.faultless;
+        bound = is.bound;
+        few_nodes = is.few_nodes;
+        few_windows = is.few_windows;
+        branches = is.branches;
+        tried = is.tried;
+        pairs = is.pairs;
+        no_worse = is.no_worse;
+      };
+    }))

@@ -15,14 +15,14 @@ use Rattle.remux_core.proofs.plan_command.write_plan.Goals as goal
 pub returns-in-Err-OutOfMemory-clause-decided : goal.returns-in-Err-OutOfMemory-clause-decided
 returns-in-Err-OutOfMemory-clause-decided g c =
     let files = c.args.files.now in
-    let bytes : c.as_slice.result.now ≡ spelling c.args.plan = c.as_slice.ensures.value ∙ c.in-Ok.ensures.bytes in
+    let bytes : c.as_slice.result.now ≡ spelling c.args.plan = c.as_slice.ensures ∙ c.in-Ok.ensures.bytes in
     part_written (g.K.Shelf.files c.args.shelf.now) (g.K.Shelf.files c.write_file.new.shelf) files.table.now files.certificate.now c.args.plan
     c.as_slice.result.now bytes c.in-Err-OutOfMemory.ensures.err
 
 pub returns-in-Err-Failed-clause-decided : goal.returns-in-Err-Failed-clause-decided
 returns-in-Err-Failed-clause-decided g c =
     let files = c.args.files.now in
-    let bytes : c.as_slice.result.now ≡ spelling c.args.plan = c.as_slice.ensures.value ∙ c.in-Ok.ensures.bytes in
+    let bytes : c.as_slice.result.now ≡ spelling c.args.plan = c.as_slice.ensures ∙ c.in-Ok.ensures.bytes in
     let old = g.K.Shelf.files c.args.shelf.now in
     let new = g.K.Shelf.files c.write_file.new.shelf in
     let part = part_written old new files.table.now files.certificate.now c.args.plan c.as_slice.result.now bytes c.in-Err-Failed.ensures.err in
