@@ -134,7 +134,7 @@ pieces-as-many start earliest frames (x ∷ xs) [] are = absurd are
 pieces-as-many start earliest frames (x ∷ xs) (p ∷ ps) are = ap suc (pieces-as-many start earliest frames xs ps are.1)
 
 places-many : (size : ℕ) → length (piece_places size) ≡ (size + 183) / 184
-places-many size = length-map (λ (k : ℕ). 184 * k) (range_with_len 0 ((size + 183) / 184)) ∙ length-range_with_len 0 ((size + 183) / 184)
+places-many size = length-map (range_with_len 0 ((size + 183) / 184)) (λ (k : ℕ). 184 * k) ∙ length-range_with_len 0 ((size + 183) / 184)
 
 -- a piece for each 184 bytes of the packets, and one more for each packet
 pieces-few : (at from : ℕ) (packets : List PesUnit) → All HasPayload packets → 184 * length (placed_pieces at (placed_from from packets)) ≤ bytes_in packets + 183 * length packets
@@ -145,7 +145,7 @@ pieces-few at from (p ∷ ps) all =
     let size : packet_size packet ≡ length p.bytes = omega (arith, some, length-drop (header_length p.bytes) p.bytes) in
     let rest : List (PlacedPacket × ℕ × ℕ) = placed_pieces (at + packet_size packet) (placed_from (from + length (payload_of p)) ps) in
     let own : List (PlacedPacket × ℕ × ℕ) = map (λ (byte : ℕ). (packet, at, byte)) (piece_places (packet_size packet)) in
-    let count : length own ≡ (packet_size packet + 183) / 184 = length-map (λ (byte : ℕ). (packet, at, byte)) (piece_places (packet_size packet)) ∙ places-many (packet_size packet) in
+    let count : length own ≡ (packet_size packet + 183) / 184 = length-map (piece_places (packet_size packet)) (λ (byte : ℕ). (packet, at, byte)) ∙ places-many (packet_size packet) in
     let more : 184 * length rest ≤ bytes_in ps + 183 * length ps =
     pieces-few (at + packet_size packet) (from + length (payload_of p)) ps (All-tail HasPayload p ps all) in
     let both : length (own ++ rest) ≡ length own + length rest = length-append own rest in
@@ -154,7 +154,7 @@ pieces-few at from (p ∷ ps) all =
   where
     few : (own rest both size len bytes all count : ℕ) → own ≡ (size + 183) / 184 → size ≡ len → both ≡ own + rest → all ≡ len + bytes → 184 * rest ≤ bytes + 183 * count
         → 184 * both ≤ all + 183 * suc count
-    few own rest both size len bytes all count is same joined sum more = omega (arith, is, same, joined, sum, more)
+    few own rest both size len bytes all count is same together sum more = omega (arith, is, same, together, sum, more)
 
 bytes-taken : (video : Bool) (packets : List PesUnit) → bytes_in (taken video packets) ≤ bytes_in packets
 bytes-taken video [] = omega arith
@@ -171,7 +171,7 @@ stream-few : (start : ℕ) (earliest first : ℤ) (stream : AudioStream) (frames
     → IsAudioSource start earliest stream frames source → IsSmall stream.units → length (audio_row source) ≤ 8700000
 stream-few start earliest first stream frames source has is small =
     let packets : List PesUnit = taken_of stream in
-    let row : length (audio_row source) ≡ length source.pieces = length-map (λ (piece : AudioPiece). piece.packet) source.pieces in
+    let row : length (audio_row source) ≡ length source.pieces = length-map source.pieces (λ (piece : AudioPiece). piece.packet) in
     let many : length source.pieces ≡ length (placed_pieces 0 (placed_from 0 packets)) =
     pieces-as-many start earliest frames (placed_pieces 0 (placed_from 0 packets)) source.pieces is.pieces in
     let few : 184 * length (placed_pieces 0 (placed_from 0 packets)) ≤ bytes_in packets + 183 * length packets = pieces-few 0 0 packets (taken_payloads stream.units has.sound) in

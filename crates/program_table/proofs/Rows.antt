@@ -1,5 +1,5 @@
 -- The rows of units and of programs, one more behind those before, and that there is one table.
-use Rattle.std.proofs.Common.{◌≡◌, ℕ, suc, ◌+◌, ◌<◌, ◌≤◌, List, [], ◌∷◌, ◌++◌, length, drop, get_or, map, All, Option, Some, None, refl, ap, subst, sym, ◌∙◌, arith, append_assoc, append-nil, add-one, drop-cons}
+use Rattle.std.proofs.Common.{◌≡◌, ℕ, zero, suc, ◌+◌, ◌<◌, ◌≤◌, List, [], ◌∷◌, ◌++◌, length, drop, get_or, map, All, Option, Some, None, refl, ap, subst, sym, ◌∙◌, arith, append_assoc, append-nil, add-one, drop-cons}
 use Rattle.syntax_types.specs.declared.picture.SeqState.{SeqState}
 use Rattle.job_report.specs.declared.job.Job.{Job}
 use Rattle.job_report.specs.declared.job.ProgramJob.{ProgramJob}
@@ -9,16 +9,45 @@ use Rattle.version_table.specs.declared.table.Table.{Table}
 use Rattle.version_table.specs.declared.table.Unit.{Unit as CodedUnit}
 use Rattle.program_reader.specs.declared.program.Program.{Program}
 use Rattle.program_reader.specs.declared.program.UnitSource.{UnitSource}
+use Rattle.version_table.specs.declared.table.Version.{Version}
+use Rattle.pes_units.specs.VideoHeader.{written_header}
 use Rattle.version_maker.specs.declared.version.UnitVersion.{UnitVersion}
+use Rattle.version_maker.specs.declared.version.VersionSize.{VersionSize}
+use Rattle.version_maker.specs.Versions.{AreSizes, AreVersions, size_of}
 use Rattle.version_source.specs.Sendable.{Leaves, SpellInOrder, bytes_of}
 use Rattle.version_source.specs.Versions.{AreAllVersions, AreVideoVersions, ratios_of}
-use Rattle.program_table.specs.Table.{IsRowOf, IsTableOf, program_row, program_rows, unit_row, unit_rows}
-use Rattle.program_table.specs.Private.Rows.{AreProgramRowsSoFar, AreUnitRows, AreUnitRowsSoFar, IsUnitRow}
+use Rattle.program_table.specs.Table.{IsRowOf, IsTableOf, program_row, program_rows, row_version, unit_row, unit_rows}
+use Rattle.program_table.specs.Private.Rows.{AreProgramRowsSoFar, AreUnitRows, AreUnitRowsSoFar, IsUnitRow, with_header}
 use Rattle.program_table.proofs.States.{one-state, state-left}
 
 -- what is left from a place on
 left-from : {X : Type 0} (xs : List X) (k : ℕ) (d : X) → k < length xs → drop k xs ≡ get_or xs k d ∷ drop (k + 1) xs
 left-from xs k d within = rw (add-one, drop-cons xs k d) refl
+
+-- ---- one unit
+
+rows-of-sizes : (weight : ℕ) (unit : UnitSource) (versions : List UnitVersion)
+    → map (with_header (length (written_header unit.times)) weight) (map size_of versions) ≡ map (row_version weight unit) versions
+rows-of-sizes weight unit [] = refl
+rows-of-sizes weight unit (v ∷ vs) = ap (λ (rows : List Version). row_version weight unit v ∷ rows) (rows-of-sizes weight unit vs)
+
+abbrev unit_with : ℕ → List Version → CodedUnit
+unit_with due items = record { due = due; versions = record { items = items } }
+
+-- versions of these sizes with a header before each are those of the unit
+pub unit-row-of : (es coarser : List ℕ) (before : Option SeqState) (weight : ℕ) (unit : UnitSource) (bytes : List ℕ) (sizes : List VersionSize) (header : ℕ) (made : List Version)
+    → bytes ≡ bytes_of es unit → AreSizes before bytes coarser sizes → header ≡ length (written_header unit.times) → made ≡ map (with_header header weight) sizes
+    → IsUnitRow es coarser before weight unit (unit_with unit.due made)
+unit-row-of es coarser before weight unit bytes sizes header made same are length_is made_is = record {
+  versions = are.versions;
+  are_versions = subst (λ (b : List ℕ). AreVersions before b coarser are.versions) same are.are;
+  row_is = ap (unit_with unit.due) (
+    made_is
+    ∙ ap (λ (n : ℕ). map (with_header n weight) sizes) length_is
+    ∙ ap (λ (those : List VersionSize). map (with_header (length (written_header unit.times)) weight) those) are.each
+    ∙ rows-of-sizes weight unit are.versions
+  );
+}
 
 -- ---- units
 
@@ -41,11 +70,13 @@ more-units es coarser weight units left rest before unit after rows more row spl
           );
     }
 
-pub one-more-unit : (es coarser : List ℕ) (weight : ℕ) (units : List UnitSource) (k : ℕ) (d : UnitSource) (before : Option SeqState) (after : SeqState) (rows more : List CodedUnit) (row : CodedUnit)
-    → k < length units → more ≡ rows ++ row ∷ [] → AreUnitRowsSoFar es coarser weight units (drop k units) before rows → IsUnitRow es coarser before weight (get_or units k d) row
-    → Leaves before (bytes_of es (get_or units k d)) after → AreUnitRowsSoFar es coarser weight units (drop (k + 1) units) (Some after) more
-one-more-unit es coarser weight units k d before after rows more row within pushed far is leaves =
-    more-units es coarser weight units (drop k units) (drop (k + 1) units) before (get_or units k d) after rows more row (left-from units k d within) pushed far is leaves
+-- one more unit, whose row and state were made behind copies of the state
+pub one-more-unit : (es coarser : List ℕ) (weight : ℕ) (units : List UnitSource) (k : ℕ) (d : UnitSource) (before first second : Option SeqState) (after : SeqState) (rows more : List CodedUnit)
+    (row : CodedUnit) → k < length units → first ≡ before → second ≡ before → more ≡ rows ++ row ∷ [] → AreUnitRowsSoFar es coarser weight units (drop k units) before rows
+    → IsUnitRow es coarser first weight (get_or units k d) row → Leaves second (bytes_of es (get_or units k d)) after → AreUnitRowsSoFar es coarser weight units (drop (k + 1) units) (Some after) more
+one-more-unit es coarser weight units k d before first second after rows more row within one two pushed far is leaves =
+    more-units es coarser weight units (drop k units) (drop (k + 1) units) before (get_or units k d) after rows more row (left-from units k d within) pushed far
+    (subst (λ (s : Option SeqState). IsUnitRow es coarser s weight (get_or units k d) row) one is) (subst (λ (s : Option SeqState). Leaves s (bytes_of es (get_or units k d)) after) two leaves)
 
 -- the next unit spells a picture behind the state
 pub next-spells : (es : List ℕ) (before : Option SeqState) (units : List UnitSource) (k : ℕ) (d : UnitSource) → k < length units → SpellInOrder es before (drop k units)
@@ -79,14 +110,24 @@ more-programs jobs jobs_left jobs_rest programs left rest job program rows more 
       );
 }
 
-pub one-more-program : (jobs : List ProgramJob) (programs : List Program) (i : ℕ) (j : ProgramJob) (p : Program) (job : ProgramJob) (program : Program) (rows more : List ProgramRow) (row : ProgramRow)
-    → i < length jobs → i < length programs → job ≡ get_or jobs i j → program ≡ get_or programs i p → more ≡ rows ++ row ∷ []
-    → AreProgramRowsSoFar jobs (drop i jobs) programs (drop i programs) rows → IsRowOf program job.coarser.items job.weight row
+same-item : {X : Type 0} (xs : List X) (i : ℕ) (d e : X) → i < length xs → get_or xs i d ≡ get_or xs i e
+same-item [] i d e within = absurd (omega (arith, within))
+same-item (x ∷ xs) zero d e within = refl
+same-item (x ∷ xs) (suc i) d e within = same-item xs i d e (omega (arith, within))
+
+-- one more program, whose ratios and weight were read from the jobs
+pub one-more-program : (jobs slice : List ProgramJob) (programs : List Program) (i : ℕ) (one two : ProgramJob) (ratios : List ℕ) (program : Program) (rows more : List ProgramRow) (row : ProgramRow)
+    → i < length jobs → i < length programs → slice ≡ jobs → one ≡ get_or slice i one → two ≡ get_or slice i two → ratios ≡ one.coarser.items → program ≡ get_or programs i program
+    → more ≡ rows ++ row ∷ [] → AreProgramRowsSoFar jobs (drop i jobs) programs (drop i programs) rows → IsRowOf program ratios two.weight row
     → AreProgramRowsSoFar jobs (drop (i + 1) jobs) programs (drop (i + 1) programs) more
-one-more-program jobs programs i j p job program rows more row jobs_within within job_is program_is pushed far is =
-    more-programs jobs (drop i jobs) (drop (i + 1) jobs) programs (drop i programs) (drop (i + 1) programs) job program rows more row
-    (left-from jobs i j jobs_within ∙ ap (λ (x : ProgramJob). x ∷ drop (i + 1) jobs) (sym job_is))
-    (left-from programs i p within ∙ ap (λ (x : Program). x ∷ drop (i + 1) programs) (sym program_is)) pushed far is
+one-more-program jobs slice programs i one two ratios program rows more row jobs_within within slice_is one_is two_is ratios_are program_is pushed far is =
+    let one_at : one ≡ get_or jobs i one = subst (λ (xs : List ProgramJob). one ≡ get_or xs i one) slice_is one_is in
+    let two_at : two ≡ get_or jobs i two = subst (λ (xs : List ProgramJob). two ≡ get_or xs i two) slice_is two_is in
+    let same : two ≡ one = two_at ∙ same-item jobs i two one jobs_within ∙ sym one_at in
+    more-programs jobs (drop i jobs) (drop (i + 1) jobs) programs (drop i programs) (drop (i + 1) programs) one program rows more row
+    (left-from jobs i one jobs_within ∙ ap (λ (x : ProgramJob). x ∷ drop (i + 1) jobs) (sym one_at))
+    (left-from programs i program within ∙ ap (λ (x : Program). x ∷ drop (i + 1) programs) (sym program_is)) pushed far
+    (subst (λ (r : List ℕ). IsRowOf program r one.weight row) ratios_are (subst (λ (x : ProgramJob). IsRowOf program ratios x.weight row) same is))
 
 pub all-programs : (job : Job) (programs left : List Program) (jobs_left : List ProgramJob) (table : Table) → left ≡ [] → jobs_left ≡ []
     → AreProgramRowsSoFar job.programs jobs_left programs left table.programs → table.slot ≡ job.slot → table.nodes ≡ job.nodes → table.evaluations ≡ job.evaluations

@@ -1,12 +1,17 @@
 -- The states that units leave, and how many versions a unit has.
-use Rattle.std.proofs.Common.{◌≡◌, ℕ, suc, List, [], ◌∷◌, length, Option, refl, ap, subst, sym, ◌∙◌}
+use Rattle.std.proofs.Common.{◌≡◌, ℕ, suc, List, [], ◌∷◌, length, Option, Some, None, IfSome, refl, ap, subst, sym, ◌∙◌}
 use Rattle.std.specs.List.{AllZip}
 use Rattle.bit_lists.specs.Fields.{bit_list}
 use Rattle.syntax_types.specs.declared.picture.Picture.{Picture}
 use Rattle.syntax_types.specs.declared.picture.SeqState.{SeqState}
-use Rattle.picture_grammar.specs.Picture.{IsState, MayPrecede}
+use Rattle.picture_grammar.specs.Picture.{IsState, MayPrecede, RefusesPicture}
 use Rattle.picture_grammar.proofs.HeaderLaws.{exact-picture_unit}
+use Rattle.grammar_reading.specs.BitsRead.{PlacedRefusal}
 use Rattle.picture_laws.proofs.SpelledStates.{state-of_unit}
+use Rattle.picture_laws.proofs.Totality.{no-refusal}
+use Rattle.picture_reader.specs.declared.fault.PictureFault.{PictureFault}
+use Rattle.picture_reader.specs.Picture.{IsRefusedAs}
+use Rattle.picture_reader.specs.PictureFault.{refusal_told}
 use Rattle.version_maker.specs.declared.version.UnitVersion.{UnitVersion}
 use Rattle.version_maker.specs.Versions.{AreVersions, IsCoarserVersion}
 use Rattle.version_source.specs.Sendable.{Leaves}
@@ -31,3 +36,13 @@ as-many picture (m ∷ ms) (v ∷ vs) are = ap suc (as-many picture ms vs are.1)
 pub versions-many : (before : Option SeqState) (unit coarser : List ℕ) (versions : List UnitVersion) → AreVersions before unit coarser versions → length versions ≡ suc (length coarser)
 versions-many before unit coarser versions are =
     ap length are.of_picture.in_order ∙ ap suc (as-many are.picture coarser are.of_picture.others are.of_picture.coarser_ones)
+
+-- no refusal is told of a unit that spells a picture
+pub not-refused : (before : Option SeqState) (bytes unit : List ℕ) (fault : PictureFault) → bytes ≡ unit → (after : SeqState) × Leaves before unit after → IsRefusedAs before bytes fault
+    → refusal_told fault ≡ None
+not-refused before bytes unit fault same (after, leaves) refused =
+    by_told (refusal_told fault) (subst (λ (b : List ℕ). IsRefusedAs before b fault) same refused)
+  where
+    by_told : (told : Option PlacedRefusal) → IfSome told (λ said. RefusesPicture before unit said.refusal said.at) → told ≡ None
+    by_told None is = refl
+    by_told (Some said) is = absurd (no-refusal before unit leaves.picture said.refusal said.at leaves.whole.spelled leaves.whole.covered is)

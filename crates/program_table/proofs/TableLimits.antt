@@ -22,12 +22,12 @@ use Rattle.program_reader.specs.declared.program.Program.{Program}
 use Rattle.program_reader.specs.Programs.{IsProgram, IsProgramOf, video_bytes, video_packets}
 use Rattle.program_reader.specs.Units.{AreInOrder}
 use Rattle.program_reader.proofs.SizeLemmas.{IsSmall, audios_small}
-use Rattle.job_programs.specs.Programs.{AreNextPrograms, ArePrograms, IsNextProgram, units_of_programs}
+use Rattle.job_programs.specs.Programs.{AreNextPrograms, ArePrograms, IsNextProgram, IsWithinTime, units_of_programs}
 use Rattle.version_maker.specs.declared.version.UnitVersion.{UnitVersion}
 use Rattle.version_source.specs.Versions.{AreAllVersions, AreVideoVersions, ratios_of}
-use Rattle.program_table.specs.Table.{IsTableOf, audio_row, program_row, program_rows, unit_rows}
+use Rattle.program_table.specs.Table.{IsRowOf, IsTableOf, audio_row, program_row, program_rows, unit_rows}
 use Rattle.program_table.proofs.AudioLimits.{sources-as-many, streams-few, streams-valid}
-use Rattle.program_table.proofs.UnitLimits.{AreAllBounded, Climb, IsShortUnit, climb-rises, dues-climb, dues_of, kept-in-order, pictures-state, row-dues, rows-few, rows-valid, units-short}
+use Rattle.program_table.proofs.UnitLimits.{HavePlaces, Climb, IsShortUnit, climb-rises, dues-climb, dues_of, kept-in-order, pictures-state, row-dues, rows-few, rows-valid, sources-many, units-short}
 
 -- ---- one program
 
@@ -40,11 +40,10 @@ record IsFine (slot : ℕ) (row : ProgramRow) : Type 0 where
   pub valid : IsValidProgram slot row
   pub few : length (audio_packets_in row) ≤ 69600000
 
-program-fine : AreAllBounded → (slot start : ℕ) (contents : List (List ℕ)) (before : List Program) (job : ProgramJob) (content : List ℕ) (program : Program) (versions : List (List UnitVersion))
-    → IsValidProgramJob job → IsNextProgram slot start contents before job content program → AreBytes program.video
-    → AreVideoVersions program.video job.coarser.items None program.units versions → IsFine slot (program_row job.weight program versions)
-program-fine bounds slot start contents before job content program versions valid next are is =
-    let holds : IsProgramOf content job.program job.drop.items start program = next.holds in
+program-fine : HavePlaces → (slot start number weight : ℕ) (content drop coarser : List ℕ) (program : Program) (versions : List (List UnitVersion)) → weight ≤ 100 → length coarser ≤ 7
+    → IsProgramOf content number drop start program → IsWithinTime slot program → AreBytes program.video → AreVideoVersions program.video coarser None program.units versions
+    → IsFine slot (program_row weight program versions)
+program-fine places slot start number weight content drop coarser program versions light few_ratios holds within are is =
     let demuxed = holds.demuxed in
     let read : IsProgram start demuxed program = holds.program_is in
     let es = video_bytes demuxed in
@@ -60,13 +59,12 @@ program-fine bounds slot start contents before job content program versions vali
     dues-climb start read.earliest es packets None 0 read.kept read.pictures program.units (λ ticks due later is. omega arith) read.units_are in_order in
     let rises : IsStrictlyIncreasing (dues_of program.units) = climb-rises 0 (dues_of program.units) climb in
     let short : All IsShortUnit program.units = units-short start read.earliest es packets None read.kept read.pictures program.units read.units_are in_order in
-    let rows : List CodedUnit = unit_rows job.weight program.units versions in
     let as_many : length program.audios ≡ length demuxed.audios = sources-as-many start read.earliest demuxed.audios read.frames program.audios read.audios_are in
     let streams : length demuxed.map.streams.items ≡ suc (length holds.demuxed_is.audios) = ap (λ (xs : List Stream). length xs) holds.demuxed_is.streams in
     let carried : length demuxed.audios ≡ length holds.demuxed_is.audios =
-    ap (λ (xs : List AudioStream). length xs) holds.demuxed_is.audio_packets ∙ length-map (packets_of content) holds.demuxed_is.audios in
+    ap (λ (xs : List AudioStream). length xs) holds.demuxed_is.audio_packets ∙ length-map holds.demuxed_is.audios (packets_of content) in
     let few : length demuxed.map.streams.items ≤ 1 + 8 = holds.demuxed_is.few in
-    let audios : length (map audio_row program.audios) ≡ length program.audios = length-map audio_row program.audios in
+    let audios : length (map audio_row program.audios) ≡ length program.audios = length-map program.audios audio_row in
     let small : All (λ (stream : AudioStream). IsSmall stream.units) demuxed.audios =
     subst (λ (xs : List AudioStream). All (λ (stream : AudioStream). IsSmall stream.units) xs) (sym holds.demuxed_is.audio_packets) (audios_small content holds.demuxed_is.audios holds.within) in
     let count : length (flat_map (λ packets. packets) (map audio_row program.audios)) ≤ 8700000 * length program.audios =
@@ -76,32 +74,51 @@ program-fine bounds slot start contents before job content program versions vali
       valid = record {
         some_vbv = omega (arith, vbv, least);
         vbv = omega (arith, vbv, most);
-        units = rows-valid bounds slot job.weight program.video job.coarser.items None program.units versions valid.weight valid.few_coarser are tt short next.within.units is;
-        dues = subst IsStrictlyIncreasing (sym (row-dues job.weight program.video job.coarser.items None program.units versions is)) rises;
+        units = rows-valid places slot weight program.video coarser None program.units versions light few_ratios are tt short within.units is;
+        dues = subst IsStrictlyIncreasing (sym (row-dues weight program.video coarser None program.units versions is)) rises;
         few_audios = omega (arith, audios, eight);
-        audios = streams-valid slot start read.earliest read.first.stated demuxed.audios read.frames program.audios read.have_frames read.audios_are next.within.audio_gones;
+        audios = streams-valid slot start read.earliest read.first.stated demuxed.audios read.frames program.audios read.have_frames read.audios_are within.audio_gones;
       };
       few = omega (arith, count, eight);
     }
 
+-- a row has a place in a table: it keeps the limits, and its units and audio packets aren't too many
+pub row-valid : HavePlaces → (slot start number weight : ℕ) (content drop coarser : List ℕ) (program : Program) (row : ProgramRow) → weight ≤ 100 → length coarser ≤ 7
+    → IsProgramOf content number drop start program → IsWithinTime slot program → AreBytes program.video → IsRowOf program coarser weight row
+    → IsValidProgram slot row × (length row.units ≤ 32768) × (length (flat_map (λ packets. packets) row.audios) < 4294967296)
+row-valid places slot start number weight content drop coarser program row light few_ratios holds within are is =
+    let fine : IsFine slot row =
+    subst (IsFine slot) (sym is.row_is) (program-fine places slot start number weight content drop coarser program is.versions light few_ratios holds within are is.are_versions) in
+    let rows : length row.units ≡ length (unit_rows weight program.units is.versions) = ap (λ (r : ProgramRow). length r.units) is.row_is in
+    let read : IsProgram start holds.demuxed program = holds.program_is in
+    let count : length program.units ≡ length read.kept = sources-many start read.earliest read.kept read.pictures program.units read.units_are in
+    let most : length read.kept ≤ 32768 = read.few in
+    (fine.valid, omega (arith, rows, rows-few weight program.units is.versions, count, most), omega (arith, fine.few))
+
 -- ---- all programs
 
-programs-fine : AreAllBounded → (slot start : ℕ) (contents further : List (List ℕ)) (before programs : List Program) (jobs : List ProgramJob) (versions : List (List (List UnitVersion)))
+one-fine : HavePlaces → (slot start : ℕ) (contents : List (List ℕ)) (before : List Program) (job : ProgramJob) (content : List ℕ) (program : Program) (versions : List (List UnitVersion))
+    → IsValidProgramJob job → IsNextProgram slot start contents before job content program → AreBytes program.video
+    → AreVideoVersions program.video job.coarser.items None program.units versions → IsFine slot (program_row job.weight program versions)
+one-fine places slot start contents before job content program versions valid next are is =
+    program-fine places slot start job.program job.weight content job.drop.items job.coarser.items program versions valid.weight valid.few_coarser next.holds next.within are is
+
+programs-fine : HavePlaces → (slot start : ℕ) (contents further : List (List ℕ)) (before programs : List Program) (jobs : List ProgramJob) (versions : List (List (List UnitVersion)))
     → All IsValidProgramJob jobs → AreNextPrograms slot start contents before jobs further programs → All (λ program. AreBytes program.video) programs
     → AreAllVersions programs (ratios_of jobs) versions → All (IsFine slot) (program_rows jobs programs versions)
-programs-fine bounds slot start contents [] before [] [] [] valid next are is = All-nil (IsFine slot)
-programs-fine bounds slot start contents [] before [] [] (v ∷ vs) valid next are is = absurd is
-programs-fine bounds slot start contents further before [] (j ∷ js) versions valid next are is = absurd is
-programs-fine bounds slot start contents [] before (p ∷ ps) [] versions valid next are is = absurd is
-programs-fine bounds slot start contents [] before (p ∷ ps) (j ∷ js) versions valid next are is = absurd next
-programs-fine bounds slot start contents (c ∷ cs) before [] [] versions valid next are is = absurd next
-programs-fine bounds slot start contents (c ∷ cs) before (p ∷ ps) [] versions valid next are is = absurd is
-programs-fine bounds slot start contents (c ∷ cs) before (p ∷ ps) (j ∷ js) [] valid next are is = absurd is
-programs-fine bounds slot start contents (content ∷ further) before (program ∷ programs) (job ∷ jobs) (own ∷ more) valid next are is =
+programs-fine places slot start contents [] before [] [] [] valid next are is = All-nil (IsFine slot)
+programs-fine places slot start contents [] before [] [] (v ∷ vs) valid next are is = absurd is
+programs-fine places slot start contents further before [] (j ∷ js) versions valid next are is = absurd is
+programs-fine places slot start contents [] before (p ∷ ps) [] versions valid next are is = absurd is
+programs-fine places slot start contents [] before (p ∷ ps) (j ∷ js) versions valid next are is = absurd next
+programs-fine places slot start contents (c ∷ cs) before [] [] versions valid next are is = absurd next
+programs-fine places slot start contents (c ∷ cs) before (p ∷ ps) [] versions valid next are is = absurd is
+programs-fine places slot start contents (c ∷ cs) before (p ∷ ps) (j ∷ js) [] valid next are is = absurd is
+programs-fine places slot start contents (content ∷ further) before (program ∷ programs) (job ∷ jobs) (own ∷ more) valid next are is =
     All-cons (IsFine slot) (program_row job.weight program own) (program_rows jobs programs more)
-    (program-fine bounds slot start contents before job content program own (All-head IsValidProgramJob job jobs valid) next.0
+    (one-fine places slot start contents before job content program own (All-head IsValidProgramJob job jobs valid) next.0
     (All-head (λ (p : Program). AreBytes p.video) program programs are) is.0)
-    (programs-fine bounds slot start (contents ++ content ∷ []) further (before ++ program ∷ []) programs jobs more (All-tail IsValidProgramJob job jobs valid) next.1
+    (programs-fine places slot start (contents ++ content ∷ []) further (before ++ program ∷ []) programs jobs more (All-tail IsValidProgramJob job jobs valid) next.1
     (All-tail (λ (p : Program). AreBytes p.video) program programs are) is.1)
 
 all-valid : (slot : ℕ) (rows : List ProgramRow) → All (IsFine slot) rows → All (IsValidProgram slot) rows
@@ -164,11 +181,11 @@ units-within slot start contents (content ∷ further) before (program ∷ progr
 
 -- ---- the table
 
-pub table-valid : AreAllBounded → (job : Job) (contents : List (List ℕ)) (programs : List Program) (table : Table) → IsValidJob job → ArePrograms job contents programs
+pub table-valid : HavePlaces → (job : Job) (contents : List (List ℕ)) (programs : List Program) (table : Table) → IsValidJob job → ArePrograms job contents programs
     → All (λ program. AreBytes program.video) programs → IsTableOf job programs table → IsValidTable table
-table-valid bounds job contents programs table valid next are is =
+table-valid places job contents programs table valid next are is =
     let rows : List ProgramRow = program_rows job.programs programs is.versions in
-    let fine : All (IsFine job.slot) rows = programs-fine bounds job.slot job.start [] contents [] programs job.programs is.versions valid.programs next are is.are_versions in
+    let fine : All (IsFine job.slot) rows = programs-fine places job.slot job.start [] contents [] programs job.programs is.versions valid.programs next are is.are_versions in
     let fine_table : All (IsFine table.slot) table.programs =
     subst (λ (slot : ℕ). All (IsFine slot) table.programs) (sym is.slot) (subst (λ (rs : List ProgramRow). All (IsFine job.slot) rs) (sym is.rows) fine) in
     let count : length table.programs ≡ length rows = ap (λ (rs : List ProgramRow). length rs) is.rows in

@@ -2,7 +2,6 @@
 use Rattle.std.proofs.Common.{◌≡◌, ℕ, zero, suc, ◌+◌, ◌-◌, ◌*◌, ◌<◌, ◌≤◌, List, [], ◌∷◌, length, take, drop, map, All, Option, Some, None, ℤ, pos, ◌+ℤ◌, ◌-ℤ◌, ◌<ℤ◌, refl, ap, subst, sym, ◌∙◌, arith}
 use Rattle.std.specs.Prelude.{slice_index}
 use Rattle.std.specs.List.Sorted.{IsStrictlyIncreasing}
-use Rattle.std.proofs.Math.Nat.{mul-le-mul_left}
 use Rattle.std.proofs.lemmas.Int.{ints}
 use Rattle.std.proofs.lemmas.List.{length-drop, length-map, length-take}
 use Rattle.std.proofs.lemmas.List.Elements.{All-cons, All-head, All-map, All-nil, All-tail}
@@ -103,6 +102,15 @@ units-short start earliest es packets before (unit ∷ units) (picture ∷ pictu
     let short : unit.1 - unit.0 ≤ 1048576 = next.short in
     All-cons IsShortUnit source sources (omega (arith, begins, ends, short)) (units-short start earliest es packets (Some picture) units pictures sources are in_order)
 
+pub sources-many : (start : ℕ) (earliest : ℤ) (units : List (ℕ × ℕ)) (pictures : List TimedPicture) (sources : List UnitSource)
+    → AreUnitSources start earliest units pictures sources → length sources ≡ length units
+sources-many start earliest [] [] [] are = refl
+sources-many start earliest [] [] (s ∷ ss) are = absurd are
+sources-many start earliest [] (p ∷ ps) sources are = absurd are
+sources-many start earliest (u ∷ us) [] sources are = absurd are
+sources-many start earliest (u ∷ us) (p ∷ ps) [] are = absurd are
+sources-many start earliest (u ∷ us) (p ∷ ps) (s ∷ ss) (begins, ends, times, due, are) = ap suc (sources-many start earliest us ps ss are)
+
 pub rows-few : (weight : ℕ) (units : List UnitSource) (versions : List (List UnitVersion)) → length (unit_rows weight units versions) ≤ length units
 rows-few weight [] [] = omega arith
 rows-few weight [] (v ∷ vs) = omega arith
@@ -119,49 +127,42 @@ header-spelled (Some pts) (Some dts) = omega arith
 pub header-few : (times : Times) → length (written_header times) ≤ 19
 header-few times = header-spelled times.pts (written_dts times.pts times.dts)
 
--- how long a version may be, and how far from its source
-abbrev IsBoundedVersion : UnitVersion → Type 0
-IsBoundedVersion version = (1 ≤ length version.bytes) × (length version.bytes ≤ 4194285) × (version.distortion ≤ 2609192632320)
-
--- what is known of all versions of all units
-abbrev pub AreAllBounded : Type 0
-AreAllBounded =
-    (before : Option SeqState) (unit coarser : List ℕ) (versions : List UnitVersion) → MayPrecede before → AreBytes unit → length unit ≤ 1048576 → AreVersions before unit coarser versions
-    → All IsBoundedVersion versions
-
-version-valid : (weight : ℕ) (unit : UnitSource) (version : UnitVersion) → weight ≤ 100 → IsBoundedVersion version → IsValidVersion (row_version weight unit version)
-version-valid weight unit version light (some, few, near) =
-    let header : length (written_header unit.times) ≤ 19 = header-few unit.times in
-    let most : version.distortion * weight ≤ version.distortion * 100 = mul-le-mul_left version.distortion light in
-    record { some_bytes = omega (arith, some); bytes = omega (arith, header, few); distortion = omega (arith, most, near) }
+-- a table has a place for each version of each unit
+abbrev pub HavePlaces : Type 0
+HavePlaces =
+    (before : Option SeqState) (unit coarser : List ℕ) (versions : List UnitVersion) (header weight : ℕ) → MayPrecede before → AreBytes unit → length unit ≤ 1048576
+    → AreVersions before unit coarser versions → header ≤ 19 → 2609192632320 * weight < 281474976710656
+    → All (λ version. IsValidVersion (record { bytes = header + length version.bytes; distortion = version.distortion * weight })) versions
 
 bytes-short : (es : List ℕ) (unit : UnitSource) → IsShortUnit unit → length (bytes_of es unit) ≤ 1048576
 bytes-short es unit short = omega (arith, short, length-take (unit.end - unit.begin) (drop unit.begin es))
 
-unit-valid : AreAllBounded → (slot weight : ℕ) (es coarser : List ℕ) (before : Option SeqState) (unit : UnitSource) (versions : List UnitVersion) → weight ≤ 100 → length coarser ≤ 7 → AreBytes es
+unit-valid : HavePlaces → (slot weight : ℕ) (es coarser : List ℕ) (before : Option SeqState) (unit : UnitSource) (versions : List UnitVersion) → weight ≤ 100 → length coarser ≤ 7 → AreBytes es
     → MayPrecede before → IsShortUnit unit → unit.due ≤ 4194304 * slot → AreVersions before (bytes_of es unit) coarser versions → IsValidUnit slot (unit_row weight unit versions)
-unit-valid bounds slot weight es coarser before unit versions light few are may short due is =
+unit-valid places slot weight es coarser before unit versions light few are may short due is =
     let count : length versions ≡ suc (length coarser) = versions-many before (bytes_of es unit) coarser versions is in
-    let same : length (map (row_version weight unit) versions) ≡ length versions = length-map (row_version weight unit) versions in
+    let same : length (map (row_version weight unit) versions) ≡ length versions = length-map versions (row_version weight unit) in
     let bytes : AreBytes (bytes_of es unit) = AreBytes-take (unit.end - unit.begin) (drop unit.begin es) (are-dropped unit.begin es are) in
-    let bounded : All IsBoundedVersion versions = bounds before (bytes_of es unit) coarser versions may bytes (bytes-short es unit short) is in
+    let room : 2609192632320 * weight < 281474976710656 = omega (arith, light) in
+    let valid : All (λ version. IsValidVersion (row_version weight unit version)) versions =
+    places before (bytes_of es unit) coarser versions (length (written_header unit.times)) weight may bytes (bytes-short es unit short) is (header-few unit.times) room in
     record {
       due = due;
       some_version = omega (arith, count, same);
       few_versions = omega (arith, count, same, few);
-      versions = All-map IsValidVersion (row_version weight unit) versions (λ k d within. version-valid weight unit _ light (bounded k d within));
+      versions = All-map IsValidVersion (row_version weight unit) versions valid;
     }
 
-pub rows-valid : AreAllBounded → (slot weight : ℕ) (es coarser : List ℕ) (before : Option SeqState) (units : List UnitSource) (versions : List (List UnitVersion)) → weight ≤ 100 → length coarser ≤ 7
+pub rows-valid : HavePlaces → (slot weight : ℕ) (es coarser : List ℕ) (before : Option SeqState) (units : List UnitSource) (versions : List (List UnitVersion)) → weight ≤ 100 → length coarser ≤ 7
     → AreBytes es → MayPrecede before → All IsShortUnit units → All (λ unit. unit.due ≤ 4194304 * slot) units → AreVideoVersions es coarser before units versions
     → All (IsValidUnit slot) (unit_rows weight units versions)
-rows-valid bounds slot weight es coarser before [] [] light few are may short dues is = All-nil (IsValidUnit slot)
-rows-valid bounds slot weight es coarser before [] (v ∷ vs) light few are may short dues is = absurd is
-rows-valid bounds slot weight es coarser before (u ∷ us) [] light few are may short dues is = absurd is
-rows-valid bounds slot weight es coarser before (unit ∷ units) (own ∷ more) light few are may short dues (after, leaves, here, rest) =
+rows-valid places slot weight es coarser before [] [] light few are may short dues is = All-nil (IsValidUnit slot)
+rows-valid places slot weight es coarser before [] (v ∷ vs) light few are may short dues is = absurd is
+rows-valid places slot weight es coarser before (u ∷ us) [] light few are may short dues is = absurd is
+rows-valid places slot weight es coarser before (unit ∷ units) (own ∷ more) light few are may short dues (after, leaves, here, rest) =
     All-cons (IsValidUnit slot) (unit_row weight unit own) (unit_rows weight units more)
-    (unit-valid bounds slot weight es coarser before unit own light few are may (All-head IsShortUnit unit units short) (All-head (λ (u : UnitSource). u.due ≤ 4194304 * slot) unit units dues) here)
-    (rows-valid bounds slot weight es coarser (Some after) units more light few are (state-left before (bytes_of es unit) after may leaves) (All-tail IsShortUnit unit units short)
+    (unit-valid places slot weight es coarser before unit own light few are may (All-head IsShortUnit unit units short) (All-head (λ (u : UnitSource). u.due ≤ 4194304 * slot) unit units dues) here)
+    (rows-valid places slot weight es coarser (Some after) units more light few are (state-left before (bytes_of es unit) after may leaves) (All-tail IsShortUnit unit units short)
     (All-tail (λ (u : UnitSource). u.due ≤ 4194304 * slot) unit units dues) rest)
 
 pub row-dues : (weight : ℕ) (es coarser : List ℕ) (before : Option SeqState) (units : List UnitSource) (versions : List (List UnitVersion)) → AreVideoVersions es coarser before units versions

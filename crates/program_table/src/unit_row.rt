@@ -13,7 +13,7 @@ use pes_units::{MOST_HEADER_BYTES, Times, write_video_header};
 use program_reader::UnitSource;
 use std::alloc::Global;
 use syntax_types::SeqState;
-use version_bounds::laws::versions_are_bounded;
+use version_bounds::laws::sizes_are_bounded;
 use version_maker::{VersionSize, sizes_of};
 use version_source::{unit_bytes, want_of_memory};
 use version_table::limits::VERSIONS_MOST;
@@ -39,7 +39,7 @@ pub fn row_of_unit(
         Ok(sizes) => sizes,
         Err(fault) => return Err(want_of_memory(fault)),
     };
-    versions_are_bounded();
+    sizes_are_bounded();
     let header = header_bytes(&unit.times);
     let versions = with_headers(header, weight, sizes.as_slice());
     Ok(Unit {

@@ -8,7 +8,7 @@ use Rattle.version_table.specs.declared.table.ProgramRow.{ProgramRow}
 use Rattle.picture_grammar.specs.Picture.{MayPrecede}
 use Rattle.program_reader.specs.declared.program.Program.{Program}
 use Rattle.program_reader.specs.declared.program.UnitSource.{UnitSource}
-use Rattle.version_bounds.specs.declared.limits.TheConstants.{DISTORTION_MOST, VERSION_BYTES_MOST}
+use Rattle.version_bounds.specs.declared.limits.TheConstants.{UNIT_VERSION_BYTES_MOST, UNIT_VERSION_DISTORTION_MOST}
 use Rattle.version_maker.specs.declared.version.UnitVersion.{UnitVersion}
 use Rattle.version_maker.specs.declared.version.VersionSize.{VersionSize}
 use Rattle.version_maker.specs.Versions.{AreVersions}
@@ -29,9 +29,8 @@ pub record AreUnitRows (es coarser : List ℕ) (before : Option SeqState) (weigh
   pub rows_are : rows ≡ unit_rows weight units versions
 
 -- a size that a table has a place for
-pub record IsBounded (size : VersionSize) : Type 0 where
-  pub bytes : size.bytes ≤ VERSION_BYTES_MOST
-  pub distortion : size.distortion ≤ DISTORTION_MOST
+abbrev pub IsBounded : VersionSize → Type 0
+IsBounded size = (1 ≤ size.bytes) × (size.bytes ≤ UNIT_VERSION_BYTES_MOST) × (size.distortion ≤ UNIT_VERSION_DISTORTION_MOST)
 
 -- a version of this size behind a header of so many bytes
 abbrev pub with_header : (header weight : ℕ) → VersionSize → Version
