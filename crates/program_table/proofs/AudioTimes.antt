@@ -75,11 +75,13 @@ times_of frames = map (λ frame. frame.time) frames
 pub rise-of : (frames : List Frame) → AreRising (times_of frames) (length frames) → Rise frames
 rise-of [] rising = tt
 rise-of (f ∷ []) rising = tt
-rise-of (f ∷ g ∷ fs) rising =
-    (rising 0 (omega arith), rise-of (g ∷ fs) (λ k within.
-    let same : suc k + 1 ≡ suc (k + 1) = omega arith in
-    let here : frame_time_at (times_of (g ∷ fs)) k <ℤ frame_time_at (times_of (f ∷ g ∷ fs)) (suc k + 1) = rising (suc k) (omega (arith, within)) in
-    subst (λ (n : ℕ). frame_time_at (times_of (g ∷ fs)) k <ℤ frame_time_at (times_of (f ∷ g ∷ fs)) n) same here))
+rise-of (f ∷ g ∷ fs) rising = (
+  rising 0 (omega arith),
+  rise-of (g ∷ fs) (λ k within.
+      let same : suc k + 1 ≡ suc (k + 1) = omega arith in
+      let here : frame_time_at (times_of (g ∷ fs)) k <ℤ frame_time_at (times_of (f ∷ g ∷ fs)) (suc k + 1) = rising (suc k) (omega (arith, within)) in
+      subst (λ (n : ℕ). frame_time_at (times_of (g ∷ fs)) k <ℤ frame_time_at (times_of (f ∷ g ∷ fs)) n) same here),
+)
 
 -- a frame ends behind the place
 abbrev pub Reach : List Frame → ℕ → Type 0
@@ -171,15 +173,14 @@ packet-follows size low at packet rest k (suc n) some inside count before end fo
     let total : ℕ = packet_size packet in
     let whole : 184 * k < total = full total k n count in
     let place : PlacedPacket × ℕ × ℕ = (packet, at, 184 * k) in
-    let last : last_byte place ≤ packet.end - 1 = ends (packet.header.len) packet.from packet.end (184 * k) some whole in
-    (
+    let last : last_byte place ≤ packet.end - 1 = ends (packet.header.len) packet.from packet.end (184 * k) some whole in (
       has-some total (184 * k) whole,
       few total (184 * k),
       before,
       rises (packet.header.len) packet.from (184 * k) (piece_size total (184 * k)) (has-some total (184 * k) whole),
       omega (arith, last, some, inside),
       packet-follows size (last_byte place) at packet rest (k + 1) n some inside (omega (arith, count))
-      (next (packet.header.len) packet.from k (piece_size total (184 * k)) (few total (184 * k))) last follow
+          (next (packet.header.len) packet.from k (piece_size total (184 * k)) (few total (184 * k))) last follow,
     )
   where
     full : (total k n : ℕ) → k + suc n ≡ (total + 183) / 184 → 184 * k < total
@@ -234,17 +235,16 @@ pieces-follow start earliest frames size low before (x ∷ xs) (p ∷ ps) rise r
     let piece : IsPiece start earliest frames x.0 x.1 x.2 (piece_size (packet_size x.0) x.2) p = are.0 in
     let bytes : p.packet.bytes ≡ piece_size (packet_size x.0) x.2 = piece.bytes in
     let due : IsDue start earliest (time_of_byte frames (first_byte x)) p.packet.due = piece.due in
-    let gone : IsDue start earliest (time_of_byte frames (last_byte x)) p.packet.gone = piece.gone in
-    (
+    let gone : IsDue start earliest (time_of_byte frames (last_byte x)) p.packet.gone = piece.gone in (
       omega (arith, bytes, follow.0),
       omega (arith, bytes, follow.1),
       bound (first_byte x) p.packet.due follow.2 (omega (arith, follow.3, follow.4)) due,
       no-earlier start earliest (time_of_byte frames (first_byte x)) (time_of_byte frames (last_byte x)) p.packet.due p.packet.gone due gone
-      (later-byte frames rise (first_byte x) (last_byte x) follow.3 (reach (last_byte x) follow.4)),
+          (later-byte frames rise (first_byte x) (last_byte x) follow.3 (reach (last_byte x) follow.4)),
       pieces-follow start earliest frames size (last_byte x) p.packet.gone xs ps rise reach
-      (λ place later_due order within is. no-earlier start earliest (time_of_byte frames (last_byte x)) (time_of_byte frames place) p.packet.gone later_due gone is
-      (later-byte frames rise (last_byte x) place order (reach place within)))
-      are.1 follow.5
+          (λ place later_due order within is. no-earlier start earliest (time_of_byte frames (last_byte x)) (time_of_byte frames place) p.packet.gone later_due gone is
+          (later-byte frames rise (last_byte x) place order (reach place within)))
+          are.1 follow.5,
     )
 
 -- the pieces of a stream whose frames cover its payload

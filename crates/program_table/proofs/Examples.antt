@@ -29,11 +29,11 @@ third = record { begin = 50; end = 60; times = record { pts = Some 99009; dts = 
 abbrev cell : (bytes distortion : ℕ) → Version
 cell bytes distortion = record { bytes = bytes; distortion = distortion }
 
-abbrev row : (due : ℕ) → List Version → CodedUnit
-row due versions = record { due = due; versions = record { items = versions } }
+abbrev coded : (due : ℕ) → List Version → CodedUnit
+coded due versions = record { due = due; versions = record { items = versions } }
 
 headers_and_weight : unit_rows 3 (first ∷ second ∷ third ∷ []) ((version 40 0 ∷ version 25 7 ∷ []) ∷ (version 10 0 ∷ version 11 2 ∷ []) ∷ (version 10 0 ∷ []) ∷ [])
-    ≡ row 27000000 (cell 54 0 ∷ cell 39 21 ∷ []) ∷ row 27900900 (cell 19 0 ∷ cell 20 6 ∷ []) ∷ row 28801800 (cell 29 0 ∷ []) ∷ []
+    ≡ coded 27000000 (cell 54 0 ∷ cell 39 21 ∷ []) ∷ coded 27900900 (cell 19 0 ∷ cell 20 6 ∷ []) ∷ coded 28801800 (cell 29 0 ∷ []) ∷ []
 headers_and_weight = refl
 
 -- ---- an audio stream

@@ -1,5 +1,35 @@
 -- The rows of units and of programs, one more behind those before, and that there is one table.
-use Rattle.std.proofs.Common.{◌≡◌, ℕ, zero, suc, ◌+◌, ◌<◌, ◌≤◌, List, [], ◌∷◌, ◌++◌, length, drop, get_or, map, All, Option, Some, None, refl, ap, subst, sym, ◌∙◌, arith, append_assoc, append-nil, add-one, drop-cons}
+use Rattle.std.proofs.Common.{
+  ◌≡◌,
+  ℕ,
+  zero,
+  suc,
+  ◌+◌,
+  ◌<◌,
+  ◌≤◌,
+  List,
+  [],
+  ◌∷◌,
+  ◌++◌,
+  length,
+  drop,
+  get_or,
+  map,
+  All,
+  Option,
+  Some,
+  None,
+  refl,
+  ap,
+  subst,
+  sym,
+  ◌∙◌,
+  arith,
+  append_assoc,
+  append-nil,
+  add-one,
+  drop-cons,
+}
 use Rattle.syntax_types.specs.declared.picture.SeqState.{SeqState}
 use Rattle.job_report.specs.declared.job.Job.{Job}
 use Rattle.job_report.specs.declared.job.ProgramJob.{ProgramJob}
@@ -42,11 +72,11 @@ unit-row-of es coarser before weight unit bytes sizes header made same are lengt
   versions = are.versions;
   are_versions = subst (λ (b : List ℕ). AreVersions before b coarser are.versions) same are.are;
   row_is = ap (unit_with unit.due) (
-    made_is
-    ∙ ap (λ (n : ℕ). map (with_header n weight) sizes) length_is
-    ∙ ap (λ (those : List VersionSize). map (with_header (length (written_header unit.times)) weight) those) are.each
-    ∙ rows-of-sizes weight unit are.versions
-  );
+      made_is
+      ∙ ap (λ (n : ℕ). map (with_header n weight) sizes) length_is
+      ∙ ap (λ (those : List VersionSize). map (with_header (length (written_header unit.times)) weight) those) are.each
+      ∙ rows-of-sizes weight unit are.versions
+      );
 }
 
 -- ---- units
@@ -66,7 +96,7 @@ more-units es coarser weight units left rest before unit after rows more row spl
             every,
             those,
             rows_are ∙ ap (λ (r : CodedUnit). rows ++ r ∷ unit_rows weight rest versions) (sym is.row_is) ∙ sym (append_assoc rows (row ∷ []) (unit_rows weight rest versions))
-            ∙ ap (λ (xs : List CodedUnit). xs ++ unit_rows weight rest versions) (sym pushed),
+                ∙ ap (λ (xs : List CodedUnit). xs ++ unit_rows weight rest versions) (sym pushed),
           );
     }
 
@@ -106,7 +136,7 @@ more-programs jobs jobs_left jobs_rest programs left rest job program rows more 
         every,
         those,
         rows_are ∙ ap (λ (r : ProgramRow). rows ++ r ∷ program_rows jobs_rest rest versions) (sym is.row_is) ∙ sym (append_assoc rows (row ∷ []) (program_rows jobs_rest rest versions))
-        ∙ ap (λ (xs : List ProgramRow). xs ++ program_rows jobs_rest rest versions) (sym pushed),
+            ∙ ap (λ (xs : List ProgramRow). xs ++ program_rows jobs_rest rest versions) (sym pushed),
       );
 }
 

@@ -156,7 +156,13 @@ units-fewer (j ∷ js) (p ∷ ps) [] = omega arith
 units-fewer (j ∷ js) (p ∷ ps) (v ∷ vs) =
     let rest : length (flat_map (λ (row : ProgramRow). row.units) (program_rows js ps vs)) ≤ units_of_programs ps = units-fewer js ps vs in
     let here : length (unit_rows j.weight p.units v) ≤ length p.units = rows-few j.weight p.units v in
-    omega (arith, here, rest, length-append (unit_rows j.weight p.units v) (flat_map (λ (row : ProgramRow). row.units) (program_rows js ps vs)), sum_by-cons (λ (program : Program). length program.units) p ps)
+    omega (
+      arith,
+      here,
+      rest,
+      length-append (unit_rows j.weight p.units v) (flat_map (λ (row : ProgramRow). row.units) (program_rows js ps vs)),
+      sum_by-cons (λ (program : Program). length program.units) p ps,
+    )
 
 -- units of some programs behind others are as many as the limit allows
 units-within : (slot start : ℕ) (contents further : List (List ℕ)) (before programs : List Program) (jobs : List ProgramJob) → units_of_programs before ≤ 32768

@@ -82,7 +82,7 @@ dues-climb start earliest es packets before low (u ∷ us) (p ∷ ps) [] bound a
 dues-climb start earliest es packets before low (unit ∷ units) (picture ∷ pictures) (source ∷ sources) bound (begins, ends, times, due, are) (next, in_order) = (
   bound picture.ticks source.due next.later due,
   dues-climb start earliest es packets (Some picture) (suc source.due) units pictures sources
-  (λ ticks next_due later is. later-due start earliest picture.ticks ticks source.due next_due due is later) are in_order,
+      (λ ticks next_due later is. later-due start earliest picture.ticks ticks source.due next_due due is later) are in_order,
 )
 
 -- ---- lengths

@@ -7,8 +7,8 @@ ghost use Rattle.picture_grammar.specs.Picture.{MayPrecede};
 ghost use Rattle.version_source.specs.Sendable.{IsUnitOf, Leaves, bytes_of};
 ghost use Rattle.program_table.specs.Private.Rows.{IsBounded, IsUnitRow, with_header};
 
-use list_types::OutOfMemory;
 use arrayvec::ArrayVec;
+use list_types::OutOfMemory;
 use pes_units::{MOST_HEADER_BYTES, Times, write_video_header};
 use program_reader::UnitSource;
 use std::alloc::Global;
@@ -60,11 +60,7 @@ fn header_bytes(times: &Times) -> u8
 }
 
 /// Versions of these sizes with a header before each, whose distortions count as much as the program weighs.
-fn with_headers(
-    header: u8,
-    weight: u8,
-    sizes: &[VersionSize],
-) -> ArrayVec<Version, VERSIONS_MOST>
+fn with_headers(header: u8, weight: u8, sizes: &[VersionSize]) -> ArrayVec<Version, VERSIONS_MOST>
     requires few { length sizes.now ≤ VERSIONS_MOST }
     requires bounded { All IsBounded sizes.now }
     ensures { result.items ≡ map (with_header header weight) sizes.now }
