@@ -12,7 +12,6 @@ use Rattle.std.proofs.Common.{
   ◌<◌,
   ◌≤◌,
   nat_lt,
-  min,
   Bool,
   true,
   false,
@@ -25,26 +24,20 @@ use Rattle.std.proofs.Common.{
   drop,
   get_or,
   map,
-  Option,
   Some,
-  None,
   ℤ,
   pos,
-  ◌+ℤ◌,
-  ◌-ℤ◌,
   ◌≤ℤ◌,
   ◌<ℤ◌,
   inl,
   inr,
   All,
   refl,
-  sym,
   ap,
   subst,
-  ◌∙◌,
   arith,
 }
-use Rattle.std.specs.List.{find, flat_map, range_with_len}
+use Rattle.std.specs.List.{find, range_with_len}
 use Rattle.std.specs.Option.{option_map_or}
 use Rattle.std.proofs.lemmas.Bool.{ltb-true, ltb-false}
 use Rattle.std.proofs.lemmas.Int.{ints}
@@ -52,11 +45,10 @@ use Rattle.std.proofs.lemmas.List.{length-append}
 use Rattle.std.proofs.lemmas.List.Elements.{All-head, All-tail}
 use Rattle.audio_frames.specs.declared.frame.Frame.{Frame}
 use Rattle.audio_frames.specs.Times.{AreRising, frame_time_at, spans}
-use Rattle.pes_units.specs.PesHeader.{header_length}
 use Rattle.ts_demux.specs.declared.demuxed.PesUnit.{PesUnit}
 use Rattle.program_reader.specs.declared.pes_packets.PlacedPacket.{PlacedPacket}
 use Rattle.program_reader.specs.declared.program.AudioPiece.{AudioPiece}
-use Rattle.program_reader.specs.Audio.{ArePieces, IsDue, IsPiece, packet_size, payload_place, piece_places, piece_size, placed_pieces, time_of_byte}
+use Rattle.program_reader.specs.Audio.{ArePieces, IsDue, IsPiece, packet_size, payload_place, piece_size, placed_pieces, time_of_byte}
 use Rattle.program_reader.specs.Packets.{joined, payload_of, placed_from}
 use Rattle.program_reader.proofs.StreamLemmas.{HasPayload}
 use Rattle.program_reader.proofs.TakenLemmas.{placed_at}

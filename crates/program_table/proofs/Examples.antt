@@ -1,5 +1,5 @@
 -- Worked examples of rows: what a check computes, beside what was counted by hand.
-use Rattle.std.proofs.Common.{◌≡◌, ℕ, List, [], ◌∷◌, None, Some, replicate, refl}
+use Rattle.std.proofs.Common.{◌≡◌, ℕ, false, List, [], ◌∷◌, None, Some, replicate, refl}
 use Rattle.version_table.specs.declared.table.AudioPacket.{AudioPacket}
 use Rattle.version_table.specs.declared.table.Unit.{Unit as CodedUnit}
 use Rattle.version_table.specs.declared.table.Version.{Version}

@@ -6,7 +6,6 @@ use Rattle.std.proofs.Common.{
   suc,
   ◌+◌,
   ◌<◌,
-  ◌≤◌,
   List,
   [],
   ◌∷◌,
@@ -15,7 +14,6 @@ use Rattle.std.proofs.Common.{
   drop,
   get_or,
   map,
-  All,
   Option,
   Some,
   None,
@@ -33,7 +31,6 @@ use Rattle.std.proofs.Common.{
 use Rattle.syntax_types.specs.declared.picture.SeqState.{SeqState}
 use Rattle.job_report.specs.declared.job.Job.{Job}
 use Rattle.job_report.specs.declared.job.ProgramJob.{ProgramJob}
-use Rattle.picture_grammar.specs.Picture.{MayPrecede}
 use Rattle.version_table.specs.declared.table.ProgramRow.{ProgramRow}
 use Rattle.version_table.specs.declared.table.Table.{Table}
 use Rattle.version_table.specs.declared.table.Unit.{Unit as CodedUnit}
@@ -45,8 +42,8 @@ use Rattle.version_maker.specs.declared.version.UnitVersion.{UnitVersion}
 use Rattle.version_maker.specs.declared.version.VersionSize.{VersionSize}
 use Rattle.version_maker.specs.Versions.{AreSizes, AreVersions, size_of}
 use Rattle.version_source.specs.Sendable.{Leaves, SpellInOrder, bytes_of}
-use Rattle.version_source.specs.Versions.{AreAllVersions, AreVideoVersions, ratios_of}
-use Rattle.program_table.specs.Table.{IsRowOf, IsTableOf, program_row, program_rows, row_version, unit_row, unit_rows}
+use Rattle.version_source.specs.Versions.{AreAllVersions, ratios_of}
+use Rattle.program_table.specs.Table.{IsRowOf, IsTableOf, program_rows, row_version, unit_rows}
 use Rattle.program_table.specs.Private.Rows.{AreProgramRowsSoFar, AreUnitRows, AreUnitRowsSoFar, IsUnitRow, with_header}
 use Rattle.program_table.proofs.States.{one-state, state-left}
 
