@@ -8,3 +8,6 @@
 pub mod laws;
 mod packet;
 mod state;
+
+pub use packet::unit_bytes;
+pub use state::{state_behind, want_of_memory};
