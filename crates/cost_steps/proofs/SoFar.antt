@@ -162,7 +162,8 @@ module _ (due : ℕ) (versions : List Version) (valid : All IsValidVersion versi
         let none : Version = record { bytes = 0; distortion = 0 } in
         let other = is_next.at limit in
         let less = other.2 none in
-        crosses_behind line.rise line.packets (DISTORTION_PARTS * (get_or versions other.0 none).distortion) (packets_of (get_or versions other.0 none)) price next less.fewer (so_far.line_is.least other.0 none other.1) less.less
+        crosses_behind line.rise line.packets (DISTORTION_PARTS * (get_or versions other.0 none).distortion) (packets_of (get_or versions other.0 none)) price next less.fewer
+        (so_far.line_is.least other.0 none other.1) less.less
 
     lower-before : line_cost line (next - 1) ≤ line_cost line' (next - 1)
     lower-before =
@@ -254,7 +255,13 @@ module _ (due : ℕ) (versions : List Version) (valid : All IsValidVersion versi
   -- ---- behind what was there before
   pub starts : (line : Line) (next : ℕ) (before : List CostStep) → IsLeastLine versions 0 line → IsNext versions line next
       → GoesOn due versions line next before (before ++ record { due = due; from = 0; rise = line.rise; packets = line.packets; fewer = 0 } ∷ [])
-  starts line next before is is_next = record { own = record { due = due; from = 0; rise = line.rise; packets = line.packets; fewer = 0 } ∷ []; is = refl; from = 0; so_far = first-so_far line is; is_next = is_next }
+  starts line next before is is_next = record {
+    own = record { due = due; from = 0; rise = line.rise; packets = line.packets; fewer = 0 } ∷ [];
+    is = refl;
+    from = 0;
+    so_far = first-so_far line is;
+    is_next = is_next;
+  }
 
   pub goes_on : (line : Line) (next : ℕ) (line' : Line) (next' : ℕ) (before items : List CostStep) → GoesOn due versions line next before items → next ≤ PRICE_MOST
       → IsLeastLine versions next line' → IsNext versions line' next'

@@ -7,7 +7,8 @@ use Rattle.std.proofs.lemmas.List.Sums.{sum_by_more}
 use Rattle.sum_tree.specs.declared.tree.SumTree.{SumTree}
 use Rattle.sum_tree.specs.Nodes.{IsSumTree, first_sum}
 use Rattle.cost_sweep.specs.declared.step.CostStep.{CostStep}
-use Rattle.cost_sweep.specs.Private.Places.{IsPlaceBefore, IsPlaceBehind}
+use Rattle.cost_sweep.specs.Places.{IsPlaceBehind}
+use Rattle.cost_sweep.specs.Private.Before.{IsPlaceBefore}
 use Rattle.cost_sweep.specs.Sweep.{Holds, counted}
 
 -- what counts from a price on stands before the place behind another price exactly where it counts at that price
@@ -61,6 +62,7 @@ holds-more prices amount steps i d old new place n within own before has holds h
           let here : cond (nat_lt place k) n 0 ≡ cond (nat_le step.from price) n 0 = counts-before prices step.from place price k n before at has in
           let counts : cond (nat_le step.from price) n 0 ≡ counted amount price step = ap (λ m. cond (nat_le step.from price) m 0) own in
           let so_far : first_sum old.first old.nodes.items k ≡ sum_by (counted amount price) (take i steps) = holds.sums price k at in
-          let more : sum_by (counted amount price) (take (i + 1) steps) ≡ sum_by (counted amount price) (take i steps) + counted amount price step = sum_by_more (counted amount price) steps i d within in
+          let more : sum_by (counted amount price) (take (i + 1) steps) ≡ sum_by (counted amount price) (take i steps) + counted amount price step =
+          sum_by_more (counted amount price) steps i d within in
           omega arith);
     }

@@ -9,7 +9,8 @@ use Rattle.sum_tree.specs.declared.tree.SumTree.{SumTree}
 use Rattle.sum_tree.specs.Nodes.{IsSumTree, first_sum}
 use Rattle.cost_sweep.specs.declared.step.CostStep.{CostStep}
 use Rattle.cost_sweep.specs.declared.sweep.CostSweep.{CostSweep}
-use Rattle.cost_sweep.specs.Private.Places.{IsPlaceBefore, IsPlaceBehind}
+use Rattle.cost_sweep.specs.Places.{IsPlaceBehind}
+use Rattle.cost_sweep.specs.Private.Before.{IsPlaceBefore}
 use Rattle.cost_sweep.specs.Steps.{paid_by, spared_by}
 use Rattle.cost_sweep.specs.Sweep.{HasReached, Holds, IsSweep, WentOn, counted}
 use Rattle.cost_sweep.proofs.Holding.{holds-more}

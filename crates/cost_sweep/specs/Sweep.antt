@@ -6,7 +6,7 @@ use Rattle.sum_tree.specs.declared.tree.SumTree.{SumTree}
 use Rattle.sum_tree.specs.Nodes.{IsSumTree, first_sum}
 use Rattle.cost_sweep.specs.declared.step.CostStep.{CostStep}
 use Rattle.cost_sweep.specs.declared.sweep.CostSweep.{CostSweep}
-use Rattle.cost_sweep.specs.Private.Places.{IsPlaceBehind}
+use Rattle.cost_sweep.specs.Places.{IsPlaceBehind}
 use Rattle.cost_sweep.specs.Steps.{AreSmall}
 
 -- an amount of a step, where it counts at a price

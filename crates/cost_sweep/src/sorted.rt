@@ -1,7 +1,8 @@
 ghost use Rattle.std.specs.Prelude.{◌≡◌, ◌<◌, ◌≤◌, ◌^◌, All, IfOk, length};
 ghost use Rattle.std.specs.List.{Contains};
 ghost use Rattle.std.specs.List.Sorted.{IsNonDecreasing};
-ghost use Rattle.cost_sweep.specs.Private.Places.{IsPlaceBefore, IsPlaceBehind};
+ghost use Rattle.cost_sweep.specs.Places.{IsPlaceBehind};
+ghost use Rattle.cost_sweep.specs.Private.Before.{IsPlaceBefore};
 
 use crate::step::CostStep;
 use list_types::OutOfMemory;

@@ -18,7 +18,8 @@ pairs-sum number first (suc count) double is each =
     let right : 2 * first + suc (2 * count) ≡ 2 * (first + count) + 1 = omega arith in
     let low : number (2 * first + 2 * count) ≡ number (2 * (first + count)) = ap number left in
     let high : number (2 * first + suc (2 * count)) ≡ number (2 * (first + count) + 1) = ap number right in
-    let total : (sum_from number (2 * first) (2 * count) + number (2 * first + 2 * count)) + number (2 * first + suc (2 * count)) ≡ sum_from number first count + number (first + count) = omega arith in
+    let total : (sum_from number (2 * first) (2 * count) + number (2 * first + 2 * count)) + number (2 * first + suc (2 * count)) ≡ sum_from number first count + number (first + count) =
+    omega arith in
     subst (λ d. sum_from number (2 * first) d ≡ sum_from number first count + number (first + count)) (sym next) total
 
 -- one level up, what stands to the left of a node is what stands to the left of the one above it, and the node's left twin
@@ -66,7 +67,8 @@ sum-grown number grown first place amount (suc count) others own =
           omega (arith, before, added, none, last))
       | inr other ↦
           (let last : grown (first + count) ≡ number (first + count) = others (first + count) (omega arith) (λ e. other (omega arith)) in
-          let same : cond (nat_lt place (suc count)) amount 0 ≡ cond (nat_lt place count) amount 0 = elim (cases_lt place count) as (λ _. cond (nat_lt place (suc count)) amount 0 ≡ cond (nat_lt place count) amount 0) [
+          let same : cond (nat_lt place (suc count)) amount 0 ≡ cond (nat_lt place count) amount 0 =
+          elim (cases_lt place count) as (λ _. cond (nat_lt place (suc count)) amount 0 ≡ cond (nat_lt place count) amount 0) [
             | inl low ↦ rw (lt-ltb place count low, lt-ltb place (suc count) (omega arith)) refl
             | inr high ↦ rw (le-ltb place count high, le-ltb place (suc count) (omega arith)) refl
           ] in

@@ -13,5 +13,6 @@ loop-version-preserved c =
       most = omega (arith, c.loop-version.invariant.most, c.crossing.ensures.most, c.min-next.ensures);
       before = before-more versions c.args.line c.line_of.result i from cross next _ c.loop-version-test.true c.line_of.ensures.line c.min-next.ensures c.loop-version.invariant.before
           c.crossing.ensures.before;
-      at = at-more versions c.args.line c.line_of.result i from cross next _ c.loop-version-test.true c.line_of.ensures.line c.min-next.ensures c.loop-version.invariant.at c.crossing.ensures.at c.crossing.ensures.fewer;
+      at = at-more versions c.args.line c.line_of.result i from cross next _ c.loop-version-test.true c.line_of.ensures.line c.min-next.ensures
+          c.loop-version.invariant.at c.crossing.ensures.at c.crossing.ensures.fewer;
     }

@@ -1,5 +1,5 @@
 use Rattle.std.proofs.Common.{◌≡◌, ℕ, ◌*◌, List, ap, ap₂, subst, arith}
-use Rattle.cost_sweep.specs.Private.Places.{IsPlaceBehind}
+use Rattle.cost_sweep.specs.Places.{IsPlaceBehind}
 use Rattle.cost_sweep.proofs.Swept.{are-costs}
 use Rattle.cost_sweep.proofs.sweep.CostSweep.costs.Goals as goal
 

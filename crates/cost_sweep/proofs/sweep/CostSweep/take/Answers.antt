@@ -1,6 +1,6 @@
 use Rattle.std.proofs.Common.{◌≡◌, ℕ, ◌+◌, ◌≤◌, List, get_or, refl, ap, subst, ◌∙◌, arith}
 use Rattle.cost_sweep.specs.declared.step.CostStep.{CostStep}
-use Rattle.cost_sweep.specs.Private.Places.{IsPlaceBefore}
+use Rattle.cost_sweep.specs.Private.Before.{IsPlaceBefore}
 use Rattle.cost_sweep.specs.Sweep.{counted}
 use Rattle.cost_sweep.proofs.Swept.{Grows, rest-covers, takes}
 use Rattle.cost_sweep.proofs.sweep.CostSweep.take.Goals as goal

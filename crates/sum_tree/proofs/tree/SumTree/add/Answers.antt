@@ -13,7 +13,8 @@ loop-level-init c =
     record {
       from = omega (arith, power);
       within = omega (arith, power, c.requires.place);
-      growing = λ total tree. subst (λ (x : List ℕ). IsGrowing old.first total c.args.place c.args.amount old.nodes.items (set x (old.first + c.args.place) (get_or x (old.first + c.args.place) 0 + c.args.amount))
+      growing = λ total tree. subst (λ (x : List ℕ). IsGrowing old.first total c.args.place c.args.amount old.nodes.items
+          (set x (old.first + c.args.place) (get_or x (old.first + c.args.place) 0 + c.args.amount))
           (old.first + c.args.place)) (sym c.as_mut_slice-nodes.ensures.value) (starts-growing old.height total old.first c.args.place c.args.amount old.nodes.items c.requires.place tree);
     }
 
@@ -44,7 +45,8 @@ loop-level-preserved c =
       from = omega (arith, up);
       within = omega (arith, up, c.loop-level.invariant.within);
       growing = λ total tree.
-          keeps-growing old.first total c.args.place c.args.amount old.nodes.items c.loop-level.nodes c.loop-level.node c.requires.place (omega (arith, up)) (c.loop-level.invariant.growing total tree);
+          keeps-growing old.first total c.args.place c.args.amount old.nodes.items c.loop-level.nodes c.loop-level.node c.requires.place
+          (omega (arith, up)) (c.loop-level.invariant.growing total tree);
     }
 
 pub returns : goal.returns

@@ -10,7 +10,8 @@ loop-level-init c =
     let tree = c.requires.tree.1 in
     let same : c.args.self.now.height - 0 ≡ c.args.self.now.height = omega arith in
     let power : 2 ^ (c.args.self.now.height - 0) ≡ c.args.self.now.first = ap (λ n. 2 ^ n) same ∙ sym tree.places in
-    let sum : 0 + level_sum c.args.self.now.nodes.items (2 ^ (c.args.self.now.height - 0)) (c.args.self.now.first + c.args.count) ≡ first_sum c.args.self.now.first c.args.self.now.nodes.items c.args.count =
+    let sum : 0 + level_sum c.args.self.now.nodes.items (2 ^ (c.args.self.now.height - 0)) (c.args.self.now.first + c.args.count)
+    ≡ first_sum c.args.self.now.first c.args.self.now.nodes.items c.args.count =
     bottom-sum c.args.self.now.nodes.items c.args.self.now.first c.args.count (2 ^ (c.args.self.now.height - 0)) power in
     record {
       from = omega (arith, power);
@@ -31,7 +32,8 @@ overflow_add-total c =
     let low = 2 ^ (c.args.self.now.height - (c.loop-level._level + 1)) in
     let up = level_up c.args.self.now.height c.loop-level._level c.loop-level-test.true in
     let step = level-step c.args.self.now.height c.requires.tree.0 c.args.self.now.first c.args.self.now.nodes.items (2 ^ (c.args.self.now.height - c.loop-level._level)) low c.loop-level.node tree up
-    (two_least (c.args.self.now.height - (c.loop-level._level + 1))) (two_le (c.args.self.now.height - c.loop-level._level) c.args.self.now.height (omega arith)) c.loop-level.invariant.from c.loop-level.invariant.within in
+    (two_least (c.args.self.now.height - (c.loop-level._level + 1))) (two_le (c.args.self.now.height - c.loop-level._level) c.args.self.now.height (omega arith))
+    c.loop-level.invariant.from c.loop-level.invariant.within in
     let own = c.left_of-total.ensures ∙ ap (λ (x : List ℕ). left_of x c.loop-level.node) c.as_slice.ensures.value in
     omega (arith, step, own, c.loop-level.invariant.sum, tree.sums c.args.count (omega (arith, c.requires.count)))
 
@@ -41,7 +43,8 @@ loop-level-preserved c =
     let low = 2 ^ (c.args.self.now.height - (c.loop-level._level + 1)) in
     let up = level_up c.args.self.now.height c.loop-level._level c.loop-level-test.true in
     let step = level-step c.args.self.now.height c.requires.tree.0 c.args.self.now.first c.args.self.now.nodes.items (2 ^ (c.args.self.now.height - c.loop-level._level)) low c.loop-level.node tree up
-    (two_least (c.args.self.now.height - (c.loop-level._level + 1))) (two_le (c.args.self.now.height - c.loop-level._level) c.args.self.now.height (omega arith)) c.loop-level.invariant.from c.loop-level.invariant.within in
+    (two_least (c.args.self.now.height - (c.loop-level._level + 1))) (two_le (c.args.self.now.height - c.loop-level._level) c.args.self.now.height (omega arith))
+    c.loop-level.invariant.from c.loop-level.invariant.within in
     let own = c.left_of-total.ensures ∙ ap (λ (x : List ℕ). left_of x c.loop-level.node) c.as_slice.ensures.value in
     record {
       from = omega (arith, up, c.loop-level.invariant.from);
