@@ -35,7 +35,9 @@ fn units_of(alloc: Global, shelf: &mut MemShelf, text: &[u8]) -> Result<usize, P
 /// A shelf that fails in these calls, whose file `a.ts` holds the generated program of twelve pictures.
 fn shelf_of(alloc: Global, fails: Vec<u64>) -> Result<MemShelf, Fault> {
     let mut shelf = MemShelf::new(alloc, fails);
-    let program = make_program(alloc, 1, 12)?;
+    let Ok(program) = make_program(alloc, 1, 12) else {
+        return Err(Fault::OutOfMemory);
+    };
     shelf.put_file("a.ts", program.as_slice())?;
     Ok(shelf)
 }
