@@ -13,7 +13,8 @@ use Rattle.program_reader.specs.Units.{unit_bytes, state_behind, IsCoded, IsBrok
 spelled_one : (before : Option SeqState) (bytes : List ℕ) (p q : Picture) → SpellsPicture before p bytes → SpellsPicture before q bytes → p ≡ q
 spelled_one before bytes p q is other = ((exact-picture_unit before).one_value p q (bit_list bytes) [] [] is other).0
 
-spelled_or_refused : (before : Option SeqState) (bytes : List ℕ) (p : Picture) (refusal : Refusal) (place : ℕ) → SpellsPicture before p bytes → IsCovered p → RefusesPicture before bytes refusal place → ⊥
+spelled_or_refused : (before : Option SeqState) (bytes : List ℕ) (p : Picture) (refusal : Refusal) (place : ℕ) → SpellsPicture before p bytes → IsCovered p →
+    RefusesPicture before bytes refusal place → ⊥
 spelled_or_refused before bytes p refusal place is covered (inl (left, refused, at)) = (exact-picture_unit before).not_both p (bit_list bytes) [] left refusal is refused
 spelled_or_refused before bytes p refusal place is covered (inr (q, other, uncovered, kind, at)) = uncovered (subst IsCovered (spelled_one before bytes p q is other) covered)
 

@@ -126,7 +126,8 @@ bad_from : (video : Bool) (front : List PesUnit) (packet : PesUnit) (more : List
     All (λ earlier. packet_refusal video earlier.bytes ≡ None) front → fault_before video more packet ≡ Some found → fault ≡ of_pes packet.at found → BadFrom video (front ++ packet ∷ more) fault
 bad_from video [] packet more fault found sound is e = inl (found, is, e)
 bad_from video (x ∷ xs) packet more fault found sound is e =
-    inr (behind_others video x packet xs more ∙ sound 0 x (omega arith), bad_from video xs packet more fault found (All-tail (λ (earlier : PesUnit). packet_refusal video earlier.bytes ≡ None) x xs sound) is e)
+    let rest : All (λ earlier. packet_refusal video earlier.bytes ≡ None) xs = All-tail (λ (earlier : PesUnit). packet_refusal video earlier.bytes ≡ None) x xs sound in
+    inr (behind_others video x packet xs more ∙ sound 0 x (omega arith), bad_from video xs packet more fault found rest is e)
 
 packet_fault_from : (video : Bool) (packets : List PesUnit) (fault : ProgramFault) → IsPacketFault video packets fault → BadFrom video packets fault
 packet_fault_from video packets fault is =
@@ -167,7 +168,8 @@ refused_or_has : (first : ℤ) (stream : AudioStream) (fault : ProgramFault) (fs
 refused_or_has first stream fault fs some (bad_packet is) has = sound_or_fault false stream.units fault has.sound is
 refused_or_has first stream fault fs some (bad_frames starts found sound are is e) has =
     let same : starts ≡ has.starts = starts_one first (placed_from 0 (taken_of stream)) starts has.starts are has.starts_are in
-    refused_or_frames (joined (taken_of stream)) has.starts found fs (known fault found some e) (subst (λ (ss : List PesStart). IsAudioRefused (joined (taken_of stream)) ss found) same is) has.frames_are
+    let refused : IsAudioRefused (joined (taken_of stream)) has.starts found = subst (λ (ss : List PesStart). IsAudioRefused (joined (taken_of stream)) ss found) same is in
+    refused_or_frames (joined (taken_of stream)) has.starts found fs (known fault found some e) refused has.frames_are
 
 stream_refused_one : (first : ℤ) (stream : AudioStream) (a b : ProgramFault) → a ≢ OutOfMemory → b ≢ OutOfMemory → IsStreamRefused first stream a → IsStreamRefused first stream b → a ≡ b
 stream_refused_one first stream a b some some' (bad_packet is) (bad_packet is') = packet_fault_one false stream.units a b is is'

@@ -353,7 +353,8 @@ nothing_kept : (demuxed : Demuxed) (units : Units) (kept : List (ℕ × ℕ)) (p
     AreKept (video_bytes demuxed) (video_packets demuxed) units.cuts kept pictures dropped → HasNoSequence demuxed
 nothing_kept demuxed units kept pictures dropped has none no_pictures (all same in_order none_dropped) = absurd (some_cut (video_bytes demuxed) units has.units_are (same ∙ none))
 nothing_kept demuxed units kept pictures dropped has none no_pictures (but_last last refusal at split in_order broken one) =
-    (has.sound, inr (units, last, refusal, at, has.units_are, split ∙ ap (λ (us : List (ℕ × ℕ)). us ++ last ∷ []) none, subst (λ (ps : List TimedPicture). IsBroken (video_bytes demuxed) (last_of ps) last refusal at) no_pictures broken))
+    let first : IsBroken (video_bytes demuxed) None last refusal at = subst (λ (ps : List TimedPicture). IsBroken (video_bytes demuxed) (last_of ps) last refusal at) no_pictures broken in
+    (has.sound, inr (units, last, refusal, at, has.units_are, split ∙ ap (λ (us : List (ℕ × ℕ)). us ++ last ∷ []) none, first))
 
 pub video_empty : (demuxed : Demuxed) (held : TakenPackets) (units : Units) (kept : KeptUnits) → AreTaken true demuxed.video held → cut_units held.payload.items ≡ Some units →
     AreUnitsKept held.payload.items held.packets.items units.cuts kept → kept.first ≡ None → IsDemuxedRefused demuxed (Refused kinds.NoSequence 0)
@@ -367,7 +368,8 @@ video_empty demuxed held units kept are units_are is none =
 pub no_header : (demuxed : Demuxed) (held : TakenPackets) (payload : List ℕ) → AreTaken true demuxed.video held → payload ≡ held.payload.items → first_sequence payload ≡ None →
     IsDemuxedRefused demuxed (Refused kinds.NoSequence 0)
 no_header demuxed held payload are payload_is none =
-    IsDemuxedRefused.no_sequence (are.sound, inl (by_first (video_bytes demuxed) (first_sequence (video_bytes demuxed)) (ap first_sequence (sym are.holds.payload) ∙ ap first_sequence (sym payload_is) ∙ none))) refl
+    let nowhere : first_sequence (video_bytes demuxed) ≡ None = ap first_sequence (sym are.holds.payload) ∙ ap first_sequence (sym payload_is) ∙ none in
+    IsDemuxedRefused.no_sequence (are.sound, inl (by_first (video_bytes demuxed) (first_sequence (video_bytes demuxed)) nowhere)) refl
   where
     by_first : (es : List ℕ) (first : Option ℕ) → first ≡ None →
         option_map (λ first. let u : Units = record { dropped = min (cuts_up_to es first) (2 ^ 32 - 1); cuts = spans first (cuts_behind es first) (length es) } in u) first ≡ None
