@@ -3,3 +3,7 @@ mod NextLemmas
 mod Forms
 mod ReadLemmas
 mod ProbeLemmas
+mod LawLemmas
+mod FirstLemmas
+mod MissingLemmas
+mod ProbeLaws

@@ -1,5 +1,5 @@
 -- The files of a job's programs on a shelf, where it tells them.
-use Rattle.std.specs.Prelude.{◌≡◌, ◌⊎◌, ℕ, ◌+◌, ◌≤◌, max, List, [], ◌∷◌, ◌++◌, length, map, Contains, Option, Some, IfSome}
+use Rattle.std.specs.Prelude.{◌≡◌, ◌⊎◌, ℕ, ◌+◌, ◌≤◌, max, List, [], ◌∷◌, ◌++◌, length, map, Contains, Option, None, Some, IfSome}
 use Rattle.std.specs.FinMap.{get}
 use Rattle.shelf_io.specs.Files.{Files, Lacks}
 use Rattle.shelf_io.specs.Counts.{Rose, ShelfCounts}
@@ -49,6 +49,12 @@ pub record StopsAt (told : Option Files) (job : Job) (number : ℕ) (stopped : P
   pub held : IfSome told (λ files. HoldContents files before contents)
   pub programs : List Program
   pub programs_are : AreNextPrograms job.slot job.start [] [] before contents programs
+
+-- the file of the program of this number isn't held: those before it hold programs
+pub record IsMissingOn (files : Files) (job : Job) (number : ℕ) : Type 0 where
+  pub stopped : ProgramJob
+  pub stops : StopsAt (Some files) job number stopped
+  pub lacks : get files stopped.file ≡ None
 
 -- Why the programs of a job weren't read: the first refusal; a read that failed, where the count of faults rose, or a file that
 -- isn't held, where the count of absences rose, and no call followed; or want of memory.

@@ -4,6 +4,7 @@
 //! programs of a job share. `read_one` does the same with one file alone. Stands on `program_reader`, `job_report` and `shelf_io`.
 #![tactic(auto)]
 
+pub mod laws;
 mod next;
 mod probe;
 mod read;
