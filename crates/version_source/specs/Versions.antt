@@ -1,8 +1,9 @@
 -- All versions of the units of programs.
-use Rattle.std.specs.Prelude.{ℕ, List, [], ◌∷◌, Option, Some, None}
+use Rattle.std.specs.Prelude.{◌≡◌, ℕ, ◌≤◌, List, [], ◌∷◌, ◌++◌, length, map, All, Option, Some, None}
 use Rattle.std.specs.Option.{option_map_or}
 use Rattle.std.specs.List.{slice_get}
 use Rattle.syntax_types.specs.declared.picture.SeqState.{SeqState}
+use Rattle.job_report.specs.declared.job.ProgramJob.{ProgramJob}
 use Rattle.program_reader.specs.declared.program.Program.{Program}
 use Rattle.program_reader.specs.declared.program.UnitSource.{UnitSource}
 use Rattle.version_maker.specs.declared.version.UnitVersion.{UnitVersion}
@@ -27,3 +28,14 @@ AreAllVersions programs ratios versions = ⊥
 -- the bytes of the version of this number; where there is none, none
 abbrev pub chosen_bytes : List UnitVersion → (index : ℕ) → List ℕ
 chosen_bytes versions index = option_map_or (λ version. version.bytes) (slice_get versions index) []
+
+-- how coarse the versions of each program are, as a job says
+abbrev pub ratios_of : List ProgramJob → List (List ℕ)
+ratios_of jobs = map (λ job. job.coarser.items) jobs
+
+-- a choice names a version of each unit of the programs, in order: the unit itself, or one at a ratio
+abbrev pub NamesVersions : List Program → (ratios : List (List ℕ)) → (choice : List ℕ) → Type 0
+NamesVersions [] [] choice = choice ≡ []
+NamesVersions (program ∷ programs) (coarser ∷ ratios) choice =
+    (own rest : List ℕ) × (choice ≡ own ++ rest) × (length own ≡ length program.units) × All (λ index. index ≤ length coarser) own × NamesVersions programs ratios rest
+NamesVersions programs ratios choice = ⊥

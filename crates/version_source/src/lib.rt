@@ -1,8 +1,8 @@
 //! What programs in chosen versions send: the pieces of their streams, as definitions, and what a source of them is made of.
 //!
 //! Each coded picture goes out as a PES packet in the version that a choice names, in pieces of 184 bytes; audio packets go out as
-//! they stand. `laws` says that programs have versions, and that the pieces are those that the slot rule queues. Stands on
-//! `mux_writer`, `program_reader`, `version_maker` and `pes_units`.
+//! they stand. `laws` says that programs that were read can be sent, that programs have versions, and that the pieces are those
+//! that the slot rule queues. Stands on `mux_writer`, `program_reader`, `version_maker` and `pes_units`.
 #![tactic(auto)]
 
 pub mod laws;

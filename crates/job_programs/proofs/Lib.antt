@@ -1,0 +1,5 @@
+mod Asks
+mod NextLemmas
+mod Forms
+mod ReadLemmas
+mod ProbeLemmas

@@ -1,0 +1,9 @@
+//! The output stream of a job: its programs in the versions that a plan chose, in the slots of their schedule.
+//!
+//! `write_job_stream` writes it to a sink. Versions are made as they are sent. Stands on `mux_writer`, `version_source` and
+//! `program_table`.
+#![tactic(auto)]
+
+mod write;
+
+pub use write::write_job_stream;
