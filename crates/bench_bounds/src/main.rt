@@ -104,7 +104,7 @@ fn single(alloc: Global, table: &Table) -> Result<Came, OutOfMemory>
     requires { IsValidTable table.now }
 {
     let fixed = nothing_fixed(alloc, table)?;
-    let found = best_single(table, &fixed)?;
+    let found = best_single(alloc, table, &fixed)?;
     Ok(Came {
         value: dual_value(table, &fixed, found.as_slice()),
         windows: found.len(),
@@ -116,7 +116,7 @@ fn turned(alloc: Global, table: &Table) -> Result<Came, OutOfMemory>
     requires { IsValidTable table.now }
 {
     let fixed = nothing_fixed(alloc, table)?;
-    let start = best_single(table, &fixed)?;
+    let start = best_single(alloc, table, &fixed)?;
     let found = improve(alloc, table, &fixed, &start, TURNS)?;
     Ok(Came {
         value: dual_value(table, &fixed, found.as_slice()),

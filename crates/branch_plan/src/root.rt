@@ -52,7 +52,7 @@ fn best_pair(alloc: Global, table: &Table, fixed: &Fixed) -> Result<Windows, Out
     ensures few { IfOk result (λ found. length found.items ≤ FEW_WINDOWS_MOST) }
     ensures pairs { IfOk result (λ found. BeatEachPair table.now fixed.now found.items) }
 {
-    let first = best_single(table, fixed)?;
+    let first = best_single(alloc, table, fixed)?;
     let pair = improve(alloc, table, fixed, &first, 1)?;
     Ok(windows_of(pair.as_slice()))
 }

@@ -1,2 +1,4 @@
 pub mod Programs
+pub mod Probe
 pub mod Told
+pub mod Private

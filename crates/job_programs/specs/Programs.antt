@@ -1,4 +1,4 @@
--- The programs of a job, read from the contents of their files one after the other, and the first refusal among them.
+-- The programs of a job, read from the contents of their files one after the other, and the first refusal among them (this project's).
 use Rattle.std.specs.Prelude.{◌≡◌, ℕ, ◌+◌, ◌*◌, ◌<◌, ◌≤◌, List, [], ◌∷◌, ◌++◌, length, All}
 use Rattle.std.specs.List.{sum_by}
 use Rattle.job_report.specs.declared.job.Job.{Job}
@@ -73,7 +73,8 @@ AreNextPrograms slot start contents programs jobs further more = ⊥
 abbrev pub ArePrograms : Job → (contents : List (List ℕ)) → List Program → Type 0
 ArePrograms job contents programs = AreNextPrograms job.slot job.start [] [] job.programs contents programs
 
--- The first program of a job that is refused: the files before it hold programs. `contents` are those of the files up to its own.
+-- The first program of a job that is refused: the files before it hold programs. `contents` are those of the files up to its own,
+-- and of any behind it.
 pub record IsFirstRefused (job : Job) (contents : List (List ℕ)) (fault : SourceFault) : Type 0 where
   pub before : List ProgramJob
   pub refused : ProgramJob
@@ -81,7 +82,8 @@ pub record IsFirstRefused (job : Job) (contents : List (List ℕ)) (fault : Sour
   pub split : job.programs ≡ before ++ refused ∷ after
   pub read : List (List ℕ)
   pub content : List ℕ
-  pub contents_are : contents ≡ read ++ content ∷ []
+  pub further : List (List ℕ)
+  pub contents_are : contents ≡ read ++ content ∷ further
   pub programs : List Program
   pub programs_are : AreNextPrograms job.slot job.start [] [] before read programs
   pub number : fault.program ≡ length before

@@ -1,5 +1,5 @@
 -- The files of a job's programs on a shelf, where it tells them.
-use Rattle.std.specs.Prelude.{◌≡◌, ◌⊎◌, ℕ, ◌+◌, ◌≤◌, max, List, [], ◌∷◌, ◌++◌, length, map, Contains, Option, Some, IfSome}
+use Rattle.std.specs.Prelude.{◌≡◌, ◌⊎◌, ℕ, ◌+◌, ◌≤◌, max, List, [], ◌∷◌, ◌++◌, length, map, Contains, Option, None, Some, IfSome}
 use Rattle.std.specs.FinMap.{get}
 use Rattle.shelf_io.specs.Files.{Files, Lacks}
 use Rattle.shelf_io.specs.Counts.{Rose, ShelfCounts}
@@ -10,13 +10,22 @@ use Rattle.program_reader.specs.declared.program.Program.{Program}
 use Rattle.job_programs.specs.declared.source_fault.SourceFault.{SourceFault}
 use Rattle.job_programs.specs.declared.source_fault.ProgramsFault.{ProgramsFault}
 use Rattle.job_programs.specs.declared.source_fault.ProgramsFault.TheVariants.{Refused, Failed, Missing, OutOfMemory}
+use Rattle.job_programs.specs.Probe.{IsProbed, IsProbeRefused}
 use Rattle.job_programs.specs.Programs.{AreNextPrograms, ArePrograms, IsFirstRefused}
+
+-- ---- contents
+
+-- a file holds this content, where files are told
+abbrev pub HoldsContent : Option Files → (name content : List ℕ) → Type 0
+HoldsContent told name content = IfSome told (λ files. get files name ≡ Some content)
 
 -- the files of the first programs hold these contents, as many as there are
 abbrev pub HoldContents : Files → List ProgramJob → (contents : List (List ℕ)) → Type 0
 HoldContents files jobs [] = Unit {0}
 HoldContents files [] (content ∷ contents) = ⊥
 HoldContents files (job ∷ jobs) (content ∷ contents) = (get files job.file ≡ Some content) × HoldContents files jobs contents
+
+-- ---- the programs of a job
 
 -- the programs of a job, by the contents of their files, which the shelf holds where it tells them
 pub record AreProgramsOn (told : Option Files) (job : Job) (programs : List Program) : Type 0 where
@@ -41,6 +50,12 @@ pub record StopsAt (told : Option Files) (job : Job) (number : ℕ) (stopped : P
   pub programs : List Program
   pub programs_are : AreNextPrograms job.slot job.start [] [] before contents programs
 
+-- the file of the program of this number isn't held: those before it hold programs
+pub record IsMissingOn (files : Files) (job : Job) (number : ℕ) : Type 0 where
+  pub stopped : ProgramJob
+  pub stops : StopsAt (Some files) job number stopped
+  pub lacks : get files stopped.file ≡ None
+
 -- Why the programs of a job weren't read: the first refusal; a read that failed, where the count of faults rose, or a file that
 -- isn't held, where the count of absences rose, and no call followed; or want of memory.
 abbrev pub HasReadCause : Option Files → Job → (old new : ShelfCounts) → (since_fault : ℕ) → ProgramsFault → Type 0
@@ -50,6 +65,31 @@ HasReadCause told job old new since_fault (Failed number) =
 HasReadCause told job old new since_fault (Missing number) =
     (stopped : ProgramJob) × StopsAt told job number stopped × Lacks told stopped.file × Rose old.absences new.absences × (since_fault ≡ 0)
 HasReadCause told job old new since_fault OutOfMemory = Unit {0}
+
+-- ---- a file that is probed
+
+-- the program of a file that is probed, by its content, which the shelf holds where it tells it
+pub record IsProbedOn (told : Option Files) (name : List ℕ) (slot start number : ℕ) (drop : List ℕ) (program : Program) : Type 0 where
+  pub content : List ℕ
+  pub held : HoldsContent told name content
+  pub probed : IsProbed slot start number drop content program
+
+-- the refusal of a file that is probed, as that of the first program of a job
+pub record IsProbeRefusedOn (told : Option Files) (name : List ℕ) (slot start number : ℕ) (drop : List ℕ) (fault : SourceFault) : Type 0 where
+  pub first : fault.program ≡ 0
+  pub content : List ℕ
+  pub held : HoldsContent told name content
+  pub refused : IsProbeRefused slot start number drop content fault.kind fault.at
+
+-- why a file that is probed has no program: by the same causes
+abbrev pub HasProbeCause : Option Files → (name : List ℕ) → (slot start number : ℕ) → (drop : List ℕ) → (old new : ShelfCounts) → (since_fault : ℕ) → ProgramsFault → Type 0
+HasProbeCause told name slot start number drop old new since_fault (Refused fault) = IsProbeRefusedOn told name slot start number drop fault
+HasProbeCause told name slot start number drop old new since_fault (Failed place) = (place ≡ 0) × Rose old.faults new.faults × (since_fault ≡ 0)
+HasProbeCause told name slot start number drop old new since_fault (Missing place) =
+    (place ≡ 0) × Lacks told name × Rose old.absences new.absences × (since_fault ≡ 0)
+HasProbeCause told name slot start number drop old new since_fault OutOfMemory = Unit {0}
+
+-- ---- what is asked
 
 -- no file but those of the programs was asked for bytes, and none of them for one behind the byte past the limit
 abbrev pub AsksForPrograms : List ProgramJob → (old new : List ℕ → ℕ) → Type 0

@@ -1,3 +1,4 @@
+use list_types::OutOfMemory;
 use program_reader::SourceKind;
 
 /// Why a program of a job is refused: the first of what refuses it in the order of reading.
@@ -21,4 +22,15 @@ pub enum ProgramsFault {
     Missing(u8),
     /// Memory was wanted and not there.
     OutOfMemory,
+}
+
+impl From<OutOfMemory> for ProgramsFault {
+    ghost use Rattle.std.specs.Prelude.{◌≡◌};
+    ghost use Rattle.job_programs.specs.declared.source_fault.ProgramsFault.TheVariants as faults;
+
+    ghost from_gives = { λ _ fault. fault ≡ faults.OutOfMemory };
+
+    fn from(_e: OutOfMemory) -> ProgramsFault {
+        ProgramsFault::OutOfMemory
+    }
 }

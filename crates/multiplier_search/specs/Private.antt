@@ -1,2 +1,3 @@
 pub mod Lambda
+pub mod UnitSteps
 pub mod Turns

@@ -1,8 +1,10 @@
 //! The search for multipliers that bound the distortion of scheduled choices from below.
 //!
-//! Stands on `dual_bounds`.
+//! Stands on `dual_bounds`, and on `cost_steps` and `cost_sweep` for its speed.
 #![tactic(auto)]
 
+mod all_steps;
+mod at_due;
 mod changes;
 pub mod constants;
 mod lambda;

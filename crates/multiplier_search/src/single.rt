@@ -1,93 +1,83 @@
-ghost use Rattle.std.specs.Prelude.{◌≡◌, ◌++◌, ◌≤◌, List, ℕ, [], ◌∷◌, IfOk, IfSome, IsTrue, ◌↔◌};
+ghost use Rattle.std.specs.Prelude.{◌≡◌, ◌++◌, ◌≤◌, List, Option, ℕ, [], ◌∷◌, IfOk, IsTrue, ◌↔◌, MatchOption};
+ghost use Rattle.version_table.specs.declared.table.Table.{Table as TableOfUnits};
 ghost use Rattle.version_table.specs.Table.{IsValidTable};
-ghost use Rattle.dual_bounds.specs.declared.constants.TheConstants.{LAMBDA_MOST};
 ghost use Rattle.dual_bounds.specs.Fixed.{FixesVersions};
-ghost use Rattle.multiplier_search.specs.Private.Lambda.{BetterOf, GoesFirst, IsBestOf};
-ghost use Rattle.multiplier_search.specs.Single.{IsBestSingle, IsFirstBest, dues_of, value_alone};
+ghost use Rattle.cost_sweep.specs.Sweep.{HasReached, IsSweep};
+ghost use Rattle.multiplier_search.specs.Private.Lambda.{GoesFirst};
+ghost use Rattle.multiplier_search.specs.Private.UnitSteps.{AreStepsOf, IsBestValued, IsBetterValued};
+ghost use Rattle.multiplier_search.specs.Single.{IsBestSingle};
 
-use crate::lambda::best_lambda;
-use dual_bounds::{Fixed, Multiplier, Multipliers, Window, dual_value};
+use crate::all_steps::sweep_of;
+use crate::at_due::{swept_lambda, swept_value};
+use cost_sweep::CostSweep;
+use dual_bounds::{Fixed, Multiplier, Multipliers, window_capacity};
 use list_types::OutOfMemory;
-use version_table::{Table, Unit};
+use std::alloc::Global;
+use version_table::Table;
+
+/// A multiplier and its value alone.
+#[derive(Clone, Copy, Debug, Default, PartialEq)]
+struct Valued {
+    multiplier: Multiplier,
+    value: i128,
+}
 
 /// The first best multiplier alone: of all at a unit's due time with a lambda from 0 to 2^40 it has the greatest value,
 /// then the least due time, then the least lambda. Empty where there is no unit. Fails only for want of memory.
-pub fn best_single(table: &Table, fixed: &Fixed) -> Result<Multipliers, OutOfMemory>
+pub fn best_single(alloc: Global, table: &Table, fixed: &Fixed) -> Result<Multipliers, OutOfMemory>
     requires valid { IsValidTable table.now }
     requires fixed { FixesVersions table.now fixed.now }
     ensures { IfOk result (λ found. IsBestSingle table.now fixed.now found.items) }
 {
+    let mut sweep = sweep_of(alloc, table, fixed)?;
     let mut best = None;
-    for program in table.programs.as_slice() {
-        let own = best_of_units(table, fixed, program.units.as_slice());
-        best = first_of(table, fixed, best, own);
+    'dues: loop {
+        match sweep.next_due() {
+            Some(due) => best = Some(first_of(best, best_at(table, &sweep, due))),
+            None => return Ok(found_of(best)),
+        }
     }
-    let mut found = Multipliers::new();
-    if let Some(multiplier) = best {
-        found.push(multiplier);
-    }
-    Ok(found)
 }
 
-/// The first best multiplier at the due times of these units.
-fn best_of_units(table: &Table, fixed: &Fixed, units: &[Unit]) -> Option<Multiplier>
-    requires valid { IsValidTable table.now }
-    requires fixed { FixesVersions table.now fixed.now }
-    ensures lambda { IfSome result (λ multiplier. multiplier.lambda ≤ LAMBDA_MOST) }
-    ensures best { IsBestOf table.now fixed.now (dues_of units.now) result }
+/// The multiplier that was found, if any.
+fn found_of(best: Option<Valued>) -> Multipliers
+    ensures { MatchOption best (result.items ≡ []) (λ valued. result.items ≡ valued.multiplier ∷ []) }
 {
-    let mut best = None;
-    for unit in units {
-        best = first_of(table, fixed, best, Some(best_at(table, fixed, unit.due)));
+    match best {
+        Some(valued) => only(valued.multiplier),
+        None => Multipliers::new(),
     }
-    best
+}
+
+/// One multiplier.
+fn only(multiplier: Multiplier) -> Multipliers
+    ensures { result.items ≡ multiplier ∷ [] }
+{
+    let mut found = Multipliers::new();
+    found.push(multiplier);
+    found
 }
 
 /// The first best of two that are the first best each of its due times.
-fn first_of(
-    table: &Table,
-    fixed: &Fixed,
-    a: Option<Multiplier>,
-    b: Option<Multiplier>,
-) -> Option<Multiplier>
-    requires valid { IsValidTable table.now }
-    requires fixed { FixesVersions table.now fixed.now }
-    requires first { IfSome a (λ multiplier. multiplier.lambda ≤ LAMBDA_MOST) }
-    requires second { IfSome b (λ multiplier. multiplier.lambda ≤ LAMBDA_MOST) }
-    ensures lambda { IfSome result (λ multiplier. multiplier.lambda ≤ LAMBDA_MOST) }
-    ensures best { (dues more : List ℕ) → IsBestOf table.now fixed.now dues a → IsBestOf table.now fixed.now more b
-        → IsBestOf table.now fixed.now (dues ++ more) result }
+fn first_of(a: Option<Valued>, b: Valued) -> Valued
+    ensures { (table : TableOfUnits) (fixed : List (Option ℕ)) (dues more : List ℕ) → IsBestValued table fixed dues a
+        → IsBestValued table fixed more (Some b) → IsBestValued table fixed (dues ++ more) (Some result) }
 {
-    let Some(first) = a else { return b };
-    let Some(second) = b else { return a };
-    Some(better_of(table, fixed, first, second))
+    match a {
+        Some(first) => better_of(first, b),
+        None => b,
+    }
 }
 
 /// The one of two multipliers that is no worse.
-fn better_of(table: &Table, fixed: &Fixed, a: Multiplier, b: Multiplier) -> Multiplier
-    requires valid { IsValidTable table.now }
-    requires fixed { FixesVersions table.now fixed.now }
-    requires first { a.lambda ≤ LAMBDA_MOST }
-    requires second { b.lambda ≤ LAMBDA_MOST }
-    ensures { BetterOf table.now fixed.now a b result }
+fn better_of(a: Valued, b: Valued) -> Valued
+    ensures { IsBetterValued a b result }
 {
-    let value = value_alone(table, fixed, a);
-    let other = value_alone(table, fixed, b);
-    if value < other || (value == other && goes_before(b, a)) {
+    if a.value < b.value || (a.value == b.value && goes_before(b.multiplier, a.multiplier)) {
         b
     } else {
         a
     }
-}
-
-/// The value of a multiplier alone.
-fn value_alone(table: &Table, fixed: &Fixed, multiplier: Multiplier) -> i128
-    requires valid { IsValidTable table.now }
-    requires fixed { FixesVersions table.now fixed.now }
-    requires lambda { multiplier.lambda ≤ LAMBDA_MOST }
-    ensures { result ≡ value_alone table.now fixed.now multiplier }
-{
-    dual_value(table, fixed, &[multiplier])
 }
 
 /// Whether a multiplier is due earlier than another, or at the same time with a lesser lambda.
@@ -97,20 +87,17 @@ fn goes_before(a: Multiplier, b: Multiplier) -> bool
     a.due < b.due || (a.due == b.due && a.lambda < b.lambda)
 }
 
-/// The first best multiplier at a due time.
-fn best_at(table: &Table, fixed: &Fixed, due: u64) -> Multiplier
+/// The first best multiplier at the last due time of a sweep, and its value.
+fn best_at(table: &Table, sweep: &CostSweep, due: u64) -> Valued
     requires valid { IsValidTable table.now }
-    requires fixed { FixesVersions table.now fixed.now }
-    ensures lambda { result.lambda ≤ LAMBDA_MOST }
-    ensures best { IsFirstBest table.now fixed.now (due ∷ []) result }
+    requires sweep { IsSweep sweep.now }
+    ensures { (fixed : List (Option ℕ)) → AreStepsOf table.now fixed sweep.now.steps.items → HasReached due sweep.now
+        → IsBestValued table.now fixed (due ∷ []) (Some result) }
 {
-    let alone = Window {
-        from: 0,
-        due,
-        lambda: 0,
-    };
-    Multiplier {
-        due,
-        lambda: best_lambda(table, fixed, &[alone], 0, 0, due),
+    let capacity = window_capacity(table, 0, due);
+    let lambda = swept_lambda(sweep, capacity);
+    Valued {
+        multiplier: Multiplier { due, lambda },
+        value: swept_value(sweep, capacity, lambda),
     }
 }

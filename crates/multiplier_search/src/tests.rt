@@ -14,7 +14,7 @@ fn assert_best(
 ) -> Result<(), Fail> {
     let table = read_table(alloc, text)?;
     let fixed = nothing_fixed(alloc, &table)?;
-    let found = best_single(&table, &fixed)?;
+    let found = best_single(alloc, &table, &fixed)?;
     assert_eq!(rt; found.as_slice().first().copied(), best);
     Ok(())
 }
@@ -79,7 +79,7 @@ fn a_turn_adds_the_second_multiplier_of_three_units(rt: HostRuntime) -> Result<(
         b"remux table 1\nslot 4000\nnodes 1\nevaluations 0\nprogram 112\nunit 27200 552:0 368:10\nunit 43200 552:0 368:4\nunit 47200 552:0 368:4\n";
     let table = read_table(rt.alloc(), text)?;
     let fixed = nothing_fixed(rt.alloc(), &table)?;
-    let start = best_single(&table, &fixed)?;
+    let start = best_single(rt.alloc(), &table, &fixed)?;
     let found = improve(rt.alloc(), &table, &fixed, &start, 1)?;
     let first = Multiplier {
         due: 27_200,

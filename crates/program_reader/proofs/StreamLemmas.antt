@@ -42,7 +42,8 @@ use Rattle.std.proofs.lemmas.List.Sums.{sum_by-cons}
 use Rattle.std.proofs.lemmas.List.Elements.{All-cons, All-tail, All-nil}
 use Rattle.audio_frames.specs.declared.pes_start.PesStart.{PesStart}
 use Rattle.audio_frames.specs.declared.audio_fault.AudioFault.{AudioFault}
-use Rattle.audio_frames.specs.Times.{AreStarts, IsAudioRefused}
+use Rattle.audio_frames.specs.declared.frame.Frame.{Frame}
+use Rattle.audio_frames.specs.Times.{AreStarts, AreFramesOf, IsAudioRefused}
 use Rattle.pes_units.specs.declared.pes_fault.PesFault.{PesFault}
 use Rattle.pes_units.specs.declared.pes_fault.PesFault.TheVariants.{BadLength}
 use Rattle.pes_units.specs.PesHeader.{header_length, refusal}
@@ -56,8 +57,9 @@ use Rattle.program_reader.specs.declared.program_fault.ProgramFault.{ProgramFaul
 use Rattle.program_reader.specs.Faults.{of_audio}
 use Rattle.program_reader.specs.Packets.{AreSound, taken, payload_of, joined, placed_from, decoding_time}
 use Rattle.program_reader.specs.Audio.{AreStartsOf, IsStreamRefused}
-use Rattle.program_reader.specs.Private.AudioStarts.{IsNear, AreNear}
+use Rattle.program_reader.specs.Private.AudioStarts.{IsNear, AreNear, IsStreamRead}
 use Rattle.program_reader.specs.Private.TakenPackets.{AreTaken}
+use Rattle.program_reader.proofs.FrameTimes.{frames_near}
 use Rattle.program_reader.proofs.StartLemmas.{near_low, near_high}
 use Rattle.program_reader.proofs.TimeRange.{IsInRange, decoding_in_range}
 
@@ -212,3 +214,22 @@ frames_refused first stream packets held placed payload starts given found fault
     let payload_all : payload ≡ joined (taken false stream.units) = payload_is ∙ are.holds.payload ∙ ap joined taken_is in
     IsStreamRefused.bad_frames starts found (subst (AreSound false) packets_are are.sound) (subst (λ (xs : List PlacedPacket). AreStartsOf first xs starts) placed_all starts_are)
     (subst (λ (xs : List ℕ). IsAudioRefused xs starts found) payload_all (subst (λ (xs : List PesStart). IsAudioRefused payload xs found) same refused)) fault_is
+
+pub stream_read : (first : ℤ) (stream : AudioStream) (packets : List PesUnit) (held : TakenPackets) (placed : List PlacedPacket) (payload : List ℕ) (starts given : List PesStart)
+    (frames : List Frame) → packets ≡ stream.units → AreTaken false packets held → placed ≡ held.packets.items → payload ≡ held.payload.items → given ≡ starts →
+    AreStartsOf first placed starts → AreNear 2855696 starts → AreFramesOf payload given frames → length payload < 1073741824 →
+    IsStreamRead first stream (record { taken = held; frames = frames })
+stream_read first stream packets held placed payload starts given frames packets_are are placed_is payload_is same starts_are near frames_are small =
+    let taken_is : taken false packets ≡ taken false stream.units = ap (taken false) packets_are in
+    let placed_all : placed ≡ placed_from 0 (taken false stream.units) = placed_is ∙ are.holds.placed ∙ ap (placed_from 0) taken_is in
+    let payload_all : payload ≡ joined (taken false stream.units) = payload_is ∙ are.holds.payload ∙ ap joined taken_is in
+    let of_starts : AreFramesOf payload starts frames = subst (λ (xs : List PesStart). AreFramesOf payload xs frames) same frames_are in record {
+      taken_are = subst (λ (ps : List PesUnit). AreTaken false ps held) packets_are are;
+      frames_are = record {
+        sound = subst (AreSound false) packets_are are.sound;
+        starts = starts;
+        starts_are = subst (λ (xs : List PlacedPacket). AreStartsOf first xs starts) placed_all starts_are;
+        frames_are = subst (λ (xs : List ℕ). AreFramesOf xs starts frames) payload_all of_starts;
+      };
+      ticks = frames_near payload starts frames of_starts near small;
+    }

@@ -1,9 +1,11 @@
 //! When the units and audio packets of a program are due.
-ghost use Rattle.std.specs.Prelude.{◌<◌, ◌^◌, ◌∷◌, [], map, All, IfOk};
+ghost use Rattle.std.specs.Prelude.{◌≡◌, ◌<◌, ◌^◌, ◌∷◌, [], map, All, IfOk};
 ghost use Rattle.program_reader.specs.Audio.{IsDue};
 ghost use Rattle.program_reader.specs.Programs.{IsBase};
 ghost use Rattle.program_reader.specs.Private.Dues.{IsTime, IsTimeFrom, Lowers, IsDueUnit, AreDueUnits};
+ghost use Rattle.program_reader.specs.Private.Sources.{frame_times};
 
+use crate::audio_stream::ReadStream;
 use crate::kept_units::KeptUnit;
 use crate::program::UnitSource;
 use audio_frames::Frame;
@@ -102,6 +104,28 @@ impl EarliestTime {
             earliest = earliest.of_frame(frame);
         }
         earliest
+    }
+
+    /// The earliest of this time and those of the frames of streams.
+    pub fn of_streams(self, streams: &[ReadStream]) -> EarliestTime
+        ensures { Lowers (frame_times streams.now) self.ticks result.ticks }
+    {
+        let mut earliest = self;
+        for stream in streams {
+            earliest = earliest.of_frames(stream.frames.as_slice());
+        }
+        earliest
+    }
+
+    /// The clock by which this time is due at `start`.
+    pub fn clock(self, start: u64) -> DueClock
+        ensures start { result.start ≡ start }
+        ensures earliest { result.earliest ≡ self.ticks }
+    {
+        DueClock {
+            earliest: self.ticks,
+            start,
+        }
     }
 
     /// The earlier of this time and that of a unit.

@@ -1,15 +1,19 @@
 //! A program of a transport stream is read: its video units and audio packets with the times at which a decoder wants them.
 //!
-//! `read_program` answers a program, or the first refusal of its file with its place. Its steps stand in a file each.
+//! `read_program` answers a program, or the first refusal of its file with its place: one answer alone, by `laws::one_answer`. Its
+//! steps stand in a file each.
 //! Stands on `ts_demux`, `pes_units`, `es_units`, `audio_frames`, `picture_reader`, `job_report` and those below them.
 #![tactic(auto)]
 
+mod audio_sources;
 mod audio_starts;
 mod audio_stream;
 mod cut_places;
 mod due;
+mod due_program;
 mod frame_walk;
 mod kept_units;
+pub mod laws;
 pub mod limits;
 mod packet_bytes;
 mod pes_packets;
@@ -18,14 +22,15 @@ mod picture_times;
 mod pieces;
 mod program;
 mod program_fault;
-mod read;
+mod reading;
 mod stamp_walk;
 mod stream_sizes;
 mod timed_picture;
 mod unit_picture;
+mod video_stream;
 
 pub use pes_packets::PlacedPacket;
 pub use program::{AudioPiece, AudioSource, Program, UnitSource};
 pub use program_fault::{ProgramFault, SourceKind};
-pub use read::read_program;
+pub use reading::read_program;
 pub use timed_picture::{Role, TimedPicture};

@@ -3,6 +3,8 @@ use Rattle.std.proofs.Common.{◌≡◌, ℕ, ◌+◌, ◌≤◌, List, length, 
 use Rattle.std.proofs.lemmas.List.{length-take, take_all}
 use Rattle.std.specs.Option.{IsSomeAnd}
 use Rattle.std.specs.FinMap.{get}
+use Rattle.bound_certificate.specs.declared.cert.Cert.{Cert}
+use Rattle.bound_certificate.specs.Spelling.{spelling}
 use Rattle.shelf_io.specs.Files.{Files}
 use Rattle.shelf_io.specs.WholeFile.{HoldsPrefix}
 use Rattle.version_table.specs.declared.limits.TheConstants.{TABLE_TEXT_MOST}
@@ -12,7 +14,6 @@ use Rattle.version_table.specs.Text.{IsRead, IsFaultOf, TextReading, Holds, Refu
 use Rattle.remux_core.specs.declared.ended.Ended.{Ended}
 use Rattle.remux_core.specs.declared.status.Status.{Status}
 use Rattle.remux_core.specs.Answer.{Decides, EndsWithStatus, AnswerHasCause, HasCause, Leaves}
-use Rattle.remux_core.specs.Certificate.{Certificate, certificate_bytes}
 use Rattle.remux_core.specs.PlanCommand.{HasPlan}
 use Rattle.remux_core.proofs.Told.{HoldsPart, on_prefix}
 use Rattle.remux_core.specs.Command.{Command, Plan, PlansTable}
@@ -74,15 +75,15 @@ refused_cause command plans old new (Some ended) (faults.TableLimit name) so =
 refused_cause command plans old new (Some ended) faults.OutOfMemory so = absurd so
 
 -- a front of the certificate of a plan is what `plan` may leave
-pub plan_leaves : (table certificate : List ℕ) (plan : Certificate) (files after : Files) → HasPlan files table plan
-    → HoldsPart certificate (certificate_bytes plan) files after → Leaves (Some (Plan table certificate)) files after
+pub plan_leaves : (table certificate : List ℕ) (plan : Cert) (files after : Files) → HasPlan files table plan
+    → HoldsPart certificate (spelling plan) files after → Leaves (Some (Plan table certificate)) files after
 plan_leaves table certificate plan files after has (inl same) = inl same
 plan_leaves table certificate plan files after has (inr (k, few, written)) = inr (plan, has, k, few, written)
 
 -- a call that wrote a front of some bytes, which are those of the certificate of a plan
-pub part_written : (old new : Option Files) (table certificate : List ℕ) (plan : Certificate) (bytes : List ℕ) → bytes ≡ certificate_bytes plan
+pub part_written : (old new : Option Files) (table certificate : List ℕ) (plan : Cert) (bytes : List ℕ) → bytes ≡ spelling plan
     → HoldsPrefix old new certificate bytes → OnFiles old new (λ held after. HasPlan held table plan → Leaves (Some (Plan table certificate)) held after)
 part_written old new table certificate plan bytes is holds =
-    on_prefix old new certificate (certificate_bytes plan) (λ held after. HasPlan held table plan → Leaves (Some (Plan table certificate)) held after)
+    on_prefix old new certificate (spelling plan) (λ held after. HasPlan held table plan → Leaves (Some (Plan table certificate)) held after)
     (subst (λ (b : List ℕ). HoldsPrefix old new certificate b) is holds)
     (λ held after part has. plan_leaves table certificate plan held after has part)

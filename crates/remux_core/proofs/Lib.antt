@@ -4,7 +4,6 @@ mod Decimals
 mod Ending
 mod Examples
 mod Held
-mod LevelChoices
 mod LineStatus
 mod One
 mod Told

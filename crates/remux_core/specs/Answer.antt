@@ -2,12 +2,12 @@
 use Rattle.std.specs.Prelude.{◌≡◌, ℕ, List, Option, Some, None}
 use Rattle.shelf_io.specs.Counts.{Rose}
 use Rattle.shelf_io.specs.Files.{Files, Lacks}
+use Rattle.bound_certificate.specs.declared.cert.Cert.{Cert}
 use Rattle.job_report.specs.Report.{report_line}
 use Rattle.job_report.specs.declared.report.Report.TheVariants as reports
 use Rattle.program_maker.specs.Program.{IsProgram}
 use Rattle.remux_core.specs.declared.status.Status.{Status}
 use Rattle.remux_core.specs.declared.status.Status.TheVariants.{Ok, Usage, JobRefused, Unschedulable, ReadFault, WriteFault, Missing, OutOfMemory}
-use Rattle.remux_core.specs.Certificate.{Certificate}
 use Rattle.remux_core.specs.Command.{Command, Plan, Gen, ReadsFile, WritesFile, PlansTable}
 use Rattle.remux_core.specs.GenCommand.{GenCallsFor, GenDone, GenLeaves}
 use Rattle.remux_core.specs.Outside.{ShelfFacts}
@@ -65,7 +65,7 @@ IsReadFile command name = (limit : ℕ) × ReadsFile command name limit
 
 -- the line of a command whose work was done
 abbrev pub IsDoneLine : Command → (line : List ℕ) → Type 0
-IsDoneLine (Plan table certificate) line = (plan : Certificate) × (line ≡ report_line (plan_report plan))
+IsDoneLine (Plan table certificate) line = (plan : Cert) × (line ≡ report_line (plan_report plan))
 IsDoneLine (Gen seed pictures out) line = (program : List ℕ) × IsProgram seed pictures program × (line ≡ report_line (gen_report program pictures))
 
 -- Why a command ends with this status and line, whether the shelf tells its files or not. A fault of the outside comes only

@@ -1,5 +1,4 @@
 pub mod Answer
-pub mod Certificate
 pub mod Command
 pub mod GenCommand
 pub mod Outcome

@@ -1,27 +1,34 @@
--- What a plan of a table is.
-use Rattle.std.specs.Prelude.{◌≡◌, ℕ, ◌≤◌, List, [], ◌∷◌, length}
+-- What a plan of a table is: a certificate that shows its bound, of a scheduled choice.
+use Rattle.std.specs.Prelude.{◌≡◌, ℕ, ◌≤◌, length, All}
 use Rattle.version_table.specs.declared.table.Table.{Table}
-use Rattle.version_table.specs.Choice.{Fits, distortion_of_choice, IsSmallestChoice, level_choice, least_distortions}
-use Rattle.slot_rule.specs.Schedule.{IsScheduled}
-use Rattle.remux_core.specs.Certificate.{Certificate, Node, Open}
-
--- the bound of the node at the root of a certificate's tree: an open node has the sum of the units' least distortions
-abbrev pub IsBoundOf : Table → List Node → ℕ → Type 0
-IsBoundOf table (Open ∷ []) bound = bound ≡ least_distortions table
-IsBoundOf table [] bound = ⊥
-IsBoundOf table (node ∷ other ∷ nodes) bound = ⊥
+use Rattle.bound_certificate.specs.declared.cert.Cert.{Cert}
+use Rattle.bound_certificate.specs.Reading.{IsWritable}
+use Rattle.certificate_checker.specs.Checked.{IsFaultless}
+use Rattle.certificate_checker.specs.Faults.{IsHeadRight}
+use Rattle.branch_plan.specs.Bound.{HaveFewWindows, IsAtLeastEachPair, IsAtLeastEachTried}
+use Rattle.branch_plan.specs.Plan.{BoundsAll, IsNoWorse, ShowsItsBound, SmallestIsScheduled}
+use Rattle.branch_plan.specs.Tree.{BranchesOnMany}
 
 -- a certificate is that of a plan of the table
-pub record IsPlan (table : Table) (plan : Certificate) : Type 0 where
+pub record IsPlan (table : Table) (cert : Cert) : Type 0 where
   -- there is a plan only where the smallest choice is scheduled
-  pub possible : (choice : List ℕ) → IsSmallestChoice table choice → IsScheduled table choice
-  pub fits : Fits table plan.choice
-  pub scheduled : IsScheduled table plan.choice
-  pub distortion : plan.distortion ≡ distortion_of_choice table plan.choice
-  pub root : IsBoundOf table plan.nodes plan.bound
-  pub nodes : length plan.nodes ≤ table.nodes
+  pub possible : SmallestIsScheduled table
+  -- the certificate is of version 2 and may be written
+  pub version : cert.version ≡ 2
+  pub writable : IsWritable cert
+  -- its choice is scheduled, and the distortion is the choice's own
+  pub head : IsHeadRight table cert
+  -- its nodes are one tree without fault, and the bound is the root's
+  pub root : ShowsItsBound table cert
+  pub faultless : IsFaultless table cert
   -- no scheduled choice has less distortion than the bound
-  pub bound : (choice : List ℕ) → Fits table choice → IsScheduled table choice → plan.bound ≤ distortion_of_choice table choice
-  -- the smallest choice and the level choices have no less, where they are scheduled
-  pub smallest : (choice : List ℕ) → IsSmallestChoice table choice → IsScheduled table choice → plan.distortion ≤ distortion_of_choice table choice
-  pub levels : (level : ℕ) → IsScheduled table (level_choice table level) → plan.distortion ≤ distortion_of_choice table (level_choice table level)
+  pub bound : BoundsAll table cert.bound
+  -- the tree keeps the budget of nodes, and branches on nothing that has one version alone
+  pub few_nodes : length cert.nodes ≤ table.nodes
+  pub few_windows : HaveFewWindows table.nodes cert.nodes
+  pub branches : All (BranchesOnMany table) cert.nodes
+  -- the bound is at least that of each window alone, and of the first best multiplier with any other one
+  pub tried : IsAtLeastEachTried table cert.bound
+  pub pairs : IsAtLeastEachPair table cert.bound
+  -- the smallest choice and the level choices have no less distortion, where they are scheduled
+  pub no_worse : IsNoWorse table cert.distortion

@@ -1,6 +1,8 @@
 -- What `plan TABLE CERT` does.
 use Rattle.std.specs.Prelude.{◌≡◌, ℕ, ◌≤◌, ◌⊎◌, List, length, take, Some, None}
 use Rattle.std.specs.FinMap.{get, insert}
+use Rattle.bound_certificate.specs.declared.cert.Cert.{Cert}
+use Rattle.bound_certificate.specs.Spelling.{spelling}
 use Rattle.job_report.specs.Report.{report_line}
 use Rattle.shelf_io.specs.Files.{Files}
 use Rattle.version_table.specs.declared.table.Table.{Table}
@@ -13,7 +15,6 @@ use Rattle.remux_core.specs.declared.status.Status.{Status}
 use Rattle.remux_core.specs.declared.status.Status.TheVariants.{Ok, JobRefused, Unschedulable, Missing}
 use Rattle.remux_core.specs.declared.status.JobRefusal.{JobRefusal}
 use Rattle.remux_core.specs.declared.status.JobRefusal.TheVariants.{TableSyntax, TableLimit}
-use Rattle.remux_core.specs.Certificate.{Certificate, certificate_bytes}
 use Rattle.remux_core.specs.Plan.{IsPlan}
 use Rattle.remux_core.specs.Report.{plan_report}
 
@@ -24,7 +25,7 @@ pub record HoldsTable (files : Files) (name : List ℕ) (table : Table) : Type 0
   pub read : IsRead text (Holds table)
 
 -- this is a plan of the table that a file holds
-pub record HasPlan (files : Files) (name : List ℕ) (plan : Certificate) : Type 0 where
+pub record HasPlan (files : Files) (name : List ℕ) (plan : Cert) : Type 0 where
   pub table : Table
   pub holds : HoldsTable files name table
   pub is_plan : IsPlan table plan
@@ -47,12 +48,12 @@ PlanCallsFor name files status = ⊥
 -- CERT holds the certificate of a plan of the table in TABLE, whose values the line prints, and every other file stays
 abbrev pub PlanDone : (table certificate : List ℕ) → Files → (line : List ℕ) → (after : Files) → Type 0
 PlanDone table certificate files line after =
-    (plan : Certificate) × HasPlan files table plan × (line ≡ report_line (plan_report plan))
-    × (after ≡ insert files certificate (certificate_bytes plan))
+    (plan : Cert) × HasPlan files table plan × (line ≡ report_line (plan_report plan))
+    × (after ≡ insert files certificate (spelling plan))
 
 -- files are as they were, or CERT holds a front of the certificate of a plan of the table in TABLE, and every other file stays
 abbrev pub PlanLeaves : (table certificate : List ℕ) → Files → (after : Files) → Type 0
 PlanLeaves table certificate files after =
     (after ≡ files)
-    ⊎ ((plan : Certificate) × HasPlan files table plan × (k : ℕ) × (k ≤ length (certificate_bytes plan))
-    × (after ≡ insert files certificate (take k (certificate_bytes plan))))
+    ⊎ ((plan : Cert) × HasPlan files table plan × (k : ℕ) × (k ≤ length (spelling plan))
+    × (after ≡ insert files certificate (take k (spelling plan))))

@@ -1,5 +1,3 @@
 -- What private functions and types of the crate stand on.
 pub mod Ended
-pub mod Levels
 pub mod Parsed
-pub mod Planned

@@ -1,14 +1,14 @@
 -- What is reported of a plan, of a generated program, of a refused text and of a miss.
 use Rattle.std.specs.Prelude.{◌==◌, ℕ, List, length}
+use Rattle.bound_certificate.specs.declared.cert.Cert.{Cert}
 use Rattle.job_report.specs.declared.report.Report.{Report}
 use Rattle.job_report.specs.declared.report.Report.TheVariants as reports
 use Rattle.slot_rule.specs.declared.sent.Miss.{Miss}
 use Rattle.remux_core.specs.declared.status.JobRefusal.{JobRefusal}
 use Rattle.remux_core.specs.declared.status.JobRefusal.TheVariants.{TableSyntax, TableLimit}
-use Rattle.remux_core.specs.Certificate.{Certificate}
 
 -- a plan: its bound, choice, distortion and number of nodes, and that it is optimal where its bound is reached
-abbrev pub plan_report : Certificate → Report
+abbrev pub plan_report : Cert → Report
 plan_report plan = reports.Plan plan.bound plan.choice plan.distortion (length plan.nodes) (plan.bound == plan.distortion)
 
 -- a generated program: how many bytes and pictures it has

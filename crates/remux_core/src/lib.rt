@@ -2,17 +2,15 @@
 //!
 //! Its contract is the main theorem: each status comes exactly where its cause stands, a plan is scheduled, its bound is
 //! true of every scheduled choice, and no file changes but those that the command writes. Each command is a case of a
-//! few definitions. Stands on `shelf_io`, `version_table`, `slot_rule`, `program_maker` and `job_report`.
+//! few definitions. Stands on `shelf_io`, `version_table`, `slot_rule`,
+//! `branch_plan`, `bound_certificate`, `program_maker` and `job_report`.
 #![tactic(auto)]
 
-mod certificate;
 mod command;
 mod ended;
 mod gen_command;
 pub mod laws;
-mod levels;
 mod plan_command;
-mod planner;
 mod report;
 mod status;
 mod top_call;

@@ -1,6 +1,7 @@
 //! The command `plan TABLE CERT`: from the file of a table to the certificate of its plan.
 
-ghost use Rattle.std.specs.Prelude.{◌≡◌, ◌+◌, ◌^◌, ◌<◌, length, IfSome};
+ghost use Rattle.std.specs.Prelude.{◌≡◌, ◌+◌, IfSome};
+ghost use Rattle.bound_certificate.specs.Reading.{IsWritable};
 ghost use Rattle.shelf_io.specs.Asked.{AsksUpTo, AsksNothing};
 ghost use Rattle.version_table.specs.Table.{IsValidTable};
 ghost use Rattle.remux_core.specs.Answer.{Decides, AnswerHasCause};
@@ -8,15 +9,14 @@ ghost use Rattle.remux_core.specs.Outside.{OnFiles, shelf_facts};
 ghost use Rattle.remux_core.specs.PlanCommand.{HoldsTable, HasPlan};
 ghost use Rattle.remux_core.specs.Private.Ended.{answer_of, HoldsFront, refusal_by, IsRefusedFor};
 ghost use Rattle.remux_core.specs.Private.Parsed.{plan_of};
-ghost use Rattle.remux_core.specs.Private.Planned.{contents_of};
 ghost use Rattle.remux_core.specs.Promises.{CountsGrow};
 
-use crate::certificate::Certificate;
 use crate::command::PlanFiles;
 use crate::ended::{Ended, end_missing, end_unread, end_unwritten, end_with};
-use crate::planner::{PlanFault, make_plan};
 use crate::report::{miss_report, plan_report, refusal_report};
 use crate::status::{JobRefusal, Status};
+use bound_certificate::{Cert, write_cert};
+use branch_plan::{PlanFault, plan};
 use shelf_io::{Fault, Shelf, read_file, write_file};
 use std::alloc::Global;
 use version_table::limits::TABLE_TEXT_MOST;
@@ -79,8 +79,8 @@ fn plan_table<K: Shelf>(
     ensures counts { CountsGrow (K.counts shelf.old) (K.counts shelf.new) }
     ensures asked { AsksNothing (K.asked shelf.old) (K.asked shelf.new) }
 {
-    match make_plan(alloc, table) {
-        Ok(plan) => write_plan(alloc, files, plan, shelf),
+    match plan(alloc, table, table.nodes, table.evaluations) {
+        Ok(planned) => write_plan(alloc, files, planned.cert, shelf),
         Err(PlanFault::Missed(miss)) => {
             end_with(alloc, Status::Unschedulable(miss), &miss_report(miss))
         }
@@ -92,11 +92,11 @@ fn plan_table<K: Shelf>(
 fn write_plan<K: Shelf>(
     alloc: Global,
     files: &PlanFiles<'_>,
-    plan: Certificate,
+    plan: Cert,
     shelf: &mut K,
 ) -> Option<Ended>
-    requires { length plan.choice < 2 ^ 32 }
-    ensures decided { OnFiles (K.files shelf.old) (K.files shelf.new) (λ held after. HasPlan held files.now.table.now (contents_of plan)
+    requires { IsWritable plan }
+    ensures decided { OnFiles (K.files shelf.old) (K.files shelf.new) (λ held after. HasPlan held files.now.table.now plan
         → Decides (plan_of files.now) held (answer_of result) after) }
     ensures cause { AnswerHasCause (plan_of files.now)
         (shelf_facts K.files K.counts K.asked K.since_fault shelf.old)
@@ -105,7 +105,7 @@ fn write_plan<K: Shelf>(
     ensures counts { CountsGrow (K.counts shelf.old) (K.counts shelf.new) }
     ensures asked { AsksNothing (K.asked shelf.old) (K.asked shelf.new) }
 {
-    let Ok(bytes) = plan.bytes(alloc) else {
+    let Ok(bytes) = write_cert(alloc, &plan) else {
         return None;
     };
     let done = end_with(alloc, Status::Ok, &plan_report(plan))?;

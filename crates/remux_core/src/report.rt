@@ -1,24 +1,25 @@
 //! What is reported of plans and refusals, as `job_report` prints it.
 
-ghost use Rattle.std.specs.Prelude.{◌≡◌};
-ghost use Rattle.remux_core.specs.Private.Planned.{contents_of};
+ghost use Rattle.std.specs.Prelude.{◌≡◌, ◌≤◌, length};
+ghost use Rattle.version_table.specs.declared.limits.TheConstants.{NODES_MOST};
 ghost use Rattle.remux_core.specs.Report as spec;
 
-use crate::certificate::Certificate;
 use crate::status::JobRefusal;
+use bound_certificate::Cert;
 use job_report::Report;
 use slot_rule::Miss;
 
-/// A plan. Its tree is one open node.
-pub fn plan_report(plan: Certificate) -> Report
-    ensures { result ≡ spec.plan_report (contents_of plan) }
+/// A plan, by its certificate.
+pub fn plan_report(plan: Cert) -> Report
+    requires { length plan.nodes ≤ NODES_MOST }
+    ensures { result ≡ spec.plan_report plan }
 {
     Report::Plan {
         bound: plan.bound,
         optimal: plan.bound == plan.distortion,
+        nodes: plan.nodes.len() as u32,
         choice: plan.choice,
         distortion: plan.distortion,
-        nodes: 1,
     }
 }
 

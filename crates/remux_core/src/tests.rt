@@ -5,7 +5,7 @@ use std::alloc::{AllocError, Global};
 use std::test::Fail;
 
 /// A table text, the exit status of `plan`, and the line that it prints.
-const EXAMPLES: [(&str, u8, &str); 8] = [
+const EXAMPLES: [(&str, u8, &str); 11] = [
     (
         "remux table 1\nslot 1080\nnodes 4\nevaluations 0\nprogram 112\nunit 36936 1840:0\n",
         0,
@@ -37,6 +37,21 @@ const EXAMPLES: [(&str, u8, &str); 8] = [
         "{\"bound\":0,\"choice\":[0,0],\"distortion\":0,\"nodes\":1,\"search\":\"optimal\"}\n",
     ),
     (
+        "remux table 1\nslot 4000\nnodes 1\nevaluations 0\nprogram 112\nunit 27200 552:0 368:10\n",
+        0,
+        "{\"bound\":10,\"choice\":[1],\"distortion\":10,\"nodes\":1,\"search\":\"optimal\"}\n",
+    ),
+    (
+        "remux table 1\nslot 40000\nnodes 1\nevaluations 0\nprogram 112\nunit 54000000 115000:0 92000:10\n",
+        0,
+        "{\"bound\":3,\"choice\":[1],\"distortion\":10,\"nodes\":1,\"search\":\"budget\"}\n",
+    ),
+    (
+        "remux table 1\nslot 4000\nnodes 1\nevaluations 2\nprogram 112\nunit 27200 552:0 368:10\nunit 2000000 552:0 368:10\n",
+        0,
+        "{\"bound\":10,\"choice\":[1,0],\"distortion\":10,\"nodes\":1,\"search\":\"optimal\"}\n",
+    ),
+    (
         "remux table 1\nslot 1015\nnodes 1\nevaluations 0\n",
         3,
         "{\"name\":\"slot\",\"reason\":\"table limit\",\"status\":3}\n",
@@ -48,14 +63,11 @@ const EXAMPLES: [(&str, u8, &str); 8] = [
     ),
 ];
 
-/// The certificate of the first example: its mark, bound 0, distortion 0, one unit in version 0, and one open node.
-const CERTIFICATE: [u8; 31] = [
-    0x52, 0x4D, 0x58, 0x43, 1, 0, 0, 0, 0, 0, 0, 0, 0, 0, 0, 0, 0, 0, 0, 0, 0, 0, 0, 0, 1, 0, 0, 0,
-    0, 1, 4,
+/// The front of a certificate: its mark, version 2, bound 10, distortion 10, one unit in version 1, and one node of windows.
+const CERTIFICATE_FRONT: [u8; 31] = [
+    0x52, 0x4D, 0x58, 0x43, 2, 0, 0, 0, 0, 0, 0, 0, 10, 0, 0, 0, 0, 0, 0, 0, 10, 0, 0, 0, 1, 1, 0,
+    0, 0, 1, 5,
 ];
-
-/// The bytes of each example's certificate: 30, and one for each unit.
-const CERTIFICATE_BYTES: [usize; 8] = [31, 0, 30, 31, 31, 32, 0, 0];
 
 /// The words of a command.
 fn words_of(alloc: Global, words: &[&str]) -> Result<Vec<String>, AllocError> {
@@ -82,13 +94,18 @@ fn each_example_has_its_status_and_line(rt: HostRuntime) -> Result<(), Fail> {
 }
 
 #[test]
-fn a_certificate_has_its_bytes(rt: HostRuntime) -> Result<(), Fail> {
+fn a_certificate_has_its_numbers(rt: HostRuntime) -> Result<(), Fail> {
     let words = words_of(rt.alloc(), &["plan", "t", "c"])?;
     let mut shelf = CalmShelf::new(rt.alloc());
-    shelf.put_file("t", EXAMPLES[0].0.as_bytes())?;
+    shelf.put_file("t", EXAMPLES[6].0.as_bytes())?;
     let mut out = CalmSink::new(rt.alloc());
     let _status = run(rt.alloc(), words.as_slice(), &mut shelf, &mut out);
-    assert!(rt; shelf.file("c").unwrap_or(&[]) == CERTIFICATE.as_slice());
+    assert!(rt;
+        shelf
+            .file("c")
+            .unwrap_or(&[])
+            .starts_with(&CERTIFICATE_FRONT)
+    );
     Ok(())
 }
 
@@ -123,7 +140,7 @@ fn other_words_are_usage(rt: HostRuntime) -> Result<(), Fail> {
 #[test]
 fn each_failing_call_has_its_status(rt: HostRuntime) -> Result<(), Fail> {
     let words = words_of(rt.alloc(), &["plan", "t", "c"])?;
-    for ((text, code, _line), length) in EXAMPLES.into_iter().zip(CERTIFICATE_BYTES) {
+    for (text, code, _line) in EXAMPLES {
         let calls = if code == 0 { 4 } else { 2 };
         for k in 1..=calls + 1 {
             let mut shelf = MemShelf::new(rt.alloc(), vec![in rt.alloc(); k]?);
@@ -138,13 +155,9 @@ fn each_failing_call_has_its_status(rt: HostRuntime) -> Result<(), Fail> {
                 7
             };
             assert_eq!(rt; status.code(), wanted, "{text} {k}");
-            let written = shelf.file("c").map(|bytes| bytes.len());
-            let held = match (code, k) {
-                (0, 4) => Some(0),
-                (0, 5) => Some(length),
-                _ => None,
-            };
-            assert_eq!(rt; written, held, "{text} {k}");
+            assert_eq!(rt; shelf.file("c").is_some(), code == 0 && k > 3, "{text} {k}");
+            let written = shelf.file("c").unwrap_or(&[]);
+            assert_eq!(rt; written.is_empty(), code != 0 || k <= 4, "{text} {k}");
         }
     }
     Ok(())

@@ -13,4 +13,6 @@ mod sent_video;
 mod source;
 mod state;
 
+pub use packet::unit_bytes;
 pub use source::VersionSource;
+pub use state::{state_behind, want_of_memory};

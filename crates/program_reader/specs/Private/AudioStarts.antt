@@ -4,6 +4,7 @@ use Rattle.audio_frames.specs.declared.pes_start.PesStart.{PesStart}
 use Rattle.ts_demux.specs.declared.demuxed.AudioStream.{AudioStream}
 use Rattle.program_reader.specs.declared.audio_stream.ReadStream.{ReadStream}
 use Rattle.program_reader.specs.Audio.{HasFrames}
+use Rattle.program_reader.specs.Private.Dues.{IsTime}
 use Rattle.program_reader.specs.Private.TakenPackets.{AreTaken}
 
 -- the last time of some packets, or the one before them
@@ -20,10 +21,11 @@ pub record IsNear (count : ℕ) (time : ℤ) : Type 0 where
 abbrev pub AreNear : ℕ → List PesStart → Type 0
 AreNear count starts = All (λ start. IfSome start.time (IsNear count)) starts
 
--- an audio stream of a program whose video begins at this time is read: its PES packets are taken, and these are its frames
+-- an audio stream of a program whose video begins at this time is read: its PES packets are taken, and these are its frames, none far from 0
 pub record IsStreamRead (first : ℤ) (stream : AudioStream) (read : ReadStream) : Type 0 where
   pub taken_are : AreTaken false stream.units read.taken
   pub frames_are : HasFrames first stream read.frames
+  pub ticks : All (λ frame. IsTime frame.time) read.frames
 
 -- audio streams are read, each so
 abbrev pub AreStreamsRead : ℤ → List AudioStream → List ReadStream → Type 0

@@ -1,12 +1,14 @@
-use Rattle.std.proofs.Common.{◌≤◌, take, IfSome}
-use Rattle.std.specs.List.{flat_map}
-use Rattle.dual_bounds.specs.declared.constants.TheConstants.{LAMBDA_MOST}
-use Rattle.multiplier_search.specs.Private.Lambda.{IsBestOf}
-use Rattle.multiplier_search.specs.Single.{dues_of}
+use Rattle.std.proofs.Common.{◌-◌, length, take}
+use Rattle.cost_sweep.specs.Sweep.{IsSweep}
+use Rattle.multiplier_search.specs.Private.UnitSteps.{AreStepsOf, IsBestValued, times_of}
 use Rattle.multiplier_search.proofs.single.best_single.Given as goal
 
-abbrev pub invariant-loop-program : goal.invariant-loop-program
-invariant-loop-program l = record {
-  lambda : IfSome l.best (λ multiplier. multiplier.lambda ≤ LAMBDA_MOST);
-  best : IsBestOf l.table l.fixed (dues_of (flat_map (λ program. program.units) (take l.program-index l.program-items))) l.best;
+abbrev pub invariant-dues : goal.invariant-dues
+invariant-dues l = record {
+  sweep : IsSweep l.sweep;
+  steps : AreStepsOf l.table l.fixed l.sweep.steps.items;
+  best : IsBestValued l.table l.fixed (times_of (take l.sweep.place l.sweep.steps.items)) l.best;
 }
+
+abbrev pub decreases-dues : goal.decreases-dues
+decreases-dues l = length l.sweep.steps.items - l.sweep.place

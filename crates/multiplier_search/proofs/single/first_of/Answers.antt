@@ -1,14 +1,13 @@
-use Rattle.std.proofs.Common.{Option, subst}
-use Rattle.dual_bounds.specs.declared.windows.Multiplier.{Multiplier}
-use Rattle.multiplier_search.specs.Private.Lambda.{IsBestOf}
-use Rattle.multiplier_search.specs.Single.{IsFirstBest}
-use Rattle.multiplier_search.proofs.Best.{best_of_both}
+use Rattle.std.proofs.Common.{Option, ap, subst, List, ℕ, ◌++◌, sym, [], ◌≡◌, refl}
+use Rattle.multiplier_search.specs.declared.single.Valued.{Valued}
+use Rattle.multiplier_search.specs.Private.UnitSteps.{IsBestValued}
+use Rattle.multiplier_search.proofs.FirstBest.{best-of, best-alone}
 use Rattle.multiplier_search.proofs.single.first_of.Goals as goal
 
-pub returns-clause-best : goal.returns-clause-best
-returns-clause-best c = λ dues more best best'.
-    let table = c.args.table.now in
-    let fixed = c.args.fixed.now in
-    let first : IsFirstBest table fixed dues c.in-Some.first = subst (λ (o : Option Multiplier). IsBestOf table fixed dues o) c.in-Some.is best in
-    let second : IsFirstBest table fixed more c.in-Some-b.second = subst (λ (o : Option Multiplier). IsBestOf table fixed more o) c.in-Some-b.is best' in
-    best_of_both table fixed dues more c.in-Some.first c.in-Some-b.second c.better_of.result first second c.better_of.ensures
+pub returns-in-Some : goal.returns-in-Some
+returns-in-Some c = λ table fixed dues more first second.
+    best-of table fixed dues more c.in-Some.first c.args.b c.better_of.result (subst (λ (o : Option Valued). IsBestValued table fixed dues o) c.in-Some.is first) second c.better_of.ensures
+
+pub returns-in-None : goal.returns-in-None
+returns-in-None c = λ table fixed dues more first second.
+    best-alone table fixed dues more c.args.b (subst (λ (o : Option Valued). IsBestValued table fixed dues o) c.in-None.is first) second

@@ -1,5 +1,5 @@
 use Rattle.std.proofs.Common.{inr}
-use Rattle.program_reader.proofs.StreamLemmas.{taken_few, taken_times, taken_size, taken_starts, frames_refused}
+use Rattle.program_reader.proofs.StreamLemmas.{taken_few, taken_times, taken_size, taken_starts, frames_refused, stream_read}
 use Rattle.program_reader.proofs.audio_stream.read_stream.Goals as goal
 
 pub audio_starts-requires-clause-few : goal.audio_starts-requires-clause-few
@@ -21,3 +21,10 @@ returns-in-Err-read c =
     inr (frames_refused c.args.first.now.time c.args.stream.now c.as_slice.result.now c.in-Ok.taken c.as_slice-2.result.now c.as_slice-3.result.now c.in_ok-starts.starts.items
     c.as_slice-4.result.now c.in-Err-read.fault c.audio_refused.result c.as_slice.ensures c.in-Ok.ensures c.as_slice-2.ensures.value c.as_slice-3.ensures.value c.as_slice-4.ensures.value
     c.in_ok-starts.ensures.starts c.in-Err-read.ensures.refused c.audio_refused.ensures)
+
+pub returns-in-Ok-read : goal.returns-in-Ok-read
+returns-in-Ok-read c =
+    stream_read c.args.first.now.time c.args.stream.now c.as_slice.result.now c.in-Ok.taken c.as_slice-2.result.now c.as_slice-3.result.now c.in_ok-starts.starts.items
+    c.as_slice-4.result.now c.in-Ok-read.frames c.as_slice.ensures c.in-Ok.ensures c.as_slice-2.ensures.value c.as_slice-3.ensures.value c.as_slice-4.ensures.value
+    c.in_ok-starts.ensures.starts c.in_ok-starts.ensures.near c.in-Ok-read.ensures.frames
+    (taken_size c.as_slice.result.now c.in-Ok.taken c.as_slice-3.result.now c.in-Ok.ensures c.as_slice-3.ensures.value (rw c.as_slice.ensures c.requires.size))

@@ -3,11 +3,10 @@ use Rattle.job_report.specs.declared.report.Report.TheVariants as reports
 use Rattle.remux_core.specs.declared.status.Status.TheVariants.{WriteFault}
 use Rattle.remux_core.specs.declared.status.Status.TheVariants as statuses
 use Rattle.remux_core.specs.Answer.{Decides, AnswerHasCause}
-use Rattle.remux_core.specs.Certificate.{certificate_bytes}
+use Rattle.bound_certificate.specs.Spelling.{spelling}
 use Rattle.remux_core.specs.Outside.{OnFiles, shelf_facts}
 use Rattle.remux_core.specs.PlanCommand.{HasPlan}
 use Rattle.remux_core.specs.Private.Parsed.{plan_of}
-use Rattle.remux_core.specs.Private.Planned.{contents_of}
 use Rattle.remux_core.specs.Report.{plan_report}
 use Rattle.remux_core.proofs.Ending.{ends_so}
 use Rattle.remux_core.proofs.Held.{part_written}
@@ -16,18 +15,18 @@ use Rattle.remux_core.proofs.plan_command.write_plan.Goals as goal
 pub returns-in-Err-OutOfMemory-clause-decided : goal.returns-in-Err-OutOfMemory-clause-decided
 returns-in-Err-OutOfMemory-clause-decided g c =
     let files = c.args.files.now in
-    let bytes : c.as_slice.result.now ≡ certificate_bytes (contents_of c.args.plan) = c.as_slice.ensures.value ∙ c.in-Ok.ensures in
-    part_written (g.K.Shelf.files c.args.shelf.now) (g.K.Shelf.files c.write_file.new.shelf) files.table.now files.certificate.now (contents_of c.args.plan)
+    let bytes : c.as_slice.result.now ≡ spelling c.args.plan = c.as_slice.ensures ∙ c.in-Ok.ensures.bytes in
+    part_written (g.K.Shelf.files c.args.shelf.now) (g.K.Shelf.files c.write_file.new.shelf) files.table.now files.certificate.now c.args.plan
     c.as_slice.result.now bytes c.in-Err-OutOfMemory.ensures.err
 
 pub returns-in-Err-Failed-clause-decided : goal.returns-in-Err-Failed-clause-decided
 returns-in-Err-Failed-clause-decided g c =
     let files = c.args.files.now in
-    let bytes : c.as_slice.result.now ≡ certificate_bytes (contents_of c.args.plan) = c.as_slice.ensures.value ∙ c.in-Ok.ensures in
+    let bytes : c.as_slice.result.now ≡ spelling c.args.plan = c.as_slice.ensures ∙ c.in-Ok.ensures.bytes in
     let old = g.K.Shelf.files c.args.shelf.now in
     let new = g.K.Shelf.files c.write_file.new.shelf in
-    let part = part_written old new files.table.now files.certificate.now (contents_of c.args.plan) c.as_slice.result.now bytes c.in-Err-Failed.ensures.err in
-    ends_so (λ answer. OnFiles old new (λ held after. HasPlan held files.table.now (contents_of c.args.plan) → Decides (plan_of files) held answer after))
+    let part = part_written old new files.table.now files.certificate.now c.args.plan c.as_slice.result.now bytes c.in-Err-Failed.ensures.err in
+    ends_so (λ answer. OnFiles old new (λ held after. HasPlan held files.table.now c.args.plan → Decides (plan_of files) held answer after))
     c.end_unwritten.result WriteFault (reports.WriteFault files.certificate.now) (reports.WriteFault files.certificate.now) c.end_unwritten.ensures refl part part
 
 pub returns-in-Err-Failed-clause-cause : goal.returns-in-Err-Failed-clause-cause
@@ -51,5 +50,5 @@ returns-in-Ok-write_file-clause-cause g c =
     let old = shelf_facts g.K.Shelf.files g.K.Shelf.counts g.K.Shelf.asked g.K.Shelf.since_fault c.args.shelf.now in
     let new = shelf_facts g.K.Shelf.files g.K.Shelf.counts g.K.Shelf.asked g.K.Shelf.since_fault c.write_file.new.shelf in
     ends_so (AnswerHasCause (plan_of c.args.files.now) old new)
-    (Some c.in_ok-done.done) statuses.Ok c.plan_report.result (plan_report (contents_of c.args.plan))
-    c.in_ok-done.ensures c.plan_report.ensures (contents_of c.args.plan, refl) tt
+    (Some c.in_ok-done.done) statuses.Ok c.plan_report.result (plan_report c.args.plan)
+    c.in_ok-done.ensures c.plan_report.ensures (c.args.plan, refl) tt

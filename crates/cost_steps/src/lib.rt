@@ -1,0 +1,12 @@
+//! The least cost of a coded picture's versions at every price of a packet, as few steps.
+//!
+//! Stands on `dual_bounds` and `cost_sweep`.
+#![tactic(auto)]
+
+pub mod constants;
+mod steps;
+
+pub use steps::add_steps;
+
+#[cfg(test)]
+mod tests;

@@ -1,0 +1,4 @@
+pub mod Holding
+pub mod Priced
+pub mod Prices
+pub mod Swept

@@ -1,0 +1,4 @@
+pub mod Places
+pub mod Private
+pub mod Steps
+pub mod Sweep

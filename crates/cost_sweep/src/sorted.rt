@@ -1,0 +1,54 @@
+ghost use Rattle.std.specs.Prelude.{◌≡◌, ◌<◌, ◌≤◌, ◌^◌, All, IfOk, length};
+ghost use Rattle.std.specs.List.{Contains};
+ghost use Rattle.std.specs.List.Sorted.{IsNonDecreasing};
+ghost use Rattle.cost_sweep.specs.Places.{IsPlaceBehind};
+ghost use Rattle.cost_sweep.specs.Private.Before.{IsPlaceBefore};
+
+use crate::step::CostStep;
+use list_types::OutOfMemory;
+use std::alloc::Global;
+
+/// The prices from which on steps count, in rising order. Fails only for want of memory.
+pub fn prices_of(alloc: Global, steps: &[CostStep]) -> Result<Vec<u64>, OutOfMemory>
+    ensures rise { IfOk result (λ prices. IsNonDecreasing prices.items) }
+    ensures all { IfOk result (λ prices. All (λ step. Contains prices.items step.from) steps.now) }
+    ensures count { IfOk result (λ prices. length prices.items ≡ length steps.now) }
+{
+    let mut prices = Vec::new(alloc);
+    for step in steps {
+        prices.push(step.from)?;
+    }
+    prices.sort_unstable();
+    Ok(prices)
+}
+
+/// How many prices are less than one.
+pub fn place_before(prices: &[u64], price: u64) -> usize
+    requires { IsNonDecreasing prices.now }
+    ensures { IsPlaceBefore prices.now price result }
+{
+    prices.partition_point(|other| *other < price)
+}
+
+/// How many prices are at most one.
+pub fn place_behind(prices: &[u64], price: u64) -> usize
+    requires { IsNonDecreasing prices.now }
+    ensures { IsPlaceBehind prices.now price result }
+{
+    prices.partition_point(|other| *other <= price)
+}
+
+/// Levels of a tree with more places than these.
+pub fn height_for(places: usize) -> u32
+    requires { places < 2 ^ 31 }
+    ensures few { result ≤ 32 }
+    ensures room { places < 2 ^ result }
+{
+    let mut height = 0;
+    let mut room = 1;
+    while room <= places {
+        room *= 2;
+        height += 1;
+    }
+    height
+}

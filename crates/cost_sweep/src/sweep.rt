@@ -1,0 +1,162 @@
+ghost use Rattle.std.specs.Prelude.{◌≡◌, ℕ, ◌+◌, ◌<◌, ◌≤◌, ◌^◌, length, sum_by, cond, nat_le, IfOk, IsTrue, ◌↔◌, MatchOption, slice_index_or};
+ghost use Rattle.std.specs.List.Sorted.{IsPermutation};
+ghost use Rattle.cost_sweep.specs.declared.step.CostStep.{CostStep as Step};
+ghost use Rattle.cost_sweep.specs.Steps.{AreSmall, paid_by, spared_by};
+ghost use Rattle.cost_sweep.specs.Sweep.{HasReached, IsSweep, WentOn, counted};
+
+use crate::sorted::{height_for, place_before, place_behind, prices_of};
+use crate::step::CostStep;
+use list_types::OutOfMemory;
+use std::alloc::Global;
+use sum_tree::SumTree;
+
+/// The least costs of some units, at one due time after the other.
+#[derive(Drop)]
+pub struct CostSweep {
+    /// All steps, in the order of their due times.
+    steps: Vec<CostStep>,
+    /// How many of them are due.
+    place: usize,
+    /// The prices from which on steps count, in rising order.
+    prices: Vec<u64>,
+    /// What the due steps add, at the places of their prices.
+    rises: SumTree,
+    /// The packets fewer of the due steps, at the places of their prices.
+    fewer: SumTree,
+    /// The packets that the due steps pay at each price.
+    packets: u64,
+    /// What the steps that aren't due cost.
+    rest: u128,
+}
+
+/// What steps come to.
+#[derive(Clone, Copy, Debug, Default, PartialEq)]
+pub struct Costs {
+    /// What they add, in 1/256 of a distortion.
+    pub paid: u128,
+    /// What they take, in 1/256 of a distortion.
+    pub spared: u128,
+}
+
+impl CostSweep {
+    /// Before the first due time of some steps. Fails only for want of memory.
+    pub fn new(alloc: Global, steps: Vec<CostStep>) -> Result<CostSweep, OutOfMemory>
+        requires { AreSmall steps.items }
+        ensures sweep { IfOk result IsSweep }
+        ensures start { IfOk result (λ sweep. sweep.place ≡ 0) }
+        ensures steps { IfOk result (λ sweep. IsPermutation steps.items sweep.steps.items) }
+    {
+        let mut steps = steps;
+        steps.sort_unstable_by_key(|step| step.due);
+        let prices = prices_of(alloc, steps.as_slice())?;
+        let height = height_for(prices.len());
+        let rises = SumTree::new(alloc, height)?;
+        let fewer = SumTree::new(alloc, height)?;
+        let rest = rise_at_0(steps.as_slice());
+        Ok(CostSweep {
+            steps,
+            place: 0,
+            prices,
+            rises,
+            fewer,
+            packets: 0,
+            rest,
+        })
+    }
+
+    /// Goes on to the next due time, and answers it; none where all steps are due.
+    pub fn next_due(&mut self) -> Option<u64>
+        requires { IsSweep self.old }
+        ensures sweep { IsSweep self.new }
+        ensures steps { self.new.steps.items ≡ self.old.steps.items }
+        ensures next { MatchOption result (length self.old.steps.items ≤ self.old.place) (λ due. WentOn self.old.place due self.new) }
+        ensures none { MatchOption result (self.new.place ≡ self.old.place) (λ due. self.old.place < length self.old.steps.items) }
+    {
+        if self.place >= self.steps.len() {
+            return None;
+        }
+        let due = due_at(self.steps.as_slice(), self.place);
+        while self.has_due(due) {
+            self.take();
+        }
+        Some(due)
+    }
+
+    /// What all steps come to where packets that are due by the last due time have this price, and the others none.
+    pub fn costs(&self, price: u64) -> Costs
+        requires sweep { IsSweep self.now }
+        requires price { price ≤ 2 ^ 46 }
+        ensures paid { (due : ℕ) → HasReached due self.now → result.paid ≡ sum_by (paid_by due price) self.now.steps.items }
+        ensures spared { (due : ℕ) → HasReached due self.now → result.spared ≡ sum_by (spared_by due price) self.now.steps.items }
+        ensures paid_small { result.paid < 2 ^ 110 }
+        ensures spared_small { result.spared < 2 ^ 110 }
+    {
+        let place = place_behind(self.prices.as_slice(), price);
+        let rises = self.rises.sum_of_first(place);
+        let fewer = self.fewer.sum_of_first(place);
+        Costs {
+            paid: rises + self.rest + u128::from(self.packets) * u128::from(price),
+            spared: fewer * u128::from(price),
+        }
+    }
+
+    /// Whether the next step is due by a time.
+    fn has_due(&self, due: u64) -> bool
+        ensures { IsTrue result ↔ ((self.now.place < length self.now.steps.items) × ((d : Step) → (slice_index_or self.now.steps.items self.now.place d).due ≤ due)) }
+    {
+        let steps = self.steps.as_slice();
+        self.place < steps.len() && due_at(steps, self.place) <= due
+    }
+
+    /// Takes the next step.
+    fn take(&mut self)
+        requires sweep { IsSweep self.old }
+        requires more { self.old.place < length self.old.steps.items }
+        ensures sweep { IsSweep self.new }
+        ensures place { self.new.place ≡ self.old.place + 1 }
+        ensures steps { self.new.steps.items ≡ self.old.steps.items }
+    {
+        let step = step_at(self.steps.as_slice(), self.place);
+        let place = place_before(self.prices.as_slice(), step.from);
+        self.rises.add(place, u128::from(step.rise));
+        self.fewer.add(place, u128::from(step.fewer));
+        self.packets += u64::from(step.packets);
+        self.rest -= u128::from(own_at_0(step));
+        self.place += 1;
+    }
+}
+
+/// A step.
+fn step_at(steps: &[CostStep], place: usize) -> CostStep
+    requires { place < length steps.now }
+    ensures { (d : Step) → result ≡ slice_index_or steps.now place d }
+{
+    steps[place]
+}
+
+/// When a step is due.
+fn due_at(steps: &[CostStep], place: usize) -> u64
+    requires { place < length steps.now }
+    ensures { (d : Step) → result ≡ (slice_index_or steps.now place d).due }
+{
+    steps[place].due
+}
+
+/// What steps add at price 0.
+fn rise_at_0(steps: &[CostStep]) -> u128
+    requires { AreSmall steps.now }
+    ensures { result ≡ sum_by (counted (λ step. step.rise) 0) steps.now }
+{
+    let mut total = 0;
+    for step in steps {
+        total += u128::from(own_at_0(*step));
+    }
+    total
+}
+
+/// What a step adds at price 0.
+fn own_at_0(step: CostStep) -> u64
+    ensures { result ≡ counted (λ step. step.rise) 0 step }
+{
+    if step.from == 0 { step.rise } else { 0 }
+}

@@ -1,0 +1,9 @@
+mod Asks
+mod NextLemmas
+mod Forms
+mod ReadLemmas
+mod ProbeLemmas
+mod LawLemmas
+mod FirstLemmas
+mod MissingLemmas
+mod ProbeLaws

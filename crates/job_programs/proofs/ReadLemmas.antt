@@ -1,0 +1,214 @@
+-- The first programs of a job, one more, and what stops there.
+use Rattle.std.proofs.Common.{◌≡◌, ℕ, ◌+◌, ◌<◌, ◌≤◌, List, [], ◌∷◌, ◌++◌, length, take, drop, get_or, Option, None, Some, IfSome, refl, sym, ap, subst, ◌∙◌, length-take-le, arith}
+use Rattle.std.specs.FinMap.{get}
+use Rattle.std.proofs.lemmas.List.{take_more, take-append-drop, drop_more}
+use Rattle.std.proofs.lemmas.List.Elements.{All-push, All-nil}
+use Rattle.std.proofs.lemmas.List.Sums.{sum_by_push}
+use Rattle.shelf_io.specs.Counts.{ShelfCounts}
+use Rattle.shelf_io.specs.Files.{Files}
+use Rattle.shelf_io.proofs.Counted.{rose_later}
+use Rattle.job_report.specs.declared.job.Job.{Job}
+use Rattle.job_report.specs.declared.job.ProgramJob.{ProgramJob}
+use Rattle.version_table.specs.declared.limits.TheConstants.{UNITS_MOST}
+use Rattle.program_reader.specs.declared.limits.TheConstants.{FILE_BYTES_MOST}
+use Rattle.program_reader.specs.declared.program.Program.{Program}
+use Rattle.program_reader.specs.declared.program_fault.SourceKind.{SourceKind}
+use Rattle.program_reader.specs.Programs.{IsProgramOf}
+use Rattle.job_programs.specs.declared.source_fault.SourceFault.{SourceFault}
+use Rattle.job_programs.specs.declared.source_fault.ProgramsFault.{ProgramsFault}
+use Rattle.job_programs.specs.declared.source_fault.ProgramsFault.TheVariants.{Refused, Failed, Missing, OutOfMemory}
+use Rattle.job_programs.specs.Programs.{bytes_of_files, units_of_programs}
+use Rattle.job_programs.specs.Told.{AreProgramsOn, CountReads, HasReadCause, HoldContents, HoldsContent, IsRefusedOn, StopsAt}
+use Rattle.job_programs.specs.Private.Behind.{AreProgramsOf, HoldPrograms, IsProgramBehind, IsRefusedBehind, KeepsTime}
+use Rattle.job_programs.specs.Private.Next.{HasNextCause, IsNextOn, IsNextRefusedOn}
+use Rattle.job_programs.specs.Private.ReadSoFar.{ReadSoFar}
+use Rattle.job_programs.proofs.Forms.{next-of, refused-of}
+
+-- ---- lists
+
+hold-more : (start : ℕ) (jobs : List ProgramJob) (contents : List (List ℕ)) (programs : List Program) (job : ProgramJob) (content : List ℕ) (program : Program)
+    → HoldPrograms start jobs contents programs → IsProgramOf content job.program job.drop.items start program
+    → HoldPrograms start (jobs ++ job ∷ []) (contents ++ content ∷ []) (programs ++ program ∷ [])
+hold-more start [] [] [] job content program held is = (is, tt)
+hold-more start [] [] (p ∷ ps) job content program held is = absurd held
+hold-more start [] (c ∷ cs) ps job content program held is = absurd held
+hold-more start (j ∷ js) [] ps job content program held is = absurd held
+hold-more start (j ∷ js) (c ∷ cs) [] job content program held is = absurd held
+hold-more start (j ∷ js) (c ∷ cs) (p ∷ ps) job content program held is = (held.0, hold-more start js cs ps job content program held.1 is)
+
+held-through : (files : Files) (start : ℕ) (jobs : List ProgramJob) (contents : List (List ℕ)) (programs : List Program) (job : ProgramJob) (after : List ProgramJob) (content : List ℕ)
+    → HoldPrograms start jobs contents programs → HoldContents files jobs contents → get files job.file ≡ Some content
+    → HoldContents files (jobs ++ job ∷ after) (contents ++ content ∷ [])
+held-through files start [] [] [] job after content hold held is = (is, tt)
+held-through files start [] [] (p ∷ ps) job after content hold held is = absurd hold
+held-through files start [] (c ∷ cs) ps job after content hold held is = absurd hold
+held-through files start (j ∷ js) [] ps job after content hold held is = absurd hold
+held-through files start (j ∷ js) (c ∷ cs) [] job after content hold held is = absurd hold
+held-through files start (j ∷ js) (c ∷ cs) (p ∷ ps) job after content hold held is =
+    (held.0, held-through files start js cs ps job after content hold.1 held.1 is)
+
+told-through : (told : Option Files) (start : ℕ) (jobs : List ProgramJob) (contents : List (List ℕ)) (programs : List Program) (job : ProgramJob) (after : List ProgramJob) (content : List ℕ)
+    → HoldPrograms start jobs contents programs → IfSome told (λ files. HoldContents files jobs contents) → HoldsContent told job.file content
+    → IfSome told (λ files. HoldContents files (jobs ++ job ∷ after) (contents ++ content ∷ []))
+told-through None start jobs contents programs job after content hold held is = tt
+told-through (Some files) start jobs contents programs job after content hold held is = held-through files start jobs contents programs job after content hold held is
+
+-- ---- one more program
+
+are-more : (slot start : ℕ) (jobs : List ProgramJob) (contents : List (List ℕ)) (programs : List Program) (job : ProgramJob) (content : List ℕ) (program : Program)
+    → AreProgramsOf slot start jobs contents programs
+    → IsProgramBehind slot start (bytes_of_files contents) (units_of_programs programs) job.program job.drop.items content program
+    → AreProgramsOf slot start (jobs ++ job ∷ []) (contents ++ content ∷ []) (programs ++ program ∷ [])
+are-more slot start jobs contents programs job content program are next = record {
+  hold = hold-more start jobs contents programs job content program are.hold next.holds;
+  few_bytes = subst (λ (n : ℕ). n ≤ FILE_BYTES_MOST) (sym (sum_by_push length contents content)) next.few_bytes;
+  few_units = subst (λ (n : ℕ). n ≤ UNITS_MOST) (sym (sum_by_push (λ (p : Program). length p.units) programs program)) next.few_units;
+  within = All-push (KeepsTime slot) programs program are.within next.within;
+}
+
+next-at : (slot start b u b' u' number : ℕ) (drop content : List ℕ) (program : Program) → b ≡ b' → u ≡ u'
+    → IsProgramBehind slot start b u number drop content program → IsProgramBehind slot start b' u' number drop content program
+next-at slot start b u b' u' number drop content program eb eu next =
+    subst (λ (n : ℕ). IsProgramBehind slot start b' n number drop content program) eu (subst (λ (n : ℕ). IsProgramBehind slot start n u number drop content program) eb next)
+
+refused-at : (slot start b u b' u' number : ℕ) (drop content : List ℕ) (kind : SourceKind) (at : ℕ) → b ≡ b' → u ≡ u'
+    → IsRefusedBehind slot start b u number drop content kind at → IsRefusedBehind slot start b' u' number drop content kind at
+refused-at slot start b u b' u' number drop content kind at eb eu refused =
+    subst (λ (n : ℕ). IsRefusedBehind slot start b' n number drop content kind at) eu (subst (λ (n : ℕ). IsRefusedBehind slot start n u number drop content kind at) eb refused)
+
+-- none is read at first
+pub read-none : (told : Option Files) (slot start : ℕ) → ReadSoFar told slot start [] [] 0 0
+read-none told slot start = record {
+  contents = [];
+  held = told-none told;
+  are = record { hold = tt; few_bytes = omega arith; few_units = omega arith; within = All-nil (KeepsTime slot) };
+  bytes_are = refl;
+  units_are = refl;
+}
+  where
+    told-none : (told : Option Files) → IfSome told (λ files. HoldContents files [] [])
+    told-none None = tt
+    told-none (Some files) = tt
+
+one-more : (told : Option Files) (slot start : ℕ) (jobs : List ProgramJob) (job : ProgramJob) (programs : List Program) (bytes units size : ℕ) (program : Program)
+    → ReadSoFar told slot start jobs programs bytes units
+    → IsNextOn told job.file slot start bytes units job.program job.drop.items size program
+    → ReadSoFar told slot start (jobs ++ job ∷ []) (programs ++ program ∷ []) (bytes + size) (units + length program.units)
+one-more told slot start jobs job programs bytes units size program read next = record {
+  contents = read.contents ++ next.content ∷ [];
+  held = told-through told start jobs read.contents programs job [] next.content read.are.hold read.held next.held;
+  are = are-more slot start jobs read.contents programs job next.content program read.are
+      (next-at slot start bytes units (bytes_of_files read.contents) (units_of_programs programs) job.program job.drop.items next.content program read.bytes_are read.units_are next.next);
+  bytes_are = let a = read.bytes_are in let b = next.size_is in let c = sum_by_push length read.contents next.content in omega arith;
+  units_are = let a = read.units_are in let c = sum_by_push (λ (p : Program). length p.units) programs program in omega arith;
+}
+
+-- the next program is read
+pub read-more : (told : Option Files) (slot start : ℕ) (jobs : List ProgramJob) (i : ℕ) (job : ProgramJob) (programs : List Program) (bytes units size : ℕ) (program : Program)
+    → i < length jobs → job ≡ get_or jobs i job → ReadSoFar told slot start (take i jobs) programs bytes units
+    → IsNextOn told job.file slot start bytes units job.program job.drop.items size program
+    → ReadSoFar told slot start (take (i + 1) jobs) (programs ++ program ∷ []) (bytes + size) (units + length program.units)
+read-more told slot start jobs i job programs bytes units size program within is read next =
+    let front : take (i + 1) jobs ≡ take i jobs ++ job ∷ [] = take_more jobs i job within ∙ ap (λ (j : ProgramJob). take i jobs ++ j ∷ []) (sym is) in
+    subst (λ (done : List ProgramJob). ReadSoFar told slot start done (programs ++ program ∷ []) (bytes + size) (units + length program.units)) (sym front)
+    (one-more told slot start (take i jobs) job programs bytes units size program read next)
+
+-- all programs are read
+pub read-all : (told : Option Files) (job : Job) (programs : List Program) (bytes units : ℕ) → ReadSoFar told job.slot job.start job.programs programs bytes units
+    → AreProgramsOn told job programs
+read-all told job programs bytes units read = record { contents = read.contents; held = read.held; are = next-of job.slot job.start job.programs read.contents programs read.are }
+
+-- ---- what stops
+
+split-at : (jobs : List ProgramJob) (i : ℕ) (job : ProgramJob) → i < length jobs → job ≡ get_or jobs i job → jobs ≡ take i jobs ++ job ∷ drop (i + 1) jobs
+split-at jobs i job within is =
+    sym (take-append-drop i jobs) ∙ ap (λ (rest : List ProgramJob). take i jobs ++ rest) (drop_more jobs i job within ∙ ap (λ (j : ProgramJob). j ∷ drop (i + 1) jobs) (sym is))
+
+refused-on : (told : Option Files) (job : Job) (i : ℕ) (wanted : ProgramJob) (programs : List Program) (bytes units : ℕ) (fault : SourceFault)
+    → i < length job.programs → wanted ≡ get_or job.programs i wanted → ReadSoFar told job.slot job.start (take i job.programs) programs bytes units
+    → IsNextRefusedOn told wanted.file job.slot job.start bytes units wanted.program wanted.drop.items i fault → IsRefusedOn told job fault
+refused-on told job i wanted programs bytes units fault within is read refused =
+    let split = split-at job.programs i wanted within is in
+    record {
+      contents = read.contents ++ refused.content ∷ [];
+      held = subst (λ (jobs : List ProgramJob). IfSome told (λ files. HoldContents files jobs (read.contents ++ refused.content ∷ []))) (sym split)
+          (told-through told job.start (take i job.programs) read.contents programs wanted (drop (i + 1) job.programs) refused.content read.are.hold read.held refused.held);
+      refused = record {
+        before = take i job.programs;
+        refused = wanted;
+        after = drop (i + 1) job.programs;
+        split = split;
+        read = read.contents;
+        content = refused.content;
+        further = [];
+        contents_are = refl;
+        programs = programs;
+        programs_are = next-of job.slot job.start (take i job.programs) read.contents programs read.are;
+        number = refused.place_is ∙ sym (length-take-le i job.programs (omega arith));
+        refusal = refused-of job.slot job.start read.contents programs wanted refused.content fault.kind fault.at
+            (refused-at job.slot job.start bytes units (bytes_of_files read.contents) (units_of_programs programs) wanted.program wanted.drop.items refused.content fault.kind fault.at
+            read.bytes_are read.units_are refused.refused);
+      };
+    }
+
+stops-at : (told : Option Files) (job : Job) (i : ℕ) (wanted : ProgramJob) (programs : List Program) (bytes units number : ℕ)
+    → i < length job.programs → wanted ≡ get_or job.programs i wanted → ReadSoFar told job.slot job.start (take i job.programs) programs bytes units
+    → number ≡ i → StopsAt told job number wanted
+stops-at told job i wanted programs bytes units number within is read number_is = record {
+  before = take i job.programs;
+  after = drop (i + 1) job.programs;
+  split = split-at job.programs i wanted within is;
+  number_is = number_is ∙ sym (length-take-le i job.programs (omega arith));
+  contents = read.contents;
+  held = read.held;
+  programs = programs;
+  programs_are = next-of job.slot job.start (take i job.programs) read.contents programs read.are;
+}
+
+-- a program isn't read: so the job's programs aren't, for its cause
+pub not-read : (told : Option Files) (job : Job) (i : ℕ) (wanted : ProgramJob) (programs : List Program) (bytes units : ℕ) (old middle new : ShelfCounts) (since : ℕ) (fault : ProgramsFault)
+    → i < length job.programs → wanted ≡ get_or job.programs i wanted → ReadSoFar told job.slot job.start (take i job.programs) programs bytes units
+    → CountReads old middle → CountReads middle new
+    → HasNextCause told wanted.file job.slot job.start bytes units wanted.program wanted.drop.items i middle new since fault
+    → HasReadCause told job old new since fault
+not-read told job i wanted programs bytes units old middle new since (Refused fault) within is read before after cause =
+    refused-on told job i wanted programs bytes units fault within is read cause
+not-read told job i wanted programs bytes units old middle new since (Failed number) within is read before after cause = (
+  wanted,
+  stops-at told job i wanted programs bytes units number within is read cause.0,
+  rose_later old.faults middle.faults new.faults before.faults_grow after.faults_grow cause.1,
+  cause.2,
+)
+not-read told job i wanted programs bytes units old middle new since (Missing number) within is read before after cause = (
+  wanted,
+  stops-at told job i wanted programs bytes units number within is read cause.0,
+  cause.1,
+  rose_later old.absences middle.absences new.absences before.absences_grow after.absences_grow cause.2,
+  cause.3,
+)
+not-read told job i wanted programs bytes units old middle new since OutOfMemory within is read before after cause = tt
+
+-- the same of what a call says by the names and PIDs that it was given, over files that stayed
+pub went-on : (told told' : Option Files) (slot start : ℕ) (jobs : List ProgramJob) (i : ℕ) (job : ProgramJob) (programs : List Program) (bytes units size : ℕ) (program : Program)
+    (name drop : List ℕ) → told' ≡ told → name ≡ job.file → drop ≡ job.drop.items
+    → i < length jobs → job ≡ get_or jobs i job → ReadSoFar told slot start (take i jobs) programs bytes units
+    → IsNextOn told' name slot start bytes units job.program drop size program
+    → ReadSoFar told slot start (take (i + 1) jobs) (programs ++ program ∷ []) (bytes + size) (units + length program.units)
+went-on told told' slot start jobs i job programs bytes units size program name drop et en ed within is read next =
+    let n1 = subst (λ (t : Option Files). IsNextOn t name slot start bytes units job.program drop size program) et next in
+    let n2 = subst (λ (n : List ℕ). IsNextOn told n slot start bytes units job.program drop size program) en n1 in
+    let n3 = subst (λ (d : List ℕ). IsNextOn told job.file slot start bytes units job.program d size program) ed n2 in
+    read-more told slot start jobs i job programs bytes units size program within is read n3
+
+pub stopped : (told told' : Option Files) (job : Job) (i : ℕ) (wanted : ProgramJob) (programs : List Program) (bytes units place : ℕ) (name drop : List ℕ)
+    (old middle new : ShelfCounts) (since : ℕ) (fault : ProgramsFault) → told' ≡ told → name ≡ wanted.file → drop ≡ wanted.drop.items → place ≡ i
+    → i < length job.programs → wanted ≡ get_or job.programs i wanted → ReadSoFar told job.slot job.start (take i job.programs) programs bytes units
+    → CountReads old middle → CountReads middle new
+    → HasNextCause told' name job.slot job.start bytes units wanted.program drop place middle new since fault
+    → HasReadCause told job old new since fault
+stopped told told' job i wanted programs bytes units place name drop old middle new since fault et en ed ep within is read before after cause =
+    let c1 = subst (λ (t : Option Files). HasNextCause t name job.slot job.start bytes units wanted.program drop place middle new since fault) et cause in
+    let c2 = subst (λ (n : List ℕ). HasNextCause told n job.slot job.start bytes units wanted.program drop place middle new since fault) en c1 in
+    let c3 = subst (λ (d : List ℕ). HasNextCause told wanted.file job.slot job.start bytes units wanted.program d place middle new since fault) ed c2 in
+    let c4 = subst (λ (p : ℕ). HasNextCause told wanted.file job.slot job.start bytes units wanted.program wanted.drop.items p middle new since fault) ep c3 in
+    not-read told job i wanted programs bytes units old middle new since fault within is read before after c4

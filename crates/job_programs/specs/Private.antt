@@ -1,0 +1,4 @@
+-- What private functions of the crate stand on.
+pub mod Behind
+pub mod Next
+pub mod ReadSoFar

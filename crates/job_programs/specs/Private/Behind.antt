@@ -1,0 +1,61 @@
+-- Programs behind others, by the sums of what is before them, and of all of them at once.
+use Rattle.std.specs.Prelude.{◌≡◌, ℕ, ◌+◌, ◌<◌, ◌≤◌, List, [], ◌∷◌, length, All}
+use Rattle.job_report.specs.declared.job.ProgramJob.{ProgramJob}
+use Rattle.version_table.specs.declared.limits.TheConstants.{UNITS_MOST}
+use Rattle.program_reader.specs.declared.limits.TheConstants.{FILE_BYTES_MOST}
+use Rattle.program_reader.specs.declared.program.AudioPiece.{AudioPiece}
+use Rattle.program_reader.specs.declared.program.Program.{Program}
+use Rattle.program_reader.specs.declared.program_fault.ProgramFault.TheVariants.{Refused}
+use Rattle.program_reader.specs.declared.program_fault.SourceKind.{SourceKind}
+use Rattle.program_reader.specs.declared.program_fault.SourceKind.TheVariants.{ProgramLimit}
+use Rattle.program_reader.specs.Programs.{IsProgramOf, IsProgramRefused}
+use Rattle.job_programs.specs.Programs.{bytes_of_files, units_of_programs, last_time}
+
+-- a packet of audio is due, and gone, no later than this
+abbrev pub IsPieceBy : (last : ℕ) → AudioPiece → Type 0
+IsPieceBy last piece = (piece.packet.due ≤ last) × (piece.packet.gone ≤ last)
+
+-- no unit of a program is due, and no audio packet due or gone, past the last time
+pub record KeepsTime (slot : ℕ) (program : Program) : Type 0 where
+  pub units : All (λ unit. unit.due ≤ last_time slot) program.units
+  pub audios : All (λ audio. All (IsPieceBy (last_time slot)) audio.pieces) program.audios
+
+-- ---- one program behind others
+
+-- Behind files of so many bytes, whose programs have so many units: a file holds this program of a number, and the limits that they
+-- share are kept.
+pub record IsProgramBehind (slot start bytes units number : ℕ) (drop : List ℕ) (content : List ℕ) (program : Program) : Type 0 where
+  pub few_bytes : bytes + length content ≤ FILE_BYTES_MOST
+  pub holds : IsProgramOf content number drop start program
+  pub few_units : units + length program.units ≤ UNITS_MOST
+  pub within : KeepsTime slot program
+
+-- What refuses the next program, in this order: the bytes of the files together; what refuses the file by itself; the units of the
+-- programs together, and a time past the last.
+pub data IsRefusedBehind (slot start bytes units number : ℕ) (drop : List ℕ) (content : List ℕ) (kind : SourceKind) (at : ℕ) : Type 0 where
+  many_bytes : FILE_BYTES_MOST < bytes + length content → kind ≡ ProgramLimit → at ≡ 0
+      → IsRefusedBehind slot start bytes units number drop content kind at
+  file : bytes + length content ≤ FILE_BYTES_MOST → IsProgramRefused content number drop (Refused kind at)
+      → IsRefusedBehind slot start bytes units number drop content kind at
+  many_units : (program : Program) → bytes + length content ≤ FILE_BYTES_MOST → IsProgramOf content number drop start program
+      → UNITS_MOST < units + length program.units → kind ≡ ProgramLimit → at ≡ 0
+      → IsRefusedBehind slot start bytes units number drop content kind at
+  late : (program : Program) → bytes + length content ≤ FILE_BYTES_MOST → IsProgramOf content number drop start program
+      → ¬ KeepsTime slot program → kind ≡ ProgramLimit → at ≡ 0
+      → IsRefusedBehind slot start bytes units number drop content kind at
+
+-- ---- all programs
+
+-- each file holds the program that the job wants of it, by itself
+abbrev pub HoldPrograms : (start : ℕ) → List ProgramJob → (contents : List (List ℕ)) → List Program → Type 0
+HoldPrograms start [] [] [] = Unit {0}
+HoldPrograms start (job ∷ jobs) (content ∷ contents) (program ∷ programs) =
+    IsProgramOf content job.program job.drop.items start program × HoldPrograms start jobs contents programs
+HoldPrograms start jobs contents programs = ⊥
+
+-- Files with these contents, one for each of these programs of a job, hold these programs, and the limits that they share are kept.
+pub record AreProgramsOf (slot start : ℕ) (jobs : List ProgramJob) (contents : List (List ℕ)) (programs : List Program) : Type 0 where
+  pub hold : HoldPrograms start jobs contents programs
+  pub few_bytes : bytes_of_files contents ≤ FILE_BYTES_MOST
+  pub few_units : units_of_programs programs ≤ UNITS_MOST
+  pub within : All (KeepsTime slot) programs

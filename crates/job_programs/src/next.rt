@@ -1,0 +1,133 @@
+//! One program behind others: its file is read, and its program taken out of it.
+
+ghost use Rattle.std.specs.Prelude.{◌≡◌, ◌+◌, ◌≤◌, length, IfOk, IfErr, MatchResult};
+ghost use Rattle.job_report.specs.declared.limits.TheConstants.{START_MOST};
+ghost use Rattle.shelf_io.specs.Asked.{AsksUpTo};
+ghost use Rattle.version_table.specs.declared.limits.TheConstants.{SLOT_MOST};
+ghost use Rattle.job_programs.specs.Told.{CountReads};
+ghost use Rattle.job_programs.specs.Private.Behind.{IsProgramBehind};
+ghost use Rattle.job_programs.specs.Private.Next.{IsContentFault, IsNextOn, HasNextCause, IsNextFault};
+
+use crate::source_fault::{ProgramsFault, SourceFault};
+use crate::times::is_within_time;
+use program_reader::limits::FILE_BYTES_MOST;
+use program_reader::{Program, ProgramFault, SourceKind, read_program};
+use shelf_io::{Fault, Shelf, read_file};
+use std::alloc::Global;
+use version_table::limits::UNITS_MOST;
+
+/// A program that is wanted, and what stands before it in its job.
+#[derive(Clone, Copy)]
+pub(crate) struct Wanted<'a> {
+    /// Its place in the job, from 0.
+    pub place: u8,
+    pub file: &'a str,
+    pub number: u16,
+    /// The PIDs of audio streams that aren't carried.
+    pub drop: &'a [u16],
+    /// When its earliest time is due, in ticks.
+    pub start: u64,
+    /// Ticks of a packet slot.
+    pub slot: u32,
+    /// The bytes of the files before it, together.
+    pub bytes: usize,
+    /// The units of the programs before it, together.
+    pub units: usize,
+}
+
+/// A program, and how many bytes its file has.
+#[derive(Drop)]
+pub(crate) struct NextProgram {
+    pub program: Program,
+    pub size: usize,
+}
+
+/// Reads the next program from its file, of which no more is read than the files before it leave of the limit, and one byte.
+pub(crate) fn read_next<K: Shelf>(
+    alloc: Global,
+    shelf: &mut K,
+    wanted: &Wanted<'_>,
+) -> Result<NextProgram, ProgramsFault>
+    requires start { wanted.now.start ≤ START_MOST }
+    requires slot { wanted.now.slot ≤ SLOT_MOST }
+    requires bytes { wanted.now.bytes ≤ FILE_BYTES_MOST }
+    requires units { wanted.now.units ≤ UNITS_MOST }
+    ensures next { IfOk result (λ next. IsNextOn (K.files shelf.old) wanted.now.file.now wanted.now.slot wanted.now.start wanted.now.bytes wanted.now.units
+        wanted.now.number wanted.now.drop.now next.size next.program) }
+    ensures cause { IfErr result (HasNextCause (K.files shelf.old) wanted.now.file.now wanted.now.slot wanted.now.start wanted.now.bytes wanted.now.units
+        wanted.now.number wanted.now.drop.now wanted.now.place (K.counts shelf.old) (K.counts shelf.new) (K.since_fault shelf.new)) }
+
+    ensures files { K.files shelf.new ≡ K.files shelf.old }
+    ensures asked { AsksUpTo wanted.now.file.now (FILE_BYTES_MOST + 1) (K.asked shelf.old) (K.asked shelf.new) }
+    ensures counts { CountReads (K.counts shelf.old) (K.counts shelf.new) }
+{
+    let limit = (FILE_BYTES_MOST - wanted.bytes) as u64;
+    match read_file(alloc, shelf, wanted.file, limit) {
+        Ok(content) => from_content(alloc, content.as_slice(), wanted),
+        Err(Fault::Failed) => Err(ProgramsFault::Failed(wanted.place)),
+        Err(Fault::Missing) => Err(ProgramsFault::Missing(wanted.place)),
+        Err(Fault::OutOfMemory) => Err(ProgramsFault::OutOfMemory),
+    }
+}
+
+/// Takes the next program out of the bytes that were read of its file.
+fn from_content(
+    alloc: Global,
+    content: &[u8],
+    wanted: &Wanted<'_>,
+) -> Result<NextProgram, ProgramsFault>
+    requires start { wanted.now.start ≤ START_MOST }
+    requires slot { wanted.now.slot ≤ SLOT_MOST }
+    requires bytes { wanted.now.bytes ≤ FILE_BYTES_MOST }
+    requires units { wanted.now.units ≤ UNITS_MOST }
+    ensures next { IfOk result (λ next. (next.size ≡ length content.now) × IsProgramBehind wanted.now.slot wanted.now.start wanted.now.bytes wanted.now.units
+        wanted.now.number wanted.now.drop.now content.now next.program) }
+    ensures fault { IfErr result (IsContentFault wanted.now.slot wanted.now.start wanted.now.bytes wanted.now.units
+        wanted.now.number wanted.now.drop.now wanted.now.place content.now) }
+{
+    match next_program(alloc, content, wanted) {
+        Ok(program) => Ok(NextProgram {
+            program,
+            size: content.len(),
+        }),
+        Err(ProgramFault::Refused { kind, at }) => Err(ProgramsFault::Refused(SourceFault {
+            program: wanted.place,
+            kind,
+            at,
+        })),
+        Err(ProgramFault::OutOfMemory) => Err(ProgramsFault::OutOfMemory),
+    }
+}
+
+/// The next program in the bytes of its file, or the first of what refuses it.
+fn next_program(alloc: Global, content: &[u8], wanted: &Wanted<'_>) -> Result<Program, ProgramFault>
+    requires start { wanted.now.start ≤ START_MOST }
+    requires slot { wanted.now.slot ≤ SLOT_MOST }
+    requires bytes { wanted.now.bytes ≤ FILE_BYTES_MOST }
+    requires units { wanted.now.units ≤ UNITS_MOST }
+    ensures { MatchResult result
+        (IsProgramBehind wanted.now.slot wanted.now.start wanted.now.bytes wanted.now.units wanted.now.number wanted.now.drop.now content.now)
+        (IsNextFault wanted.now.slot wanted.now.start wanted.now.bytes wanted.now.units wanted.now.number wanted.now.drop.now content.now) }
+{
+    if content.len() > FILE_BYTES_MOST - wanted.bytes {
+        return Err(passes_limit());
+    }
+    let program = read_program(alloc, content, wanted.number, wanted.drop, wanted.start)?;
+    if program.units.len() > UNITS_MOST - wanted.units {
+        return Err(passes_limit());
+    }
+    if !is_within_time(&program, wanted.slot) {
+        return Err(passes_limit());
+    }
+    Ok(program)
+}
+
+/// A limit of this project is passed.
+fn passes_limit() -> ProgramFault
+    ensures { result ≡ ProgramFault.Refused SourceKind.ProgramLimit 0 }
+{
+    ProgramFault::Refused {
+        kind: SourceKind::ProgramLimit,
+        at: 0,
+    }
+}

@@ -1,0 +1,73 @@
+ghost use Rattle.std.specs.Prelude.{◌≡◌, ◌+◌, ◌≤◌, ◌↔◌, IsTrue, IfOk, IfErr};
+ghost use Rattle.job_report.specs.declared.limits.TheConstants.{START_MOST};
+ghost use Rattle.shelf_io.specs.Asked.{AsksUpTo};
+ghost use Rattle.version_table.specs.declared.limits.TheConstants.{SLOT_MOST};
+ghost use Rattle.program_reader.specs.declared.limits.TheConstants.{FILE_BYTES_MOST};
+ghost use Rattle.job_programs.specs.Probe.{audio_packets};
+ghost use Rattle.job_programs.specs.Told.{CountReads, HasProbeCause, IsProbedOn};
+
+use crate::next::{Wanted, read_next};
+use crate::source_fault::{ProgramsFault, SourceFault};
+use program_reader::{AudioSource, Program, SourceKind};
+use shelf_io::Shelf;
+use std::alloc::Global;
+use version_table::limits::TEXT_AUDIO_PACKETS_MOST;
+
+/// The program of this number in a file, without the audio streams of the PIDs in `drop`, its earliest time due at `start`
+/// (in ticks), for a stream of such slots, as the one program of a job whose table's text has room for it; or why it isn't read, in
+/// the words of the first program of a job. No file is changed.
+pub fn read_one<K: Shelf>(
+    alloc: Global,
+    shelf: &mut K,
+    name: &str,
+    number: u16,
+    drop: &[u16],
+    start: u64,
+    slot: u32,
+) -> Result<Program, ProgramsFault>
+    requires start { start ≤ START_MOST }
+    requires slot { slot ≤ SLOT_MOST }
+    ensures program { IfOk result (IsProbedOn (K.files shelf.old) name.now slot start number drop.now) }
+    ensures cause { IfErr result (HasProbeCause (K.files shelf.old) name.now slot start number drop.now (K.counts shelf.old) (K.counts shelf.new) (K.since_fault shelf.new)) }
+
+    ensures files { K.files shelf.new ≡ K.files shelf.old }
+    ensures asked { AsksUpTo name.now (FILE_BYTES_MOST + 1) (K.asked shelf.old) (K.asked shelf.new) }
+    ensures counts { CountReads (K.counts shelf.old) (K.counts shelf.new) }
+{
+    let next = read_next(
+        alloc,
+        shelf,
+        &Wanted {
+            place: 0,
+            file: name,
+            number,
+            drop,
+            start,
+            slot,
+            bytes: 0,
+            units: 0,
+        },
+    )?;
+    if !has_few_packets(next.program.audios.as_slice()) {
+        return Err(ProgramsFault::Refused(SourceFault {
+            program: 0,
+            kind: SourceKind::ProgramLimit,
+            at: 0,
+        }));
+    }
+    Ok(next.program)
+}
+
+/// True where a table's text has room for the packets of these audio streams.
+fn has_few_packets(audios: &[AudioSource]) -> bool
+    ensures { IsTrue result ↔ (audio_packets audios.now ≤ TEXT_AUDIO_PACKETS_MOST) }
+{
+    let mut room = TEXT_AUDIO_PACKETS_MOST;
+    for audio in audios {
+        if audio.pieces.len() > room {
+            return false;
+        }
+        room -= audio.pieces.len();
+    }
+    true
+}

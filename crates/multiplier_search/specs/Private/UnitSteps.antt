@@ -1,0 +1,77 @@
+-- The steps of a table's units, and a sweep over them.
+use Rattle.std.specs.Prelude.{◌≡◌, ℕ, ◌+◌, ◌*◌, ◌<◌, ◌≤◌, ◌^◌, ◌⊎◌, List, [], ◌∷◌, ◌++◌, length, map, sum_by, Option, Some, None, ◌<ℤ◌}
+use Rattle.std.specs.List.{Contains}
+use Rattle.version_table.specs.declared.table.Unit.{Unit as CodedUnit}
+use Rattle.version_table.specs.declared.table.Table.{Table}
+use Rattle.version_table.specs.Table.{units_of}
+use Rattle.dual_bounds.specs.declared.constants.TheConstants.{LAMBDA_MOST}
+use Rattle.dual_bounds.specs.declared.windows.Window.{Window}
+use Rattle.dual_bounds.specs.Fixed.{allowed}
+use Rattle.dual_bounds.specs.Values.{least_costs}
+use Rattle.cost_sweep.specs.declared.step.CostStep.{CostStep}
+use Rattle.cost_sweep.specs.declared.sweep.CostSweep.{CostSweep}
+use Rattle.cost_sweep.specs.Steps.{AreSmall, paid_by, spared_by}
+use Rattle.cost_sweep.specs.Sweep.{HasReached, IsSweep}
+use Rattle.cost_steps.specs.Steps.{TellLeast}
+use Rattle.multiplier_search.specs.declared.single.Valued.{Valued}
+use Rattle.multiplier_search.specs.Single.{IsFirstBest, dues_of, value_alone}
+
+-- the due times of some steps
+abbrev pub times_of : List CostStep → List ℕ
+times_of steps = map (λ step. step.due) steps
+
+-- one window from time 0 on
+abbrev pub alone : (due lambda : ℕ) → List Window
+alone due lambda = record { from = 0; due = due; lambda = lambda } ∷ []
+
+-- the steps of a unit's allowed versions are put behind others
+pub record AddUnit (unit : CodedUnit) (entry : Option ℕ) (before after : List CostStep) : Type 0 where
+  pub own : List CostStep
+  pub is : after ≡ before ++ own
+  pub tell : TellLeast unit.due (allowed unit entry) own
+
+-- the steps of some units are put behind others
+pub record AddSteps (units : List CodedUnit) (fixed : List (Option ℕ)) (before after : List CostStep) : Type 0 where
+  pub costs : (due lambda : ℕ) → lambda ≤ LAMBDA_MOST
+      → (least_costs (alone due lambda) units fixed + sum_by (spared_by due lambda) after) + sum_by (paid_by due lambda) before
+      ≡ sum_by (paid_by due lambda) after + sum_by (spared_by due lambda) before
+  pub count : length after ≤ length before + length units * 2 ^ 15
+  pub rises : sum_by (λ step. step.rise) after ≤ sum_by (λ step. step.rise) before + length units * 2 ^ 63
+  pub packets : sum_by (λ step. step.packets) after ≤ sum_by (λ step. step.packets) before + length units * 2 ^ 17
+  pub fewer : sum_by (λ step. step.fewer) after ≤ sum_by (λ step. step.fewer) before + length units * 2 ^ 17
+  pub from : (time : ℕ) → Contains (times_of after) time → Contains (times_of before) time ⊎ Contains (dues_of units) time
+  pub kept : (time : ℕ) → Contains (times_of before) time → Contains (times_of after) time
+  pub all : (time : ℕ) → Contains (dues_of units) time → Contains (times_of after) time
+
+-- the steps of all units of a table: what the units cost at least under one window from time 0 on is what the steps add less what they take
+pub record AreStepsOf (table : Table) (fixed : List (Option ℕ)) (steps : List CostStep) : Type 0 where
+  pub costs : (due lambda : ℕ) → lambda ≤ LAMBDA_MOST
+      → least_costs (alone due lambda) (units_of table) fixed + sum_by (spared_by due lambda) steps ≡ sum_by (paid_by due lambda) steps
+  pub small : AreSmall steps
+  pub from : (time : ℕ) → Contains (times_of steps) time → Contains (dues_of (units_of table)) time
+  pub all : (time : ℕ) → Contains (dues_of (units_of table)) time → Contains (times_of steps) time
+
+-- a sweep over the steps of all units of a table
+pub record IsSweepOf (table : Table) (fixed : List (Option ℕ)) (sweep : CostSweep) : Type 0 where
+  pub is : IsSweep sweep
+  pub steps : AreStepsOf table fixed sweep.steps.items
+
+-- the value that stands beside a multiplier is its value alone
+abbrev pub IsValued : Table → List (Option ℕ) → Valued → Type 0
+IsValued table fixed valued = valued.value ≡ value_alone table fixed valued.multiplier
+
+-- a multiplier with its value is no worse than another
+abbrev pub IsNoWorseValued : Valued → (other : Valued) → Type 0
+IsNoWorseValued a b =
+    (b.value <ℤ a.value)
+    ⊎ ((b.value ≡ a.value)
+    × ((a.multiplier.due < b.multiplier.due) ⊎ ((a.multiplier.due ≡ b.multiplier.due) × (a.multiplier.lambda ≤ b.multiplier.lambda))))
+
+-- the one of two multipliers with their values that is no worse
+abbrev pub IsBetterValued : (a b better : Valued) → Type 0
+IsBetterValued a b better = ((better ≡ a) × IsNoWorseValued a b) ⊎ ((better ≡ b) × IsNoWorseValued b a)
+
+-- the first best multiplier at these due times and its value; none where there is no time
+abbrev pub IsBestValued : Table → List (Option ℕ) → List ℕ → Option Valued → Type 0
+IsBestValued table fixed dues None = dues ≡ []
+IsBestValued table fixed dues (Some valued) = IsFirstBest table fixed dues valued.multiplier × IsValued table fixed valued

@@ -1,0 +1,56 @@
+ghost use Rattle.std.specs.Prelude.{◌≡◌, ◌≤◌, ℕ, List, Option, pos, neg_ℤ, ◌^◌, ◌*ℤ◌, ◌≤ℤ◌};
+ghost use Rattle.version_table.specs.declared.table.Table.{Table as TableOfUnits};
+ghost use Rattle.dual_bounds.specs.declared.constants.TheConstants.{LAMBDA_MOST};
+ghost use Rattle.dual_bounds.specs.Room.{room};
+ghost use Rattle.cost_sweep.specs.Sweep.{HasReached, IsSweep};
+ghost use Rattle.multiplier_search.specs.Private.Lambda.{EndsRise, RisesTo, value_at};
+ghost use Rattle.multiplier_search.specs.Private.UnitSteps.{AreStepsOf};
+
+use cost_sweep::CostSweep;
+use dual_bounds::constants::LAMBDA_MOST;
+
+/// The least lambda with the greatest value at the last due time of a sweep: values rise up to it and no more, since each
+/// rise is at most the one before.
+pub fn swept_lambda(sweep: &CostSweep, capacity: i64) -> u64
+    requires { IsSweep sweep.now }
+    ensures most { result ≤ LAMBDA_MOST }
+    ensures rises { (table : TableOfUnits) (fixed : List (Option ℕ)) (due : ℕ) → AreStepsOf table fixed sweep.now.steps.items
+        → HasReached due sweep.now → capacity ≡ room table 0 due → RisesTo (value_at table fixed 0 due) result }
+    ensures ends { (table : TableOfUnits) (fixed : List (Option ℕ)) (due : ℕ) → AreStepsOf table fixed sweep.now.steps.items
+        → HasReached due sweep.now → capacity ≡ room table 0 due → EndsRise (value_at table fixed 0 due) result }
+{
+    let mut low = 0;
+    let mut high = LAMBDA_MOST;
+    while low < high {
+        let middle = low + (high - low) / 2;
+        let value = swept_value(sweep, capacity, middle);
+        let next = swept_value(sweep, capacity, middle + 1);
+        if value < next {
+            low = middle + 1;
+        } else {
+            high = middle;
+        }
+    }
+    low
+}
+
+/// The value of a lambda at the last due time of a sweep, where the room up to it is this.
+pub fn swept_value(sweep: &CostSweep, capacity: i64, lambda: u64) -> i128
+    requires sweep { IsSweep sweep.now }
+    requires lambda { lambda ≤ LAMBDA_MOST }
+    ensures { (table : TableOfUnits) (fixed : List (Option ℕ)) (due : ℕ) → AreStepsOf table fixed sweep.now.steps.items
+        → HasReached due sweep.now → capacity ≡ room table 0 due → result ≡ value_at table fixed 0 due lambda }
+{
+    let costs = sweep.costs(lambda);
+    costs.paid as i128 - costs.spared as i128 - worth_of(capacity, lambda)
+}
+
+/// What a capacity is worth.
+fn worth_of(capacity: i64, lambda: u64) -> i128
+    requires { lambda ≤ LAMBDA_MOST }
+    ensures value { result ≡ pos lambda *ℤ capacity }
+    ensures low { neg_ℤ (pos (2 ^ 103)) ≤ℤ result }
+    ensures high { result ≤ℤ pos (2 ^ 103) }
+{
+    i128::from(lambda) * i128::from(capacity)
+}

@@ -1,0 +1,7 @@
+use Rattle.std.proofs.Common.{take}
+use Rattle.program_reader.specs.Private.Dues.{Lowers}
+use Rattle.program_reader.specs.Private.Sources.{frame_times}
+use Rattle.program_reader.proofs.due.EarliestTime.of_streams.Given as goal
+
+abbrev pub invariant-loop-stream : goal.invariant-loop-stream
+invariant-loop-stream l = Lowers (frame_times (take l.stream-index l.streams)) l.fn.self.ticks l.earliest.ticks

@@ -1,0 +1,68 @@
+//! A program of streams that are read.
+ghost use Rattle.std.specs.Prelude.{◌≡◌, ◌≤◌, ◌<◌, ◌^◌, length, All, IfOk};
+ghost use Rattle.std.specs.List.{sum_by};
+ghost use Rattle.program_reader.specs.Programs.{IsProgram};
+ghost use Rattle.program_reader.specs.Private.AudioStarts.{AreStreamsRead};
+ghost use Rattle.program_reader.specs.Private.Sources.{IsVideoRead};
+
+use crate::audio_sources::audio_sources;
+use crate::audio_stream::ReadStream;
+use crate::due::due_units;
+use crate::limits::PACKETS_MOST;
+use crate::program::Program;
+use crate::video_stream::ReadVideo;
+use list_types::OutOfMemory;
+use std::alloc::Global;
+use stream_constants::limits::AUDIOS_MOST;
+use ts_demux::Demuxed;
+use version_table::limits::UNITS_MOST;
+
+/// The program of streams that are read, its earliest time due at `start`.
+pub fn due_program(
+    alloc: Global,
+    demuxed: Demuxed,
+    video: ReadVideo,
+    streams: &[ReadStream],
+    start: u64,
+) -> Result<Program, OutOfMemory>
+    requires start { start < 2 ^ 50 }
+    requires audios_few { All (λ stream. length stream.units ≤ PACKETS_MOST) demuxed.audios }
+    requires audios_small { All (λ stream. sum_by (λ packet. length packet.bytes) stream.units < 2 ^ 30) demuxed.audios }
+    requires few_audios { length demuxed.audios ≤ AUDIOS_MOST }
+    requires video { IsVideoRead demuxed video }
+    requires streams { AreStreamsRead video.first.stated demuxed.audios streams.now }
+    requires few { length video.units.items ≤ UNITS_MOST }
+    ensures { IfOk result (IsProgram start demuxed) }
+{
+    let first = video.first_ticks();
+    let earliest = first.of_units(video.units.as_slice()).of_streams(streams);
+    let clock = earliest.clock(start);
+    let units = due_units(alloc, video.units.as_slice(), &clock)?;
+    let audios = audio_sources(alloc, demuxed.audios.as_slice(), streams, &clock)?;
+    Ok(Program {
+        map: demuxed.map,
+        base: clock.base(),
+        vbv: video.first.seq.vbv,
+        units,
+        audios,
+        units_dropped: video.units_dropped,
+        pes_dropped: video.taken.dropped + audio_packets_dropped(streams),
+        rest: demuxed.rest,
+        not_carried: demuxed.not_carried,
+        video: video.into_bytes(),
+    })
+}
+
+/// How many PES packets of audio streams are dropped.
+fn audio_packets_dropped(streams: &[ReadStream]) -> u32
+    requires few { length streams.now ≤ AUDIOS_MOST }
+    requires each { All (λ one. one.taken.dropped ≤ 1) streams.now }
+    ensures sum { result ≡ sum_by (λ one. one.taken.dropped) streams.now }
+    ensures most { result ≤ AUDIOS_MOST }
+{
+    let mut dropped = 0;
+    for stream in streams {
+        dropped += stream.taken.dropped;
+    }
+    dropped
+}

@@ -1,0 +1,79 @@
+//! The program of a file.
+ghost use Rattle.std.specs.Prelude.{◌≡◌, ◌⊎◌, ◌≤◌, ◌<◌, ◌^◌, length, All, MatchResult};
+ghost use Rattle.std.specs.List.{sum_by};
+ghost use Rattle.program_reader.specs.declared.program_fault.ProgramFault.TheVariants.{OutOfMemory};
+ghost use Rattle.program_reader.specs.Programs.{IsProgram, IsDemuxedRefused, IsProgramOf, IsProgramRefused};
+
+use crate::audio_stream::read_streams;
+use crate::due_program::due_program;
+use crate::limits::{FILE_BYTES_MOST, PACKETS_MOST};
+use crate::program::Program;
+use crate::program_fault::{ProgramFault, SourceKind, demux_refused};
+use crate::stream_sizes::stream_sizes;
+use crate::video_stream::read_video;
+use job_report::limits::START_MOST;
+use std::alloc::Global;
+use stream_constants::limits::AUDIOS_MOST;
+use ts_demux::{Demuxed, demux};
+use version_table::limits::UNITS_MOST;
+
+/// What is said of a limit that is passed.
+const PROGRAM_LIMIT: ProgramFault = ProgramFault::Refused {
+    kind: SourceKind::ProgramLimit,
+    at: 0,
+};
+
+/// Reads a program of a transport stream: its units and audio packets with the times at which a decoder wants them, the earliest
+/// one at `start`, without the audio streams whose PIDs are in `drop`. An error is the first refusal of the file in the order of
+/// reading, with its place, or want of memory. Beside the file at most three times the payload of the carried streams is held.
+pub fn read_program(
+    alloc: Global,
+    file: &[u8],
+    number: u16,
+    drop: &[u16],
+    start: u64,
+) -> Result<Program, ProgramFault>
+    requires start { start ≤ START_MOST }
+    ensures { MatchResult result (IsProgramOf file.now number drop.now start) (IsProgramRefused file.now number drop.now) }
+{
+    if file.len() > FILE_BYTES_MOST {
+        return Err(PROGRAM_LIMIT);
+    }
+    stream_sizes();
+    let demuxed = match demux(alloc, file, number, drop) {
+        Ok(demuxed) => demuxed,
+        Err(fault) => return Err(demux_refused(fault)),
+    };
+    match program_of(alloc, demuxed, start) {
+        Ok(program) => Ok(program),
+        Err(fault) => Err(fault),
+    }
+}
+
+/// The program of what is taken out of a file. An error is the first refusal of its video, its audio streams and the number of its
+/// units, in this order.
+fn program_of(alloc: Global, demuxed: Demuxed, start: u64) -> Result<Program, ProgramFault>
+    requires start { start < 2 ^ 50 }
+    requires video_few { length demuxed.video ≤ PACKETS_MOST }
+    requires video_small { sum_by (λ packet. length packet.bytes) demuxed.video < 2 ^ 30 }
+    requires audios_few { All (λ stream. length stream.units ≤ PACKETS_MOST) demuxed.audios }
+    requires audios_small { All (λ stream. sum_by (λ packet. length packet.bytes) stream.units < 2 ^ 30) demuxed.audios }
+    requires few_audios { length demuxed.audios ≤ AUDIOS_MOST }
+    ensures { MatchResult result (IsProgram start demuxed) (λ fault. (fault ≡ OutOfMemory) ⊎ IsDemuxedRefused demuxed fault) }
+{
+    let video = match read_video(alloc, &demuxed) {
+        Ok(video) => video,
+        Err(fault) => return Err(fault),
+    };
+    let streams = match read_streams(alloc, demuxed.audios.as_slice(), &video.first_time()) {
+        Ok(streams) => streams,
+        Err(fault) => return Err(fault),
+    };
+    if video.units.as_slice().len() > UNITS_MOST {
+        return Err(PROGRAM_LIMIT);
+    }
+    match due_program(alloc, demuxed, video, streams.as_slice(), start) {
+        Ok(program) => Ok(program),
+        Err(_) => Err(ProgramFault::OutOfMemory),
+    }
+}

@@ -1,0 +1,115 @@
+//! The video of a program: its PES packets, and its units with their pictures and times.
+ghost use Rattle.std.specs.Prelude.{◌≡◌, ◌⊎◌, ◌≤◌, ◌<◌, ◌^◌, length, true, MatchResult, Some};
+ghost use Rattle.std.specs.List.{sum_by};
+ghost use Rattle.ts_demux.specs.declared.demuxed.Demuxed.{Demuxed};
+ghost use Rattle.es_units.specs.Units.{cut_units};
+ghost use Rattle.program_reader.specs.declared.program_fault.ProgramFault.TheVariants.{OutOfMemory};
+ghost use Rattle.program_reader.specs.Programs.{IsDemuxedRefused};
+ghost use Rattle.program_reader.specs.Private.KeptUnits.{AreUnitsKept};
+ghost use Rattle.program_reader.specs.Private.Sources.{IsVideoRead};
+ghost use Rattle.program_reader.specs.Private.TakenPackets.{AreTaken};
+
+use crate::audio_starts::AxisTime;
+use crate::cut_places::cut_places;
+use crate::due::EarliestTime;
+use crate::kept_units::{KeptUnit, KeptUnits, keep_units};
+use crate::limits::PACKETS_MOST;
+use crate::pes_packets::{TakenPackets, take_packets};
+use crate::program_fault::{ProgramFault, SourceKind};
+use crate::timed_picture::TimedPicture;
+use es_units::{UnitFault, Units, split_units};
+use list_types::ListOf;
+use std::alloc::Global;
+use ts_demux::Demuxed;
+
+/// What is read of a video.
+#[derive(Drop)]
+pub struct ReadVideo {
+    /// Its PES packets.
+    pub taken: TakenPackets,
+    /// The units that are kept.
+    pub units: Vec<KeptUnit>,
+    /// The picture of the first one.
+    pub first: TimedPicture,
+    /// How many units are dropped at both ends.
+    pub units_dropped: u32,
+}
+
+/// What is said where no unit is left.
+const NO_SEQUENCE: ProgramFault = ProgramFault::Refused {
+    kind: SourceKind::NoSequence,
+    at: 0,
+};
+
+/// Reads the video of what is taken out of a file. An error is the first fault of its PES packets, or that no unit is left, or else
+/// the first refusal of the first unit that is refused.
+pub fn read_video(alloc: Global, demuxed: &Demuxed) -> Result<ReadVideo, ProgramFault>
+    requires few { length demuxed.now.video ≤ PACKETS_MOST }
+    requires size { sum_by (λ packet. length packet.bytes) demuxed.now.video < 2 ^ 30 }
+    ensures { MatchResult result (IsVideoRead demuxed.now) (λ fault. (fault ≡ OutOfMemory) ⊎ IsDemuxedRefused demuxed.now fault) }
+{
+    cut_places();
+    let taken = match take_packets(alloc, demuxed.video.as_slice(), true) {
+        Ok(taken) => taken,
+        Err(fault) => return Err(fault),
+    };
+    let units = match split_units(alloc, taken.payload.as_slice()) {
+        Ok(units) => units,
+        Err(UnitFault::NoSequence { at: _ }) => return Err(NO_SEQUENCE),
+        Err(UnitFault::OutOfMemory) => return Err(ProgramFault::OutOfMemory),
+    };
+    match keep_units(alloc, &taken, units.cuts.as_slice()) {
+        Ok(kept) => read_units(taken, &units, kept),
+        Err(fault) => Err(fault),
+    }
+}
+
+/// A video of which these units are kept, if there are any.
+fn read_units(
+    taken: TakenPackets,
+    units: &Units,
+    kept: KeptUnits,
+) -> Result<ReadVideo, ProgramFault>
+    requires units { cut_units taken.payload.items ≡ Some units.now }
+    requires kept { AreUnitsKept taken.payload.items taken.packets.items units.now.cuts kept }
+    ensures { (demuxed : Demuxed) → AreTaken true demuxed.video taken → MatchResult result (IsVideoRead demuxed) (IsDemuxedRefused demuxed) }
+{
+    match kept.first {
+        Some(first) => Ok(ReadVideo {
+            taken,
+            units: kept.units,
+            first,
+            units_dropped: units.dropped.saturating_add(kept.dropped),
+        }),
+        None => Err(NO_SEQUENCE),
+    }
+}
+
+impl ReadVideo {
+    /// Its bytes.
+    pub fn into_bytes(self) -> ListOf<u8>
+        ensures { result ≡ self.taken.payload.items }
+    {
+        let ReadVideo { taken, .. } = self;
+        let TakenPackets { payload, .. } = taken;
+        ListOf::from_vec(payload)
+    }
+
+    /// The time of its first picture, in units of 1/90,000 s.
+    pub fn first_time(&self) -> AxisTime
+        ensures { result.time ≡ self.now.first.stated }
+    {
+        AxisTime {
+            time: self.first.stated,
+        }
+    }
+
+    /// The same in ticks.
+    pub fn first_ticks(&self) -> EarliestTime
+        ensures { result.ticks ≡ self.now.first.ticks }
+    {
+        EarliestTime {
+            ticks: self.first.ticks,
+        }
+    }
+}

@@ -1,0 +1,4 @@
+pub mod Growing
+pub mod Powers
+pub mod Sums
+pub mod Zeros
