@@ -2,4 +2,5 @@ mod AllVersions
 mod Cuts
 mod Examples
 mod PacketLemmas
+mod ReadPrograms
 mod StateLemmas
