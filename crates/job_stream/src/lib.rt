@@ -4,6 +4,8 @@
 //! `program_table`.
 #![tactic(auto)]
 
+pub mod laws;
+mod layout;
 mod write;
 
 pub use write::write_job_stream;
