@@ -1,5 +1,5 @@
 -- The table of the programs of a job: what the planner is given of them.
-use Rattle.std.specs.Prelude.{◌≡◌, ℕ, ◌+◌, ◌*◌, List, [], ◌∷◌, length, map}
+use Rattle.std.specs.Prelude.{◌≡◌, ℕ, ◌+◌, ◌*◌, List, [], ◌∷◌, length, map, None}
 use Rattle.job_report.specs.declared.job.Job.{Job}
 use Rattle.job_report.specs.declared.job.ProgramJob.{ProgramJob}
 use Rattle.version_table.specs.declared.table.Version.{Version}
@@ -12,7 +12,7 @@ use Rattle.program_reader.specs.declared.program.AudioSource.{AudioSource}
 use Rattle.program_reader.specs.declared.program.Program.{Program}
 use Rattle.program_reader.specs.declared.program.UnitSource.{UnitSource}
 use Rattle.version_maker.specs.declared.version.UnitVersion.{UnitVersion}
-use Rattle.version_source.specs.Versions.{AreAllVersions, ratios_of}
+use Rattle.version_source.specs.Versions.{AreAllVersions, AreVideoVersions, ratios_of}
 
 -- a version of a unit: the bytes of its PES packet, header included, and its distortion as much as the program weighs
 abbrev pub row_version : (weight : ℕ) → UnitSource → UnitVersion → Version
@@ -36,6 +36,12 @@ audio_row audio = map (λ piece. piece.packet) audio.pieces
 abbrev pub program_row : (weight : ℕ) → Program → List (List UnitVersion) → ProgramRow
 program_row weight program versions =
     record { vbv = program.vbv; units = unit_rows weight program.units versions; audios = map audio_row program.audios }
+
+-- The row of a program with all versions of its units at some ratios.
+pub record IsRowOf (program : Program) (coarser : List ℕ) (weight : ℕ) (row : ProgramRow) : Type 0 where
+  pub versions : List (List UnitVersion)
+  pub are_versions : AreVideoVersions program.video coarser None program.units versions
+  pub row_is : row ≡ program_row weight program versions
 
 -- the programs of a job, each with the weight that the job gives it
 abbrev pub program_rows : List ProgramJob → List Program → List (List (List UnitVersion)) → List ProgramRow

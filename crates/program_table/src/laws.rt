@@ -1,11 +1,42 @@
 //! What holds of the tables of programs.
-ghost use Rattle.std.specs.Prelude.{◌≡◌, ◌≤◌, List, length, All};
+ghost use Rattle.std.specs.Prelude.{◌≡◌, ◌≤◌, ◌<◌, ℕ, List, All, length};
+ghost use Rattle.std.specs.List.{flat_map};
+ghost use Rattle.bit_lists.specs.Fields.{AreBytes};
 ghost use Rattle.job_report.specs.declared.job.Job.{Job};
+ghost use Rattle.job_report.specs.ValidJob.{IsValidJob};
 ghost use Rattle.program_reader.specs.declared.program.Program.{Program};
+ghost use Rattle.program_reader.specs.Programs.{IsProgramOf};
+ghost use Rattle.version_table.specs.declared.table.ProgramRow.{ProgramRow};
 ghost use Rattle.version_table.specs.declared.table.Table.{Table};
-ghost use Rattle.program_table.specs.Table.{IsTableOf};
+ghost use Rattle.version_table.specs.Table.{IsValidProgram, IsValidTable};
+ghost use Rattle.job_programs.specs.Programs.{ArePrograms, IsWithinTime};
+ghost use Rattle.program_table.specs.Table.{IsRowOf, IsTableOf};
+
+use job_report::limits::{COARSER_MOST, WEIGHT_MOST};
+use version_bounds::laws::versions_have_places;
+use version_source::laws::one_list_of_versions;
+use version_table::limits::{AUDIO_PACKETS_LIMIT, UNITS_MOST};
 
 /// The programs of a job have one table.
 pub fn one_table()
     ensures { (job : Job) (programs : List Program) (a b : Table) → IsTableOf job programs a → IsTableOf job programs b → a ≡ b }
-{}
+{
+    one_list_of_versions();
+}
+
+/// Where the files of a valid job hold its programs, their table keeps the limits of tables.
+pub fn table_is_valid()
+    ensures { (job : Job) (contents : List (List ℕ)) (programs : List Program) (table : Table) → IsValidJob job → ArePrograms job contents programs
+        → All (λ program. AreBytes program.video) programs → IsTableOf job programs table → IsValidTable table }
+{
+    versions_have_places();
+}
+
+/// Where a file holds a program whose times lie within a slot length's limit, its row has a place in a table of such slots.
+pub fn row_is_valid()
+    ensures { (slot start number weight : ℕ) (content drop coarser : List ℕ) (program : Program) (row : ProgramRow) → weight ≤ WEIGHT_MOST → length coarser ≤ COARSER_MOST
+        → IsProgramOf content number drop start program → IsWithinTime slot program → AreBytes program.video → IsRowOf program coarser weight row
+        → IsValidProgram slot row × (length row.units ≤ UNITS_MOST) × (length (flat_map (λ packets. packets) row.audios) < AUDIO_PACKETS_LIMIT) }
+{
+    versions_have_places();
+}

@@ -3,8 +3,9 @@ ghost use Rattle.job_report.specs.ValidJob.{IsValidJob};
 ghost use Rattle.version_source.specs.Sendable.{IsSendable};
 ghost use Rattle.program_table.specs.Table.{IsTableOf};
 
+use crate::program_row::row_of_program;
 use job_report::Job;
-use list_types::OutOfMemory;
+use list_types::{ListOf, OutOfMemory};
 use program_reader::Program;
 use std::alloc::Global;
 use version_table::Table;
@@ -13,11 +14,23 @@ use version_table::Table;
 /// want of memory.
 ///
 /// It needs a program for each of the job's, that can be sent.
-pub fn table_of(_alloc: Global, job: &Job, programs: &[Program]) -> Result<Table, OutOfMemory>
+pub fn table_of(alloc: Global, job: &Job, programs: &[Program]) -> Result<Table, OutOfMemory>
     requires job { IsValidJob job.now }
     requires as_many { length programs.now ≡ length job.now.programs }
     requires sendable { All IsSendable programs.now }
     ensures { IfOk result (IsTableOf job.now programs.now) }
 {
-    Err(OutOfMemory)
+    let jobs = job.programs.as_slice();
+    let mut rows = ListOf::new(alloc);
+    for i in 0..programs.len() {
+        let coarser = jobs[i].coarser.as_slice();
+        let row = row_of_program(alloc, &programs[i], coarser, jobs[i].weight)?;
+        rows.push(row)?;
+    }
+    Ok(Table {
+        slot: job.slot,
+        nodes: job.nodes,
+        evaluations: job.evaluations,
+        programs: rows,
+    })
 }

@@ -10,4 +10,6 @@ mod packet;
 mod source;
 mod state;
 
+pub use packet::unit_bytes;
 pub use source::VersionSource;
+pub use state::{state_behind, want_of_memory};

@@ -1,0 +1,7 @@
+mod AudioLimits
+mod AudioTimes
+mod Examples
+mod Rows
+mod States
+mod TableLimits
+mod UnitLimits

@@ -1,0 +1,217 @@
+-- The table of the programs of a job keeps the limits of tables.
+use Rattle.std.proofs.Common.{◌≡◌, ℕ, suc, ◌+◌, ◌*◌, ◌<◌, ◌≤◌, List, [], ◌∷◌, ◌++◌, length, map, All, None, ap, subst, sym, ◌∙◌, arith, append_assoc, append-nil}
+use Rattle.std.specs.List.{flat_map}
+use Rattle.std.specs.List.Sorted.{IsStrictlyIncreasing}
+use Rattle.std.proofs.lemmas.List.{length-append, length-map}
+use Rattle.std.proofs.lemmas.List.Elements.{All-cons, All-head, All-nil, All-tail}
+use Rattle.std.proofs.lemmas.List.Sums.{sum_by-append, sum_by-cons}
+use Rattle.bit_lists.specs.Fields.{AreBytes}
+use Rattle.picture_grammar.specs.Picture.{IsState}
+use Rattle.psi_tables.specs.declared.stream.Stream.{Stream}
+use Rattle.ts_demux.specs.declared.demuxed.AudioStream.{AudioStream}
+use Rattle.ts_demux.specs.Demux.{packets_of}
+use Rattle.job_report.specs.declared.job.Job.{Job}
+use Rattle.job_report.specs.declared.job.ProgramJob.{ProgramJob}
+use Rattle.job_report.specs.ValidJob.{IsValidJob, IsValidProgramJob}
+use Rattle.version_table.specs.declared.table.AudioPacket.{AudioPacket}
+use Rattle.version_table.specs.declared.table.ProgramRow.{ProgramRow}
+use Rattle.version_table.specs.declared.table.Table.{Table}
+use Rattle.version_table.specs.Table.{IsValidProgram, IsValidTable, audio_packets_of, units_of}
+use Rattle.program_reader.specs.declared.program.Program.{Program}
+use Rattle.program_reader.specs.Programs.{IsProgram, IsProgramOf, video_bytes, video_packets}
+use Rattle.program_reader.specs.Units.{AreInOrder}
+use Rattle.program_reader.proofs.SizeLemmas.{IsSmall, audios_small}
+use Rattle.job_programs.specs.Programs.{AreNextPrograms, ArePrograms, IsNextProgram, IsWithinTime, units_of_programs}
+use Rattle.version_maker.specs.declared.version.UnitVersion.{UnitVersion}
+use Rattle.version_source.specs.Versions.{AreAllVersions, AreVideoVersions, ratios_of}
+use Rattle.program_table.specs.Table.{IsRowOf, IsTableOf, audio_row, program_row, program_rows, unit_rows}
+use Rattle.program_table.proofs.AudioLimits.{sources-as-many, streams-few, streams-valid}
+use Rattle.program_table.proofs.UnitLimits.{HavePlaces, Climb, IsShortUnit, climb-rises, dues-climb, dues_of, kept-in-order, pictures-state, row-dues, rows-few, rows-valid, sources-many, units-short}
+
+-- ---- one program
+
+-- the audio packets of a row
+abbrev audio_packets_in : ProgramRow → List AudioPacket
+audio_packets_in row = flat_map (λ packets. packets) row.audios
+
+-- a row keeps the limits, and hasn't too many audio packets
+record IsFine (slot : ℕ) (row : ProgramRow) : Type 0 where
+  pub valid : IsValidProgram slot row
+  pub few : length (audio_packets_in row) ≤ 69600000
+
+program-fine : HavePlaces → (slot start number weight : ℕ) (content drop coarser : List ℕ) (program : Program) (versions : List (List UnitVersion)) → weight ≤ 100 → length coarser ≤ 7
+    → IsProgramOf content number drop start program → IsWithinTime slot program → AreBytes program.video → AreVideoVersions program.video coarser None program.units versions
+    → IsFine slot (program_row weight program versions)
+program-fine places slot start number weight content drop coarser program versions light few_ratios holds within are is =
+    let demuxed = holds.demuxed in
+    let read : IsProgram start demuxed program = holds.program_is in
+    let es = video_bytes demuxed in
+    let packets = video_packets demuxed in
+    let pictures = read.has_pictures in
+    let in_order : AreInOrder es packets None read.kept read.pictures = kept-in-order es packets pictures.units.cuts read.kept read.pictures pictures.at_end pictures.kept_are in
+    let state : IsState read.first.seq =
+    pictures-state read.kept read.first read.pictures es packets pictures.later pictures.first_is in_order in
+    let vbv : program.vbv ≡ read.first.seq.vbv = read.vbv_is in
+    let least : 1 ≤ read.first.seq.vbv = state.vbv.0 in
+    let most : read.first.seq.vbv ≤ 112 = state.vbv.1 in
+    let climb : Climb 0 (dues_of program.units) =
+    dues-climb start read.earliest es packets None 0 read.kept read.pictures program.units (λ ticks due later is. omega arith) read.units_are in_order in
+    let rises : IsStrictlyIncreasing (dues_of program.units) = climb-rises 0 (dues_of program.units) climb in
+    let short : All IsShortUnit program.units = units-short start read.earliest es packets None read.kept read.pictures program.units read.units_are in_order in
+    let as_many : length program.audios ≡ length demuxed.audios = sources-as-many start read.earliest demuxed.audios read.frames program.audios read.audios_are in
+    let streams : length demuxed.map.streams.items ≡ suc (length holds.demuxed_is.audios) = ap (λ (xs : List Stream). length xs) holds.demuxed_is.streams in
+    let carried : length demuxed.audios ≡ length holds.demuxed_is.audios =
+    ap (λ (xs : List AudioStream). length xs) holds.demuxed_is.audio_packets ∙ length-map holds.demuxed_is.audios (packets_of content) in
+    let few : length demuxed.map.streams.items ≤ 1 + 8 = holds.demuxed_is.few in
+    let audios : length (map audio_row program.audios) ≡ length program.audios = length-map program.audios audio_row in
+    let small : All (λ (stream : AudioStream). IsSmall stream.units) demuxed.audios =
+    subst (λ (xs : List AudioStream). All (λ (stream : AudioStream). IsSmall stream.units) xs) (sym holds.demuxed_is.audio_packets) (audios_small content holds.demuxed_is.audios holds.within) in
+    let count : length (flat_map (λ packets. packets) (map audio_row program.audios)) ≤ 8700000 * length program.audios =
+    streams-few start read.earliest read.first.stated demuxed.audios read.frames program.audios read.have_frames read.audios_are small in
+    let eight : length program.audios ≤ 8 = omega (arith, as_many, streams, carried, few) in
+    record {
+      valid = record {
+        some_vbv = omega (arith, vbv, least);
+        vbv = omega (arith, vbv, most);
+        units = rows-valid places slot weight program.video coarser None program.units versions light few_ratios are tt short within.units is;
+        dues = subst IsStrictlyIncreasing (sym (row-dues weight program.video coarser None program.units versions is)) rises;
+        few_audios = omega (arith, audios, eight);
+        audios = streams-valid slot start read.earliest read.first.stated demuxed.audios read.frames program.audios read.have_frames read.audios_are within.audio_gones;
+      };
+      few = omega (arith, count, eight);
+    }
+
+-- a row has a place in a table: it keeps the limits, and its units and audio packets aren't too many
+pub row-valid : HavePlaces → (slot start number weight : ℕ) (content drop coarser : List ℕ) (program : Program) (row : ProgramRow) → weight ≤ 100 → length coarser ≤ 7
+    → IsProgramOf content number drop start program → IsWithinTime slot program → AreBytes program.video → IsRowOf program coarser weight row
+    → IsValidProgram slot row × (length row.units ≤ 32768) × (length (flat_map (λ packets. packets) row.audios) < 4294967296)
+row-valid places slot start number weight content drop coarser program row light few_ratios holds within are is =
+    let fine : IsFine slot row =
+    subst (IsFine slot) (sym is.row_is) (program-fine places slot start number weight content drop coarser program is.versions light few_ratios holds within are is.are_versions) in
+    let rows : length row.units ≡ length (unit_rows weight program.units is.versions) = ap (λ (r : ProgramRow). length r.units) is.row_is in
+    let read : IsProgram start holds.demuxed program = holds.program_is in
+    let count : length program.units ≡ length read.kept = sources-many start read.earliest read.kept read.pictures program.units read.units_are in
+    let most : length read.kept ≤ 32768 = read.few in
+    (fine.valid, omega (arith, rows, rows-few weight program.units is.versions, count, most), omega (arith, fine.few))
+
+-- ---- all programs
+
+one-fine : HavePlaces → (slot start : ℕ) (contents : List (List ℕ)) (before : List Program) (job : ProgramJob) (content : List ℕ) (program : Program) (versions : List (List UnitVersion))
+    → IsValidProgramJob job → IsNextProgram slot start contents before job content program → AreBytes program.video
+    → AreVideoVersions program.video job.coarser.items None program.units versions → IsFine slot (program_row job.weight program versions)
+one-fine places slot start contents before job content program versions valid next are is =
+    program-fine places slot start job.program job.weight content job.drop.items job.coarser.items program versions valid.weight valid.few_coarser next.holds next.within are is
+
+programs-fine : HavePlaces → (slot start : ℕ) (contents further : List (List ℕ)) (before programs : List Program) (jobs : List ProgramJob) (versions : List (List (List UnitVersion)))
+    → All IsValidProgramJob jobs → AreNextPrograms slot start contents before jobs further programs → All (λ program. AreBytes program.video) programs
+    → AreAllVersions programs (ratios_of jobs) versions → All (IsFine slot) (program_rows jobs programs versions)
+programs-fine places slot start contents [] before [] [] [] valid next are is = All-nil (IsFine slot)
+programs-fine places slot start contents [] before [] [] (v ∷ vs) valid next are is = absurd is
+programs-fine places slot start contents further before [] (j ∷ js) versions valid next are is = absurd is
+programs-fine places slot start contents [] before (p ∷ ps) [] versions valid next are is = absurd is
+programs-fine places slot start contents [] before (p ∷ ps) (j ∷ js) versions valid next are is = absurd next
+programs-fine places slot start contents (c ∷ cs) before [] [] versions valid next are is = absurd next
+programs-fine places slot start contents (c ∷ cs) before (p ∷ ps) [] versions valid next are is = absurd is
+programs-fine places slot start contents (c ∷ cs) before (p ∷ ps) (j ∷ js) [] valid next are is = absurd is
+programs-fine places slot start contents (content ∷ further) before (program ∷ programs) (job ∷ jobs) (own ∷ more) valid next are is =
+    All-cons (IsFine slot) (program_row job.weight program own) (program_rows jobs programs more)
+    (one-fine places slot start contents before job content program own (All-head IsValidProgramJob job jobs valid) next.0
+    (All-head (λ (p : Program). AreBytes p.video) program programs are) is.0)
+    (programs-fine places slot start (contents ++ content ∷ []) further (before ++ program ∷ []) programs jobs more (All-tail IsValidProgramJob job jobs valid) next.1
+    (All-tail (λ (p : Program). AreBytes p.video) program programs are) is.1)
+
+all-valid : (slot : ℕ) (rows : List ProgramRow) → All (IsFine slot) rows → All (IsValidProgram slot) rows
+all-valid slot rows fine = λ k d within. (fine k d within).valid
+
+packets-few : (slot : ℕ) (rows : List ProgramRow) → All (IsFine slot) rows → length (flat_map audio_packets_in rows) ≤ 69600000 * length rows
+packets-few slot [] fine = omega arith
+packets-few slot (r ∷ rs) fine =
+    let here : IsFine slot r = All-head (IsFine slot) r rs fine in
+    let rest : length (flat_map audio_packets_in rs) ≤ 69600000 * length rs = packets-few slot rs (All-tail (IsFine slot) r rs fine) in
+    let both : length (audio_packets_in r ++ flat_map audio_packets_in rs) ≡ length (audio_packets_in r) + length (flat_map audio_packets_in rs) =
+    length-append (audio_packets_in r) (flat_map audio_packets_in rs) in
+    sum (length (audio_packets_in r)) (length (flat_map audio_packets_in rs)) (length (audio_packets_in r ++ flat_map audio_packets_in rs)) (length rs) here.few rest both
+  where
+    sum : (own rest both count : ℕ) → own ≤ 69600000 → rest ≤ 69600000 * count → both ≡ own + rest → both ≤ 69600000 * suc count
+    sum own rest both count few more is = omega (arith, few, more, is)
+
+rows-fewer : (jobs : List ProgramJob) (programs : List Program) (versions : List (List (List UnitVersion))) → length (program_rows jobs programs versions) ≤ length jobs
+rows-fewer [] [] [] = omega arith
+rows-fewer [] [] (v ∷ vs) = omega arith
+rows-fewer [] (p ∷ ps) versions = omega arith
+rows-fewer (j ∷ js) [] versions = omega arith
+rows-fewer (j ∷ js) (p ∷ ps) [] = omega arith
+rows-fewer (j ∷ js) (p ∷ ps) (v ∷ vs) = let rest : length (program_rows js ps vs) ≤ length js = rows-fewer js ps vs in omega (arith, rest)
+
+-- ---- units of all programs
+
+units-fewer : (jobs : List ProgramJob) (programs : List Program) (versions : List (List (List UnitVersion)))
+    → length (flat_map (λ row. row.units) (program_rows jobs programs versions)) ≤ units_of_programs programs
+units-fewer [] [] [] = omega arith
+units-fewer [] [] (v ∷ vs) = omega arith
+units-fewer [] (p ∷ ps) versions = omega arith
+units-fewer (j ∷ js) [] versions = omega arith
+units-fewer (j ∷ js) (p ∷ ps) [] = omega arith
+units-fewer (j ∷ js) (p ∷ ps) (v ∷ vs) =
+    let rest : length (flat_map (λ (row : ProgramRow). row.units) (program_rows js ps vs)) ≤ units_of_programs ps = units-fewer js ps vs in
+    let here : length (unit_rows j.weight p.units v) ≤ length p.units = rows-few j.weight p.units v in
+    omega (
+      arith,
+      here,
+      rest,
+      length-append (unit_rows j.weight p.units v) (flat_map (λ (row : ProgramRow). row.units) (program_rows js ps vs)),
+      sum_by-cons (λ (program : Program). length program.units) p ps,
+    )
+
+-- units of some programs behind others are as many as the limit allows
+units-within : (slot start : ℕ) (contents further : List (List ℕ)) (before programs : List Program) (jobs : List ProgramJob) → units_of_programs before ≤ 32768
+    → AreNextPrograms slot start contents before jobs further programs → units_of_programs (before ++ programs) ≤ 32768
+units-within slot start contents [] before [] [] few next = subst (λ (ps : List Program). units_of_programs ps ≤ 32768) (sym (append-nil before)) few
+units-within slot start contents [] before [] (j ∷ js) few next = absurd next
+units-within slot start contents [] before (p ∷ ps) [] few next = absurd next
+units-within slot start contents [] before (p ∷ ps) (j ∷ js) few next = absurd next
+units-within slot start contents (c ∷ cs) before [] [] few next = absurd next
+units-within slot start contents (c ∷ cs) before [] (j ∷ js) few next = absurd next
+units-within slot start contents (c ∷ cs) before (p ∷ ps) [] few next = absurd next
+units-within slot start contents (content ∷ further) before (program ∷ programs) (job ∷ jobs) few next =
+    let room : units_of_programs before + length program.units ≤ 32768 = next.0.few_units in
+    let both : units_of_programs (before ++ program ∷ []) ≡ units_of_programs before + units_of_programs (program ∷ []) =
+    sum_by-append (λ (p : Program). length p.units) before (program ∷ []) in
+    let one : units_of_programs (program ∷ []) ≡ length program.units = sum_by-cons (λ (p : Program). length p.units) program [] ∙ add-none (length program.units) in
+    subst (λ (ps : List Program). units_of_programs ps ≤ 32768) (append_assoc before (program ∷ []) programs)
+    (units-within slot start (contents ++ content ∷ []) further (before ++ program ∷ []) programs jobs (omega (arith, room, both, one)) next.1)
+  where
+    add-none : (n : ℕ) → n + 0 ≡ n
+    add-none n = omega arith
+
+-- ---- the table
+
+pub table-valid : HavePlaces → (job : Job) (contents : List (List ℕ)) (programs : List Program) (table : Table) → IsValidJob job → ArePrograms job contents programs
+    → All (λ program. AreBytes program.video) programs → IsTableOf job programs table → IsValidTable table
+table-valid places job contents programs table valid next are is =
+    let rows : List ProgramRow = program_rows job.programs programs is.versions in
+    let fine : All (IsFine job.slot) rows = programs-fine places job.slot job.start [] contents [] programs job.programs is.versions valid.programs next are is.are_versions in
+    let fine_table : All (IsFine table.slot) table.programs =
+    subst (λ (slot : ℕ). All (IsFine slot) table.programs) (sym is.slot) (subst (λ (rs : List ProgramRow). All (IsFine job.slot) rs) (sym is.rows) fine) in
+    let count : length table.programs ≡ length rows = ap (λ (rs : List ProgramRow). length rs) is.rows in
+    let fewer : length rows ≤ length job.programs = rows-fewer job.programs programs is.versions in
+    let units : length (units_of table) ≡ length (flat_map (λ (row : ProgramRow). row.units) rows) =
+    ap (λ (rs : List ProgramRow). length (flat_map (λ (row : ProgramRow). row.units) rs)) is.rows in
+    let some : length (flat_map (λ (row : ProgramRow). row.units) rows) ≤ units_of_programs programs = units-fewer job.programs programs is.versions in
+    let most : units_of_programs programs ≤ 32768 = units-within job.slot job.start [] contents [] programs job.programs (omega arith) next in
+    let packets : length (audio_packets_of table) ≤ 69600000 * length table.programs = packets-few table.slot table.programs fine_table in
+    let slot : table.slot ≡ job.slot = is.slot in
+    let nodes : table.nodes ≡ job.nodes = is.nodes in
+    let evaluations : table.evaluations ≡ job.evaluations = is.evaluations in
+    let eight : length job.programs ≤ 8 = valid.few_programs in
+    record {
+      slot_least = omega (arith, slot, valid.slot_least);
+      slot_most = omega (arith, slot, valid.slot_most);
+      some_nodes = omega (arith, nodes, valid.some_nodes);
+      nodes = omega (arith, nodes, valid.nodes);
+      evaluations = omega (arith, evaluations, valid.evaluations);
+      few_programs = omega (arith, count, fewer, eight);
+      programs = all-valid table.slot table.programs fine_table;
+      units = omega (arith, units, some, most);
+      audio_packets = omega (arith, packets, count, fewer, eight);
+    }

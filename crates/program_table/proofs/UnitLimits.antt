@@ -1,0 +1,173 @@
+-- The units of a table keep its limits: their times rise, and each version has a place.
+use Rattle.std.proofs.Common.{◌≡◌, ℕ, zero, suc, ◌+◌, ◌-◌, ◌*◌, ◌<◌, ◌≤◌, List, [], ◌∷◌, length, take, drop, map, All, Option, Some, None, ℤ, ◌<ℤ◌, refl, ap, subst, arith}
+use Rattle.std.specs.Prelude.{slice_index}
+use Rattle.std.specs.List.Sorted.{IsStrictlyIncreasing}
+use Rattle.std.proofs.lemmas.Int.{ints}
+use Rattle.std.proofs.lemmas.List.{length-map, length-take}
+use Rattle.std.proofs.lemmas.List.Elements.{All-cons, All-head, All-map, All-nil, All-tail}
+use Rattle.bit_lists.specs.Fields.{AreBytes, bit_list}
+use Rattle.bit_lists.proofs.ByteLemmas.{AreBytes-take}
+use Rattle.syntax_types.specs.declared.picture.SeqState.{SeqState}
+use Rattle.picture_grammar.specs.Picture.{IsState, MayPrecede}
+use Rattle.picture_laws.proofs.SpelledStates.{state-of_unit}
+use Rattle.picture_reader.proofs.Parts.{are-dropped}
+use Rattle.pes_units.specs.declared.times.Times.{Times}
+use Rattle.pes_units.specs.VideoHeader.{spelled, written_dts, written_header}
+use Rattle.version_table.specs.Table.{IsValidUnit, IsValidVersion}
+use Rattle.program_reader.specs.declared.pes_packets.PlacedPacket.{PlacedPacket}
+use Rattle.program_reader.specs.declared.program.UnitSource.{UnitSource}
+use Rattle.program_reader.specs.declared.timed_picture.TimedPicture.{TimedPicture}
+use Rattle.program_reader.specs.Audio.{IsDue}
+use Rattle.program_reader.specs.Programs.{AreUnitSources}
+use Rattle.program_reader.specs.Units.{AreInOrder, AreKept, IsLater, all, but_last}
+use Rattle.version_maker.specs.declared.version.UnitVersion.{UnitVersion}
+use Rattle.version_maker.specs.Versions.{AreVersions}
+use Rattle.version_source.specs.Sendable.{bytes_of}
+use Rattle.version_source.specs.Versions.{AreVideoVersions}
+use Rattle.program_table.specs.Table.{row_version, unit_row, unit_rows}
+use Rattle.program_table.proofs.States.{state-left, versions-many}
+
+-- ---- pictures in order
+
+pub kept-in-order : (es : List ℕ) (packets : List PlacedPacket) (units kept : List (ℕ × ℕ)) (pictures : List TimedPicture) (dropped : ℕ) → AreKept es packets units kept pictures dropped
+    → AreInOrder es packets None kept pictures
+kept-in-order es packets units kept pictures dropped (all same in_order none) = in_order
+kept-in-order es packets units kept pictures dropped (but_last last refusal at split in_order broken count) = in_order
+
+-- the state of the first picture is one that may be in force
+first-state : (es : List ℕ) (packets : List PlacedPacket) (kept : List (ℕ × ℕ)) (first : TimedPicture) (later : List TimedPicture) → AreInOrder es packets None kept (first ∷ later)
+    → IsState first.seq
+first-state es packets [] first later in_order = absurd in_order
+first-state es packets (unit ∷ units) first later (next, rest) =
+    let coded = next.coded in
+    subst IsState coded.seq_is (state-of_unit None coded.picture (bit_list (take (unit.1 - unit.0) (drop unit.0 es))) [] tt coded.whole.spelled)
+
+pub pictures-state : (kept : List (ℕ × ℕ)) (first : TimedPicture) (pictures : List TimedPicture) (es : List ℕ) (packets : List PlacedPacket) (later : List TimedPicture)
+    → pictures ≡ first ∷ later → AreInOrder es packets None kept pictures → IsState first.seq
+pictures-state kept first pictures es packets later first_is in_order =
+    first-state es packets kept first later (subst (AreInOrder es packets None kept) first_is in_order)
+
+-- ---- times
+
+-- each number is at least as great as this one, and greater than the one before
+abbrev pub Climb : (low : ℕ) → List ℕ → Type 0
+Climb low [] = Unit {0}
+Climb low (n ∷ ns) = (low ≤ n) × Climb (suc n) ns
+
+pub climb-rises : (low : ℕ) (ns : List ℕ) → Climb low ns → IsStrictlyIncreasing ns
+climb-rises low [] climb k within = absurd (omega (arith, within))
+climb-rises low (x ∷ []) climb k within = absurd (omega (arith, within))
+climb-rises low (x ∷ y ∷ ys) climb zero within = let next : suc x ≤ y = climb.1.0 in omega (arith, next)
+climb-rises low (x ∷ y ∷ ys) climb (suc k) within =
+    let same : suc (k + 1) ≡ suc k + 1 = omega arith in
+    let here : slice_index (y ∷ ys) k < slice_index (y ∷ ys) (k + 1) = climb-rises (suc x) (y ∷ ys) climb.1 k (omega (arith, within)) in
+    subst (λ (n : ℕ). slice_index (y ∷ ys) k < slice_index (x ∷ y ∷ ys) n) same here
+
+-- when units are decoded
+abbrev pub dues_of : List UnitSource → List ℕ
+dues_of units = map (λ unit. unit.due) units
+
+later-due : (start : ℕ) (earliest first second : ℤ) (due next : ℕ) → IsDue start earliest first due → IsDue start earliest second next → first <ℤ second → suc due ≤ next
+later-due start earliest first second due next is too order = omega (arith, ints, is, too, order)
+
+pub dues-climb : (start : ℕ) (earliest : ℤ) (es : List ℕ) (packets : List PlacedPacket) (before : Option TimedPicture) (low : ℕ) (units : List (ℕ × ℕ)) (pictures : List TimedPicture)
+    (sources : List UnitSource) → ((ticks : ℤ) (due : ℕ) → IsLater before ticks → IsDue start earliest ticks due → low ≤ due) → AreUnitSources start earliest units pictures sources
+    → AreInOrder es packets before units pictures → Climb low (dues_of sources)
+dues-climb start earliest es packets before low [] [] [] bound are in_order = tt
+dues-climb start earliest es packets before low [] [] (s ∷ ss) bound are in_order = absurd are
+dues-climb start earliest es packets before low [] (p ∷ ps) sources bound are in_order = absurd are
+dues-climb start earliest es packets before low (u ∷ us) [] sources bound are in_order = absurd are
+dues-climb start earliest es packets before low (u ∷ us) (p ∷ ps) [] bound are in_order = absurd are
+dues-climb start earliest es packets before low (unit ∷ units) (picture ∷ pictures) (source ∷ sources) bound (begins, ends, times, due, are) (next, in_order) = (
+  bound picture.ticks source.due next.later due,
+  dues-climb start earliest es packets (Some picture) (suc source.due) units pictures sources
+      (λ ticks next_due later is. later-due start earliest picture.ticks ticks source.due next_due due is later) are in_order,
+)
+
+-- ---- lengths
+
+-- a unit is no longer than a unit may be
+abbrev pub IsShortUnit : UnitSource → Type 0
+IsShortUnit unit = unit.end - unit.begin ≤ 1048576
+
+pub units-short : (start : ℕ) (earliest : ℤ) (es : List ℕ) (packets : List PlacedPacket) (before : Option TimedPicture) (units : List (ℕ × ℕ)) (pictures : List TimedPicture)
+    (sources : List UnitSource) → AreUnitSources start earliest units pictures sources → AreInOrder es packets before units pictures → All IsShortUnit sources
+units-short start earliest es packets before [] [] [] are in_order = All-nil IsShortUnit
+units-short start earliest es packets before [] [] (s ∷ ss) are in_order = absurd are
+units-short start earliest es packets before [] (p ∷ ps) sources are in_order = absurd are
+units-short start earliest es packets before (u ∷ us) [] sources are in_order = absurd are
+units-short start earliest es packets before (u ∷ us) (p ∷ ps) [] are in_order = absurd are
+units-short start earliest es packets before (unit ∷ units) (picture ∷ pictures) (source ∷ sources) (begins, ends, times, due, are) (next, in_order) =
+    let short : unit.1 - unit.0 ≤ 1048576 = next.short in
+    All-cons IsShortUnit source sources (omega (arith, begins, ends, short)) (units-short start earliest es packets (Some picture) units pictures sources are in_order)
+
+pub sources-many : (start : ℕ) (earliest : ℤ) (units : List (ℕ × ℕ)) (pictures : List TimedPicture) (sources : List UnitSource)
+    → AreUnitSources start earliest units pictures sources → length sources ≡ length units
+sources-many start earliest [] [] [] are = refl
+sources-many start earliest [] [] (s ∷ ss) are = absurd are
+sources-many start earliest [] (p ∷ ps) sources are = absurd are
+sources-many start earliest (u ∷ us) [] sources are = absurd are
+sources-many start earliest (u ∷ us) (p ∷ ps) [] are = absurd are
+sources-many start earliest (u ∷ us) (p ∷ ps) (s ∷ ss) (begins, ends, times, due, are) = ap suc (sources-many start earliest us ps ss are)
+
+pub rows-few : (weight : ℕ) (units : List UnitSource) (versions : List (List UnitVersion)) → length (unit_rows weight units versions) ≤ length units
+rows-few weight [] [] = omega arith
+rows-few weight [] (v ∷ vs) = omega arith
+rows-few weight (u ∷ us) [] = omega arith
+rows-few weight (u ∷ us) (v ∷ vs) = let rest : length (unit_rows weight us vs) ≤ length us = rows-few weight us vs in omega (arith, rest)
+
+-- ---- versions
+
+header-spelled : (pts dts : Option ℕ) → length (spelled pts dts) ≤ 19
+header-spelled None dts = omega arith
+header-spelled (Some pts) None = omega arith
+header-spelled (Some pts) (Some dts) = omega arith
+
+pub header-few : (times : Times) → length (written_header times) ≤ 19
+header-few times = header-spelled times.pts (written_dts times.pts times.dts)
+
+-- a table has a place for each version of each unit
+abbrev pub HavePlaces : Type 0
+HavePlaces =
+    (before : Option SeqState) (unit coarser : List ℕ) (versions : List UnitVersion) (header weight : ℕ) → MayPrecede before → AreBytes unit → length unit ≤ 1048576
+    → AreVersions before unit coarser versions → header ≤ 19 → 2609192632320 * weight < 281474976710656
+    → All (λ version. IsValidVersion (record { bytes = header + length version.bytes; distortion = version.distortion * weight })) versions
+
+bytes-short : (es : List ℕ) (unit : UnitSource) → IsShortUnit unit → length (bytes_of es unit) ≤ 1048576
+bytes-short es unit short = omega (arith, short, length-take (unit.end - unit.begin) (drop unit.begin es))
+
+unit-valid : HavePlaces → (slot weight : ℕ) (es coarser : List ℕ) (before : Option SeqState) (unit : UnitSource) (versions : List UnitVersion) → weight ≤ 100 → length coarser ≤ 7 → AreBytes es
+    → MayPrecede before → IsShortUnit unit → unit.due ≤ 4194304 * slot → AreVersions before (bytes_of es unit) coarser versions → IsValidUnit slot (unit_row weight unit versions)
+unit-valid places slot weight es coarser before unit versions light few are may short due is =
+    let count : length versions ≡ suc (length coarser) = versions-many before (bytes_of es unit) coarser versions is in
+    let same : length (map (row_version weight unit) versions) ≡ length versions = length-map versions (row_version weight unit) in
+    let bytes : AreBytes (bytes_of es unit) = AreBytes-take (unit.end - unit.begin) (drop unit.begin es) (are-dropped unit.begin es are) in
+    let room : 2609192632320 * weight < 281474976710656 = omega (arith, light) in
+    let valid : All (λ version. IsValidVersion (row_version weight unit version)) versions =
+    places before (bytes_of es unit) coarser versions (length (written_header unit.times)) weight may bytes (bytes-short es unit short) is (header-few unit.times) room in
+    record {
+      due = due;
+      some_version = omega (arith, count, same);
+      few_versions = omega (arith, count, same, few);
+      versions = All-map IsValidVersion (row_version weight unit) versions valid;
+    }
+
+pub rows-valid : HavePlaces → (slot weight : ℕ) (es coarser : List ℕ) (before : Option SeqState) (units : List UnitSource) (versions : List (List UnitVersion)) → weight ≤ 100 → length coarser ≤ 7
+    → AreBytes es → MayPrecede before → All IsShortUnit units → All (λ unit. unit.due ≤ 4194304 * slot) units → AreVideoVersions es coarser before units versions
+    → All (IsValidUnit slot) (unit_rows weight units versions)
+rows-valid places slot weight es coarser before [] [] light few are may short dues is = All-nil (IsValidUnit slot)
+rows-valid places slot weight es coarser before [] (v ∷ vs) light few are may short dues is = absurd is
+rows-valid places slot weight es coarser before (u ∷ us) [] light few are may short dues is = absurd is
+rows-valid places slot weight es coarser before (unit ∷ units) (own ∷ more) light few are may short dues (after, leaves, here, rest) =
+    All-cons (IsValidUnit slot) (unit_row weight unit own) (unit_rows weight units more)
+    (unit-valid places slot weight es coarser before unit own light few are may (All-head IsShortUnit unit units short) (All-head (λ (u : UnitSource). u.due ≤ 4194304 * slot) unit units dues) here)
+    (rows-valid places slot weight es coarser (Some after) units more light few are (state-left before (bytes_of es unit) after may leaves) (All-tail IsShortUnit unit units short)
+    (All-tail (λ (u : UnitSource). u.due ≤ 4194304 * slot) unit units dues) rest)
+
+pub row-dues : (weight : ℕ) (es coarser : List ℕ) (before : Option SeqState) (units : List UnitSource) (versions : List (List UnitVersion)) → AreVideoVersions es coarser before units versions
+    → map (λ unit. unit.due) (unit_rows weight units versions) ≡ dues_of units
+row-dues weight es coarser before [] [] is = refl
+row-dues weight es coarser before [] (v ∷ vs) is = absurd is
+row-dues weight es coarser before (u ∷ us) [] is = absurd is
+row-dues weight es coarser before (unit ∷ units) (own ∷ more) (after, leaves, here, rest) =
+    ap (λ (ns : List ℕ). unit.due ∷ ns) (row-dues weight es coarser (Some after) units more rest)

@@ -1,0 +1,49 @@
+-- The units of a program while its row is made.
+use Rattle.std.specs.Prelude.{◌≡◌, ℕ, ◌+◌, ◌*◌, ◌≤◌, List, ◌++◌, Option, None}
+use Rattle.job_report.specs.declared.job.ProgramJob.{ProgramJob}
+use Rattle.syntax_types.specs.declared.picture.SeqState.{SeqState}
+use Rattle.version_table.specs.declared.table.Unit.{Unit as CodedUnit}
+use Rattle.version_table.specs.declared.table.Version.{Version}
+use Rattle.version_table.specs.declared.table.ProgramRow.{ProgramRow}
+use Rattle.picture_grammar.specs.Picture.{MayPrecede}
+use Rattle.program_reader.specs.declared.program.Program.{Program}
+use Rattle.program_reader.specs.declared.program.UnitSource.{UnitSource}
+use Rattle.version_bounds.specs.declared.limits.TheConstants.{UNIT_VERSION_BYTES_MOST, UNIT_VERSION_DISTORTION_MOST}
+use Rattle.version_maker.specs.declared.version.UnitVersion.{UnitVersion}
+use Rattle.version_maker.specs.declared.version.VersionSize.{VersionSize}
+use Rattle.version_maker.specs.Versions.{AreVersions}
+use Rattle.version_source.specs.Sendable.{SpellInOrder, bytes_of}
+use Rattle.version_source.specs.Versions.{AreAllVersions, AreVideoVersions, ratios_of}
+use Rattle.program_table.specs.Table.{program_rows, unit_row, unit_rows}
+
+-- a unit with all its versions behind a state
+pub record IsUnitRow (es coarser : List ℕ) (before : Option SeqState) (weight : ℕ) (unit : UnitSource) (row : CodedUnit) : Type 0 where
+  pub versions : List UnitVersion
+  pub are_versions : AreVersions before (bytes_of es unit) coarser versions
+  pub row_is : row ≡ unit_row weight unit versions
+
+-- units with all their versions, from a state on
+pub record AreUnitRows (es coarser : List ℕ) (before : Option SeqState) (weight : ℕ) (units : List UnitSource) (rows : List CodedUnit) : Type 0 where
+  pub versions : List (List UnitVersion)
+  pub are_versions : AreVideoVersions es coarser before units versions
+  pub rows_are : rows ≡ unit_rows weight units versions
+
+-- a size that a table has a place for
+abbrev pub IsBounded : VersionSize → Type 0
+IsBounded size = (1 ≤ size.bytes) × (size.bytes ≤ UNIT_VERSION_BYTES_MOST) × (size.distortion ≤ UNIT_VERSION_DISTORTION_MOST)
+
+-- a version of this size behind a header of so many bytes
+abbrev pub with_header : (header weight : ℕ) → VersionSize → Version
+with_header header weight size = record { bytes = header + size.bytes; distortion = size.distortion * weight }
+
+-- The rows of the units of a video before those that are left: with the versions of these behind the state, and their rows, they make all.
+pub record AreUnitRowsSoFar (es coarser : List ℕ) (weight : ℕ) (units left : List UnitSource) (before : Option SeqState) (rows : List CodedUnit) : Type 0 where
+  pub may_precede : MayPrecede before
+  pub spelled : SpellInOrder es before left
+  pub all : (more : List (List UnitVersion)) → AreVideoVersions es coarser before left more
+      → (versions : List (List UnitVersion)) × AreVideoVersions es coarser None units versions × (unit_rows weight units versions ≡ rows ++ unit_rows weight left more)
+
+-- The rows of the programs before those that are left: with the versions of these, and their rows, they make all.
+pub record AreProgramRowsSoFar (jobs jobs_left : List ProgramJob) (programs left : List Program) (rows : List ProgramRow) : Type 0 where
+  pub all : (more : List (List (List UnitVersion))) → AreAllVersions left (ratios_of jobs_left) more
+      → (versions : List (List (List UnitVersion))) × AreAllVersions programs (ratios_of jobs) versions × (program_rows jobs programs versions ≡ rows ++ program_rows jobs_left left more)

@@ -1,0 +1,9 @@
+pub mod Codes
+pub mod BlockBits
+pub mod MacroblockBits
+pub mod SliceBits
+pub mod UnitBits
+pub mod Coefficients
+pub mod Differences
+pub mod Steps
+pub mod Bounded

@@ -1,0 +1,18 @@
+use pes_units::MOST_HEADER_BYTES;
+use version_table::limits;
+
+/// Bytes of a version, at most: those of a table's longest PES packet without the longest header before them.
+pub const UNIT_VERSION_BYTES_MOST: usize = 4_194_285;
+
+const _: () = prove!(
+    UNIT_VERSION_BYTES_MOST + MOST_HEADER_BYTES == limits::VERSION_BYTES_MOST as usize
+);
+
+/// The greatest distortion of a version: no coefficient lies farther than 2^11 from its source, and a picture of Main level
+/// has at most 45 times 36 macroblocks, each of 6 blocks of 64 coefficients.
+pub const UNIT_VERSION_DISTORTION_MOST: u64 = 2_609_192_632_320;
+
+const _: () = prove!(UNIT_VERSION_DISTORTION_MOST == 45 * 36 * 6 * 64 * (1 << 22));
+
+// a program's distortions count a hundred times at most
+const _: () = prove!(100 * UNIT_VERSION_DISTORTION_MOST < limits::DISTORTION_LIMIT);
