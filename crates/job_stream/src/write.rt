@@ -1,4 +1,4 @@
-ghost use Rattle.std.specs.Prelude.{◌≡◌, ℕ, List, All, length, OnOk, OnErr, IsErrOf};
+ghost use Rattle.std.specs.Prelude.{◌≡◌, ℕ, List, OnOk, OnErr, IsErrOf};
 ghost use Rattle.shelf_io.specs.Causes.{SinkCauses};
 ghost use Rattle.shelf_io.specs.Sink.{with_bytes, AddsPrefix};
 ghost use Rattle.slot_rule.specs.SlotList.{IsSlotList};
