@@ -1,9 +1,9 @@
-use Rattle.std.proofs.Common.{◌≡◌, ℕ, List, All, length, sym, ap, subst, ◌∙◌, arith}
+use Rattle.std.proofs.Common.{◌≡◌, ℕ, List, Some, All, length, sym, ap, subst, ◌∙◌, arith}
 use Rattle.std.proofs.lemmas.Result.{on_err_weaker, on_ok_weaker}
 use Rattle.shelf_io.specs.Sink.{AddsPrefix, with_bytes}
 use Rattle.mux_writer.specs.declared.layout.Layout.{Layout}
 use Rattle.mux_writer.specs.Output.{IsOfLayout}
-use Rattle.version_source.specs.Private.Source.{HasIt, told_of}
+use Rattle.version_source.specs.Pieces.{HasPiece, pieces_of}
 use Rattle.job_stream.proofs.NamedVersions.{choice-names}
 use Rattle.job_stream.proofs.ReadPrograms.{programs-ready}
 use Rattle.job_stream.proofs.RowLemmas.{one-row-each, rows-there}
@@ -37,10 +37,10 @@ write_stream-requires-clause-slots g c = one-row-each c.args.table.now c.args.ch
 
 pub write_stream-requires-clause-rows : goal.write_stream-requires-clause-rows
 write_stream-requires-clause-rows g c =
-    subst (λ (layout : Layout). All (IsOfLayout layout (HasIt c.in-Ok.pieces)) c.args.slots.now.rows) (sym c.layout_of-layout.ensures.value)
-    (rows-there c.args.job.now c.args.programs.now c.args.table.now c.args.choice.now c.args.slots.now (HasIt c.in-Ok.pieces) c.requires.table c.requires.fits
+    subst (λ (layout : Layout). All (IsOfLayout layout (HasPiece c.in-Ok.pieces)) c.args.slots.now.rows) (sym c.layout_of-layout.ensures.value)
+    (rows-there c.args.job.now c.args.programs.now c.args.table.now c.args.choice.now c.args.slots.now (HasPiece c.in-Ok.pieces) c.requires.table c.requires.fits
     (programs-ready c.programs_can_be_sent.ensures.taken_out c.args.job.now c.args.programs.now c.requires.programs)
-    (has-all c.args.programs.now c.args.job.now.programs c.as_slice.result.now c.args.choice.now c.as_slice-2.result.now (HasIt c.in-Ok.pieces) c.as_slice.ensures c.as_slice-2.ensures
+    (has-all c.args.programs.now c.args.job.now.programs c.as_slice.result.now c.args.choice.now c.as_slice-2.result.now (HasPiece c.in-Ok.pieces) c.as_slice.ensures c.as_slice-2.ensures
     c.in-Ok.ensures.has c.requires.table.versions c.requires.table.are_versions)
     (c.slots_name_the_table.ensures c.args.table.now c.args.choice.now c.args.slots.now c.requires.valid c.requires.fits c.requires.slots))
 
@@ -53,18 +53,18 @@ returns-clause-one g c = some-stream c.args.job.now c.args.programs.now c.args.t
 pub returns-clause-ok : goal.returns-clause-ok
 returns-clause-ok g c =
     on_ok_weaker c.write_stream.result
-    (λ said. of-stream c.args.job.now c.args.programs.now c.args.choice.now c.args.slots.now c.layout_of-layout.result (told_of c.in-Ok.pieces)
+    (λ said. of-stream c.args.job.now c.args.programs.now c.args.choice.now c.args.slots.now c.layout_of-layout.result (Some (pieces_of c.in-Ok.pieces))
     (λ (stream : List ℕ). g.K.Sink.written c.write_stream.new.to ≡ with_bytes (g.K.Sink.written c.args.to.now) stream) c.layout_of-layout.ensures.value
-    (told-of c.args.programs.now c.args.job.now.programs c.as_slice.result.now c.args.choice.now c.as_slice-2.result.now (told_of c.in-Ok.pieces)
+    (told-of c.args.programs.now c.args.job.now.programs c.as_slice.result.now c.args.choice.now c.as_slice-2.result.now (Some (pieces_of c.in-Ok.pieces))
     c.as_slice.ensures c.as_slice-2.ensures c.in-Ok.ensures.told)
     said) c.write_stream.ensures.ok
 
 pub returns-clause-err : goal.returns-clause-err
 returns-clause-err g c =
     on_err_weaker c.write_stream.result
-    (λ said. of-stream c.args.job.now c.args.programs.now c.args.choice.now c.args.slots.now c.layout_of-layout.result (told_of c.in-Ok.pieces)
+    (λ said. of-stream c.args.job.now c.args.programs.now c.args.choice.now c.args.slots.now c.layout_of-layout.result (Some (pieces_of c.in-Ok.pieces))
     (λ (stream : List ℕ). AddsPrefix (g.K.Sink.written c.args.to.now) (g.K.Sink.written c.write_stream.new.to) stream) c.layout_of-layout.ensures.value
-    (told-of c.args.programs.now c.args.job.now.programs c.as_slice.result.now c.args.choice.now c.as_slice-2.result.now (told_of c.in-Ok.pieces)
+    (told-of c.args.programs.now c.args.job.now.programs c.as_slice.result.now c.args.choice.now c.as_slice-2.result.now (Some (pieces_of c.in-Ok.pieces))
     c.as_slice.ensures c.as_slice-2.ensures c.in-Ok.ensures.told)
     said) c.write_stream.ensures.err
 
