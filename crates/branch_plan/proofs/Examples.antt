@@ -1,12 +1,12 @@
 -- Worked examples, by hand: three units of two versions in slots of 4,000 ticks, due at 27,200, 43,200 and 47,200, by which 2, 6 and 7
 -- packets can be sent; and trees of few nodes.
-use Rattle.std.proofs.Common.{◌≡◌, ℕ, List, [], ◌∷◌, Option, Some, None, true, refl}
+use Rattle.std.proofs.Common.{◌≡◌, ℕ, [], ◌∷◌, refl}
 use Rattle.version_table.specs.declared.table.Unit.{Unit as CodedUnit}
 use Rattle.version_table.specs.declared.table.Table.{Table}
 use Rattle.dual_bounds.specs.Bounds.{bound_of_value}
 use Rattle.dual_bounds.specs.Room.{serves, free_slots, audio_due, room}
 use Rattle.dual_bounds.specs.Values.{price, least_cost, least_costs, worth, value_of_windows, value_of_multipliers}
-use Rattle.bound_certificate.specs.declared.cert.Node.TheVariants.{Branch, Run, Open}
+use Rattle.bound_certificate.specs.declared.cert.Node.TheVariants.{Branch, Open}
 use Rattle.certificate_checker.specs.Shown.{fix, unfixed}
 use Rattle.branch_plan.specs.Changes.{change_count}
 use Rattle.branch_plan.specs.Tree.{HasLeaf, here, below, in_first, nodes_of_whole_tree, version_counts}

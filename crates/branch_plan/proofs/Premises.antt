@@ -1,13 +1,13 @@
 -- What a choice is measured by: the smallest and the level choices.
-use Rattle.std.proofs.Common.{◌≡◌, ℕ, ◌-◌, ◌<◌, ◌≤◌, List, sym, subst, ◌∙◌, inl, inr, arith}
+use Rattle.std.proofs.Common.{◌≡◌, ℕ, ◌-◌, ◌<◌, ◌≤◌, List, sym, subst, inl, inr, arith}
 use Rattle.std.proofs.lemmas.Bool.{cases_lt}
 use Rattle.version_table.specs.declared.limits.TheConstants.{VERSIONS_MOST}
 use Rattle.version_table.specs.declared.table.Table.{Table}
-use Rattle.version_table.specs.Choice.{IsSmallestChoice, distortion_of_choice, level_choice}
+use Rattle.version_table.specs.Choice.{IsSmallestChoice, distortion_of_choice}
 use Rattle.version_table.specs.Table.{IsValidTable}
 use Rattle.version_table.proofs.Chosen.{levels_end, smallest_is_one}
 use Rattle.slot_rule.specs.Schedule.{IsScheduled}
-use Rattle.branch_plan.specs.Plan.{IsNoWorse, IsPremise, SmallestIsScheduled}
+use Rattle.branch_plan.specs.Plan.{IsNoWorse, SmallestIsScheduled}
 use Rattle.branch_plan.specs.Private.Known.{IsNoWorseThanLevel}
 
 -- what is no worse than the levels below the most versions is no worse than any

@@ -1,12 +1,11 @@
 -- A tree of one node with windows: what it shows, and how great its bound is at least.
-use Rattle.std.proofs.Common.{◌≡◌, ◌≢◌, ℕ, ◌<◌, ◌≤◌, ◌⊎◌, List, [], ◌∷◌, length, map, get_or, All, Option, Some, refl, sym, ap₂, subst, inl, inr, arith, ℤ, ◌≤ℤ◌, ◌<ℤ◌}
+use Rattle.std.proofs.Common.{◌≡◌, ◌≢◌, ℕ, ◌<◌, ◌≤◌, ◌⊎◌, List, [], ◌∷◌, length, map, All, Option, Some, sym, ap₂, subst, inl, inr, arith, ◌≤ℤ◌}
 use Rattle.std.specs.List.{Contains}
 use Rattle.std.proofs.lemmas.Int.{ints}
 use Rattle.std.proofs.lemmas.List.Elements.{All-cons}
 use Rattle.arrayvec.specs.ArrayVec.{ArrayVec}
 use Rattle.version_table.specs.declared.table.Unit.{Unit as CodedUnit}
 use Rattle.version_table.specs.declared.table.Table.{Table}
-use Rattle.version_table.specs.Choice.{distortion_of_choice}
 use Rattle.version_table.specs.Table.{IsValidTable, units_of}
 use Rattle.dual_bounds.specs.declared.constants.TheConstants.{WINDOWS_MOST}
 use Rattle.dual_bounds.specs.declared.windows.Multiplier.{Multiplier}
@@ -14,9 +13,9 @@ use Rattle.dual_bounds.specs.declared.windows.Window.{Window as PricedWindow}
 use Rattle.dual_bounds.specs.Bounds.{bound_of_value}
 use Rattle.dual_bounds.specs.Values.{from_start, value_of_multipliers, value_of_windows}
 use Rattle.dual_bounds.proofs.ValueLaws.{bounds_rise}
-use Rattle.multiplier_search.specs.Single.{AreInOrder, IsBestSingle, IsCandidate, IsFirstBest, IsNoWorse, dues_of, value_alone}
+use Rattle.multiplier_search.specs.Single.{IsBestSingle, IsFirstBest, IsNoWorse, dues_of}
 use Rattle.multiplier_search.specs.Turns.{BeatAdditions}
-use Rattle.multiplier_search.specs.Windows.{AreSearched, BeatEachTried, IsTried}
+use Rattle.multiplier_search.specs.Windows.{AreSearched, BeatEachTried}
 use Rattle.bound_certificate.specs.declared.cert.Cert.{Cert}
 use Rattle.bound_certificate.specs.declared.cert.Node.{Node}
 use Rattle.bound_certificate.specs.declared.cert.Node.TheVariants.{Window}

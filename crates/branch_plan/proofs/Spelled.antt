@@ -1,7 +1,7 @@
 -- How many bytes a certificate of one node has at most.
 use Rattle.std.proofs.Common.{◌≡◌, ℕ, suc, ◌+◌, ◌*◌, ◌≤◌, List, [], ◌∷◌, ◌++◌, length, refl, sym, ap, subst, ◌∙◌, arith, inr}
 use Rattle.std.specs.List.{flat_map, AllByRecursion}
-use Rattle.std.specs.Int.{w16, w32, w64, to_be_bytes}
+use Rattle.std.specs.Int.{w32, to_be_bytes}
 use Rattle.std.proofs.lemmas.List.{length-append}
 use Rattle.std.proofs.lemmas.Slice.Zip.{AllZip-long}
 use Rattle.arrayvec.specs.ArrayVec.{ArrayVec}
@@ -17,7 +17,7 @@ use Rattle.bound_certificate.specs.declared.cert.Node.{Node}
 use Rattle.bound_certificate.specs.declared.cert.Node.TheVariants.{Window}
 use Rattle.bound_certificate.specs.Cert.{IsOfVersion}
 use Rattle.bound_certificate.specs.Reading.{IsWritable}
-use Rattle.bound_certificate.specs.Spelling.{bytes_of_node, bytes_of_window, mark, spelling}
+use Rattle.bound_certificate.specs.Spelling.{bytes_of_node, bytes_of_window, spelling}
 
 window_bytes : (window : PricedWindow) → length (bytes_of_window window) ≡ 24
 window_bytes window = refl

@@ -9,7 +9,6 @@ use Rattle.dual_bounds.specs.Values.{value_of_multipliers, value_of_windows}
 use Rattle.multiplier_search.specs.Single.{IsCandidate, IsFirstBest, dues_of}
 use Rattle.multiplier_search.specs.Windows.{IsTried}
 use Rattle.bound_certificate.specs.declared.cert.Node.{Node}
-use Rattle.bound_certificate.specs.declared.cert.Node.TheVariants.{Branch, Dual, Run, Open, Window}
 use Rattle.certificate_checker.specs.Shown.{unfixed, windows_in}
 use Rattle.branch_plan.specs.declared.limits.TheConstants.{FEW_WINDOWS_MOST, NODES_WITH_MANY_WINDOWS_MOST}
 

@@ -1,5 +1,5 @@
 -- What a plan of a table is: a scheduled choice, and a certificate of the bound below it.
-use Rattle.std.specs.Prelude.{◌≡◌, ℕ, ◌≤◌, ◌⊎◌, ◌↔◌, List, [], length, Some}
+use Rattle.std.specs.Prelude.{◌≡◌, ℕ, ◌≤◌, ◌⊎◌, ◌↔◌, List, [], Some}
 use Rattle.version_table.specs.declared.table.Table.{Table}
 use Rattle.version_table.specs.Choice.{Fits, IsSmallestChoice, distortion_of_choice, level_choice}
 use Rattle.slot_rule.specs.Schedule.{IsFirstMiss, IsScheduled}

@@ -1,12 +1,11 @@
 -- The tree of a plan: where it branches, which leaves it has, and when a search of so many nodes may end before it is done.
-use Rattle.std.specs.Prelude.{◌≡◌, ℕ, suc, ◌+◌, ◌*◌, ◌<◌, ◌≤◌, nat_le, Bool, List, [], ◌∷◌, length, map, All, Option, Some, None, IsPermutation, IsSortedBy}
+use Rattle.std.specs.Prelude.{◌≡◌, ℕ, suc, ◌+◌, ◌*◌, ◌<◌, ◌≤◌, nat_le, List, [], ◌∷◌, length, map, Option, Some, IsPermutation, IsSortedBy}
 use Rattle.std.specs.List.{filter}
-use Rattle.version_table.specs.declared.table.Unit.{Unit as CodedUnit}
 use Rattle.version_table.specs.declared.table.Table.{Table}
 use Rattle.version_table.specs.Table.{units_of}
 use Rattle.bound_certificate.specs.declared.cert.Cert.{Cert}
 use Rattle.bound_certificate.specs.declared.cert.Node.{Node}
-use Rattle.bound_certificate.specs.declared.cert.Node.TheVariants.{Branch, Dual, Run, Open, Window}
+use Rattle.bound_certificate.specs.declared.cert.Node.TheVariants.{Branch}
 use Rattle.certificate_checker.specs.Shown.{bound_of_leaf, fix, unfixed, versions_of}
 use Rattle.certificate_checker.specs.Faults.{IsFree}
 use Rattle.certificate_checker.specs.Walk.{IsLeaf, Shows, Walks}

@@ -1,8 +1,9 @@
-ghost use Rattle.std.specs.Prelude.{◌≡◌, ◌<◌, ◌≤◌, length, slice_index_or, slice_set, Some};
-ghost use Rattle.version_table.specs.Choice.{Fits};
+ghost use Rattle.std.specs.Prelude.{◌≡◌, ◌+◌, ◌<◌, ◌≤◌, length, slice_index_or, slice_set, Some};
+ghost use Rattle.version_table.specs.Choice.{version_at};
 ghost use Rattle.version_table.specs.Table.{IsValidTable, units_of};
 ghost use Rattle.certificate_checker.specs.Shown.{versions_of};
-ghost use Rattle.branch_plan.specs.Private.Changes.{IsChangeOf, IsTriedFrom, unit_at};
+ghost use Rattle.branch_plan.specs.Changes.{EndsBestAlone};
+ghost use Rattle.branch_plan.specs.Private.Changes.{GainsOver, IsChangeOf, IsLesserAt, IsTriedFrom, unit_at};
 ghost use Rattle.branch_plan.specs.Private.Known.{IsKnown};
 
 use crate::known::Known;
@@ -52,6 +53,8 @@ pub(crate) fn after_changes(
     requires known { IsKnown table.now known }
     ensures known { IsKnown table.now result }
     ensures kept { result.distortion ≤ known.distortion }
+    ensures alone { EndsBestAlone table.now evaluations result.choice }
+    ensures rounds { GainsOver table.now evaluations result.choice result.distortion known.distortion }
 {
     let mut best = known;
     let mut left = evaluations;
@@ -81,7 +84,7 @@ fn round(table: &Table, run: &mut SlotRun<'_>, known: Known, left: u32, from: us
     requires known { IsKnown table.now known }
     requires from { from ≤ length (units_of table.now) }
     ensures run { run.new.table ≡ table.now }
-    ensures tried { IsTriedFrom table.now known left result }
+    ensures tried { IsTriedFrom table.now known left 0 (length (units_of table.now)) result }
 {
     let units = known.choice.len();
     match first_help(table, run, known, left, from, units) {
@@ -102,9 +105,10 @@ fn first_help(
     requires valid { IsValidTable table.now }
     requires run { run.old.table ≡ table.now }
     requires known { IsKnown table.now known }
+    requires low { low ≤ high }
     requires high { high ≤ length (units_of table.now) }
     ensures run { run.new.table ≡ table.now }
-    ensures tried { IsTriedFrom table.now known left result }
+    ensures tried { IsTriedFrom table.now known left low high result }
 {
     let mut same = known;
     let mut rest = left;
@@ -130,15 +134,15 @@ fn change_unit(table: &Table, run: &mut SlotRun<'_>, known: Known, left: u32, pl
     requires known { IsKnown table.now known }
     requires place { place < length (units_of table.now) }
     ensures run { run.new.table ≡ table.now }
-    ensures tried { IsTriedFrom table.now known left result }
+    ensures tried { IsTriedFrom table.now known left place (place + 1) result }
 {
     let unit = unit_at(table, place);
-    let chosen = known.choice.as_slice()[place];
-    let most = unit.versions[chosen as usize].distortion;
+    let chosen = known.choice.as_slice()[place] as usize;
+    let most = distortion_at(unit, chosen);
     let mut same = known;
     let mut rest = left;
     for k in 0..unit.versions.len() {
-        if unit.versions[k].distortion < most {
+        if distortion_at(unit, k) < most {
             if rest == 0 {
                 return Tried::Spent { known: same };
             }
@@ -161,21 +165,30 @@ fn change_unit(table: &Table, run: &mut SlotRun<'_>, known: Known, left: u32, pl
     }
 }
 
-/// Tries one change.
+/// The distortion of a version.
+fn distortion_at(unit: &Unit, k: usize) -> u64
+    requires { k < length unit.now.versions.items }
+    ensures { result ≡ (version_at unit.now k).distortion }
+{
+    unit.versions[k].distortion
+}
+
+/// Tries one change, to a version of less distortion.
 fn try_change(table: &Table, run: &mut SlotRun<'_>, known: Known, place: usize, k: u8) -> Change
     requires valid { IsValidTable table.now }
     requires run { run.old.table ≡ table.now }
     requires known { IsKnown table.now known }
     requires place { place < length (units_of table.now) }
     requires version { k < versions_of table.now place }
+    requires less { IsLesserAt table.now known.choice place k }
     ensures run { run.new.table ≡ table.now }
-    ensures change { IsChangeOf table.now known result }
+    ensures change { IsChangeOf table.now known place k result }
 {
     let Known { choice, distortion } = known;
     let old = choice.as_slice()[place];
     let changed = put(choice, place, k);
-    let other = distortion_of(table, &changed);
-    if other < distortion && run.run(&changed).is_none() {
+    if run.run(&changed).is_none() {
+        let other = distortion_of(table, &changed);
         Change::Helps(Known {
             choice: changed,
             distortion: other,

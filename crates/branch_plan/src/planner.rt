@@ -5,6 +5,7 @@ ghost use Rattle.bound_certificate.specs.Reading.{IsWritable};
 ghost use Rattle.certificate_checker.specs.Checked.{IsFaultless};
 ghost use Rattle.certificate_checker.specs.Faults.{IsHeadRight};
 ghost use Rattle.branch_plan.specs.Bound.{HaveFewWindows, IsAtLeastEachPair, IsAtLeastEachTried};
+ghost use Rattle.branch_plan.specs.Changes.{EndsBestAlone, GainsByRounds};
 ghost use Rattle.branch_plan.specs.Plan.{BoundsAll, IsMissOfSmallest, IsNoWorse, SaysOptimal, ShowsItsBound, SmallestIsScheduled};
 ghost use Rattle.branch_plan.specs.Tree.{BranchesOnMany};
 
@@ -93,6 +94,8 @@ pub fn plan(
     ensures tried { IfOk result (λ planned. IsAtLeastEachTried table.now planned.cert.bound) }
     ensures pairs { IfOk result (λ planned. IsAtLeastEachPair table.now planned.cert.bound) }
     ensures no_worse { IfOk result (λ planned. IsNoWorse table.now planned.cert.distortion) }
+    ensures alone { IfOk result (λ planned. EndsBestAlone table.now evaluations planned.cert.choice) }
+    ensures rounds { IfOk result (λ planned. GainsByRounds table.now evaluations planned.cert.choice planned.cert.distortion) }
 {
     let mut run = SlotRun::new(alloc, table)?;
     let premise = best_premise(alloc, table, &mut run)?;

@@ -92,6 +92,16 @@ fn a_single_change_makes_a_plan_the_best(rt: HostRuntime) -> Result<(), Fail> {
 }
 
 #[test]
+fn with_runs_enough_no_change_is_left_that_helps(rt: HostRuntime) -> Result<(), Fail> {
+    let came = Came {
+        bound: 10,
+        distortion: 10,
+        search: Search::Optimal,
+    };
+    assert_plan(&rt, rt.alloc(), TWO_UNITS, 7, &[1, 0], came)
+}
+
+#[test]
 fn without_evaluations_nothing_is_changed(rt: HostRuntime) -> Result<(), Fail> {
     let came = Came {
         bound: 10,

@@ -1,4 +1,4 @@
-use Rattle.std.proofs.Common.{◌≡◌, refl, subst}
+use Rattle.std.proofs.Common.{refl, subst}
 use Rattle.version_table.specs.declared.table.Table.{Table}
 use Rattle.slot_rule.specs.Schedule.{IsScheduled}
 use Rattle.branch_plan.proofs.Premises.{no_worse, smallest_scheduled}

@@ -1,18 +1,15 @@
-use Rattle.std.proofs.Common.{◌≡◌, ℕ, List, [], ◌∷◌, ◌++◌, Option, refl, ap, subst, ◌∙◌}
-use Rattle.dual_bounds.specs.Bounds.{bound_of_value}
-use Rattle.dual_bounds.specs.Values.{value_of_windows}
+use Rattle.std.proofs.Common.{ℕ, List, [], ◌∷◌, ◌++◌, Option, refl, ap, subst, ◌∙◌}
 use Rattle.multiplier_search.specs.Windows.{BeatEachTried}
 use Rattle.bound_certificate.specs.declared.cert.Cert.{Cert}
 use Rattle.bound_certificate.specs.declared.cert.Node.{Node}
 use Rattle.bound_certificate.specs.declared.cert.Node.TheVariants.{Window}
 use Rattle.certificate_checker.specs.Faults.{IsHeadRight}
-use Rattle.certificate_checker.specs.Checked.{IsFaultless}
 use Rattle.certificate_checker.proofs.Soundness.{faultless_bound}
 use Rattle.branch_plan.specs.Bound.{unit_dues}
-use Rattle.branch_plan.specs.Plan.{ShowsItsBound}
 use Rattle.branch_plan.specs.Private.Root.{BeatEachPair}
 use Rattle.branch_plan.proofs.Roots.{faultless, pair_bounds, shows_its_bound, tried_bounds}
 use Rattle.branch_plan.proofs.Spelled.{writable}
+use Rattle.branch_plan.proofs.Trying.{gains}
 use Rattle.branch_plan.proofs.planner.plan.Goals as goal
 
 abbrev cert_of : (bound distortion : ℕ) (choice : List ℕ) (nodes : List Node) → Cert
@@ -55,3 +52,8 @@ returns-clause-pairs c =
     let windows = c.in_ok-windows.windows.items in
     pair_bounds table windows c.root_bound-bound.result
     (subst (λ (f : List (Option ℕ)). BeatEachPair table f windows) c.in_ok-fixed.ensures.value c.in_ok-windows.ensures.pairs) c.root_bound-bound.ensures.bound
+
+pub returns-clause-rounds : goal.returns-clause-rounds
+returns-clause-rounds c =
+    gains c.args.table.now c.args.evaluations c.after_changes-known.result.choice c.after_changes-known.result.distortion c.in_ok-premise.premise.distortion
+    c.after_changes-known.ensures.rounds c.in_ok-premise.ensures.no_worse
