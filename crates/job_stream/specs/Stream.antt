@@ -1,9 +1,9 @@
 -- The output stream of a job (ISO/IEC 13818-1, 2.4.3): its programs in the versions that a choice names, in the slots of their schedule.
-use Rattle.std.specs.Prelude.{◌≡◌, ℕ, ◌+◌, List, [], ◌∷◌, length, map}
+use Rattle.std.specs.Prelude.{◌≡◌, ℕ, ◌+◌, List, [], ◌∷◌, map}
 use Rattle.job_report.specs.declared.job.Job.{Job}
 use Rattle.job_report.specs.declared.job.ProgramJob.{ProgramJob}
 use Rattle.psi_tables.specs.declared.program_map.ProgramMap.{ProgramMap}
-use Rattle.slot_rule.specs.declared.sent.SlotList.{SlotList}
+use Rattle.slot_rule.specs.declared.slot_list.SlotList.{SlotList}
 use Rattle.slot_rule.specs.SlotList.{IsSlotList}
 use Rattle.version_table.specs.declared.table.Table.{Table}
 use Rattle.program_reader.specs.declared.program.Program.{Program}

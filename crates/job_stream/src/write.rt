@@ -1,4 +1,4 @@
-ghost use Rattle.std.specs.Prelude.{◌≡◌, ℕ, List, All, length, OnOk, OnErr, IsErrOf};
+ghost use Rattle.std.specs.Prelude.{◌≡◌, ℕ, List, OnOk, OnErr, IsErrOf};
 ghost use Rattle.shelf_io.specs.Causes.{SinkCauses};
 ghost use Rattle.shelf_io.specs.Sink.{with_bytes, AddsPrefix};
 ghost use Rattle.slot_rule.specs.SlotList.{IsSlotList};
@@ -9,19 +9,24 @@ ghost use Rattle.job_programs.specs.Programs.{ArePrograms};
 ghost use Rattle.program_table.specs.Table.{IsTableOf};
 ghost use Rattle.job_stream.specs.Stream.{IsStreamIn};
 
+use crate::layout::layout_of;
 use job_report::Job;
+use mux_writer::write_stream;
 use program_reader::Program;
 use shelf_io::{Fault, Sink};
 use slot_rule::SlotList;
+use slot_rule::laws::slots_name_the_table;
 use std::alloc::Global;
+use version_source::VersionSource;
+use version_source::laws::programs_can_be_sent;
 use version_table::{Choice, Table};
 
 /// Writes the stream of a job's programs in the versions that the choice names, in these slots. After a fault a front of it was
 /// written. Failed is the sink's own; Missing never comes.
 ///
-/// It needs the programs of the job, their table, a choice that fits it, and the table's slots under the choice.
+/// It needs the programs of the job, their table, which is valid, a choice that fits it, and the table's slots under the choice.
 pub fn write_job_stream<K: Sink>(
-    _alloc: Global,
+    alloc: Global,
     to: &mut K,
     job: &Job,
     programs: &[Program],
@@ -32,6 +37,7 @@ pub fn write_job_stream<K: Sink>(
     requires job { IsValidJob job.now }
     requires programs { (contents : List (List ℕ)) × ArePrograms job.now contents programs.now }
     requires table { IsTableOf job.now programs.now table.now }
+    requires valid { IsValidTable table.now }
     requires fits { Fits table.now choice.now }
     requires slots { IsSlotList table.now choice.now slots.now }
     // The sink gets the stream and nothing else; after a fault a front of it.
@@ -44,5 +50,16 @@ pub fn write_job_stream<K: Sink>(
     ensures failed_last { IsErrOf result Fault.Failed → K.since_fault to.new ≡ 0 }
     ensures keeps { K.keeps to.old to.new }
 {
-    Err(Fault::OutOfMemory)
+    programs_can_be_sent();
+    slots_name_the_table();
+    let layout = layout_of(job, programs);
+    let Ok(mut pieces) = VersionSource::new(
+        alloc,
+        programs,
+        job.programs.as_slice(),
+        choice.as_slice(),
+    ) else {
+        return Err(Fault::OutOfMemory);
+    };
+    write_stream(to, &layout, job.slot, slots, &mut pieces)
 }

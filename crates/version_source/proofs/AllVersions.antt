@@ -1,5 +1,5 @@
--- The versions of programs: that there are some, and no others.
-use Rattle.std.proofs.Common.{◌≡◌, ℕ, zero, suc, ◌+◌, ◌-◌, List, [], ◌∷◌, length, drop, map, slice_index_or, All, Option, Some, None, refl, ap, ap₂, subst, ◌∙◌, arith}
+-- The versions of programs: that there are some, and how long they are.
+use Rattle.std.proofs.Common.{◌≡◌, ℕ, zero, suc, ◌+◌, ◌-◌, List, [], ◌∷◌, length, drop, map, slice_index_or, All, Option, Some, None, refl, ap, ◌∙◌, arith}
 use Rattle.std.proofs.lemmas.List.{length-append}
 use Rattle.bit_lists.specs.Fields.{AreBytes}
 use Rattle.bit_lists.proofs.ByteLemmas.{AreBytes-take}
@@ -12,11 +12,11 @@ use Rattle.program_reader.specs.declared.program.UnitSource.{UnitSource}
 use Rattle.version_maker.specs.declared.version.UnitVersion.{UnitVersion}
 use Rattle.version_maker.specs.declared.version.VersionSize.{VersionSize}
 use Rattle.version_maker.specs.Versions.{size_of}
-use Rattle.version_maker.proofs.Lists.{one-list, some-list}
+use Rattle.version_maker.proofs.Lists.{some-list}
 use Rattle.version_source.specs.Sendable.{IsSendable, SpellInOrder, bytes_of}
 use Rattle.version_source.specs.Pieces.{pes_packet}
 use Rattle.version_source.specs.Versions.{AreAllVersions, AreVideoVersions, chosen_bytes}
-use Rattle.version_source.proofs.StateLemmas.{one-state, state-left}
+use Rattle.version_source.proofs.StateLemmas.{state-left}
 
 -- the bytes of a unit are bytes
 are-unit-bytes : (es : List ℕ) (unit : UnitSource) → AreBytes es → AreBytes (bytes_of es unit)
@@ -45,31 +45,6 @@ all-versions (program ∷ programs) (coarser ∷ ratios) same sendable are =
     let (first, those) = video-versions program.video coarser None program.units byte tt here.pictures in
     let (more, others) = all-versions programs ratios (omega (arith, same)) later bytes in
     (first ∷ more, (those, others))
-
--- ---- no others
-
-one-video : (es coarser : List ℕ) (before : Option SeqState) (units : List UnitSource) (a b : List (List UnitVersion)) → AreVideoVersions es coarser before units a
-    → AreVideoVersions es coarser before units b → a ≡ b
-one-video es coarser before [] [] [] p q = refl
-one-video es coarser before [] [] (v ∷ vs) p q = absurd q
-one-video es coarser before [] (v ∷ vs) b p q = absurd p
-one-video es coarser before (unit ∷ units) [] b p q = absurd p
-one-video es coarser before (unit ∷ units) (v ∷ vs) [] p q = absurd q
-one-video es coarser before (unit ∷ units) (v ∷ vs) (w ∷ ws) (after, leaves, here, rest) (other, left, there, others) =
-    let same : after ≡ other = one-state before (bytes_of es unit) after other leaves left in
-    ap₂ (λ (x : List UnitVersion) (xs : List (List UnitVersion)). x ∷ xs) (one-list before (bytes_of es unit) coarser v w here there)
-    (one-video es coarser (Some other) units vs ws (subst (λ (s : SeqState). AreVideoVersions es coarser (Some s) units vs) same rest) others)
-
-pub one-all : (programs : List Program) (ratios : List (List ℕ)) (a b : List (List (List UnitVersion))) → AreAllVersions programs ratios a → AreAllVersions programs ratios b → a ≡ b
-one-all [] [] [] [] p q = refl
-one-all [] [] [] (v ∷ vs) p q = absurd q
-one-all [] [] (v ∷ vs) b p q = absurd p
-one-all [] (r ∷ rs) a b p q = absurd p
-one-all (program ∷ programs) [] a b p q = absurd p
-one-all (program ∷ programs) (r ∷ rs) [] b p q = absurd p
-one-all (program ∷ programs) (r ∷ rs) (v ∷ vs) [] p q = absurd q
-one-all (program ∷ programs) (r ∷ rs) (v ∷ vs) (w ∷ ws) p q =
-    ap₂ (λ (x : List (List UnitVersion)) (xs : List (List (List UnitVersion))). x ∷ xs) (one-video program.video r None program.units v w p.0 q.0) (one-all programs rs vs ws p.1 q.1)
 
 -- ---- how long they are
 

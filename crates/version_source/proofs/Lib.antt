@@ -1,6 +1,11 @@
 mod AllVersions
 mod Cuts
 mod Examples
+mod Items
+mod KeptLemmas
+mod MadeLemmas
 mod PacketLemmas
+mod PlaceLemmas
 mod ReadPrograms
+mod SourceLemmas
 mod StateLemmas

@@ -1,5 +1,41 @@
 -- A program that was read can be sent.
-use Rattle.std.proofs.Common.{◌≡◌, ℕ, zero, suc, ◌+◌, ◌-◌, ◌*◌, ◌/◌, ◌<◌, ◌≤◌, ◌^◌, ◌==◌, min, nat_le, Bool, true, false, cond, List, [], ◌∷◌, ◌++◌, length, map, All, Option, Some, None, ℤ, refl, ap, ap₂, subst, sym, ◌∙◌, arith, if◌then◌else◌}
+use Rattle.std.proofs.Common.{
+  ◌≡◌,
+  ℕ,
+  zero,
+  suc,
+  ◌+◌,
+  ◌*◌,
+  ◌/◌,
+  ◌<◌,
+  ◌≤◌,
+  ◌^◌,
+  ◌==◌,
+  nat_le,
+  Bool,
+  true,
+  false,
+  cond,
+  List,
+  [],
+  ◌∷◌,
+  ◌++◌,
+  length,
+  map,
+  All,
+  Option,
+  Some,
+  None,
+  ℤ,
+  refl,
+  ap,
+  ap₂,
+  subst,
+  sym,
+  ◌∙◌,
+  arith,
+  if◌then◌else◌,
+}
 use Rattle.std.specs.Prelude.{slice_range}
 use Rattle.std.specs.List.{find, flat_map, range_with_len}
 use Rattle.std.specs.Option.{option_map_or}
@@ -16,7 +52,6 @@ use Rattle.pes_units.specs.VideoHeader.{AreInRange, IsBesidePts}
 use Rattle.ts_demux.specs.declared.demuxed.AudioStream.{AudioStream}
 use Rattle.ts_demux.specs.declared.demuxed.Demuxed.{Demuxed}
 use Rattle.ts_demux.specs.declared.demuxed.PesUnit.{PesUnit}
-use Rattle.mux_writer.specs.Pieces.{HasPayloadSize}
 use Rattle.program_reader.specs.declared.pes_packets.PlacedPacket.{PlacedPacket}
 use Rattle.program_reader.specs.declared.program.AudioPiece.{AudioPiece}
 use Rattle.program_reader.specs.declared.program.AudioSource.{AudioSource}
@@ -26,7 +61,7 @@ use Rattle.program_reader.specs.declared.timed_picture.TimedPicture.{TimedPictur
 use Rattle.program_reader.specs.Audio.{AreAudioSources, ArePieces, HaveFrames, IsAudioSource, IsPiece, packet_size, piece_places, piece_size, placed_pieces, taken_of}
 use Rattle.program_reader.specs.Packets.{payload_of, placed_from, taken}
 use Rattle.program_reader.specs.PictureTimes.{first_picture, is_first_in, no_times, times_at, times_of_unit}
-use Rattle.program_reader.specs.Programs.{AreUnitSources, HasPictures, IsProgram, video_bytes, video_packets}
+use Rattle.program_reader.specs.Programs.{AreUnitSources, IsProgram, video_bytes, video_packets}
 use Rattle.picture_reader.specs.Picture.{IsPictureOf}
 use Rattle.program_reader.specs.Units.{AreInOrder, AreKept, all, but_last, state_behind}
 use Rattle.program_reader.specs.Private.KeptUnits.{Fits}

@@ -1,4 +1,5 @@
 pub mod Pieces
 pub mod Private
 pub mod Sendable
+pub mod Source
 pub mod Versions

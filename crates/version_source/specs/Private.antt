@@ -1,1 +1,6 @@
+pub mod Kept
+pub mod Made
+pub mod OneVersions
+pub mod Place
 pub mod Sending
+pub mod SourceFields

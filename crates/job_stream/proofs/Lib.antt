@@ -1,0 +1,10 @@
+mod LayoutLemmas
+mod Maps
+mod NamedVersions
+mod OneStream
+mod PieceLemmas
+mod PieceSizes
+mod ReadPrograms
+mod RowLemmas
+mod StreamSize
+mod WriteLemmas

@@ -1,0 +1,74 @@
+-- The programs of a job can go out.
+use Rattle.std.proofs.Common.{◌≡◌, ℕ, suc, ◌+◌, ◌≤◌, List, [], ◌∷◌, ◌++◌, All, length, ℤ, refl, sym, ap, subst, ◌∙◌, arith}
+use Rattle.std.proofs.lemmas.List.{length-map}
+use Rattle.std.proofs.lemmas.List.Elements.{All-cons, All-nil}
+use Rattle.audio_frames.specs.declared.frame.Frame.{Frame}
+use Rattle.psi_tables.specs.declared.program_map.ProgramMap.{ProgramMap}
+use Rattle.psi_tables.specs.Pmt.{IsWritableMap, pmt_length}
+use Rattle.ts_demux.specs.declared.demuxed.AudioStream.{AudioStream}
+use Rattle.ts_demux.specs.declared.demuxed.Demuxed.{Demuxed}
+use Rattle.ts_demux.specs.Demux.{IsDemuxed, packets_of}
+use Rattle.job_report.specs.declared.job.Job.{Job}
+use Rattle.job_report.specs.declared.job.ProgramJob.{ProgramJob}
+use Rattle.program_reader.specs.declared.program.AudioSource.{AudioSource}
+use Rattle.program_reader.specs.declared.program.Program.{Program}
+use Rattle.program_reader.specs.Audio.{AreAudioSources}
+use Rattle.program_reader.specs.Programs.{IsProgram, IsProgramOf}
+use Rattle.version_source.specs.Sendable.{IsSendable}
+use Rattle.job_programs.specs.Programs.{AreNextPrograms, ArePrograms}
+use Rattle.job_stream.specs.Private.Outgoing.{CanGoOut}
+use Rattle.job_stream.proofs.Maps.{carried-writable}
+
+-- there are as many audio sources as streams
+as-many-audios : (start : ℕ) (earliest : ℤ) (streams : List AudioStream) (frames : List (List Frame)) (sources : List AudioSource) → AreAudioSources start earliest streams frames sources
+    → length streams ≡ length sources
+as-many-audios start earliest [] [] [] are = refl
+as-many-audios start earliest [] [] (s ∷ ss) are = absurd are
+as-many-audios start earliest [] (f ∷ fs) sources are = absurd are
+as-many-audios start earliest (x ∷ xs) [] sources are = absurd are
+as-many-audios start earliest (x ∷ xs) (f ∷ fs) [] are = absurd are
+as-many-audios start earliest (x ∷ xs) (f ∷ fs) (s ∷ ss) are = ap suc (as-many-audios start earliest xs fs ss are.1)
+
+-- a program that was read can go out
+pub goes-out : (file : List ℕ) (number : ℕ) (dropped : List ℕ) (start : ℕ) (program : Program) → IsProgramOf file number dropped start program → CanGoOut program
+goes-out file number dropped start program of =
+    let is : IsProgram start of.demuxed program = of.program_is in
+    let demuxed : IsDemuxed file number dropped of.demuxed = of.demuxed_is in
+    let audios : length of.demuxed.audios ≡ length program.audios = as-many-audios start is.earliest of.demuxed.audios is.frames program.audios is.audios_are in
+    let streams : length of.demuxed.audios ≡ length demuxed.audios = ap length demuxed.audio_packets ∙ length-map demuxed.audios (packets_of file) in
+    let carried : length of.demuxed.map.streams.items ≡ length demuxed.audios + 1 = omega (arith, ap length demuxed.streams) in
+    let one : length program.map.streams.items ≡ length of.demuxed.map.streams.items = ap (λ (m : ProgramMap). length m.streams.items) is.map_is in record {
+      writable = subst IsWritableMap (sym is.map_is) (carried-writable file number dropped of.demuxed.map of.demuxed.not_carried demuxed.tables);
+      few = omega (arith, one, demuxed.few);
+      fits = subst (λ (m : ProgramMap). pmt_length m ≤ 183) (sym is.map_is) demuxed.short;
+      base = is.base_is.below;
+      streams = omega (arith, one, carried, streams, audios);
+    }
+
+-- what the programs of a job have: as many as the job says, each goes out and can be sent
+pub record AreReady (jobs : List ProgramJob) (programs : List Program) : Type 0 where
+  pub as_many : length jobs ≡ length programs
+  pub out : All CanGoOut programs
+  pub sendable : All IsSendable programs
+
+-- a program that was read can be sent
+abbrev pub ReadIsSendable : Type 0
+ReadIsSendable = (start : ℕ) (demuxed : Demuxed) (program : Program) → IsProgram start demuxed program → IsSendable program
+
+next-ready : ReadIsSendable → (slot start : ℕ) (contents : List (List ℕ)) (before : List Program) (jobs : List ProgramJob) (further : List (List ℕ)) (programs : List Program)
+    → AreNextPrograms slot start contents before jobs further programs → AreReady jobs programs
+next-ready law slot start contents before [] [] [] are = record { as_many = refl; out = All-nil CanGoOut; sendable = All-nil IsSendable }
+next-ready law slot start contents before [] [] (p ∷ ps) are = absurd are
+next-ready law slot start contents before [] (c ∷ cs) programs are = absurd are
+next-ready law slot start contents before (j ∷ js) [] programs are = absurd are
+next-ready law slot start contents before (j ∷ js) (c ∷ cs) [] are = absurd are
+next-ready law slot start contents before (j ∷ js) (c ∷ cs) (p ∷ ps) (next, rest) =
+    let ready : AreReady js ps = next-ready law slot start (contents ++ c ∷ []) (before ++ p ∷ []) js cs ps rest in record {
+      as_many = ap suc ready.as_many;
+      out = All-cons CanGoOut p ps (goes-out c j.program j.drop.items start p next.holds) ready.out;
+      sendable = All-cons IsSendable p ps (law start next.holds.demuxed p next.holds.program_is) ready.sendable;
+    }
+
+-- the programs of a job are ready for its stream
+pub programs-ready : ReadIsSendable → (job : Job) (programs : List Program) → (contents : List (List ℕ)) × ArePrograms job contents programs → AreReady job.programs programs
+programs-ready law job programs (contents, are) = next-ready law job.slot job.start [] [] job.programs contents programs are
