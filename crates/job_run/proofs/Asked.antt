@@ -1,5 +1,5 @@
 -- Which files were asked for bytes.
-use Rattle.std.proofs.Common.{◌≡◌, ◌⊎◌, ℕ, ◌+◌, ◌≤◌, max, Bool, true, false, cond, List, [], ◌∷◌, ◌++◌, length, map, Contains, slice_index_or, Option, Some, None, refl, sym, subst, ap, inl, inr, ◌∙◌, arith}
+use Rattle.std.proofs.Common.{◌≡◌, ℕ, ◌+◌, ◌≤◌, max, Bool, true, false, List, [], ◌∷◌, map, Contains, slice_index_or, Option, Some, None, refl, sym, subst, ap, inl, inr, ◌∙◌, arith, ◌++◌, codes}
 use Rattle.std.specs.List.{list_any}
 use Rattle.std.specs.Str.{bytes_eq}
 use Rattle.std.proofs.lemmas.List.Folds.{list_any_at}
@@ -9,26 +9,29 @@ use Rattle.shelf_io.specs.Files.{Files}
 use Rattle.job_report.specs.declared.limits.TheConstants.{JOB_TEXT_MOST}
 use Rattle.job_report.specs.declared.job.Job.{Job}
 use Rattle.job_report.specs.declared.job.ProgramJob.{ProgramJob}
-use Rattle.job_report.specs.Refusal.{first_refusal}
+use Rattle.job_report.specs.Refusal.{OfField, first_refusal, place_of_program}
 use Rattle.job_report.specs.SharedFile.{refusals_of_files}
 use Rattle.job_report.proofs.Numbers.{list_any-map}
 use Rattle.job_programs.specs.Told.{AsksForPrograms}
 use Rattle.program_reader.specs.declared.limits.TheConstants.{FILE_BYTES_MOST}
 use Rattle.job_run.specs.JobFile.{HoldsJob, StandsApart}
-use Rattle.job_run.specs.Stops.{AsksForJob, IsJobFile}
+use Rattle.job_run.specs.Stops.{AsksForJob}
 
 -- where no program stands in a file that is named, no test finds one
 none_named : (named : List (List ℕ)) (n : ℕ) (programs : List ProgramJob) → first_refusal (refusals_of_files named n programs) ≡ None
     → list_any (λ program. list_any (bytes_eq program.file) named) programs ≡ false
 none_named named n [] none = refl
-none_named named n (program ∷ programs) none = by_test (list_any (bytes_eq program.file) named) refl
+none_named named n (program ∷ programs) none = by_test (list_any (bytes_eq program.file) named) refl (λ rest. none_named named (n + 1) programs rest)
   where
     by_test : (test : Bool) → list_any (bytes_eq program.file) named ≡ test
+        → (first_refusal (refusals_of_files named (n + 1) programs) ≡ None → list_any (λ p. list_any (bytes_eq p.file) named) programs ≡ false)
         → list_any (λ p. list_any (bytes_eq p.file) named) (program ∷ programs) ≡ false
-    by_test true is = let some : first_refusal (refusals_of_files named n (program ∷ programs)) ≡ Some _ = rw is refl in cc
-    by_test false is =
+    by_test true is below =
+        let some : first_refusal (refusals_of_files named n (program ∷ programs)) ≡ Some (OfField (place_of_program n ++ codes "file")) = rw is refl in
+        cc
+    by_test false is below =
         let rest : first_refusal (refusals_of_files named n (program ∷ programs)) ≡ first_refusal (refusals_of_files named (n + 1) programs) = rw is refl in
-        rw is (none_named named (n + 1) programs (sym rest ∙ none))
+        rw is (below (sym rest ∙ none))
 
 -- a name that is listed is found
 found_name : (names : List (List ℕ)) (name : List ℕ) → Contains names name → list_any (bytes_eq name) names ≡ true
@@ -73,16 +76,16 @@ pub asks_programs : (told : Option Files) (name : List ℕ) (named : List (List 
 asks_programs told name named job old middle new holds apart first second = record {
   within = λ file limit is. elim is [
     | inl own ↦
-        let kept : new name ≤ middle name = elim (second name) [ | inl less ↦ less | inr more ↦ absurd (apart job holds more.0) ] in
+        let kept : new name ≤ middle name = elim (second name) [ inl less ↦ less | inr more ↦ absurd (apart job holds more.0) ] in
         let here = first.here in
         subst (λ (n : List ℕ). new n ≤ max (old n) (limit + 1)) (sym own.0)
         (subst (λ (l : ℕ). new name ≤ max (old name) (l + 1)) (sym own.1) (omega arith))
     | inr (other, has, among, most) ↦
         let before : middle file ≤ old file =
         first.others file (λ same. apart other has (subst (λ (f : List ℕ). Contains (map (λ program. program.file) other.programs) f) same among)) in
-        subst (λ (l : ℕ). new file ≤ max (old file) (l + 1)) (sym most) (elim (second file) [ | inl less ↦ omega arith | inr more ↦ let within = more.1 in omega arith ])
+        subst (λ (l : ℕ). new file ≤ max (old file) (l + 1)) (sym most) (elim (second file) [ inl less ↦ omega arith | inr more ↦ let within = more.1 in omega arith ])
   ];
   others = λ file none.
       let before : middle file ≤ old file = first.others file (λ same. none JOB_TEXT_MOST (inl (same, refl))) in
-      elim (second file) [ | inl less ↦ omega arith | inr more ↦ absurd (none FILE_BYTES_MOST (inr (job, holds, more.0, refl))) ];
+      elim (second file) [ inl less ↦ omega arith | inr more ↦ absurd (none FILE_BYTES_MOST (inr (job, holds, more.0, refl))) ];
 }

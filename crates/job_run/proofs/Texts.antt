@@ -1,5 +1,5 @@
 -- What a job's file holds, from the bytes that were read of it.
-use Rattle.std.proofs.Common.{◌≡◌, ℕ, ◌+◌, ◌<◌, ◌≤◌, List, length, take, Option, Some, None, Result, Ok, Err, IfSome, IfOk, IfErr, refl, sym, subst, ap, inl, inr, ◌∙◌, min, arith}
+use Rattle.std.proofs.Common.{◌≡◌, ℕ, ◌+◌, ◌≤◌, List, length, take, Option, Some, None, Result, Ok, Err, IfOk, IfErr, refl, sym, subst, ap, inl, inr, ◌∙◌, min, arith}
 use Rattle.std.proofs.lemmas.List.{length-take, take_all}
 use Rattle.std.specs.Option.{IsSomeAnd}
 use Rattle.std.specs.FinMap.{get}
@@ -8,13 +8,13 @@ use Rattle.job_report.specs.declared.limits.TheConstants.{JOB_TEXT_MOST}
 use Rattle.job_report.specs.declared.fault.JobFault.{JobFault}
 use Rattle.job_report.specs.declared.fault.JobFault.TheVariants as faults
 use Rattle.job_report.specs.declared.job.Job.{Job}
-use Rattle.job_report.specs.JobText.{SpellsJob, IsNoDocument, IsRefusedFor, IsJobFaultOf}
+use Rattle.job_report.specs.JobText.{SpellsJob, IsNoDocument, IsRefusedDocument, IsRefusedFor, IsJobFaultOf}
 use Rattle.job_report.specs.Refusal.{FieldRefusal, OfField}
 use Rattle.job_run.specs.declared.job_stop.JobStop.{JobStop}
 use Rattle.job_run.specs.declared.job_stop.JobStop.TheVariants.{Text, Source, Unread, Missing, OutOfMemory}
 use Rattle.job_run.specs.declared.job_stop.TextRefusal.{TextRefusal}
 use Rattle.job_run.specs.declared.job_stop.TextRefusal.TheVariants.{NoDocument, Field, Limit}
-use Rattle.job_run.specs.JobFile.{StandsApart, IsJobOfText, SharesFile, IsTextRefused, HoldsText, HoldsJob, HoldsRefused}
+use Rattle.job_run.specs.JobFile.{StandsApart, IsJobOfText, IsTextRefused, HoldsText, HoldsJob, HoldsRefused}
 use Rattle.job_run.specs.Private.Texts.{IsTextStop, IsSharedStop, stop_by}
 
 -- a front of at most one byte past the limit is the whole text where it doesn't pass the limit
@@ -33,10 +33,7 @@ whole_refused text front refusal is (inl (long, bytes)) =
     let cut : length front ≤ length text = subst (λ (t : List ℕ). length t ≤ length text) (sym is) (omega (arith, length-take (JOB_TEXT_MOST + 1) text)) in
     inl (omega arith, bytes)
 whole_refused text front refusal is (inr document) =
-    inr (subst (λ (t : List ℕ). IsRefusedFor_document t) (take_all_of JOB_TEXT_MOST text front is document.short) document)
-  where
-    IsRefusedFor_document : List ℕ → Type 0
-    IsRefusedFor_document t = IsRefusedFor t refusal
+    inr (subst (λ (t : List ℕ). IsRefusedDocument t refusal) (take_all_of JOB_TEXT_MOST text front is document.short) document)
 
 -- text by text
 pub whole_text : (text front : List ℕ) (named : List (List ℕ)) (refusal : TextRefusal) → front ≡ take (JOB_TEXT_MOST + 1) text → IsTextRefused front named refusal

@@ -7,7 +7,6 @@
 
 mod job_stop;
 mod job_table;
-mod owed;
 mod read;
 mod text;
 mod write;

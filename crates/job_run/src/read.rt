@@ -1,4 +1,5 @@
-ghost use Rattle.std.specs.Prelude.{◌≡◌, ◌∷◌, ◌++◌, ◌+◌, length, map, Contains, IfOk, IfErr, List, ℕ};
+ghost use Rattle.std.specs.Prelude.{◌≡◌, ◌∷◌, ◌++◌, ◌+◌, length, map, All, Contains, IfOk, IfErr, List, ℕ};
+ghost use Rattle.bit_lists.specs.Fields.{AreBytes};
 ghost use Rattle.job_report.specs.declared.job.ProgramJob.{ProgramJob as AnyProgram};
 ghost use Rattle.job_report.specs.ValidJob.{IsValidJob};
 ghost use Rattle.job_programs.specs.Programs.{ArePrograms};
@@ -11,16 +12,17 @@ ghost use Rattle.job_run.specs.Private.Steps.{IsMissing, IsProgramAt, IsTableOfJ
 
 use crate::job_stop::JobStop;
 use crate::job_table::JobTable;
-use crate::owed::{programs_can_be_sent, table_is_valid};
 use crate::text::job_of_text;
 use job_programs::{ProgramsFault, read_programs};
 use job_report::Job;
 use job_report::limits::JOB_TEXT_MOST;
 use list_types::{ListOf, OutOfMemory, Text};
 use program_reader::Program;
+use program_table::laws::table_is_valid;
 use program_table::table_of;
 use shelf_io::{Fault, Shelf, read_file};
 use std::alloc::Global;
+use version_source::laws::programs_can_be_sent;
 use version_table::Table;
 
 /// The table of the job in a file of a shelf, with the job and its programs, or why there is none. `named` are the files that the
@@ -82,19 +84,37 @@ fn table_of_job<K: Shelf>(alloc: Global, shelf: &mut K, job: Job) -> Result<JobT
 }
 
 /// The table of a job's programs. Fails only for want of memory.
-fn table_of_programs(alloc: Global, job: &Job, programs: &ListOf<Program>) -> Result<Table, OutOfMemory>
+fn table_of_programs(
+    alloc: Global,
+    job: &Job,
+    programs: &ListOf<Program>,
+) -> Result<Table, OutOfMemory>
     requires job { IsValidJob job.now }
     requires programs { (contents : List (List ℕ)) × ArePrograms job.now contents programs.now }
     ensures table { IfOk result (IsTableOf job.now programs.now) }
     ensures valid { IfOk result IsValidTable }
 {
-    let Some(()) = programs_can_be_sent() else {
-        return Err(OutOfMemory);
-    };
-    let Some(()) = table_is_valid() else {
-        return Err(OutOfMemory);
-    };
-    table_of(alloc, job, programs.as_slice())
+    programs_can_be_sent();
+    table_is_valid();
+    let sources = programs.as_slice();
+    see_videos(sources);
+    table_of(alloc, job, sources)
+}
+
+/// The videos of programs are bytes.
+fn see_videos(programs: &[Program])
+    ensures { All (λ program. AreBytes program.video) programs.now }
+{
+    for program in programs {
+        see_bytes(program.video.as_slice());
+    }
+}
+
+/// The items of a slice of bytes are bytes.
+fn see_bytes(bytes: &[u8])
+    ensures { AreBytes bytes.now }
+{
+    let _ = bytes;
 }
 
 /// The file of the program of this number in a job.

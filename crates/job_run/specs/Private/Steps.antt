@@ -1,5 +1,5 @@
 -- The steps from a job to its table.
-use Rattle.std.specs.Prelude.{◌≡◌, ◌⊎◌, ℕ, List, [], ◌∷◌, ◌++◌, length, Option}
+use Rattle.std.specs.Prelude.{◌≡◌, ℕ, List, ◌∷◌, ◌++◌, length, Option}
 use Rattle.shelf_io.specs.Files.{Files, Lacks}
 use Rattle.shelf_io.specs.Counts.{Rose, ShelfCounts}
 use Rattle.job_report.specs.declared.job.Job.{Job}

@@ -1,12 +1,12 @@
 -- Why a text gives no job.
-use Rattle.std.specs.Prelude.{◌≡◌, ◌⊎◌, ℕ, List, Some}
+use Rattle.std.specs.Prelude.{◌≡◌, ℕ, List, Some}
 use Rattle.job_report.specs.declared.fault.JobFault.{JobFault}
 use Rattle.job_report.specs.declared.fault.JobFault.TheVariants as faults
 use Rattle.job_report.specs.declared.job.Job.{Job}
 use Rattle.job_report.specs.Refusal.{OfField, first_refusal}
 use Rattle.job_report.specs.SharedFile.{refusals_of_files}
 use Rattle.job_run.specs.declared.job_stop.JobStop.{JobStop}
-use Rattle.job_run.specs.declared.job_stop.JobStop.TheVariants.{Text, Source, Unread, Missing, OutOfMemory}
+use Rattle.job_run.specs.declared.job_stop.JobStop.TheVariants.{Text, OutOfMemory}
 use Rattle.job_run.specs.declared.job_stop.TextRefusal.TheVariants.{NoDocument, Field, Limit}
 use Rattle.job_run.specs.JobFile.{IsTextRefused}
 
