@@ -45,10 +45,21 @@ fn answer<R: Files + Print + Eprint + AllocGlobal>(rt: &R, words: &[String]) -> 
         [word] if word.as_str() == "--help" => told(rt, HELP),
         [word] if word.as_str() == "--version" => told(rt, VERSION),
         // Two names of one file are no command.
-        [_, table, certificate] if name_one_file(rt, table.as_str(), certificate.as_str()) => {
-            command(rt, &[])
-        }
+        [_, files @ ..] if share_one_file(rt, files) => command(rt, &[]),
         _ => command(rt, words),
+    }
+}
+
+/// Whether two of these names are those of one existing file.
+fn share_one_file<R: Files + AllocGlobal>(rt: &R, names: &[String]) -> bool {
+    match names {
+        [first, second] => name_one_file(rt, first.as_str(), second.as_str()),
+        [first, second, third] => {
+            name_one_file(rt, first.as_str(), second.as_str())
+                || name_one_file(rt, first.as_str(), third.as_str())
+                || name_one_file(rt, second.as_str(), third.as_str())
+        }
+        _ => false,
     }
 }
 

@@ -1,14 +1,14 @@
 -- What follows of a run's outcome.
 use Rattle.std.proofs.Common.{◌≡◌, ◌⊎◌, ◌≤◌, ℕ, List, Option, Some, None, Bool, true, false, cond, refl, sym, ap, subst, ◌∙◌, inl, inr}
 use Rattle.std.specs.Ordering.{nat_cmp, eq_by_cmp}
-use Rattle.std.specs.Cmp.{Equal-is}
+use Rattle.std.specs.Cmp.{Equal-is, eq_by_cmp_equiv}
 use Rattle.std.specs.Cmp.Lexicographic.{slice_cmp, nat_list_cmp_total}
 use Rattle.std.specs.FinMap.{get, insert, get-insert, slice_cmp-IsAntisymmetric, nat_cmp-IsAntisymmetric}
 use Rattle.shelf_io.specs.Files.{Files}
 use Rattle.remux_core.specs.declared.status.Status.{Status}
 use Rattle.remux_core.specs.declared.status.Status.TheVariants as statuses
 use Rattle.remux_core.specs.Answer.{Answer, CallsFor, IsDone, Leaves, EndsWithStatus, Decides, HasCause, AnswerHasCause}
-use Rattle.remux_core.specs.Command.{Command, Plan, Gen, IsCommand, IsSaid}
+use Rattle.remux_core.specs.Command.{Command, Plan, Gen, Run, Check, IsCommand, IsSaid}
 use Rattle.remux_core.specs.Outcome.{Outcome, BreaksOff, IsReported, WordsCallFor}
 use Rattle.remux_core.specs.Outside.{ShelfFacts, SinkFacts, OnFiles}
 use Rattle.remux_core.specs.Private.Ended.{Performs}
@@ -21,6 +21,8 @@ use Rattle.remux_core.proofs.Told.{on_then, on_told}
 done_is_called_for : (command : Option Command) (files after : Files) (line : List ℕ) → IsDone command files line after → CallsFor command files statuses.Ok
 done_is_called_for (Some (Plan table certificate)) files after line (plan, has, said, written) = (has.table, has.holds, has.is_plan.possible)
 done_is_called_for (Some (Gen seed pictures out)) files after line done = tt
+done_is_called_for (Some (Run job out certificate)) files after line (work, is, said, written) = (work.made, is.made, is.is_plan.possible)
+done_is_called_for (Some (Check job certificate)) files after line (made, cert, holds, faultless, said, same) = (made, cert, holds, faultless)
 done_is_called_for None files after line done = absurd done
 
 -- where nothing failed, a command ends as it is called for
@@ -30,6 +32,8 @@ answer_is_called_for command files after old new out_old out_new statuses.Ok lin
 answer_is_called_for command files after old new out_old out_new statuses.Usage line ends cause none = ends.0
 answer_is_called_for command files after old new out_old out_new (statuses.JobRefused refusal) line ends cause none = ends.0
 answer_is_called_for command files after old new out_old out_new (statuses.Unschedulable miss) line ends cause none = ends.0
+answer_is_called_for command files after old new out_old out_new (statuses.SourceRefused fault) line ends cause none = ends.0
+answer_is_called_for command files after old new out_old out_new (statuses.CertRefused refusal) line ends cause none = ends.0
 answer_is_called_for command files after old new out_old out_new statuses.Missing line ends cause none = ends.0
 answer_is_called_for (Some command) files after old new out_old out_new statuses.ReadFault line ends cause none = absurd (none.faults cause.rises)
 answer_is_called_for None files after old new out_old out_new statuses.ReadFault line ends cause none = absurd cause
@@ -45,6 +49,8 @@ break_is answer old new statuses.Ok breaks = absurd breaks
 break_is answer old new statuses.Usage breaks = absurd breaks
 break_is answer old new (statuses.JobRefused refusal) breaks = absurd breaks
 break_is answer old new (statuses.Unschedulable miss) breaks = absurd breaks
+break_is answer old new (statuses.SourceRefused fault) breaks = absurd breaks
+break_is answer old new (statuses.CertRefused refusal) breaks = absurd breaks
 break_is answer old new statuses.ReadFault breaks = absurd breaks
 break_is answer old new statuses.Missing breaks = absurd breaks
 
@@ -57,6 +63,8 @@ quiet_break answer old new out_old out_new statuses.Ok breaks none = absurd brea
 quiet_break answer old new out_old out_new statuses.Usage breaks none = absurd breaks
 quiet_break answer old new out_old out_new (statuses.JobRefused refusal) breaks none = absurd breaks
 quiet_break answer old new out_old out_new (statuses.Unschedulable miss) breaks none = absurd breaks
+quiet_break answer old new out_old out_new (statuses.SourceRefused fault) breaks none = absurd breaks
+quiet_break answer old new out_old out_new (statuses.CertRefused refusal) breaks none = absurd breaks
 quiet_break answer old new out_old out_new statuses.ReadFault breaks none = absurd breaks
 quiet_break answer old new out_old out_new statuses.Missing breaks none = absurd breaks
 
@@ -87,6 +95,8 @@ none_ends old new statuses.Usage line cause = refl
 none_ends old new statuses.Ok line cause = absurd cause
 none_ends old new (statuses.JobRefused refusal) line cause = absurd cause
 none_ends old new (statuses.Unschedulable miss) line cause = absurd cause
+none_ends old new (statuses.SourceRefused fault) line cause = absurd cause
+none_ends old new (statuses.CertRefused refusal) line cause = absurd cause
 none_ends old new statuses.ReadFault line cause = absurd cause
 none_ends old new statuses.WriteFault line cause = absurd cause
 none_ends old new statuses.Missing line cause = absurd cause
@@ -123,7 +133,7 @@ no_command_ends words old new out_old out_new result outcome isnt =
     no_command_of words old new out_old out_new outcome.command outcome.answer result outcome.said outcome.cause outcome.reported isnt
 
 -- a file that isn't the one that got a content is as it was
-get_other : (files : Files) (name content other : List ℕ) → (other ≡ name → ⊥) → get (insert files name content) other ≡ get files other
+pub get_other : (files : Files) (name content other : List ℕ) → (other ≡ name → ⊥) → get (insert files name content) other ≡ get files other
 get_other files name content other apart =
     get-insert nat_list_cmp_total files name content other ∙ chosen (eq_by_cmp (slice_cmp nat_cmp) other name) refl
   where
@@ -131,10 +141,21 @@ get_other files name content other apart =
     chosen true e = absurd (apart (slice_cmp-IsAntisymmetric nat_cmp-IsAntisymmetric other name ((Equal-is _).0 e)))
     chosen false e = refl
 
-stays : (files after : Files) (name : List ℕ) → after ≡ files → get after name ≡ get files name
+-- and that one has it
+pub get_own : (files : Files) (name content : List ℕ) → get (insert files name content) name ≡ Some content
+get_own files name content =
+    get-insert nat_list_cmp_total files name content name
+    ∙ ap (λ b. cond b (Some content) (get files name)) ((eq_by_cmp_equiv nat_list_cmp_total).refl name)
+
+pub stays : (files after : Files) (name : List ℕ) → after ≡ files → get after name ≡ get files name
 stays files after name same = ap (λ (f : Files). get f name) same
 
-done_leaves_others : (command : Option Command) (files after : Files) (line : List ℕ) → IsDone command files line after → OthersStay command files after
+done_done_leaves_others (Some (Run job out certificate)) files after line (work, is, said, written) = λ name apart.
+    stays _ after name written ∙ get_other (insert files out work.stream) certificate _ name (λ same. apart (inr same))
+    ∙ get_other files out _ name (λ same. apart (inl same))
+done_leaves_others (Some (Check job certificate)) files after line (made, cert, holds, faultless, said, same) = λ name apart. stays files after name same
+
+leaves_others : (command : Option Command) (files after : Files) (line : List ℕ) → IsDone command files line after → OthersStay command files after
 done_leaves_others None files after line done = absurd done
 done_leaves_others (Some (Plan table certificate)) files after line (plan, has, said, written) = λ name apart.
     stays _ after name written ∙ get_other files certificate _ name apart
@@ -149,12 +170,21 @@ leaves_others (Some (Plan table certificate)) files after (inr (plan, has, k, fe
 leaves_others (Some (Gen seed pictures out)) files after (inl same) = λ name apart. stays files after name same
 leaves_others (Some (Gen seed pictures out)) files after (inr (program, is, k, few, written)) = λ name apart.
     stays _ after name written ∙ get_other files out _ name apart
+leaves_others (Some (Run job out certificate)) files after (inl same) = λ name apart. stays files after name same
+leaves_others (Some (Run job out certificate)) files after (inr (work, is, inl (k, few, written))) = λ name apart.
+    stays _ after name written ∙ get_other files out _ name (λ same. apart (inl same))
+leaves_others (Some (Run job out certificate)) files after (inr (work, is, inr (k, few, written))) = λ name apart.
+    stays _ after name written ∙ get_other (insert files out work.stream) certificate _ name (λ same. apart (inr same))
+    ∙ get_other files out _ name (λ same. apart (inl same))
+leaves_others (Some (Check job certificate)) files after same = λ name apart. stays files after name same
 
 ends_leave_others : (command : Option Command) (files after : Files) (status : Status) (line : List ℕ) → EndsWithStatus command files status line after → OthersStay command files after
 ends_leave_others command files after statuses.Ok line ends = done_leaves_others command files after line ends
 ends_leave_others command files after statuses.Usage line ends = λ name apart. stays files after name ends.1
 ends_leave_others command files after (statuses.JobRefused refusal) line ends = λ name apart. stays files after name ends.1
 ends_leave_others command files after (statuses.Unschedulable miss) line ends = λ name apart. stays files after name ends.1
+ends_leave_others command files after (statuses.SourceRefused fault) line ends = λ name apart. stays files after name ends.1
+ends_leave_others command files after (statuses.CertRefused refusal) line ends = λ name apart. stays files after name ends.1
 ends_leave_others command files after statuses.ReadFault line ends = λ name apart. stays files after name ends
 ends_leave_others command files after statuses.WriteFault line ends = leaves_others command files after ends
 ends_leave_others command files after statuses.Missing line ends = λ name apart. stays files after name ends.1

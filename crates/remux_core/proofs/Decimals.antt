@@ -5,7 +5,7 @@ use Rattle.std.specs.Str.Parse.{ParsesUnsigned, AllDigits, digits_value}
 use Rattle.std.proofs.lemmas.Fmt.{decimal_injective, decimal_digit, first_decimal, decimal_nonempty, digits_decimal, decimal-digits_value, parse-decimal}
 use Rattle.std.proofs.lemmas.Str.Parse.{IsNumeralModel, numerals_by_value, tells_digits, not_in_digits, parse_plain}
 use Rattle.program_maker.specs.declared.format.TheConstants.{PICTURES_MOST}
-use Rattle.remux_core.specs.Command.{Plan, Gen, IsCommand}
+use Rattle.remux_core.specs.Command.{IsGenCommand}
 
 digits : IsNumeralModel (AllDigits 10) (digits_value 10)
 digits = numerals_by_value (AllDigits 10) tells_digits
@@ -36,11 +36,10 @@ decimal_begins_plainly n small =
       ],
     )
 
--- four words that say a command have a number of pictures in the third
-pub pictures_within : (verb seed pictures out : List ℕ) (n : ℕ) → (n < 2 ^ 64) × (pictures ≡ decimal n) → IsCommand (verb ∷ seed ∷ pictures ∷ out ∷ [])
-    → (1 ≤ n) × (n ≤ PICTURES_MOST)
-pictures_within verb seed pictures out n word (Plan table certificate, said) = let are = said.words_are in cc
-pictures_within verb seed pictures out n word (Gen start number name, said) =
+-- the words of `gen` have a number of pictures in the third
+pub pictures_within : (verb seed pictures out : List ℕ) (n : ℕ) → (n < 2 ^ 64) × (pictures ≡ decimal n) → (start number : ℕ) (name : List ℕ)
+    → IsGenCommand (verb ∷ seed ∷ pictures ∷ out ∷ []) start number name → (1 ≤ n) × (n ≤ PICTURES_MOST)
+pictures_within verb seed pictures out n word start number name said =
     let are = said.words_are in
     let is = word.1 in
     let words : decimal number ≡ decimal n = cc in

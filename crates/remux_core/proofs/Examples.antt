@@ -4,7 +4,7 @@ use Rattle.std.specs.Str.{all_ascii_digits}
 use Rattle.std.specs.Str.Parse.{digits_value}
 use Rattle.std.proofs.lemmas.Fmt.{decimal_digit, decimal_is_IsNumeral, decimal-digits_value}
 use Rattle.std.proofs.lemmas.Str.Parse.{numerals_by_value, tells_all_ascii_digits}
-use Rattle.remux_core.specs.Command.{Plan, Gen, IsCommand}
+use Rattle.remux_core.specs.Command.{Plan, Gen, Run, Check, IsCommand, IsGenCommand}
 use Rattle.remux_core.proofs.Decimals.{decimal_begins_plainly, pictures_within}
 
 -- the words `gen SEED PICTURES a`
@@ -34,15 +34,25 @@ greatest =
     let pictures : decimal 4096 ≡ codes "4096" = decimal_of (codes "4096") refl (lit< tt) (λ e. absurd (omega (arith, e))) (lit< tt) in
     (Gen 18446744073709551615 4096 (codes "a"), record { words_are = cc; seed_below = lit< tt; some_pictures = lit≤ tt; few_pictures = lit≤ tt; out_named = λ e. let none = e in cc })
 
--- four words that say a command have the decimal of a number below 2^64 in the second
-seed_word : (verb seed pictures out : List ℕ) → IsCommand (verb ∷ seed ∷ pictures ∷ out ∷ []) → (n : ℕ) × (n < 2 ^ 64) × (seed ≡ decimal n)
-seed_word verb seed pictures out (Plan table certificate, said) = let are = said.words_are in cc
-seed_word verb seed pictures out (Gen start number name, said) = let are = said.words_are in (start, said.seed_below, cc)
+-- words of a command that begin with `gen` are those of `gen`
+are_of_gen : (seed pictures out : List ℕ) → IsCommand (codes "gen" ∷ seed ∷ pictures ∷ out ∷ [])
+    → (start number : ℕ) × (name : List ℕ) × IsGenCommand (codes "gen" ∷ seed ∷ pictures ∷ out ∷ []) start number name
+are_of_gen seed pictures out (Plan table certificate, said) = let are = said.words_are in cc
+are_of_gen seed pictures out (Gen start number name, said) = (start, number, name, said)
+are_of_gen seed pictures out (Run job stream certificate, said) = let are = said.words_are in cc
+are_of_gen seed pictures out (Check job certificate, said) = let are = said.words_are in cc
+
+-- they have the decimal of a number below 2^64 in the second
+seed_word : (seed pictures out : List ℕ) → IsCommand (codes "gen" ∷ seed ∷ pictures ∷ out ∷ []) → (n : ℕ) × (n < 2 ^ 64) × (seed ≡ decimal n)
+seed_word seed pictures out command =
+    let (start, number, name, said) = are_of_gen seed pictures out command in
+    let are = said.words_are in
+    (start, said.seed_below, cc)
 
 -- a needless zero
 needless_zero : IsCommand (gen_words (codes "01") (codes "12")) → ⊥
 needless_zero command =
-    let (n, small, is) = seed_word _ _ _ _ command in
+    let (n, small, is) = seed_word _ _ _ command in
     let plain = rw (← is) at (decimal_begins_plainly n small) in
     let one : 2 ≡ 1 = plain.1 refl in
     omega (arith, one)
@@ -50,25 +60,27 @@ needless_zero command =
 -- a sign
 sign : IsCommand (gen_words (codes "+1") (codes "12")) → ⊥
 sign command =
-    let (n, small, is) = seed_word _ _ _ _ command in
+    let (n, small, is) = seed_word _ _ _ command in
     (rw (← is) at (decimal_begins_plainly n small)).0 refl
 
 -- 2^64
 seed_too_great : IsCommand (gen_words (codes "18446744073709551616") (codes "1")) → ⊥
 seed_too_great command =
-    let (n, small, is) = seed_word _ _ _ _ command in
+    let (n, small, is) = seed_word _ _ _ command in
     let value : 18446744073709551616 ≡ n = ap (digits_value 10) is ∙ (decimal_is_IsNumeral n small).1 in
     omega (arith, value, small)
 
 -- no picture
 no_picture : IsCommand (gen_words (codes "1") (codes "0")) → ⊥
 no_picture command =
-    let within = pictures_within _ _ _ _ 0 (lit< tt, sym (decimal_digit 0 (lit< tt))) command in
+    let (start, number, name, said) = are_of_gen _ _ _ command in
+    let within = pictures_within _ _ _ _ 0 (lit< tt, sym (decimal_digit 0 (lit< tt))) start number name said in
     omega (arith, within.0)
 
 -- 4,097 pictures
 too_many_pictures : IsCommand (gen_words (codes "1") (codes "4097")) → ⊥
 too_many_pictures command =
     let many : decimal 4097 ≡ codes "4097" = decimal_of (codes "4097") refl (lit< tt) (λ e. absurd (omega (arith, e))) (lit< tt) in
-    let within = pictures_within _ _ _ _ 4097 (lit< tt, sym many) command in
+    let (start, number, name, said) = are_of_gen _ _ _ command in
+    let within = pictures_within _ _ _ _ 4097 (lit< tt, sym many) start number name said in
     omega (arith, within.1)

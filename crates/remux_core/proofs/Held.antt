@@ -16,12 +16,12 @@ use Rattle.remux_core.specs.declared.status.Status.{Status}
 use Rattle.remux_core.specs.Answer.{Decides, EndsWithStatus, AnswerHasCause, HasCause, Leaves}
 use Rattle.remux_core.specs.PlanCommand.{HasPlan}
 use Rattle.remux_core.proofs.Told.{HoldsPart, on_prefix}
-use Rattle.remux_core.specs.Command.{Command, Plan, PlansTable}
+use Rattle.remux_core.specs.Command.{Plan}
 use Rattle.remux_core.specs.Outside.{ShelfFacts, OnFiles}
 use Rattle.remux_core.specs.Private.Ended.{answer_of, HoldsFront, refusal_by, IsRefusedFor}
 
 -- a front of at most one byte past the limit is the whole text, or passes the limit as the text does
-take_all_of : (n : ℕ) (text front : List ℕ) → front ≡ take (n + 1) text → length front ≤ n → front ≡ text
+pub take_all_of : (n : ℕ) (text front : List ℕ) → front ≡ take (n + 1) text → length front ≤ n → front ≡ text
 take_all_of n text front is short =
     let size : length front ≡ min (n + 1) (length text) = ap length is ∙ length-take (n + 1) text in
     is ∙ take_all (n + 1) text (omega arith)
@@ -65,14 +65,14 @@ refused_ends table certificate held front (Some ended) (faults.TableLimit name) 
 refused_ends table certificate held front (Some ended) faults.OutOfMemory holds is so = absurd so
 
 -- and that is its cause
-pub refused_cause : (command : Command) → PlansTable command → (old new : ShelfFacts) (result : Option Ended) (fault : TableFault)
-    → IfSome result (IsRefusedFor (refusal_by fault)) → AnswerHasCause (Some command) old new (answer_of result)
-refused_cause command plans old new None fault so = tt
-refused_cause command plans old new (Some ended) (faults.TableSyntax n) so =
-    subst (λ (s : Status). HasCause (Some command) old new s ended.line.items) (sym so.0) (plans, so.1)
-refused_cause command plans old new (Some ended) (faults.TableLimit name) so =
-    subst (λ (s : Status). HasCause (Some command) old new s ended.line.items) (sym so.0) (plans, so.1)
-refused_cause command plans old new (Some ended) faults.OutOfMemory so = absurd so
+pub refused_cause : (table certificate : List ℕ) → (old new : ShelfFacts) (result : Option Ended) (fault : TableFault)
+    → IfSome result (IsRefusedFor (refusal_by fault)) → AnswerHasCause (Some (Plan table certificate)) old new (answer_of result)
+refused_cause table certificate old new None fault so = tt
+refused_cause table certificate old new (Some ended) (faults.TableSyntax n) so =
+    subst (λ (s : Status). HasCause (Some (Plan table certificate)) old new s ended.line.items) (sym so.0) (tt, so.1)
+refused_cause table certificate old new (Some ended) (faults.TableLimit name) so =
+    subst (λ (s : Status). HasCause (Some (Plan table certificate)) old new s ended.line.items) (sym so.0) (tt, so.1)
+refused_cause table certificate old new (Some ended) faults.OutOfMemory so = absurd so
 
 -- a front of the certificate of a plan is what `plan` may leave
 pub plan_leaves : (table certificate : List ℕ) (plan : Cert) (files after : Files) → HasPlan files table plan

@@ -1,4 +1,6 @@
+mod AfterRun
 mod Answered
+mod CheckSteps
 mod Counted
 mod Decimals
 mod Ending
@@ -6,4 +8,8 @@ mod Examples
 mod Held
 mod LineStatus
 mod One
+mod RunSteps
+mod Seen
+mod JobStopped
 mod Told
+mod WordsSaid

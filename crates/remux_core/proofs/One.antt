@@ -11,20 +11,25 @@ use Rattle.slot_rule.specs.Schedule.{IsScheduled, IsFirstMiss}
 use Rattle.remux_core.specs.declared.status.Status.{Status}
 use Rattle.remux_core.specs.declared.status.Status.TheVariants as statuses
 use Rattle.remux_core.specs.declared.status.JobRefusal.{JobRefusal}
-use Rattle.remux_core.specs.declared.status.JobRefusal.TheVariants.{TableSyntax, TableLimit}
+use Rattle.remux_core.specs.declared.status.JobRefusal.TheVariants.{TableSyntax, TableLimit, JobSyntax, JobField, JobLimit}
 use Rattle.remux_core.specs.Answer.{CallsFor}
-use Rattle.remux_core.specs.Command.{Command, Plan, Gen, IsSaid}
+use Rattle.remux_core.specs.CheckCommand.{CheckCallsFor}
+use Rattle.remux_core.specs.Command.{Command, Plan, Gen, Run, Check, IsSaid}
 use Rattle.remux_core.specs.GenCommand.{GenCallsFor}
 use Rattle.remux_core.specs.Outcome.{WordsCallFor}
 use Rattle.remux_core.specs.PlanCommand.{HoldsTable, IsTableRefused, PlanCallsFor}
+use Rattle.remux_core.specs.RunCommand.{RunCallsFor}
 use Rattle.remux_core.specs.Status.{IsSameRefusal, IsSameStatus}
 
--- the laws that each text is read in one way, each table has one smallest choice, and a choice is scheduled or has one first miss
+-- the laws that each text is read in one way, each table has one smallest choice, a choice is scheduled or has one first miss, and what a job
+-- calls for is one
 pub record Laws : Type 0 where
   pub reading : (text : List ℕ) (a b : TextReading) → IsRead text a → IsRead text b → a ≡ b
   pub smallest : (table : Table) (a b : List ℕ) → IsSmallestChoice table a → IsSmallestChoice table b → a ≡ b
   pub scheduled : (table : Table) (choice : List ℕ) (miss : Miss) → IsScheduled table choice → IsFirstMiss table choice miss → ⊥
   pub miss : (table : Table) (choice : List ℕ) (a b : Miss) → IsFirstMiss table choice a → IsFirstMiss table choice b → a ≡ b
+  pub run : (job out certificate : List ℕ) (files : Files) (s t : Status) → RunCallsFor job out certificate files s → RunCallsFor job out certificate files t → IsSameStatus s t
+  pub check : (job certificate : List ℕ) (files : Files) (s t : Status) → CheckCallsFor job certificate files s → CheckCallsFor job certificate files t → IsSameStatus s t
 
 -- words say one command
 pub one_command : (words : List (List ℕ)) (a b : Option Command) → IsSaid words a → IsSaid words b → a ≡ b
@@ -40,6 +45,18 @@ one_command words (Some (Gen seed pictures out)) (Some (Gen other count name)) a
     cc
 one_command words (Some (Plan table certificate)) (Some (Gen seed pictures out)) a b = let x = a.words_are in let y = b.words_are in cc
 one_command words (Some (Gen seed pictures out)) (Some (Plan table certificate)) a b = let x = a.words_are in let y = b.words_are in cc
+one_command words (Some (Run job out certificate)) (Some (Run other name cert)) a b = let x = a.words_are in let y = b.words_are in cc
+one_command words (Some (Check job certificate)) (Some (Check other cert)) a b = let x = a.words_are in let y = b.words_are in cc
+one_command words (Some (Plan table certificate)) (Some (Run job out cert)) a b = let x = a.words_are in let y = b.words_are in cc
+one_command words (Some (Plan table certificate)) (Some (Check job cert)) a b = let x = a.words_are in let y = b.words_are in cc
+one_command words (Some (Gen seed pictures out)) (Some (Run job stream cert)) a b = let x = a.words_are in let y = b.words_are in cc
+one_command words (Some (Gen seed pictures out)) (Some (Check job cert)) a b = let x = a.words_are in let y = b.words_are in cc
+one_command words (Some (Run job out certificate)) (Some (Plan table cert)) a b = let x = a.words_are in let y = b.words_are in cc
+one_command words (Some (Run job out certificate)) (Some (Gen seed pictures name)) a b = let x = a.words_are in let y = b.words_are in cc
+one_command words (Some (Run job out certificate)) (Some (Check other cert)) a b = let x = a.words_are in let y = b.words_are in cc
+one_command words (Some (Check job certificate)) (Some (Plan table cert)) a b = let x = a.words_are in let y = b.words_are in cc
+one_command words (Some (Check job certificate)) (Some (Gen seed pictures name)) a b = let x = a.words_are in let y = b.words_are in cc
+one_command words (Some (Check job certificate)) (Some (Run other out cert)) a b = let x = a.words_are in let y = b.words_are in cc
 one_command words (Some a) None said none = absurd (none (a, said))
 one_command words None (Some b) none said = absurd (none (b, said))
 one_command words None None a b = refl
@@ -58,6 +75,9 @@ no_refusal : Laws → (text : List ℕ) (table : Table) (refusal : JobRefusal) �
 no_refusal laws text table (TableSyntax n) read refused =
     let same : Holds table ≡ RefusedAt n = laws.reading text (Holds table) (RefusedAt n) read refused in
     cc
+no_refusal laws text table JobSyntax read refused = absurd refused
+no_refusal laws text table (JobField name) read refused = absurd refused
+no_refusal laws text table (JobLimit name) read refused = absurd refused
 no_refusal laws text table (TableLimit name) read refused =
     let same : Holds table ≡ RefusedFor refused.0 = laws.reading text (Holds table) (RefusedFor refused.0) read refused.1 in
     cc
@@ -72,6 +92,12 @@ table_or_refusal laws files name table refusal holds (text, held, refused) =
 
 -- a text has one refusal
 one_refusal : Laws → (text : List ℕ) (a b : JobRefusal) → IsTableRefused text a → IsTableRefused text b → IsSameRefusal a b
+one_refusal laws text JobSyntax other a b = absurd a
+one_refusal laws text (JobField name) other a b = absurd a
+one_refusal laws text (JobLimit name) other a b = absurd a
+one_refusal laws text other JobSyntax a b = absurd b
+one_refusal laws text other (JobField name) a b = absurd b
+one_refusal laws text other (JobLimit name) a b = absurd b
 one_refusal laws text (TableSyntax n) (TableSyntax m) a b =
     let same : RefusedAt n ≡ RefusedAt m = laws.reading text (RefusedAt n) (RefusedAt m) a b in
     cc
@@ -129,6 +155,10 @@ plan_calls_for_one laws files name statuses.Usage t a b = absurd a
 plan_calls_for_one laws files name statuses.ReadFault t a b = absurd a
 plan_calls_for_one laws files name statuses.WriteFault t a b = absurd a
 plan_calls_for_one laws files name statuses.OutOfMemory t a b = absurd a
+plan_calls_for_one laws files name (statuses.SourceRefused fault) t a b = absurd a
+plan_calls_for_one laws files name (statuses.CertRefused refusal) t a b = absurd a
+plan_calls_for_one laws files name s (statuses.SourceRefused fault) a b = absurd b
+plan_calls_for_one laws files name s (statuses.CertRefused refusal) a b = absurd b
 plan_calls_for_one laws files name s statuses.Usage a b = absurd b
 plan_calls_for_one laws files name s statuses.ReadFault a b = absurd b
 plan_calls_for_one laws files name s statuses.WriteFault a b = absurd b
@@ -140,6 +170,8 @@ gen_calls_for_one statuses.Ok a = refl
 gen_calls_for_one statuses.Usage a = absurd a
 gen_calls_for_one (statuses.JobRefused refusal) a = absurd a
 gen_calls_for_one (statuses.Unschedulable miss) a = absurd a
+gen_calls_for_one (statuses.SourceRefused fault) a = absurd a
+gen_calls_for_one (statuses.CertRefused refusal) a = absurd a
 gen_calls_for_one statuses.ReadFault a = absurd a
 gen_calls_for_one statuses.WriteFault a = absurd a
 gen_calls_for_one statuses.Missing a = absurd a
@@ -155,6 +187,8 @@ none_calls_for_one files statuses.Usage a = refl
 none_calls_for_one files statuses.Ok a = absurd a
 none_calls_for_one files (statuses.JobRefused refusal) a = absurd a
 none_calls_for_one files (statuses.Unschedulable miss) a = absurd a
+none_calls_for_one files (statuses.SourceRefused fault) a = absurd a
+none_calls_for_one files (statuses.CertRefused refusal) a = absurd a
 none_calls_for_one files statuses.ReadFault a = absurd a
 none_calls_for_one files statuses.WriteFault a = absurd a
 none_calls_for_one files statuses.Missing a = absurd a
@@ -164,6 +198,8 @@ none_calls_for_one files statuses.OutOfMemory a = absurd a
 pub calls_for_one : Laws → (command : Option Command) (files : Files) (s t : Status) → CallsFor command files s → CallsFor command files t → IsSameStatus s t
 calls_for_one laws (Some (Plan table certificate)) files s t a b = plan_calls_for_one laws files table s t a b
 calls_for_one laws (Some (Gen seed pictures out)) files s t a b = both_one statuses.Ok s t (gen_calls_for_one s a) (gen_calls_for_one t b) refl
+calls_for_one laws (Some (Run job out certificate)) files s t a b = laws.run job out certificate files s t a b
+calls_for_one laws (Some (Check job certificate)) files s t a b = laws.check job certificate files s t a b
 calls_for_one laws None files s t a b = both_one statuses.Usage s t (none_calls_for_one files s a) (none_calls_for_one files t b) refl
 
 -- words and files call for one status
@@ -178,6 +214,8 @@ is_ok statuses.Ok same = same
 is_ok statuses.Usage same = same
 is_ok (statuses.JobRefused refusal) same = same
 is_ok (statuses.Unschedulable miss) same = same
+is_ok (statuses.SourceRefused fault) same = same
+is_ok (statuses.CertRefused refusal) same = same
 is_ok statuses.ReadFault same = same
 is_ok statuses.WriteFault same = same
 is_ok statuses.Missing same = same

@@ -6,13 +6,16 @@ use Rattle.bound_certificate.specs.declared.cert.Cert.{Cert}
 use Rattle.job_report.specs.Report.{report_line}
 use Rattle.job_report.specs.declared.report.Report.TheVariants as reports
 use Rattle.program_maker.specs.Program.{IsProgram}
+use Rattle.run_report.specs.Report.{source_report}
 use Rattle.remux_core.specs.declared.status.Status.{Status}
-use Rattle.remux_core.specs.declared.status.Status.TheVariants.{Ok, Usage, JobRefused, Unschedulable, ReadFault, WriteFault, Missing, OutOfMemory}
-use Rattle.remux_core.specs.Command.{Command, Plan, Gen, ReadsFile, WritesFile, PlansTable}
+use Rattle.remux_core.specs.declared.status.Status.TheVariants.{Ok, Usage, JobRefused, SourceRefused, Unschedulable, ReadFault, WriteFault, CertRefused, Missing, OutOfMemory}
+use Rattle.remux_core.specs.CheckCommand.{CheckCallsFor, CheckDone}
+use Rattle.remux_core.specs.Command.{Command, Plan, Gen, Run, Check, ReadsFile, WritesFile, PlansTable, ReadsPrograms, ChecksCertificate, MayRefuse}
 use Rattle.remux_core.specs.GenCommand.{GenCallsFor, GenDone, GenLeaves}
 use Rattle.remux_core.specs.Outside.{ShelfFacts}
 use Rattle.remux_core.specs.PlanCommand.{PlanCallsFor, PlanDone, PlanLeaves}
-use Rattle.remux_core.specs.Report.{plan_report, gen_report, refusal_report, miss_report}
+use Rattle.remux_core.specs.Report.{plan_report, gen_report, cert_report, refusal_report, miss_report}
+use Rattle.remux_core.specs.RunCommand.{RunWork, RunCallsFor, RunDone, RunLeaves, report_of_run}
 
 -- a status, and the line that reports it
 pub record Answer : Type 0 where
@@ -23,6 +26,8 @@ pub record Answer : Type 0 where
 abbrev pub CallsFor : Option Command → Files → Status → Type 0
 CallsFor (Some (Plan table certificate)) files status = PlanCallsFor table files status
 CallsFor (Some (Gen seed pictures out)) files status = GenCallsFor status
+CallsFor (Some (Run job out certificate)) files status = RunCallsFor job out certificate files status
+CallsFor (Some (Check job certificate)) files status = CheckCallsFor job certificate files status
 CallsFor None files Usage = Unit {0}
 CallsFor None files status = ⊥
 
@@ -30,12 +35,16 @@ CallsFor None files status = ⊥
 abbrev pub IsDone : Option Command → Files → (line : List ℕ) → (after : Files) → Type 0
 IsDone (Some (Plan table certificate)) files line after = PlanDone table certificate files line after
 IsDone (Some (Gen seed pictures out)) files line after = GenDone seed pictures out files line after
+IsDone (Some (Run job out certificate)) files line after = RunDone job out certificate files line after
+IsDone (Some (Check job certificate)) files line after = CheckDone job certificate files line after
 IsDone None files line after = ⊥
 
 -- the files that a command leaves where it is broken off
 abbrev pub Leaves : Option Command → Files → (after : Files) → Type 0
 Leaves (Some (Plan table certificate)) files after = PlanLeaves table certificate files after
 Leaves (Some (Gen seed pictures out)) files after = GenLeaves seed pictures out files after
+Leaves (Some (Run job out certificate)) files after = RunLeaves job out certificate files after
+Leaves (Some (Check job certificate)) files after = after ≡ files
 Leaves None files after = after ≡ files
 
 -- What a command with this status and line does to the files. A refusal comes only where it is called for, and leaves them.
@@ -60,13 +69,15 @@ pub record FailsAt (IsAsked : List ℕ → Type 0) (Rises : Type 0) (line_of : L
   pub names : line ≡ line_of name
 
 -- a command reads this file
-abbrev pub IsReadFile : Option Command → (name : List ℕ) → Type 0
-IsReadFile command name = (limit : ℕ) × ReadsFile command name limit
+abbrev pub IsReadFile : Option Command → Option Files → (name : List ℕ) → Type 0
+IsReadFile command told name = (limit : ℕ) × ReadsFile command told name limit
 
 -- the line of a command whose work was done
 abbrev pub IsDoneLine : Command → (line : List ℕ) → Type 0
 IsDoneLine (Plan table certificate) line = (plan : Cert) × (line ≡ report_line (plan_report plan))
 IsDoneLine (Gen seed pictures out) line = (program : List ℕ) × IsProgram seed pictures program × (line ≡ report_line (gen_report program pictures))
+IsDoneLine (Run job out certificate) line = (work : RunWork) × (line ≡ report_line (report_of_run work))
+IsDoneLine (Check job certificate) line = (bound : ℕ) × (line ≡ report_line (reports.Check bound))
 
 -- Why a command ends with this status and line, whether the shelf tells its files or not. A fault of the outside comes only
 -- where a count of its own rose; a name is missing only where told files lack it.
@@ -75,14 +86,16 @@ HasCause None old new Usage line = line ≡ report_line reports.Usage
 HasCause None old new status line = ⊥
 HasCause (Some command) old new Ok line = IsDoneLine command line
 HasCause (Some command) old new Usage line = ⊥
-HasCause (Some command) old new (JobRefused refusal) line = PlansTable command × (line ≡ report_line (refusal_report refusal))
+HasCause (Some command) old new (JobRefused refusal) line = MayRefuse command refusal × (line ≡ report_line (refusal_report refusal))
+HasCause (Some command) old new (SourceRefused fault) line = ReadsPrograms command × (line ≡ report_line (source_report fault))
 HasCause (Some command) old new (Unschedulable miss) line = PlansTable command × (line ≡ report_line (miss_report miss))
 HasCause (Some command) old new ReadFault line =
-    FailsAt (IsReadFile (Some command)) (Rose old.counts.faults new.counts.faults) (λ name. report_line (reports.ReadFault name)) line new
+    FailsAt (IsReadFile (Some command) old.files) (Rose old.counts.faults new.counts.faults) (λ name. report_line (reports.ReadFault name)) line new
 HasCause (Some command) old new WriteFault line =
     FailsAt (WritesFile (Some command)) (Rose old.counts.write_faults new.counts.write_faults) (λ name. report_line (reports.WriteFault name)) line new
+HasCause (Some command) old new (CertRefused refusal) line = ChecksCertificate command × (line ≡ report_line (cert_report refusal))
 HasCause (Some command) old new Missing line =
-    FailsAt (λ name. IsReadFile (Some command) name × Lacks old.files name) (Rose old.counts.absences new.counts.absences)
+    FailsAt (λ name. IsReadFile (Some command) old.files name × Lacks old.files name) (Rose old.counts.absences new.counts.absences)
     (λ name. report_line (reports.Missing name)) line new
 HasCause (Some command) old new OutOfMemory line = ⊥
 

@@ -1,7 +1,12 @@
 -- The commands, as words: what each is called, which files it reads, and which it writes.
-use Rattle.std.specs.Prelude.{◌≡◌, ◌≢◌, ◌<◌, ◌≤◌, ◌^◌, ℕ, List, [], ◌∷◌, Option, Some, None, codes, decimal}
+use Rattle.std.specs.Prelude.{◌≡◌, ◌≢◌, ◌⊎◌, ◌<◌, ◌≤◌, ◌^◌, ℕ, List, [], ◌∷◌, Option, Some, None, codes, decimal}
+use Rattle.bound_certificate.specs.declared.limits.TheConstants.{CERT_BYTES_MOST}
+use Rattle.job_run.specs.Stops.{IsJobFile}
 use Rattle.program_maker.specs.declared.format.TheConstants.{PICTURES_MOST}
+use Rattle.shelf_io.specs.Files.{Files}
 use Rattle.version_table.specs.declared.limits.TheConstants.{TABLE_TEXT_MOST}
+use Rattle.remux_core.specs.declared.status.JobRefusal.{JobRefusal}
+use Rattle.remux_core.specs.declared.status.JobRefusal.TheVariants.{TableSyntax, TableLimit, JobSyntax, JobField, JobLimit}
 
 -- a command with its numbers and the names of its files
 pub data Command : Type 0 where
@@ -9,6 +14,10 @@ pub data Command : Type 0 where
   Plan : (table certificate : List ℕ) → Command
   -- make the program of a seed with so many pictures
   Gen : (seed pictures : ℕ) → (out : List ℕ) → Command
+  -- plan the programs of a job, and write their stream
+  Run : (job out certificate : List ℕ) → Command
+  -- check a certificate for the programs of a job
+  Check : (job certificate : List ℕ) → Command
 
 -- the words `plan TABLE CERT`: two different file names that aren't empty
 pub record IsPlanCommand (words : List (List ℕ)) (table certificate : List ℕ) : Type 0 where
@@ -26,10 +35,29 @@ pub record IsGenCommand (words : List (List ℕ)) (seed pictures : ℕ) (out : L
   pub few_pictures : pictures ≤ PICTURES_MOST
   pub out_named : out ≢ []
 
+-- the words `run JOB OUT CERT`: three different file names that aren't empty
+pub record IsRunCommand (words : List (List ℕ)) (job out certificate : List ℕ) : Type 0 where
+  pub words_are : words ≡ codes "run" ∷ job ∷ out ∷ certificate ∷ []
+  pub job_named : job ≢ []
+  pub out_named : out ≢ []
+  pub certificate_named : certificate ≢ []
+  pub job_out_apart : job ≢ out
+  pub job_certificate_apart : job ≢ certificate
+  pub out_certificate_apart : out ≢ certificate
+
+-- the words `check JOB CERT`: two different file names that aren't empty
+pub record IsCheckCommand (words : List (List ℕ)) (job certificate : List ℕ) : Type 0 where
+  pub words_are : words ≡ codes "check" ∷ job ∷ certificate ∷ []
+  pub job_named : job ≢ []
+  pub certificate_named : certificate ≢ []
+  pub apart : job ≢ certificate
+
 -- the words of a command
 abbrev pub IsWordsOf : Command → List (List ℕ) → Type 0
 IsWordsOf (Plan table certificate) words = IsPlanCommand words table certificate
 IsWordsOf (Gen seed pictures out) words = IsGenCommand words seed pictures out
+IsWordsOf (Run job out certificate) words = IsRunCommand words job out certificate
+IsWordsOf (Check job certificate) words = IsCheckCommand words job certificate
 
 -- the words are those of a command
 abbrev pub IsCommand : List (List ℕ) → Type 0
@@ -40,19 +68,60 @@ abbrev pub IsSaid : List (List ℕ) → Option Command → Type 0
 IsSaid words (Some command) = IsWordsOf command words
 IsSaid words None = IsCommand words → ⊥
 
--- a command reads this file, up to one byte past this limit
-abbrev pub ReadsFile : Option Command → (name : List ℕ) → (limit : ℕ) → Type 0
-ReadsFile (Some (Plan table certificate)) name limit = (name ≡ table) × (limit ≡ TABLE_TEXT_MOST)
-ReadsFile (Some (Gen seed pictures out)) name limit = ⊥
-ReadsFile None name limit = ⊥
+-- the files that `run` names itself
+abbrev pub files_of_run : (job out certificate : List ℕ) → List (List ℕ)
+files_of_run job out certificate = job ∷ out ∷ certificate ∷ []
+
+-- the files that `check` names itself
+abbrev pub files_of_check : (job certificate : List ℕ) → List (List ℕ)
+files_of_check job certificate = job ∷ certificate ∷ []
+
+-- A command reads this file, up to one byte past this limit. Which files of programs are read depends on the job in JOB; where files
+-- aren't told, they are those of any job.
+abbrev pub ReadsFile : Option Command → Option Files → (name : List ℕ) → (limit : ℕ) → Type 0
+ReadsFile (Some (Plan table certificate)) told name limit = (name ≡ table) × (limit ≡ TABLE_TEXT_MOST)
+ReadsFile (Some (Gen seed pictures out)) told name limit = ⊥
+ReadsFile (Some (Run job out certificate)) told name limit = IsJobFile told job (files_of_run job out certificate) name limit
+ReadsFile (Some (Check job certificate)) told name limit =
+    IsJobFile told job (files_of_check job certificate) name limit ⊎ ((name ≡ certificate) × (limit ≡ CERT_BYTES_MOST))
+ReadsFile None told name limit = ⊥
 
 -- a command writes this file
 abbrev pub WritesFile : Option Command → (name : List ℕ) → Type 0
 WritesFile (Some (Plan table certificate)) name = name ≡ certificate
 WritesFile (Some (Gen seed pictures out)) name = name ≡ out
+WritesFile (Some (Run job out certificate)) name = (name ≡ out) ⊎ (name ≡ certificate)
+WritesFile (Some (Check job certificate)) name = ⊥
 WritesFile None name = ⊥
 
--- a command plans a table, so it may refuse the table's text or miss
+-- a command plans a table, so it may miss
 abbrev pub PlansTable : Command → Type 0
 PlansTable (Plan table certificate) = Unit {0}
 PlansTable (Gen seed pictures out) = ⊥
+PlansTable (Run job out certificate) = Unit {0}
+PlansTable (Check job certificate) = ⊥
+
+-- a command reads the programs of a job, so it may refuse one of them
+abbrev pub ReadsPrograms : Command → Type 0
+ReadsPrograms (Plan table certificate) = ⊥
+ReadsPrograms (Gen seed pictures out) = ⊥
+ReadsPrograms (Run job out certificate) = Unit {0}
+ReadsPrograms (Check job certificate) = Unit {0}
+
+-- a command checks a certificate, so it may refuse it
+abbrev pub ChecksCertificate : Command → Type 0
+ChecksCertificate (Check job certificate) = Unit {0}
+ChecksCertificate command = ⊥
+
+-- a command reads a text that may be refused so: `plan` that of a table, `run` and `check` that of a job
+abbrev pub MayRefuse : Command → JobRefusal → Type 0
+MayRefuse (Plan table certificate) (TableSyntax n) = Unit {0}
+MayRefuse (Plan table certificate) (TableLimit name) = Unit {0}
+MayRefuse (Plan table certificate) refusal = ⊥
+MayRefuse (Gen seed pictures out) refusal = ⊥
+MayRefuse (Run job out certificate) (TableSyntax n) = ⊥
+MayRefuse (Run job out certificate) (TableLimit name) = ⊥
+MayRefuse (Run job out certificate) refusal = Unit {0}
+MayRefuse (Check job certificate) (TableSyntax n) = ⊥
+MayRefuse (Check job certificate) (TableLimit name) = ⊥
+MayRefuse (Check job certificate) refusal = Unit {0}

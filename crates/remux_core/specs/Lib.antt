@@ -1,4 +1,5 @@
 pub mod Answer
+pub mod CheckCommand
 pub mod Command
 pub mod GenCommand
 pub mod Outcome
@@ -7,5 +8,6 @@ pub mod Plan
 pub mod PlanCommand
 pub mod Promises
 pub mod Report
+pub mod RunCommand
 pub mod Status
 pub mod Private

@@ -2,6 +2,7 @@
 use Rattle.std.specs.Prelude.{◌≡◌, ℕ, ◌≤◌, length, All}
 use Rattle.version_table.specs.declared.table.Table.{Table}
 use Rattle.bound_certificate.specs.declared.cert.Cert.{Cert}
+use Rattle.bound_certificate.specs.Cert.{IsCert}
 use Rattle.bound_certificate.specs.Reading.{IsWritable}
 use Rattle.certificate_checker.specs.Checked.{IsFaultless}
 use Rattle.certificate_checker.specs.Faults.{IsHeadRight}
@@ -13,9 +14,10 @@ use Rattle.branch_plan.specs.Tree.{BranchesOnMany}
 pub record IsPlan (table : Table) (cert : Cert) : Type 0 where
   -- there is a plan only where the smallest choice is scheduled
   pub possible : SmallestIsScheduled table
-  -- the certificate is of version 2 and may be written
+  -- the certificate is of version 2, and what is written of it is read back
   pub version : cert.version ≡ 2
   pub writable : IsWritable cert
+  pub is_cert : IsCert cert
   -- its choice is scheduled, and the distortion is the choice's own
   pub head : IsHeadRight table cert
   -- its nodes are one tree without fault, and the bound is the root's

@@ -34,6 +34,7 @@ pub record HasPlan (files : Files) (name : List ℕ) (plan : Cert) : Type 0 wher
 abbrev pub IsTableRefused : List ℕ → JobRefusal → Type 0
 IsTableRefused text (TableSyntax n) = IsRead text (RefusedAt n)
 IsTableRefused text (TableLimit name) = (limit : Limit) × IsRead text (RefusedFor limit) × (name.bytes ≡ limit_name limit)
+IsTableRefused text refusal = ⊥
 
 -- what TABLE holds calls for this status
 abbrev pub PlanCallsFor : (table : List ℕ) → Files → Status → Type 0

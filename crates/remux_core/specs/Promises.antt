@@ -13,9 +13,9 @@ pub record CountsGrow (old new : ShelfCounts) : Type 0 where
   pub absences_grow : old.absences ≤ new.absences
 
 -- only files that a command reads were asked for bytes, each for none behind one byte past its limit
-pub record AsksOnly (command : Option Command) (old new : List ℕ → ℕ) : Type 0 where
-  pub within : (name : List ℕ) (limit : ℕ) → ReadsFile command name limit → new name ≤ max (old name) (limit + 1)
-  pub others : (name : List ℕ) → ((limit : ℕ) → ReadsFile command name limit → ⊥) → new name ≤ old name
+pub record AsksOnly (command : Option Command) (told : Option Files) (old new : List ℕ → ℕ) : Type 0 where
+  pub within : (name : List ℕ) (limit : ℕ) → ReadsFile command told name limit → new name ≤ max (old name) (limit + 1)
+  pub others : (name : List ℕ) → ((limit : ℕ) → ReadsFile command told name limit → ⊥) → new name ≤ old name
 
 -- every file but those that a command writes is as it was
 abbrev pub OthersStay : Option Command → (files after : Files) → Type 0
@@ -25,7 +25,7 @@ OthersStay command files after = (name : List ℕ) → (WritesFile command name 
 pub record Promises (command : Option Command) (old new : ShelfFacts) (out_old out_new : SinkFacts) : Type 0 where
   pub counts : CountsGrow old.counts new.counts
   pub out_faults : out_old.faults ≤ out_new.faults
-  pub asks : AsksOnly command old.asked new.asked
+  pub asks : AsksOnly command old.files old.asked new.asked
   pub others : OnFiles old.files new.files (OthersStay command)
 
 -- no call of the outside failed, as far as counts tell

@@ -1,7 +1,7 @@
 ghost use Rattle.std.specs.Prelude.{◌≡◌, ◌≢◌, ◌≤◌, ◌<◌, ◌⊎◌, ◌↔◌, ◌∷◌, [], map, length, get_or, IsTrue};
 ghost use Rattle.std.specs.String.{string_bytes};
-ghost use Rattle.remux_core.specs.Command.{IsPlanCommand, IsSaid};
-ghost use Rattle.remux_core.specs.Private.Parsed.{command_of, IsDecimal};
+ghost use Rattle.remux_core.specs.Command.{IsCheckCommand, IsPlanCommand, IsRunCommand, IsSaid};
+ghost use Rattle.remux_core.specs.Private.Parsed.{command_of, IsDecimal, IsGenSaid};
 
 use program_maker::PICTURES_MOST;
 
@@ -10,6 +10,8 @@ use program_maker::PICTURES_MOST;
 pub enum Parsed<'a> {
     Plan(PlanFiles<'a>),
     Gen(GenWords<'a>),
+    Run(RunFiles<'a>),
+    Check(CheckFiles<'a>),
 }
 
 /// The file names of `plan TABLE CERT`.
@@ -32,33 +34,96 @@ pub struct GenWords<'a> {
     pub out: &'a str,
 }
 
+/// The file names of `run JOB OUT CERT`.
+#[derive(Clone, Copy)]
+pub struct RunFiles<'a> {
+    /// The job text.
+    pub job: &'a str,
+    /// The stream to write.
+    pub out: &'a str,
+    /// The certificate to write.
+    pub certificate: &'a str,
+}
+
+/// The file names of `check JOB CERT`.
+#[derive(Clone, Copy)]
+pub struct CheckFiles<'a> {
+    /// The job text.
+    pub job: &'a str,
+    /// The certificate to check.
+    pub certificate: &'a str,
+}
+
 /// The command that words say; none where they are those of no command.
 pub fn parse(words: &[String]) -> Option<Parsed<'_>>
     ensures { IsSaid (map string_bytes words.now) (command_of result) }
 {
     match words {
-        [verb, table, certificate] => {
-            parse_plan(verb.as_str(), table.as_str(), certificate.as_str())
-        }
-        [verb, seed, pictures, out] => parse_gen(
+        [verb, first, second] => parse_pair(verb.as_str(), first.as_str(), second.as_str()),
+        [verb, first, second, third] => parse_three(
             verb.as_str(),
-            seed.as_str(),
-            pictures.as_str(),
-            out.as_str(),
+            first.as_str(),
+            second.as_str(),
+            third.as_str(),
         ),
         _ => None,
     }
 }
 
-/// The command that three words say.
-fn parse_plan<'a>(verb: &str, table: &'a str, certificate: &'a str) -> Option<Parsed<'a>>
-    ensures { IsSaid (verb.now ∷ table.now ∷ certificate.now ∷ []) (command_of result) }
+/// The command that a verb and two words say.
+fn parse_pair<'a>(verb: &str, first: &'a str, second: &'a str) -> Option<Parsed<'a>>
+    ensures { IsSaid (verb.now ∷ first.now ∷ second.now ∷ []) (command_of result) }
 {
-    if is_plan(verb, table, certificate) {
-        Some(Parsed::Plan(PlanFiles { table, certificate }))
-    } else {
-        None
+    if is_plan(verb, first, second) {
+        return Some(Parsed::Plan(PlanFiles {
+            table: first,
+            certificate: second,
+        }));
     }
+    if is_check(verb, first, second) {
+        return Some(Parsed::Check(CheckFiles {
+            job: first,
+            certificate: second,
+        }));
+    }
+    None
+}
+
+/// Whether three words are `check JOB CERT`.
+fn is_check(verb: &str, job: &str, certificate: &str) -> bool
+    ensures { IsTrue result ↔ IsCheckCommand (verb.now ∷ job.now ∷ certificate.now ∷ []) job.now certificate.now }
+{
+    verb == "check" && !job.is_empty() && !certificate.is_empty() && job != certificate
+}
+
+/// The command that a verb and three words say.
+fn parse_three<'a>(
+    verb: &str,
+    first: &'a str,
+    second: &'a str,
+    third: &'a str,
+) -> Option<Parsed<'a>>
+    ensures { IsSaid (verb.now ∷ first.now ∷ second.now ∷ third.now ∷ []) (command_of result) }
+{
+    if is_run(verb, first, second, third) {
+        return Some(Parsed::Run(RunFiles {
+            job: first,
+            out: second,
+            certificate: third,
+        }));
+    }
+    match parse_gen(verb, first, second, third) {
+        Some(words) => Some(Parsed::Gen(words)),
+        None => None,
+    }
+}
+
+/// Whether four words are `run JOB OUT CERT`.
+fn is_run(verb: &str, job: &str, out: &str, certificate: &str) -> bool
+    ensures { IsTrue result ↔ IsRunCommand (verb.now ∷ job.now ∷ out.now ∷ certificate.now ∷ []) job.now out.now certificate.now }
+{
+    let named = !job.is_empty() && !out.is_empty() && !certificate.is_empty();
+    verb == "run" && named && job != out && job != certificate && out != certificate
 }
 
 /// Whether three words are `plan TABLE CERT`.
@@ -68,9 +133,9 @@ fn is_plan(verb: &str, table: &str, certificate: &str) -> bool
     verb == "plan" && !table.is_empty() && !certificate.is_empty() && table != certificate
 }
 
-/// The command that four words say.
-fn parse_gen<'a>(verb: &str, seed: &str, pictures: &str, out: &'a str) -> Option<Parsed<'a>>
-    ensures { IsSaid (verb.now ∷ seed.now ∷ pictures.now ∷ out.now ∷ []) (command_of result) }
+/// The words `gen SEED PICTURES OUT`, where four words are these.
+fn parse_gen<'a>(verb: &str, seed: &str, pictures: &str, out: &'a str) -> Option<GenWords<'a>>
+    ensures { IsGenSaid (verb.now ∷ seed.now ∷ pictures.now ∷ out.now ∷ []) result }
 {
     if verb != "gen" || out.is_empty() {
         return None;
@@ -81,11 +146,11 @@ fn parse_gen<'a>(verb: &str, seed: &str, pictures: &str, out: &'a str) -> Option
         return None;
     }
     let pictures = pictures as u32;
-    Some(Parsed::Gen(GenWords {
+    Some(GenWords {
         seed,
         pictures,
         out,
-    }))
+    })
 }
 
 /// The number below 2^64 that a word is in decimal, without sign or needless leading zero.

@@ -1,6 +1,6 @@
 //! Laws of the top call.
 
-ghost use Rattle.std.specs.Prelude.{◌≡◌, ◌⊎◌, List, ℕ, Option, map};
+ghost use Rattle.std.specs.Prelude.{◌≡◌, ◌⊎◌, List, ℕ, Option, map, IfSome};
 ghost use Rattle.std.specs.String.{string_bytes};
 ghost use Rattle.shelf_io.specs.Files.{Files};
 ghost use Rattle.version_table.specs.declared.table.Table.{Table};
@@ -8,12 +8,15 @@ ghost use Rattle.version_table.specs.Choice.{IsSmallestChoice};
 ghost use Rattle.slot_rule.specs.Schedule.{IsScheduled};
 ghost use Rattle.remux_core.specs.declared.status.Status.{Status as AnyStatus};
 ghost use Rattle.remux_core.specs.Answer.{HasCause};
-ghost use Rattle.remux_core.specs.Command.{IsPlanCommand, IsGenCommand, Command as AnyCommand};
+ghost use Rattle.remux_core.specs.CheckCommand.{CheckCallsFor};
+ghost use Rattle.remux_core.specs.Command.{IsPlanCommand, IsGenCommand, IsRunCommand, Command as AnyCommand};
 ghost use Rattle.remux_core.specs.Outcome.{WordsCallFor};
 ghost use Rattle.remux_core.specs.Outside.{ShelfFacts};
 ghost use Rattle.remux_core.specs.PlanCommand.{HoldsTable};
+ghost use Rattle.remux_core.specs.RunCommand.{RunDone};
 ghost use Rattle.remux_core.specs.Status.{IsSameStatus, TellsStatus};
 
+use crate::owed::jobs_call_for_one;
 use crate::status::Status;
 use crate::top_call::run;
 use shelf_io::{CalmShelf, CalmSink};
@@ -22,20 +25,27 @@ use std::alloc::Global;
 use version_table::{one_reading, smallest_choice_is_one};
 
 /// Words and files call for one status.
-pub fn one_status_is_called_for()
-    ensures { (words : List (List ℕ)) (files : Files) (status other : AnyStatus) → WordsCallFor words files status
-        → WordsCallFor words files other → IsSameStatus status other }
+pub fn one_status_is_called_for() -> Option<()>
+    ensures { IfSome result (λ _. (words : List (List ℕ)) (files : Files) (status other : AnyStatus) → WordsCallFor words files status
+        → WordsCallFor words files other → IsSameStatus status other) }
 {
     one_reading();
     smallest_choice_is_one();
     no_miss_where_scheduled();
     first_miss_is_one();
+    jobs_call_for_one()
 }
 
 /// The line of each status but that of work that was done tells the exit status.
 pub fn lines_tell_their_status()
     ensures { (command : Option AnyCommand) (old new : ShelfFacts) (status : AnyStatus) (line : List ℕ) → HasCause command old new status line
         → (status ≡ Status.Ok → ⊥) → TellsStatus status line }
+{}
+
+/// What `run` leaves, `check` accepts: the files after the work of `run JOB OUT CERT` call for status 0 of `check JOB CERT`.
+pub fn check_accepts_runs()
+    ensures { (words : List (List ℕ)) (job out certificate : List ℕ) (files after : Files) (line : List ℕ) → IsRunCommand words job out certificate
+        → RunDone job out certificate files line after → CheckCallsFor job certificate after Status.Ok }
 {}
 
 /// A run over a shelf and a sink that never fail: it ends as its words and files call for, or for want of memory.

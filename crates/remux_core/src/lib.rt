@@ -6,16 +6,22 @@
 //! `branch_plan`, `bound_certificate`, `program_maker` and `job_report`.
 #![tactic(auto)]
 
+mod cert_room;
+mod check_command;
 mod command;
 mod ended;
 mod gen_command;
 pub mod laws;
+mod owed;
 mod plan_command;
+mod planned;
 mod report;
+mod run_command;
 mod status;
+mod stopped;
 mod top_call;
 
-pub use status::{JobRefusal, Status};
+pub use status::{CertRefusal, JobRefusal, Status};
 pub use top_call::run;
 
 #[cfg(test)]

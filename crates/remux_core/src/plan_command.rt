@@ -13,10 +13,11 @@ ghost use Rattle.remux_core.specs.Promises.{CountsGrow};
 
 use crate::command::PlanFiles;
 use crate::ended::{Ended, end_missing, end_unread, end_unwritten, end_with};
+use crate::planned::plan_of_table;
 use crate::report::{miss_report, plan_report, refusal_report};
 use crate::status::{JobRefusal, Status};
 use bound_certificate::{Cert, write_cert};
-use branch_plan::{PlanFault, plan};
+use branch_plan::PlanFault;
 use shelf_io::{Fault, Shelf, read_file, write_file};
 use std::alloc::Global;
 use version_table::limits::TABLE_TEXT_MOST;
@@ -79,8 +80,8 @@ fn plan_table<K: Shelf>(
     ensures counts { CountsGrow (K.counts shelf.old) (K.counts shelf.new) }
     ensures asked { AsksNothing (K.asked shelf.old) (K.asked shelf.new) }
 {
-    match plan(alloc, table, table.nodes, table.evaluations) {
-        Ok(planned) => write_plan(alloc, files, planned.cert, shelf),
+    match plan_of_table(alloc, table) {
+        Ok(plan) => write_plan(alloc, files, plan, shelf),
         Err(PlanFault::Missed(miss)) => {
             end_with(alloc, Status::Unschedulable(miss), &miss_report(miss))
         }

@@ -2,11 +2,13 @@
 
 ghost use Rattle.std.specs.Prelude.{◌≡◌, ◌≤◌, length};
 ghost use Rattle.version_table.specs.declared.limits.TheConstants.{NODES_MOST};
+ghost use Rattle.job_report.specs.Report.{report_line};
 ghost use Rattle.remux_core.specs.Report as spec;
 
-use crate::status::JobRefusal;
+use crate::status::{CertRefusal, JobRefusal};
 use bound_certificate::Cert;
 use job_report::Report;
+use run_report::cert_fault_report;
 use slot_rule::Miss;
 
 /// A plan, by its certificate.
@@ -33,13 +35,16 @@ pub fn gen_report(program: &[u8], pictures: u32) -> Report
     }
 }
 
-/// A table text that is refused.
+/// A text that is refused.
 pub fn refusal_report(refusal: &JobRefusal) -> Report
     ensures { result ≡ spec.refusal_report refusal.now }
 {
     match refusal {
         JobRefusal::TableSyntax(line) => Report::TableSyntax { line: *line },
         JobRefusal::TableLimit(name) => Report::TableLimit { name: *name },
+        JobRefusal::JobSyntax => Report::JobSyntax,
+        JobRefusal::JobField(name) => Report::JobField { name: *name },
+        JobRefusal::JobLimit(name) => Report::JobLimit { name: *name },
     }
 }
 
@@ -52,5 +57,15 @@ pub fn miss_report(miss: Miss) -> Report
         slot: miss.slot,
         stream: miss.stream,
         unit: miss.unit,
+    }
+}
+
+/// A certificate that is refused: its line is that of the definition.
+pub fn cert_report(refusal: CertRefusal) -> Report
+    ensures { report_line result ≡ report_line (spec.cert_report refusal) }
+{
+    match refusal {
+        CertRefusal::Syntax(byte) => Report::CertSyntax { byte },
+        CertRefusal::Fault(fault) => cert_fault_report(fault),
     }
 }

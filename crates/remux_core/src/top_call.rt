@@ -9,10 +9,13 @@ ghost use Rattle.remux_core.specs.Private.Ended.{answer_of, Performs};
 ghost use Rattle.remux_core.specs.Promises.{NoneFailed};
 ghost use Rattle.remux_core.specs.Status.{IsSameStatus};
 
+use crate::check_command::check_job;
 use crate::command::{Parsed, parse};
 use crate::ended::{Ended, end_with};
 use crate::gen_command::gen_file;
+use crate::owed::jobs_call_for_one;
 use crate::plan_command::plan_file;
+use crate::run_command::run_job;
 use crate::status::Status;
 use job_report::Report;
 use shelf_io::{Fault, Shelf, Sink, put_all};
@@ -23,7 +26,9 @@ use version_table::{one_reading, smallest_choice_is_one};
 /// Runs a command: words, a shelf of files, and a sink for the report line.
 ///
 /// The words `plan TABLE CERT` plan the table text in the file TABLE and write the certificate of the plan to CERT. The words
-/// `gen SEED PICTURES OUT` write the generated program of a seed with so many pictures to OUT. All other words are a usage fault. One line of JSON goes to `out` for each status but want of memory.
+/// `gen SEED PICTURES OUT` write the generated program of a seed with so many pictures to OUT. `run JOB OUT CERT` plan the
+/// programs of the job in JOB, write their stream to OUT and the certificate of the plan to CERT. `check JOB CERT` read the same
+/// programs and check the certificate in CERT. All other words are a usage fault. One line of JSON goes to `out` for each status but want of memory.
 pub fn run<K: Shelf, O: Sink>(alloc: Global, words: &[String], shelf: &mut K, out: &mut O) -> Status
     // What the words and files decide, what failed outside, how it is reported, and what every command promises.
     ensures outcome { Outcome (map string_bytes words.now)
@@ -56,6 +61,9 @@ pub fn run<K: Shelf, O: Sink>(alloc: Global, words: &[String], shelf: &mut K, ou
     let Some(ended) = perform(alloc, words, shelf) else {
         return Status::OutOfMemory;
     };
+    let Some(()) = jobs_call_for_one() else {
+        return Status::OutOfMemory;
+    };
     match put_all(out, ended.line.as_slice()) {
         Ok(()) => ended.status,
         Err(Fault::Failed) => Status::WriteFault,
@@ -74,6 +82,8 @@ fn perform<K: Shelf>(alloc: Global, words: &[String], shelf: &mut K) -> Option<E
     match parse(words) {
         Some(Parsed::Plan(files)) => plan_file(alloc, &files, shelf),
         Some(Parsed::Gen(words)) => gen_file(alloc, &words, shelf),
+        Some(Parsed::Run(files)) => run_job(alloc, &files, shelf),
+        Some(Parsed::Check(files)) => check_job(alloc, &files, shelf),
         None => end_with(alloc, Status::Usage, &Report::Usage),
     }
 }

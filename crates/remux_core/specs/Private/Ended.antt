@@ -34,7 +34,7 @@ pub record Performs (words : List (List ℕ)) (old new : ShelfFacts) (answer : O
   pub decided : OnFiles old.files new.files (λ files after. Decides command files answer after)
   pub cause : AnswerHasCause command old new answer
   pub counts : CountsGrow old.counts new.counts
-  pub asks : AsksOnly command old.asked new.asked
+  pub asks : AsksOnly command old.files old.asked new.asked
 
 -- a file holds a text of which these are the first bytes, up to one past the limit
 pub record HoldsFront (files : Files) (name front : List ℕ) : Type 0 where

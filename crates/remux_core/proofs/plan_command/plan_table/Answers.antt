@@ -8,28 +8,9 @@ use Rattle.remux_core.proofs.plan_command.plan_table.Goals as goal
 pub returns-in-Ok-clause-decided : goal.returns-in-Ok-clause-decided
 returns-in-Ok-clause-decided g c =
     let files = c.args.files.now in
-    let plan = c.in-Ok.planned.cert in
-    let is = c.in-Ok.ensures in
+    let plan = c.in-Ok.plan in
     on_then (g.K.Shelf.files c.args.shelf.now) (g.K.Shelf.files c.write_plan.new.shelf)
     (λ held after. HasPlan held files.table.now plan → Decides (plan_of files) held (answer_of c.write_plan.result) after)
     (λ held after. HoldsTable held files.table.now c.args.table.now → Decides (plan_of files) held (answer_of c.write_plan.result) after)
     c.write_plan.ensures.decided
-    (λ held after decides holds. decides (record {
-      table = c.args.table.now;
-      holds = holds;
-      is_plan = record {
-        possible = is.possible;
-        version = is.version;
-        writable = is.written;
-        head = is.head;
-        root = is.root;
-        faultless = is.faultless;
-        bound = is.bound;
-        few_nodes = is.few_nodes;
-        few_windows = is.few_windows;
-        branches = is.branches;
-        tried = is.tried;
-        pairs = is.pairs;
-        no_worse = is.no_worse;
-      };
-    }))
+    (λ held after decides holds. decides (record { table = c.args.table.now; holds = holds; is_plan = c.in-Ok.ensures.plan }))

@@ -1,7 +1,6 @@
 use Rattle.std.proofs.Common.{refl}
 use Rattle.version_table.specs.Text.{Holds}
 use Rattle.remux_core.specs.Answer.{Decides}
-use Rattle.remux_core.specs.Command.{Plan}
 use Rattle.remux_core.specs.Outside.{shelf_facts}
 use Rattle.remux_core.specs.PlanCommand.{HoldsTable}
 use Rattle.remux_core.specs.Private.Ended.{answer_of, HoldsFront}
@@ -31,4 +30,4 @@ pub returns-in-Err-clause-cause : goal.returns-in-Err-clause-cause
 returns-in-Err-clause-cause g c =
     let files = c.args.files.now in
     let shelf = shelf_facts g.K.Shelf.files g.K.Shelf.counts g.K.Shelf.asked g.K.Shelf.since_fault c.args.shelf.now in
-    refused_cause (Plan files.table.now files.certificate.now) tt shelf shelf c.refuse.result c.in-Err.fault c.refuse.ensures
+    refused_cause files.table.now files.certificate.now shelf shelf c.refuse.result c.in-Err.fault c.refuse.ensures

@@ -6,8 +6,8 @@ use Rattle.remux_core.specs.declared.command.Parsed.{Parsed}
 use Rattle.remux_core.specs.Answer.{Decides, AnswerHasCause}
 use Rattle.remux_core.specs.Command.{IsSaid}
 use Rattle.remux_core.specs.Outside.{shelf_facts}
-use Rattle.remux_core.specs.Private.Parsed.{command_of, plan_of}
-use Rattle.remux_core.proofs.Counted.{counts_same, asks_same, asks_table}
+use Rattle.remux_core.specs.Private.Parsed.{command_of, plan_of, run_of, check_of}
+use Rattle.remux_core.proofs.Counted.{counts_same, asks_same, asks_table, asks_run}
 use Rattle.remux_core.proofs.Ending.{ends_so}
 use Rattle.remux_core.proofs.Told.{on_same}
 use Rattle.remux_core.proofs.top_call.perform.Goals as goal
@@ -23,7 +23,7 @@ returns-in-None g c =
           ends_so (λ answer. Decides None held answer held) c.end_with.result Usage reports.Usage reports.Usage c.end_with.ensures refl (tt, refl) refl);
       cause = ends_so (AnswerHasCause None shelf shelf) c.end_with.result Usage reports.Usage reports.Usage c.end_with.ensures refl refl tt;
       counts = counts_same (g.K.Shelf.counts c.args.shelf.now);
-      asks = asks_same None (g.K.Shelf.asked c.args.shelf.now);
+      asks = asks_same None old (g.K.Shelf.asked c.args.shelf.now);
     }
 
 pub returns-in-Some-Plan : goal.returns-in-Some-Plan
@@ -36,5 +36,30 @@ returns-in-Some-Plan g c =
       decided = c.plan_file.ensures.decided;
       cause = c.plan_file.ensures.cause;
       counts = c.plan_file.ensures.counts;
-      asks = asks_table files.table.now files.certificate.now (asked c.args.shelf.now) (asked c.plan_file.new.shelf) c.plan_file.ensures.asked;
+      asks = asks_table files.table.now files.certificate.now (g.K.Shelf.files c.args.shelf.now) (asked c.args.shelf.now) (asked c.plan_file.new.shelf) c.plan_file.ensures.asked;
+    }
+
+pub returns-in-Some-Run : goal.returns-in-Some-Run
+returns-in-Some-Run g c =
+    let files = c.in-Some-Run.files in
+    let asked = g.K.Shelf.asked in
+    record {
+      command = run_of files;
+      said = subst (λ (p : Parsed). IsSaid (map string_bytes c.args.words.now) (command_of (Some p))) c.in-Some-Run.field-0-is c.in-Some-Run.ensures;
+      decided = c.run_job.ensures.decided;
+      cause = c.run_job.ensures.cause;
+      counts = c.run_job.ensures.counts;
+      asks = asks_run files.job.now files.out.now files.certificate.now (g.K.Shelf.files c.args.shelf.now) (asked c.args.shelf.now) (asked c.run_job.new.shelf) c.run_job.ensures.asked;
+    }
+
+pub returns-in-Some-Check : goal.returns-in-Some-Check
+returns-in-Some-Check g c =
+    let files = c.in-Some-Check.files in
+    record {
+      command = check_of files;
+      said = subst (λ (p : Parsed). IsSaid (map string_bytes c.args.words.now) (command_of (Some p))) c.in-Some-Check.field-0-is c.in-Some-Check.ensures;
+      decided = c.check_job.ensures.decided;
+      cause = c.check_job.ensures.cause;
+      counts = c.check_job.ensures.counts;
+      asks = c.check_job.ensures.asked;
     }

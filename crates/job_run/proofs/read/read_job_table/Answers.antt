@@ -1,0 +1,83 @@
+use Rattle.std.proofs.Common.{List, ℕ, map, Err, ap, refl, subst, inl}
+use Rattle.job_run.specs.JobFile.{IsJobOfText}
+use Rattle.job_run.specs.Private.Texts.{IsTextStop}
+use Rattle.job_run.proofs.Asked.{asks_programs, asks_text, held_apart}
+use Rattle.job_run.proofs.Steps.{is_job_table, missing_stops, reads_once, stops_later, text_stops, unread_stops}
+use Rattle.job_run.proofs.Texts.{holds_job, holds_refused}
+use Rattle.job_run.proofs.read.read_job_table.Goals as goal
+
+pub returns-in-Ok-job_of_text-clause-table : goal.returns-in-Ok-job_of_text-clause-table
+returns-in-Ok-job_of_text-clause-table g c =
+    let told = g.K.Shelf.files c.args.shelf.now in
+    let named = map (λ file. file.now) c.args.named.now in
+    let is = subst (λ (t : List ℕ). IsJobOfText t named c.in-Ok-job_of_text.job) c.as_slice.ensures c.in-Ok-job_of_text.ensures.job in
+    is_job_table told (g.K.Shelf.files c.read_file.new.shelf) c.args.name.now named c.in-Ok-job_of_text.job c.table_of_job.result c.in-Ok.ensures.files
+    (holds_job told c.args.name.now c.in-Ok.text named c.in-Ok-job_of_text.job c.in-Ok.ensures.length c.in-Ok.ensures.told is) c.table_of_job.ensures.table
+
+pub returns-in-Ok-job_of_text-clause-stop : goal.returns-in-Ok-job_of_text-clause-stop
+returns-in-Ok-job_of_text-clause-stop g c =
+    let told = g.K.Shelf.files c.args.shelf.now in
+    let named = map (λ file. file.now) c.args.named.now in
+    let is = subst (λ (t : List ℕ). IsJobOfText t named c.in-Ok-job_of_text.job) c.as_slice.ensures c.in-Ok-job_of_text.ensures.job in
+    stops_later told (g.K.Shelf.files c.read_file.new.shelf) c.args.name.now named c.in-Ok-job_of_text.job (g.K.Shelf.counts c.args.shelf.now) (g.K.Shelf.counts c.read_file.new.shelf)
+    (g.K.Shelf.counts c.table_of_job.new.shelf) (g.K.Shelf.since_fault c.table_of_job.new.shelf) c.table_of_job.result c.in-Ok.ensures.files
+    (holds_job told c.args.name.now c.in-Ok.text named c.in-Ok-job_of_text.job c.in-Ok.ensures.length c.in-Ok.ensures.told is)
+    (reads_once c.in-Ok.ensures.causes) c.table_of_job.ensures.counts c.table_of_job.ensures.stop
+
+pub returns-in-Ok-job_of_text-clause-asked : goal.returns-in-Ok-job_of_text-clause-asked
+returns-in-Ok-job_of_text-clause-asked g c =
+    let told = g.K.Shelf.files c.args.shelf.now in
+    let named = map (λ file. file.now) c.args.named.now in
+    let is = subst (λ (t : List ℕ). IsJobOfText t named c.in-Ok-job_of_text.job) c.as_slice.ensures c.in-Ok-job_of_text.ensures.job in
+    asks_programs told c.args.name.now named c.in-Ok-job_of_text.job (g.K.Shelf.asked c.args.shelf.now) (g.K.Shelf.asked c.read_file.new.shelf) (g.K.Shelf.asked c.table_of_job.new.shelf)
+    (holds_job told c.args.name.now c.in-Ok.text named c.in-Ok-job_of_text.job c.in-Ok.ensures.length c.in-Ok.ensures.told is)
+    (held_apart told c.args.name.now named c.args.name.now c.requires) c.in-Ok.ensures.asked c.table_of_job.ensures.asked
+
+pub returns-in-Ok-clause-stop : goal.returns-in-Ok-clause-stop
+returns-in-Ok-clause-stop g c =
+    let told = g.K.Shelf.files c.args.shelf.now in
+    let named = map (λ file. file.now) c.args.named.now in
+    let stops = subst (λ (t : List ℕ). IsTextStop t named c.in-Err.stop) c.as_slice.ensures c.in-Err.ensures.stop in
+    text_stops told c.args.name.now c.in-Ok.text named (g.K.Shelf.counts c.args.shelf.now) (g.K.Shelf.counts c.read_file.new.shelf) (g.K.Shelf.since_fault c.read_file.new.shelf) c.in-Err.stop
+    (λ refusal refused. holds_refused told c.args.name.now c.in-Ok.text named refusal c.in-Ok.ensures.length c.in-Ok.ensures.told refused) stops
+
+pub returns-in-Ok-clause-asked : goal.returns-in-Ok-clause-asked
+returns-in-Ok-clause-asked g c =
+    let told = g.K.Shelf.files c.args.shelf.now in
+    let named = map (λ file. file.now) c.args.named.now in
+    asks_text told c.args.name.now named (g.K.Shelf.asked c.args.shelf.now) (g.K.Shelf.asked c.read_file.new.shelf)
+    (held_apart told c.args.name.now named c.args.name.now c.requires) c.in-Ok.ensures.asked
+
+pub returns-in-Err-Failed-clause-stop : goal.returns-in-Err-Failed-clause-stop
+returns-in-Err-Failed-clause-stop g c =
+    unread_stops (g.K.Shelf.files c.args.shelf.now) c.args.name.now (map (λ file. file.now) c.args.named.now) c.args.name.now
+    (g.K.Shelf.counts c.args.shelf.now) (g.K.Shelf.counts c.read_file.new.shelf) (g.K.Shelf.since_fault c.read_file.new.shelf) c.unread.result (inl refl)
+    (c.in-Err-Failed.ensures.causes.failed_rose (ap Err c.in-Err-Failed.field-0-is)) (c.in-Err-Failed.ensures.failed_last (ap Err c.in-Err-Failed.field-0-is)) c.unread.ensures
+
+pub returns-in-Err-Failed-clause-asked : goal.returns-in-Err-Failed-clause-asked
+returns-in-Err-Failed-clause-asked g c =
+    let told = g.K.Shelf.files c.args.shelf.now in
+    let named = map (λ file. file.now) c.args.named.now in
+    asks_text told c.args.name.now named (g.K.Shelf.asked c.args.shelf.now) (g.K.Shelf.asked c.read_file.new.shelf)
+    (held_apart told c.args.name.now named c.args.name.now c.requires) c.in-Err-Failed.ensures.asked
+
+pub returns-in-Err-Missing-clause-stop : goal.returns-in-Err-Missing-clause-stop
+returns-in-Err-Missing-clause-stop g c =
+    missing_stops (g.K.Shelf.files c.args.shelf.now) c.args.name.now (map (λ file. file.now) c.args.named.now) c.args.name.now
+    (g.K.Shelf.counts c.args.shelf.now) (g.K.Shelf.counts c.read_file.new.shelf) (g.K.Shelf.since_fault c.read_file.new.shelf) c.missing.result (inl refl)
+    (c.in-Err-Missing.ensures.lacking (ap Err c.in-Err-Missing.field-0-is)) (c.in-Err-Missing.ensures.causes.missing_rose (ap Err c.in-Err-Missing.field-0-is))
+    (c.in-Err-Missing.ensures.missing_last (ap Err c.in-Err-Missing.field-0-is)) c.missing.ensures
+
+pub returns-in-Err-Missing-clause-asked : goal.returns-in-Err-Missing-clause-asked
+returns-in-Err-Missing-clause-asked g c =
+    let told = g.K.Shelf.files c.args.shelf.now in
+    let named = map (λ file. file.now) c.args.named.now in
+    asks_text told c.args.name.now named (g.K.Shelf.asked c.args.shelf.now) (g.K.Shelf.asked c.read_file.new.shelf)
+    (held_apart told c.args.name.now named c.args.name.now c.requires) c.in-Err-Missing.ensures.asked
+
+pub returns-clause-asked : goal.returns-clause-asked
+returns-clause-asked g c =
+    let told = g.K.Shelf.files c.args.shelf.now in
+    let named = map (λ file. file.now) c.args.named.now in
+    asks_text told c.args.name.now named (g.K.Shelf.asked c.args.shelf.now) (g.K.Shelf.asked c.read_file.new.shelf)
+    (held_apart told c.args.name.now named c.args.name.now c.requires) c.in-Err-OutOfMemory.ensures.asked

@@ -1,0 +1,127 @@
+-- What `run` writes, in two files.
+use Rattle.std.proofs.Common.{◌≡◌, ◌⊎◌, ◌≤◌, ℕ, List, [], length, take, Option, Some, None, refl, sym, ap, subst, ◌∙◌, inl, inr, arith}
+use Rattle.std.proofs.Math.Seq.{take-length}
+use Rattle.std.specs.FinMap.{insert}
+use Rattle.bound_certificate.specs.declared.cert.Cert.{Cert}
+use Rattle.bound_certificate.specs.Spelling.{spelling}
+use Rattle.job_report.specs.Report.{report_line}
+use Rattle.job_run.specs.declared.job_table.JobTable.{JobTable}
+use Rattle.job_run.specs.JobTable.{IsJobTable}
+use Rattle.job_run.specs.Written.{HoldsStream, HoldsStreamPart, IsJobStream}
+use Rattle.shelf_io.specs.Counts.{ShelfCounts}
+use Rattle.shelf_io.specs.Files.{Files, with_content}
+use Rattle.shelf_io.proofs.Counted.{rose_later}
+use Rattle.shelf_io.specs.WholeFile.{HoldsPrefix}
+use Rattle.slot_rule.specs.declared.slot_list.SlotList.{SlotList}
+use Rattle.slot_rule.specs.SlotList.{IsSlotList}
+use Rattle.remux_core.specs.declared.ended.Ended.{Ended}
+use Rattle.remux_core.specs.declared.run_command.Prepared.{Prepared}
+use Rattle.remux_core.specs.declared.status.Status.{Status}
+use Rattle.remux_core.specs.Answer.{Decides, EndsWithStatus, HasCause, AnswerHasCause}
+use Rattle.remux_core.specs.Command.{Run, files_of_run}
+use Rattle.remux_core.specs.Outside.{ShelfFacts, OnFiles}
+use Rattle.remux_core.specs.Plan.{IsPlan}
+use Rattle.remux_core.specs.Private.Ended.{answer_of}
+use Rattle.remux_core.specs.Private.Prepared.{CertificateHasCause, EndsCertificate, IsPrepared}
+use Rattle.remux_core.specs.Promises.{CountsGrow}
+use Rattle.remux_core.specs.RunCommand.{RunWork, IsWork, HoldsPartOf, RunDone, RunLeaves}
+use Rattle.run_report.specs.Report.{run_report}
+
+-- the work of a run, from its parts
+abbrev pub work_of : JobTable → Cert → SlotList → List ℕ → RunWork
+work_of made cert slots stream = record { made = made; cert = cert; slots = slots; stream = stream }
+
+is_work : (told : Option Files) (job out certificate : List ℕ) (made : JobTable) (cert : Cert) (slots : SlotList) (stream : List ℕ)
+    → IsJobTable told job (files_of_run job out certificate) made → IsPlan made.table cert → IsSlotList made.table cert.choice slots
+    → IsJobStream made cert.choice slots stream → IsWork told job out certificate (work_of made cert slots stream)
+is_work told job out certificate made cert slots stream has plan are stands = record { made = has; is_plan = plan; are_slots = are; is_stream = stands }
+
+-- both files were written whole
+pub run_done : (job out certificate : List ℕ) (old middle new : Option Files) (made : JobTable) (cert : Cert) (slots : SlotList) (bytes line : List ℕ)
+    → IsPlan made.table cert → IsSlotList made.table cert.choice slots → HoldsStream old middle out made cert.choice slots
+    → bytes ≡ spelling cert → new ≡ with_content middle certificate bytes
+    → line ≡ report_line (run_report made.job.programs made.programs cert slots.slots)
+    → OnFiles old new (λ held after. IsJobTable (Some held) job (files_of_run job out certificate) made → RunDone job out certificate held line after)
+run_done job out certificate None middle new made cert slots bytes line plan are holds spelled written says = tt
+run_done job out certificate (Some held) middle new made cert slots bytes line plan are (stream, stands, first) spelled written says =
+    let work = work_of made cert slots stream in
+    let whole : Some (insert (insert held out stream) certificate (spelling cert)) ≡ new =
+    sym (written ∙ ap (λ (told : Option Files). with_content told certificate bytes) first ∙ ap (λ (b : List ℕ). Some (insert (insert held out stream) certificate b)) spelled) in
+    subst (λ (n : Option Files). OnFiles (Some held) n (λ held after. IsJobTable (Some held) job (files_of_run job out certificate) made → RunDone job out certificate held line after))
+    whole (λ has. (work, is_work (Some held) job out certificate made cert slots stream has plan are stands, says, refl))
+
+-- the stream was broken off
+pub stream_left : (job out certificate : List ℕ) (old new : Option Files) (made : JobTable) (cert : Cert) (slots : SlotList)
+    → IsPlan made.table cert → IsSlotList made.table cert.choice slots → HoldsStreamPart old new out made cert.choice slots
+    → OnFiles old new (λ held after. IsJobTable (Some held) job (files_of_run job out certificate) made → RunLeaves job out certificate held after)
+stream_left job out certificate None new made cert slots plan are part = tt
+stream_left job out certificate (Some held) new made cert slots plan are (inl same) = left_as_it_was new same
+  where
+    left_as_it_was : (n : Option Files) → n ≡ Some held
+        → OnFiles (Some held) n (λ held after. IsJobTable (Some held) job (files_of_run job out certificate) made → RunLeaves job out certificate held after)
+    left_as_it_was None e = cc
+    left_as_it_was (Some after) e = λ has. inl (cc)
+stream_left job out certificate (Some held) new made cert slots plan are (inr (stream, stands, inl same)) = left_as_it_was new same
+  where
+    left_as_it_was : (n : Option Files) → n ≡ Some held
+        → OnFiles (Some held) n (λ held after. IsJobTable (Some held) job (files_of_run job out certificate) made → RunLeaves job out certificate held after)
+    left_as_it_was None e = cc
+    left_as_it_was (Some after) e = λ has. inl (cc)
+stream_left job out certificate (Some held) new made cert slots plan are (inr (stream, stands, inr (k, few, written))) =
+    let work = work_of made cert slots stream in
+    subst (λ (n : Option Files). OnFiles (Some held) n (λ held after. IsJobTable (Some held) job (files_of_run job out certificate) made → RunLeaves job out certificate held after))
+    (sym written) (λ has. inr (work, is_work (Some held) job out certificate made cert slots stream has plan are stands, inl (k, few, refl)))
+
+-- the certificate was broken off
+pub certificate_left : (job out certificate : List ℕ) (old middle new : Option Files) (made : JobTable) (cert : Cert) (slots : SlotList) (bytes : List ℕ)
+    → IsPlan made.table cert → IsSlotList made.table cert.choice slots → HoldsStream old middle out made cert.choice slots
+    → bytes ≡ spelling cert → HoldsPrefix middle new certificate bytes
+    → OnFiles old new (λ held after. IsJobTable (Some held) job (files_of_run job out certificate) made → RunLeaves job out certificate held after)
+certificate_left job out certificate None middle new made cert slots bytes plan are holds spelled part = tt
+certificate_left job out certificate (Some held) middle new made cert slots bytes plan are (stream, stands, first) spelled (inl same) =
+    let work = work_of made cert slots stream in
+    subst (λ (n : Option Files). OnFiles (Some held) n (λ held after. IsJobTable (Some held) job (files_of_run job out certificate) made → RunLeaves job out certificate held after))
+    (sym (same ∙ first ∙ ap (λ (s : List ℕ). Some (insert held out s)) (sym (take-length stream))))
+    (λ has. inr (work, is_work (Some held) job out certificate made cert slots stream has plan are stands, inl (length stream, omega arith, refl)))
+certificate_left job out certificate (Some held) middle new made cert slots bytes plan are (stream, stands, first) spelled (inr (k, few, written)) =
+    let work = work_of made cert slots stream in
+    let whole : new ≡ Some (insert (insert held out stream) certificate (take k (spelling cert))) =
+    written ∙ ap (λ (told : Option Files). with_content told certificate (take k bytes)) first
+    ∙ ap (λ (b : List ℕ). Some (insert (insert held out stream) certificate (take k b))) spelled in
+    subst (λ (n : Option Files). OnFiles (Some held) n (λ held after. IsJobTable (Some held) job (files_of_run job out certificate) made → RunLeaves job out certificate held after))
+    (sym whole)
+    (λ has. inr (work, is_work (Some held) job out certificate made cert slots stream has plan are stands, inr (k, subst (λ (b : List ℕ). k ≤ length b) spelled few, refl)))
+
+-- how a run ends once the stream is whole
+pub run_ends : (job out certificate : List ℕ) (old middle new : Option Files) (made : JobTable) (cert : Cert) (slots : SlotList) (prepared : Prepared) (result : Option Ended)
+    → IsPlan made.table cert → IsSlotList made.table cert.choice slots → HoldsStream old middle out made cert.choice slots → IsPrepared made cert slots prepared
+    → EndsCertificate middle new certificate prepared result
+    → OnFiles old new (λ held after. IsJobTable (Some held) job (files_of_run job out certificate) made → Decides (Some (Run job out certificate)) held (answer_of result) after)
+run_ends job out certificate old middle new made cert slots prepared None plan are holds ready ends =
+    certificate_left job out certificate old middle new made cert slots prepared.bytes plan are holds ready.bytes ends
+run_ends job out certificate old middle new made cert slots prepared (Some ended) plan are holds ready (inl (same, written)) =
+    let Has : Ended → Type 0 = λ e. OnFiles old new
+    (λ held after. IsJobTable (Some held) job (files_of_run job out certificate) made → EndsWithStatus (Some (Run job out certificate)) held e.status e.line.items after) in
+    let done = run_done job out certificate old middle new made cert slots prepared.bytes prepared.done.line.items plan are holds ready.bytes written ready.ends.1 in
+    let ok : Has prepared.done =
+    subst (λ (s : Status). OnFiles old new (λ held after. IsJobTable (Some held) job (files_of_run job out certificate) made
+    → EndsWithStatus (Some (Run job out certificate)) held s prepared.done.line.items after)) (sym ready.ends.0) done in
+    subst Has (sym same) ok
+run_ends job out certificate old middle new made cert slots prepared (Some ended) plan are holds ready (inr (failed, part)) =
+    let left = certificate_left job out certificate old middle new made cert slots prepared.bytes plan are holds ready.bytes part in
+    subst (λ (s : Status). OnFiles old new (λ held after. IsJobTable (Some held) job (files_of_run job out certificate) made
+    → EndsWithStatus (Some (Run job out certificate)) held s ended.line.items after)) (sym failed.0) left
+
+-- and its cause
+pub run_has_cause : (job out certificate : List ℕ) (old new : ShelfFacts) (middle : ShelfCounts) (made : JobTable) (cert : Cert) (slots : SlotList) (prepared : Prepared) (result : Option Ended)
+    → IsPrepared made cert slots prepared → CountsGrow old.counts middle → CountsGrow middle new.counts
+    → CertificateHasCause middle new.counts new.since_fault certificate prepared result → AnswerHasCause (Some (Run job out certificate)) old new (answer_of result)
+run_has_cause job out certificate old new middle made cert slots prepared None ready first second cause = tt
+run_has_cause job out certificate old new middle made cert slots prepared (Some ended) ready first second (inl same) =
+    let Has : Ended → Type 0 = λ e. HasCause (Some (Run job out certificate)) old new e.status e.line.items in
+    let ok : Has prepared.done =
+    subst (λ (s : Status). HasCause (Some (Run job out certificate)) old new s prepared.done.line.items) (sym ready.ends.0) (work_of made cert slots [], ready.ends.1) in
+    subst Has (sym same) ok
+run_has_cause job out certificate old new middle made cert slots prepared (Some ended) ready first second (inr (failed, rose, last)) =
+    subst (λ (s : Status). HasCause (Some (Run job out certificate)) old new s ended.line.items) (sym failed.0)
+    (record { name = certificate; asked = inr refl; rises = rose_later _ _ _ first.write_faults_grow second.write_faults_grow rose; last = last; names = failed.1 })

@@ -1,0 +1,37 @@
+-- Words that are those of no command.
+use Rattle.std.proofs.Common.{◌≡◌, ℕ, List, [], ◌∷◌, sym, subst}
+use Rattle.remux_core.specs.Command.{Plan, Gen, Run, Check, IsCommand, IsPlanCommand, IsGenCommand, IsRunCommand, IsCheckCommand}
+
+-- a verb and two words that are neither those of `plan` nor those of `check`
+pub no_pair : (verb first second : List ℕ) → (IsPlanCommand (verb ∷ first ∷ second ∷ []) first second → ⊥)
+    → (IsCheckCommand (verb ∷ first ∷ second ∷ []) first second → ⊥) → IsCommand (verb ∷ first ∷ second ∷ []) → ⊥
+no_pair verb first second no_plan no_check (Plan table certificate, said) =
+    let are = said.words_are in
+    let a : table ≡ first = cc in
+    let b : certificate ≡ second = cc in
+    let words : List (List ℕ) = verb ∷ first ∷ second ∷ [] in
+    no_plan (subst (λ (x : List ℕ). IsPlanCommand words x second) a (subst (λ (x : List ℕ). IsPlanCommand words table x) b said))
+no_pair verb first second no_plan no_check (Gen seed pictures out, said) = let are = said.words_are in cc
+no_pair verb first second no_plan no_check (Run job out certificate, said) = let are = said.words_are in cc
+no_pair verb first second no_plan no_check (Check job certificate, said) =
+    let are = said.words_are in
+    let a : job ≡ first = cc in
+    let b : certificate ≡ second = cc in
+    let words : List (List ℕ) = verb ∷ first ∷ second ∷ [] in
+    no_check (subst (λ (x : List ℕ). IsCheckCommand words x second) a (subst (λ (x : List ℕ). IsCheckCommand words job x) b said))
+
+-- a verb and three words that are neither those of `run` nor those of `gen`
+pub no_three : (verb first second third : List ℕ) → (IsRunCommand (verb ∷ first ∷ second ∷ third ∷ []) first second third → ⊥)
+    → ((seed pictures : ℕ) (out : List ℕ) → IsGenCommand (verb ∷ first ∷ second ∷ third ∷ []) seed pictures out → ⊥)
+    → IsCommand (verb ∷ first ∷ second ∷ third ∷ []) → ⊥
+no_three verb first second third no_run no_gen (Plan table certificate, said) = let are = said.words_are in cc
+no_three verb first second third no_run no_gen (Gen seed pictures out, said) = no_gen seed pictures out said
+no_three verb first second third no_run no_gen (Run job out certificate, said) =
+    let are = said.words_are in
+    let a : job ≡ first = cc in
+    let b : out ≡ second = cc in
+    let c : certificate ≡ third = cc in
+    let words : List (List ℕ) = verb ∷ first ∷ second ∷ third ∷ [] in
+    no_run (subst (λ (x : List ℕ). IsRunCommand words x second third) a
+    (subst (λ (x : List ℕ). IsRunCommand words job x third) b (subst (λ (x : List ℕ). IsRunCommand words job out x) c said)))
+no_three verb first second third no_run no_gen (Check job certificate, said) = let are = said.words_are in cc

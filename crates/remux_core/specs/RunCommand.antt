@@ -1,0 +1,85 @@
+-- What `run JOB OUT CERT` does.
+use Rattle.std.specs.Prelude.{◌≡◌, ◌==◌, ℕ, ◌≤◌, ◌⊎◌, List, length, take, Option, Some, None}
+use Rattle.std.specs.FinMap.{get, insert}
+use Rattle.bound_certificate.specs.declared.cert.Cert.{Cert}
+use Rattle.bound_certificate.specs.Spelling.{spelling}
+use Rattle.branch_plan.specs.Plan.{SmallestIsScheduled}
+use Rattle.job_report.specs.Report.{report_line}
+use Rattle.job_report.specs.declared.report.Report.{Report}
+use Rattle.job_run.specs.declared.job_table.JobTable.{JobTable}
+use Rattle.job_run.specs.declared.job_stop.TextRefusal.TheVariants.{NoDocument, Field, Limit}
+use Rattle.job_run.specs.JobFile.{HoldsRefused}
+use Rattle.job_run.specs.JobTable.{IsJobTable}
+use Rattle.job_run.specs.Stops.{HoldsRefusedProgram, IsNextFile}
+use Rattle.job_run.specs.Written.{IsJobStream}
+use Rattle.run_report.specs.Report.{run_report}
+use Rattle.shelf_io.specs.Files.{Files}
+use Rattle.slot_rule.specs.declared.slot_list.SlotList.{SlotList}
+use Rattle.slot_rule.specs.Schedule.{IsFirstMiss}
+use Rattle.slot_rule.specs.SlotList.{IsSlotList}
+use Rattle.version_table.specs.Choice.{IsSmallestChoice}
+use Rattle.remux_core.specs.declared.status.Status.{Status}
+use Rattle.remux_core.specs.declared.status.Status.TheVariants.{Ok, JobRefused, SourceRefused, Unschedulable, Missing}
+use Rattle.remux_core.specs.declared.status.JobRefusal.TheVariants.{JobSyntax, JobField, JobLimit}
+use Rattle.remux_core.specs.Command.{files_of_run}
+use Rattle.remux_core.specs.Plan.{IsPlan}
+
+-- ---- before there is a table
+
+-- the job in a file calls for this status before its programs have a table: its text is refused, or a program, or a file isn't there
+abbrev pub JobCallsFor : Files → (name : List ℕ) → (named : List (List ℕ)) → Status → Type 0
+JobCallsFor files name named (JobRefused JobSyntax) = HoldsRefused (Some files) name named NoDocument
+JobCallsFor files name named (JobRefused (JobField field)) = HoldsRefused (Some files) name named (Field field)
+JobCallsFor files name named (JobRefused (JobLimit field)) = HoldsRefused (Some files) name named (Limit field)
+JobCallsFor files name named (SourceRefused fault) = HoldsRefusedProgram (Some files) name named fault
+JobCallsFor files name named Missing = (file : List ℕ) × IsNextFile (Some files) name named file × (get files file ≡ None)
+JobCallsFor files name named status = ⊥
+
+-- ---- what is made
+
+-- what a run makes: a job with its programs and their table, the certificate of a plan, its slots, and the stream
+pub record RunWork : Type 0 where
+  pub made : JobTable
+  pub cert : Cert
+  pub slots : SlotList
+  pub stream : List ℕ
+
+-- this is what a run of the job in JOB makes: any plan of its table may stand
+pub record IsWork (told : Option Files) (job out certificate : List ℕ) (work : RunWork) : Type 0 where
+  pub made : IsJobTable told job (files_of_run job out certificate) work.made
+  pub is_plan : IsPlan work.made.table work.cert
+  pub are_slots : IsSlotList work.made.table work.cert.choice work.slots
+  pub is_stream : IsJobStream work.made work.cert.choice work.slots work.stream
+
+-- what is reported of it
+abbrev pub report_of_run : RunWork → Report
+report_of_run work = run_report work.made.job.programs work.made.programs work.cert work.slots.slots
+
+-- ---- the command
+
+-- what JOB and the files that it names hold calls for this status
+abbrev pub RunCallsFor : (job out certificate : List ℕ) → Files → Status → Type 0
+RunCallsFor job out certificate files Ok =
+    (made : JobTable) × IsJobTable (Some files) job (files_of_run job out certificate) made × SmallestIsScheduled made.table
+RunCallsFor job out certificate files (Unschedulable miss) =
+    (made : JobTable) × (choice : List ℕ) × IsJobTable (Some files) job (files_of_run job out certificate) made
+    × IsSmallestChoice made.table choice × IsFirstMiss made.table choice miss
+RunCallsFor job out certificate files status = JobCallsFor files job (files_of_run job out certificate) status
+
+-- OUT holds the stream of a plan, CERT holds its certificate, whose values the line prints, and every other file stays
+abbrev pub RunDone : (job out certificate : List ℕ) → Files → (line : List ℕ) → (after : Files) → Type 0
+RunDone job out certificate files line after =
+    (work : RunWork) × IsWork (Some files) job out certificate work × (line ≡ report_line (report_of_run work))
+    × (after ≡ insert (insert files out work.stream) certificate (spelling work.cert))
+
+-- OUT holds a front of the stream, or all of it and CERT a front of the certificate; every other file stays
+abbrev pub HoldsPartOf : (out certificate : List ℕ) → RunWork → (files after : Files) → Type 0
+HoldsPartOf out certificate work files after =
+    ((k : ℕ) × (k ≤ length work.stream) × (after ≡ insert files out (take k work.stream)))
+    ⊎ ((k : ℕ) × (k ≤ length (spelling work.cert)) × (after ≡ insert (insert files out work.stream) certificate (take k (spelling work.cert))))
+
+-- files are as they were, or hold a part of what a run makes: CERT is changed only where OUT is whole
+abbrev pub RunLeaves : (job out certificate : List ℕ) → Files → (after : Files) → Type 0
+RunLeaves job out certificate files after =
+    (after ≡ files)
+    ⊎ ((work : RunWork) × IsWork (Some files) job out certificate work × HoldsPartOf out certificate work files after)
