@@ -1,6 +1,6 @@
 use bound_certificate::CertFormat;
-use job_report::JobFault;
 use job_programs::SourceFault;
+use job_report::JobFault;
 use remux_core::{CertRefusal, JobRefusal, Status};
 use std::io;
 use version_table::TableFault;
@@ -29,7 +29,9 @@ pub fn print_sentence<R: Eprint>(rt: &R, words: &[String], status: &Status) -> i
              there room, and may you write there?"
         ),
         Status::CertRefused(refusal) => print_certificate(rt, last, refusal),
-        Status::Missing => eprintln!(rt; "remux: {first} or a file that it names isn't there; the report says which"),
+        Status::Missing => eprintln!(rt;
+            "remux: {first} or a file that it names isn't there; the report says which"
+        ),
         Status::OutOfMemory => eprintln!(rt;
             "remux: memory is wanting; nothing is claimed of the files that are written"
         ),
@@ -39,11 +41,23 @@ pub fn print_sentence<R: Eprint>(rt: &R, words: &[String], status: &Status) -> i
 /// Prints why a text is refused, in the words of its fault.
 fn print_refusal<R: Eprint>(rt: &R, name: &str, refusal: &JobRefusal) -> io::Result<()> {
     match refusal {
-        JobRefusal::TableSyntax(line) => eprintln!(rt; "remux: {name}: {}", TableFault::TableSyntax(*line)),
-        JobRefusal::TableLimit(limit) => eprintln!(rt; "remux: {name}: {}", TableFault::TableLimit(*limit)),
+        JobRefusal::TableSyntax(line) => eprintln!(rt;
+            "remux: {name}: {}",
+            TableFault::TableSyntax(*line)
+        ),
+        JobRefusal::TableLimit(limit) => eprintln!(rt;
+            "remux: {name}: {}",
+            TableFault::TableLimit(*limit)
+        ),
         JobRefusal::JobSyntax => eprintln!(rt; "remux: {name}: {}", JobFault::JobSyntax),
-        JobRefusal::JobField(field) => eprintln!(rt; "remux: {name}: {}", JobFault::JobField(*field)),
-        JobRefusal::JobLimit(field) => eprintln!(rt; "remux: {name}: {}", JobFault::JobLimit(*field)),
+        JobRefusal::JobField(field) => eprintln!(rt;
+            "remux: {name}: {}",
+            JobFault::JobField(*field)
+        ),
+        JobRefusal::JobLimit(field) => eprintln!(rt;
+            "remux: {name}: {}",
+            JobFault::JobLimit(*field)
+        ),
     }
 }
 
@@ -58,7 +72,10 @@ fn print_source<R: Eprint>(rt: &R, name: &str, fault: &SourceFault) -> io::Resul
 /// Prints what is wrong with a certificate.
 fn print_certificate<R: Eprint>(rt: &R, name: &str, refusal: &CertRefusal) -> io::Result<()> {
     match refusal {
-        CertRefusal::Syntax(byte) => eprintln!(rt; "remux: {name}: {}", CertFormat::CertSyntax(*byte)),
+        CertRefusal::Syntax(byte) => eprintln!(rt;
+            "remux: {name}: {}",
+            CertFormat::CertSyntax(*byte)
+        ),
         CertRefusal::Fault(fault) => eprintln!(rt;
             "remux: {name}: the certificate doesn't hold: {:?} in node {} (docs/CERTIFICATE.md)",
             fault.why, fault.node

@@ -1,5 +1,5 @@
 -- What `run` leaves, `check` accepts.
-use Rattle.std.proofs.Common.{◌≡◌, ◌+◌, ℕ, Bool, true, false, ◌||◌, cond, List, [], ◌∷◌, Option, Some, None, refl, sym, ap, subst, ◌∙◌, inl, inr}
+use Rattle.std.proofs.Common.{◌≡◌, ◌+◌, ℕ, Bool, true, false, ◌||◌, cond, List, [], ◌∷◌, ◌++◌, codes, Option, Some, None, refl, sym, ap, subst, ◌∙◌, inl, inr}
 use Rattle.std.specs.List.{list_any}
 use Rattle.std.specs.Str.{bytes_eq}
 use Rattle.std.proofs.lemmas.Slice.Eq.{bytes_eq-Decides}
@@ -8,7 +8,7 @@ use Rattle.bound_certificate.specs.Spelling.{spelling}
 use Rattle.job_programs.specs.Told.{AreProgramsOn, HoldContents}
 use Rattle.job_report.specs.declared.job.Job.{Job}
 use Rattle.job_report.specs.declared.job.ProgramJob.{ProgramJob}
-use Rattle.job_report.specs.Refusal.{first_refusal}
+use Rattle.job_report.specs.Refusal.{OfField, first_refusal, place_of_program}
 use Rattle.job_report.specs.SharedFile.{refusals_of_files}
 use Rattle.job_run.specs.JobFile.{HoldsJob, StandsApart}
 use Rattle.job_run.specs.JobTable.{IsJobTable}
@@ -54,7 +54,7 @@ first_apart : (a b c : List ℕ) (n : ℕ) (program : ProgramJob) (programs : Li
 first_apart a b c n program programs none = by_test (is_one program.file a b c) refl
   where
     by_test : (test : Bool) → is_one program.file a b c ≡ test → FirstApart a b c n program programs
-    by_test true is = let some : first_refusal (refusals_of_files (a ∷ b ∷ c ∷ []) n (program ∷ programs)) ≡ Some _ = rw is refl in cc
+    by_test true is = let some : first_refusal (refusals_of_files (a ∷ b ∷ c ∷ []) n (program ∷ programs)) ≡ Some (OfField (place_of_program n ++ codes "file")) = rw is refl in cc
     by_test false is =
         let rest : first_refusal (refusals_of_files (a ∷ b ∷ c ∷ []) n (program ∷ programs)) ≡ first_refusal (refusals_of_files (a ∷ b ∷ c ∷ []) (n + 1) programs) = rw is refl in
         record { first = is; others = sym rest ∙ none }
@@ -79,9 +79,10 @@ kept_contents files after a b c same n (program ∷ programs) [] none holds = tt
 kept_contents files after a b c same n (program ∷ programs) (content ∷ contents) none holds =
     let apart = first_apart a b c n program programs none in
     let second = second_fails (bytes_eq program.file a) (bytes_eq program.file b) (bytes_eq program.file c) apart.first in
-    let third = third_fails (bytes_eq program.file a) (bytes_eq program.file b) (bytes_eq program.file c) apart.first in
-    (same program.file (differ program.file b second) (differ program.file c third) ∙ holds.0,
-     kept_contents files after a b c same (n + 1) programs contents apart.others holds.1)
+    let third = third_fails (bytes_eq program.file a) (bytes_eq program.file b) (bytes_eq program.file c) apart.first in (
+      same program.file (differ program.file b second) (differ program.file c third) ∙ holds.0,
+      kept_contents files after a b c same (n + 1) programs contents apart.others holds.1,
+    )
 
 pub run_is_accepted : (words : List (List ℕ)) (job out certificate : List ℕ) (files after : Files) (line : List ℕ) → IsRunCommand words job out certificate
     → RunDone job out certificate files line after → CheckCallsFor job certificate after Ok
@@ -105,7 +106,9 @@ run_is_accepted words job out certificate files after line said (work, is, says,
       table = is.made.table;
     } in
     let held : get after certificate ≡ Some (spelling work.cert) = stays _ after certificate written ∙ get_own (insert files out work.stream) certificate (spelling work.cert) in
-    let plan = is.is_plan in
-    (work.made, work.cert,
-     record { made_is = made_is; cert_is = record { bytes = spelling work.cert; held = held; read = (plan.writable.bytes, plan.is_cert, refl) } },
-     plan.faultless)
+    let plan = is.is_plan in (
+      work.made,
+      work.cert,
+      record { made_is = made_is; cert_is = record { bytes = spelling work.cert; held = held; read = (plan.writable.bytes, plan.is_cert, refl) } },
+      plan.faultless,
+    )

@@ -1,10 +1,12 @@
 -- What follows of a run's outcome.
-use Rattle.std.proofs.Common.{◌≡◌, ◌⊎◌, ◌≤◌, ℕ, List, Option, Some, None, Bool, true, false, cond, refl, sym, ap, subst, ◌∙◌, inl, inr}
+use Rattle.std.proofs.Common.{◌≡◌, ◌⊎◌, ◌≤◌, ℕ, ◌+◌, List, Option, Some, None, Bool, true, false, cond, refl, sym, ap, subst, ◌∙◌, inl, inr, arith}
+use Rattle.std.proofs.lemmas.List.{append-nil}
 use Rattle.std.specs.Ordering.{nat_cmp, eq_by_cmp}
 use Rattle.std.specs.Cmp.{Equal-is, eq_by_cmp_equiv}
 use Rattle.std.specs.Cmp.Lexicographic.{slice_cmp, nat_list_cmp_total}
 use Rattle.std.specs.FinMap.{get, insert, get-insert, slice_cmp-IsAntisymmetric, nat_cmp-IsAntisymmetric}
 use Rattle.shelf_io.specs.Files.{Files}
+use Rattle.shelf_io.specs.Sink.{Told, Bytes, Number, Nothing, AddsPrefix}
 use Rattle.remux_core.specs.declared.status.Status.{Status}
 use Rattle.remux_core.specs.declared.status.Status.TheVariants as statuses
 use Rattle.remux_core.specs.Answer.{Answer, CallsFor, IsDone, Leaves, EndsWithStatus, Decides, HasCause, AnswerHasCause}
@@ -150,17 +152,16 @@ get_own files name content =
 pub stays : (files after : Files) (name : List ℕ) → after ≡ files → get after name ≡ get files name
 stays files after name same = ap (λ (f : Files). get f name) same
 
-done_done_leaves_others (Some (Run job out certificate)) files after line (work, is, said, written) = λ name apart.
-    stays _ after name written ∙ get_other (insert files out work.stream) certificate _ name (λ same. apart (inr same))
-    ∙ get_other files out _ name (λ same. apart (inl same))
-done_leaves_others (Some (Check job certificate)) files after line (made, cert, holds, faultless, said, same) = λ name apart. stays files after name same
-
-leaves_others : (command : Option Command) (files after : Files) (line : List ℕ) → IsDone command files line after → OthersStay command files after
+done_leaves_others : (command : Option Command) (files after : Files) (line : List ℕ) → IsDone command files line after → OthersStay command files after
 done_leaves_others None files after line done = absurd done
 done_leaves_others (Some (Plan table certificate)) files after line (plan, has, said, written) = λ name apart.
     stays _ after name written ∙ get_other files certificate _ name apart
 done_leaves_others (Some (Gen seed pictures out)) files after line (program, is, said, written) = λ name apart.
     stays _ after name written ∙ get_other files out _ name apart
+done_leaves_others (Some (Run job out certificate)) files after line (work, is, said, written) = λ name apart.
+    stays _ after name written ∙ get_other (insert files out work.stream) certificate _ name (λ same. apart (inr same))
+    ∙ get_other files out _ name (λ same. apart (inl same))
+done_leaves_others (Some (Check job certificate)) files after line (made, cert, holds, faultless, said, same) = λ name apart. stays files after name same
 
 leaves_others : (command : Option Command) (files after : Files) → Leaves command files after → OthersStay command files after
 leaves_others None files after same = λ name apart. stays files after name same
@@ -199,6 +200,12 @@ others_stay : (command : Option Command) (old new : Option Files) (answer : Opti
     → OnFiles old new (λ files after. Decides command files answer after) → OnFiles old new (OthersStay command)
 others_stay command old new answer decided =
     on_then old new (λ files after. Decides command files answer after) (OthersStay command) decided (λ files after decides. decides_leaves_others command files after answer decides)
+
+-- a sink that wasn't called
+pub adds_none : (told : Told) (piece : List ℕ) → AddsPrefix told told piece
+adds_none (Bytes before) piece = (0, omega arith, ap Bytes (sym (append-nil before)))
+adds_none (Number before) piece = let same : before ≡ before + 0 = omega arith in (0, omega arith, ap Number same)
+adds_none Nothing piece = (0, omega arith, refl)
 
 -- what was performed and reported is the outcome
 pub outcome_of : (words : List (List ℕ)) (old new : ShelfFacts) (out_old out_new : SinkFacts) (answer : Option Answer) (status : Status) → Performs words old new answer

@@ -1,11 +1,15 @@
 -- What becomes of the bytes of CERT.
-use Rattle.std.proofs.Common.{◌≡◌, ◌+◌, ◌<◌, ◌≤◌, ℕ, List, length, take, Option, Some, None, refl, sym, ap, subst, ◌∙◌, inl, inr, min, arith}
+use Rattle.std.proofs.Common.{◌≡◌, ◌+◌, ◌<◌, ◌≤◌, ℕ, List, length, take, Option, Some, None, IfSome, refl, sym, ap, subst, ◌∙◌, inl, inr, min, arith}
 use Rattle.std.proofs.lemmas.List.{length-take}
 use Rattle.std.specs.FinMap.{get}
 use Rattle.bound_certificate.specs.declared.cert.Cert.{Cert}
 use Rattle.bound_certificate.specs.declared.limits.TheConstants.{CERT_BYTES_MOST}
 use Rattle.bound_certificate.specs.Reading.{CertReading, IsRead, Holds, RefusedAt}
+use Rattle.certificate_checker.specs.Checked.{IsFaultless, IsFirstFault}
+use Rattle.certificate_checker.specs.declared.why.CertFault.{CertFault}
+use Rattle.version_table.specs.declared.table.Table.{Table}
 use Rattle.job_report.specs.Report.{report_line}
+use Rattle.job_report.specs.declared.report.Report.{Report}
 use Rattle.job_report.specs.declared.report.Report.TheVariants as reports
 use Rattle.job_run.specs.declared.job_table.JobTable.{JobTable}
 use Rattle.job_run.specs.JobTable.{IsJobTable}
@@ -14,10 +18,12 @@ use Rattle.remux_core.specs.declared.ended.Ended.{Ended}
 use Rattle.remux_core.specs.declared.status.Status.{Status}
 use Rattle.remux_core.specs.declared.status.Status.TheVariants as statuses
 use Rattle.remux_core.specs.declared.status.CertRefusal.TheVariants.{Syntax, Fault}
-use Rattle.remux_core.specs.Answer.{EndsWithStatus, HasCause}
+use Rattle.remux_core.specs.Answer.{EndsWithStatus, HasCause, Decides, AnswerHasCause}
 use Rattle.remux_core.specs.Command.{Check, files_of_check}
 use Rattle.remux_core.specs.Outside.{ShelfFacts}
+use Rattle.remux_core.specs.Private.Ended.{EndsBy, answer_of}
 use Rattle.remux_core.specs.Private.Checked.{IsVerdict, accepted, refused, IsVerdictOn, spelled, unspelled}
+use Rattle.remux_core.specs.Report.{cert_report}
 use Rattle.remux_core.proofs.Held.{take_all_of}
 
 -- bytes are read as their front of one byte past the limit
@@ -66,3 +72,42 @@ pub verdict_on_has_cause : (job certificate : List ℕ) (old new : ShelfFacts) (
 verdict_on_has_cause job certificate old new made front ended (spelled cert read verdict) = verdict_has_cause job certificate old new made cert ended verdict
 verdict_on_has_cause job certificate old new made front ended (unspelled byte read ends) =
     subst (λ (s : Status). HasCause (Some (Check job certificate)) old new s ended.line.items) (sym ends.0) (tt, ends.1)
+
+-- what a command decides for a certificate of told files
+pub verdict_decides : (job certificate : List ℕ) (held : Files) (made : JobTable) (bytes front : List ℕ) (result : Option Ended)
+    → IsJobTable (Some held) job (files_of_check job certificate) made → get held certificate ≡ Some bytes → front ≡ take (CERT_BYTES_MOST + 1) bytes
+    → IfSome result (IsVerdictOn made.table front) → Decides (Some (Check job certificate)) held (answer_of result) held
+verdict_decides job certificate held made bytes front None has stands is so = refl
+verdict_decides job certificate held made bytes front (Some ended) has stands is so = verdict_on_ends job certificate held made bytes front ended has stands is so
+
+-- and why
+pub verdict_caused : (job certificate : List ℕ) (old new : ShelfFacts) (made : JobTable) (front : List ℕ) (result : Option Ended)
+    → IfSome result (IsVerdictOn made.table front) → AnswerHasCause (Some (Check job certificate)) old new (answer_of result)
+verdict_caused job certificate old new made front None so = tt
+verdict_caused job certificate old new made front (Some ended) so = verdict_on_has_cause job certificate old new made front ended so
+
+-- bytes of a certificate
+pub verdict_spelled : (table : Table) (bytes : List ℕ) (cert : Cert) (result : Option Ended) → IsRead bytes (Holds cert)
+    → IfSome result (IsVerdict table cert) → IfSome result (IsVerdictOn table bytes)
+verdict_spelled table bytes cert None read so = tt
+verdict_spelled table bytes cert (Some ended) read so = spelled cert read so
+
+-- bytes of no certificate
+pub verdict_unspelled : (table : Table) (bytes : List ℕ) (byte : ℕ) (told : Report) (result : Option Ended) → IsRead bytes (RefusedAt byte)
+    → IfSome result (EndsBy (statuses.CertRefused (Syntax byte)) told) → report_line told ≡ report_line (cert_report (Syntax byte))
+    → IfSome result (IsVerdictOn table bytes)
+verdict_unspelled table bytes byte told None read so is = tt
+verdict_unspelled table bytes byte told (Some ended) read so is = unspelled byte read (so.0, so.1 ∙ is)
+
+-- a certificate without fault
+pub verdict_accepted : (table : Table) (cert : Cert) (bound : ℕ) (result : Option Ended) → IsFaultless table cert
+    → IfSome result (EndsBy statuses.Ok (reports.Check bound)) → bound ≡ cert.bound → IfSome result (IsVerdict table cert)
+verdict_accepted table cert bound None faultless so is = tt
+verdict_accepted table cert bound (Some ended) faultless so is = accepted faultless (so.0, so.1 ∙ ap (λ (n : ℕ). report_line (reports.Check n)) is)
+
+-- a certificate with a fault
+pub verdict_refused : (table : Table) (cert : Cert) (fault : CertFault) (told : Report) (result : Option Ended) → IsFirstFault table cert fault
+    → IfSome result (EndsBy (statuses.CertRefused (Fault fault)) told) → report_line told ≡ report_line (cert_report (Fault fault))
+    → IfSome result (IsVerdict table cert)
+verdict_refused table cert fault told None first so is = tt
+verdict_refused table cert fault told (Some ended) first so is = refused fault first (so.0, so.1 ∙ is)

@@ -3,7 +3,7 @@ use Rattle.std.proofs.Common.{◌≡◌, ◌+◌, ◌≤◌, ℕ, List, Option, 
 use Rattle.bound_certificate.specs.declared.limits.TheConstants.{CERT_BYTES_MOST}
 use Rattle.job_programs.specs.Told.{CountReads}
 use Rattle.job_run.specs.Stops.{AsksForJob, IsJobFile}
-use Rattle.job_run.proofs.Asked.{held_apart}
+use Rattle.remux_core.proofs.Apart.{held_apart}
 use Rattle.shelf_io.specs.Asked.{AsksUpTo, AsksNothing}
 use Rattle.shelf_io.specs.Causes.{ReadCauses, WriteCauses}
 use Rattle.shelf_io.specs.Counts.{ShelfCounts}
@@ -48,7 +48,9 @@ cause_later (Some command) old middle new statuses.ReadFault line same before af
 cause_later (Some command) old middle new statuses.WriteFault line same before after cause =
     fails_later _ _ _ _ _ line new (λ name asked. asked) (rose_later _ _ _ before.write_faults_grow after.write_faults_grow) cause
 cause_later (Some command) old middle new statuses.Missing line same before after cause =
-    fails_later _ _ _ _ _ line new (λ name asked. ((asked.0.0, subst (λ (told : Option Files). ReadsFile (Some command) told name asked.0.0) same asked.0.1), subst (λ (told : Option Files). Lacks told name) same asked.1))
+    fails_later _ _ _ _ _ line new
+    (λ name asked. ((asked.0.0, subst (λ (told : Option Files). ReadsFile (Some command) told name asked.0.0) same asked.0.1),
+     subst (λ (told : Option Files). Lacks told name) same asked.1))
     (rose_later _ _ _ before.absences_grow after.absences_grow) cause
 cause_later (Some command) old middle new statuses.OutOfMemory line same before after cause = cause
 

@@ -6,6 +6,7 @@ use Rattle.std.proofs.lemmas.Fmt.{decimal_digit, decimal_is_IsNumeral, decimal-d
 use Rattle.std.proofs.lemmas.Str.Parse.{numerals_by_value, tells_all_ascii_digits}
 use Rattle.remux_core.specs.Command.{Plan, Gen, Run, Check, IsCommand, IsGenCommand}
 use Rattle.remux_core.proofs.Decimals.{decimal_begins_plainly, pictures_within}
+use Rattle.remux_core.proofs.One.{other_verb}
 
 -- the words `gen SEED PICTURES a`
 abbrev gen_words : (seed pictures : List ℕ) → List (List ℕ)
@@ -39,7 +40,7 @@ are_of_gen : (seed pictures out : List ℕ) → IsCommand (codes "gen" ∷ seed 
     → (start number : ℕ) × (name : List ℕ) × IsGenCommand (codes "gen" ∷ seed ∷ pictures ∷ out ∷ []) start number name
 are_of_gen seed pictures out (Plan table certificate, said) = let are = said.words_are in cc
 are_of_gen seed pictures out (Gen start number name, said) = (start, number, name, said)
-are_of_gen seed pictures out (Run job stream certificate, said) = let are = said.words_are in cc
+are_of_gen seed pictures out (Run job stream certificate, said) = absurd (other_verb 103 114 refl said.words_are refl refl (λ same. omega (arith, same)))
 are_of_gen seed pictures out (Check job certificate, said) = let are = said.words_are in cc
 
 -- they have the decimal of a number below 2^64 in the second

@@ -1,5 +1,6 @@
 mod AfterRun
 mod Answered
+mod Apart
 mod CheckSteps
 mod Counted
 mod Decimals

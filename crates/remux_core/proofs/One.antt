@@ -1,5 +1,5 @@
 -- Words say one command, and a command and files call for one status.
-use Rattle.std.proofs.Common.{◌≡◌, ℕ, List, Option, Some, None, decimal, refl, subst, arith}
+use Rattle.std.proofs.Common.{◌≡◌, ℕ, List, [], ◌∷◌, Option, Some, None, IfSome, decimal, refl, sym, ap, subst, ◌∙◌, arith}
 use Rattle.std.proofs.lemmas.Fmt.{decimal_injective}
 use Rattle.std.specs.FinMap.{get}
 use Rattle.shelf_io.specs.Files.{Files}
@@ -31,6 +31,16 @@ pub record Laws : Type 0 where
   pub run : (job out certificate : List ℕ) (files : Files) (s t : Status) → RunCallsFor job out certificate files s → RunCallsFor job out certificate files t → IsSameStatus s t
   pub check : (job certificate : List ℕ) (files : Files) (s t : Status) → CheckCallsFor job certificate files s → CheckCallsFor job certificate files t → IsSameStatus s t
 
+-- the first letter of the verb
+abbrev pub initial : List (List ℕ) → ℕ
+initial ((letter ∷ letters) ∷ words) = letter
+initial ([] ∷ words) = 0
+initial [] = 0
+
+-- words with one verb aren't those with another one
+pub other_verb : {words a b : List (List ℕ)} (m n : ℕ) → words ≡ a → words ≡ b → initial a ≡ m → initial b ≡ n → (m ≡ n → ⊥) → ⊥
+other_verb m n first second front other differ = differ (sym front ∙ ap initial (sym first ∙ second) ∙ other)
+
 -- words say one command
 pub one_command : (words : List (List ℕ)) (a b : Option Command) → IsSaid words a → IsSaid words b → a ≡ b
 one_command words (Some (Plan table certificate)) (Some (Plan other name)) a b = let x = a.words_are in let y = b.words_are in cc
@@ -43,20 +53,20 @@ one_command words (Some (Gen seed pictures out)) (Some (Gen other count name)) a
     let counts : pictures ≡ count =
     decimal_injective pictures count (omega (arith, a.few_pictures)) (omega (arith, b.few_pictures)) picture_words in
     cc
-one_command words (Some (Plan table certificate)) (Some (Gen seed pictures out)) a b = let x = a.words_are in let y = b.words_are in cc
-one_command words (Some (Gen seed pictures out)) (Some (Plan table certificate)) a b = let x = a.words_are in let y = b.words_are in cc
+one_command words (Some (Plan table certificate)) (Some (Gen seed pictures out)) a b = absurd (other_verb 112 103 a.words_are b.words_are refl refl (λ same. omega (arith, same)))
+one_command words (Some (Gen seed pictures out)) (Some (Plan table certificate)) a b = absurd (other_verb 103 112 a.words_are b.words_are refl refl (λ same. omega (arith, same)))
 one_command words (Some (Run job out certificate)) (Some (Run other name cert)) a b = let x = a.words_are in let y = b.words_are in cc
 one_command words (Some (Check job certificate)) (Some (Check other cert)) a b = let x = a.words_are in let y = b.words_are in cc
-one_command words (Some (Plan table certificate)) (Some (Run job out cert)) a b = let x = a.words_are in let y = b.words_are in cc
-one_command words (Some (Plan table certificate)) (Some (Check job cert)) a b = let x = a.words_are in let y = b.words_are in cc
-one_command words (Some (Gen seed pictures out)) (Some (Run job stream cert)) a b = let x = a.words_are in let y = b.words_are in cc
-one_command words (Some (Gen seed pictures out)) (Some (Check job cert)) a b = let x = a.words_are in let y = b.words_are in cc
-one_command words (Some (Run job out certificate)) (Some (Plan table cert)) a b = let x = a.words_are in let y = b.words_are in cc
-one_command words (Some (Run job out certificate)) (Some (Gen seed pictures name)) a b = let x = a.words_are in let y = b.words_are in cc
-one_command words (Some (Run job out certificate)) (Some (Check other cert)) a b = let x = a.words_are in let y = b.words_are in cc
-one_command words (Some (Check job certificate)) (Some (Plan table cert)) a b = let x = a.words_are in let y = b.words_are in cc
-one_command words (Some (Check job certificate)) (Some (Gen seed pictures name)) a b = let x = a.words_are in let y = b.words_are in cc
-one_command words (Some (Check job certificate)) (Some (Run other out cert)) a b = let x = a.words_are in let y = b.words_are in cc
+one_command words (Some (Plan table certificate)) (Some (Run job out cert)) a b = absurd (other_verb 112 114 a.words_are b.words_are refl refl (λ same. omega (arith, same)))
+one_command words (Some (Plan table certificate)) (Some (Check job cert)) a b = absurd (other_verb 112 99 a.words_are b.words_are refl refl (λ same. omega (arith, same)))
+one_command words (Some (Gen seed pictures out)) (Some (Run job stream cert)) a b = absurd (other_verb 103 114 a.words_are b.words_are refl refl (λ same. omega (arith, same)))
+one_command words (Some (Gen seed pictures out)) (Some (Check job cert)) a b = absurd (other_verb 103 99 a.words_are b.words_are refl refl (λ same. omega (arith, same)))
+one_command words (Some (Run job out certificate)) (Some (Plan table cert)) a b = absurd (other_verb 114 112 a.words_are b.words_are refl refl (λ same. omega (arith, same)))
+one_command words (Some (Run job out certificate)) (Some (Gen seed pictures name)) a b = absurd (other_verb 114 103 a.words_are b.words_are refl refl (λ same. omega (arith, same)))
+one_command words (Some (Run job out certificate)) (Some (Check other cert)) a b = absurd (other_verb 114 99 a.words_are b.words_are refl refl (λ same. omega (arith, same)))
+one_command words (Some (Check job certificate)) (Some (Plan table cert)) a b = absurd (other_verb 99 112 a.words_are b.words_are refl refl (λ same. omega (arith, same)))
+one_command words (Some (Check job certificate)) (Some (Gen seed pictures name)) a b = absurd (other_verb 99 103 a.words_are b.words_are refl refl (λ same. omega (arith, same)))
+one_command words (Some (Check job certificate)) (Some (Run other out cert)) a b = absurd (other_verb 99 114 a.words_are b.words_are refl refl (λ same. omega (arith, same)))
 one_command words (Some a) None said none = absurd (none (a, said))
 one_command words None (Some b) none said = absurd (none (b, said))
 one_command words None None a b = refl
@@ -207,6 +217,24 @@ pub words_call_for_one : Laws → (words : List (List ℕ)) (files : Files) (s t
 words_call_for_one laws words files s t a b =
     let same : b.command ≡ a.command = one_command words b.command a.command b.said a.said in
     calls_for_one laws a.command files s t a.called (subst (λ (c : Option Command). CallsFor c files t) same b.called)
+
+-- what `run` is called for is one
+abbrev pub RunLaw : Type 0
+RunLaw = (job out certificate : List ℕ) (files : Files) (s t : Status) → RunCallsFor job out certificate files s → RunCallsFor job out certificate files t → IsSameStatus s t
+
+-- what `check` is called for is one
+abbrev pub CheckLaw : Type 0
+CheckLaw = (job certificate : List ℕ) (files : Files) (s t : Status) → CheckCallsFor job certificate files s → CheckCallsFor job certificate files t → IsSameStatus s t
+
+-- what words and files call for is one
+abbrev pub WordsLaw : Type 0
+WordsLaw = (words : List (List ℕ)) (files : Files) (s t : Status) → WordsCallFor words files s → WordsCallFor words files t → IsSameStatus s t
+
+-- where what jobs call for is known to be one
+pub where_jobs_one : {A : Type 0} (result : Option A) → (RunLaw → CheckLaw → WordsLaw) → IfSome result (λ _. RunLaw) → IfSome result (λ _. CheckLaw)
+    → IfSome result (λ _. WordsLaw)
+where_jobs_one None law run check = tt
+where_jobs_one (Some known) law run check = law run check
 
 -- a status that is the same as Ok is Ok
 pub is_ok : (s : Status) → IsSameStatus s statuses.Ok → s ≡ statuses.Ok

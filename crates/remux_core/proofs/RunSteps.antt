@@ -1,5 +1,5 @@
 -- What `run` writes, in two files.
-use Rattle.std.proofs.Common.{◌≡◌, ◌⊎◌, ◌≤◌, ℕ, List, [], length, take, Option, Some, None, refl, sym, ap, subst, ◌∙◌, inl, inr, arith}
+use Rattle.std.proofs.Common.{◌≡◌, ◌⊎◌, ◌≤◌, ℕ, List, [], length, take, Option, Some, None, Result, Err, ◌≢◌, ◌↔◌, refl, sym, ap, subst, ◌∙◌, inl, inr, arith}
 use Rattle.std.proofs.Math.Seq.{take-length}
 use Rattle.std.specs.FinMap.{insert}
 use Rattle.bound_certificate.specs.declared.cert.Cert.{Cert}
@@ -12,6 +12,11 @@ use Rattle.shelf_io.specs.Counts.{ShelfCounts}
 use Rattle.shelf_io.specs.Files.{Files, with_content}
 use Rattle.shelf_io.proofs.Counted.{rose_later}
 use Rattle.shelf_io.specs.WholeFile.{HoldsPrefix}
+use Rattle.slot_rule.specs.declared.schedules.ScheduleFault.{ScheduleFault}
+use Rattle.slot_rule.specs.declared.schedules.ScheduleFault.TheVariants.{Missed, OutOfMemory}
+use Rattle.slot_rule.specs.declared.sent.Miss.{Miss}
+use Rattle.slot_rule.specs.Schedule.{IsScheduled, IsFirstMiss}
+use Rattle.version_table.specs.declared.table.Table.{Table}
 use Rattle.slot_rule.specs.declared.slot_list.SlotList.{SlotList}
 use Rattle.slot_rule.specs.SlotList.{IsSlotList}
 use Rattle.remux_core.specs.declared.ended.Ended.{Ended}
@@ -125,3 +130,14 @@ run_has_cause job out certificate old new middle made cert slots prepared (Some 
 run_has_cause job out certificate old new middle made cert slots prepared (Some ended) ready first second (inr (failed, rose, last)) =
     subst (λ (s : Status). HasCause (Some (Run job out certificate)) old new s ended.line.items) (sym failed.0)
     (record { name = certificate; asked = inr refl; rises = rose_later _ _ _ first.write_faults_grow second.write_faults_grow rose; last = last; names = failed.1 })
+
+-- the schedule of a choice that is scheduled has no miss
+abbrev fails : ScheduleFault → Result SlotList ScheduleFault
+fails fault = Err fault
+
+pub missed_never : {fault : ScheduleFault} {miss : Miss} (table : Table) (choice : List ℕ) → fault ≡ Missed miss
+    → (fails fault ≢ fails OutOfMemory → (m : Miss) → (fails fault ≡ fails (Missed m)) ↔ IsFirstMiss table choice m) → IsScheduled table choice
+    → ((t : Table) (c : List ℕ) (m : Miss) → IsScheduled t c → IsFirstMiss t c m → ⊥) → ⊥
+missed_never {fault} {miss} table choice is missed scheduled law =
+    let other : fails fault ≢ fails OutOfMemory = λ same. let late = ap fails is in cc in
+    law table choice miss scheduled ((missed other miss).0 (ap fails is))

@@ -15,10 +15,15 @@ pub(crate) fn look_at_cert(cert: &Cert)
     requires few_units { length cert.now.choice < 2 ^ 32 }
     ensures { IsCert cert.now }
 {
-    let _numbers = (cert.bound, cert.distortion);
+    look_at_number(cert.bound);
+    look_at_number(cert.distortion);
     look_at_bytes(cert.choice.as_slice());
     look_at_nodes(cert.nodes.as_slice());
 }
+
+fn look_at_number(_number: u64)
+    ensures { _number < 2 ^ 64 }
+{}
 
 fn look_at_bytes(bytes: &[u8])
     ensures { AreBytes bytes.now }
@@ -59,7 +64,8 @@ fn look_at_multipliers(multipliers: &[Multiplier])
 fn look_at_multiplier(multiplier: &Multiplier)
     ensures { IsStatedMultiplier multiplier.now }
 {
-    let _numbers = (multiplier.due, multiplier.lambda);
+    look_at_number(multiplier.due);
+    look_at_number(multiplier.lambda);
 }
 
 fn look_at_windows(windows: &[Window])
@@ -73,5 +79,7 @@ fn look_at_windows(windows: &[Window])
 fn look_at_window(window: &Window)
     ensures { IsStatedWindow window.now }
 {
-    let _numbers = (window.from, window.due, window.lambda);
+    look_at_number(window.from);
+    look_at_number(window.due);
+    look_at_number(window.lambda);
 }

@@ -122,8 +122,21 @@ fn parse_three<'a>(
 fn is_run(verb: &str, job: &str, out: &str, certificate: &str) -> bool
     ensures { IsTrue result ↔ IsRunCommand (verb.now ∷ job.now ∷ out.now ∷ certificate.now ∷ []) job.now out.now certificate.now }
 {
-    let named = !job.is_empty() && !out.is_empty() && !certificate.is_empty();
-    verb == "run" && named && job != out && job != certificate && out != certificate
+    verb == "run" && are_named(job, out, certificate) && are_apart(job, out, certificate)
+}
+
+/// Whether none of three names is empty.
+fn are_named(first: &str, second: &str, third: &str) -> bool
+    ensures { IsTrue result ↔ (first.now ≢ []) × (second.now ≢ []) × (third.now ≢ []) }
+{
+    !first.is_empty() && !second.is_empty() && !third.is_empty()
+}
+
+/// Whether three names are different.
+fn are_apart(first: &str, second: &str, third: &str) -> bool
+    ensures { IsTrue result ↔ (first.now ≢ second.now) × (first.now ≢ third.now) × (second.now ≢ third.now) }
+{
+    first != second && first != third && second != third
 }
 
 /// Whether three words are `plan TABLE CERT`.

@@ -125,6 +125,7 @@ fn write_job<K: Shelf>(
     requires job { IsValidJob made.now.job }
     requires programs { (contents : List (List ℕ)) × ArePrograms made.now.job contents made.now.programs }
     requires table { IsTableOf made.now.job made.now.programs made.now.table }
+    requires valid { IsValidTable made.now.table }
     requires plan { IsPlan made.now.table cert.now }
     requires slots { IsSlotList made.now.table cert.now.choice slots.now }
     ensures decided { OnFiles (K.files shelf.old) (K.files shelf.new) (λ held after.

@@ -62,3 +62,11 @@ returns-in-Err-clause-cause g c =
 
 pub returns-in-Err-clause-counts : goal.returns-in-Err-clause-counts
 returns-in-Err-clause-counts g c = programs_grow c.in-Err.ensures.counts
+
+pub plan_job-requires-clause-programs : goal.plan_job-requires-clause-programs
+plan_job-requires-clause-programs g c =
+    let programs = c.in-Ok.ensures.table.programs in
+    (programs.contents, programs.are)
+
+pub plan_job-requires-clause-table : goal.plan_job-requires-clause-table
+plan_job-requires-clause-table g c = c.in-Ok.ensures.table.table
