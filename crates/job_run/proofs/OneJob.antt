@@ -1,19 +1,19 @@
 -- On told files a job's file has one answer: a table, a refusal of its text, a refused program, or a next file that isn't there.
-use Rattle.std.proofs.Common.{◌≡◌, ◌⊎◌, ℕ, List, [], ◌∷◌, ◌++◌, length, Some, None, refl, sym, ap, subst, ◌∙◌, inl, inr, arith}
+use Rattle.std.proofs.Common.{◌≡◌, ℕ, List, [], ◌∷◌, ◌++◌, length, Some, None, sym, ap, subst, ◌∙◌, inl, inr, arith}
 use Rattle.std.proofs.lemmas.Option.{same_Some, none-some}
 use Rattle.std.specs.FinMap.{get}
 use Rattle.shelf_io.specs.Files.{Files}
 use Rattle.version_table.specs.declared.table.Table.{Table}
 use Rattle.job_report.specs.declared.job.Job.{Job}
 use Rattle.job_report.specs.declared.job.ProgramJob.{ProgramJob}
-use Rattle.job_report.specs.JobText.{SpellsJob, JobAnswer, HasAnswer, Spelled, NoDocument, Refused}
+use Rattle.job_report.specs.JobText.{SpellsJob, HasAnswer, Spelled, NoDocument, Refused}
 use Rattle.job_report.specs.Refusal.{FieldRefusal, OfField, OfLimit, first_refusal}
 use Rattle.job_report.specs.SharedFile.{refusals_of_files}
 use Rattle.job_report.proofs.OneAnswer.{one_answer}
 use Rattle.program_reader.specs.declared.program.Program.{Program}
 use Rattle.program_table.specs.Table.{IsTableOf}
 use Rattle.job_programs.specs.declared.source_fault.SourceFault.{SourceFault}
-use Rattle.job_programs.specs.Told.{AreProgramsOn, IsMissingOn, IsRefusedOn, StopsAt}
+use Rattle.job_programs.specs.Told.{AreProgramsOn, IsMissingOn, IsRefusedOn}
 use Rattle.job_run.specs.declared.job_stop.TextRefusal.{TextRefusal}
 use Rattle.job_run.specs.declared.job_stop.TextRefusal.TheVariants as texts
 use Rattle.job_run.specs.declared.job_table.JobTable.{JobTable}
@@ -145,11 +145,11 @@ is_missing files name named file next lacks =
     record { stopped = next.program; stops = next.stops; lacks = subst (λ (f : List ℕ). get files f ≡ None) next.file_is lacks }
 
 -- the next file that isn't there is the job's own, which then isn't there, or that of the job's next program
-missing_with_job : ProgramLaws → (files : Files) (name : List ℕ) (named : List (List ℕ)) (job : Job) (file : List ℕ) → HoldsJob (Some files) name named job
+missing_with_job : (files : Files) (name : List ℕ) (named : List (List ℕ)) (job : Job) (file : List ℕ) → HoldsJob (Some files) name named job
     → IsNextFile (Some files) name named file → get files file ≡ None → (number : ℕ) × IsMissingOn files job number
-missing_with_job laws files name named job file holds (inl is) lacks =
+missing_with_job files name named job file holds (inl is) lacks =
     absurd (held_or_lacked files name holds.text holds.held (subst (λ (f : List ℕ). get files f ≡ None) is lacks))
-missing_with_job laws files name named job file holds (inr next) lacks =
+missing_with_job files name named job file holds (inr next) lacks =
     let same : next.job ≡ job = one_job files name named next.job job next.holds holds in
     (next.number, subst (λ (j : Job). IsMissingOn files j next.number) same (is_missing files name named file next lacks))
 
@@ -214,7 +214,7 @@ table_or_program laws files name named made fault a b =
 pub table_or_missing : ProgramLaws → (files : Files) (name : List ℕ) (named : List (List ℕ)) (made : JobTable) (file : List ℕ) → IsJobTable (Some files) name named made
     → IsNextFile (Some files) name named file → get files file ≡ None → ⊥
 table_or_missing laws files name named made file a next lacks =
-    let missing = missing_with_job laws files name named made.job file a.holds next lacks in
+    let missing = missing_with_job files name named made.job file a.holds next lacks in
     laws.missing_without_programs files made.job missing.0 made.programs missing.1 a.programs
 
 pub text_or_program : (files : Files) (name : List ℕ) (named : List (List ℕ)) (refusal : TextRefusal) (fault : SourceFault) → HoldsRefused (Some files) name named refusal
@@ -229,5 +229,5 @@ text_or_missing files name named refusal file a (inr next) lacks = held_or_refus
 pub program_or_missing : ProgramLaws → (files : Files) (name : List ℕ) (named : List (List ℕ)) (fault : SourceFault) (file : List ℕ) → HoldsRefusedProgram (Some files) name named fault
     → IsNextFile (Some files) name named file → get files file ≡ None → ⊥
 program_or_missing laws files name named fault file a next lacks =
-    let missing = missing_with_job laws files name named a.job file a.holds next lacks in
+    let missing = missing_with_job files name named a.job file a.holds next lacks in
     laws.missing_without_refusal files a.job missing.0 fault missing.1 a.refused

@@ -1,10 +1,9 @@
 -- What `run` and `check` are called for is one.
-use Rattle.std.proofs.Common.{◌≡◌, ◌⊎◌, ℕ, List, Some, None, refl, sym, ap, subst, ◌∙◌, inl, inr}
+use Rattle.std.proofs.Common.{◌≡◌, ℕ, List, Some, None, refl, sym, ap, subst, ◌∙◌, inl, inr}
 use Rattle.std.proofs.lemmas.Option.{same_Some, none-some}
 use Rattle.std.specs.FinMap.{get}
 use Rattle.bound_certificate.specs.declared.cert.Cert.{Cert}
 use Rattle.bound_certificate.specs.Reading.{CertReading, IsRead, Holds, RefusedAt}
-use Rattle.branch_plan.specs.Plan.{SmallestIsScheduled}
 use Rattle.certificate_checker.specs.declared.why.CertFault.{CertFault}
 use Rattle.certificate_checker.specs.Checked.{IsFaultless, IsFirstFault}
 use Rattle.job_programs.specs.declared.source_fault.SourceFault.{SourceFault}
