@@ -54,6 +54,13 @@ returns-in-Ok-clause-called_for g c = λ files status told calls none.
     let ended = c.in-Some.ended in
     let shelf = shelf_facts g.K.Shelf.files g.K.Shelf.counts g.K.Shelf.asked g.K.Shelf.since_fault in
     let sink = sink_facts g.O.Sink.written g.O.Sink.faults g.O.Sink.since_fault in
-    let laws : Laws = record { reading = c.one_reading.ensures; smallest = c.smallest_choice_is_one.ensures; scheduled = c.no_miss_where_scheduled.ensures; miss = c.first_miss_is_one.ensures } in
+    let laws : Laws = record {
+      reading = c.one_reading.ensures;
+      smallest = c.smallest_choice_is_one.ensures;
+      scheduled = c.no_miss_where_scheduled.ensures;
+      miss = c.first_miss_is_one.ensures;
+      run = c.jobs_call_for_one.ensures.run;
+      check = c.jobs_call_for_one.ensures.check;
+    } in
     as_called laws (map string_bytes c.args.words.now) files (shelf c.args.shelf.now) (shelf c.perform.new.shelf) (sink c.args.out.now) (sink c.put_all.new.sink)
     ended.status status (returns-in-Ok-clause-outcome g c) told calls none
