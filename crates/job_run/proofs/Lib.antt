@@ -1,4 +1,5 @@
 pub mod Asked
+pub mod OneJob
 pub mod Steps
 pub mod Streams
 pub mod Texts

@@ -1,5 +1,6 @@
 pub mod JobFile
 pub mod JobTable
 pub mod Private
+pub mod Same
 pub mod Stops
 pub mod Written

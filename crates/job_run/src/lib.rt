@@ -7,6 +7,7 @@
 
 mod job_stop;
 mod job_table;
+pub mod laws;
 mod read;
 mod text;
 mod write;

@@ -11,6 +11,7 @@ mod LineStatus
 mod One
 mod RunSteps
 mod Seen
+mod JobsCall
 mod JobStopped
 mod Told
 mod WordsSaid

@@ -230,12 +230,6 @@ CheckLaw = (job certificate : List ℕ) (files : Files) (s t : Status) → Check
 abbrev pub WordsLaw : Type 0
 WordsLaw = (words : List (List ℕ)) (files : Files) (s t : Status) → WordsCallFor words files s → WordsCallFor words files t → IsSameStatus s t
 
--- where what jobs call for is known to be one
-pub where_jobs_one : {A : Type 0} (result : Option A) → (RunLaw → CheckLaw → WordsLaw) → IfSome result (λ _. RunLaw) → IfSome result (λ _. CheckLaw)
-    → IfSome result (λ _. WordsLaw)
-where_jobs_one None law run check = tt
-where_jobs_one (Some known) law run check = law run check
-
 -- a status that is the same as Ok is Ok
 pub is_ok : (s : Status) → IsSameStatus s statuses.Ok → s ≡ statuses.Ok
 is_ok statuses.Ok same = same

@@ -1,6 +1,6 @@
 //! Laws of the top call.
 
-ghost use Rattle.std.specs.Prelude.{◌≡◌, ◌⊎◌, List, ℕ, Option, map, IfSome};
+ghost use Rattle.std.specs.Prelude.{◌≡◌, ◌⊎◌, List, ℕ, Option, map};
 ghost use Rattle.std.specs.String.{string_bytes};
 ghost use Rattle.shelf_io.specs.Files.{Files};
 ghost use Rattle.version_table.specs.declared.table.Table.{Table};
@@ -16,7 +16,7 @@ ghost use Rattle.remux_core.specs.PlanCommand.{HoldsTable};
 ghost use Rattle.remux_core.specs.RunCommand.{RunDone};
 ghost use Rattle.remux_core.specs.Status.{IsSameStatus, TellsStatus};
 
-use crate::owed::jobs_call_for_one;
+use crate::jobs_call::jobs_call_for_one;
 use crate::status::Status;
 use crate::top_call::run;
 use shelf_io::{CalmShelf, CalmSink};
@@ -25,15 +25,15 @@ use std::alloc::Global;
 use version_table::{one_reading, smallest_choice_is_one};
 
 /// Words and files call for one status.
-pub fn one_status_is_called_for() -> Option<()>
-    ensures { IfSome result (λ _. (words : List (List ℕ)) (files : Files) (status other : AnyStatus) → WordsCallFor words files status
-        → WordsCallFor words files other → IsSameStatus status other) }
+pub fn one_status_is_called_for()
+    ensures { (words : List (List ℕ)) (files : Files) (status other : AnyStatus) → WordsCallFor words files status
+        → WordsCallFor words files other → IsSameStatus status other }
 {
     one_reading();
     smallest_choice_is_one();
     no_miss_where_scheduled();
     first_miss_is_one();
-    jobs_call_for_one()
+    jobs_call_for_one();
 }
 
 /// The line of each status but that of work that was done tells the exit status.

@@ -13,7 +13,7 @@ use crate::check_command::check_job;
 use crate::command::{Parsed, parse};
 use crate::ended::{Ended, end_with};
 use crate::gen_command::gen_file;
-use crate::owed::jobs_call_for_one;
+use crate::jobs_call::jobs_call_for_one;
 use crate::plan_command::plan_file;
 use crate::run_command::run_job;
 use crate::status::Status;
@@ -58,10 +58,8 @@ pub fn run<K: Shelf, O: Sink>(alloc: Global, words: &[String], shelf: &mut K, ou
     smallest_choice_is_one();
     no_miss_where_scheduled();
     first_miss_is_one();
+    jobs_call_for_one();
     let Some(ended) = perform(alloc, words, shelf) else {
-        return Status::OutOfMemory;
-    };
-    let Some(()) = jobs_call_for_one() else {
         return Status::OutOfMemory;
     };
     match put_all(out, ended.line.as_slice()) {
