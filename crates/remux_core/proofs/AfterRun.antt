@@ -1,21 +1,19 @@
 -- What `run` leaves, `check` accepts.
-use Rattle.std.proofs.Common.{◌≡◌, ◌+◌, ℕ, Bool, true, false, ◌||◌, cond, List, [], ◌∷◌, ◌++◌, codes, Option, Some, None, refl, sym, ap, subst, ◌∙◌, inl, inr}
+use Rattle.std.proofs.Common.{◌≡◌, ◌+◌, ℕ, Bool, true, false, ◌||◌, List, [], ◌∷◌, ◌++◌, codes, Some, None, refl, sym, ◌∙◌}
 use Rattle.std.specs.List.{list_any}
 use Rattle.std.specs.Str.{bytes_eq}
 use Rattle.std.proofs.lemmas.Slice.Eq.{bytes_eq-Decides}
 use Rattle.std.specs.FinMap.{get, insert}
 use Rattle.bound_certificate.specs.Spelling.{spelling}
-use Rattle.job_programs.specs.Told.{AreProgramsOn, HoldContents}
-use Rattle.job_report.specs.declared.job.Job.{Job}
+use Rattle.job_programs.specs.Told.{HoldContents}
 use Rattle.job_report.specs.declared.job.ProgramJob.{ProgramJob}
 use Rattle.job_report.specs.Refusal.{OfField, first_refusal, place_of_program}
 use Rattle.job_report.specs.SharedFile.{refusals_of_files}
-use Rattle.job_run.specs.JobFile.{HoldsJob, StandsApart}
 use Rattle.job_run.specs.JobTable.{IsJobTable}
 use Rattle.shelf_io.specs.Files.{Files}
 use Rattle.remux_core.specs.declared.status.Status.TheVariants.{Ok}
 use Rattle.remux_core.specs.CheckCommand.{CheckCallsFor}
-use Rattle.remux_core.specs.Command.{IsRunCommand, files_of_run, files_of_check}
+use Rattle.remux_core.specs.Command.{IsRunCommand, files_of_check}
 use Rattle.remux_core.specs.RunCommand.{RunDone}
 use Rattle.remux_core.proofs.Answered.{get_own, get_other, stays}
 

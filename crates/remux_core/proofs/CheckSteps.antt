@@ -1,5 +1,5 @@
 -- What becomes of the bytes of CERT.
-use Rattle.std.proofs.Common.{◌≡◌, ◌+◌, ◌<◌, ◌≤◌, ℕ, List, length, take, Option, Some, None, IfSome, refl, sym, ap, subst, ◌∙◌, inl, inr, min, arith}
+use Rattle.std.proofs.Common.{◌≡◌, ◌+◌, ◌≤◌, ℕ, List, length, take, Option, Some, None, IfSome, refl, sym, ap, subst, ◌∙◌, inl, inr, arith}
 use Rattle.std.proofs.lemmas.List.{length-take}
 use Rattle.std.specs.FinMap.{get}
 use Rattle.bound_certificate.specs.declared.cert.Cert.{Cert}

@@ -49,8 +49,10 @@ cause_later (Some command) old middle new statuses.WriteFault line same before a
     fails_later _ _ _ _ _ line new (λ name asked. asked) (rose_later _ _ _ before.write_faults_grow after.write_faults_grow) cause
 cause_later (Some command) old middle new statuses.Missing line same before after cause =
     fails_later _ _ _ _ _ line new
-    (λ name asked. ((asked.0.0, subst (λ (told : Option Files). ReadsFile (Some command) told name asked.0.0) same asked.0.1),
-     subst (λ (told : Option Files). Lacks told name) same asked.1))
+    (λ name asked. (
+      (asked.0.0, subst (λ (told : Option Files). ReadsFile (Some command) told name asked.0.0) same asked.0.1),
+      subst (λ (told : Option Files). Lacks told name) same asked.1,
+    ))
     (rose_later _ _ _ before.absences_grow after.absences_grow) cause
 cause_later (Some command) old middle new statuses.OutOfMemory line same before after cause = cause
 

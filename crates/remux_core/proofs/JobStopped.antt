@@ -1,5 +1,5 @@
 -- How a command over a job ends where the job has no table.
-use Rattle.std.proofs.Common.{◌≡◌, ◌<◌, ℕ, List, [], ◌∷◌, ◌++◌, length, map, Contains, Option, Some, None, refl, sym, ap, subst, ◌∙◌, inl, inr, arith}
+use Rattle.std.proofs.Common.{◌≡◌, ℕ, List, ◌∷◌, ◌++◌, map, Contains, Option, Some, None, refl, sym, ap, subst, ◌∙◌, inl, inr, arith}
 use Rattle.std.proofs.lemmas.List.{map-append}
 use Rattle.std.proofs.lemmas.List.Elements.{Contains-append_right}
 use Rattle.job_report.specs.declared.job.ProgramJob.{ProgramJob}
@@ -16,10 +16,10 @@ use Rattle.shelf_io.specs.Files.{Files}
 use Rattle.remux_core.specs.declared.ended.Ended.{Ended}
 use Rattle.remux_core.specs.declared.status.Status.{Status}
 use Rattle.remux_core.specs.declared.status.Status.TheVariants as statuses
-use Rattle.remux_core.specs.Answer.{Answer, CallsFor, Leaves, EndsWithStatus, Decides, HasCause, AnswerHasCause}
+use Rattle.remux_core.specs.Answer.{CallsFor, Leaves, EndsWithStatus, Decides, HasCause, AnswerHasCause}
 use Rattle.remux_core.specs.CheckCommand.{CheckCallsFor}
 use Rattle.remux_core.specs.Command.{Command, Run, Check, ReadsFile, ReadsPrograms, MayRefuse, files_of_run, files_of_check}
-use Rattle.remux_core.specs.Outside.{ShelfFacts, OnFiles}
+use Rattle.remux_core.specs.Outside.{ShelfFacts}
 use Rattle.remux_core.specs.Private.Ended.{answer_of}
 use Rattle.remux_core.specs.Private.Stopped.{refusal_by_text, StopEnds}
 use Rattle.remux_core.specs.RunCommand.{JobCallsFor, RunCallsFor}

@@ -1,5 +1,5 @@
 -- What `run` writes, in two files.
-use Rattle.std.proofs.Common.{◌≡◌, ◌⊎◌, ◌≤◌, ℕ, List, [], length, take, Option, Some, None, Result, Err, ◌≢◌, ◌↔◌, refl, sym, ap, subst, ◌∙◌, inl, inr, arith}
+use Rattle.std.proofs.Common.{◌≡◌, ◌≤◌, ℕ, List, [], length, take, Option, Some, None, Result, Err, ◌≢◌, ◌↔◌, refl, sym, ap, subst, ◌∙◌, inl, inr, arith}
 use Rattle.std.proofs.Math.Seq.{take-length}
 use Rattle.std.specs.FinMap.{insert}
 use Rattle.bound_certificate.specs.declared.cert.Cert.{Cert}
@@ -29,7 +29,7 @@ use Rattle.remux_core.specs.Plan.{IsPlan}
 use Rattle.remux_core.specs.Private.Ended.{answer_of}
 use Rattle.remux_core.specs.Private.Prepared.{CertificateHasCause, EndsCertificate, IsPrepared}
 use Rattle.remux_core.specs.Promises.{CountsGrow}
-use Rattle.remux_core.specs.RunCommand.{RunWork, IsWork, HoldsPartOf, RunDone, RunLeaves}
+use Rattle.remux_core.specs.RunCommand.{RunWork, IsWork, RunDone, RunLeaves}
 use Rattle.run_report.specs.Report.{run_report}
 
 -- the work of a run, from its parts

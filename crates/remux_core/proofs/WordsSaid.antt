@@ -1,5 +1,5 @@
 -- Words that are those of no command.
-use Rattle.std.proofs.Common.{◌≡◌, ℕ, List, [], ◌∷◌, sym, subst}
+use Rattle.std.proofs.Common.{◌≡◌, ℕ, List, [], ◌∷◌, subst}
 use Rattle.remux_core.specs.Command.{Plan, Gen, Run, Check, IsCommand, IsPlanCommand, IsGenCommand, IsRunCommand, IsCheckCommand}
 
 -- a verb and two words that are neither those of `plan` nor those of `check`

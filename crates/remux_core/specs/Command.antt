@@ -6,7 +6,7 @@ use Rattle.program_maker.specs.declared.format.TheConstants.{PICTURES_MOST}
 use Rattle.shelf_io.specs.Files.{Files}
 use Rattle.version_table.specs.declared.limits.TheConstants.{TABLE_TEXT_MOST}
 use Rattle.remux_core.specs.declared.status.JobRefusal.{JobRefusal}
-use Rattle.remux_core.specs.declared.status.JobRefusal.TheVariants.{TableSyntax, TableLimit, JobSyntax, JobField, JobLimit}
+use Rattle.remux_core.specs.declared.status.JobRefusal.TheVariants.{TableSyntax, TableLimit}
 
 -- a command with its numbers and the names of its files
 pub data Command : Type 0 where

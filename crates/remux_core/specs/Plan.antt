@@ -1,5 +1,5 @@
 -- What a plan of a table is: a certificate that shows its bound, of a scheduled choice.
-use Rattle.std.specs.Prelude.{◌≡◌, ℕ, ◌≤◌, length, All}
+use Rattle.std.specs.Prelude.{◌≡◌, ◌≤◌, length, All}
 use Rattle.version_table.specs.declared.table.Table.{Table}
 use Rattle.bound_certificate.specs.declared.cert.Cert.{Cert}
 use Rattle.bound_certificate.specs.Cert.{IsCert}

@@ -1,11 +1,10 @@
 -- What becomes of a certificate.
-use Rattle.std.specs.Prelude.{◌≡◌, ℕ, List}
+use Rattle.std.specs.Prelude.{ℕ, List}
 use Rattle.bound_certificate.specs.declared.cert.Cert.{Cert}
 use Rattle.bound_certificate.specs.Reading.{IsRead, Holds, RefusedAt}
 use Rattle.certificate_checker.specs.Checked.{IsFaultless, IsFirstFault}
 use Rattle.certificate_checker.specs.declared.why.CertFault.{CertFault}
 use Rattle.job_report.specs.declared.report.Report.TheVariants as reports
-use Rattle.job_report.specs.Report.{report_line}
 use Rattle.version_table.specs.declared.table.Table.{Table}
 use Rattle.remux_core.specs.declared.ended.Ended.{Ended}
 use Rattle.remux_core.specs.declared.status.Status.TheVariants as statuses

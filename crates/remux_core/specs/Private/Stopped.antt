@@ -1,6 +1,5 @@
 -- How a command over a job ends where the job has no table.
-use Rattle.std.specs.Prelude.{◌≡◌, List, Option, None, IfSome}
-use Rattle.job_report.specs.Report.{report_line}
+use Rattle.std.specs.Prelude.{◌≡◌, Option, None, IfSome}
 use Rattle.job_report.specs.declared.report.Report.TheVariants as reports
 use Rattle.job_run.specs.declared.job_stop.JobStop.{JobStop}
 use Rattle.job_run.specs.declared.job_stop.JobStop.TheVariants.{Text, Source, Unread, Missing, OutOfMemory}

@@ -1,4 +1,4 @@
-use Rattle.std.proofs.Common.{ℕ, List, Option, Some, refl, subst, inl}
+use Rattle.std.proofs.Common.{Option, Some, refl, subst, inl}
 use Rattle.job_run.specs.JobTable.{IsJobTable}
 use Rattle.job_run.specs.Stops.{StopsFor}
 use Rattle.remux_core.specs.Answer.{Decides}

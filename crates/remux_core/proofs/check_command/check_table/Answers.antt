@@ -1,4 +1,4 @@
-use Rattle.std.proofs.Common.{◌+◌, ◌∙◌, List, ℕ, Option, Some, None, Err, refl, ap, subst, inl, inr}
+use Rattle.std.proofs.Common.{◌+◌, ◌∙◌, Option, Some, Err, refl, ap, subst, inr}
 use Rattle.bound_certificate.specs.declared.limits.TheConstants.{CERT_BYTES_MOST}
 use Rattle.job_report.specs.declared.report.Report.TheVariants as reports
 use Rattle.job_run.specs.JobTable.{IsJobTable}

@@ -1,4 +1,3 @@
-use Rattle.std.proofs.Common.{true, false}
 use Rattle.remux_core.proofs.WordsSaid.{no_pair}
 use Rattle.remux_core.proofs.command.parse_pair.Goals as goal
 

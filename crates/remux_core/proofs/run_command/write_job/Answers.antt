@@ -1,4 +1,4 @@
-use Rattle.std.proofs.Common.{ℕ, List, Option, Some, Err, refl, ap, inl}
+use Rattle.std.proofs.Common.{Some, Err, refl, ap, inl}
 use Rattle.job_report.specs.declared.report.Report.TheVariants as reports
 use Rattle.job_run.specs.JobTable.{IsJobTable}
 use Rattle.remux_core.specs.declared.status.Status.TheVariants.{WriteFault}
