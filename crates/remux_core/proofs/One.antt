@@ -218,18 +218,6 @@ words_call_for_one laws words files s t a b =
     let same : b.command ≡ a.command = one_command words b.command a.command b.said a.said in
     calls_for_one laws a.command files s t a.called (subst (λ (c : Option Command). CallsFor c files t) same b.called)
 
--- what `run` is called for is one
-abbrev pub RunLaw : Type 0
-RunLaw = (job out certificate : List ℕ) (files : Files) (s t : Status) → RunCallsFor job out certificate files s → RunCallsFor job out certificate files t → IsSameStatus s t
-
--- what `check` is called for is one
-abbrev pub CheckLaw : Type 0
-CheckLaw = (job certificate : List ℕ) (files : Files) (s t : Status) → CheckCallsFor job certificate files s → CheckCallsFor job certificate files t → IsSameStatus s t
-
--- what words and files call for is one
-abbrev pub WordsLaw : Type 0
-WordsLaw = (words : List (List ℕ)) (files : Files) (s t : Status) → WordsCallFor words files s → WordsCallFor words files t → IsSameStatus s t
-
 -- a status that is the same as Ok is Ok
 pub is_ok : (s : Status) → IsSameStatus s statuses.Ok → s ≡ statuses.Ok
 is_ok statuses.Ok same = same
