@@ -92,7 +92,7 @@ fn window(alloc: Global, table: &Table) -> Result<Came, OutOfMemory>
     requires { IsValidTable table.now }
 {
     let fixed = nothing_fixed(alloc, table)?;
-    let found = best_window(table, &fixed)?;
+    let found = best_window(alloc, table, &fixed)?;
     Ok(Came {
         value: window_value(table, &fixed, found.as_slice()),
         windows: found.len(),

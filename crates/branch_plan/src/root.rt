@@ -35,7 +35,7 @@ pub(crate) fn root_windows(
     ensures tried { IfOk result (λ found. BeatEachTried table.now fixed.now (unit_dues table.now) found.items) }
     ensures pairs { IfOk result (λ found. BeatEachPair table.now fixed.now found.items) }
 {
-    let alone = best_window(table, fixed)?;
+    let alone = best_window(alloc, table, fixed)?;
     let pair = best_pair(alloc, table, fixed)?;
     let start = of_greater_value(table, fixed, alone, pair);
     if nodes > NODES_WITH_MANY_WINDOWS_MOST {

@@ -68,18 +68,9 @@ rest-covers sweep step is within own =
     omega (arith, is.rest)
 
 -- all steps that are due by a time are taken
-pub went-on : (place due : ℕ) (sweep : CostSweep) → IsSweep sweep → place < length sweep.steps.items → ((d : CostStep) → due ≡ (get_or sweep.steps.items place d).due)
-    → place ≤ sweep.place → ((k : ℕ) (d : CostStep) → k < sweep.place → (get_or sweep.steps.items k d).due ≤ due)
-    → ((sweep.place < length sweep.steps.items) × ((d : CostStep) → (get_or sweep.steps.items sweep.place d).due ≤ due) → ⊥) → WentOn place due sweep
-went-on place due sweep is within at from by past =
-    let none : CostStep = record { due = 0; from = 0; rise = 0; packets = 0; fewer = 0 } in
-    let more : place < sweep.place = elim (cases_lt place sweep.place) as (λ _. place < sweep.place) [
-      | inl less ↦ less
-      | inr most ↦
-          (let same : place ≡ sweep.place = omega arith in
-          let own : (d : CostStep) → due ≡ (get_or sweep.steps.items sweep.place d).due = subst (λ n. (d : CostStep) → due ≡ (get_or sweep.steps.items n d).due) same at in
-          absurd (past (omega arith, λ d. (let here = own d in omega arith))))
-    ] in
+pub has-reached : (due : ℕ) (sweep : CostSweep) → IsSweep sweep → ((k : ℕ) (d : CostStep) → k < sweep.place → (get_or sweep.steps.items k d).due ≤ due)
+    → ((sweep.place < length sweep.steps.items) × ((d : CostStep) → (get_or sweep.steps.items sweep.place d).due ≤ due) → ⊥) → HasReached due sweep
+has-reached due sweep is by past =
     let next : (d : CostStep) → sweep.place < length sweep.steps.items → due < (get_or sweep.steps.items sweep.place d).due = λ d low.
     elim (cases_lt due (get_or sweep.steps.items sweep.place d).due) as (λ _. due < (get_or sweep.steps.items sweep.place d).due) [
       | inl less ↦ less
@@ -87,16 +78,28 @@ went-on place due sweep is within at from by past =
           absurd (past (low, λ e. (let same = ap (λ (s : CostStep). s.due) (get_or_default sweep.steps.items sweep.place e d low) in omega arith)))
     ] in
     record {
+      by = by;
+      later = λ k d behind low. (let first : due < (get_or sweep.steps.items sweep.place d).due = next d (omega arith) in
+          let order : (get_or sweep.steps.items sweep.place d).due ≤ (get_or sweep.steps.items k d).due = is.order sweep.place k d behind low in
+          omega arith);
+    }
+
+-- the next due time is reached
+pub went-on : (place due : ℕ) (sweep : CostSweep) → IsSweep sweep → place < length sweep.steps.items → ((d : CostStep) → due ≡ (get_or sweep.steps.items place d).due)
+    → HasReached due sweep → WentOn place due sweep
+went-on place due sweep is within at reached =
+    let none : CostStep = record { due = 0; from = 0; rise = 0; packets = 0; fewer = 0 } in
+    let more : place < sweep.place = elim (cases_lt place sweep.place) as (λ _. place < sweep.place) [
+      | inl less ↦ less
+      | inr most ↦
+          absurd (let later : due < (get_or sweep.steps.items place none).due = reached.later place none most within in let own = at none in omega arith)
+    ] in
+    record {
       more = more;
-      reached = record {
-        by = by;
-        later = λ k d behind low. (let first : due < (get_or sweep.steps.items sweep.place d).due = next d (omega arith) in
-            let order : (get_or sweep.steps.items sweep.place d).due ≤ (get_or sweep.steps.items k d).due = is.order sweep.place k d behind low in
-            omega arith);
-      };
+      reached = reached;
       here = λ k d behind low. (let size = is.within in
           let order : (get_or sweep.steps.items place d).due ≤ (get_or sweep.steps.items k d).due = is.order place k d behind (omega arith) in
-          let most : (get_or sweep.steps.items k d).due ≤ due = by k d low in
+          let most : (get_or sweep.steps.items k d).due ≤ due = reached.by k d low in
           let own = at d in
           omega arith);
     }

@@ -76,10 +76,21 @@ impl CostSweep {
             return None;
         }
         let due = due_at(self.steps.as_slice(), self.place);
+        self.go_to(due);
+        Some(due)
+    }
+
+    /// Goes on to a time: behind all steps that are due by it. None of those behind which the sweep stands is due later.
+    pub fn go_to(&mut self, due: u64)
+        requires sweep { IsSweep self.old }
+        requires order { (k : ℕ) (d : Step) → k < self.old.place → (slice_index_or self.old.steps.items k d).due ≤ due }
+        ensures sweep { IsSweep self.new }
+        ensures steps { self.new.steps.items ≡ self.old.steps.items }
+        ensures reached { HasReached due self.new }
+    {
         while self.has_due(due) {
             self.take();
         }
-        Some(due)
     }
 
     /// What all steps come to where packets that are due by the last due time have this price, and the others none.

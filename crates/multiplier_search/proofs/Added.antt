@@ -57,7 +57,7 @@ use Rattle.multiplier_search.specs.Single.{dues_of}
 use Rattle.multiplier_search.proofs.Best.{Contains-one}
 
 -- ---- one unit under one window from time 0 on
-price-alone : (due lambda time : ℕ) → price (alone due lambda) time ≡ cond (nat_le time due) lambda 0
+pub price-alone : (due lambda time : ℕ) → price (alone due lambda) time ≡ cond (nat_le time due) lambda 0
 unfolding price
 price-alone due lambda time = rw (le-leb 0 time (omega arith)) (omega arith)
 

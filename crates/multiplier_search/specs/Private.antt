@@ -1,3 +1,4 @@
 pub mod Lambda
+pub mod Lengths
 pub mod UnitSteps
 pub mod Turns

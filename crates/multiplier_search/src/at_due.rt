@@ -1,12 +1,12 @@
-ghost use Rattle.std.specs.Prelude.{◌≡◌, ◌≤◌, ℕ, List, Option, pos, neg_ℤ, ◌^◌, ◌*ℤ◌, ◌≤ℤ◌};
+ghost use Rattle.std.specs.Prelude.{◌≡◌, ◌<◌, ◌≤◌, ℕ, List, Option, pos, neg_ℤ, ◌^◌, ◌*ℤ◌, ◌≤ℤ◌};
 ghost use Rattle.version_table.specs.declared.table.Table.{Table as TableOfUnits};
 ghost use Rattle.dual_bounds.specs.declared.constants.TheConstants.{LAMBDA_MOST};
 ghost use Rattle.dual_bounds.specs.Room.{room};
 ghost use Rattle.cost_sweep.specs.Sweep.{HasReached, IsSweep};
 ghost use Rattle.multiplier_search.specs.Private.Lambda.{EndsRise, RisesTo, value_at};
-ghost use Rattle.multiplier_search.specs.Private.UnitSteps.{AreStepsOf};
+ghost use Rattle.multiplier_search.specs.Private.UnitSteps.{AreAtWindow, AreFree, AreStepsOf};
 
-use cost_sweep::CostSweep;
+use cost_sweep::{CostSweep, Costs};
 use dual_bounds::constants::LAMBDA_MOST;
 
 /// The least lambda with the greatest value at the last due time of a sweep: values rise up to it and no more, since each
@@ -43,6 +43,58 @@ pub fn swept_value(sweep: &CostSweep, capacity: i64, lambda: u64) -> i128
 {
     let costs = sweep.costs(lambda);
     costs.paid as i128 - costs.spared as i128 - worth_of(capacity, lambda)
+}
+
+/// The least lambda with which the window between two sweeps has the greatest value: the last due time of one is its end, and
+/// that of the other the tick before its beginning. Given are what the units cost where no packet has a price, and its room.
+pub fn between_lambda(last: &CostSweep, before: &CostSweep, free: Costs, capacity: i64) -> u64
+    requires last { IsSweep last.now }
+    requires before { IsSweep before.now }
+    requires paid { free.paid < 2 ^ 110 }
+    requires spared { free.spared < 2 ^ 110 }
+    ensures most { result ≤ LAMBDA_MOST }
+    ensures rises { (table : TableOfUnits) (fixed : List (Option ℕ)) (from due : ℕ) → AreAtWindow table fixed from due last.now before.now
+        → AreFree table fixed due free → capacity ≡ room table from due → RisesTo (value_at table fixed from due) result }
+    ensures ends { (table : TableOfUnits) (fixed : List (Option ℕ)) (from due : ℕ) → AreAtWindow table fixed from due last.now before.now
+        → AreFree table fixed due free → capacity ≡ room table from due → EndsRise (value_at table fixed from due) result }
+{
+    let mut low = 0;
+    let mut high = LAMBDA_MOST;
+    while low < high {
+        let middle = low + (high - low) / 2;
+        let value = between_value(last, before, free, capacity, middle);
+        let next = between_value(last, before, free, capacity, middle + 1);
+        if value < next {
+            low = middle + 1;
+        } else {
+            high = middle;
+        }
+    }
+    low
+}
+
+/// The value of a lambda of the window between two sweeps: what the units cost under it is what they cost under one from time
+/// 0 on to its end, less what they cost under one to the tick before it, and what they cost where no packet has a price.
+pub fn between_value(
+    last: &CostSweep,
+    before: &CostSweep,
+    free: Costs,
+    capacity: i64,
+    lambda: u64,
+) -> i128
+    requires last { IsSweep last.now }
+    requires before { IsSweep before.now }
+    requires paid { free.paid < 2 ^ 110 }
+    requires spared { free.spared < 2 ^ 110 }
+    requires lambda { lambda ≤ LAMBDA_MOST }
+    ensures { (table : TableOfUnits) (fixed : List (Option ℕ)) (from due : ℕ) → AreAtWindow table fixed from due last.now before.now
+        → AreFree table fixed due free → capacity ≡ room table from due → result ≡ value_at table fixed from due lambda }
+{
+    let costs = last.costs(lambda);
+    let early = before.costs(lambda);
+    let added = costs.paid + free.paid + early.spared;
+    let taken = costs.spared + free.spared + early.paid;
+    added as i128 - taken as i128 - worth_of(capacity, lambda)
 }
 
 /// What a capacity is worth.

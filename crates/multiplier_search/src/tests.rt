@@ -63,7 +63,7 @@ fn a_window_that_ends_late_bounds_what_no_multiplier_does(rt: HostRuntime) -> Re
         b"remux table 1\nslot 40000\nnodes 1\nevaluations 0\nprogram 112\nunit 54000000 115000:0 92000:10\n";
     let table = read_table(rt.alloc(), text)?;
     let fixed = nothing_fixed(rt.alloc(), &table)?;
-    let found = best_window(&table, &fixed)?;
+    let found = best_window(rt.alloc(), &table, &fixed)?;
     let best = Window {
         from: 54_000_000,
         due: 54_000_000,

@@ -1,136 +1,174 @@
-ghost use Rattle.std.specs.Prelude.{◌≡◌, ◌≤◌, ◌++◌, List, ℕ, ◌+◌, [], ◌∷◌, length, IfOk, IfSome, ◌≤ℤ◌};
+ghost use Rattle.std.specs.Prelude.{◌≡◌, ◌<◌, ◌≤◌, List, Option, ℕ, ◌+◌, [], ◌∷◌, length, IfOk, ◌≤ℤ◌};
+ghost use Rattle.version_table.specs.declared.table.Table.{Table as TableOfUnits};
 ghost use Rattle.version_table.specs.Table.{IsValidTable, units_of};
 ghost use Rattle.dual_bounds.specs.declared.constants.TheConstants.{LAMBDA_MOST};
 ghost use Rattle.dual_bounds.specs.Fixed.{FixesVersions};
-ghost use Rattle.multiplier_search.specs.Private.Lambda.{Beats, IsBestWindow, IsGreater};
-ghost use Rattle.multiplier_search.specs.Single.{dues_of};
+ghost use Rattle.cost_sweep.specs.Sweep.{HasReached, IsSweep};
+ghost use Rattle.multiplier_search.specs.Private.Lambda.{value_at};
+ghost use Rattle.multiplier_search.specs.Private.Lengths.{HasItsValue, IsBehindBy, Outdoes};
+ghost use Rattle.multiplier_search.specs.Private.UnitSteps.{AreAtWindow, AreStepsOf};
+ghost use Rattle.multiplier_search.specs.Single.{dues_of, value_alone};
 ghost use Rattle.multiplier_search.specs.Windows.{AreSearched, BeatEachTried, IsSound};
 
+use crate::all_steps::sweep_of;
+use crate::at_due::{between_lambda, between_value};
 use crate::constants::{LONG_WINDOW_TICKS, SHORT_WINDOW_TICKS};
-use crate::lambda::{best_lambda, value_at};
-use dual_bounds::{Fixed, Window, Windows};
+use crate::lambda::value_at;
+use crate::single::best_single;
+use cost_sweep::CostSweep;
+use dual_bounds::{Fixed, Multiplier, Window, Windows, window_capacity};
 use list_types::OutOfMemory;
-use version_table::{Table, Unit};
+use std::alloc::Global;
+use version_table::Table;
+
+/// A window and its value alone.
+#[derive(Clone, Copy, Debug, Default, PartialEq)]
+struct ValuedWindow {
+    window: Window,
+    value: i128,
+}
 
 /// At most one window, whose value is at least that of each that is tried alone: at a unit's due time with a lambda from 0
 /// to 2^40, beginning at the start, at the due time, or half a second or two seconds before it. Fails only for want of memory.
-pub fn best_window(table: &Table, fixed: &Fixed) -> Result<Windows, OutOfMemory>
+pub fn best_window(alloc: Global, table: &Table, fixed: &Fixed) -> Result<Windows, OutOfMemory>
     requires valid { IsValidTable table.now }
     requires fixed { FixesVersions table.now fixed.now }
     ensures few { IfOk result (λ found. length found.items ≤ 1) }
     ensures searched { IfOk result (λ found. AreSearched found.items) }
     ensures best { IfOk result (λ found. BeatEachTried table.now fixed.now (dues_of (units_of table.now)) found.items) }
 {
-    let mut best = None;
-    for program in table.programs.as_slice() {
-        let own = best_of_units(table, fixed, program.units.as_slice());
-        best = best_of_both(table, fixed, best, own);
+    let single = best_single(alloc, table, fixed)?;
+    if single.len() == 0 {
+        return Ok(Windows::new());
     }
-    let mut found = Windows::new();
-    if let Some(window) = best {
-        found.push(window);
-    }
-    Ok(found)
+    let start = from_start(table, fixed, single.as_slice()[0]);
+    let late = best_of_length(alloc, table, fixed, 0, start)?;
+    let short = best_of_length(alloc, table, fixed, SHORT_WINDOW_TICKS, late)?;
+    let long = best_of_length(alloc, table, fixed, LONG_WINDOW_TICKS, short)?;
+    Ok(only(long.window))
 }
 
-/// The best window that is tried for these units.
-fn best_of_units(table: &Table, fixed: &Fixed, units: &[Unit]) -> Option<Window>
+/// One window.
+fn only(window: Window) -> Windows
+    ensures { result.items ≡ window ∷ [] }
+{
+    let mut found = Windows::new();
+    found.push(window);
+    found
+}
+
+/// A multiplier as a window from time 0 on, with its value.
+fn from_start(table: &Table, fixed: &Fixed, multiplier: Multiplier) -> ValuedWindow
     requires valid { IsValidTable table.now }
     requires fixed { FixesVersions table.now fixed.now }
-    ensures sound { IfSome result IsSound }
-    ensures best { IsBestWindow table.now fixed.now (dues_of units.now) result }
+    requires lambda { multiplier.lambda ≤ LAMBDA_MOST }
+    ensures sound { IsSound result.window }
+    ensures value { HasItsValue table.now fixed.now result }
+    ensures alone { result.value ≡ value_alone table.now fixed.now multiplier }
 {
-    let mut best = None;
-    for unit in units {
-        let own = best_at(table, fixed, unit.due);
-        best = best_of_both(table, fixed, best, Some(own));
+    let window = Window {
+        from: 0,
+        due: multiplier.due,
+        lambda: multiplier.lambda,
+    };
+    ValuedWindow {
+        window,
+        value: value_at(table, fixed, 0, multiplier.due, multiplier.lambda),
     }
-    best
 }
 
-/// The best of two windows that are the best each for its due times.
-fn best_of_both(
+/// The window of greatest value among one and all that begin so many ticks before a unit's due time, at which they end, and
+/// behind time 0. Fails only for want of memory.
+fn best_of_length(
+    alloc: Global,
     table: &Table,
     fixed: &Fixed,
-    a: Option<Window>,
-    b: Option<Window>,
-) -> Option<Window>
+    ticks: u64,
+    start: ValuedWindow,
+) -> Result<ValuedWindow, OutOfMemory>
     requires valid { IsValidTable table.now }
     requires fixed { FixesVersions table.now fixed.now }
-    requires first { IfSome a IsSound }
-    requires second { IfSome b IsSound }
-    ensures sound { IfSome result IsSound }
-    ensures best { (dues more : List ℕ) → IsBestWindow table.now fixed.now dues a → IsBestWindow table.now fixed.now more b
-        → IsBestWindow table.now fixed.now (dues ++ more) result }
+    requires sound { IsSound start.window }
+    requires valued { HasItsValue table.now fixed.now start }
+    ensures sound { IfOk result (λ best. IsSound best.window) }
+    ensures best { IfOk result (Outdoes table.now fixed.now ticks (dues_of (units_of table.now)) start) }
 {
-    let Some(first) = a else { return b };
-    let Some(second) = b else { return a };
-    Some(greater_of(table, fixed, first, second))
-}
-
-/// The one of two windows that alone has the greater value.
-fn greater_of(table: &Table, fixed: &Fixed, a: Window, b: Window) -> Window
-    requires valid { IsValidTable table.now }
-    requires fixed { FixesVersions table.now fixed.now }
-    requires first { IsSound a }
-    requires second { IsSound b }
-    ensures sound { IsSound result }
-    ensures greater { IsGreater table.now fixed.now a b result }
-{
-    let value = value_at(table, fixed, a.from, a.due, a.lambda);
-    let other = value_at(table, fixed, b.from, b.due, b.lambda);
-    if value < other { b } else { a }
-}
-
-/// The best window that is tried for a due time.
-fn best_at(table: &Table, fixed: &Fixed, due: u64) -> Window
-    requires valid { IsValidTable table.now }
-    requires fixed { FixesVersions table.now fixed.now }
-    ensures sound { IsSound result }
-    ensures best { BeatEachTried table.now fixed.now (due ∷ []) (result ∷ []) }
-{
-    let early = best_from(table, fixed, 0, due);
-    let late = best_from(table, fixed, due, due);
-    let ends = greater_of(table, fixed, early, late);
-    let short = best_before(table, fixed, SHORT_WINDOW_TICKS, due);
-    let long = best_before(table, fixed, LONG_WINDOW_TICKS, due);
-    greater_of(table, fixed, ends, greater_of(table, fixed, short, long))
-}
-
-/// The best window that begins so many ticks before its due time, or the one from time 0 on with the lambda 0 where it would begin
-/// before time 0.
-fn best_before(table: &Table, fixed: &Fixed, ticks: u64, due: u64) -> Window
-    requires valid { IsValidTable table.now }
-    requires fixed { FixesVersions table.now fixed.now }
-    ensures sound { IsSound result }
-    ensures best { (from : ℕ) → from + ticks ≡ due → Beats table.now fixed.now from due result }
-{
-    if ticks <= due {
-        best_from(table, fixed, due - ticks, due)
-    } else {
-        Window {
-            from: 0,
-            due,
-            lambda: 0,
+    let mut last = sweep_of(alloc, table, fixed)?;
+    let mut before = sweep_of(alloc, table, fixed)?;
+    let mut best = start;
+    'dues: loop {
+        match last.next_due() {
+            Some(due) => best = or_at_due(table, &last, &mut before, ticks, due, best),
+            None => return Ok(best),
         }
     }
 }
 
-/// The best window from one time to another.
-fn best_from(table: &Table, fixed: &Fixed, from: u64, due: u64) -> Window
+/// The best so far, or the best window that ends at the last due time of a sweep and begins so many ticks before it, behind
+/// time 0. The other sweep goes on to the tick before it.
+fn or_at_due(
+    table: &Table,
+    last: &CostSweep,
+    before: &mut CostSweep,
+    ticks: u64,
+    due: u64,
+    so_far: ValuedWindow,
+) -> ValuedWindow
     requires valid { IsValidTable table.now }
-    requires fixed { FixesVersions table.now fixed.now }
-    requires order { from ≤ due }
-    ensures sound { IsSound result }
-    ensures best { Beats table.now fixed.now from due result }
+    requires last { IsSweep last.now }
+    requires before { IsSweep before.old }
+    requires behind { IsBehindBy ticks due before.old }
+    requires sound { IsSound so_far.window }
+    ensures before { IsSweep before.new }
+    ensures steps { before.new.steps.items ≡ before.old.steps.items }
+    ensures behind { IsBehindBy ticks due before.new }
+    ensures sound { IsSound result.window }
+    ensures best { (fixed : List (Option ℕ)) → AreStepsOf table.now fixed last.now.steps.items → AreStepsOf table.now fixed before.old.steps.items
+        → HasReached due last.now → HasItsValue table.now fixed so_far → Outdoes table.now fixed ticks (due ∷ []) so_far result }
 {
-    let alone = Window {
-        from,
-        due,
-        lambda: 0,
-    };
-    Window {
-        lambda: best_lambda(table, fixed, &[alone], 0, from, due),
-        ..alone
+    if due <= ticks {
+        return so_far;
+    }
+    let from = due - ticks;
+    before.go_to(from - 1);
+    let own = best_between(table, last, before, from, due);
+    greater_of(so_far, own)
+}
+
+/// The one of two windows of greater value.
+fn greater_of(a: ValuedWindow, b: ValuedWindow) -> ValuedWindow
+    requires first { IsSound a.window }
+    requires second { IsSound b.window }
+    ensures sound { IsSound result.window }
+    ensures first { a.value ≤ℤ result.value }
+    ensures second { b.value ≤ℤ result.value }
+    ensures value { (table : TableOfUnits) (fixed : List (Option ℕ)) → HasItsValue table fixed a → HasItsValue table fixed b → HasItsValue table fixed result }
+{
+    if a.value < b.value { b } else { a }
+}
+
+/// The best window between two sweeps, from one time to another.
+fn best_between(
+    table: &Table,
+    last: &CostSweep,
+    before: &CostSweep,
+    from: u64,
+    due: u64,
+) -> ValuedWindow
+    requires valid { IsValidTable table.now }
+    requires last { IsSweep last.now }
+    requires before { IsSweep before.now }
+    requires order { from ≤ due }
+    ensures sound { IsSound result.window }
+    ensures value { (fixed : List (Option ℕ)) → AreAtWindow table.now fixed from due last.now before.now → HasItsValue table.now fixed result }
+    ensures best { (fixed : List (Option ℕ)) (lambda : ℕ) → AreAtWindow table.now fixed from due last.now before.now → lambda ≤ LAMBDA_MOST
+        → value_at table.now fixed from due lambda ≤ℤ result.value }
+{
+    let free = last.costs(0);
+    let capacity = window_capacity(table, from, due);
+    let lambda = between_lambda(last, before, free, capacity);
+    ValuedWindow {
+        window: Window { from, due, lambda },
+        value: between_value(last, before, free, capacity, lambda),
     }
 }

@@ -10,6 +10,7 @@ use Rattle.dual_bounds.specs.Fixed.{allowed}
 use Rattle.dual_bounds.specs.Values.{least_costs}
 use Rattle.cost_sweep.specs.declared.step.CostStep.{CostStep}
 use Rattle.cost_sweep.specs.declared.sweep.CostSweep.{CostSweep}
+use Rattle.cost_sweep.specs.declared.sweep.Costs.{Costs}
 use Rattle.cost_sweep.specs.Steps.{AreSmall, paid_by, spared_by}
 use Rattle.cost_sweep.specs.Sweep.{HasReached, IsSweep}
 use Rattle.cost_steps.specs.Steps.{TellLeast}
@@ -75,3 +76,16 @@ IsBetterValued a b better = ((better ≡ a) × IsNoWorseValued a b) ⊎ ((better
 abbrev pub IsBestValued : Table → List (Option ℕ) → List ℕ → Option Valued → Type 0
 IsBestValued table fixed dues None = dues ≡ []
 IsBestValued table fixed dues (Some valued) = IsFirstBest table fixed dues valued.multiplier × IsValued table fixed valued
+
+-- one sweep has reached the end of a window, and one over the same units has reached the tick before its beginning
+pub record AreAtWindow (table : Table) (fixed : List (Option ℕ)) (from due : ℕ) (last before : CostSweep) : Type 0 where
+  pub order : from ≤ due
+  pub some : 1 ≤ from
+  pub steps : AreStepsOf table fixed last.steps.items
+  pub early : AreStepsOf table fixed before.steps.items
+  pub reached : HasReached due last
+  pub passed : (time : ℕ) → time + 1 ≡ from → HasReached time before
+
+-- what the units cost at least where no packet has a price
+abbrev pub AreFree : Table → List (Option ℕ) → (due : ℕ) → Costs → Type 0
+AreFree table fixed due free = least_costs (alone due 0) (units_of table) fixed + free.spared ≡ free.paid

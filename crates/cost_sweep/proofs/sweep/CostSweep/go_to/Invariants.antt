@@ -1,13 +1,12 @@
 use Rattle.std.proofs.Common.{◌≡◌, ℕ, ◌-◌, ◌<◌, ◌≤◌, length, get_or}
 use Rattle.cost_sweep.specs.declared.step.CostStep.{CostStep}
 use Rattle.cost_sweep.specs.Sweep.{IsSweep}
-use Rattle.cost_sweep.proofs.sweep.CostSweep.next_due.Given as goal
+use Rattle.cost_sweep.proofs.sweep.CostSweep.go_to.Given as goal
 
 abbrev pub invariant-loop-self : goal.invariant-loop-self
 invariant-loop-self l = record {
   sweep : IsSweep l.self;
   steps : l.self.steps.items ≡ l.fn.self.steps.items;
-  from : l.fn.self.place ≤ l.self.place;
   by : (k : ℕ) (d : CostStep) → k < l.self.place → (get_or l.self.steps.items k d).due ≤ l.due;
 }
 
