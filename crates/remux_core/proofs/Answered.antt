@@ -1,12 +1,10 @@
 -- What follows of a run's outcome.
-use Rattle.std.proofs.Common.{◌≡◌, ◌⊎◌, ◌≤◌, ℕ, ◌+◌, List, Option, Some, None, Bool, true, false, cond, refl, sym, ap, subst, ◌∙◌, inl, inr, arith}
-use Rattle.std.proofs.lemmas.List.{append-nil}
+use Rattle.std.proofs.Common.{◌≡◌, ◌⊎◌, ◌≤◌, ℕ, List, Option, Some, None, Bool, true, false, cond, refl, sym, ap, subst, ◌∙◌, inl, inr}
 use Rattle.std.specs.Ordering.{nat_cmp, eq_by_cmp}
 use Rattle.std.specs.Cmp.{Equal-is, eq_by_cmp_equiv}
 use Rattle.std.specs.Cmp.Lexicographic.{slice_cmp, nat_list_cmp_total}
 use Rattle.std.specs.FinMap.{get, insert, get-insert, slice_cmp-IsAntisymmetric, nat_cmp-IsAntisymmetric}
 use Rattle.shelf_io.specs.Files.{Files}
-use Rattle.shelf_io.specs.Sink.{Told, Bytes, Number, Nothing, AddsPrefix}
 use Rattle.remux_core.specs.declared.status.Status.{Status}
 use Rattle.remux_core.specs.declared.status.Status.TheVariants as statuses
 use Rattle.remux_core.specs.Answer.{Answer, CallsFor, IsDone, Leaves, EndsWithStatus, Decides, HasCause, AnswerHasCause}
@@ -200,12 +198,6 @@ others_stay : (command : Option Command) (old new : Option Files) (answer : Opti
     → OnFiles old new (λ files after. Decides command files answer after) → OnFiles old new (OthersStay command)
 others_stay command old new answer decided =
     on_then old new (λ files after. Decides command files answer after) (OthersStay command) decided (λ files after decides. decides_leaves_others command files after answer decides)
-
--- a sink that wasn't called
-pub adds_none : (told : Told) (piece : List ℕ) → AddsPrefix told told piece
-adds_none (Bytes before) piece = (0, omega arith, ap Bytes (sym (append-nil before)))
-adds_none (Number before) piece = let same : before ≡ before + 0 = omega arith in (0, omega arith, ap Number same)
-adds_none Nothing piece = (0, omega arith, refl)
 
 -- what was performed and reported is the outcome
 pub outcome_of : (words : List (List ℕ)) (old new : ShelfFacts) (out_old out_new : SinkFacts) (answer : Option Answer) (status : Status) → Performs words old new answer

@@ -4,7 +4,7 @@ use Rattle.shelf_io.specs.Sink.{with_bytes, AddsPrefix}
 use Rattle.remux_core.specs.declared.status.Status.TheVariants.{WriteFault, OutOfMemory}
 use Rattle.remux_core.specs.Outside.{shelf_facts, sink_facts}
 use Rattle.remux_core.specs.Private.Ended.{answer_of}
-use Rattle.remux_core.proofs.Answered.{adds_none, as_called, outcome_of}
+use Rattle.remux_core.proofs.Answered.{as_called, outcome_of}
 use Rattle.remux_core.proofs.One.{Laws}
 use Rattle.remux_core.proofs.top_call.run.Goals as goal
 
@@ -14,14 +14,6 @@ returns-in_default-clause-outcome g c =
     let sink = sink_facts g.O.Sink.written g.O.Sink.faults g.O.Sink.since_fault c.args.out.now in
     outcome_of (map string_bytes c.args.words.now) (shelf c.args.shelf.now) (shelf c.perform.new.shelf) sink sink None OutOfMemory
     c.in_default.ensures (refl, refl) (omega arith)
-
-pub returns-in_default-jobs_call_for_one-clause-outcome : goal.returns-in_default-jobs_call_for_one-clause-outcome
-returns-in_default-jobs_call_for_one-clause-outcome g c =
-    let ended = c.in-Some.ended in
-    let shelf = shelf_facts g.K.Shelf.files g.K.Shelf.counts g.K.Shelf.asked g.K.Shelf.since_fault in
-    let sink = sink_facts g.O.Sink.written g.O.Sink.faults g.O.Sink.since_fault c.args.out.now in
-    outcome_of (map string_bytes c.args.words.now) (shelf c.args.shelf.now) (shelf c.perform.new.shelf) sink sink
-    (answer_of (Some ended)) OutOfMemory c.in-Some.ensures (inr (adds_none (g.O.Sink.written c.args.out.now) ended.line.items)) (omega arith)
 
 pub returns-in-Ok-clause-outcome : goal.returns-in-Ok-clause-outcome
 returns-in-Ok-clause-outcome g c =
