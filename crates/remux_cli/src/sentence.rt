@@ -25,8 +25,8 @@ pub fn print_sentence<R: Eprint>(rt: &R, words: &[String], status: &Status) -> i
             "remux: {first} or a file that it names can't be read; is it a file that you may read?"
         ),
         Status::WriteFault => eprintln!(rt;
-            "remux: a file of the command or standard output can't be written, and may hold a front of its content alone; is \
-             there room, and may you write there?"
+            "remux: {last}, another file of the command or standard output can't be written, and may hold a front of its \
+             content alone; is there room, and may you write there?"
         ),
         Status::CertRefused(refusal) => print_certificate(rt, last, refusal),
         Status::Missing => eprintln!(rt;
