@@ -28,4 +28,6 @@ returns-in-Ok-clause-plan c =
       tried = is.tried;
       pairs = is.pairs;
       no_worse = is.no_worse;
+      alone = is.alone;
+      rounds = is.rounds;
     }
