@@ -2,6 +2,7 @@ ghost use Rattle.std.specs.Prelude.{◌≤◌, length};
 ghost use Rattle.std.specs.Option.{option_copied};
 ghost use Rattle.picture_grammar.specs.Picture.{MayPrecede};
 
+use crate::rewrite::{Rewritten, rewrite_picture};
 use crate::totals::differ;
 use arrayvec::ArrayVec;
 use list_types::ListOf;
@@ -22,6 +23,7 @@ pub enum Task {
     Last,
     Write,
     Compare,
+    Rewrite,
 }
 
 impl Task {
@@ -32,6 +34,7 @@ impl Task {
             "last" => Task::Last,
             "write" => Task::Write,
             "compare" => Task::Compare,
+            "rewrite" => Task::Rewrite,
             _ => Task::Read,
         }
     }
@@ -63,6 +66,7 @@ pub fn made_of(
             Ok(of_sizes(alloc, sizes, false))
         }
         Task::Compare => compared(alloc, unit, before, ratios),
+        Task::Rewrite => written_again(alloc, unit, before),
         Task::Last => last_version(alloc, unit, before, ratios),
         Task::Write => last_version(alloc, unit, before, ratios),
     }
@@ -93,6 +97,33 @@ fn compared(
     Ok(of_sizes(alloc, sizes, differs))
 }
 
+/// The picture written and read again.
+fn written_again(
+    alloc: Global,
+    unit: &[u8],
+    before: Option<&SeqState>,
+) -> Result<Made, PictureFault>
+    requires unit { length unit.now ≤ UNIT_BYTES_MOST }
+    requires before { MayPrecede (option_copied before) }
+{
+    let Rewritten { bytes, differs } = rewrite_picture(alloc, unit, before)?;
+    Ok(Made {
+        sizes: only_size(bytes.len()),
+        bytes,
+        differs,
+    })
+}
+
+/// One size, of bytes alone.
+fn only_size(bytes: usize) -> ArrayVec<VersionSize, VERSIONS_MOST> {
+    let mut sizes = ArrayVec::new();
+    sizes.push(VersionSize {
+        bytes: bytes as u64,
+        distortion: 0,
+    });
+    sizes
+}
+
 /// The version at the last ratio, or version 0 where there is none.
 fn last_version(
     alloc: Global,
@@ -105,13 +136,8 @@ fn last_version(
 {
     let index = ratios.len() as u8;
     let bytes = version_of(alloc, unit, before, ratios.as_slice(), index)?;
-    let mut sizes = ArrayVec::new();
-    sizes.push(VersionSize {
-        bytes: bytes.len() as u64,
-        distortion: 0,
-    });
     Ok(Made {
-        sizes,
+        sizes: only_size(bytes.len()),
         bytes,
         differs: false,
     })

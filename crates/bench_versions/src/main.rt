@@ -4,11 +4,14 @@
 //! The words are what is done, the stream's file, for `write` the file that is written, and ratios in sixteenths, at most
 //! seven. `read` goes through each unit with `check_picture` alone; `sizes` asks `sizes_of` too; `last` makes the version at
 //! the last ratio by `version_of`, or version 0 where there is no ratio; `write` writes that; `compare` makes all versions
-//! and compares them with what `sizes_of` says. It prints how many units were taken, the first refusal or difference, and
-//! the bytes and the distortion of each version over all units.
+//! and compares them with what `sizes_of` says; `rewrite` reads each picture, writes it with `write_picture` and reads that
+//! again. It prints how many units were taken, the first refusal, how many differ and the first of them, and the bytes and
+//! the distortion of each version over all units, or the bytes that were written.
 #![tactic(auto)]
 
 mod made;
+mod rewrite;
+mod same;
 mod stream;
 mod totals;
 
@@ -26,7 +29,7 @@ fn main(rt: HostRuntime) -> io::Result<()> {
     }
     let [what, from, rest @ ..] = words.as_slice() else {
         return println!(rt;
-            "bench_versions read|sizes|last|compare STREAM [RATIO ..], or write STREAM OUT [RATIO ..]"
+            "bench_versions read|sizes|last|compare|rewrite STREAM [RATIO ..], or write STREAM OUT [RATIO ..]"
         );
     };
     let task = Task::named(what.as_str());
@@ -40,7 +43,10 @@ fn main(rt: HostRuntime) -> io::Result<()> {
     if let Some(fault) = made.refused {
         println!(rt; "the next one is refused: {fault}")?;
     }
-    println!(rt; "{} units whose sizes differ", made.different)?;
+    println!(rt; "{} units that differ", made.different)?;
+    if let Some(number) = made.first_different {
+        println!(rt; "the first of them is unit {number}")?;
+    }
     for number in 0..made.totals.count() {
         let size = made.totals.size(number);
         println!(rt; "{} bytes, distortion {}", size.bytes, size.distortion)?;

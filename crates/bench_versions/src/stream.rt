@@ -17,8 +17,10 @@ pub struct StreamMade {
     pub taken: u64,
     /// Why the next unit wasn't taken.
     pub refused: Option<PictureFault>,
-    /// How many units have sizes that aren't those of their versions.
+    /// How many units have sizes that aren't those of their versions, or another tree once they are written.
     pub different: u64,
+    /// The number of the first of these.
+    pub first_different: Option<u64>,
     pub totals: Totals,
     pub bytes: Vec<u8>,
 }
@@ -35,6 +37,7 @@ pub fn stream_of(
         taken: 0,
         refused: None,
         different: 0,
+        first_different: None,
         totals: Totals::new(),
         bytes: Vec::new(alloc),
     };
@@ -80,10 +83,11 @@ fn one_more(
         return Err(PictureFault::OutOfMemory);
     }
     made.totals.add(one.sizes.as_slice());
-    made.taken = made.taken.wrapping_add(1);
     if one.differs {
         made.different = made.different.wrapping_add(1);
+        made.first_different = Some(made.first_different.unwrap_or(made.taken));
     }
+    made.taken = made.taken.wrapping_add(1);
     Ok(behind)
 }
 

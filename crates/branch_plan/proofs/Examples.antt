@@ -1,6 +1,7 @@
 -- Worked examples, by hand: three units of two versions in slots of 4,000 ticks, due at 27,200, 43,200 and 47,200, by which 2, 6 and 7
 -- packets can be sent; and trees of few nodes.
-use Rattle.std.proofs.Common.{◌≡◌, ℕ, [], ◌∷◌, refl}
+use Rattle.std.proofs.Common.{◌≡◌, ℕ, zero, suc, nat_le, [], ◌∷◌, refl, arith}
+use Rattle.std.specs.List.Sorted.{IsSortedBy}
 use Rattle.version_table.specs.declared.table.Unit.{Unit as CodedUnit}
 use Rattle.version_table.specs.declared.table.Table.{Table}
 use Rattle.dual_bounds.specs.Bounds.{bound_of_value}
@@ -9,7 +10,7 @@ use Rattle.dual_bounds.specs.Values.{price, least_cost, least_costs, worth, valu
 use Rattle.bound_certificate.specs.declared.cert.Node.TheVariants.{Branch, Open}
 use Rattle.certificate_checker.specs.Shown.{fix, unfixed}
 use Rattle.branch_plan.specs.Changes.{change_count}
-use Rattle.branch_plan.specs.Tree.{HasLeaf, here, below, in_first, nodes_of_whole_tree, version_counts}
+use Rattle.branch_plan.specs.Tree.{AreEnough, HasLeaf, here, below, in_first, nodes_of_whole_tree, version_counts}
 
 abbrev coded : (due distortion : ℕ) → CodedUnit
 coded due distortion = record {
@@ -46,6 +47,32 @@ whole_tree_of_two = refl
 
 whole_tree_of_none : nodes_of_whole_tree [] ≡ 1
 whole_tree_of_none = refl
+
+-- a unit of two versions and one of three: branched on the three first, the whole tree has 1 and 3 and 6 nodes, and 10 are enough
+abbrev two_and_three : Table
+two_and_three = record {
+  slot = 4000;
+  nodes = 10;
+  evaluations = 0;
+  programs = record {
+    vbv = 112;
+    units =
+        coded 27200 10
+        ∷ record {
+          due = 43200;
+          versions = record { items = record { bytes = 552; distortion = 0 } ∷ record { bytes = 368; distortion = 4 } ∷ record { bytes = 184; distortion = 8 } ∷ [] };
+        }
+        ∷ [];
+    audios = [];
+  } ∷ [];
+}
+
+falling : IsSortedBy (λ a b. nat_le (suc b) a) (3 ∷ 2 ∷ [])
+falling zero d low high = refl
+falling (suc k) d low high = absurd (omega (arith, high))
+
+enough_for_two_and_three : AreEnough two_and_three 10
+enough_for_two_and_three = (3 ∷ 2 ∷ [], record { moves = (0, 1) ∷ []; below = (omega arith, omega arith, tt); is = refl }, falling, omega arith)
 
 -- in the first child of a branch on unit 0 its version 0 is fixed
 first_leaf : HasLeaf three_units Open (fix 0 0 (unfixed three_units)) (unfixed three_units) (Branch 0 ∷ Open ∷ Open ∷ [])

@@ -17,7 +17,6 @@ use Rattle.multiplier_search.specs.Single.{IsBestSingle, IsFirstBest, IsNoWorse,
 use Rattle.multiplier_search.specs.Turns.{BeatAdditions}
 use Rattle.multiplier_search.specs.Windows.{AreSearched, BeatEachTried}
 use Rattle.bound_certificate.specs.declared.cert.Cert.{Cert}
-use Rattle.bound_certificate.specs.declared.cert.Node.{Node}
 use Rattle.bound_certificate.specs.declared.cert.Node.TheVariants.{Window}
 use Rattle.certificate_checker.specs.Shown.{unfixed}
 use Rattle.certificate_checker.specs.Faults.{AreRight, IsHeadRight}
@@ -37,12 +36,6 @@ searched_right windows searched = (searched.rise, (λ k d low. (searched.sound k
 root_shows : (table : Table) (priced : ArrayVec PricedWindow) → AreSearched priced.items
     → Walks table (unfixed table) (Window priced ∷ []) (Shows (Some (bound_of_value (value_of_windows table (unfixed table) priced.items))) [])
 root_shows table priced searched = leaf (unfixed table) (Window priced) [] tt (searched_right priced.items searched)
-
-pub shows_its_bound : (table : Table) (cert : Cert) (priced : ArrayVec PricedWindow) → cert.nodes ≡ Window priced ∷ [] → AreSearched priced.items
-    → cert.bound ≡ bound_of_value (value_of_windows table (unfixed table) priced.items) → ShowsItsBound table cert
-shows_its_bound table cert priced nodes searched bound =
-    subst (λ (ns : List Node). Walks table (unfixed table) ns (Shows (Some cert.bound) [])) (sym nodes)
-    (subst (λ (n : ℕ). Walks table (unfixed table) (Window priced ∷ []) (Shows (Some n) [])) (sym bound) (root_shows table priced searched))
 
 -- a certificate that shows its bound has no fault, where its head has none
 pub faultless : (table : Table) (cert : Cert) → IsHeadRight table cert → ShowsItsBound table cert → IsFaultless table cert

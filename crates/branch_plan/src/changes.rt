@@ -202,7 +202,7 @@ fn try_change(table: &Table, run: &mut SlotRun<'_>, known: Known, place: usize, 
 }
 
 /// A choice with another version of one unit.
-fn put(choice: Choice, place: usize, k: u8) -> Choice
+pub(crate) fn put(choice: Choice, place: usize, k: u8) -> Choice
     requires { place < length choice }
     ensures { result ≡ slice_set choice place k }
 {
@@ -212,7 +212,7 @@ fn put(choice: Choice, place: usize, k: u8) -> Choice
 }
 
 /// A unit by its number over all programs in order.
-fn unit_at(table: &Table, place: usize) -> &Unit
+pub(crate) fn unit_at(table: &Table, place: usize) -> &Unit
     requires { place < length (units_of table.now) }
     ensures { result.now ≡ unit_at table.now place }
 {

@@ -4,9 +4,18 @@
 //! on `multiplier_search`, `certificate_checker` and those below them.
 #![tactic(auto)]
 
+mod arena;
+mod branching;
 mod changes;
+mod children;
+mod corners;
+mod filled;
+mod filling;
+mod free;
 mod known;
+mod leaves;
 pub mod limits;
+mod open;
 mod planner;
 mod root;
 

@@ -1,4 +1,4 @@
-ghost use Rattle.std.specs.Prelude.{◌≡◌, ◌≤◌, All, length, IfOk, IfErr, OnOk};
+ghost use Rattle.std.specs.Prelude.{◌≡◌, ◌≢◌, ◌≤◌, ◌↔◌, All, length, IfOk, IfErr, OnOk};
 ghost use Rattle.version_table.specs.Table.{IsValidTable};
 ghost use Rattle.version_table.specs.declared.limits.TheConstants.{EVALUATIONS_MOST, NODES_MOST};
 ghost use Rattle.bound_certificate.specs.Reading.{IsWritable};
@@ -6,15 +6,20 @@ ghost use Rattle.certificate_checker.specs.Checked.{IsFaultless};
 ghost use Rattle.certificate_checker.specs.Faults.{IsHeadRight};
 ghost use Rattle.branch_plan.specs.Bound.{HaveFewWindows, IsAtLeastEachPair, IsAtLeastEachTried};
 ghost use Rattle.branch_plan.specs.Changes.{EndsBestAlone, GainsByRounds};
+ghost use Rattle.branch_plan.specs.declared.planner.Search.TheVariants.{Budget, Optimal};
 ghost use Rattle.branch_plan.specs.Plan.{BoundsAll, IsMissOfSmallest, IsNoWorse, SaysOptimal, ShowsItsBound, SmallestIsScheduled};
-ghost use Rattle.branch_plan.specs.Tree.{BranchesOnMany};
+ghost use Rattle.branch_plan.specs.Tree.{AreEnough, BranchesOnMany, IsSpent};
 
+use crate::arena::in_order;
+use crate::branching::{Ended, branched};
 use crate::changes::after_changes;
+use crate::filled::by_filling;
+use crate::free::free_runs;
 use crate::known::best_premise;
-use crate::root::{root_bound, root_windows};
-use bound_certificate::{Cert, Node};
+use crate::root::root_windows;
+use bound_certificate::Cert;
 use dual_bounds::nothing_fixed;
-use list_types::{ListOf, OutOfMemory};
+use list_types::OutOfMemory;
 use slot_rule::{Miss, SlotRun};
 use std::alloc::Global;
 use thiserror::Error;
@@ -89,6 +94,8 @@ pub fn plan(
     ensures few_nodes { IfOk result (λ planned. length planned.cert.nodes ≤ nodes) }
     ensures few_windows { IfOk result (λ planned. HaveFewWindows nodes planned.cert.nodes) }
     ensures branches { IfOk result (λ planned. All (BranchesOnMany table.now) planned.cert.nodes) }
+    ensures spent { IfOk result (λ planned. planned.search ≡ Budget → IsSpent table.now nodes planned.cert) }
+    ensures enough { AreEnough table.now nodes → IfOk result (λ planned. planned.search ≡ Optimal) }
 
     // How good bound and choice are at least.
     ensures tried { IfOk result (λ planned. IsAtLeastEachTried table.now planned.cert.bound) }
@@ -99,17 +106,19 @@ pub fn plan(
 {
     let mut run = SlotRun::new(alloc, table)?;
     let premise = best_premise(alloc, table, &mut run)?;
-    let known = after_changes(table, &mut run, premise, evaluations);
     let fixed = nothing_fixed(alloc, table)?;
     let windows = root_windows(alloc, table, &fixed, nodes)?;
-    let bound = root_bound(table, &fixed, &windows, &known);
-    let mut tree = ListOf::new(alloc);
-    tree.push(Node::Window { with: windows })?;
-    let search = if bound == known.distortion {
-        Search::Optimal
-    } else {
-        Search::Budget
-    };
+    let ended = branched(alloc, table, &mut run, premise, windows, nodes)?;
+    let tree = in_order(alloc, &ended.arena)?;
+    let Ended {
+        arena: _,
+        bound,
+        known: first,
+    } = ended;
+    let free = free_runs(table, fixed.len(), evaluations);
+    let filled = by_filling(alloc, table, &mut run, first, free)?;
+    let known = after_changes(table, &mut run, filled.known, evaluations - filled.used);
+    let search = ended_by(bound, known.distortion);
     Ok(Planned {
         cert: Cert {
             version: 2,
@@ -120,4 +129,16 @@ pub fn plan(
         },
         search,
     })
+}
+
+/// What ended a search: the bound that has come up to the distortion, or a budget.
+fn ended_by(bound: u64, distortion: u64) -> Search
+    ensures optimal { (result ≡ Optimal) ↔ (bound ≡ distortion) }
+    ensures budget { result ≡ Budget → bound ≢ distortion }
+{
+    if bound == distortion {
+        Search::Optimal
+    } else {
+        Search::Budget
+    }
 }

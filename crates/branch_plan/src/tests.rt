@@ -1,5 +1,5 @@
 ghost use Rattle.std.specs.Prelude.{◌≤◌};
-ghost use Rattle.version_table.specs.declared.limits.TheConstants.{EVALUATIONS_MOST};
+ghost use Rattle.version_table.specs.declared.limits.TheConstants.{EVALUATIONS_MOST, NODES_MOST};
 
 use crate::{PlanFault, Search, plan};
 use slot_rule::Miss;
@@ -92,6 +92,16 @@ fn a_single_change_makes_a_plan_the_best(rt: HostRuntime) -> Result<(), Fail> {
 }
 
 #[test]
+fn one_run_fills_the_room(rt: HostRuntime) -> Result<(), Fail> {
+    let came = Came {
+        bound: 10,
+        distortion: 10,
+        search: Search::Optimal,
+    };
+    assert_plan(&rt, rt.alloc(), TWO_UNITS, 1, &[1, 0], came)
+}
+
+#[test]
 fn with_runs_enough_no_change_is_left_that_helps(rt: HostRuntime) -> Result<(), Fail> {
     let came = Came {
         bound: 10,
@@ -138,4 +148,66 @@ fn a_smallest_choice_that_misses_is_told(rt: HostRuntime) -> Result<(), Fail> {
         _other => assert_eq!(rt; 0, 1),
     }
     Ok(())
+}
+
+/// Asserts what the plan of a table's text comes to, with at most so many nodes and no evaluations, and how many nodes it has.
+fn assert_branched(
+    rt: &impl Abort,
+    alloc: Global,
+    text: &[u8],
+    nodes: u32,
+    came: Came,
+    made: usize,
+) -> Result<(), Fail>
+    requires some { 1 ≤ nodes }
+    requires few { nodes ≤ NODES_MOST }
+{
+    let table = read_table(alloc, text)?;
+    let planned = plan(alloc, &table, nodes, 0)?;
+    let cert = &planned.cert;
+    assert_eq!(rt; cert.choice.as_slice(), [1].as_slice());
+    let is = Came {
+        bound: cert.bound,
+        distortion: cert.distortion,
+        search: planned.search,
+    };
+    assert_eq!(rt; is, came);
+    assert_eq!(rt; cert.nodes.len(), made);
+    Ok(())
+}
+
+/// One unit of three versions, of which the first can't be sent in time.
+const THREE_VERSIONS: &[u8] =
+    b"remux table 1\nslot 1080\nnodes 4\nevaluations 0\nprogram 112\nunit 36936 2024:0 1840:9 920:40\n";
+
+#[test]
+fn a_branch_shows_that_a_plan_is_the_best(rt: HostRuntime) -> Result<(), Fail> {
+    let came = Came {
+        bound: 9,
+        distortion: 9,
+        search: Search::Optimal,
+    };
+    assert_branched(&rt, rt.alloc(), THREE_VERSIONS, 4, came, 4)
+}
+
+#[test]
+fn too_few_nodes_for_a_branch_leave_one(rt: HostRuntime) -> Result<(), Fail> {
+    let came = Came {
+        bound: 0,
+        distortion: 9,
+        search: Search::Budget,
+    };
+    assert_branched(&rt, rt.alloc(), THREE_VERSIONS, 3, came, 1)
+}
+
+#[test]
+fn a_branch_closes_what_a_window_leaves(rt: HostRuntime) -> Result<(), Fail> {
+    let text =
+        b"remux table 1\nslot 40000\nnodes 1\nevaluations 0\nprogram 112\nunit 54000000 115000:0 92000:10\n";
+    let came = Came {
+        bound: 10,
+        distortion: 10,
+        search: Search::Optimal,
+    };
+    assert_branched(&rt, rt.alloc(), text, 3, came, 3)
 }

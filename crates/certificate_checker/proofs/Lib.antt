@@ -1,7 +1,10 @@
+pub mod DueOrder
 pub mod Examples
 pub mod Nodes
+pub mod OrderCosts
 pub mod Outcomes
 pub mod Paths
+pub mod PriceLaws
 pub mod Soundness
 pub mod Steps
 pub mod Units

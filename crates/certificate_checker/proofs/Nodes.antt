@@ -18,10 +18,10 @@ use Rattle.certificate_checker.proofs.Paths.{stops_whole}
 abbrev pub IsAllOf : Table → (all : List Node) → Path → (left : List Node) → Type 0
 IsAllOf table all path left = (whole : Walked) → Ahead table path left whole → Walks table (unfixed table) all whole
 
-pub at_first : (table : Table) (all : List Node) (path : Path) → path.fixed ≡ unfixed table → path.branches.items ≡ [] → IsAllOf table all path all
+pub at_first : (table : Table) (all : List Node) (path : Path) → path.fixed.items ≡ unfixed table → path.branches.items ≡ [] → IsAllOf table all path all
 at_first table all path fixed branches whole (walked, walks, completes) =
     let here : Walks table (unfixed table) all walked = subst (λ (f : List (Option ℕ)). Walks table f all walked) fixed walks in
-    let same : walked ≡ whole = subst (λ (bs : List OpenBranch). Resumes table path.fixed (reverse bs) walked whole) branches completes in
+    let same : walked ≡ whole = subst (λ (bs : List OpenBranch). Resumes table path.fixed.items (reverse bs) walked whole) branches completes in
     subst (λ (w : Walked). Walks table (unfixed table) all w) same here
 
 pub one_more : (table : Table) (all : List Node) (old new : Path) (at : ℕ) (node : Node) → at < length all → node ≡ get_or all at node → IsAllOf table all old (drop at all)
@@ -38,13 +38,13 @@ whole_shown table all old new at node shown within is ahead taken =
     ahead (Shows shown rest) (subst (λ (ns : List Node). Ahead table old ns (Shows shown rest)) (sym split) (taken rest))
 
 pub wrong_in : (table : Table) (all : List Node) (path : Path) (at : ℕ) (node : Node) (why : Why) → at < length all → node ≡ get_or all at node → IsAllOf table all path (drop at all)
-    → IsFirstOfNode table path.fixed node why → IsFaultIn table all (record { node = at; why = why })
+    → IsFirstOfNode table path.fixed.items node why → IsFaultIn table all (record { node = at; why = why })
 wrong_in table all path at node why within is ahead first =
     let rest : List Node = drop (at + 1) all in
     let split : drop at all ≡ node ∷ rest = drop_more all at node within ∙ ap (λ (n : Node). n ∷ rest) (sym is) in
     let stopped : Walked = Stops why (suc (length rest)) in
     let here : Ahead table path (node ∷ rest) stopped =
-    (stopped, wrong path.fixed node rest why first, stops_whole table path.fixed (reverse path.branches.items) why (suc (length rest))) in (
+    (stopped, wrong path.fixed.items node rest why first, stops_whole table path.fixed.items (reverse path.branches.items) why (suc (length rest))) in (
       suc (length rest),
       ahead stopped (subst (λ (ns : List Node). Ahead table path ns stopped) (sym split) here),
       omega (arith, length-drop (at + 1) all, within),
@@ -55,5 +55,5 @@ pub missing_in : (table : Table) (all : List Node) (path : Path) (at n : ℕ) �
 missing_in table all path at n past is ahead =
     let none : drop at all ≡ [] = drop_all at all past in
     let stopped : Walked = Stops whys.NoNode 0 in
-    let here : Ahead table path [] stopped = (stopped, missing path.fixed, stops_whole table path.fixed (reverse path.branches.items) whys.NoNode 0) in
+    let here : Ahead table path [] stopped = (stopped, missing path.fixed.items, stops_whole table path.fixed.items (reverse path.branches.items) whys.NoNode 0) in
     (0, ahead stopped (subst (λ (ns : List Node). Ahead table path ns stopped) (sym none) here), omega (arith, is))

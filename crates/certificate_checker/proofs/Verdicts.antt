@@ -1,40 +1,34 @@
 -- What is answered of a whole certificate whose head is right.
 use Rattle.std.proofs.Common.{◌≡◌, ℕ, ◌-◌, ◌<◌, ◌≤◌, List, [], length, drop, reverse, replicate, Option, None, refl, sym, ap, subst, ◌∙◌, arith}
-use Rattle.std.proofs.lemmas.List.{drop_all, length-drop, length-map}
+use Rattle.std.proofs.lemmas.List.{drop_all, length-drop, length-replicate}
 use Rattle.version_table.specs.declared.table.Table.{Table}
 use Rattle.version_table.specs.Table.{units_of}
-use Rattle.dual_bounds.specs.Fixed.{FixesVersions, NamesVersion}
+use Rattle.dual_bounds.specs.Fixed.{FixesVersions}
 use Rattle.bound_certificate.specs.declared.cert.Cert.{Cert}
 use Rattle.bound_certificate.specs.declared.cert.Node.{Node}
 use Rattle.certificate_checker.specs.declared.path.OpenBranch.{OpenBranch}
 use Rattle.certificate_checker.specs.declared.path.Path.{Path}
 use Rattle.certificate_checker.specs.declared.why.CertFault.{CertFault}
 use Rattle.certificate_checker.specs.declared.why.Why.TheVariants as whys
-use Rattle.certificate_checker.specs.Shown.{choice_left, unfixed, version_left}
+use Rattle.certificate_checker.specs.Shown.{choice_left, unfixed}
 use Rattle.certificate_checker.specs.Faults.{IsHeadRight}
 use Rattle.certificate_checker.specs.Walk.{Shows, Stops, Walks}
 use Rattle.certificate_checker.specs.Checked.{IsAtMost, IsFaultless, IsFirstFault, behind_tree, in_bound, in_tree}
-use Rattle.certificate_checker.specs.Private.Paths.{AreOpen, HasRoomFor, IsFaultIn, IsPath}
-use Rattle.certificate_checker.proofs.Units.{all_zip_size, fixes_nothing, unfixed_is, zeros_left}
+use Rattle.certificate_checker.specs.Private.Paths.{AreOpen, HasRoomFor, IsFaultIn, IsPath, KeepsRoom}
+use Rattle.certificate_checker.proofs.Units.{fixes_nothing, unfixed_is, zeros_left}
 
 -- ---- a path that is cleared
-pub cleared_fixed : (table : Table) (old new : Path) → length old.fixed ≡ length (units_of table) → new.fixed ≡ replicate {A = Option ℕ} (length old.fixed) None → new.fixed ≡ unfixed table
-cleared_fixed table old new size fixed = fixed ∙ ap (λ (n : ℕ). replicate {A = Option ℕ} n None) size ∙ unfixed_is (units_of table)
+pub cleared_fixed : (table : Table) (path : Path) (units : ℕ) → units ≡ length (units_of table) → path.fixed.items ≡ replicate {A = Option ℕ} units None → path.fixed.items ≡ unfixed table
+cleared_fixed table path units size fixed = fixed ∙ ap (λ (n : ℕ). replicate {A = Option ℕ} n None) size ∙ unfixed_is (units_of table)
 
-pub cleared_path : (table : Table) (old new : Path) → length old.fixed ≡ length (units_of table) → HasRoomFor new → new.fixed ≡ replicate {A = Option ℕ} (length old.fixed) None
-    → new.choice ≡ replicate (length old.fixed) 0 → new.branches.items ≡ [] → IsPath table new
-cleared_path table old new size room fixed choice branches = record {
-  fixes = subst (λ (f : List (Option ℕ)). FixesVersions table f) (sym (cleared_fixed table old new size fixed)) (fixes_nothing (units_of table));
-  choice = choice ∙ zeros_left (length old.fixed) ∙ ap choice_left (sym fixed);
-  are_open = subst (λ (bs : List OpenBranch). AreOpen table new.fixed (reverse bs)) (sym branches) tt;
-  room = room.1;
+pub cleared_path : (table : Table) (old new : Path) (units : ℕ) → units ≡ length (units_of table) → HasRoomFor (length (units_of table)) old → KeepsRoom old new
+    → new.fixed.items ≡ replicate {A = Option ℕ} units None → new.choice.items ≡ replicate units 0 → new.branches.items ≡ [] → IsPath table new
+cleared_path table old new units size room keeps fixed choice branches = record {
+  fixes = subst (λ (f : List (Option ℕ)). FixesVersions table f) (sym (cleared_fixed table new units size fixed)) (fixes_nothing (units_of table));
+  choice = choice ∙ zeros_left units ∙ ap choice_left (sym fixed);
+  are_open = subst (λ (bs : List OpenBranch). AreOpen table new.fixed.items (reverse bs)) (sym branches) tt;
+  room = omega (arith, room.2, keeps.2, size, ap length fixed, length-replicate {A = Option ℕ} units None);
 }
-
-pub path_room : (table : Table) (path : Path) → IsPath table path → HasRoomFor path
-path_room table path is = (ap length is.choice ∙ length-map path.fixed version_left, is.room)
-
-pub path_size : (table : Table) (old new : Path) → length old.fixed ≡ length (units_of table) → IsPath table new → length new.fixed ≡ length old.fixed
-path_size table old new size is = all_zip_size NamesVersion (units_of table) new.fixed is.fixes ∙ sym size
 
 -- ---- what is answered
 pub fault_in_tree : (table : Table) (cert : Cert) (nodes : List Node) (fault : CertFault) → nodes ≡ cert.nodes → IsHeadRight table cert → IsFaultIn table nodes fault → IsFirstFault table cert fault

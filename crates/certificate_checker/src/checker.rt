@@ -1,73 +1,67 @@
-ghost use Rattle.std.specs.Prelude.{ℕ, ◌≡◌, ◌^◌, ◌<◌, ◌≤◌, ◌↔◌, List, [], length, replicate, IfOk, IfErr, OnOk, IsTrue, MatchOption, Ok, Err, None};
+ghost use Rattle.std.specs.Prelude.{ℕ, ◌≡◌, ◌^◌, ◌<◌, ◌≤◌, ◌↔◌, List, [], length, replicate, IfOk, IfErr, OnOk, IsTrue, MatchOption, Ok, Err, None, vec_capacity};
 ghost use Rattle.version_table.specs.Choice.{Fits, distortion_of_choice};
 ghost use Rattle.version_table.specs.Table.{IsValidTable, units_of};
 ghost use Rattle.slot_rule.specs.Schedule.{IsScheduled};
 ghost use Rattle.certificate_checker.specs.Checked.{IsAtMost, IsFaultless, IsFirstFault};
 ghost use Rattle.certificate_checker.specs.Faults.{IsFirstOfHead, IsHeadRight};
 ghost use Rattle.certificate_checker.specs.declared.why.CertFault.{CertFault};
-ghost use Rattle.certificate_checker.specs.Private.Paths.{HasRoomFor};
+ghost use Rattle.certificate_checker.specs.Private.Order.{IsDueOrder};
+ghost use Rattle.certificate_checker.specs.Private.Paths.{HasRoomFor, KeepsRoom};
 
 use crate::faults::is_scheduled;
+use crate::order::{DueUnit, put_in_order};
 use crate::path::{Path, versions_of};
-use crate::places::Places;
 use crate::walk::walk;
 use crate::why::{CertFault, Why};
 use bound_certificate::Cert;
 use dual_bounds::nothing_fixed;
-use list_types::{ListOf, OutOfMemory};
+use list_types::OutOfMemory;
 use std::alloc::Global;
 use std::marker::Model;
 use version_table::{Choice, Table, distortion_of};
 
-/// Room in which certificates are checked, for tables of so many units.
+/// Room in which certificates are checked, for tables of so many units at most.
 #[derive(Drop)]
 pub struct CheckRoom {
+    units: usize,
     path: Path,
+    /// The units of the table that is checked.
+    order: Vec<DueUnit>,
 }
 
 impl Model for CheckRoom {
-    ghost use Rattle.std.specs.Prelude.{ℕ, length};
+    ghost use Rattle.std.specs.Prelude.{ℕ, ◌≤◌, vec_capacity};
     ghost use Rattle.certificate_checker.specs.Private.Paths.{HasRoomFor};
 
     ghost Value = { ℕ };
 
-    ghost view = { λ a. length a.path.fixed };
+    ghost view = { λ a. a.units };
 
-    ghost invariant = { λ a. HasRoomFor a.path };
+    ghost invariant = { λ a. HasRoomFor a.units a.path × (a.units ≤ vec_capacity a.order) };
 }
 
 impl CheckRoom {
-    /// Room for certificates of this table, and of each that has as many units. Fails only for want of memory.
+    /// Room for certificates of this table, and of each that has no more units. Fails only for want of memory.
     pub fn new(alloc: Global, table: &Table) -> Result<CheckRoom, OutOfMemory>
         ensures { IfOk result (λ room. room ≡ length (units_of table.now)) }
     {
-        let fixed = nothing_fixed(alloc, table)?;
-        let units = fixed.len();
+        let units = nothing_fixed(alloc, table)?.len();
         Ok(CheckRoom {
+            units,
             path: Path {
-                fixed: Places::new(fixed),
-                choice: Places::new(zeros(alloc, units)?),
+                fixed: Vec::with_capacity(alloc, units)?,
+                choice: Vec::with_capacity(alloc, units)?,
                 branches: Vec::with_capacity(alloc, units)?,
             },
+            order: Vec::with_capacity(alloc, units)?,
         })
     }
-}
-
-/// So many zeros.
-fn zeros(alloc: Global, count: usize) -> Result<Choice, OutOfMemory>
-    ensures { IfOk result (λ zeros. length zeros ≡ count) }
-{
-    let mut zeros = ListOf::new(alloc);
-    for _written in 0..count {
-        zeros.push(0)?;
-    }
-    Ok(zeros)
 }
 
 /// Checks a certificate: its stated bound where it has no fault, else its first fault. Takes no memory.
 pub fn check(table: &Table, cert: &Cert, room: &mut CheckRoom) -> Result<u64, CertFault>
     requires valid { IsValidTable table.now }
-    requires room { room.old ≡ length (units_of table.now) }
+    requires room { length (units_of table.now) ≤ room.old }
     requires few { length cert.now.nodes < 2 ^ 32 }
     // What is answered is so.
     ensures bound { IfOk result (λ bound. bound ≡ cert.now.bound) }
@@ -82,27 +76,33 @@ pub fn check(table: &Table, cert: &Cert, room: &mut CheckRoom) -> Result<u64, Ce
     ensures sound { IfOk result (λ bound. (choice : List ℕ) → Fits table.now choice → IsScheduled table.now choice → bound ≤ distortion_of_choice table.now choice) }
     ensures room { room.new ≡ room.old }
 {
-    match fault_of_head(table, cert, room.path.fixed.list().len()) {
+    put_in_order(table, &mut room.order);
+    let order = room.order.as_slice();
+    match fault_of_head(table, order.len(), cert) {
         Some(why) => Err(CertFault { node: 0, why }),
-        None => check_tree(table, cert, &mut room.path),
+        None => check_tree(table, order, cert, &mut room.path),
     }
 }
 
 /// Checks the tree of a certificate whose head is right.
-fn check_tree(table: &Table, cert: &Cert, path: &mut Path) -> Result<u64, CertFault>
+fn check_tree(
+    table: &Table,
+    order: &[DueUnit],
+    cert: &Cert,
+    path: &mut Path,
+) -> Result<u64, CertFault>
     requires valid { IsValidTable table.now }
-    requires room { HasRoomFor path.old }
-    requires units { length path.old.fixed ≡ length (units_of table.now) }
+    requires order { IsDueOrder table.now order.now }
+    requires room { HasRoomFor (length (units_of table.now)) path.old }
     requires few { length cert.now.nodes < 2 ^ 32 }
     requires head { IsHeadRight table.now cert.now }
-    ensures room { HasRoomFor path.new }
-    ensures units { length path.new.fixed ≡ length path.old.fixed }
+    ensures room { KeepsRoom path.old path.new }
     ensures bound { IfOk result (λ bound. bound ≡ cert.now.bound) }
     ensures faultless { OnOk result (IsFaultless table.now cert.now) }
     ensures fault { IfErr result (IsFirstFault table.now cert.now) }
 {
-    clear(path);
-    let tree = walk(table, cert.nodes.as_slice(), path)?;
+    clear(path, order.len());
+    let tree = walk(table, order, cert.nodes.as_slice(), path)?;
     if tree.nodes < cert.nodes.len() {
         return Err(CertFault {
             node: tree.nodes as u32,
@@ -119,7 +119,7 @@ fn check_tree(table: &Table, cert: &Cert, path: &mut Path) -> Result<u64, CertFa
 }
 
 /// What is wrong with the choice and its distortion first, of a table of so many units.
-fn fault_of_head(table: &Table, cert: &Cert, units: usize) -> Option<Why>
+fn fault_of_head(table: &Table, units: usize, cert: &Cert) -> Option<Why>
     requires valid { IsValidTable table.now }
     requires units { units ≡ length (units_of table.now) }
     ensures { MatchOption result (IsHeadRight table.now cert.now) (IsFirstOfHead table.now cert.now) }
@@ -130,7 +130,7 @@ fn fault_of_head(table: &Table, cert: &Cert, units: usize) -> Option<Why>
     if !fits(table, &cert.choice) {
         return Some(Why::ChoiceVersion);
     }
-    if !is_scheduled(table, &cert.choice) {
+    if !is_scheduled(table, cert.choice.as_slice()) {
         return Some(Why::ChoiceMissed);
     }
     if distortion_of(table, &cert.choice) != cert.distortion {
@@ -153,17 +153,29 @@ fn fits(table: &Table, choice: &Choice) -> bool
     true
 }
 
-/// Fixes nothing, and opens no branch.
-fn clear(path: &mut Path)
-    requires { HasRoomFor path.old }
-    ensures room { HasRoomFor path.new }
-    ensures fixed { path.new.fixed ≡ replicate (length path.old.fixed) None }
-    ensures choice { path.new.choice ≡ replicate (length path.old.fixed) 0 }
+/// Fixes nothing of so many units, and opens no branch.
+fn clear(path: &mut Path, units: usize)
+    requires { HasRoomFor units path.old }
+    ensures room { KeepsRoom path.old path.new }
+    ensures fixed { path.new.fixed.items ≡ replicate units None }
+    ensures choice { path.new.choice.items ≡ replicate units 0 }
     ensures branches { path.new.branches.items ≡ [] }
 {
-    path.fixed.fill(None);
-    path.choice.fill(0);
+    refill(&mut path.fixed, units, None);
+    refill(&mut path.choice, units, 0);
     path.branches.clear();
+}
+
+/// So many of an item, in a list that has room for them.
+fn refill<T: Copy + Drop>(items: &mut Vec<T>, count: usize, item: T)
+    requires { count ≤ vec_capacity items.old }
+    ensures items { items.new.items ≡ replicate count item }
+    ensures room { vec_capacity items.new ≡ vec_capacity items.old }
+{
+    items.clear();
+    for _filled in 0..count {
+        items.push_reserved(item);
+    }
 }
 
 /// Whether a number is at most a bound; where there is none, each is.

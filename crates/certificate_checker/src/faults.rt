@@ -9,20 +9,23 @@ ghost use Rattle.dual_bounds.specs.Values.{from_start};
 ghost use Rattle.bound_certificate.specs.declared.cert.Node.TheVariants.{Branch};
 ghost use Rattle.certificate_checker.specs.Faults.{AreRight, GoesBefore, IsFirstOfBranch, IsFirstOfRun, IsFirstOfWindows, IsFlagOf, IsRight, IsSettled, KeepLimit, LeavesOne, NoneEmpty, Rise};
 ghost use Rattle.certificate_checker.specs.Shown.{bound_of_run, choice_left};
+ghost use Rattle.certificate_checker.specs.Private.Order.{IsDueOrder};
 ghost use Rattle.certificate_checker.specs.Private.Paths.{IsPath};
 
+use crate::costs::distortion_of_all;
+use crate::order::DueUnit;
 use crate::path::{Path, versions_of};
 use crate::why::Why;
 use dual_bounds::constants::{LAMBDA_MOST, WINDOWS_MOST};
-use dual_bounds::{Fixed, Multiplier, Window, Windows};
-use slot_rule::first_miss;
-use version_table::{Choice, Table, distortion_of};
+use dual_bounds::{Multiplier, Window, Windows};
+use slot_rule::first_miss_of;
+use version_table::Table;
 
 /// What is wrong first with a branch on a unit.
 pub(crate) fn fault_of_branch(unit: u32, path: &Path) -> Option<Why>
-    ensures { (table : Table) → IsPath table path.now → MatchOption result (IsRight table path.now.fixed (Branch unit)) (IsFirstOfBranch table path.now.fixed unit) }
+    ensures { (table : Table) → IsPath table path.now → MatchOption result (IsRight table path.now.fixed.items (Branch unit)) (IsFirstOfBranch table path.now.fixed.items unit) }
 {
-    if unit as usize >= path.fixed.list().len() {
+    if unit as usize >= path.fixed.len() {
         return Some(Why::UnitRange);
     }
     match path.version(unit) {
@@ -110,23 +113,22 @@ pub(crate) fn windows_of(multipliers: &[Multiplier]) -> Windows
 pub(crate) fn fault_of_run(table: &Table, scheduled: bool, path: &Path) -> Option<Why>
     requires valid { IsValidTable table.now }
     requires path { IsPath table.now path.now }
-    ensures { MatchOption result (LeavesOne table.now path.now.fixed × IsFlagOf table.now (choice_left path.now.fixed) scheduled) (IsFirstOfRun table.now path.now.fixed scheduled) }
+    ensures { MatchOption result (LeavesOne table.now path.now.fixed.items × IsFlagOf table.now (choice_left path.now.fixed.items) scheduled) (IsFirstOfRun table.now path.now.fixed.items scheduled) }
 {
-    if !leaves_one(table, path.fixed.list()) {
+    if !leaves_one(table, path.fixed.as_slice()) {
         return Some(Why::RunOpen);
     }
-    if is_scheduled(table, path.choice.list()) != scheduled {
+    if is_scheduled(table, path.choice.as_slice()) != scheduled {
         return Some(Why::RunWrong);
     }
     None
 }
 
 /// Whether each unit is fixed or has one version.
-fn leaves_one(table: &Table, fixed: &Fixed) -> bool
+fn leaves_one(table: &Table, fixed: &[Option<u8>]) -> bool
     requires { FixesVersions table.now fixed.now }
     ensures { IsTrue result ↔ LeavesOne table.now fixed.now }
 {
-    let fixed = fixed.as_slice();
     for unit in 0..fixed.len() {
         if !is_settled(versions_of(table, unit), fixed[unit]) {
             return false;
@@ -146,22 +148,28 @@ fn is_settled(versions: usize, entry: Option<u8>) -> bool
 }
 
 /// Whether a choice is scheduled.
-pub(crate) fn is_scheduled(table: &Table, choice: &Choice) -> bool
+pub(crate) fn is_scheduled(table: &Table, choice: &[u8]) -> bool
     requires valid { IsValidTable table.now }
     requires fits { Fits table.now choice.now }
     ensures { IsTrue result ↔ IsScheduled table.now choice.now }
 {
-    first_miss(table, choice).is_none()
+    first_miss_of(table, choice).is_none()
 }
 
 /// The bound of the one choice that is left.
-pub(crate) fn bound_of_run(table: &Table, scheduled: bool, choice: &Choice) -> Option<u128>
+pub(crate) fn bound_of_run(
+    table: &Table,
+    order: &[DueUnit],
+    scheduled: bool,
+    choice: &[u8],
+) -> Option<u128>
     requires valid { IsValidTable table.now }
+    requires order { IsDueOrder table.now order.now }
     requires fits { Fits table.now choice.now }
     ensures { result ≡ bound_of_run table.now choice.now scheduled }
 {
     match scheduled {
-        true => Some(u128::from(distortion_of(table, choice))),
+        true => Some(u128::from(distortion_of_all(table, order, choice))),
         false => None,
     }
 }

@@ -5,10 +5,12 @@
 #![tactic(auto)]
 
 mod checker;
+mod costs;
 mod faults;
 pub mod laws;
+mod order;
 mod path;
-mod places;
+mod prices;
 mod walk;
 mod why;
 

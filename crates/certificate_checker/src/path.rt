@@ -1,8 +1,7 @@
-ghost use Rattle.std.specs.Prelude.{◌≡◌, ◌<◌, ◌≤◌, [], ◌∷◌, ◌++◌, length, slice_index_or, None, vec_capacity};
+ghost use Rattle.std.specs.Prelude.{◌≡◌, ◌<◌, [], ◌∷◌, ◌++◌, length, slice_index_or, None, vec_capacity};
 ghost use Rattle.certificate_checker.specs.Shown.{choice_left, fix, versions_of};
-ghost use Rattle.certificate_checker.specs.Private.Paths.{unfix};
+ghost use Rattle.certificate_checker.specs.Private.Paths.{KeepsRoom, unfix};
 
-use crate::places::Places;
 use version_table::Table;
 
 /// A branch whose children aren't all read.
@@ -27,9 +26,9 @@ pub(crate) enum Next {
 #[derive(Drop)]
 pub(crate) struct Path {
     /// The versions that are fixed on it.
-    pub fixed: Places<Option<u8>>,
+    pub fixed: Vec<Option<u8>>,
     /// The choice that takes these versions, and version 0 of all other units.
-    pub choice: Places<u8>,
+    pub choice: Vec<u8>,
     /// The branches on it, the root first.
     pub branches: Vec<OpenBranch>,
 }
@@ -37,33 +36,34 @@ pub(crate) struct Path {
 impl Path {
     /// Fixes a version of a unit.
     pub(crate) fn fix(&mut self, unit: u32, k: u8)
-        requires within { unit < length self.old.fixed }
-        requires choice { self.old.choice ≡ choice_left self.old.fixed }
-        ensures fixed { self.new.fixed ≡ fix unit k self.old.fixed }
-        ensures choice { self.new.choice ≡ choice_left self.new.fixed }
+        requires within { unit < length self.old.fixed.items }
+        requires choice { self.old.choice.items ≡ choice_left self.old.fixed.items }
+        ensures fixed { self.new.fixed.items ≡ fix unit k self.old.fixed.items }
+        ensures choice { self.new.choice.items ≡ choice_left self.new.fixed.items }
         ensures branches { self.new.branches ≡ self.old.branches }
+        ensures room { KeepsRoom self.old self.new }
     {
-        self.fixed.put(unit as usize, Some(k));
-        self.choice.put(unit as usize, k);
+        self.fixed[unit as usize] = Some(k);
+        self.choice[unit as usize] = k;
     }
 
     /// The version that is fixed of a unit; none where each may be.
     pub(crate) fn version(&self, unit: u32) -> Option<u8>
-        requires within { unit < length self.now.fixed }
-        ensures { result ≡ slice_index_or self.now.fixed unit None }
+        requires within { unit < length self.now.fixed.items }
+        ensures { result ≡ slice_index_or self.now.fixed.items unit None }
     {
-        self.fixed.list().as_slice()[unit as usize]
+        self.fixed[unit as usize]
     }
 
     /// Goes to the first child of a branch on a unit.
     pub(crate) fn enter(&mut self, unit: u32)
-        requires within { unit < length self.old.fixed }
-        requires choice { self.old.choice ≡ choice_left self.old.fixed }
+        requires within { unit < length self.old.fixed.items }
+        requires choice { self.old.choice.items ≡ choice_left self.old.fixed.items }
         requires room { length self.old.branches.items < vec_capacity self.old.branches }
-        ensures fixed { self.new.fixed ≡ fix unit 0 self.old.fixed }
-        ensures choice { self.new.choice ≡ choice_left self.new.fixed }
+        ensures fixed { self.new.fixed.items ≡ fix unit 0 self.old.fixed.items }
+        ensures choice { self.new.choice.items ≡ choice_left self.new.fixed.items }
         ensures branches { self.new.branches.items ≡ self.old.branches.items ++ record { unit = unit; least = None } ∷ [] }
-        ensures room { vec_capacity self.old.branches ≤ vec_capacity self.new.branches }
+        ensures room { KeepsRoom self.old self.new }
     {
         self.fix(unit, 0);
         self.keep(OpenBranch { unit, least: None });
@@ -72,26 +72,25 @@ impl Path {
     /// Keeps an open branch, for which there is room.
     pub(crate) fn keep(&mut self, branch: OpenBranch)
         requires room { length self.old.branches.items < vec_capacity self.old.branches }
-        ensures fixed { self.new.fixed ≡ self.old.fixed }
-        ensures choice { self.new.choice ≡ self.old.choice }
+        ensures fixed { self.new.fixed.items ≡ self.old.fixed.items }
+        ensures choice { self.new.choice.items ≡ self.old.choice.items }
         ensures branches { self.new.branches.items ≡ self.old.branches.items ++ branch ∷ [] }
-        ensures room { vec_capacity self.old.branches ≤ vec_capacity self.new.branches }
+        ensures room { KeepsRoom self.old self.new }
     {
-        let Ok(()) = self.branches.push(branch) else {
-            unreachable!();
-        };
+        self.branches.push_reserved(branch);
     }
 
     /// Fixes no version of a unit any more.
     pub(crate) fn unfix(&mut self, unit: u32)
-        requires within { unit < length self.old.fixed }
-        requires choice { self.old.choice ≡ choice_left self.old.fixed }
-        ensures fixed { self.new.fixed ≡ unfix unit self.old.fixed }
-        ensures choice { self.new.choice ≡ choice_left self.new.fixed }
+        requires within { unit < length self.old.fixed.items }
+        requires choice { self.old.choice.items ≡ choice_left self.old.fixed.items }
+        ensures fixed { self.new.fixed.items ≡ unfix unit self.old.fixed.items }
+        ensures choice { self.new.choice.items ≡ choice_left self.new.fixed.items }
         ensures branches { self.new.branches ≡ self.old.branches }
+        ensures room { KeepsRoom self.old self.new }
     {
-        self.fixed.put(unit as usize, None);
-        self.choice.put(unit as usize, 0);
+        self.fixed[unit as usize] = None;
+        self.choice[unit as usize] = 0;
     }
 }
 

@@ -1,9 +1,14 @@
+ghost use Rattle.std.specs.Prelude.{◌≡◌, IfOk, length};
+ghost use Rattle.version_table.specs.Table.{units_of};
+
 use crate::{CertFault, CheckRoom, Why, check};
 use bound_certificate::read_cert;
+use dual_bounds::nothing_fixed;
+use list_types::OutOfMemory;
 use std::alloc::Global;
 use std::process::Abort;
 use std::test::Fail;
-use version_table::read_table;
+use version_table::{Table, read_table};
 
 /// One unit, of which three packets without distortion or two with a distortion of 10 are due; two slots end in time.
 const TABLE: &[u8] =
@@ -132,4 +137,92 @@ fn a_window_bounds_by_the_room_from_where_it_begins(rt: HostRuntime) -> Result<(
     let mut empty = WITH_A_WINDOW;
     empty[40] = 0x81;
     assert_answer(&rt, alloc, LATE, &empty, fault(0, Why::WindowEmpty))
+}
+
+/// The unit of `TABLE`, and one of three packets that is due later.
+const TWO_UNITS: &[u8] =
+    b"remux table 1\nslot 4000\nnodes 1\nevaluations 0\nprogram 112\nunit 27200 552:0 368:10\nunit 43200 552:0\n";
+
+/// The versions 1 and 0, with the same multiplier.
+const OF_TWO_UNITS: [u8; 50] = [
+    0x52, 0x4D, 0x58, 0x43, 1, 0, 0, 0, 0, 0, 0, 0, 10, 0, 0, 0, 0, 0, 0, 0, 10, 0, 0, 0, 2, 1, 0,
+    0, 0, 0, 1, 2, 0, 1, 0, 0, 0, 0, 0, 0, 0x6A, 0x40, 0, 0, 0, 0, 0, 0, 0x0A, 0,
+];
+
+/// How many units a table has.
+fn units(alloc: Global, table: &Table) -> Result<usize, OutOfMemory>
+    ensures { IfOk result (λ units. units ≡ length (units_of table.now)) }
+{
+    Ok(nothing_fixed(alloc, table)?.len())
+}
+
+#[test]
+fn a_room_for_two_units_serves_a_table_of_one(rt: HostRuntime) -> Result<(), Fail> {
+    let alloc = rt.alloc();
+    let two = read_table(alloc, TWO_UNITS)?;
+    let of_two = read_cert(alloc, &OF_TWO_UNITS)?;
+    let one = read_table(alloc, TABLE)?;
+    let of_one = read_cert(alloc, &WITH_A_MULTIPLIER)?;
+    let of_first = units(alloc, &one)?;
+    let of_both = units(alloc, &two)?;
+    assert!(rt; of_first <= of_both);
+    let mut room = CheckRoom::new(alloc, &two)?;
+    assert_eq!(rt; check(&one, &of_one, &mut room), Ok(10));
+    assert_eq!(rt; check(&two, &of_two, &mut room), Ok(10));
+    assert_eq!(rt;
+        check(&one, &of_two, &mut room),
+        fault(0, Why::ChoiceLength)
+    );
+    Ok(())
+}
+
+/// Units of a chain of branches.
+const CHAIN: u32 = 3_000;
+
+/// So many units, of which version 0 has more packets than there are slots.
+fn chain_table(alloc: Global) -> Result<Vec<u8>, Fail> {
+    let mut text = Vec::new(alloc);
+    text.extend_from_slice(b"remux table 1\nslot 4000\nnodes 1\nevaluations 0\nprogram 112\n")?;
+    for unit in 0..CHAIN {
+        let due = 40_000 * (u64::from(unit) + 1);
+        text.extend_from_slice(format!(in alloc; "unit {due} 4194304:0 184:10\n")?.as_bytes())?;
+    }
+    Ok(text)
+}
+
+/// Its versions 1, with a branch on each unit in the version 0 of the one before. At the end of the chain stand 64
+/// multipliers of the greatest lambda, and in each version 1 nothing.
+fn chain_cert(alloc: Global) -> Result<Vec<u8>, Fail> {
+    let mut bytes = Vec::new(alloc);
+    bytes.extend_from_slice(b"RMXC\x01\0\0\0\0\0\0\0\x0A")?;
+    bytes.extend_from_slice(&(10 * u64::from(CHAIN)).to_be_bytes())?;
+    bytes.extend_from_slice(&CHAIN.to_be_bytes())?;
+    for _unit in 0..CHAIN {
+        bytes.push(1)?;
+    }
+    bytes.extend_from_slice(&(2 * CHAIN + 1).to_be_bytes())?;
+    for unit in 0..CHAIN {
+        bytes.push(1)?;
+        bytes.extend_from_slice(&unit.to_be_bytes())?;
+    }
+    bytes.extend_from_slice(&[2, 0, 64])?;
+    for unit in 0..64u64 {
+        bytes.extend_from_slice(&(40_000 * (unit + 1)).to_be_bytes())?;
+        bytes.extend_from_slice(&[0, 0, 1, 0, 0, 0, 0, 0])?;
+    }
+    for _unit in 0..CHAIN {
+        bytes.push(4)?;
+    }
+    Ok(bytes)
+}
+
+#[test]
+fn a_chain_of_3000_branches_shows_a_bound_of_10(rt: HostRuntime) -> Result<(), Fail> {
+    let alloc = rt.alloc();
+    let text = chain_table(alloc)?;
+    let table = read_table(alloc, text.as_slice())?;
+    let cert = read_cert(alloc, chain_cert(alloc)?.as_slice())?;
+    let mut room = CheckRoom::new(alloc, &table)?;
+    assert_eq!(rt; check(&table, &cert, &mut room), Ok(10));
+    Ok(())
 }

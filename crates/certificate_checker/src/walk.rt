@@ -4,14 +4,17 @@ ghost use Rattle.bound_certificate.specs.declared.cert.Node.TheVariants as nodes
 ghost use Rattle.certificate_checker.specs.Faults.{AreRight, IsFirstOfBranch, IsFirstOfNode, IsFirstOfRun, IsFirstOfWindows};
 ghost use Rattle.certificate_checker.specs.Shown.{bound_of_windows, lesser, unfixed};
 ghost use Rattle.certificate_checker.specs.Walk.{Shows, Walks};
-ghost use Rattle.certificate_checker.specs.Private.Paths.{IsClosed, IsClosing, IsFaultIn, IsPath, IsTaken};
+ghost use Rattle.certificate_checker.specs.Private.Order.{IsDueOrder};
+ghost use Rattle.certificate_checker.specs.Private.Paths.{IsClosed, IsClosing, IsFaultIn, IsPath, IsTaken, KeepsRoom};
 
+use crate::costs::bound_of_windows;
 use crate::faults::{bound_of_run, fault_of_branch, fault_of_run, fault_of_windows, windows_of};
+use crate::order::DueUnit;
 use crate::path::{Next, OpenBranch, Path, versions_of};
 use crate::why::{CertFault, Why};
 use bound_certificate::Node;
+use dual_bounds::Window;
 use dual_bounds::constants::WINDOWS_MOST;
-use dual_bounds::{Window, bound_of, window_value};
 use version_table::Table;
 
 /// What the tree that nodes begin with shows.
@@ -33,19 +36,26 @@ pub(crate) enum Closing {
 }
 
 /// The tree that some nodes begin with, or its first fault. The path has nothing fixed.
-pub(crate) fn walk(table: &Table, nodes: &[Node], path: &mut Path) -> Result<Tree, CertFault>
+pub(crate) fn walk(
+    table: &Table,
+    order: &[DueUnit],
+    nodes: &[Node],
+    path: &mut Path,
+) -> Result<Tree, CertFault>
     requires valid { IsValidTable table.now }
+    requires order { IsDueOrder table.now order.now }
     requires path { IsPath table.now path.old }
-    requires fresh { path.old.fixed ≡ unfixed table.now }
+    requires fresh { path.old.fixed.items ≡ unfixed table.now }
     requires none { path.old.branches.items ≡ [] }
     requires few { length nodes.now < 2 ^ 32 }
     ensures path { IsPath table.now path.new }
+    ensures room { KeepsRoom path.old path.new }
     ensures within { IfOk result (λ tree. tree.nodes ≤ length nodes.now) }
     ensures shown { IfOk result (λ tree. Walks table.now (unfixed table.now) nodes.now (Shows tree.bound (drop tree.nodes nodes.now))) }
     ensures fault { IfErr result (IsFaultIn table.now nodes.now) }
 {
     for (at, node) in nodes.iter().enumerate() {
-        match take_node(table, node, path) {
+        match take_node(table, order, node, path) {
             Ok(Next::Needed) => {}
             Ok(Next::Whole(bound)) => return Ok(Tree {
                 bound,
@@ -64,19 +74,26 @@ pub(crate) fn walk(table: &Table, nodes: &[Node], path: &mut Path) -> Result<Tre
 }
 
 /// Takes the next node, or names what is wrong with it first.
-fn take_node(table: &Table, node: &Node, path: &mut Path) -> Result<Next, Why>
+fn take_node(table: &Table, order: &[DueUnit], node: &Node, path: &mut Path) -> Result<Next, Why>
     requires valid { IsValidTable table.now }
+    requires order { IsDueOrder table.now order.now }
     requires path { IsPath table.now path.old }
     ensures path { IsPath table.now path.new }
+    ensures room { KeepsRoom path.old path.new }
     ensures next { IfOk result (IsTaken table.now path.old path.new node.now) }
-    ensures wrong { IfErr result (IsFirstOfNode table.now path.old.fixed node.now) }
+    ensures wrong { IfErr result (IsFirstOfNode table.now path.old.fixed.items node.now) }
 {
     match node {
         Node::Branch { unit } => take_branch(table, *unit, path),
-        Node::Dual { with } => take_windows(table, windows_of(with.as_slice()).as_slice(), path),
-        Node::Run { scheduled } => take_run(table, *scheduled, path),
-        Node::Open => take_windows(table, &[], path),
-        Node::Window { with } => take_windows(table, with.as_slice(), path),
+        Node::Dual { with } => take_windows(
+            table,
+            order,
+            windows_of(with.as_slice()).as_slice(),
+            path,
+        ),
+        Node::Run { scheduled } => take_run(table, order, *scheduled, path),
+        Node::Open => take_windows(table, order, &[], path),
+        Node::Window { with } => take_windows(table, order, with.as_slice(), path),
     }
 }
 
@@ -85,8 +102,9 @@ fn take_branch(table: &Table, unit: u32, path: &mut Path) -> Result<Next, Why>
     requires valid { IsValidTable table.now }
     requires path { IsPath table.now path.old }
     ensures path { IsPath table.now path.new }
+    ensures room { KeepsRoom path.old path.new }
     ensures next { IfOk result (IsTaken table.now path.old path.new (nodes.Branch unit)) }
-    ensures wrong { IfErr result (IsFirstOfBranch table.now path.old.fixed unit) }
+    ensures wrong { IfErr result (IsFirstOfBranch table.now path.old.fixed.items unit) }
 {
     match fault_of_branch(unit, path) {
         Some(why) => Err(why),
@@ -98,36 +116,45 @@ fn take_branch(table: &Table, unit: u32, path: &mut Path) -> Result<Next, Why>
 }
 
 /// Takes a node that these windows bound.
-fn take_windows(table: &Table, windows: &[Window], path: &mut Path) -> Result<Next, Why>
+fn take_windows(
+    table: &Table,
+    order: &[DueUnit],
+    windows: &[Window],
+    path: &mut Path,
+) -> Result<Next, Why>
     requires valid { IsValidTable table.now }
+    requires order { IsDueOrder table.now order.now }
     requires path { IsPath table.now path.old }
     requires few { length windows.now ≤ WINDOWS_MOST }
     ensures path { IsPath table.now path.new }
+    ensures room { KeepsRoom path.old path.new }
     ensures right { OnOk result (AreRight windows.now) }
-    ensures closed { IfOk result (IsClosed table.now path.old path.new (bound_of_windows table.now path.old.fixed windows.now)) }
+    ensures closed { IfOk result (IsClosed table.now path.old path.new (bound_of_windows table.now path.old.fixed.items windows.now)) }
     ensures wrong { IfErr result (IsFirstOfWindows windows.now) }
 {
     match fault_of_windows(windows) {
         Some(why) => Err(why),
         None => {
-            let value = window_value(table, path.fixed.list(), windows);
-            Ok(close(table, Some(bound_of(value)), path))
+            let bound = bound_of_windows(table, order, path.fixed.as_slice(), windows);
+            Ok(close(table, Some(bound), path))
         }
     }
 }
 
 /// Takes a choice that was tried.
-fn take_run(table: &Table, scheduled: bool, path: &mut Path) -> Result<Next, Why>
+fn take_run(table: &Table, order: &[DueUnit], scheduled: bool, path: &mut Path) -> Result<Next, Why>
     requires valid { IsValidTable table.now }
+    requires order { IsDueOrder table.now order.now }
     requires path { IsPath table.now path.old }
     ensures path { IsPath table.now path.new }
+    ensures room { KeepsRoom path.old path.new }
     ensures next { IfOk result (IsTaken table.now path.old path.new (nodes.Run scheduled)) }
-    ensures wrong { IfErr result (IsFirstOfRun table.now path.old.fixed scheduled) }
+    ensures wrong { IfErr result (IsFirstOfRun table.now path.old.fixed.items scheduled) }
 {
     match fault_of_run(table, scheduled, path) {
         Some(why) => Err(why),
         None => {
-            let bound = bound_of_run(table, scheduled, path.choice.list());
+            let bound = bound_of_run(table, order, scheduled, path.choice.as_slice());
             Ok(close(table, bound, path))
         }
     }
@@ -138,6 +165,7 @@ fn close(table: &Table, bound: Option<u128>, path: &mut Path) -> Next
     requires valid { IsValidTable table.now }
     requires path { IsPath table.now path.old }
     ensures path { IsPath table.now path.new }
+    ensures room { KeepsRoom path.old path.new }
     ensures next { IsClosed table.now path.old path.new bound result }
 {
     let mut bound = bound;
@@ -156,6 +184,7 @@ fn close_child(table: &Table, bound: Option<u128>, path: &mut Path) -> Closing
     requires path { IsPath table.now path.old }
     requires some { 0 < length path.old.branches.items }
     ensures path { IsPath table.now path.new }
+    ensures room { KeepsRoom path.old path.new }
     ensures next { IsClosing table.now path.old path.new bound result }
 {
     let Some(branch) = path.branches.pop() else {

@@ -1,5 +1,5 @@
 -- Lines that cross.
-use Rattle.std.proofs.Common.{◌≡◌, ℕ, ◌+◌, ◌-◌, ◌*◌, ◌/◌, ◌<◌, ◌≤◌, List, length, get_or, min, sym, ap, subst, inl, inr, mul-le-mul_left, arith}
+use Rattle.std.proofs.Common.{◌≡◌, ℕ, ◌+◌, ◌-◌, ◌*◌, ◌/◌, ◌<◌, ◌≤◌, List, length, get_or, min, sym, ap, subst, ◌∙◌, inl, inr, mul-le-mul_left, arith}
 use Rattle.std.proofs.lemmas.Bool.{cases_lt}
 use Rattle.std.proofs.lemmas.List.{get_or_default}
 use Rattle.version_table.specs.declared.table.Version.{Version}
@@ -19,14 +19,16 @@ cross-before rise packets rise' packets' price fewer le below = by_steps (packet
         let spread : packets * price ≡ (packets' + f) * price = ap (λ n. n * price) more in
         omega (arith, taken, whole, spread)
 
--- a line with fewer packets that is no lower at a price has no less rise
-pub no_less_rise : (rise packets rise' packets' price : ℕ) → rise + packets * price ≤ rise' + packets' * price → packets' < packets → rise ≤ rise'
-no_less_rise rise packets rise' packets' price le fewer = by_steps (packets - packets') (omega arith)
+-- a line with fewer packets that is no lower at a price has more rise by what the packets that it lacks come to at any lower price
+pub rises_by : (rise packets rise' packets' price base : ℕ) → rise + packets * price ≤ rise' + packets' * price → packets' < packets → base ≤ price
+    → rise + (packets - packets') * base ≤ rise'
+rises_by rise packets rise' packets' price base le fewer low = by_steps (packets - packets') (price - base) (omega arith) (omega arith)
   where
-    by_steps : (f : ℕ) → packets ≡ packets' + f → rise ≤ rise'
-    by_steps f more =
-        let spread : packets * price ≡ (packets' + f) * price = ap (λ n. n * price) more in
-        omega (arith, spread)
+    by_steps : (f m : ℕ) → packets ≡ packets' + f → price ≡ base + m → rise + f * base ≤ rise'
+    by_steps f m more later =
+        let one : packets * price ≡ (packets' + f) * (base + m) = ap (λ n. n * price) more ∙ ap (λ n. (packets' + f) * n) later in
+        let two : packets' * price ≡ packets' * (base + m) = ap (λ n. packets' * n) later in
+        omega (arith, one, two)
 
 -- ---- one version more
 -- what the line of a version costs

@@ -1,41 +1,7 @@
 -- Steps up to a price, and one more.
-use Rattle.std.proofs.Common.{
-  ◌≡◌,
-  ℕ,
-  ◌+◌,
-  ◌-◌,
-  ◌*◌,
-  ◌^◌,
-  ◌<◌,
-  ◌≤◌,
-  List,
-  [],
-  ◌∷◌,
-  ◌++◌,
-  length,
-  get_or,
-  map,
-  fold,
-  min,
-  cond,
-  nat_le,
-  sum_by,
-  All,
-  refl,
-  sym,
-  ap,
-  subst,
-  ◌∙◌,
-  inl,
-  inr,
-  length-append,
-  append_assoc,
-  mul-le-mul_left,
-  mul-le-mul,
-  arith,
-}
+use Rattle.std.proofs.Common.{◌≡◌, ℕ, ◌+◌, ◌-◌, ◌*◌, ◌^◌, ◌<◌, ◌≤◌, List, [], ◌∷◌, ◌++◌, length, get_or, map, fold, min, sum_by, All, refl, ap, subst, ◌∙◌, inl, inr, length-append, append_assoc, mul-le-mul_left, arith}
 use Rattle.std.proofs.lemmas.Bool.{cases_lt, le-leb, lt-leb}
-use Rattle.std.proofs.lemmas.List.{get_or_default, get_or-map, length-map}
+use Rattle.std.proofs.lemmas.List.{get_or-map, length-map}
 use Rattle.std.proofs.lemmas.List.Elements.{All-append, All-cons, All-head, All-nil, All-tail}
 use Rattle.std.proofs.lemmas.List.Sums.{sum_by_push}
 use Rattle.version_table.specs.declared.table.Version.{Version}
@@ -48,9 +14,9 @@ use Rattle.cost_sweep.specs.declared.step.CostStep.{CostStep}
 use Rattle.cost_sweep.specs.Steps.{paid, spared}
 use Rattle.cost_steps.specs.declared.constants.TheConstants.{PRICE_MOST}
 use Rattle.cost_steps.specs.declared.steps.Line.{Line}
-use Rattle.cost_steps.specs.Private.Lines.{AreSoFar, CostsLess, GoesOn, IsLeastLine, IsLineOf, IsNext, line_cost}
-use Rattle.cost_steps.specs.Steps.{TellLeast}
-use Rattle.cost_steps.proofs.Lines.{line-cost, no_less_rise}
+use Rattle.cost_steps.specs.Private.Lines.{AreSoFar, first_step, GoesOn, IsLeastLine, IsNext, line_cost, step_between}
+use Rattle.cost_steps.specs.Steps.{TellLeast, TellLeastAbove}
+use Rattle.cost_steps.proofs.Lines.{line-cost, rises_by}
 
 -- ---- lines over plain numbers
 -- a line with fewer packets that is lower at a price, and no lower at another one, is lower behind that one
@@ -89,10 +55,17 @@ stays_below rise packets rise' packets' before price few later le = by_steps (pa
         omega (arith, one, two, three)
 
 -- what a lower line costs behind the price at which it comes
-steps-behind : (rise packets rise' packets' fewer more p taken added : ℕ) → packets ≡ packets' + fewer → rise' ≡ rise + more → (rise + packets * p) + taken ≡ added
-    → (rise' + packets' * p) + (taken + fewer * p) ≡ added + (more + 0 * p)
-steps-behind rise packets rise' packets' fewer more p taken added few high is =
-    let spread : packets * p ≡ (packets' + fewer) * p = ap (λ n. n * p) few in
+pub steps-behind : (rise packets rise' packets' fewer more base p taken added : ℕ) → packets ≡ packets' + fewer → rise' ≡ (rise + fewer * base) + more
+    → (rise + packets * (base + p)) + taken ≡ added → (rise' + packets' * (base + p)) + (taken + fewer * p) ≡ added + (more + 0 * p)
+steps-behind rise packets rise' packets' fewer more base p taken added few high is =
+    let spread : packets * (base + p) ≡ (packets' + fewer) * (base + p) = ap (λ n. n * (base + p)) few in
+    omega (arith, spread)
+
+-- what the steps add up to where a lower line comes
+pub rises-behind : (rise packets rise' packets' fewer more base : ℕ) → packets ≡ packets' + fewer → rise' ≡ (rise + fewer * base) + more
+    → (rise + packets * base) + more ≡ rise' + packets' * base
+rises-behind rise packets rise' packets' fewer more base few high =
+    let spread : packets * base ≡ (packets' + fewer) * base = ap (λ n. n * base) few in
     omega (arith, spread)
 
 -- ---- the least of some costs
@@ -140,14 +113,16 @@ module _ (due : ℕ) (versions : List Version) (valid : All IsValidVersion versi
       omega (arith, own, (valid is.one.0 none is.one.1).bytes)
 
   -- ---- the first step
-  pub first-so_far : (line : Line) → IsLeastLine versions 0 line → AreSoFar due versions 0 line (record { due = due; from = 0; rise = line.rise; packets = line.packets; fewer = 0 } ∷ [])
-  first-so_far line is = record {
-    limit = omega arith;
+  pub first-so_far : (base : ℕ) (line : Line) → base ≤ PRICE_MOST → IsLeastLine versions base line
+      → AreSoFar base due versions base line (first_step base due line ∷ [])
+  first-so_far base line limit is = record {
+    limit = limit;
+    from_base = omega arith;
     line_is = is;
     dues = All-cons (λ (s : CostStep). s.due ≡ due) _ [] refl (All-nil (λ (s : CostStep). s.due ≡ due));
     some = omega arith;
     count = omega arith;
-    few = omega (arith, line-packets 0 line is);
+    few = omega (arith, line-packets base line is);
     rises = omega arith;
     packets = omega arith;
     below = λ p low. absurd (omega arith);
@@ -155,7 +130,7 @@ module _ (due : ℕ) (versions : List Version) (valid : All IsValidVersion versi
   }
 
   -- ---- one step more
-  module _ (price : ℕ) (line : Line) (next : ℕ) (line' : Line) (own : List CostStep) (so_far : AreSoFar due versions price line own) (is_next : IsNext versions line next)
+  module _ (base price : ℕ) (line : Line) (next : ℕ) (line' : Line) (own : List CostStep) (so_far : AreSoFar base due versions price line own) (is_next : IsNext versions line next)
       (limit : next ≤ PRICE_MOST) (is : IsLeastLine versions next line') where
     later : price < next
     later =
@@ -185,93 +160,124 @@ module _ (due : ℕ) (versions : List Version) (valid : All IsValidVersion versi
     pub fewer-packets : line'.packets < line.packets
     fewer-packets = falls_past line.rise line.packets line'.rise line'.packets (next - 1) next (let after = later in omega arith) lower-before lower-at
 
-    pub more-rise : line.rise ≤ line'.rise
-    more-rise = no_less_rise line.rise line.packets line'.rise line'.packets (next - 1) lower-before fewer-packets
+    pub more-rise : line.rise + (line.packets - line'.packets) * base ≤ line'.rise
+    more-rise = rises_by line.rise line.packets line'.rise line'.packets (next - 1) base lower-before fewer-packets (let after = later in let start = so_far.from_base in omega arith)
 
-    below-next : (p : ℕ) → p < next → least (map (cost p) versions) + sum_by (spared p) own ≡ sum_by (paid p) own
-    below-next p low = elim (cases_lt p price) as (λ _. least (map (cost p) versions) + sum_by (spared p) own ≡ sum_by (paid p) own) [
+    pub above-base : base ≤ next
+    above-base = let after = later in let start = so_far.from_base in omega arith
+
+    below-next : (p : ℕ) → base + p < next → least (map (cost (base + p)) versions) + sum_by (spared p) own ≡ sum_by (paid p) own
+    below-next p low = elim (cases_lt (base + p) price) as (λ _. least (map (cost (base + p)) versions) + sum_by (spared p) own ≡ sum_by (paid p) own) [
       | inl before ↦ so_far.below p before
       | inr from ↦
-          (let same = least-is price p line so_far.line_is (least-between price p line next so_far.line_is is_next from low) in
+          (let same = least-is price (base + p) line so_far.line_is (least-between price (base + p) line next so_far.line_is is_next from low) in
           let here = so_far.behind p from in
           omega arith)
     ]
 
-    abbrev pub step : CostStep
-    step = record { due = due; from = next; rise = line'.rise - line.rise; packets = 0; fewer = line.packets - line'.packets }
+    abbrev pub more : ℕ
+    more = (line'.rise - line.rise) - (line.packets - line'.packets) * base
 
-    pub next-so_far : AreSoFar due versions next line' (own ++ step ∷ [])
+    abbrev pub step : CostStep
+    step = step_between base due next line line'
+
+    rise-is : line'.rise ≡ (line.rise + (line.packets - line'.packets) * base) + more
+    rise-is = let enough = more-rise in omega arith
+
+    packets-are : line.packets ≡ line'.packets + (line.packets - line'.packets)
+    packets-are = let fall = fewer-packets in omega arith
+
+    pub next-so_far : AreSoFar base due versions next line' (own ++ step ∷ [])
     next-so_far =
         let fall = fewer-packets in
-        let more = more-rise in
-        let rises : sum_by (λ s. s.rise) (own ++ step ∷ []) ≡ sum_by (λ s. s.rise) own + (line'.rise - line.rise) = sum_by_push (λ (s : CostStep). s.rise) own step in
+        let from_base = above-base in
+        let rises : sum_by (λ s. s.rise) (own ++ step ∷ []) ≡ sum_by (λ s. s.rise) own + more = sum_by_push (λ (s : CostStep). s.rise) own step in
         let packets : sum_by (λ s. s.packets) (own ++ step ∷ []) ≡ sum_by (λ s. s.packets) own + 0 = sum_by_push (λ (s : CostStep). s.packets) own step in
         let fewer : sum_by (λ s. s.fewer) (own ++ step ∷ []) ≡ sum_by (λ s. s.fewer) own + (line.packets - line'.packets) = sum_by_push (λ (s : CostStep). s.fewer) own step in
         let size : length (own ++ step ∷ []) ≡ length own + 1 = length-append own (step ∷ []) in
         record {
           limit = limit;
+          from_base = from_base;
           line_is = is;
           dues = All-append (λ (s : CostStep). s.due ≡ due) own (step ∷ []) so_far.dues (All-cons (λ (s : CostStep). s.due ≡ due) step [] refl (All-nil (λ (s : CostStep). s.due ≡ due)));
           some = omega arith;
           count = omega (arith, so_far.count);
           few = omega (arith, so_far.few);
-          rises = omega (arith, so_far.rises);
+          rises = rises ∙ ap (λ n. n + more) so_far.rises
+              ∙ rises-behind line.rise line.packets line'.rise line'.packets (line.packets - line'.packets) more base packets-are rise-is;
           packets = omega (arith, so_far.packets);
-          below = λ p low. (let taken : spared p step ≡ 0 = rw (lt-leb next p low) refl in
-              let added : paid p step ≡ 0 = rw (lt-leb next p low) (omega arith) in
+          below = λ p low. (let early : p < next - base = omega arith in
+              let taken : spared p step ≡ 0 = rw (lt-leb (next - base) p early) refl in
+              let added : paid p step ≡ 0 = rw (lt-leb (next - base) p early) (omega arith) in
               let one = sum_by_push (spared p) own step in
               let two = sum_by_push (paid p) own step in
               let here = below-next p low in
               omega arith);
-          behind = λ p from. (let taken : spared p step ≡ (line.packets - line'.packets) * p = rw (le-leb next p from) refl in
-              let added : paid p step ≡ (line'.rise - line.rise) + 0 * p = rw (le-leb next p from) refl in
+          behind = λ p from. (let reached : next - base ≤ p = omega arith in
+              let taken : spared p step ≡ (line.packets - line'.packets) * p = rw (le-leb (next - base) p reached) refl in
+              let added : paid p step ≡ more + 0 * p = rw (le-leb (next - base) p reached) refl in
               let one = sum_by_push (spared p) own step in
               let two = sum_by_push (paid p) own step in
               let after = later in
               let here = so_far.behind p (omega arith) in
-              let whole = steps-behind line.rise line.packets line'.rise line'.packets (line.packets - line'.packets) (line'.rise - line.rise) p (sum_by (spared p) own) (sum_by (paid p) own)
-              (omega arith) (omega arith) here in
+              let whole = steps-behind line.rise line.packets line'.rise line'.packets (line.packets - line'.packets) more base p (sum_by (spared p) own) (sum_by (paid p) own)
+              packets-are rise-is here in
               omega arith);
         }
 
   -- ---- no step more
-  pub tells : (price : ℕ) (line : Line) (next : ℕ) (own : List CostStep) → AreSoFar due versions price line own → IsNext versions line next → PRICE_MOST < next → TellLeast due versions own
-  tells price line next own so_far is_next past = record {
+  pub tells : (base price : ℕ) (line : Line) (next : ℕ) (own : List CostStep) → AreSoFar base due versions price line own → IsNext versions line next → PRICE_MOST < next
+      → TellLeastAbove base due versions own
+  tells base price line next own so_far is_next past = record {
     dues = so_far.dues;
     some = so_far.some;
-    costs = λ p limit. elim (cases_lt p price) as (λ _. least (map (cost p) versions) + sum_by (spared p) own ≡ sum_by (paid p) own) [
+    costs = λ p limit. elim (cases_lt (base + p) price) as (λ _. least (map (cost (base + p)) versions) + sum_by (spared p) own ≡ sum_by (paid p) own) [
       | inl before ↦ so_far.below p before
       | inr from ↦
-          (let same = least-is price p line so_far.line_is (least-between price p line next so_far.line_is is_next from (omega arith)) in
+          (let same = least-is price (base + p) line so_far.line_is (least-between price (base + p) line next so_far.line_is is_next from (omega arith)) in
           let here = so_far.behind p from in
           omega arith)
     ];
     count = omega (arith, so_far.count, so_far.few);
-    rises = omega (arith, so_far.rises, so_far.line_is.small);
+    rises = (let whole : line.packets * base ≤ line.packets * PRICE_MOST = mul-le-mul_left line.packets (let first = so_far.from_base in let last = so_far.limit in omega arith) in
+        omega (arith, so_far.rises, so_far.line_is.small));
     packets = omega (arith, so_far.few);
     fewer = omega (arith, so_far.packets, so_far.few);
   }
 
   -- ---- behind what was there before
-  pub starts : (line : Line) (next : ℕ) (before : List CostStep) → IsLeastLine versions 0 line → IsNext versions line next
-      → GoesOn due versions line next before (before ++ record { due = due; from = 0; rise = line.rise; packets = line.packets; fewer = 0 } ∷ [])
-  starts line next before is is_next = record {
-    own = record { due = due; from = 0; rise = line.rise; packets = line.packets; fewer = 0 } ∷ [];
+  pub starts : (base : ℕ) (line : Line) (next : ℕ) (before : List CostStep) → base ≤ PRICE_MOST → IsLeastLine versions base line → IsNext versions line next
+      → GoesOn base due versions line next before (before ++ first_step base due line ∷ [])
+  starts base line next before limit is is_next = record {
+    own = first_step base due line ∷ [];
     is = refl;
-    from = 0;
-    so_far = first-so_far line is;
+    from = base;
+    so_far = first-so_far base line limit is;
     is_next = is_next;
   }
 
-  pub goes_on : (line : Line) (next : ℕ) (line' : Line) (next' : ℕ) (before items : List CostStep) → GoesOn due versions line next before items → next ≤ PRICE_MOST
+  pub goes_on : (base : ℕ) (line : Line) (next : ℕ) (line' : Line) (next' : ℕ) (before items : List CostStep) → GoesOn base due versions line next before items → next ≤ PRICE_MOST
       → IsLeastLine versions next line' → IsNext versions line' next'
-      → GoesOn due versions line' next' before (items ++ record { due = due; from = next; rise = line'.rise - line.rise; packets = 0; fewer = line.packets - line'.packets } ∷ [])
-  goes_on line next line' next' before items goes limit is is_next' =
-      let more : CostStep = record { due = due; from = next; rise = line'.rise - line.rise; packets = 0; fewer = line.packets - line'.packets } in
+      → GoesOn base due versions line' next' before (items ++ step_between base due next line line' ∷ [])
+  goes_on base line next line' next' before items goes limit is is_next' =
+      let more : CostStep = step_between base due next line line' in
       record {
         own = goes.own ++ more ∷ [];
         is = ap (λ (x : List CostStep). x ++ more ∷ []) goes.is ∙ append_assoc before goes.own (more ∷ []);
         from = next;
-        so_far = next-so_far goes.from line next line' goes.own goes.so_far goes.is_next limit is;
+        so_far = next-so_far base goes.from line next line' goes.own goes.so_far goes.is_next limit is;
         is_next = is_next';
       }
+
+-- above the base price 0 the steps are those of the least cost itself
+pub tells-least : (due : ℕ) (versions : List Version) (steps : List CostStep) → TellLeastAbove 0 due versions steps → TellLeast due versions steps
+tells-least due versions steps tell = record {
+  dues = tell.dues;
+  some = tell.some;
+  costs = λ price limit. (let same : 0 + price ≡ price = omega arith in
+      subst (λ n. least (map (cost n) versions) + sum_by (spared price) steps ≡ sum_by (paid price) steps) same (tell.costs price (omega arith)));
+  count = tell.count;
+  rises = tell.rises;
+  packets = tell.packets;
+  fewer = tell.fewer;
+}

@@ -6,7 +6,7 @@
 pub mod constants;
 mod steps;
 
-pub use steps::add_steps;
+pub use steps::{add_steps, add_steps_above};
 
 #[cfg(test)]
 mod tests;

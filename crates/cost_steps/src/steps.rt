@@ -1,11 +1,11 @@
-ghost use Rattle.std.specs.Prelude.{◌≡◌, ℕ, ◌+◌, ◌*◌, ◌<◌, ◌≤◌, ◌^◌, ◌⊎◌, ◌++◌, List, length, All, OnOk};
+ghost use Rattle.std.specs.Prelude.{◌≡◌, ℕ, ◌+◌, ◌-◌, ◌*◌, ◌<◌, ◌≤◌, ◌^◌, ◌⊎◌, ◌++◌, List, length, All, OnOk};
 ghost use Rattle.version_table.specs.Table.{IsValidVersion};
 ghost use Rattle.dual_bounds.specs.declared.constants.TheConstants.{DISTORTION_PARTS};
 ghost use Rattle.dual_bounds.specs.Values.{cost, packets_of};
 ghost use Rattle.cost_sweep.specs.declared.step.CostStep.{CostStep as Step};
 ghost use Rattle.cost_steps.specs.declared.constants.TheConstants.{PRICE_MOST};
-ghost use Rattle.cost_steps.specs.Private.Lines.{IsLeastLine, IsLineOf, IsNext, line_cost};
-ghost use Rattle.cost_steps.specs.Steps.{TellLeast};
+ghost use Rattle.cost_steps.specs.Private.Lines.{IsLeastLine, IsLineOf, IsNext, first_step, line_cost, step_between};
+ghost use Rattle.cost_steps.specs.Steps.{TellLeast, TellLeastAbove};
 
 use crate::constants::PRICE_MOST;
 use cost_sweep::CostStep;
@@ -31,28 +31,64 @@ pub fn add_steps(
     requires valid { All IsValidVersion versions.now }
     ensures { OnOk result ((own : List Step) × (steps.new.items ≡ steps.old.items ++ own) × TellLeast due versions.now own) }
 {
-    let mut line = least_line(versions, 0);
-    steps.push(CostStep {
-        due,
-        from: 0,
-        rise: line.rise,
-        packets: line.packets,
-        fewer: 0,
-    })?;
-    let mut price = next_price(versions, line, 0);
+    add_steps_above(steps, due, 0, versions)
+}
+
+/// Adds the steps of the least cost of a unit that is due at a time and has these versions, where each packet costs a base
+/// price already. Fails only for want of memory.
+pub fn add_steps_above(
+    steps: &mut Vec<CostStep>,
+    due: u64,
+    base: u64,
+    versions: &[Version],
+) -> Result<(), OutOfMemory>
+    requires some { 1 ≤ length versions.now }
+    requires valid { All IsValidVersion versions.now }
+    requires base { base ≤ PRICE_MOST }
+    ensures { OnOk result ((own : List Step) × (steps.new.items ≡ steps.old.items ++ own) × TellLeastAbove base due versions.now own) }
+{
+    let mut line = least_line(versions, base);
+    steps.push(first_step(base, due, line))?;
+    let mut price = next_price(versions, line, base);
     while price <= PRICE_MOST {
         let next = least_line(versions, price);
-        steps.push(CostStep {
-            due,
-            from: price,
-            rise: next.rise - line.rise,
-            packets: 0,
-            fewer: line.packets - next.packets,
-        })?;
+        steps.push(step_between(base, due, price, line, next))?;
         line = next;
         price = next_price(versions, line, price);
     }
     Ok(())
+}
+
+/// The first step above a base price: what a line costs.
+fn first_step(base: u64, due: u64, line: Line) -> CostStep
+    requires base { base ≤ PRICE_MOST }
+    requires small { line.rise + line.packets * PRICE_MOST < 2 ^ 63 }
+    ensures { result ≡ first_step base due line }
+{
+    CostStep {
+        due,
+        from: 0,
+        rise: line.rise + u64::from(line.packets) * base,
+        packets: line.packets,
+        fewer: 0,
+    }
+}
+
+/// The step above a base price from a line to another one with fewer packets.
+fn step_between(base: u64, due: u64, price: u64, line: Line, next: Line) -> CostStep
+    requires order { base ≤ price }
+    requires fewer { next.packets ≤ line.packets }
+    requires rise { line.rise + (line.packets - next.packets) * base ≤ next.rise }
+    ensures { result ≡ step_between base due price line next }
+{
+    let fewer = line.packets - next.packets;
+    CostStep {
+        due,
+        from: price - base,
+        rise: next.rise - line.rise - u64::from(fewer) * base,
+        packets: 0,
+        fewer,
+    }
 }
 
 /// The price from which on another version costs less than this one, which costs least at the price before.

@@ -2,7 +2,8 @@ ghost use Rattle.std.specs.Prelude.{◌≡◌, ◌+◌, ◌*◌, ◌^◌, ◌<�
 ghost use Rattle.std.specs.List.{AllZip};
 ghost use Rattle.version_table.specs.Choice.{least};
 ghost use Rattle.version_table.specs.Table.{IsValidTable, IsValidUnit, IsValidVersion, units_of};
-ghost use Rattle.dual_bounds.specs.Fixed.{FixesVersions, NamesVersion};
+ghost use Rattle.dual_bounds.specs.declared.constants.TheConstants.{LAMBDA_MOST, WINDOWS_MOST};
+ghost use Rattle.dual_bounds.specs.Fixed.{FixesVersions, NamesVersion, allowed};
 ghost use Rattle.dual_bounds.specs.Private.Costs.{AreCharging};
 ghost use Rattle.dual_bounds.specs.Values.{charge, cost, least_cost, least_costs, price};
 
@@ -52,7 +53,18 @@ fn cost_of_unit(unit: &Unit, fixed: Option<u8>, windows: &[Window], slot: u32) -
     requires charging { AreCharging windows.now }
     ensures { result ≡ least_cost windows.now unit.now fixed }
 {
-    let charged = price(windows, unit.due);
+    unit_cost(unit, fixed, price(windows, unit.due))
+}
+
+/// What a unit costs at least, over its versions that may be chosen, where a packet has this price, in 1/256 of a
+/// distortion.
+pub fn unit_cost(unit: &Unit, fixed: Option<u8>, charged: u64) -> u64
+    requires some { 1 ≤ length unit.now.versions.items }
+    requires valid { All IsValidVersion unit.now.versions.items }
+    requires names { NamesVersion unit.now fixed }
+    requires charged { charged ≤ WINDOWS_MOST * LAMBDA_MOST }
+    ensures { result ≡ least (map (cost charged) (allowed unit.now fixed)) }
+{
     match fixed {
         Some(k) => cost(&unit.versions[usize::from(k)], charged),
         None => least_of_versions(unit.versions.as_slice(), charged),

@@ -2,7 +2,6 @@ ghost use Rattle.std.specs.Prelude.{◌≡◌, ◌*◌, ◌^◌, ◌≤◌, leng
 ghost use Rattle.version_table.specs.Table.{IsValidTable};
 ghost use Rattle.dual_bounds.specs.Bounds.{IsBound, bound_of_value};
 ghost use Rattle.dual_bounds.specs.Fixed.{FixesVersions};
-ghost use Rattle.dual_bounds.specs.Private.Costs.{AreCharging};
 ghost use Rattle.dual_bounds.specs.Room.{room};
 ghost use Rattle.dual_bounds.specs.Values.{from_start, value_of_multipliers, value_of_windows, worth};
 
@@ -56,10 +55,11 @@ pub fn windows_of(multipliers: &[Multiplier]) -> Windows
     windows
 }
 
-/// What the room of some windows is worth.
-fn worth(table: &Table, windows: &[Window]) -> i128
+/// What the room of some windows is worth, in 1/256 of a distortion: the sum of each lambda times its window's room.
+pub fn worth(table: &Table, windows: &[Window]) -> i128
     requires valid { IsValidTable table.now }
-    requires charging { AreCharging windows.now }
+    requires few { length windows.now ≤ WINDOWS_MOST }
+    requires lambdas { All (λ window. window.lambda ≤ LAMBDA_MOST) windows.now }
     ensures value { result ≡ worth table.now windows.now }
     ensures low { neg_ℤ (pos (2 ^ 110)) ≤ℤ result }
     ensures high { result ≤ℤ pos (2 ^ 110) }

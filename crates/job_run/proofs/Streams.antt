@@ -1,5 +1,5 @@
 -- The stream of a job, written to a file.
-use Rattle.std.proofs.Common.{◌≡◌, ◌*◌, ℕ, List, length, Option, Result, OnOk, OnErr, inr}
+use Rattle.std.proofs.Common.{◌≡◌, ◌*◌, ℕ, List, length, Option, Result, OnOk, OnErr, inr, subst, sym}
 use Rattle.std.proofs.lemmas.Result.{on_err_weaker, on_ok_weaker}
 use Rattle.shelf_io.specs.Files.{Files, with_content}
 use Rattle.shelf_io.specs.WholeFile.{HoldsPrefix}
@@ -14,7 +14,13 @@ use Rattle.job_report.specs.ValidJob.{IsValidJob}
 use Rattle.program_reader.specs.declared.program.Program.{Program}
 use Rattle.job_programs.specs.Programs.{ArePrograms}
 use Rattle.program_table.specs.Table.{IsTableOf}
-use Rattle.job_stream.specs.Stream.{IsStreamIn}
+use Rattle.job_stream.specs.Stream.{IsStreamIn, layout_of}
+use Rattle.clean_stream.specs.Clean.{IsCleanStream}
+use Rattle.version_maker.specs.declared.version.UnitVersion.{UnitVersion}
+use Rattle.version_source.specs.Pieces.{pieces_of, stream_items}
+use Rattle.version_source.specs.Versions.{AreAllVersions, ratios_of}
+use Rattle.mux_writer.specs.Output.{output_stream}
+use Rattle.job_reading.specs.ReadBack.{AreReadBack}
 use Rattle.job_run.specs.declared.job_table.JobTable.{JobTable}
 use Rattle.job_run.specs.Written.{HoldsStream, HoldsStreamPart, IsJobStream}
 
@@ -24,13 +30,29 @@ StreamHasSlots = (job : Job) (contents : List (List ℕ)) (programs : List Progr
     → IsValidJob job → ArePrograms job contents programs → IsTableOf job programs table → IsValidTable table → Fits table choice
     → IsSlotList table choice slots → IsStreamIn job programs choice slots stream → length stream ≡ PACKET_BYTES * slots.slots
 
--- so it is the job's stream, whole
-pub is_job_stream : StreamHasSlots → (made : JobTable) (choice : List ℕ) (slots : SlotList) (stream : List ℕ) → IsValidJob made.job
+-- its bytes are clean
+abbrev pub StreamIsClean : Type 0
+StreamIsClean = (job : Job) (contents : List (List ℕ)) (programs : List Program) (table : Table) (choice : List ℕ) (slots : SlotList) (stream : List ℕ)
+    → IsValidJob job → ArePrograms job contents programs → IsTableOf job programs table → IsValidTable table → Fits table choice
+    → IsSlotList table choice slots → IsStreamIn job programs choice slots stream → IsCleanStream table choice stream
+
+-- its programs are read back from it
+abbrev pub ProgramsAreReadBack : Type 0
+ProgramsAreReadBack = (job : Job) (contents : List (List ℕ)) (programs : List Program) (table : Table) (choice : List ℕ) (slots : SlotList) (versions : List (List (List UnitVersion)))
+    → IsValidJob job → ArePrograms job contents programs → IsTableOf job programs table → IsValidTable table → Fits table choice
+    → IsSlotList table choice slots → AreAllVersions programs (ratios_of job.programs) versions
+    → AreReadBack (output_stream (layout_of job programs) job.slot (pieces_of (stream_items programs versions choice)) slots.rows) 0 job.programs contents programs versions choice
+
+-- so it is the job's stream, whole and clean, and its programs are read back from it
+pub is_job_stream : StreamHasSlots → StreamIsClean → ProgramsAreReadBack → (made : JobTable) (choice : List ℕ) (slots : SlotList) (stream : List ℕ) → IsValidJob made.job
     → (contents : List (List ℕ)) × ArePrograms made.job contents made.programs → IsTableOf made.job made.programs made.table → IsValidTable made.table → Fits made.table choice
     → IsSlotList made.table choice slots → IsStreamIn made.job made.programs choice slots stream → IsJobStream made choice slots stream
-is_job_stream law made choice slots stream valid (contents, are) table table_valid fits list is = record {
+is_job_stream law clean back made choice slots stream valid (contents, are) table table_valid fits list is = record {
   is_stream = is;
   whole = law made.job contents made.programs made.table choice slots stream valid are table table_valid fits list is;
+  clean = clean made.job contents made.programs made.table choice slots stream valid are table table_valid fits list is;
+  read_back = λ files held. subst (λ (bytes : List ℕ). AreReadBack bytes 0 made.job.programs files made.programs is.versions choice) (sym is.stream_is)
+      (back made.job files made.programs made.table choice slots is.versions valid held table table_valid fits list is.are_versions);
 }
 
 -- a file that holds it

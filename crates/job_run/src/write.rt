@@ -10,6 +10,8 @@ ghost use Rattle.program_table.specs.Table.{IsTableOf};
 ghost use Rattle.job_run.specs.Written.{HoldsStream, HoldsStreamPart};
 
 use crate::job_table::JobTable;
+use clean_stream::laws::stream_is_clean;
+use job_reading::programs::programs_are_read_back;
 use job_stream::laws::stream_has_slots;
 use job_stream::write_job_stream;
 use shelf_io::{Fault, Shelf, Writing};
@@ -44,6 +46,8 @@ pub fn write_stream_file<K: Shelf>(
     ensures failed_last { IsErrOf result Fault.Failed → K.since_fault shelf.new ≡ 0 }
 {
     stream_has_slots();
+    stream_is_clean();
+    programs_are_read_back();
     shelf.start(name)?;
     write_job_stream(
         alloc,

@@ -1,10 +1,11 @@
-mod LayoutLemmas
+pub mod LayoutLemmas
+mod LayoutRows
 mod Maps
 mod NamedVersions
 mod OneStream
 mod PieceLemmas
-mod PieceSizes
-mod ReadPrograms
-mod RowLemmas
-mod StreamSize
+pub mod PieceSizes
+pub mod ReadPrograms
+pub mod RowLemmas
+pub mod StreamSize
 mod WriteLemmas

@@ -119,3 +119,30 @@ carried-writable file number dropped carried others has =
       streams = subst (All IsStreamWritable) (sym is.streams)
           (All-cons IsStreamWritable is.video (audios_of dropped (is.video.pid ∷ []) (without_video whole.streams.items)) video audios);
     }
+
+-- ---- stream types
+
+abbrev HasKind : Stream → Type 0
+HasKind stream = stream.kind < 2 ^ 8
+
+infos-kinds : (infos : List StreamInfo) (bytes : List ℕ) → IsItemRow IsStreamInfo infos bytes → All HasKind (map stream_of infos)
+infos-kinds [] bytes row = All-nil HasKind
+infos-kinds (info ∷ infos) bytes row =
+    All-cons HasKind (stream_of info) (map stream_of infos) (subst (λ (n : ℕ). n < 2 ^ 8) (sym row.3.type_is) (bits_below row.0 0 8)) (infos-kinds infos row.1 row.4)
+
+section-kinds : (section : List ℕ) (program : ProgramMap) → pmt_of section ≡ Some program → All HasKind program.streams.items
+section-kinds section program made =
+    let says : IsMapContent program (content section) = (pmt_is section program made).0.content_is in
+    subst (All HasKind) (sym says.kept) (infos-kinds says.streams (drop (4 + bits (content section) 20 12) (content section)) says.streams_are)
+
+-- the types of the carried streams of a program of a file have 8 bits
+pub carried-kinds : (file : List ℕ) (number : ℕ) (dropped : List ℕ) (carried : ProgramMap) (others : List ℕ) → HasCarriedMap file number dropped carried others
+    → All (λ (stream : Stream). stream.kind < 2 ^ 8) carried.streams.items
+carried-kinds file number dropped carried others has =
+    let whole = has.whole in
+    let from = taken-map file number has.tables.packet has.tables.rank (take whole) whole has.tables.stops refl in
+    let kinds : All HasKind whole.streams.items = section-kinds from.0 whole from.1 in
+    let is = has.carried_is in
+    subst (All HasKind) (sym is.streams)
+    (All-cons HasKind is.video (audios_of dropped (is.video.pid ∷ []) (without_video whole.streams.items)) (among-found HasKind whole.streams.items is.video kinds is.video_is)
+    (all-audios HasKind dropped (is.video.pid ∷ []) (without_video whole.streams.items) (all-others HasKind whole.streams.items kinds)))

@@ -1,43 +1,11 @@
 -- Steps of units behind each other.
-use Rattle.std.proofs.Common.{
-  ◌≡◌,
-  ℕ,
-  zero,
-  suc,
-  ◌+◌,
-  ◌*◌,
-  ◌^◌,
-  ◌<◌,
-  ◌≤◌,
-  ◌⊎◌,
-  List,
-  [],
-  ◌∷◌,
-  ◌++◌,
-  length,
-  get_or,
-  map,
-  cond,
-  nat_le,
-  sum_by,
-  All,
-  Option,
-  refl,
-  sym,
-  ap,
-  subst,
-  ◌∙◌,
-  inl,
-  inr,
-  length-append,
-  arith,
-}
+use Rattle.std.proofs.Common.{◌≡◌, ℕ, ◌+◌, ◌*◌, ◌<◌, ◌≤◌, ◌⊎◌, List, [], ◌∷◌, ◌++◌, length, get_or, map, cond, nat_le, sum_by, All, Option, refl, sym, ap, subst, ◌∙◌, inl, inr, length-append, arith}
 use Rattle.std.specs.List.{Contains, zip}
 use Rattle.std.specs.List.Sorted.{IsPermutation}
 use Rattle.std.proofs.lemmas.Bool.{cases_lt, le-leb, lt-leb}
 use Rattle.std.proofs.lemmas.List.{get_or-map, length-map, map-append}
 use Rattle.std.proofs.lemmas.List.Elements.{All-head, All-tail, Contains-append_left, Contains-append_right, Contains-append_cases}
-use Rattle.std.proofs.lemmas.List.Sums.{sum_by-append, sum_by-cons}
+use Rattle.std.proofs.lemmas.List.Sums.{sum_by-append, sum_by-cons, sum_by-le}
 use Rattle.std.proofs.lemmas.List.Sorted.{Contains-permutation, IsPermutation-map, IsPermutation-sym, length_permutation, sum_by-IsPermutation}
 use Rattle.version_table.specs.declared.limits.TheConstants.{UNITS_MOST}
 use Rattle.version_table.specs.declared.table.Unit.{Unit as CodedUnit}
@@ -48,23 +16,34 @@ use Rattle.dual_bounds.specs.declared.constants.TheConstants.{LAMBDA_MOST}
 use Rattle.dual_bounds.specs.declared.windows.Window.{Window}
 use Rattle.dual_bounds.specs.Fixed.{allowed}
 use Rattle.dual_bounds.specs.Values.{charge, cost, least_cost, least_costs, price}
+use Rattle.dual_bounds.proofs.Charges.{price-more}
+use Rattle.dual_bounds.proofs.LeastCosts.{charge-le}
 use Rattle.cost_sweep.specs.declared.step.CostStep.{CostStep}
-use Rattle.cost_sweep.specs.Steps.{AreSmall, paid, paid_by, spared, spared_by}
+use Rattle.cost_sweep.specs.Steps.{paid, paid_by, spared, spared_by}
 use Rattle.cost_steps.specs.declared.constants.TheConstants.{PRICE_MOST}
-use Rattle.cost_steps.specs.Steps.{TellLeast}
-use Rattle.multiplier_search.specs.Private.UnitSteps.{AddSteps, AddUnit, alone, AreStepsOf, times_of}
+use Rattle.cost_steps.specs.Steps.{TellLeastAbove}
+use Rattle.multiplier_search.specs.Private.UnitSteps.{AddSteps, AddUnit, AreStepsOf, beside, LeaveRoom, times_of}
 use Rattle.multiplier_search.specs.Single.{dues_of}
 use Rattle.multiplier_search.proofs.Best.{Contains-one}
 
--- ---- one unit under one window from time 0 on
-pub price-alone : (due lambda time : ℕ) → price (alone due lambda) time ≡ cond (nat_le time due) lambda 0
-unfolding price
-price-alone due lambda time = rw (le-leb 0 time (omega arith)) (omega arith)
+-- ---- one unit under one window from time 0 on, beside others
+pub price-beside : (windows : List Window) (due lambda time : ℕ) → price (beside windows due lambda) time ≡ cond (nat_le time due) lambda 0 + price windows time
+price-beside windows due lambda time =
+    let window : Window = record { from = 0; due = due; lambda = lambda } in
+    let own : charge time window ≡ cond (nat_le time due) lambda 0 = rw (le-leb 0 time (omega arith)) refl in
+    price-more window windows time ∙ ap (λ n. n + price windows time) own
 
-charged-le : (due lambda time : ℕ) → lambda ≤ LAMBDA_MOST → cond (nat_le time due) lambda 0 ≤ PRICE_MOST
-charged-le due lambda time limit = elim (cases_lt due time) as (λ _. cond (nat_le time due) lambda 0 ≤ PRICE_MOST) [
+pub price-room : (windows : List Window) (time : ℕ) → LeaveRoom windows → price windows time + LAMBDA_MOST ≤ PRICE_MOST
+unfolding price
+price-room windows time room =
+    let each : All (λ window. charge time window ≤ LAMBDA_MOST) windows = λ k d within. charge-le time (get_or windows k d) (room.lambdas k d within) in
+    let whole : sum_by (charge time) windows ≤ length windows * LAMBDA_MOST = sum_by-le (charge time) LAMBDA_MOST windows each in
+    omega (arith, room.few)
+
+charged-le : (due lambda time : ℕ) → lambda ≤ LAMBDA_MOST → cond (nat_le time due) lambda 0 ≤ LAMBDA_MOST
+charged-le due lambda time limit = elim (cases_lt due time) as (λ _. cond (nat_le time due) lambda 0 ≤ LAMBDA_MOST) [
   | inl later ↦ rw (lt-leb time due later) (omega arith)
-  | inr by ↦ rw (le-leb time due by) (omega arith)
+  | inr by ↦ rw (le-leb time due by) limit
 ]
 
 sum-same : (f g : CostStep → ℕ) (steps : List CostStep) → All (λ step. f step ≡ g step) steps → sum_by f steps ≡ sum_by g steps
@@ -76,14 +55,17 @@ sum-same f g (step ∷ steps) same =
     let two = sum_by-cons g step steps in
     omega arith
 
-unit-costs : (unit : CodedUnit) (entry : Option ℕ) (own : List CostStep) (due lambda : ℕ) → lambda ≤ LAMBDA_MOST → TellLeast unit.due (allowed unit entry) own
-    → least_cost (alone due lambda) unit entry + sum_by (spared_by due lambda) own ≡ sum_by (paid_by due lambda) own
+unit-costs : (windows : List Window) (unit : CodedUnit) (entry : Option ℕ) (own : List CostStep) (base due lambda : ℕ) → LeaveRoom windows → base ≡ price windows unit.due → lambda ≤ LAMBDA_MOST
+    → TellLeastAbove base unit.due (allowed unit entry) own
+    → least_cost (beside windows due lambda) unit entry + sum_by (spared_by due lambda) own ≡ sum_by (paid_by due lambda) own
 unfolding least_cost
-unit-costs unit entry own due lambda limit tell =
+unit-costs windows unit entry own base due lambda room charged limit tell =
     let q = cond (nat_le unit.due due) lambda 0 in
-    let here : least (map (cost (price (alone due lambda) unit.due)) (allowed unit entry)) ≡ least (map (cost q) (allowed unit entry)) =
-    ap (λ p. least (map (cost p) (allowed unit entry))) (price-alone due lambda unit.due) in
-    let whole : least (map (cost q) (allowed unit entry)) + sum_by (spared q) own ≡ sum_by (paid q) own = tell.costs q (charged-le due lambda unit.due limit) in
+    let total : price (beside windows due lambda) unit.due ≡ base + q = (let one = price-beside windows due lambda unit.due in omega (arith, one, charged)) in
+    let here : least (map (cost (price (beside windows due lambda) unit.due)) (allowed unit entry)) ≡ least (map (cost (base + q)) (allowed unit entry)) =
+    ap (λ p. least (map (cost p) (allowed unit entry))) total in
+    let most : base + q ≤ PRICE_MOST = omega (arith, charged, price-room windows unit.due room, charged-le due lambda unit.due limit) in
+    let whole : least (map (cost (base + q)) (allowed unit entry)) + sum_by (spared q) own ≡ sum_by (paid q) own = tell.costs q most in
     let one : sum_by (spared_by due lambda) own ≡ sum_by (spared q) own = sum-same (spared_by due lambda) (spared q) own
     (λ k d low. ap (λ n. spared (cond (nat_le n due) lambda 0) (get_or own k d)) (tell.dues k d low)) in
     let two : sum_by (paid_by due lambda) own ≡ sum_by (paid q) own = sum-same (paid_by due lambda) (paid q) own
@@ -91,7 +73,7 @@ unit-costs unit entry own due lambda limit tell =
     omega arith
 
 -- ---- due times of a unit's steps
-module _ (unit : CodedUnit) (entry : Option ℕ) (own : List CostStep) (tell : TellLeast unit.due (allowed unit entry) own) where
+module _ (unit : CodedUnit) (entry : Option ℕ) (own : List CostStep) (base : ℕ) (tell : TellLeastAbove base unit.due (allowed unit entry) own) where
   own-due : (time : ℕ) → Contains (times_of own) time → unit.due ≡ time
   own-due time (k, within, is) =
       let none : CostStep = record { due = 0; from = 0; rise = 0; packets = 0; fewer = 0 } in
@@ -110,10 +92,10 @@ module _ (unit : CodedUnit) (entry : Option ℕ) (own : List CostStep) (tell : T
       (0, omega arith, at ∙ due ∙ is)
 
 -- ---- one unit more
-pub added-first : (unit : CodedUnit) (entry : Option ℕ) (units : List CodedUnit) (fixed : List (Option ℕ)) (before mid after : List CostStep) → AddUnit unit entry before mid
-    → AddSteps units fixed mid after → AddSteps (unit ∷ units) (entry ∷ fixed) before after
+pub added-first : (windows : List Window) (unit : CodedUnit) (entry : Option ℕ) (units : List CodedUnit) (fixed : List (Option ℕ)) (before mid after : List CostStep) → LeaveRoom windows
+    → AddUnit windows unit entry before mid → AddSteps windows units fixed mid after → AddSteps windows (unit ∷ units) (entry ∷ fixed) before after
 unfolding least_costs
-added-first unit entry units fixed before mid after add rest =
+added-first windows unit entry units fixed before mid after room add rest =
     let own = add.own in
     let tell = add.tell in
     let split : (f : CostStep → ℕ) → sum_by f mid ≡ sum_by f before + sum_by f own = λ f. ap (sum_by f) add.is ∙ sum_by-append f before own in
@@ -121,8 +103,8 @@ added-first unit entry units fixed before mid after add rest =
     let size : length mid ≡ length before + length own = ap (λ (x : List CostStep). length x) add.is ∙ length-append before own in
     record {
       costs = λ due lambda limit.
-          (let first = unit-costs unit entry own due lambda limit tell in
-          let whole = sum_by-cons (λ (x : CodedUnit × Option ℕ). least_cost (alone due lambda) x.0 x.1) (unit, entry) (zip units fixed) in
+          (let first = unit-costs windows unit entry own add.base due lambda room add.charged limit tell in
+          let whole = sum_by-cons (λ (x : CodedUnit × Option ℕ). least_cost (beside windows due lambda) x.0 x.1) (unit, entry) (zip units fixed) in
           let others = rest.costs due lambda limit in
           let one = split (spared_by due lambda) in
           let two = split (paid_by due lambda) in
@@ -136,7 +118,7 @@ added-first unit entry units fixed before mid after add rest =
             (elim (Contains-append_cases (times_of before) (times_of own) time (subst (λ (x : List ℕ). Contains x time) times in_mid))
             as (λ _. Contains (times_of before) time ⊎ Contains (unit.due ∷ dues_of units) time) [
               | inl earlier ↦ inl earlier
-              | inr here ↦ inr (0, omega arith, own-due unit entry own tell time here)
+              | inr here ↦ inr (0, omega arith, own-due unit entry own add.base tell time here)
             ])
         | inr later ↦ inr (Contains-append_right (unit.due ∷ []) (dues_of units) time later)
       ];
@@ -144,7 +126,7 @@ added-first unit entry units fixed before mid after add rest =
       all = λ time has. elim (Contains-append_cases (unit.due ∷ []) (dues_of units) time has) as (λ _. Contains (times_of after) time) [
         | inl here ↦
             rest.kept time (subst (λ (x : List ℕ). Contains x time) (sym times)
-            (Contains-append_right (times_of before) (times_of own) time (has-due unit entry own tell time (Contains-one unit.due time here))))
+            (Contains-append_right (times_of before) (times_of own) time (has-due unit entry own add.base tell time (Contains-one unit.due time here))))
         | inr later ↦ rest.all time later
       ];
     }
@@ -153,9 +135,9 @@ no_time : (time : ℕ) → Contains [] time → ⊥
 no_time time (k, within, is) = omega arith
 
 -- ---- no unit more
-pub added-none : (fixed : List (Option ℕ)) (steps : List CostStep) → AddSteps [] fixed steps steps
+pub added-none : (windows : List Window) (fixed : List (Option ℕ)) (steps : List CostStep) → AddSteps windows [] fixed steps steps
 unfolding least_costs
-added-none fixed steps = record {
+added-none windows fixed steps = record {
   costs = λ due lambda limit. omega arith;
   count = omega arith;
   rises = omega arith;
@@ -167,17 +149,17 @@ added-none fixed steps = record {
 }
 
 -- ---- some units, and others behind them
-pub added-both : (whole units others : List CodedUnit) (fixed front back : List (Option ℕ)) (before mid after : List CostStep) → whole ≡ units ++ others
-    → ((windows : List Window) → least_costs windows whole fixed ≡ least_costs windows units front + least_costs windows others back) → AddSteps units front before mid
-    → AddSteps others back mid after → AddSteps whole fixed before after
-added-both whole units others fixed front back before mid after is total first second =
+pub added-both : (windows : List Window) (whole units others : List CodedUnit) (fixed front back : List (Option ℕ)) (before mid after : List CostStep) → whole ≡ units ++ others
+    → ((all : List Window) → least_costs all whole fixed ≡ least_costs all units front + least_costs all others back) → AddSteps windows units front before mid
+    → AddSteps windows others back mid after → AddSteps windows whole fixed before after
+added-both windows whole units others fixed front back before mid after is total first second =
     let size : length whole ≡ length units + length others = ap (λ (x : List CodedUnit). length x) is ∙ length-append units others in
     let dues : dues_of whole ≡ dues_of units ++ dues_of others = ap dues_of is ∙ map-append (λ (u : CodedUnit). u.due) units others in
     record {
       costs = λ due lambda limit.
           (let one = first.costs due lambda limit in
           let two = second.costs due lambda limit in
-          let both = total (alone due lambda) in
+          let both = total (beside windows due lambda) in
           omega arith);
       count = omega (arith, first.count, second.count);
       rises = omega (arith, first.rises, second.rises);
@@ -199,9 +181,9 @@ added-both whole units others fixed front back before mid after is total first s
     }
 
 -- ---- all units
-pub steps-of : (table : Table) (fixed : List (Option ℕ)) (steps : List CostStep) → length (units_of table) ≤ UNITS_MOST → AddSteps (units_of table) fixed [] steps
-    → AreStepsOf table fixed steps
-steps-of table fixed steps few add = record {
+pub steps-of : (table : Table) (fixed : List (Option ℕ)) (windows : List Window) (steps : List CostStep) → length (units_of table) ≤ UNITS_MOST
+    → AddSteps windows (units_of table) fixed [] steps → AreStepsOf table fixed windows steps
+steps-of table fixed windows steps few add = record {
   costs = λ due lambda limit. (let whole = add.costs due lambda limit in omega arith);
   small = record {
     count = omega (arith, add.count);
@@ -217,8 +199,9 @@ steps-of table fixed steps few add = record {
 }
 
 -- ---- in another order
-pub steps-moved : (table : Table) (fixed : List (Option ℕ)) (steps moved : List CostStep) → IsPermutation steps moved → AreStepsOf table fixed steps → AreStepsOf table fixed moved
-steps-moved table fixed steps moved by are =
+pub steps-moved : (table : Table) (fixed : List (Option ℕ)) (windows : List Window) (steps moved : List CostStep) → IsPermutation steps moved → AreStepsOf table fixed windows steps
+    → AreStepsOf table fixed windows moved
+steps-moved table fixed windows steps moved by are =
     let same : (f : CostStep → ℕ) → sum_by f moved ≡ sum_by f steps = λ f. sum_by-IsPermutation f steps moved by in
     let times : IsPermutation (times_of steps) (times_of moved) = IsPermutation-map (λ (s : CostStep). s.due) steps moved by in
     record {

@@ -7,16 +7,18 @@ use Rattle.std.proofs.lemmas.List.Elements.{Contains-append_left, Contains-appen
 use Rattle.version_table.specs.declared.table.Table.{Table}
 use Rattle.dual_bounds.specs.declared.constants.TheConstants.{LAMBDA_MOST}
 use Rattle.dual_bounds.specs.declared.windows.Multiplier.{Multiplier}
+use Rattle.dual_bounds.specs.declared.windows.Window.{Window}
 use Rattle.dual_bounds.specs.Values.{value_of_multipliers}
 use Rattle.dual_bounds.proofs.Concave.{value-concave}
-use Rattle.multiplier_search.specs.Private.Lambda.{BetterOf, EndsRise, RisesTo, value_at}
+use Rattle.multiplier_search.specs.Private.Lambda.{BetterOf, EndsRise, RisesTo, value_at, value_beside}
 use Rattle.multiplier_search.specs.Single.{IsFirstBest, IsNoWorse, value_alone}
 use Rattle.multiplier_search.proofs.Rises.{less_below, no_greater_behind}
 
--- along the lambdas of one window alone, each rise of the value is at most the one before
-pub values_concave : (table : Table) (fixed : List (Option ℕ)) (from due k : ℕ)
-    → (value_at table fixed from due k +ℤ value_at table fixed from due (suc (suc k))) ≤ℤ (value_at table fixed from due (suc k) +ℤ value_at table fixed from due (suc k))
-values_concave table fixed from due k = value-concave table fixed from due k []
+-- along the lambdas of one window beside others, each rise of the value is at most the one before
+pub values_concave : (table : Table) (fixed : List (Option ℕ)) (windows : List Window) (from due k : ℕ)
+    → (value_beside table fixed windows from due k +ℤ value_beside table fixed windows from due (suc (suc k)))
+    ≤ℤ (value_beside table fixed windows from due (suc k) +ℤ value_beside table fixed windows from due (suc k))
+values_concave table fixed windows from due k = value-concave table fixed from due k windows
 
 pub no_worse_twice : (table : Table) (fixed : List (Option ℕ)) (a b c : Multiplier) → IsNoWorse table fixed a b → IsNoWorse table fixed b c → IsNoWorse table fixed a c
 no_worse_twice table fixed a b c (inl more) (inl more') = inl (omega (arith, ints))
@@ -72,9 +74,9 @@ unfolding value_alone value_of_multipliers
 beside table fixed due lambda rises ends k limit =
     let value : ℕ → ℤ = value_at table fixed 0 due in
     elim (cases_lt k lambda) as (λ _. IsNoWorse table fixed (record { due = due; lambda = lambda }) (record { due = due; lambda = k })) [
-      | inl below ↦ inl (less_below value (values_concave table fixed 0 due) lambda k rises below)
+      | inl below ↦ inl (less_below value (values_concave table fixed [] 0 due) lambda k rises below)
       | inr from ↦
-          (let most : value k ≤ℤ value lambda = no_greater_behind value (values_concave table fixed 0 due) lambda k ends from limit in
+          (let most : value k ≤ℤ value lambda = no_greater_behind value (values_concave table fixed [] 0 due) lambda k ends from limit in
           by_lt_z (value k) (value lambda) (λ less. inl less)
           (λ least. (let same : value k ≡ value lambda = omega (arith, ints) in inr (same, inr (refl, from)))))
     ]

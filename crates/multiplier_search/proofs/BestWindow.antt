@@ -1,5 +1,5 @@
 -- The best of the windows of several lengths.
-use Rattle.std.proofs.Common.{◌≡◌, ℕ, ◌+◌, ◌-◌, ◌<◌, ◌≤◌, List, [], ◌∷◌, length, take, get_or, Option, refl, sym, ap, subst, inl, inr, arith, ℤ, ◌≤ℤ◌}
+use Rattle.std.proofs.Common.{◌≡◌, ℕ, ◌-◌, ◌<◌, ◌≤◌, List, [], ◌∷◌, length, take, get_or, Option, refl, sym, ap, subst, inl, inr, arith, ℤ, ◌≤ℤ◌}
 use Rattle.std.specs.List.{Contains}
 use Rattle.std.proofs.lemmas.Bool.{cases_lt}
 use Rattle.std.proofs.lemmas.Int.{ints}
@@ -9,7 +9,6 @@ use Rattle.version_table.specs.declared.table.Table.{Table}
 use Rattle.version_table.specs.Table.{units_of}
 use Rattle.dual_bounds.specs.declared.constants.TheConstants.{LAMBDA_MOST}
 use Rattle.dual_bounds.specs.declared.windows.Multiplier.{Multiplier}
-use Rattle.dual_bounds.specs.declared.windows.Window.{Window}
 use Rattle.dual_bounds.specs.Values.{value_of_multipliers, value_of_windows}
 use Rattle.cost_sweep.specs.declared.step.CostStep.{CostStep}
 use Rattle.cost_sweep.specs.declared.sweep.CostSweep.{CostSweep}
@@ -20,7 +19,7 @@ use Rattle.multiplier_search.specs.Private.Lambda.{value_at}
 use Rattle.multiplier_search.specs.Private.Lengths.{HasItsValue, Outdoes}
 use Rattle.multiplier_search.specs.Private.UnitSteps.{AreStepsOf, times_of}
 use Rattle.multiplier_search.specs.Single.{dues_of, IsBestSingle, IsFirstBest, IsNoWorse, value_alone}
-use Rattle.multiplier_search.specs.Windows.{BeatEachTried, IsBeginning, IsTried}
+use Rattle.multiplier_search.specs.Windows.{BeatEachTried, IsBeginning}
 use Rattle.multiplier_search.proofs.Best.{Contains-one}
 use Rattle.multiplier_search.proofs.FirstBest.{front-back}
 
@@ -76,7 +75,7 @@ outdoes-on table fixed ticks place due sweep start best better is went first sec
           ];
     }
 
-pub outdoes-all : (table : Table) (fixed : List (Option ℕ)) (ticks place : ℕ) (steps : List CostStep) (start best : ValuedWindow) → length steps ≤ place → AreStepsOf table fixed steps
+pub outdoes-all : (table : Table) (fixed : List (Option ℕ)) (ticks place : ℕ) (steps : List CostStep) (start best : ValuedWindow) → length steps ≤ place → AreStepsOf table fixed [] steps
     → Outdoes table fixed ticks (times_of (take place steps)) start best → Outdoes table fixed ticks (dues_of (units_of table)) start best
 outdoes-all table fixed ticks place steps start best all are is =
     let whole : times_of (take place steps) ≡ times_of steps = ap times_of (take_all place steps all) in

@@ -1,40 +1,5 @@
 -- Values and first best multipliers of a sweep.
-use Rattle.std.proofs.Common.{
-  ◌≡◌,
-  ℕ,
-  ◌+◌,
-  ◌<◌,
-  ◌≤◌,
-  ◌⊎◌,
-  List,
-  [],
-  ◌∷◌,
-  ◌++◌,
-  length,
-  take,
-  get_or,
-  map,
-  sum_by,
-  Option,
-  Some,
-  None,
-  MatchOption,
-  refl,
-  sym,
-  ap,
-  subst,
-  ◌∙◌,
-  inl,
-  inr,
-  arith,
-  ℤ,
-  pos,
-  ◌+ℤ◌,
-  ◌-ℤ◌,
-  ◌*ℤ◌,
-  ◌<ℤ◌,
-  ◌≤ℤ◌,
-}
+use Rattle.std.proofs.Common.{◌≡◌, ℕ, ◌<◌, ◌≤◌, List, [], ◌∷◌, ◌++◌, length, take, get_or, sum_by, Option, Some, None, MatchOption, refl, sym, ap, subst, ◌∙◌, inl, inr, arith, ℤ, pos, ◌+ℤ◌, ◌-ℤ◌, ◌*ℤ◌, ◌<ℤ◌}
 use Rattle.std.specs.List.{Contains}
 use Rattle.std.proofs.lemmas.Bool.{cases_lt}
 use Rattle.std.proofs.lemmas.Int.{ints}
@@ -47,30 +12,36 @@ use Rattle.dual_bounds.specs.declared.constants.TheConstants.{LAMBDA_MOST}
 use Rattle.dual_bounds.specs.declared.windows.Multiplier.{Multiplier}
 use Rattle.dual_bounds.specs.declared.windows.Window.{Window}
 use Rattle.dual_bounds.specs.Room.{room}
-use Rattle.dual_bounds.specs.Values.{least_costs, value_of_multipliers, value_of_windows, worth}
+use Rattle.dual_bounds.specs.Values.{value_of_multipliers, value_of_windows, worth}
 use Rattle.dual_bounds.proofs.Charges.{worth-more, worth_none}
 use Rattle.cost_sweep.specs.declared.step.CostStep.{CostStep}
 use Rattle.cost_sweep.specs.declared.sweep.CostSweep.{CostSweep}
 use Rattle.cost_sweep.specs.Steps.{paid_by, spared_by}
-use Rattle.cost_sweep.specs.Sweep.{HasReached, IsSweep, WentOn}
+use Rattle.cost_sweep.specs.Sweep.{IsSweep, WentOn}
 use Rattle.multiplier_search.specs.declared.single.Valued.{Valued}
-use Rattle.multiplier_search.specs.Private.Lambda.{BetterOf, EndsRise, RisesTo, value_at}
-use Rattle.multiplier_search.specs.Private.UnitSteps.{alone, AreStepsOf, IsBestValued, IsBetterValued, IsNoWorseValued, IsValued, times_of}
-use Rattle.multiplier_search.specs.Single.{dues_of, IsBestSingle, IsCandidate, IsFirstBest, IsNoWorse, value_alone}
+use Rattle.multiplier_search.specs.Private.Lambda.{EndsRise, RisesTo, value_at, value_beside}
+use Rattle.multiplier_search.specs.Private.UnitSteps.{AreStepsOf, beside, IsBestValued, IsBetterValued, IsNoWorseValued, IsValued, times_of}
+use Rattle.multiplier_search.specs.Single.{dues_of, IsBestSingle, IsFirstBest, IsNoWorse, value_alone}
 use Rattle.multiplier_search.proofs.Best.{best_at_due, best_of_both, Contains-one}
 
 -- ---- values
 -- what steps add less what they take, less what the room is worth
-pub value-is : (table : Table) (fixed : List (Option ℕ)) (steps : List CostStep) (due lambda paid spared : ℕ) (capacity : ℤ) → lambda ≤ LAMBDA_MOST → AreStepsOf table fixed steps
+pub value-is : (table : Table) (fixed : List (Option ℕ)) (windows : List Window) (steps : List CostStep) (due lambda paid spared : ℕ) (capacity : ℤ) → lambda ≤ LAMBDA_MOST
+    → AreStepsOf table fixed windows steps
     → paid ≡ sum_by (paid_by due lambda) steps → spared ≡ sum_by (spared_by due lambda) steps → capacity ≡ room table 0 due
-    → (pos paid -ℤ pos spared) -ℤ (pos lambda *ℤ capacity) ≡ value_at table fixed 0 due lambda
+    → (pos paid -ℤ pos spared) -ℤ (pos lambda *ℤ capacity) ≡ value_beside table fixed windows 0 due lambda +ℤ worth table windows
 unfolding value_of_windows
-value-is table fixed steps due lambda paid spared capacity limit are paid-is spared-is room-is =
+value-is table fixed windows steps due lambda paid spared capacity limit are paid-is spared-is room-is =
     let costs = are.costs due lambda limit in
     let window : Window = record { from = 0; due = due; lambda = lambda } in
-    let one : worth table (alone due lambda) ≡ (pos lambda *ℤ room table 0 due) +ℤ worth table [] = worth-more table window [] in
-    let none : worth table [] ≡ pos 0 = worth_none table in
+    let one : worth table (beside windows due lambda) ≡ (pos lambda *ℤ room table 0 due) +ℤ worth table windows = worth-more table window windows in
     let same : pos lambda *ℤ capacity ≡ pos lambda *ℤ room table 0 due = ap (λ (z : ℤ). pos lambda *ℤ z) room-is in
+    omega (arith, ints)
+
+-- what no windows are worth
+pub value-alone : (table : Table) (value own : ℤ) → value ≡ own +ℤ worth table [] → value ≡ own
+value-alone table value own is =
+    let none : worth table [] ≡ pos 0 = worth_none table in
     omega (arith, ints)
 
 -- ---- the first best at the last due time
@@ -166,13 +137,13 @@ no_units (unit ∷ units) none = absurd (none unit.due (0, omega arith, refl))
 no_time : (time : ℕ) → Contains [] time → ⊥
 no_time time (k, within, is) = omega arith
 
-pub single-none : (table : Table) (fixed : List (Option ℕ)) (steps : List CostStep) (place : ℕ) → length steps ≤ place → AreStepsOf table fixed steps
+pub single-none : (table : Table) (fixed : List (Option ℕ)) (steps : List CostStep) (place : ℕ) → length steps ≤ place → AreStepsOf table fixed [] steps
     → IsBestValued table fixed (times_of (take place steps)) None → IsBestSingle table fixed []
 single-none table fixed steps place all are empty =
     let whole : times_of steps ≡ [] = ap times_of (sym (take_all place steps all)) ∙ empty in
     no_units (units_of table) (λ time has. no_time time (subst (λ (x : List ℕ). Contains x time) whole (are.all time has)))
 
-pub single-some : (table : Table) (fixed : List (Option ℕ)) (steps : List CostStep) (place : ℕ) (best : Valued) → length steps ≤ place → AreStepsOf table fixed steps
+pub single-some : (table : Table) (fixed : List (Option ℕ)) (steps : List CostStep) (place : ℕ) (best : Valued) → length steps ≤ place → AreStepsOf table fixed [] steps
     → IsBestValued table fixed (times_of (take place steps)) (Some best) → IsBestSingle table fixed (best.multiplier ∷ [])
 single-some table fixed steps place best all are (first, valued) =
     let whole : times_of (take place steps) ≡ times_of steps = ap times_of (take_all place steps all) in
@@ -181,7 +152,7 @@ single-some table fixed steps place best all are (first, valued) =
     (λ time has. subst (λ (x : List ℕ). Contains x time) (sym whole) (are.all time has)) first
 
 pub single-of : (table : Table) (fixed : List (Option ℕ)) (steps : List CostStep) (place : ℕ) (best : Option Valued) (found : List Multiplier) → length steps ≤ place
-    → AreStepsOf table fixed steps → IsBestValued table fixed (times_of (take place steps)) best → MatchOption best (found ≡ []) (λ valued. found ≡ valued.multiplier ∷ [])
+    → AreStepsOf table fixed [] steps → IsBestValued table fixed (times_of (take place steps)) best → MatchOption best (found ≡ []) (λ valued. found ≡ valued.multiplier ∷ [])
     → IsBestSingle table fixed found
 single-of table fixed steps place None found all are is same =
     subst (λ (x : List Multiplier). IsBestSingle table fixed x) (sym same) (single-none table fixed steps place all are is)

@@ -5,6 +5,13 @@ use Rattle.std.proofs.lemmas.Int.{ints}
 use Rattle.dual_bounds.specs.declared.constants.TheConstants.{LAMBDA_MOST}
 use Rattle.multiplier_search.specs.Private.Lambda.{EndsRise, RisesTo}
 
+-- values with the same put to each are in the same order
+pub less_beside : (a b more x y : ℤ) → x ≡ a +ℤ more → y ≡ b +ℤ more → x <ℤ y → a <ℤ b
+less_beside a b more x y first second less = omega (arith, ints)
+
+pub le_beside : (a b more x y : ℤ) → x ≡ a +ℤ more → y ≡ b +ℤ more → x ≤ℤ y → a ≤ℤ b
+le_beside a b more x y first second le = omega (arith, ints)
+
 module _ (value : ℕ → ℤ) (concave : (k : ℕ) → (value k +ℤ value (suc (suc k))) ≤ℤ (value (suc k) +ℤ value (suc k))) where
   -- each later rise is at most an earlier one
   rises_fall : (k more : ℕ) → (value (suc (k + more)) +ℤ value k) ≤ℤ (value (k + more) +ℤ value (suc k))

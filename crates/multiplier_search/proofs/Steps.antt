@@ -1,41 +1,23 @@
 -- Windows with one changed or one added, as a search gives them.
-use Rattle.std.proofs.Common.{◌≡◌, ◌≢◌, ℕ, ◌+◌, ◌-◌, ◌<◌, ◌≤◌, List, [], ◌∷◌, ◌++◌, length, map, take, drop, get_or, set, Option, Some, slice_get, refl, sym, ap, subst, ◌∙◌, inl, inr, arith, ◌≤ℤ◌}
-use Rattle.std.specs.List.{flat_map, insert}
+use Rattle.std.proofs.Common.{◌≡◌, ◌≢◌, ℕ, ◌+◌, ◌-◌, ◌<◌, ◌≤◌, List, ◌∷◌, length, map, take, drop, get_or, set, Option, Some, slice_get, All, refl, sym, ap, subst, ◌∙◌, inl, inr, arith, ◌≤ℤ◌}
+use Rattle.std.specs.List.{insert}
 use Rattle.std.proofs.lemmas.Bool.{cases_eq, cases_lt}
 use Rattle.std.proofs.lemmas.Int.{ints}
-use Rattle.std.proofs.lemmas.List.{
-  flat_map_more,
-  get_or-map,
-  get_or-set_other,
-  get_or-set_same,
-  get_or_default,
-  get_or_read,
-  length-map,
-  length-set,
-  length-take-le,
-  map-append,
-  map_more,
-  set_at,
-  take-append-drop,
-  take_more,
-}
+use Rattle.std.proofs.lemmas.List.{get_or-map, get_or-set_other, get_or-set_same, get_or_default, get_or_read, length-map, length-set, take-append-drop}
 use Rattle.std.proofs.lemmas.List.Edits.{get_or-insert_above, get_or-insert_at, get_or-insert_below, length-insert}
-use Rattle.std.proofs.lemmas.List.Elements.{All-append, All-cons, All-drop, All-map, All-set, All-take, Contains-append_cases}
+use Rattle.std.proofs.lemmas.List.Elements.{All-append, All-cons, All-drop, All-map, All-set, All-take}
 use Rattle.std.proofs.lemmas.Option.{get_or_from_slice_get, slice_get_within}
-use Rattle.version_table.specs.declared.table.ProgramRow.{ProgramRow}
 use Rattle.version_table.specs.declared.table.Table.{Table}
-use Rattle.version_table.specs.declared.table.Unit.{Unit as CodedUnit}
 use Rattle.dual_bounds.specs.declared.constants.TheConstants.{LAMBDA_MOST}
 use Rattle.dual_bounds.specs.declared.windows.Multiplier.{Multiplier}
 use Rattle.dual_bounds.specs.declared.windows.Window.{Window}
 use Rattle.dual_bounds.specs.Values.{from_start, value_of_windows}
 use Rattle.dual_bounds.proofs.ValueLaws.{any_order}
-use Rattle.multiplier_search.specs.Single.{AreInOrder, dues_of}
+use Rattle.multiplier_search.specs.Single.{AreInOrder}
 use Rattle.multiplier_search.specs.Turns.{BeatAdditions, BeatChanges, with_lambda}
 use Rattle.multiplier_search.specs.Windows.{AreSearched, IsSound, Precedes}
-use Rattle.multiplier_search.specs.Private.Lambda.{EndsRise, RisesTo, value_with}
-use Rattle.multiplier_search.specs.Private.Turns.{AreFromStart, AreNext, BeatFirstChanges, EndsAt, IsGreaterOf, IsPlace}
-use Rattle.multiplier_search.proofs.Best.{Contains-one}
+use Rattle.multiplier_search.specs.Private.Lambda.{EndsRise, RisesTo, value_beside, value_with}
+use Rattle.multiplier_search.specs.Private.Turns.{AreFromStart, AreNext, BeatFirstChanges, IsGreaterOf, IsPlace}
 use Rattle.multiplier_search.proofs.Beside.{greatest-with}
 
 -- ---- the order of windows
@@ -148,10 +130,6 @@ module _ (windows : List Window) (place : ℕ) (window : Window) (searched : Are
         (All-cons (λ x. x.from ≡ 0) window (drop place windows) from (All-drop (λ x. x.from ≡ 0) place windows all));
   }
 
--- a window put in the place of one that was put in
-pub set-insert : (windows : List Window) (place : ℕ) (w w' : Window) → place ≤ length windows → set (insert windows place w) place w' ≡ insert windows place w'
-set-insert windows place w w' within = set_at (take place windows) w (drop place windows) w' place (length-take-le place windows within)
-
 -- a window put among others adds what it adds before them
 pub insert-value : (table : Table) (fixed : List (Option ℕ)) (windows : List Window) (place : ℕ) (w : Window)
     → value_of_windows table fixed (insert windows place w) ≡ value_of_windows table fixed (w ∷ windows)
@@ -195,79 +173,30 @@ pub additions-rise : (table : Table) (fixed : List (Option ℕ)) (dues : List �
     → BeatAdditions table fixed dues start a → BeatAdditions table fixed dues start b
 additions-rise table fixed dues start a b le beat due lambda of_dues lacks limit = let first = beat due lambda of_dues lacks limit in omega (arith, ints)
 
-pub additions-both : (table : Table) (fixed : List (Option ℕ)) (dues more : List ℕ) (start found : List Window) → BeatAdditions table fixed dues start found
-    → BeatAdditions table fixed more start found → BeatAdditions table fixed (dues ++ more) start found
-additions-both table fixed dues more start found first second due lambda of_dues lacks limit =
-    elim (Contains-append_cases dues more due of_dues) as (λ _. value_of_windows table fixed (record { from = 0; due = due; lambda = lambda } ∷ start) ≤ℤ value_of_windows table fixed found) [
-      | inl here ↦ first due lambda here lacks limit
-      | inr there ↦ second due lambda there lacks limit
-    ]
-
--- where a window ends at the due time, none is added
-pub no-addition : (table : Table) (fixed : List (Option ℕ)) (due : ℕ) (start found : List Window) (place : ℕ) → EndsAt start place due → BeatAdditions table fixed (due ∷ []) start found
-no-addition table fixed due start found place ends other lambda of_dues lacks limit =
-    let same : due ≡ other = Contains-one due other of_dues in
-    let d : Window = record { from = 0; due = 0; lambda = 0 } in
-    absurd (lacks place d ends.0 (ends.1 d ∙ same))
-
 -- a window from time 0 on that is put where none ends at its due time
-module _ (start added : List Window) (place due lambda : ℕ) (w : Window) (searched : AreSearched start) (at : IsPlace start (record { from = 0; due = due; lambda = 0 }) place)
-    (free : (d : Window) → place < length start → (get_or start place d).due ≢ due) (limit : lambda ≤ LAMBDA_MOST)
-    (put : added ≡ set (insert start place w) place (record { from = 0; due = due; lambda = lambda })) where
-  abbrev pub own : Window
-  own = record { from = 0; due = due; lambda = lambda }
+pub added-next : (start added : List Window) (place due lambda : ℕ) → AreSearched start → IsPlace start (record { from = 0; due = due; lambda = lambda }) place
+    → All (λ w. w.due ≢ due) start → lambda ≤ LAMBDA_MOST → added ≡ insert start place (record { from = 0; due = due; lambda = lambda }) → AreNext start 1 added
+added-next start added place due lambda searched at free limit put =
+    let own : Window = record { from = 0; due = due; lambda = lambda } in
+    let precedes : (d : Window) → place < length start → Precedes own (get_or start place d) = λ d within.
+    (let x = get_or start place d in
+    let other : x.due ≢ due = free place d within in
+    elim (cases_lt due x.due) as (λ _. Precedes own x) [
+      | inl less ↦ inl less
+      | inr most ↦ absurd (at.behind d within (inl (omega arith)))
+    ]) in
+    subst (λ (x : List Window). AreNext start 1 x) (sym put)
+    (inserted-next start place own searched at precedes (record { order = omega arith; lambda = limit }) refl)
 
-  added-is : added ≡ insert start place own
-  added-is = put ∙ set-insert start place w own at.within
-
-  own-precedes : (d : Window) → place < length start → Precedes own (get_or start place d)
-  own-precedes d within =
-      let x = get_or start place d in
-      let other = free d within in
-      elim (cases_lt due x.due) as (λ _. Precedes own x) [
-        | inl less ↦ inl less
-        | inr most ↦ absurd (at.behind d within (inl (omega arith)))
-      ]
-
-  pub added-next : AreNext start 1 added
-  added-next =
-      let place_of : IsPlace start own place = record { within = at.within; before = at.before; behind = at.behind } in
-      subst (λ (x : List Window). AreNext start 1 x) (sym added-is)
-      (inserted-next start place own searched place_of own-precedes (record { order = omega arith; lambda = limit }) refl)
-
-  -- the best one added at a due time
-  pub addition-at : (table : Table) (fixed : List (Option ℕ)) (best best' : List Window)
-      → RisesTo (value_with table fixed (insert start place w) place 0 due) lambda → EndsRise (value_with table fixed (insert start place w) place 0 due) lambda
-      → IsGreaterOf table fixed best added best' → BeatAdditions table fixed (due ∷ []) start best'
-  addition-at table fixed best best' rises ends is other l of_dues lacks most =
-      let same : due ≡ other = Contains-one due other of_dues in
-      let wider = insert start place w in
-      let size : length wider ≡ length start + 1 = length-insert start place w at.within in
-      let within : place < length wider = omega (arith, at.within) in
-      let tried : Window = record { from = 0; due = due; lambda = l } in
-      let le : value_of_windows table fixed (set wider place tried) ≤ℤ value_of_windows table fixed (set wider place own) =
-      greatest-with table fixed wider place 0 due within lambda l rises ends most in
-      let moved : value_of_windows table fixed (set wider place tried) ≡ value_of_windows table fixed (tried ∷ start) =
-      ap (value_of_windows table fixed) (set-insert start place w tried at.within) ∙ insert-value table fixed start place tried in
-      let second : value_of_windows table fixed (set wider place own) ≤ℤ value_of_windows table fixed best' =
-      subst (λ (x : List Window). value_of_windows table fixed x ≤ℤ value_of_windows table fixed best') put is.second in
-      let total : value_of_windows table fixed (tried ∷ start) ≤ℤ value_of_windows table fixed best' = omega (arith, ints) in
-      subst (λ n. value_of_windows table fixed (record { from = 0; due = n; lambda = l } ∷ start) ≤ℤ value_of_windows table fixed best') same total
-
--- ---- due times of units and programs
-pub dues-more : (units : List CodedUnit) (i : ℕ) (unit : CodedUnit) → i < length units → unit ≡ get_or units i unit
-    → dues_of (take (i + 1) units) ≡ dues_of (take i units) ++ (unit.due ∷ [])
-dues-more units i unit within is =
-    map_more (λ (u : CodedUnit). u.due) units i unit within ∙ ap (λ (u : CodedUnit). dues_of (take i units) ++ (u.due ∷ [])) (sym is)
-
-pub dues-more-programs : (programs : List ProgramRow) (i : ℕ) (program : ProgramRow) → i < length programs → program ≡ get_or programs i program
-    → dues_of (flat_map (λ (p : ProgramRow). p.units) (take (i + 1) programs)) ≡ dues_of (flat_map (λ (p : ProgramRow). p.units) (take i programs)) ++ dues_of program.units
-dues-more-programs programs i program within is =
-    let own : ProgramRow → List CodedUnit = λ p. p.units in
-    let grown : flat_map own (take (i + 1) programs) ≡ flat_map own (take i programs) ++ program.units =
-    ap (flat_map own) (take_more programs i program within ∙ ap (λ (p : ProgramRow). take i programs ++ (p ∷ [])) (sym is))
-    ∙ sym (flat_map_more own [] (take i programs) program) in
-    ap dues_of grown ∙ map-append (λ (u : CodedUnit). u.due) (flat_map own (take i programs)) program.units
+-- what is put there adds what it adds before the others
+pub added-value : (table : Table) (fixed : List (Option ℕ)) (start added found : List Window) (place due lambda : ℕ)
+    → added ≡ insert start place (record { from = 0; due = due; lambda = lambda }) → value_of_windows table fixed added ≤ℤ value_of_windows table fixed found
+    → value_beside table fixed start 0 due lambda ≤ℤ value_of_windows table fixed found
+added-value table fixed start added found place due lambda put le =
+    let own : Window = record { from = 0; due = due; lambda = lambda } in
+    let same : value_of_windows table fixed added ≡ value_beside table fixed start 0 due lambda =
+    ap (value_of_windows table fixed) put ∙ insert-value table fixed start place own in
+    omega (arith, ints)
 
 pub from-start : (multipliers : List Multiplier) → AreFromStart (map from_start multipliers)
 from-start multipliers = All-map (λ (w : Window). w.from ≡ 0) from_start multipliers (λ k d low. refl)

@@ -1,3 +1,4 @@
+pub mod Additions
 pub mod Lambda
 pub mod Lengths
 pub mod UnitSteps

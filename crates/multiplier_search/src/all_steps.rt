@@ -1,39 +1,82 @@
-ghost use Rattle.std.specs.Prelude.{◌≡◌, All, IfOk, OnOk};
+ghost use Rattle.std.specs.Prelude.{◌≡◌, ◌+◌, ◌≤◌, All, IfOk, OnOk};
 ghost use Rattle.std.specs.List.{AllZip};
 ghost use Rattle.version_table.specs.Table.{IsValidTable, IsValidUnit};
 ghost use Rattle.dual_bounds.specs.Fixed.{FixesVersions, NamesVersion};
-ghost use Rattle.multiplier_search.specs.Private.UnitSteps.{AddSteps, AddUnit, AreStepsOf, IsSweepOf};
+ghost use Rattle.dual_bounds.specs.declared.constants.TheConstants.{LAMBDA_MOST};
+ghost use Rattle.dual_bounds.specs.Values.{charge, price};
+ghost use Rattle.cost_sweep.specs.Sweep.{HasReached};
+ghost use Rattle.cost_steps.specs.declared.constants.TheConstants.{PRICE_MOST};
+ghost use Rattle.multiplier_search.specs.Private.UnitSteps.{AddSteps, AddUnit, AreStepsOf, IsSweepOf, LeaveRoom};
 
-use cost_steps::add_steps;
+use cost_steps::add_steps_above;
 use cost_sweep::{CostStep, CostSweep};
-use dual_bounds::Fixed;
+use dual_bounds::{Fixed, Window};
 use list_types::OutOfMemory;
 use std::alloc::Global;
 use version_table::{Table, Unit};
 
-/// A sweep over the steps of all units' least costs, before the first due time. Fails only for want of memory.
-pub fn sweep_of(alloc: Global, table: &Table, fixed: &Fixed) -> Result<CostSweep, OutOfMemory>
+/// A sweep over the steps of all units' least costs beside some windows, before the first due time. Fails only for want of
+/// memory.
+pub fn sweep_of(
+    alloc: Global,
+    table: &Table,
+    fixed: &Fixed,
+    windows: &[Window],
+) -> Result<CostSweep, OutOfMemory>
     requires valid { IsValidTable table.now }
     requires fixed { FixesVersions table.now fixed.now }
-    ensures sweep { IfOk result (IsSweepOf table.now fixed.now) }
+    requires room { LeaveRoom windows.now }
+    ensures sweep { IfOk result (IsSweepOf table.now fixed.now windows.now) }
     ensures start { IfOk result (λ sweep. sweep.place ≡ 0) }
 {
-    let steps = steps_of(alloc, table, fixed)?;
+    let steps = steps_of(alloc, table, fixed, windows)?;
     let sweep = CostSweep::new(alloc, steps)?;
     Ok(sweep)
 }
 
-/// The steps of all units' least costs. Fails only for want of memory.
-fn steps_of(alloc: Global, table: &Table, fixed: &Fixed) -> Result<Vec<CostStep>, OutOfMemory>
+/// A sweep over the steps of all units' least costs beside some windows, behind all that are due by a time. Fails only for want
+/// of memory.
+pub fn sweep_to(
+    alloc: Global,
+    table: &Table,
+    fixed: &Fixed,
+    windows: &[Window],
+    time: u64,
+) -> Result<CostSweep, OutOfMemory>
     requires valid { IsValidTable table.now }
     requires fixed { FixesVersions table.now fixed.now }
-    ensures { IfOk result (λ steps. AreStepsOf table.now fixed.now steps.items) }
+    requires room { LeaveRoom windows.now }
+    ensures sweep { IfOk result (IsSweepOf table.now fixed.now windows.now) }
+    ensures reached { IfOk result (HasReached time) }
+{
+    let mut sweep = sweep_of(alloc, table, fixed, windows)?;
+    sweep.go_to(time);
+    Ok(sweep)
+}
+
+/// The steps of all units' least costs beside some windows. Fails only for want of memory.
+fn steps_of(
+    alloc: Global,
+    table: &Table,
+    fixed: &Fixed,
+    windows: &[Window],
+) -> Result<Vec<CostStep>, OutOfMemory>
+    requires valid { IsValidTable table.now }
+    requires fixed { FixesVersions table.now fixed.now }
+    requires room { LeaveRoom windows.now }
+    ensures { IfOk result (λ steps. AreStepsOf table.now fixed.now windows.now steps.items) }
 {
     let mut steps = Vec::new(alloc);
     let mut rest = fixed.as_slice();
     for program in table.programs.as_slice() {
         let (entries, after) = rest.split_at(program.units.len());
-        add_units(&mut steps, program.units.as_slice(), entries, table.slot)?;
+        add_units(
+            &mut steps,
+            program.units.as_slice(),
+            entries,
+            windows,
+            table.slot,
+        )?;
         rest = after;
     }
     Ok(steps)
@@ -44,14 +87,16 @@ fn add_units(
     steps: &mut Vec<CostStep>,
     units: &[Unit],
     fixed: &[Option<u8>],
+    windows: &[Window],
     slot: u32,
 ) -> Result<(), OutOfMemory>
     requires valid { All (IsValidUnit slot) units.now }
     requires names { AllZip NamesVersion units.now fixed.now }
-    ensures { OnOk result (AddSteps units.now fixed.now steps.old.items steps.new.items) }
+    requires room { LeaveRoom windows.now }
+    ensures { OnOk result (AddSteps windows.now units.now fixed.now steps.old.items steps.new.items) }
 {
     for (i, unit) in units.iter().enumerate() {
-        add_unit(steps, unit, fixed[i], slot)?;
+        add_unit(steps, unit, fixed[i], windows, slot)?;
     }
     Ok(())
 }
@@ -61,14 +106,41 @@ fn add_unit(
     steps: &mut Vec<CostStep>,
     unit: &Unit,
     fixed: Option<u8>,
+    windows: &[Window],
     slot: u32,
 ) -> Result<(), OutOfMemory>
     requires valid { IsValidUnit slot unit.now }
     requires names { NamesVersion unit.now fixed }
-    ensures { OnOk result (AddUnit unit.now fixed steps.old.items steps.new.items) }
+    requires room { LeaveRoom windows.now }
+    ensures { OnOk result (AddUnit windows.now unit.now fixed steps.old.items steps.new.items) }
 {
+    let base = price_of(windows, unit.due);
     match fixed {
-        Some(k) => add_steps(steps, unit.due, &[unit.versions[usize::from(k)]]),
-        None => add_steps(steps, unit.due, unit.versions.as_slice()),
+        Some(k) => add_steps_above(steps, unit.due, base, &[unit.versions[usize::from(k)]]),
+        None => add_steps_above(steps, unit.due, base, unit.versions.as_slice()),
+    }
+}
+
+/// What a packet that is due at a time is charged.
+fn price_of(windows: &[Window], time: u64) -> u64
+    requires { LeaveRoom windows.now }
+    ensures value { result ≡ price windows.now time }
+    ensures room { result + LAMBDA_MOST ≤ PRICE_MOST }
+{
+    let mut total = 0;
+    for window in windows {
+        total += charge_of(*window, time);
+    }
+    total
+}
+
+/// What a window charges for a packet that is due at a time.
+fn charge_of(window: Window, time: u64) -> u64
+    ensures { result ≡ charge time window }
+{
+    if window.from <= time && time <= window.due {
+        window.lambda
+    } else {
+        0
     }
 }

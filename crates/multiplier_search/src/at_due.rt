@@ -1,45 +1,52 @@
-ghost use Rattle.std.specs.Prelude.{◌≡◌, ◌<◌, ◌≤◌, ℕ, List, Option, pos, neg_ℤ, ◌^◌, ◌*ℤ◌, ◌≤ℤ◌};
+ghost use Rattle.std.specs.Prelude.{◌≡◌, ◌<◌, ◌≤◌, ℕ, List, Option, pos, neg_ℤ, ◌^◌, ◌+ℤ◌, ◌*ℤ◌, ◌≤ℤ◌};
 ghost use Rattle.version_table.specs.declared.table.Table.{Table as TableOfUnits};
 ghost use Rattle.dual_bounds.specs.declared.constants.TheConstants.{LAMBDA_MOST};
+ghost use Rattle.dual_bounds.specs.declared.windows.Window.{Window};
 ghost use Rattle.dual_bounds.specs.Room.{room};
+ghost use Rattle.dual_bounds.specs.Values.{worth};
 ghost use Rattle.cost_sweep.specs.Sweep.{HasReached, IsSweep};
-ghost use Rattle.multiplier_search.specs.Private.Lambda.{EndsRise, RisesTo, value_at};
+ghost use Rattle.multiplier_search.specs.Private.Lambda.{EndsRise, RisesTo, value_beside};
 ghost use Rattle.multiplier_search.specs.Private.UnitSteps.{AreAtWindow, AreFree, AreStepsOf};
 
+use crate::meeting::Lines;
 use cost_sweep::{CostSweep, Costs};
 use dual_bounds::constants::LAMBDA_MOST;
 
-/// The least lambda with the greatest value at the last due time of a sweep: values rise up to it and no more, since each
+/// The least lambda with the greatest value at the last due time of a sweep, beside the windows that it stands on: values rise up to it and no more, since each
 /// rise is at most the one before.
 pub fn swept_lambda(sweep: &CostSweep, capacity: i64) -> u64
     requires { IsSweep sweep.now }
     ensures most { result ≤ LAMBDA_MOST }
-    ensures rises { (table : TableOfUnits) (fixed : List (Option ℕ)) (due : ℕ) → AreStepsOf table fixed sweep.now.steps.items
-        → HasReached due sweep.now → capacity ≡ room table 0 due → RisesTo (value_at table fixed 0 due) result }
-    ensures ends { (table : TableOfUnits) (fixed : List (Option ℕ)) (due : ℕ) → AreStepsOf table fixed sweep.now.steps.items
-        → HasReached due sweep.now → capacity ≡ room table 0 due → EndsRise (value_at table fixed 0 due) result }
+    ensures rises { (table : TableOfUnits) (fixed : List (Option ℕ)) (windows : List Window) (due : ℕ) → AreStepsOf table fixed windows sweep.now.steps.items
+        → HasReached due sweep.now → capacity ≡ room table 0 due → RisesTo (value_beside table fixed windows 0 due) result }
+    ensures ends { (table : TableOfUnits) (fixed : List (Option ℕ)) (windows : List Window) (due : ℕ) → AreStepsOf table fixed windows sweep.now.steps.items
+        → HasReached due sweep.now → capacity ≡ room table 0 due → EndsRise (value_beside table fixed windows 0 due) result }
 {
     let mut low = 0;
     let mut high = LAMBDA_MOST;
+    let mut lines = Lines::unknown();
     while low < high {
-        let middle = low + (high - low) / 2;
+        let middle = lines.next_try(low, high);
         let value = swept_value(sweep, capacity, middle);
         let next = swept_value(sweep, capacity, middle + 1);
         if value < next {
             low = middle + 1;
+            lines = lines.behind_rise(value, next);
         } else {
             high = middle;
+            lines = lines.before_fall(value, next);
         }
     }
     low
 }
 
-/// The value of a lambda at the last due time of a sweep, where the room up to it is this.
+/// The value of a lambda at the last due time of a sweep, where the room up to it is this, and what the windows that the sweep
+/// stands on are worth.
 pub fn swept_value(sweep: &CostSweep, capacity: i64, lambda: u64) -> i128
     requires sweep { IsSweep sweep.now }
     requires lambda { lambda ≤ LAMBDA_MOST }
-    ensures { (table : TableOfUnits) (fixed : List (Option ℕ)) (due : ℕ) → AreStepsOf table fixed sweep.now.steps.items
-        → HasReached due sweep.now → capacity ≡ room table 0 due → result ≡ value_at table fixed 0 due lambda }
+    ensures { (table : TableOfUnits) (fixed : List (Option ℕ)) (windows : List Window) (due : ℕ) → AreStepsOf table fixed windows sweep.now.steps.items
+        → HasReached due sweep.now → capacity ≡ room table 0 due → result ≡ value_beside table fixed windows 0 due lambda +ℤ worth table windows }
 {
     let costs = sweep.costs(lambda);
     costs.paid as i128 - costs.spared as i128 - worth_of(capacity, lambda)
@@ -53,28 +60,32 @@ pub fn between_lambda(last: &CostSweep, before: &CostSweep, free: Costs, capacit
     requires paid { free.paid < 2 ^ 110 }
     requires spared { free.spared < 2 ^ 110 }
     ensures most { result ≤ LAMBDA_MOST }
-    ensures rises { (table : TableOfUnits) (fixed : List (Option ℕ)) (from due : ℕ) → AreAtWindow table fixed from due last.now before.now
-        → AreFree table fixed due free → capacity ≡ room table from due → RisesTo (value_at table fixed from due) result }
-    ensures ends { (table : TableOfUnits) (fixed : List (Option ℕ)) (from due : ℕ) → AreAtWindow table fixed from due last.now before.now
-        → AreFree table fixed due free → capacity ≡ room table from due → EndsRise (value_at table fixed from due) result }
+    ensures rises { (table : TableOfUnits) (fixed : List (Option ℕ)) (windows : List Window) (from due : ℕ) → AreAtWindow table fixed windows from due last.now before.now
+        → AreFree table fixed windows due free → capacity ≡ room table from due → RisesTo (value_beside table fixed windows from due) result }
+    ensures ends { (table : TableOfUnits) (fixed : List (Option ℕ)) (windows : List Window) (from due : ℕ) → AreAtWindow table fixed windows from due last.now before.now
+        → AreFree table fixed windows due free → capacity ≡ room table from due → EndsRise (value_beside table fixed windows from due) result }
 {
     let mut low = 0;
     let mut high = LAMBDA_MOST;
+    let mut lines = Lines::unknown();
     while low < high {
-        let middle = low + (high - low) / 2;
+        let middle = lines.next_try(low, high);
         let value = between_value(last, before, free, capacity, middle);
         let next = between_value(last, before, free, capacity, middle + 1);
         if value < next {
             low = middle + 1;
+            lines = lines.behind_rise(value, next);
         } else {
             high = middle;
+            lines = lines.before_fall(value, next);
         }
     }
     low
 }
 
 /// The value of a lambda of the window between two sweeps: what the units cost under it is what they cost under one from time
-/// 0 on to its end, less what they cost under one to the tick before it, and what they cost where no packet has a price.
+/// 0 on to its end, less what they cost under one to the tick before it, and what they cost where no packet has a price. With it is
+/// what the windows that the sweeps stand on are worth.
 pub fn between_value(
     last: &CostSweep,
     before: &CostSweep,
@@ -87,8 +98,9 @@ pub fn between_value(
     requires paid { free.paid < 2 ^ 110 }
     requires spared { free.spared < 2 ^ 110 }
     requires lambda { lambda ≤ LAMBDA_MOST }
-    ensures { (table : TableOfUnits) (fixed : List (Option ℕ)) (from due : ℕ) → AreAtWindow table fixed from due last.now before.now
-        → AreFree table fixed due free → capacity ≡ room table from due → result ≡ value_at table fixed from due lambda }
+    ensures { (table : TableOfUnits) (fixed : List (Option ℕ)) (windows : List Window) (from due : ℕ) → AreAtWindow table fixed windows from due last.now before.now
+        → AreFree table fixed windows due free → capacity ≡ room table from due
+        → result ≡ value_beside table fixed windows from due lambda +ℤ worth table windows }
 {
     let costs = last.costs(lambda);
     let early = before.costs(lambda);

@@ -3,18 +3,20 @@
 //! Stands on `dual_bounds`, and on `cost_steps` and `cost_sweep` for its speed.
 #![tactic(auto)]
 
+mod additions;
 mod all_steps;
 mod at_due;
 mod changes;
 pub mod constants;
 mod lambda;
 mod lists;
+mod meeting;
 mod relaxed;
 mod single;
 mod turns;
 mod window;
 
-pub use relaxed::relaxation;
+pub use relaxed::{SlackTree, relaxation};
 pub use single::best_single;
 pub use turns::{improve, improve_windows};
 pub use window::best_window;

@@ -13,6 +13,7 @@ use crate::changes::of_greater_value;
 use crate::lists::copied;
 use dual_bounds::{Fixed, Windows};
 use list_types::OutOfMemory;
+pub use slack_tree::SlackTree;
 use std::alloc::Global;
 use version_table::Table;
 

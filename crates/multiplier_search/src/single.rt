@@ -29,7 +29,7 @@ pub fn best_single(alloc: Global, table: &Table, fixed: &Fixed) -> Result<Multip
     requires fixed { FixesVersions table.now fixed.now }
     ensures { IfOk result (λ found. IsBestSingle table.now fixed.now found.items) }
 {
-    let mut sweep = sweep_of(alloc, table, fixed)?;
+    let mut sweep = sweep_of(alloc, table, fixed, &[])?;
     let mut best = None;
     'dues: loop {
         match sweep.next_due() {
@@ -91,7 +91,7 @@ fn goes_before(a: Multiplier, b: Multiplier) -> bool
 fn best_at(table: &Table, sweep: &CostSweep, due: u64) -> Valued
     requires valid { IsValidTable table.now }
     requires sweep { IsSweep sweep.now }
-    ensures { (fixed : List (Option ℕ)) → AreStepsOf table.now fixed sweep.now.steps.items → HasReached due sweep.now
+    ensures { (fixed : List (Option ℕ)) → AreStepsOf table.now fixed [] sweep.now.steps.items → HasReached due sweep.now
         → IsBestValued table.now fixed (due ∷ []) (Some result) }
 {
     let capacity = window_capacity(table, 0, due);

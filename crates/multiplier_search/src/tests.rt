@@ -1,5 +1,5 @@
 use crate::{best_single, best_window, improve, improve_windows, relaxation};
-use dual_bounds::{Multiplier, Window, Windows, nothing_fixed, window_value};
+use dual_bounds::{Multiplier, Multipliers, Window, Windows, nothing_fixed, window_value};
 use std::alloc::Global;
 use std::process::Abort;
 use std::test::Fail;
@@ -115,4 +115,48 @@ fn a_turn_finds_the_lambda_of_a_window(rt: HostRuntime) -> Result<(), Fail> {
     let relaxed = relaxation(rt.alloc(), &table, &fixed, &Windows::new())?;
     assert_eq!(rt; relaxed.as_slice().first().copied(), Some(best));
     Ok(())
+}
+
+/// Asserts that one turn from no multiplier gives this one of a table's text, or none.
+fn assert_added(
+    rt: &impl Abort,
+    alloc: Global,
+    text: &[u8],
+    added: Option<Multiplier>,
+) -> Result<(), Fail> {
+    let table = read_table(alloc, text)?;
+    let fixed = nothing_fixed(alloc, &table)?;
+    let found = improve(alloc, &table, &fixed, &Multipliers::new(), 1)?;
+    assert_eq!(rt; found.as_slice().first().copied(), added);
+    Ok(())
+}
+
+/// The first two versions take three packets, the last one: it costs less from 1,281 a packet on, and there is room for two.
+#[test]
+fn a_turn_with_versions_of_equal_packets(rt: HostRuntime) -> Result<(), Fail> {
+    let text =
+        b"remux table 1\nslot 4000\nnodes 1\nevaluations 0\nprogram 112\nunit 27200 552:0 551:3 184:10\n";
+    let added = Multiplier {
+        due: 27_200,
+        lambda: 1_280,
+    };
+    assert_added(&rt, rt.alloc(), text, Some(added))
+}
+
+/// Room for one packet less than none, and one to be sent: the value is two lambdas.
+#[test]
+fn a_turn_where_room_is_negative_takes_the_greatest_lambda(rt: HostRuntime) -> Result<(), Fail> {
+    let text =
+        b"remux table 1\nslot 4000\nnodes 1\nevaluations 0\nprogram 112\nunit 20000 184:0\naudio\npacket 19000 19000 184\n";
+    let added = Multiplier {
+        due: 20_000,
+        lambda: 1_099_511_627_776,
+    };
+    assert_added(&rt, rt.alloc(), text, Some(added))
+}
+
+#[test]
+fn a_turn_without_units_adds_none(rt: HostRuntime) -> Result<(), Fail> {
+    let text = b"remux table 1\nslot 4000\nnodes 1\nevaluations 0\nprogram 112\n";
+    assert_added(&rt, rt.alloc(), text, None)
 }

@@ -8,7 +8,8 @@ ghost use Rattle.multiplier_search.specs.Single.{AreInOrder, dues_of};
 ghost use Rattle.multiplier_search.specs.Turns.{BeatAdditions, BeatChanges};
 ghost use Rattle.multiplier_search.specs.Windows.{AreSearched};
 
-use crate::changes::{best_addition, best_change, of_greater_value};
+use crate::additions::best_addition;
+use crate::changes::{best_change, of_greater_value};
 use crate::lists::{copied, multipliers_of};
 use dual_bounds::constants::WINDOWS_MOST;
 use dual_bounds::{Fixed, Multipliers, Window, Windows, window_value, windows_of};
@@ -39,7 +40,7 @@ pub fn improve(
     let mut with = windows_of(from.as_slice());
     let mut left = turns;
     while left > 0 {
-        let next = turn(table, fixed, with.as_slice());
+        let next = turn(alloc, table, fixed, with.as_slice())?;
         left = turns_left(table, fixed, with.as_slice(), next.as_slice(), left);
         with = next;
     }
@@ -66,7 +67,7 @@ pub fn improve_windows(
     let mut with = copied(from.as_slice());
     let mut left = turns;
     while left > 0 {
-        let next = best_change(table, fixed, with.as_slice());
+        let next = best_change(alloc, table, fixed, with.as_slice())?;
         left = turns_left(table, fixed, with.as_slice(), next.as_slice(), left);
         with = next;
     }
@@ -91,22 +92,28 @@ fn turns_left(table: &Table, fixed: &Fixed, with: &[Window], next: &[Window], le
     }
 }
 
-/// What one turn makes of some multipliers, as windows: the best of one lambda changed, or of one multiplier added.
-fn turn(table: &Table, fixed: &Fixed, with: &[Window]) -> Windows
+/// What one turn makes of some multipliers, as windows: the best of one lambda changed, or of one multiplier added. Fails only
+/// for want of memory.
+fn turn(
+    alloc: Global,
+    table: &Table,
+    fixed: &Fixed,
+    with: &[Window],
+) -> Result<Windows, OutOfMemory>
     requires valid { IsValidTable table.now }
     requires fixed { FixesVersions table.now fixed.now }
     requires few { length with.now ≤ WINDOWS_MOST }
     requires searched { AreSearched with.now }
-    requires starts { AreFromStart with.now }
-    ensures next { AreNext with.now 1 result.items }
-    ensures value { value_of_windows table.now fixed.now with.now ≤ℤ value_of_windows table.now fixed.now result.items }
-    ensures changes { BeatChanges table.now fixed.now with.now result.items }
-    ensures additions { length with.now < WINDOWS_MOST → BeatAdditions table.now fixed.now (dues_of (units_of table.now)) with.now result.items }
+    ensures next { IfOk result (λ found. AreNext with.now 1 found.items) }
+    ensures value { IfOk result (λ found. value_of_windows table.now fixed.now with.now ≤ℤ value_of_windows table.now fixed.now found.items) }
+    ensures changes { IfOk result (λ found. BeatChanges table.now fixed.now with.now found.items) }
+    ensures additions { IfOk result (λ found. length with.now < WINDOWS_MOST
+        → BeatAdditions table.now fixed.now (dues_of (units_of table.now)) with.now found.items) }
 {
-    let changed = best_change(table, fixed, with);
+    let changed = best_change(alloc, table, fixed, with)?;
     if with.len() == WINDOWS_MOST {
-        return changed;
+        return Ok(changed);
     }
-    let added = best_addition(table, fixed, with);
-    of_greater_value(table, fixed, changed, added)
+    let added = best_addition(alloc, table, fixed, with)?;
+    Ok(of_greater_value(table, fixed, changed, added))
 }

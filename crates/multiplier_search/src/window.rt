@@ -93,8 +93,8 @@ fn best_of_length(
     ensures sound { IfOk result (λ best. IsSound best.window) }
     ensures best { IfOk result (Outdoes table.now fixed.now ticks (dues_of (units_of table.now)) start) }
 {
-    let mut last = sweep_of(alloc, table, fixed)?;
-    let mut before = sweep_of(alloc, table, fixed)?;
+    let mut last = sweep_of(alloc, table, fixed, &[])?;
+    let mut before = sweep_of(alloc, table, fixed, &[])?;
     let mut best = start;
     'dues: loop {
         match last.next_due() {
@@ -123,7 +123,7 @@ fn or_at_due(
     ensures steps { before.new.steps.items ≡ before.old.steps.items }
     ensures behind { IsBehindBy ticks due before.new }
     ensures sound { IsSound result.window }
-    ensures best { (fixed : List (Option ℕ)) → AreStepsOf table.now fixed last.now.steps.items → AreStepsOf table.now fixed before.old.steps.items
+    ensures best { (fixed : List (Option ℕ)) → AreStepsOf table.now fixed [] last.now.steps.items → AreStepsOf table.now fixed [] before.old.steps.items
         → HasReached due last.now → HasItsValue table.now fixed so_far → Outdoes table.now fixed ticks (due ∷ []) so_far result }
 {
     if due <= ticks {
@@ -160,8 +160,8 @@ fn best_between(
     requires before { IsSweep before.now }
     requires order { from ≤ due }
     ensures sound { IsSound result.window }
-    ensures value { (fixed : List (Option ℕ)) → AreAtWindow table.now fixed from due last.now before.now → HasItsValue table.now fixed result }
-    ensures best { (fixed : List (Option ℕ)) (lambda : ℕ) → AreAtWindow table.now fixed from due last.now before.now → lambda ≤ LAMBDA_MOST
+    ensures value { (fixed : List (Option ℕ)) → AreAtWindow table.now fixed [] from due last.now before.now → HasItsValue table.now fixed result }
+    ensures best { (fixed : List (Option ℕ)) (lambda : ℕ) → AreAtWindow table.now fixed [] from due last.now before.now → lambda ≤ LAMBDA_MOST
         → value_at table.now fixed from due lambda ≤ℤ result.value }
 {
     let free = last.costs(0);

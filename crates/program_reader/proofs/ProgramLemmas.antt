@@ -257,22 +257,22 @@ pub video_dropped : (packets : List PesUnit) (held : TakenPackets) → AreTaken 
 video_dropped packets held are = omega (arith, are.dropped, dropped_most true packets)
 
 pub streams_dropped : (first : ℤ) (audios : List AudioStream) (streams : List ReadStream) → AreStreamsRead first audios streams →
-    (length streams ≡ length audios) × All (λ one. one.taken.dropped ≤ 1) streams
-    × (sum_by (λ one. one.taken.dropped) streams ≡ sum_by (λ stream. packets_dropped false stream.units) audios)
-streams_dropped first [] [] are = (refl, All-nil (λ (one : ReadStream). one.taken.dropped ≤ 1), refl)
+    (length streams ≡ length audios) × All (λ one. one.dropped ≤ 1) streams
+    × (sum_by (λ one. one.dropped) streams ≡ sum_by (λ stream. packets_dropped false stream.units) audios)
+streams_dropped first [] [] are = (refl, All-nil (λ (one : ReadStream). one.dropped ≤ 1), refl)
 streams_dropped first [] (r ∷ rs) are = absurd are
 streams_dropped first (a ∷ xs) [] are = absurd are
 streams_dropped first (a ∷ xs) (r ∷ rs) are =
     let rest = streams_dropped first xs rs are.1 in
-    let own : r.taken.dropped ≤ 1 = omega (arith, are.0.taken_are.dropped, dropped_most false a.units) in (
+    let own : r.dropped ≤ 1 = omega (arith, are.0.dropped, dropped_most false a.units) in (
       ap suc rest.0,
-      All-cons (λ (one : ReadStream). one.taken.dropped ≤ 1) r rs own rest.1,
-      sum_by-cons (λ (one : ReadStream). one.taken.dropped) r rs ∙ ap₂ (λ (m n : ℕ). m + n) are.0.taken_are.dropped rest.2
+      All-cons (λ (one : ReadStream). one.dropped ≤ 1) r rs own rest.1,
+      sum_by-cons (λ (one : ReadStream). one.dropped) r rs ∙ ap₂ (λ (m n : ℕ). m + n) are.0.dropped rest.2
           ∙ sym (sum_by-cons (λ (stream : AudioStream). packets_dropped false stream.units) a xs),
     )
 
 pub all_dropped : (demuxed : Demuxed) (video : ReadVideo) (streams : List ReadStream) (audios : ℕ) → IsVideoRead demuxed video →
-    AreStreamsRead video.first.stated demuxed.audios streams → audios ≡ sum_by (λ one. one.taken.dropped) streams → video.taken.dropped + audios ≡ all_packets_dropped demuxed
+    AreStreamsRead video.first.stated demuxed.audios streams → audios ≡ sum_by (λ one. one.dropped) streams → video.taken.dropped + audios ≡ all_packets_dropped demuxed
 all_dropped demuxed video streams audios is are sum =
     ap₂ (λ (m n : ℕ). m + n) is.taken_are.dropped (sum ∙ (streams_dropped video.first.stated demuxed.audios streams are).2)
 
@@ -399,7 +399,7 @@ pub program_is : (start : ℕ) (demuxed : Demuxed) (video : ReadVideo) (streams 
     (units : List UnitSource) (audios : List AudioSource) (dropped : ℕ) → IsVideoRead demuxed video → AreStreamsRead video.first.stated demuxed.audios streams →
     IsClockOf demuxed video streams clock.earliest → clock.start ≡ start → length video.units.items ≤ 32768 → IsBase clock.start clock.earliest base → bytes ≡ video.taken.payload.items →
     rows ≡ video.units.items → AreDueUnits clock.start clock.earliest rows units → given ≡ demuxed.audios →
-    AreAudioSources clock.start clock.earliest given (map (λ one. one.frames) streams) audios → dropped ≡ sum_by (λ one. one.taken.dropped) streams → IsProgram start demuxed (record {
+    AreAudioSources clock.start clock.earliest given (map (λ one. one.frames) streams) audios → dropped ≡ sum_by (λ one. one.dropped) streams → IsProgram start demuxed (record {
       map = demuxed.map;
       base = base;
       vbv = video.first.seq.vbv;

@@ -56,7 +56,7 @@ use Rattle.program_reader.specs.Audio.{time_of_byte, payload_place, packet_size,
 use Rattle.program_reader.specs.Private.Dues.{IsTimeFrom}
 use Rattle.program_reader.specs.Private.Pieces.{Follow, HasTimes}
 use Rattle.program_reader.specs.Private.Sources.{IsStreamFrom, AreStreamsFrom}
-use Rattle.program_reader.proofs.StreamLemmas.{placed_count, taken_count, bytes_in, taken_bytes, HasPayload, taken_payloads, taken_few}
+use Rattle.program_reader.proofs.StreamLemmas.{placed_count, taken_count, bytes_in, taken_bytes, HasPayload, taken_payloads}
 use Rattle.program_reader.proofs.TakenLemmas.{placed_at}
 
 -- ---- each payload byte has a frame
@@ -132,14 +132,13 @@ pub record IsReady (earliest : ℤ) (stream : AudioStream) (placed : List Placed
   pub count : length placed ≤ length stream.units
   pub front : take (length placed) stream.units ≡ taken false stream.units
 
-pub ready : (earliest : ℤ) (stream : AudioStream) (read : ReadStream) (placed : List PlacedPacket) (frames : List Frame) → placed ≡ read.taken.packets.items → frames ≡ read.frames →
+pub ready : (earliest : ℤ) (stream : AudioStream) (read : ReadStream) (placed : List PlacedPacket) (frames : List Frame) → placed ≡ read.packets.items → frames ≡ read.frames →
     IsStreamFrom earliest stream read → length stream.units ≤ 2855696 → bytes_in stream.units < 1073741824 → IsReady earliest stream placed frames
 ready earliest stream read placed frames placed_is frames_are is few small =
     let units = stream.units in
     let them = taken false units in
-    let are = is.read_is.taken_are in
-    let all : placed ≡ placed_from 0 them = placed_is ∙ are.holds.placed in
-    let payloads : All HasPayload them = taken_payloads units are.sound in
+    let all : placed ≡ placed_from 0 them = placed_is ∙ is.read_is.placed in
+    let payloads : All HasPayload them = taken_payloads units is.read_is.frames_are.sound in
     let size : length (joined them) ≤ bytes_in units = taken_bytes false units in
     let count : length placed ≡ length them = ap (λ (ps : List PlacedPacket). length ps) all ∙ placed_count 0 them in
     let inside : All (IsInside (length (joined them))) (placed_from 0 them) = placed_inside 0 (length (joined them)) them payloads (omega arith) in
@@ -147,7 +146,7 @@ ready earliest stream read placed frames placed_is frames_are is few small =
     let times : All (HasTimes earliest read.frames) (placed_from 0 them) =
     λ k d lt. has_times earliest read.frames (length (joined them)) (drop 1 frames_is.places) (get_or (placed_from 0 them) k d) is.late frames_is.cover (inside k d lt).0 (inside k d lt).1 in record {
       follow = subst (Follow 0) (sym all) (follow_of 0 them payloads (omega (arith, size, small)));
-      few = taken_few units read.taken placed are placed_is few;
+      few = omega (arith, count, taken_count false units, few);
       times = subst (λ (ps : List PlacedPacket). All (HasTimes earliest frames) ps) (sym all)
           (subst (λ (fs : List Frame). All (HasTimes earliest fs) (placed_from 0 them)) (sym frames_are) times);
       count = omega (arith, count, taken_count false units);
@@ -155,13 +154,13 @@ ready earliest stream read placed frames placed_is frames_are is few small =
     }
 
 pub source_is : (start : ℕ) (earliest : ℤ) (stream : AudioStream) (read : ReadStream) (units : List PesUnit) (placed : List PlacedPacket) (frames : List Frame) (bytes : List ℕ)
-    (pieces : List AudioPiece) → placed ≡ read.taken.packets.items → frames ≡ read.frames → units ≡ stream.units → IsStreamFrom earliest stream read → IsReady earliest stream placed frames →
+    (pieces : List AudioPiece) → placed ≡ read.packets.items → frames ≡ read.frames → units ≡ stream.units → IsStreamFrom earliest stream read → IsReady earliest stream placed frames →
     bytes ≡ flat_map (λ packet. packet.bytes) (take (length placed) units) → ArePieces start earliest frames (placed_pieces 0 placed) pieces →
     IsAudioSource start earliest stream read.frames (record { bytes = bytes; pieces = pieces })
 source_is start earliest stream read units placed frames bytes pieces placed_is frames_are units_are is so bytes_are pieces_are = record {
   bytes = bytes_are ∙ ap (flat_map (λ (packet : PesUnit). packet.bytes)) (ap (take (length placed)) units_are ∙ so.front);
   pieces = subst (λ (fs : List Frame). ArePieces start earliest fs (placed_pieces 0 (placed_from 0 (taken false stream.units))) pieces) frames_are
-      (subst (λ (ps : List PlacedPacket). ArePieces start earliest frames (placed_pieces 0 ps) pieces) (placed_is ∙ is.read_is.taken_are.holds.placed) pieces_are);
+      (subst (λ (ps : List PlacedPacket). ArePieces start earliest frames (placed_pieces 0 ps) pieces) (placed_is ∙ is.read_is.placed) pieces_are);
 }
 
 -- ---- streams, one behind the other

@@ -55,7 +55,7 @@ use Rattle.program_reader.specs.declared.pes_packets.PlacedPacket.{PlacedPacket}
 use Rattle.program_reader.specs.declared.pes_packets.TakenPackets.{TakenPackets}
 use Rattle.program_reader.specs.declared.program_fault.ProgramFault.{ProgramFault}
 use Rattle.program_reader.specs.Faults.{of_audio}
-use Rattle.program_reader.specs.Packets.{AreSound, taken, payload_of, joined, placed_from, decoding_time}
+use Rattle.program_reader.specs.Packets.{AreSound, taken, payload_of, joined, packets_dropped, placed_from, decoding_time}
 use Rattle.program_reader.specs.Audio.{AreStartsOf, IsStreamRefused}
 use Rattle.program_reader.specs.Private.AudioStarts.{IsNear, AreNear, IsStreamRead}
 use Rattle.program_reader.specs.Private.TakenPackets.{AreTaken}
@@ -218,13 +218,14 @@ frames_refused first stream packets held placed payload starts given found fault
 pub stream_read : (first : ℤ) (stream : AudioStream) (packets : List PesUnit) (held : TakenPackets) (placed : List PlacedPacket) (payload : List ℕ) (starts given : List PesStart)
     (frames : List Frame) → packets ≡ stream.units → AreTaken false packets held → placed ≡ held.packets.items → payload ≡ held.payload.items → given ≡ starts →
     AreStartsOf first placed starts → AreNear 2855696 starts → AreFramesOf payload given frames → length payload < 1073741824 →
-    IsStreamRead first stream (record { taken = held; frames = frames })
+    IsStreamRead first stream (record { packets = held.packets; dropped = held.dropped; frames = frames })
 stream_read first stream packets held placed payload starts given frames packets_are are placed_is payload_is same starts_are near frames_are small =
     let taken_is : taken false packets ≡ taken false stream.units = ap (taken false) packets_are in
     let placed_all : placed ≡ placed_from 0 (taken false stream.units) = placed_is ∙ are.holds.placed ∙ ap (placed_from 0) taken_is in
     let payload_all : payload ≡ joined (taken false stream.units) = payload_is ∙ are.holds.payload ∙ ap joined taken_is in
     let of_starts : AreFramesOf payload starts frames = subst (λ (xs : List PesStart). AreFramesOf payload xs frames) same frames_are in record {
-      taken_are = subst (λ (ps : List PesUnit). AreTaken false ps held) packets_are are;
+      placed = are.holds.placed ∙ ap (placed_from 0) taken_is;
+      dropped = are.dropped ∙ ap (packets_dropped false) packets_are;
       frames_are = record {
         sound = subst (AreSound false) packets_are are.sound;
         starts = starts;

@@ -52,7 +52,7 @@ fn audio_source(
     requires read { IsStreamFrom clock.now.earliest stream.now read.now }
     ensures { IfOk result (IsAudioSource clock.now.start clock.now.earliest stream.now read.now.frames) }
 {
-    let packets = read.taken.packets.as_slice();
+    let packets = read.packets.as_slice();
     let bytes = packet_bytes(alloc, stream.units.as_slice(), packets.len())?;
     let pieces = audio_pieces(alloc, packets, read.frames.as_slice(), clock)?;
     Ok(AudioSource { bytes, pieces })

@@ -7,18 +7,19 @@ ghost use Rattle.program_reader.specs.Private.AudioStarts.{IsNear, IsStreamRead,
 
 use crate::audio_starts::{AxisTime, audio_starts};
 use crate::limits::PACKETS_MOST;
-use crate::pes_packets::{TakenPackets, take_packets};
+use crate::pes_packets::{PlacedPacket, TakenPackets, take_packets};
 use crate::program_fault::{ProgramFault, audio_refused};
 use audio_frames::{Frame, frames};
 use list_types::ListOf;
 use std::alloc::Global;
 use ts_demux::AudioStream;
 
-/// What is read of an audio stream.
+/// What is read of an audio stream. Its joined payload is let go.
 #[derive(Drop)]
 pub struct ReadStream {
-    /// Its PES packets.
-    pub taken: TakenPackets,
+    /// Its PES packets, and how many are dropped.
+    pub packets: Vec<PlacedPacket>,
+    pub dropped: u32,
     pub frames: ListOf<Frame>,
 }
 
@@ -41,7 +42,18 @@ pub fn read_stream(
     let starts = audio_starts(alloc, taken.packets.as_slice(), first)?;
     let read = frames(alloc, taken.payload.as_slice(), starts.as_slice());
     match read {
-        Ok(frames) => Ok(ReadStream { taken, frames }),
+        Ok(frames) => {
+            let TakenPackets {
+                packets,
+                dropped,
+                ..
+            } = taken;
+            Ok(ReadStream {
+                packets,
+                dropped,
+                frames,
+            })
+        }
         Err(fault) => Err(audio_refused(fault)),
     }
 }

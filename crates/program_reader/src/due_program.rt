@@ -56,13 +56,13 @@ pub fn due_program(
 /// How many PES packets of audio streams are dropped.
 fn audio_packets_dropped(streams: &[ReadStream]) -> u32
     requires few { length streams.now ≤ AUDIOS_MOST }
-    requires each { All (λ one. one.taken.dropped ≤ 1) streams.now }
-    ensures sum { result ≡ sum_by (λ one. one.taken.dropped) streams.now }
+    requires each { All (λ one. one.dropped ≤ 1) streams.now }
+    ensures sum { result ≡ sum_by (λ one. one.dropped) streams.now }
     ensures most { result ≤ AUDIOS_MOST }
 {
     let mut dropped = 0;
     for stream in streams {
-        dropped += stream.taken.dropped;
+        dropped += stream.dropped;
     }
     dropped
 }

@@ -2,6 +2,7 @@
 ghost use Rattle.std.specs.Prelude.{◌≡◌, ◌≤◌, length, take, IfOk};
 ghost use Rattle.std.specs.List.{flat_map};
 
+use crate::pes_packets::bytes_of;
 use list_types::{ListOf, OutOfMemory};
 use std::alloc::Global;
 use ts_demux::PesUnit;
@@ -15,7 +16,7 @@ pub fn packet_bytes(
     requires { count ≤ length packets.now }
     ensures { IfOk result (λ bytes. bytes ≡ flat_map (λ packet. packet.bytes) (take count packets.now)) }
 {
-    let mut bytes = Vec::new(alloc);
+    let mut bytes = Vec::with_capacity(alloc, bytes_of(packets))?;
     for packet in &packets[..count] {
         bytes.extend_from_slice(packet.bytes.as_slice())?;
     }

@@ -41,7 +41,7 @@ pub fn take_packets(
 ) -> Result<TakenPackets, ProgramFault>
     ensures { MatchResult result (AreTaken video packets.now) (λ fault. (fault ≡ OutOfMemory) ⊎ IsPacketFault video packets.now fault) }
 {
-    let mut held = TakenPackets::new(alloc);
+    let mut held = TakenPackets::with_room(alloc, packets)?;
     let Some((last, others)) = packets.split_last() else {
         return Ok(held);
     };
@@ -58,16 +58,15 @@ pub fn take_packets(
 }
 
 impl TakenPackets {
-    /// None are taken.
-    fn new(alloc: Global) -> Self
-        ensures held { Holds [] result }
-        ensures dropped { result.dropped ≡ 0 }
+    /// None are taken, with room for all of these.
+    fn with_room(alloc: Global, packets: &[PesUnit]) -> Result<Self, AllocError>
+        ensures { IfOk result (λ held. Holds [] held × (held.dropped ≡ 0)) }
     {
-        TakenPackets {
-            payload: Vec::new(alloc),
-            packets: Vec::new(alloc),
+        Ok(TakenPackets {
+            payload: Vec::with_capacity(alloc, bytes_of(packets))?,
+            packets: Vec::with_capacity(alloc, packets.len())?,
             dropped: 0,
-        }
+        })
     }
 
     /// Takes a PES packet that others follow.
@@ -115,6 +114,15 @@ impl TakenPackets {
         self.packets.push(PlacedPacket { from, end, header })?;
         Ok(())
     }
+}
+
+/// How many bytes PES packets have, as room for them: nothing is promised of it.
+pub fn bytes_of(packets: &[PesUnit]) -> usize {
+    let mut bytes = 0usize;
+    for packet in packets {
+        bytes = bytes.wrapping_add(packet.bytes.len());
+    }
+    bytes
 }
 
 /// The bytes behind so many, or none where there are fewer.

@@ -25,7 +25,8 @@ const PROGRAM_LIMIT: ProgramFault = ProgramFault::Refused {
 
 /// Reads a program of a transport stream: its units and audio packets with the times at which a decoder wants them, the earliest
 /// one at `start`, without the audio streams whose PIDs are in `drop`. An error is the first refusal of the file in the order of
-/// reading, with its place, or want of memory. Beside the file at most three times the payload of the carried streams is held.
+/// reading, with its place, or want of memory. Beside the file at most twice the payload of the carried streams is held, and a record a
+/// packet, unit and frame.
 pub fn read_program(
     alloc: Global,
     file: &[u8],

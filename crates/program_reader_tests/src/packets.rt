@@ -33,14 +33,21 @@ fn low_byte(number: u64) -> u8 {
     low
 }
 
-/// The field of a PTS that stands alone.
-fn pts_field(pts: u64) -> [u8; 5] {
+/// The four bits before a PTS that stands alone, before one that a DTS follows, and before that DTS, with a marker bit.
+const PTS_ALONE: u8 = 0x21;
+
+const PTS_FIRST: u8 = 0x31;
+
+const DTS: u8 = 0x11;
+
+/// The field of a time behind these four bits.
+fn time_field(bits: u8, time: u64) -> [u8; 5] {
     [
-        0x21 | low_byte(pts >> 29) & 0x0E,
-        low_byte(pts >> 22),
-        0x01 | low_byte(pts >> 14) & 0xFE,
-        low_byte(pts >> 7),
-        0x01 | low_byte(pts << 1) & 0xFE,
+        bits | low_byte(time >> 29) & 0x0E,
+        low_byte(time >> 22),
+        0x01 | low_byte(time >> 14) & 0xFE,
+        low_byte(time >> 7),
+        0x01 | low_byte(time << 1) & 0xFE,
     ]
 }
 
@@ -82,12 +89,28 @@ impl File {
 
     /// Puts a PES packet of the video in one packet, zero bytes behind it.
     pub fn video(&mut self, time: Time, unit: &[u8]) -> Result<(), AllocError> {
+        let mut fields = Vec::new(self.alloc);
+        put_time(&mut fields, time)?;
+        self.video_behind(fields.as_slice(), unit)
+    }
+
+    /// The same with a PTS and a DTS.
+    pub fn video_shown_later(&mut self, pts: u64, dts: u64, unit: &[u8]) -> Result<(), AllocError> {
+        let mut fields = Vec::new(self.alloc);
+        fields.extend_from_slice(&[0xC0, 10])?;
+        fields.extend_from_slice(&time_field(PTS_FIRST, pts))?;
+        fields.extend_from_slice(&time_field(DTS, dts))?;
+        self.video_behind(fields.as_slice(), unit)
+    }
+
+    /// Puts a PES packet of the video, with these bytes from the flags to the end of its header.
+    fn video_behind(&mut self, fields: &[u8], unit: &[u8]) -> Result<(), AllocError> {
         let [high, low] = VIDEO_PID.to_be_bytes();
         let count = self.videos;
         self.videos = count.wrapping_add(1) % 16;
         let mut pes = Vec::new(self.alloc);
         pes.extend_from_slice(&[0, 0, 1, 0xE0, 0, 0, 0x80])?;
-        put_time(&mut pes, time)?;
+        pes.extend_from_slice(fields)?;
         pes.extend_from_slice(unit)?;
         self.put(
             &[SYNC_BYTE, 0x40 | high, low, 0x10 | count],
@@ -139,7 +162,7 @@ fn put_time(pes: &mut Vec<u8>, time: Time) -> Result<(), AllocError> {
     match time {
         Some(pts) => {
             pes.extend_from_slice(&[0x80, 5])?;
-            pes.extend_from_slice(&pts_field(pts))
+            pes.extend_from_slice(&time_field(PTS_ALONE, pts))
         }
         None => pes.extend_from_slice(&[0, 0]),
     }

@@ -43,6 +43,15 @@ pub const I_BOTTOM: &[u8] = &[
     0, 0, 1, 0, 0x00, 0x0F, 0xFF, 0xF8, 0, 0, 1, 0xB5, 0x8F, 0xFF, 0xF2, 0x00, 0x00,
 ];
 
+/// A B-picture that is a progressive frame, with f_codes of 1 both ways: its header of 9 bytes, and its extension of 9.
+const B_FRAME: &[u8] = &[
+    0, 0, 1, 0, 0x00, 0x1F, 0xFF, 0xFB, 0xB8, 0, 0, 1, 0xB5, 0x81, 0x11, 0x13, 0x41, 0x80,
+];
+
+/// A slice of the first row with one macroblock that is predicted forward by a vector of 0: quantiser code 2 and no information;
+/// address, type, vector: 00010 0 1 0010 1 1.
+const FORWARD_SLICE: &[u8] = &[0, 0, 1, 1, 0x12, 0x58];
+
 /// A slice of the first row with one intra macroblock whose blocks are flat: quantiser code 1 and no information; address,
 /// type, four blocks of luminance, two of chrominance: 00001 0 1 1 100 10 100 10 100 10 100 10 00 10 00 10.
 const SLICE: &[u8] = &[0, 0, 1, 1, 0x0B, 0x94, 0xA5, 0x22, 0x20];
@@ -54,6 +63,14 @@ pub fn unit_of(parts: &[&[u8]]) -> Unit {
         let _ = unit.try_extend_from_slice(part);
     }
     let _ = unit.try_extend_from_slice(SLICE);
+    unit
+}
+
+/// A B-picture of one macroblock, predicted from the picture that is shown before it.
+pub fn b_unit() -> Unit {
+    let mut unit = Unit::new();
+    let _ = unit.try_extend_from_slice(B_FRAME);
+    let _ = unit.try_extend_from_slice(FORWARD_SLICE);
     unit
 }
 

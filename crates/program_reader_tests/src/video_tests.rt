@@ -3,7 +3,7 @@
 use crate::packets::{File, Time};
 use crate::streams::{
     I_BOTTOM, I_FRAME, I_REPEATED, I_TOP, INTERLACED, OPEN_GROUP, PROGRESSIVE, SEQUENCE,
-    SEQUENCE_OF_RATE_1, Unit, two_frames, unit_of,
+    SEQUENCE_OF_RATE_1, Unit, b_unit, two_frames, unit_of,
 };
 use program_maker::make_program;
 use program_reader::{Program, ProgramFault, SourceKind, read_program};
@@ -173,6 +173,37 @@ fn units_before_the_first_sequence_header_are_dropped(rt: HostRuntime) -> Result
         dues_of(rt.alloc(), &program)?.as_slice(),
         [START].as_slice()
     );
+    Ok(())
+}
+
+#[test]
+fn pictures_of_an_open_group_are_kept_without_the_one_before(rt: HostRuntime) -> Result<(), Fail> {
+    // decoded at 0, 1 and 2 frame periods of 3,600; the first one is shown behind the other two, whose forward reference isn't there
+    let mut file = File::new(rt.alloc())?;
+    let opened = unit_of(&[SEQUENCE, PROGRESSIVE, OPEN_GROUP, I_FRAME]);
+    file.video_shown_later(100_800, 90_000, opened.as_slice())?;
+    file.video(Some(93_600), b_unit().as_slice())?;
+    file.video(Some(97_200), b_unit().as_slice())?;
+    file.audio(Some(90_000), &two_frames(), 0)?;
+    let program = read_program(rt.alloc(), file.bytes.as_slice(), 1, &[], START)?;
+    assert_eq!(rt; (program.units.len(), program.units_dropped), (3, 0));
+    assert_eq!(rt; program.base, 300 * 90_000 - START);
+    assert_eq!(rt;
+        dues_of(rt.alloc(), &program)?.as_slice(),
+        [START, START + 1_080_000, START + 2_160_000].as_slice()
+    );
+    if let [first, second, third] = program.units.as_slice() {
+        // 165 bytes behind a header of 19, 170 behind one of 14
+        assert_eq!(rt;
+            (first.begin, second.begin, third.begin, third.end),
+            (0, 165, 335, 505)
+        );
+        assert_eq!(rt;
+            (first.times.pts, first.times.dts),
+            (Some(100_800), Some(90_000))
+        );
+        assert_eq!(rt; (second.times.pts, second.times.dts), (Some(93_600), None));
+    }
     Ok(())
 }
 

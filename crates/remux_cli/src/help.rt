@@ -6,6 +6,9 @@ pub const HELP: &str = "remux: a statistical remultiplexer for MPEG-2 whose prom
   remux check JOB CERT    reads the same programs again, and checks the certificate in CERT
   remux plan TABLE CERT   plans the table of pictures in the file TABLE, writes a certificate of the
                           plan to CERT
+  remux probe FILE PROGRAM TABLE
+                          writes the table of pictures of the program with the program_number PROGRAM (1 to 65535)
+                          of the transport stream FILE to TABLE, for slots of 4000 ticks
   remux gen SEED PICTURES OUT
                           writes the generated program of SEED (0 to 18446744073709551615) with PICTURES
                           pictures (1 to 4096), a transport stream for trials, to OUT

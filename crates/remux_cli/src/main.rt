@@ -45,16 +45,21 @@ fn answer<R: Files + Print + Eprint + AllocGlobal>(rt: &R, words: &[String]) -> 
         [word] if word.as_str() == "--help" => told(rt, HELP),
         [word] if word.as_str() == "--version" => told(rt, VERSION),
         // Two names of one file are no command.
-        [_, files @ ..] if share_one_file(rt, files) => command(rt, &[]),
+        _ if share_one_file(rt, words) => command(rt, &[]),
         _ => command(rt, words),
     }
 }
 
-/// Whether two of these names are those of one existing file.
-fn share_one_file<R: Files + AllocGlobal>(rt: &R, names: &[String]) -> bool {
-    match names {
-        [first, second] => name_one_file(rt, first.as_str(), second.as_str()),
-        [first, second, third] => {
+/// Whether two of the file names of a command are those of one existing file. `gen` names one file alone, `probe` two, and
+/// between them the number of a program.
+fn share_one_file<R: Files + AllocGlobal>(rt: &R, words: &[String]) -> bool {
+    match words {
+        [verb, file, _, table] if verb.as_str() == "probe" => {
+            name_one_file(rt, file.as_str(), table.as_str())
+        }
+        [verb, ..] if verb.as_str() == "gen" => false,
+        [_, first, second] => name_one_file(rt, first.as_str(), second.as_str()),
+        [_, first, second, third] => {
             name_one_file(rt, first.as_str(), second.as_str())
                 || name_one_file(rt, first.as_str(), third.as_str())
                 || name_one_file(rt, second.as_str(), third.as_str())

@@ -15,7 +15,7 @@ pub fn print_sentence<R: Eprint>(rt: &R, words: &[String], status: &Status) -> i
             "remux: these words are no command, or two of their files are one; `remux --help` lists the commands"
         ),
         Status::JobRefused(refusal) => print_refusal(rt, first, refusal),
-        Status::SourceRefused(fault) => print_source(rt, first, fault),
+        Status::SourceRefused(fault) => print_source(rt, words, fault),
         Status::Unschedulable(miss) => eprintln!(rt;
             "remux: {first}: the smallest versions can't all be sent in time: unit {} of stream {}, due at tick {}, misses in \
              slot {}; a shorter slot, smaller versions or later times may help",
@@ -62,7 +62,16 @@ fn print_refusal<R: Eprint>(rt: &R, name: &str, refusal: &JobRefusal) -> io::Res
 }
 
 /// Prints which program is refused, for what and where.
-fn print_source<R: Eprint>(rt: &R, name: &str, fault: &SourceFault) -> io::Result<()> {
+fn print_source<R: Eprint>(rt: &R, words: &[String], fault: &SourceFault) -> io::Result<()> {
+    let name = word_at(words, 1);
+    if word_at(words, 0) == "probe" {
+        return eprintln!(rt;
+            "remux: {name}: program {} is refused: {:?} at byte {}; docs/REFUSALS.md says what may help",
+            word_at(words, 2),
+            fault.kind,
+            fault.at
+        );
+    }
     eprintln!(rt;
         "remux: {name}: program {} (from 0) is refused: {:?} at byte {}; docs/REFUSALS.md says what may help",
         fault.program, fault.kind, fault.at

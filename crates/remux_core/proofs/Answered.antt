@@ -8,7 +8,7 @@ use Rattle.shelf_io.specs.Files.{Files}
 use Rattle.remux_core.specs.declared.status.Status.{Status}
 use Rattle.remux_core.specs.declared.status.Status.TheVariants as statuses
 use Rattle.remux_core.specs.Answer.{Answer, CallsFor, IsDone, Leaves, EndsWithStatus, Decides, HasCause, AnswerHasCause}
-use Rattle.remux_core.specs.Command.{Command, Plan, Gen, Run, Check, IsCommand, IsSaid}
+use Rattle.remux_core.specs.Command.{Command, Plan, Gen, Run, Check, Probe, IsCommand, IsSaid}
 use Rattle.remux_core.specs.Outcome.{Outcome, BreaksOff, IsReported, WordsCallFor}
 use Rattle.remux_core.specs.Outside.{ShelfFacts, SinkFacts, OnFiles}
 use Rattle.remux_core.specs.Private.Ended.{Performs}
@@ -17,12 +17,13 @@ use Rattle.remux_core.specs.Status.{IsSameStatus}
 use Rattle.remux_core.proofs.One.{Laws, one_command, calls_for_one}
 use Rattle.remux_core.proofs.Told.{on_then, on_told}
 
--- a plan was made where the smallest choice is scheduled, a program wherever it was asked for
+-- a plan was made where the smallest choice is scheduled, a program wherever it was asked for, a table where a file holds a program
 done_is_called_for : (command : Option Command) (files after : Files) (line : List ℕ) → IsDone command files line after → CallsFor command files statuses.Ok
 done_is_called_for (Some (Plan table certificate)) files after line (plan, has, said, written) = (has.table, has.holds, has.is_plan.possible)
 done_is_called_for (Some (Gen seed pictures out)) files after line done = tt
 done_is_called_for (Some (Run job out certificate)) files after line (work, is, said, written) = (work.made, is.made, is.is_plan.possible)
 done_is_called_for (Some (Check job certificate)) files after line (made, cert, holds, faultless, said, same) = (made, cert, holds, faultless)
+done_is_called_for (Some (Probe file number table)) files after line (program, made, has, said, written) = (program, has.holds)
 done_is_called_for None files after line done = absurd done
 
 -- where nothing failed, a command ends as it is called for
@@ -160,6 +161,8 @@ done_leaves_others (Some (Run job out certificate)) files after line (work, is, 
     stays _ after name written ∙ get_other (insert files out work.stream) certificate _ name (λ same. apart (inr same))
     ∙ get_other files out _ name (λ same. apart (inl same))
 done_leaves_others (Some (Check job certificate)) files after line (made, cert, holds, faultless, said, same) = λ name apart. stays files after name same
+done_leaves_others (Some (Probe file number table)) files after line (program, made, has, said, written) = λ name apart.
+    stays _ after name written ∙ get_other files table _ name apart
 
 leaves_others : (command : Option Command) (files after : Files) → Leaves command files after → OthersStay command files after
 leaves_others None files after same = λ name apart. stays files after name same
@@ -176,6 +179,9 @@ leaves_others (Some (Run job out certificate)) files after (inr (work, is, inr (
     stays _ after name written ∙ get_other (insert files out work.stream) certificate _ name (λ same. apart (inr same))
     ∙ get_other files out _ name (λ same. apart (inl same))
 leaves_others (Some (Check job certificate)) files after same = λ name apart. stays files after name same
+leaves_others (Some (Probe file number table)) files after (inl same) = λ name apart. stays files after name same
+leaves_others (Some (Probe file number table)) files after (inr (program, made, has, k, few, written)) = λ name apart.
+    stays _ after name written ∙ get_other files table _ name apart
 
 ends_leave_others : (command : Option Command) (files after : Files) (status : Status) (line : List ℕ) → EndsWithStatus command files status line after → OthersStay command files after
 ends_leave_others command files after statuses.Ok line ends = done_leaves_others command files after line ends

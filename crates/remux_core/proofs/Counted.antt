@@ -3,6 +3,7 @@ use Rattle.std.proofs.Common.{◌≡◌, ◌+◌, ◌≤◌, ℕ, List, Option, 
 use Rattle.bound_certificate.specs.declared.limits.TheConstants.{CERT_BYTES_MOST}
 use Rattle.job_programs.specs.Told.{CountReads}
 use Rattle.job_run.specs.Stops.{AsksForJob, IsJobFile}
+use Rattle.program_reader.specs.declared.limits.TheConstants.{FILE_BYTES_MOST}
 use Rattle.remux_core.proofs.Apart.{held_apart}
 use Rattle.shelf_io.specs.Asked.{AsksUpTo, AsksNothing}
 use Rattle.shelf_io.specs.Causes.{ReadCauses, WriteCauses}
@@ -13,7 +14,7 @@ use Rattle.version_table.specs.declared.limits.TheConstants.{TABLE_TEXT_MOST}
 use Rattle.remux_core.specs.declared.status.Status.{Status}
 use Rattle.remux_core.specs.declared.status.Status.TheVariants as statuses
 use Rattle.remux_core.specs.Answer.{Answer, HasCause, AnswerHasCause, FailsAt}
-use Rattle.remux_core.specs.Command.{Command, Plan, Run, Check, ReadsFile, files_of_run, files_of_check}
+use Rattle.remux_core.specs.Command.{Command, Plan, Run, Check, Probe, ReadsFile, files_of_run, files_of_check}
 use Rattle.remux_core.specs.Outside.{ShelfFacts}
 use Rattle.remux_core.specs.Promises.{CountsGrow, AsksOnly}
 
@@ -81,6 +82,16 @@ asks_table table certificate told old new asks = record {
       subst (λ (n : List ℕ). new n ≤ max (old n) (limit + 1)) (sym reads.0)
       (subst (λ (l : ℕ). new table ≤ max (old table) (l + 1)) (sym reads.1) asks.here);
   others = λ name none. asks.others name (λ same. none TABLE_TEXT_MOST (same, refl));
+}
+
+-- `probe` asks for FILE alone
+pub asks_probe : (file : List ℕ) (number : ℕ) (table : List ℕ) (told : Option Files) (old new : List ℕ → ℕ) → AsksUpTo file (FILE_BYTES_MOST + 1) old new
+    → AsksOnly (Some (Probe file number table)) told old new
+asks_probe file number table told old new asks = record {
+  within = λ name limit reads.
+      subst (λ (n : List ℕ). new n ≤ max (old n) (limit + 1)) (sym reads.0)
+      (subst (λ (l : ℕ). new file ≤ max (old file) (l + 1)) (sym reads.1) asks.here);
+  others = λ name none. asks.others name (λ same. none FILE_BYTES_MOST (same, refl));
 }
 
 -- and one that called for nothing

@@ -1,11 +1,12 @@
--- Words that are numbers in decimal, and where they stand in those of `gen`.
+-- Words that are numbers in decimal, and where they stand in those of `gen` and `probe`.
 use Rattle.std.proofs.Common.{◌≡◌, ◌≢◌, ◌<◌, ◌≤◌, ◌^◌, ℕ, List, [], ◌∷◌, length, get_or, decimal, Ok, Err, sym, ap, ◌∙◌, inl, inr, arith}
 use Rattle.std.proofs.lemmas.Bool.{cases_lt}
 use Rattle.std.specs.Str.Parse.{ParsesUnsigned, AllDigits, digits_value}
 use Rattle.std.proofs.lemmas.Fmt.{decimal_injective, decimal_digit, first_decimal, decimal_nonempty, digits_decimal, decimal-digits_value, parse-decimal}
 use Rattle.std.proofs.lemmas.Str.Parse.{IsNumeralModel, numerals_by_value, tells_digits, not_in_digits, parse_plain}
+use Rattle.job_report.specs.declared.limits.TheConstants.{NUMBER_MOST}
 use Rattle.program_maker.specs.declared.format.TheConstants.{PICTURES_MOST}
-use Rattle.remux_core.specs.Command.{IsGenCommand}
+use Rattle.remux_core.specs.Command.{IsGenCommand, IsProbeCommand}
 
 digits : IsNumeralModel (AllDigits 10) (digits_value 10)
 digits = numerals_by_value (AllDigits 10) tells_digits
@@ -45,3 +46,13 @@ pictures_within verb seed pictures out n word start number name said =
     let words : decimal number ≡ decimal n = cc in
     let same : number ≡ n = decimal_injective number n (omega (arith, said.few_pictures)) word.0 words in
     (omega (arith, same, said.some_pictures), omega (arith, same, said.few_pictures))
+
+-- the words of `probe` have a program_number in the second
+pub number_within : (verb file program table : List ℕ) (n : ℕ) → (n < 2 ^ 64) × (program ≡ decimal n) → (name : List ℕ) (number : ℕ) (made : List ℕ)
+    → IsProbeCommand (verb ∷ file ∷ program ∷ table ∷ []) name number made → (1 ≤ n) × (n ≤ NUMBER_MOST)
+number_within verb file program table n word name number made said =
+    let are = said.words_are in
+    let is = word.1 in
+    let words : decimal number ≡ decimal n = cc in
+    let same : number ≡ n = decimal_injective number n (omega (arith, said.number_most)) word.0 words in
+    (omega (arith, same, said.some_number), omega (arith, same, said.number_most))

@@ -1,11 +1,11 @@
--- Words that are those of `gen`, and words that aren't.
+-- Words that are those of `gen` and `probe`, and words that aren't.
 use Rattle.std.proofs.Common.{◌≡◌, ◌<◌, ◌^◌, ℕ, true, List, [], ◌∷◌, length, get_or, decimal, codes, refl, sym, ap, ◌∙◌, lit<, lit≤, arith}
 use Rattle.std.specs.Str.{all_ascii_digits}
 use Rattle.std.specs.Str.Parse.{digits_value}
 use Rattle.std.proofs.lemmas.Fmt.{decimal_digit, decimal_is_IsNumeral, decimal-digits_value}
 use Rattle.std.proofs.lemmas.Str.Parse.{numerals_by_value, tells_all_ascii_digits}
-use Rattle.remux_core.specs.Command.{Plan, Gen, Run, Check, IsCommand, IsGenCommand}
-use Rattle.remux_core.proofs.Decimals.{decimal_begins_plainly, pictures_within}
+use Rattle.remux_core.specs.Command.{Plan, Gen, Run, Check, Probe, IsCommand, IsGenCommand, IsProbeCommand}
+use Rattle.remux_core.proofs.Decimals.{decimal_begins_plainly, number_within, pictures_within}
 use Rattle.remux_core.proofs.One.{other_verb}
 
 -- the words `gen SEED PICTURES a`
@@ -42,6 +42,7 @@ are_of_gen seed pictures out (Plan table certificate, said) = let are = said.wor
 are_of_gen seed pictures out (Gen start number name, said) = (start, number, name, said)
 are_of_gen seed pictures out (Run job stream certificate, said) = absurd (other_verb 103 114 refl said.words_are refl refl (λ same. omega (arith, same)))
 are_of_gen seed pictures out (Check job certificate, said) = let are = said.words_are in cc
+are_of_gen seed pictures out (Probe file number table, said) = absurd (other_verb 103 112 refl said.words_are refl refl (λ same. omega (arith, same)))
 
 -- they have the decimal of a number below 2^64 in the second
 seed_word : (seed pictures out : List ℕ) → IsCommand (codes "gen" ∷ seed ∷ pictures ∷ out ∷ []) → (n : ℕ) × (n < 2 ^ 64) × (seed ≡ decimal n)
@@ -85,3 +86,60 @@ too_many_pictures command =
     let (start, number, name, said) = are_of_gen _ _ _ command in
     let within = pictures_within _ _ _ _ 4097 (lit< tt, sym many) start number name said in
     omega (arith, within.1)
+
+-- ---- probe
+
+-- the words `probe a PROGRAM TABLE`
+abbrev probe_words : (number table : List ℕ) → List (List ℕ)
+probe_words number table = codes "probe" ∷ codes "a" ∷ number ∷ table ∷ []
+
+-- the first program of a file
+first_program : IsCommand (probe_words (codes "1") (codes "b"))
+first_program =
+    let number = one in (
+      Probe (codes "a") 1 (codes "b"),
+      record { words_are = cc; some_number = lit≤ tt; number_most = lit≤ tt; file_named = λ e. let none = e in cc; table_named = λ e. let none = e in cc; apart = λ e. let same : 97 ≡ 98 = ap (λ (name : List ℕ). get_or name 0 0) e in omega (arith, same) },
+    )
+
+-- words of a command that begin with `probe` are those of `probe`
+are_of_probe : (file number table : List ℕ) → IsCommand (codes "probe" ∷ file ∷ number ∷ table ∷ [])
+    → (name : List ℕ) × (program : ℕ) × (made : List ℕ) × IsProbeCommand (codes "probe" ∷ file ∷ number ∷ table ∷ []) name program made
+are_of_probe file number table (Plan text certificate, said) = let are = said.words_are in cc
+are_of_probe file number table (Gen start count name, said) = absurd (other_verb 112 103 refl said.words_are refl refl (λ same. omega (arith, same)))
+are_of_probe file number table (Run job stream certificate, said) = absurd (other_verb 112 114 refl said.words_are refl refl (λ same. omega (arith, same)))
+are_of_probe file number table (Check job certificate, said) = let are = said.words_are in cc
+are_of_probe file number table (Probe name program made, said) = (name, program, made, said)
+
+-- program 0, which names the network PID
+program_0 : IsCommand (probe_words (codes "0") (codes "b")) → ⊥
+program_0 command =
+    let (name, program, made, said) = are_of_probe _ _ _ command in
+    let within = number_within _ _ _ _ 0 (lit< tt, sym (decimal_digit 0 (lit< tt))) name program made said in
+    omega (arith, within.0)
+
+-- 65,536
+number_too_great : IsCommand (probe_words (codes "65536") (codes "b")) → ⊥
+number_too_great command =
+    let many : decimal 65536 ≡ codes "65536" = decimal_of (codes "65536") refl (lit< tt) (λ e. absurd (omega (arith, e))) (lit< tt) in
+    let (name, program, made, said) = are_of_probe _ _ _ command in
+    let within = number_within _ _ _ _ 65536 (lit< tt, sym many) name program made said in
+    omega (arith, within.1)
+
+-- a needless zero
+needless_zero_of_program : IsCommand (probe_words (codes "01") (codes "b")) → ⊥
+needless_zero_of_program command =
+    let (name, program, made, said) = are_of_probe _ _ _ command in
+    let are = said.words_are in
+    let is : codes "01" ≡ decimal program = cc in
+    let plain = rw (← is) at (decimal_begins_plainly program (omega (arith, said.number_most))) in
+    let one : 2 ≡ 1 = plain.1 refl in
+    omega (arith, one)
+
+-- one file for both
+one_file : IsCommand (probe_words (codes "1") (codes "a")) → ⊥
+one_file command =
+    let (name, program, made, said) = are_of_probe _ _ _ command in
+    let are = said.words_are in
+    let first : name ≡ codes "a" = cc in
+    let second : made ≡ codes "a" = cc in
+    said.apart (first ∙ sym second)

@@ -1,3 +1,4 @@
+mod AfterProbe
 mod AfterRun
 mod Answered
 mod Apart
@@ -9,7 +10,9 @@ mod Examples
 mod Held
 mod LineStatus
 mod One
+mod ProbeSteps
 mod RunSteps
+mod Searches
 mod Seen
 mod JobsCall
 mod JobStopped

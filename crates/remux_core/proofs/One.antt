@@ -14,22 +14,28 @@ use Rattle.remux_core.specs.declared.status.JobRefusal.{JobRefusal}
 use Rattle.remux_core.specs.declared.status.JobRefusal.TheVariants.{TableSyntax, TableLimit, JobSyntax, JobField, JobLimit}
 use Rattle.remux_core.specs.Answer.{CallsFor}
 use Rattle.remux_core.specs.CheckCommand.{CheckCallsFor}
-use Rattle.remux_core.specs.Command.{Command, Plan, Gen, Run, Check, IsSaid}
+use Rattle.remux_core.specs.Command.{Command, Plan, Gen, Run, Check, Probe, IsSaid}
 use Rattle.remux_core.specs.GenCommand.{GenCallsFor}
 use Rattle.remux_core.specs.Outcome.{WordsCallFor}
 use Rattle.remux_core.specs.PlanCommand.{HoldsTable, IsTableRefused, PlanCallsFor}
+use Rattle.remux_core.specs.ProbeCommand.{ProbeCallsFor}
 use Rattle.remux_core.specs.RunCommand.{RunCallsFor}
 use Rattle.remux_core.specs.Status.{IsSameRefusal, IsSameStatus}
 
+-- the law that each text is read in one way
+abbrev pub OneReading : Type 0
+OneReading = (text : List ℕ) (a b : TextReading) → IsRead text a → IsRead text b → a ≡ b
+
 -- the laws that each text is read in one way, each table has one smallest choice, a choice is scheduled or has one first miss, and what a job
--- calls for is one
+-- or a file that is probed calls for is one
 pub record Laws : Type 0 where
-  pub reading : (text : List ℕ) (a b : TextReading) → IsRead text a → IsRead text b → a ≡ b
+  pub reading : OneReading
   pub smallest : (table : Table) (a b : List ℕ) → IsSmallestChoice table a → IsSmallestChoice table b → a ≡ b
   pub scheduled : (table : Table) (choice : List ℕ) (miss : Miss) → IsScheduled table choice → IsFirstMiss table choice miss → ⊥
   pub miss : (table : Table) (choice : List ℕ) (a b : Miss) → IsFirstMiss table choice a → IsFirstMiss table choice b → a ≡ b
   pub run : (job out certificate : List ℕ) (files : Files) (s t : Status) → RunCallsFor job out certificate files s → RunCallsFor job out certificate files t → IsSameStatus s t
   pub check : (job certificate : List ℕ) (files : Files) (s t : Status) → CheckCallsFor job certificate files s → CheckCallsFor job certificate files t → IsSameStatus s t
+  pub probe : (file : List ℕ) (number : ℕ) (files : Files) (s t : Status) → ProbeCallsFor file number files s → ProbeCallsFor file number files t → IsSameStatus s t
 
 -- the first letter of the verb
 abbrev pub initial : List (List ℕ) → ℕ
@@ -40,6 +46,17 @@ initial [] = 0
 -- words with one verb aren't those with another one
 pub other_verb : {words a b : List (List ℕ)} (m n : ℕ) → words ≡ a → words ≡ b → initial a ≡ m → initial b ≡ n → (m ≡ n → ⊥) → ⊥
 other_verb m n first second front other differ = differ (sym front ∙ ap initial (sym first ∙ second) ∙ other)
+
+-- its second letter
+abbrev pub second_letter : List (List ℕ) → ℕ
+second_letter ((first ∷ second ∷ letters) ∷ words) = second
+second_letter ((letter ∷ []) ∷ words) = 0
+second_letter ([] ∷ words) = 0
+second_letter [] = 0
+
+-- nor where verbs differ there
+other_second : {words a b : List (List ℕ)} (m n : ℕ) → words ≡ a → words ≡ b → second_letter a ≡ m → second_letter b ≡ n → (m ≡ n → ⊥) → ⊥
+other_second m n first second front other differ = differ (sym front ∙ ap second_letter (sym first ∙ second) ∙ other)
 
 -- words say one command
 pub one_command : (words : List (List ℕ)) (a b : Option Command) → IsSaid words a → IsSaid words b → a ≡ b
@@ -67,6 +84,20 @@ one_command words (Some (Run job out certificate)) (Some (Check other cert)) a b
 one_command words (Some (Check job certificate)) (Some (Plan table cert)) a b = absurd (other_verb 99 112 a.words_are b.words_are refl refl (λ same. omega (arith, same)))
 one_command words (Some (Check job certificate)) (Some (Gen seed pictures name)) a b = absurd (other_verb 99 103 a.words_are b.words_are refl refl (λ same. omega (arith, same)))
 one_command words (Some (Check job certificate)) (Some (Run other out cert)) a b = absurd (other_verb 99 114 a.words_are b.words_are refl refl (λ same. omega (arith, same)))
+one_command words (Some (Probe file number table)) (Some (Probe name count made)) a b =
+    let x = a.words_are in
+    let y = b.words_are in
+    let number_words : decimal number ≡ decimal count = cc in
+    let numbers : number ≡ count = decimal_injective number count (omega (arith, a.number_most)) (omega (arith, b.number_most)) number_words in
+    cc
+one_command words (Some (Gen seed pictures out)) (Some (Probe file number made)) a b = absurd (other_verb 103 112 a.words_are b.words_are refl refl (λ same. omega (arith, same)))
+one_command words (Some (Probe file number made)) (Some (Gen seed pictures out)) a b = absurd (other_verb 112 103 a.words_are b.words_are refl refl (λ same. omega (arith, same)))
+one_command words (Some (Run job out certificate)) (Some (Probe file number made)) a b = absurd (other_verb 114 112 a.words_are b.words_are refl refl (λ same. omega (arith, same)))
+one_command words (Some (Probe file number made)) (Some (Run job out certificate)) a b = absurd (other_verb 112 114 a.words_are b.words_are refl refl (λ same. omega (arith, same)))
+one_command words (Some (Check job certificate)) (Some (Probe file number made)) a b = absurd (other_verb 99 112 a.words_are b.words_are refl refl (λ same. omega (arith, same)))
+one_command words (Some (Probe file number made)) (Some (Check job certificate)) a b = absurd (other_verb 112 99 a.words_are b.words_are refl refl (λ same. omega (arith, same)))
+one_command words (Some (Plan table certificate)) (Some (Probe file number made)) a b = absurd (other_second 108 114 a.words_are b.words_are refl refl (λ same. omega (arith, same)))
+one_command words (Some (Probe file number made)) (Some (Plan table certificate)) a b = absurd (other_second 114 108 a.words_are b.words_are refl refl (λ same. omega (arith, same)))
 one_command words (Some a) None said none = absurd (none (a, said))
 one_command words None (Some b) none said = absurd (none (b, said))
 one_command words None None a b = refl
@@ -81,24 +112,24 @@ one_table laws files name s t a b =
     cc
 
 -- the text of a table isn't refused
-no_refusal : Laws → (text : List ℕ) (table : Table) (refusal : JobRefusal) → IsRead text (Holds table) → IsTableRefused text refusal → ⊥
-no_refusal laws text table (TableSyntax n) read refused =
-    let same : Holds table ≡ RefusedAt n = laws.reading text (Holds table) (RefusedAt n) read refused in
+no_refusal : OneReading → (text : List ℕ) (table : Table) (refusal : JobRefusal) → IsRead text (Holds table) → IsTableRefused text refusal → ⊥
+no_refusal reading text table (TableSyntax n) read refused =
+    let same : Holds table ≡ RefusedAt n = reading text (Holds table) (RefusedAt n) read refused in
     cc
-no_refusal laws text table JobSyntax read refused = absurd refused
-no_refusal laws text table (JobField name) read refused = absurd refused
-no_refusal laws text table (JobLimit name) read refused = absurd refused
-no_refusal laws text table (TableLimit name) read refused =
-    let same : Holds table ≡ RefusedFor refused.0 = laws.reading text (Holds table) (RefusedFor refused.0) read refused.1 in
+no_refusal reading text table JobSyntax read refused = absurd refused
+no_refusal reading text table (JobField name) read refused = absurd refused
+no_refusal reading text table (JobLimit name) read refused = absurd refused
+no_refusal reading text table (TableLimit name) read refused =
+    let same : Holds table ≡ RefusedFor refused.0 = reading text (Holds table) (RefusedFor refused.0) read refused.1 in
     cc
 
 -- a file that holds a table isn't refused
-table_or_refusal : Laws → (files : Files) (name : List ℕ) (table : Table) (refusal : JobRefusal) → HoldsTable files name table
+pub table_or_refusal : OneReading → (files : Files) (name : List ℕ) (table : Table) (refusal : JobRefusal) → HoldsTable files name table
     → (text : List ℕ) × (get files name ≡ Some text) × IsTableRefused text refusal → ⊥
-table_or_refusal laws files name table refusal holds (text, held, refused) =
+table_or_refusal reading files name table refusal holds (text, held, refused) =
     let there = holds.held in
     let texts : holds.text ≡ text = cc in
-    no_refusal laws text table refusal (subst (λ (x : List ℕ). IsRead x (Holds table)) texts holds.read) refused
+    no_refusal reading text table refusal (subst (λ (x : List ℕ). IsRead x (Holds table)) texts holds.read) refused
 
 -- a text has one refusal
 one_refusal : Laws → (text : List ℕ) (a b : JobRefusal) → IsTableRefused text a → IsTableRefused text b → IsSameRefusal a b
@@ -142,17 +173,17 @@ one_miss laws files name a b (table, choice, holds, small, first) (other, least,
 -- what TABLE holds calls for one status
 plan_calls_for_one : Laws → (files : Files) (name : List ℕ) (s t : Status) → PlanCallsFor name files s → PlanCallsFor name files t → IsSameStatus s t
 plan_calls_for_one laws files name statuses.Ok statuses.Ok a b = refl
-plan_calls_for_one laws files name statuses.Ok (statuses.JobRefused refusal) a b = absurd (table_or_refusal laws files name a.0 refusal a.1 b)
+plan_calls_for_one laws files name statuses.Ok (statuses.JobRefused refusal) a b = absurd (table_or_refusal laws.reading files name a.0 refusal a.1 b)
 plan_calls_for_one laws files name statuses.Ok (statuses.Unschedulable miss) a b = absurd (scheduled_or_missed laws files name miss a b)
 plan_calls_for_one laws files name statuses.Ok statuses.Missing a b = let x = a.1.held in cc
-plan_calls_for_one laws files name (statuses.JobRefused refusal) statuses.Ok a b = absurd (table_or_refusal laws files name b.0 refusal b.1 a)
+plan_calls_for_one laws files name (statuses.JobRefused refusal) statuses.Ok a b = absurd (table_or_refusal laws.reading files name b.0 refusal b.1 a)
 plan_calls_for_one laws files name (statuses.JobRefused refusal) (statuses.JobRefused other) (text, held, refused) (same, holds, is) =
     let texts : same ≡ text = cc in
     one_refusal laws text refusal other refused (subst (λ (x : List ℕ). IsTableRefused x other) texts is)
-plan_calls_for_one laws files name (statuses.JobRefused refusal) (statuses.Unschedulable miss) a b = absurd (table_or_refusal laws files name b.0 refusal b.2 a)
+plan_calls_for_one laws files name (statuses.JobRefused refusal) (statuses.Unschedulable miss) a b = absurd (table_or_refusal laws.reading files name b.0 refusal b.2 a)
 plan_calls_for_one laws files name (statuses.JobRefused refusal) statuses.Missing a b = let x = a.1 in cc
 plan_calls_for_one laws files name (statuses.Unschedulable miss) statuses.Ok a b = absurd (scheduled_or_missed laws files name miss b a)
-plan_calls_for_one laws files name (statuses.Unschedulable miss) (statuses.JobRefused refusal) a b = absurd (table_or_refusal laws files name a.0 refusal a.2 b)
+plan_calls_for_one laws files name (statuses.Unschedulable miss) (statuses.JobRefused refusal) a b = absurd (table_or_refusal laws.reading files name a.0 refusal a.2 b)
 plan_calls_for_one laws files name (statuses.Unschedulable miss) (statuses.Unschedulable other) a b =
     let same : miss ≡ other = one_miss laws files name miss other a b in
     cc
@@ -210,6 +241,7 @@ calls_for_one laws (Some (Plan table certificate)) files s t a b = plan_calls_fo
 calls_for_one laws (Some (Gen seed pictures out)) files s t a b = both_one statuses.Ok s t (gen_calls_for_one s a) (gen_calls_for_one t b) refl
 calls_for_one laws (Some (Run job out certificate)) files s t a b = laws.run job out certificate files s t a b
 calls_for_one laws (Some (Check job certificate)) files s t a b = laws.check job certificate files s t a b
+calls_for_one laws (Some (Probe file number table)) files s t a b = laws.probe file number files s t a b
 calls_for_one laws None files s t a b = both_one statuses.Usage s t (none_calls_for_one files s a) (none_calls_for_one files t b) refl
 
 -- words and files call for one status

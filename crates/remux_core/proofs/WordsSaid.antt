@@ -1,6 +1,6 @@
 -- Words that are those of no command.
 use Rattle.std.proofs.Common.{◌≡◌, ℕ, List, [], ◌∷◌, subst}
-use Rattle.remux_core.specs.Command.{Plan, Gen, Run, Check, IsCommand, IsPlanCommand, IsGenCommand, IsRunCommand, IsCheckCommand}
+use Rattle.remux_core.specs.Command.{Plan, Gen, Run, Check, Probe, IsCommand, IsPlanCommand, IsGenCommand, IsRunCommand, IsCheckCommand, IsProbeCommand}
 
 -- a verb and two words that are neither those of `plan` nor those of `check`
 pub no_pair : (verb first second : List ℕ) → (IsPlanCommand (verb ∷ first ∷ second ∷ []) first second → ⊥)
@@ -13,6 +13,7 @@ no_pair verb first second no_plan no_check (Plan table certificate, said) =
     no_plan (subst (λ (x : List ℕ). IsPlanCommand words x second) a (subst (λ (x : List ℕ). IsPlanCommand words table x) b said))
 no_pair verb first second no_plan no_check (Gen seed pictures out, said) = let are = said.words_are in cc
 no_pair verb first second no_plan no_check (Run job out certificate, said) = let are = said.words_are in cc
+no_pair verb first second no_plan no_check (Probe file number table, said) = let are = said.words_are in cc
 no_pair verb first second no_plan no_check (Check job certificate, said) =
     let are = said.words_are in
     let a : job ≡ first = cc in
@@ -20,13 +21,14 @@ no_pair verb first second no_plan no_check (Check job certificate, said) =
     let words : List (List ℕ) = verb ∷ first ∷ second ∷ [] in
     no_check (subst (λ (x : List ℕ). IsCheckCommand words x second) a (subst (λ (x : List ℕ). IsCheckCommand words job x) b said))
 
--- a verb and three words that are neither those of `run` nor those of `gen`
+-- a verb and three words that are none of `run`, `gen` and `probe`
 pub no_three : (verb first second third : List ℕ) → (IsRunCommand (verb ∷ first ∷ second ∷ third ∷ []) first second third → ⊥)
     → ((seed pictures : ℕ) (out : List ℕ) → IsGenCommand (verb ∷ first ∷ second ∷ third ∷ []) seed pictures out → ⊥)
+    → ((file : List ℕ) (number : ℕ) (table : List ℕ) → IsProbeCommand (verb ∷ first ∷ second ∷ third ∷ []) file number table → ⊥)
     → IsCommand (verb ∷ first ∷ second ∷ third ∷ []) → ⊥
-no_three verb first second third no_run no_gen (Plan table certificate, said) = let are = said.words_are in cc
-no_three verb first second third no_run no_gen (Gen seed pictures out, said) = no_gen seed pictures out said
-no_three verb first second third no_run no_gen (Run job out certificate, said) =
+no_three verb first second third no_run no_gen no_probe (Plan table certificate, said) = let are = said.words_are in cc
+no_three verb first second third no_run no_gen no_probe (Gen seed pictures out, said) = no_gen seed pictures out said
+no_three verb first second third no_run no_gen no_probe (Run job out certificate, said) =
     let are = said.words_are in
     let a : job ≡ first = cc in
     let b : out ≡ second = cc in
@@ -34,4 +36,5 @@ no_three verb first second third no_run no_gen (Run job out certificate, said) =
     let words : List (List ℕ) = verb ∷ first ∷ second ∷ third ∷ [] in
     no_run (subst (λ (x : List ℕ). IsRunCommand words x second third) a
     (subst (λ (x : List ℕ). IsRunCommand words job x third) b (subst (λ (x : List ℕ). IsRunCommand words job out x) c said)))
-no_three verb first second third no_run no_gen (Check job certificate, said) = let are = said.words_are in cc
+no_three verb first second third no_run no_gen no_probe (Check job certificate, said) = let are = said.words_are in cc
+no_three verb first second third no_run no_gen no_probe (Probe file number table, said) = no_probe file number table said

@@ -6,15 +6,17 @@ use Rattle.bound_certificate.specs.declared.cert.Cert.{Cert}
 use Rattle.job_report.specs.Report.{report_line}
 use Rattle.job_report.specs.declared.report.Report.TheVariants as reports
 use Rattle.program_maker.specs.Program.{IsProgram}
+use Rattle.program_reader.specs.declared.program.Program.{Program}
 use Rattle.run_report.specs.Report.{source_report}
 use Rattle.remux_core.specs.declared.status.Status.{Status}
 use Rattle.remux_core.specs.declared.status.Status.TheVariants.{Ok, Usage, JobRefused, SourceRefused, Unschedulable, ReadFault, WriteFault, CertRefused, Missing, OutOfMemory}
 use Rattle.remux_core.specs.CheckCommand.{CheckCallsFor, CheckDone}
-use Rattle.remux_core.specs.Command.{Command, Plan, Gen, Run, Check, ReadsFile, WritesFile, PlansTable, ReadsPrograms, ChecksCertificate, MayRefuse}
+use Rattle.remux_core.specs.Command.{Command, Plan, Gen, Run, Check, Probe, ReadsFile, WritesFile, PlansTable, ReadsPrograms, ChecksCertificate, MayRefuse}
 use Rattle.remux_core.specs.GenCommand.{GenCallsFor, GenDone, GenLeaves}
 use Rattle.remux_core.specs.Outside.{ShelfFacts}
 use Rattle.remux_core.specs.PlanCommand.{PlanCallsFor, PlanDone, PlanLeaves}
-use Rattle.remux_core.specs.Report.{plan_report, gen_report, cert_report, refusal_report, miss_report}
+use Rattle.remux_core.specs.ProbeCommand.{ProbeCallsFor, ProbeDone, ProbeLeaves}
+use Rattle.remux_core.specs.Report.{plan_report, gen_report, probe_report, cert_report, refusal_report, miss_report}
 use Rattle.remux_core.specs.RunCommand.{RunWork, RunCallsFor, RunDone, RunLeaves, report_of_run}
 
 -- a status, and the line that reports it
@@ -28,6 +30,7 @@ CallsFor (Some (Plan table certificate)) files status = PlanCallsFor table files
 CallsFor (Some (Gen seed pictures out)) files status = GenCallsFor status
 CallsFor (Some (Run job out certificate)) files status = RunCallsFor job out certificate files status
 CallsFor (Some (Check job certificate)) files status = CheckCallsFor job certificate files status
+CallsFor (Some (Probe file number table)) files status = ProbeCallsFor file number files status
 CallsFor None files Usage = Unit {0}
 CallsFor None files status = ⊥
 
@@ -37,6 +40,7 @@ IsDone (Some (Plan table certificate)) files line after = PlanDone table certifi
 IsDone (Some (Gen seed pictures out)) files line after = GenDone seed pictures out files line after
 IsDone (Some (Run job out certificate)) files line after = RunDone job out certificate files line after
 IsDone (Some (Check job certificate)) files line after = CheckDone job certificate files line after
+IsDone (Some (Probe file number table)) files line after = ProbeDone file number table files line after
 IsDone None files line after = ⊥
 
 -- the files that a command leaves where it is broken off
@@ -45,6 +49,7 @@ Leaves (Some (Plan table certificate)) files after = PlanLeaves table certificat
 Leaves (Some (Gen seed pictures out)) files after = GenLeaves seed pictures out files after
 Leaves (Some (Run job out certificate)) files after = RunLeaves job out certificate files after
 Leaves (Some (Check job certificate)) files after = after ≡ files
+Leaves (Some (Probe file number table)) files after = ProbeLeaves file number table files after
 Leaves None files after = after ≡ files
 
 -- What a command with this status and line does to the files. A refusal comes only where it is called for, and leaves them.
@@ -78,6 +83,7 @@ IsDoneLine (Plan table certificate) line = (plan : Cert) × (line ≡ report_lin
 IsDoneLine (Gen seed pictures out) line = (program : List ℕ) × IsProgram seed pictures program × (line ≡ report_line (gen_report program pictures))
 IsDoneLine (Run job out certificate) line = (work : RunWork) × (line ≡ report_line (report_of_run work))
 IsDoneLine (Check job certificate) line = (bound : ℕ) × (line ≡ report_line (reports.Check bound))
+IsDoneLine (Probe file number table) line = (program : Program) × (line ≡ report_line (probe_report program))
 
 -- Why a command ends with this status and line, whether the shelf tells its files or not. A fault of the outside comes only
 -- where a count of its own rose; a name is missing only where told files lack it.

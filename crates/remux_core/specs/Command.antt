@@ -1,8 +1,10 @@
 -- The commands, as words: what each is called, which files it reads, and which it writes.
 use Rattle.std.specs.Prelude.{◌≡◌, ◌≢◌, ◌⊎◌, ◌<◌, ◌≤◌, ◌^◌, ℕ, List, [], ◌∷◌, Option, Some, None, codes, decimal}
 use Rattle.bound_certificate.specs.declared.limits.TheConstants.{CERT_BYTES_MOST}
+use Rattle.job_report.specs.declared.limits.TheConstants.{NUMBER_MOST}
 use Rattle.job_run.specs.Stops.{IsJobFile}
 use Rattle.program_maker.specs.declared.format.TheConstants.{PICTURES_MOST}
+use Rattle.program_reader.specs.declared.limits.TheConstants.{FILE_BYTES_MOST}
 use Rattle.shelf_io.specs.Files.{Files}
 use Rattle.version_table.specs.declared.limits.TheConstants.{TABLE_TEXT_MOST}
 use Rattle.remux_core.specs.declared.status.JobRefusal.{JobRefusal}
@@ -18,6 +20,8 @@ pub data Command : Type 0 where
   Run : (job out certificate : List ℕ) → Command
   -- check a certificate for the programs of a job
   Check : (job certificate : List ℕ) → Command
+  -- make the table of one program of a file
+  Probe : (file : List ℕ) → (number : ℕ) → (table : List ℕ) → Command
 
 -- the words `plan TABLE CERT`: two different file names that aren't empty
 pub record IsPlanCommand (words : List (List ℕ)) (table certificate : List ℕ) : Type 0 where
@@ -52,12 +56,23 @@ pub record IsCheckCommand (words : List (List ℕ)) (job certificate : List ℕ)
   pub certificate_named : certificate ≢ []
   pub apart : job ≢ certificate
 
+-- the words `probe FILE PROGRAM TABLE`: a number from 1 to 65,535 in decimal without sign or needless leading zero, and two different file
+-- names that aren't empty
+pub record IsProbeCommand (words : List (List ℕ)) (file : List ℕ) (number : ℕ) (table : List ℕ) : Type 0 where
+  pub words_are : words ≡ codes "probe" ∷ file ∷ decimal number ∷ table ∷ []
+  pub some_number : 1 ≤ number
+  pub number_most : number ≤ NUMBER_MOST
+  pub file_named : file ≢ []
+  pub table_named : table ≢ []
+  pub apart : file ≢ table
+
 -- the words of a command
 abbrev pub IsWordsOf : Command → List (List ℕ) → Type 0
 IsWordsOf (Plan table certificate) words = IsPlanCommand words table certificate
 IsWordsOf (Gen seed pictures out) words = IsGenCommand words seed pictures out
 IsWordsOf (Run job out certificate) words = IsRunCommand words job out certificate
 IsWordsOf (Check job certificate) words = IsCheckCommand words job certificate
+IsWordsOf (Probe file number table) words = IsProbeCommand words file number table
 
 -- the words are those of a command
 abbrev pub IsCommand : List (List ℕ) → Type 0
@@ -84,6 +99,7 @@ ReadsFile (Some (Gen seed pictures out)) told name limit = ⊥
 ReadsFile (Some (Run job out certificate)) told name limit = IsJobFile told job (files_of_run job out certificate) name limit
 ReadsFile (Some (Check job certificate)) told name limit =
     IsJobFile told job (files_of_check job certificate) name limit ⊎ ((name ≡ certificate) × (limit ≡ CERT_BYTES_MOST))
+ReadsFile (Some (Probe file number table)) told name limit = (name ≡ file) × (limit ≡ FILE_BYTES_MOST)
 ReadsFile None told name limit = ⊥
 
 -- a command writes this file
@@ -92,6 +108,7 @@ WritesFile (Some (Plan table certificate)) name = name ≡ certificate
 WritesFile (Some (Gen seed pictures out)) name = name ≡ out
 WritesFile (Some (Run job out certificate)) name = (name ≡ out) ⊎ (name ≡ certificate)
 WritesFile (Some (Check job certificate)) name = ⊥
+WritesFile (Some (Probe file number table)) name = name ≡ table
 WritesFile None name = ⊥
 
 -- a command plans a table, so it may miss
@@ -100,13 +117,15 @@ PlansTable (Plan table certificate) = Unit {0}
 PlansTable (Gen seed pictures out) = ⊥
 PlansTable (Run job out certificate) = Unit {0}
 PlansTable (Check job certificate) = ⊥
+PlansTable (Probe file number table) = ⊥
 
--- a command reads the programs of a job, so it may refuse one of them
+-- a command reads programs of files, so it may refuse one of them
 abbrev pub ReadsPrograms : Command → Type 0
 ReadsPrograms (Plan table certificate) = ⊥
 ReadsPrograms (Gen seed pictures out) = ⊥
 ReadsPrograms (Run job out certificate) = Unit {0}
 ReadsPrograms (Check job certificate) = Unit {0}
+ReadsPrograms (Probe file number table) = Unit {0}
 
 -- a command checks a certificate, so it may refuse it
 abbrev pub ChecksCertificate : Command → Type 0
@@ -125,3 +144,4 @@ MayRefuse (Run job out certificate) refusal = Unit {0}
 MayRefuse (Check job certificate) (TableSyntax n) = ⊥
 MayRefuse (Check job certificate) (TableLimit name) = ⊥
 MayRefuse (Check job certificate) refusal = Unit {0}
+MayRefuse (Probe file number table) refusal = ⊥

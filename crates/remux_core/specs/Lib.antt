@@ -6,6 +6,7 @@ pub mod Outcome
 pub mod Outside
 pub mod Plan
 pub mod PlanCommand
+pub mod ProbeCommand
 pub mod Promises
 pub mod Report
 pub mod RunCommand

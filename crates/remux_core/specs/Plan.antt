@@ -1,5 +1,5 @@
 -- What a plan of a table is: a certificate that shows its bound, of a scheduled choice.
-use Rattle.std.specs.Prelude.{◌≡◌, ◌≤◌, length, All}
+use Rattle.std.specs.Prelude.{◌≡◌, ◌≢◌, ◌≤◌, length, All}
 use Rattle.version_table.specs.declared.table.Table.{Table}
 use Rattle.bound_certificate.specs.declared.cert.Cert.{Cert}
 use Rattle.bound_certificate.specs.Cert.{IsCert}
@@ -9,7 +9,7 @@ use Rattle.certificate_checker.specs.Faults.{IsHeadRight}
 use Rattle.branch_plan.specs.Bound.{HaveFewWindows, IsAtLeastEachPair, IsAtLeastEachTried}
 use Rattle.branch_plan.specs.Changes.{EndsBestAlone, GainsByRounds}
 use Rattle.branch_plan.specs.Plan.{BoundsAll, IsNoWorse, ShowsItsBound, SmallestIsScheduled}
-use Rattle.branch_plan.specs.Tree.{BranchesOnMany}
+use Rattle.branch_plan.specs.Tree.{AreEnough, BranchesOnMany, IsSpent}
 
 -- a certificate is that of a plan of the table
 pub record IsPlan (table : Table) (cert : Cert) : Type 0 where
@@ -30,6 +30,10 @@ pub record IsPlan (table : Table) (cert : Cert) : Type 0 where
   pub few_nodes : length cert.nodes ≤ table.nodes
   pub few_windows : HaveFewWindows table.nodes cert.nodes
   pub branches : All (BranchesOnMany table) cert.nodes
+  -- where the bound isn't the distortion, a leaf has this bound, and to branch it once more would take the tree past its nodes
+  pub spent : cert.bound ≢ cert.distortion → IsSpent table table.nodes cert
+  -- with nodes enough for the whole tree the bound is the distortion
+  pub enough : AreEnough table table.nodes → cert.bound ≡ cert.distortion
   -- the bound is at least that of each window alone, and of the first best multiplier with any other one
   pub tried : IsAtLeastEachTried table cert.bound
   pub pairs : IsAtLeastEachPair table cert.bound

@@ -3,4 +3,5 @@ pub mod Checked
 pub mod Ended
 pub mod Parsed
 pub mod Prepared
+pub mod Probed
 pub mod Stopped

@@ -1,8 +1,9 @@
--- What is reported of a plan, of a generated program, of a certificate, of a refused text and of a miss.
-use Rattle.std.specs.Prelude.{◌==◌, ℕ, List, length}
+-- What is reported of a plan, of a generated program, of a probed one, of a certificate, of a refused text and of a miss.
+use Rattle.std.specs.Prelude.{◌==◌, ℕ, List, length, map}
 use Rattle.bound_certificate.specs.declared.cert.Cert.{Cert}
 use Rattle.job_report.specs.declared.report.Report.{Report}
 use Rattle.job_report.specs.declared.report.Report.TheVariants as reports
+use Rattle.program_reader.specs.declared.program.Program.{Program}
 use Rattle.slot_rule.specs.declared.sent.Miss.{Miss}
 use Rattle.run_report.specs.Report.{cert_fault_report}
 use Rattle.remux_core.specs.declared.status.CertRefusal.{CertRefusal}
@@ -17,6 +18,10 @@ plan_report plan = reports.Plan plan.bound plan.choice plan.distortion (length p
 -- a generated program: how many bytes and pictures it has
 abbrev pub gen_report : (program : List ℕ) → (pictures : ℕ) → Report
 gen_report program pictures = reports.Gen (length program) pictures
+
+-- a program that is probed: the packets of each audio stream, and the units
+abbrev pub probe_report : Program → Report
+probe_report program = reports.Probe (map (λ audio. length audio.pieces) program.audios) (length program.units)
 
 -- a refused text: the first line that no table has, that it is no document, or the name of the first field or limit that is broken
 abbrev pub refusal_report : JobRefusal → Report

@@ -1,8 +1,9 @@
 ghost use Rattle.std.specs.Prelude.{◌≡◌, ◌≢◌, ◌≤◌, ◌<◌, ◌⊎◌, ◌↔◌, ◌∷◌, [], map, length, get_or, IsTrue};
 ghost use Rattle.std.specs.String.{string_bytes};
 ghost use Rattle.remux_core.specs.Command.{IsCheckCommand, IsPlanCommand, IsRunCommand, IsSaid};
-ghost use Rattle.remux_core.specs.Private.Parsed.{command_of, IsDecimal, IsGenSaid};
+ghost use Rattle.remux_core.specs.Private.Parsed.{command_of, IsDecimal, IsGenSaid, IsProbeSaid};
 
+use job_report::limits::NUMBER_MOST;
 use program_maker::PICTURES_MOST;
 
 /// A command as its words say it.
@@ -12,6 +13,7 @@ pub enum Parsed<'a> {
     Gen(GenWords<'a>),
     Run(RunFiles<'a>),
     Check(CheckFiles<'a>),
+    Probe(ProbeWords<'a>),
 }
 
 /// The file names of `plan TABLE CERT`.
@@ -52,6 +54,17 @@ pub struct CheckFiles<'a> {
     pub job: &'a str,
     /// The certificate to check.
     pub certificate: &'a str,
+}
+
+/// The words of `probe FILE PROGRAM TABLE`.
+#[derive(Clone, Copy)]
+pub struct ProbeWords<'a> {
+    /// The transport stream.
+    pub file: &'a str,
+    /// The program_number of the program that is probed, at least 1.
+    pub program: u16,
+    /// The table text to write.
+    pub table: &'a str,
 }
 
 /// The command that words say; none where they are those of no command.
@@ -114,7 +127,10 @@ fn parse_three<'a>(
     }
     match parse_gen(verb, first, second, third) {
         Some(words) => Some(Parsed::Gen(words)),
-        None => None,
+        None => match parse_probe(verb, first, second, third) {
+            Some(words) => Some(Parsed::Probe(words)),
+            None => None,
+        },
     }
 }
 
@@ -164,6 +180,37 @@ fn parse_gen<'a>(verb: &str, seed: &str, pictures: &str, out: &'a str) -> Option
         pictures,
         out,
     })
+}
+
+/// The words `probe FILE PROGRAM TABLE`, where four words are these.
+fn parse_probe<'a>(
+    verb: &str,
+    file: &'a str,
+    program: &str,
+    table: &'a str,
+) -> Option<ProbeWords<'a>>
+    ensures { IsProbeSaid (verb.now ∷ file.now ∷ program.now ∷ table.now ∷ []) result }
+{
+    if verb != "probe" || !are_two_names(file, table) {
+        return None;
+    }
+    let program = decimal_number(program)?;
+    if program < 1 || program > NUMBER_MOST as u64 {
+        return None;
+    }
+    let program = program as u16;
+    Some(ProbeWords {
+        file,
+        program,
+        table,
+    })
+}
+
+/// Whether two names are different, and none of them is empty.
+fn are_two_names(first: &str, second: &str) -> bool
+    ensures { IsTrue result ↔ (first.now ≢ []) × (second.now ≢ []) × (first.now ≢ second.now) }
+{
+    !first.is_empty() && !second.is_empty() && first != second
 }
 
 /// The number below 2^64 that a word is in decimal, without sign or needless leading zero.

@@ -3,16 +3,19 @@
 ghost use Rattle.std.specs.Prelude.{◌≡◌, ◌⊎◌, List, ℕ, Option, map};
 ghost use Rattle.std.specs.String.{string_bytes};
 ghost use Rattle.shelf_io.specs.Files.{Files};
+ghost use Rattle.program_reader.specs.declared.program.Program.{Program};
+ghost use Rattle.remux_core.specs.declared.status.JobRefusal.{JobRefusal};
 ghost use Rattle.version_table.specs.declared.table.Table.{Table};
 ghost use Rattle.version_table.specs.Choice.{IsSmallestChoice};
 ghost use Rattle.slot_rule.specs.Schedule.{IsScheduled};
 ghost use Rattle.remux_core.specs.declared.status.Status.{Status as AnyStatus};
 ghost use Rattle.remux_core.specs.Answer.{HasCause};
 ghost use Rattle.remux_core.specs.CheckCommand.{CheckCallsFor};
-ghost use Rattle.remux_core.specs.Command.{IsPlanCommand, IsGenCommand, IsRunCommand, Command as AnyCommand};
+ghost use Rattle.remux_core.specs.Command.{IsPlanCommand, IsGenCommand, IsProbeCommand, IsRunCommand, Command as AnyCommand};
 ghost use Rattle.remux_core.specs.Outcome.{WordsCallFor};
 ghost use Rattle.remux_core.specs.Outside.{ShelfFacts};
-ghost use Rattle.remux_core.specs.PlanCommand.{HoldsTable};
+ghost use Rattle.remux_core.specs.PlanCommand.{HoldsTable, PlanCallsFor};
+ghost use Rattle.remux_core.specs.ProbeCommand.{HoldsProbed, IsProbedTable, ProbeDone};
 ghost use Rattle.remux_core.specs.RunCommand.{RunDone};
 ghost use Rattle.remux_core.specs.Status.{IsSameStatus, TellsStatus};
 
@@ -22,7 +25,7 @@ use crate::top_call::run;
 use shelf_io::{CalmShelf, CalmSink};
 use slot_rule::{first_miss_is_one, no_miss_where_scheduled};
 use std::alloc::Global;
-use version_table::{one_reading, smallest_choice_is_one};
+use version_table::{one_reading, smallest_choice_is_one, spelling_is_read};
 
 /// Words and files call for one status.
 pub fn one_status_is_called_for()
@@ -48,6 +51,17 @@ pub fn check_accepts_runs()
         → RunDone job out certificate files line after → CheckCallsFor job certificate after Status.Ok }
 {}
 
+/// What `probe` leaves in TABLE, `plan` reads: it is the text of the program's table, and no status 3 is called for.
+pub fn plan_takes_probed_tables()
+    ensures reads { (file : List ℕ) (number : ℕ) (name : List ℕ) (files after : Files) (line : List ℕ) → ProbeDone file number name files line after
+        → (program : Program) × (table : Table) × HoldsProbed files file number program × IsProbedTable program table × HoldsTable after name table }
+    ensures refuses_none { (file : List ℕ) (number : ℕ) (name : List ℕ) (files after : Files) (line : List ℕ) (refusal : JobRefusal)
+        → ProbeDone file number name files line after → PlanCallsFor name after (Status.JobRefused refusal) → ⊥ }
+{
+    spelling_is_read();
+    one_reading();
+}
+
 /// A run over a shelf and a sink that never fail: it ends as its words and files call for, or for want of memory.
 pub fn calm_run(
     alloc: Global,
@@ -61,6 +75,10 @@ pub fn calm_run(
     ensures plans { (name certificate : List ℕ) (table : Table) → IsPlanCommand (map string_bytes words.now) name certificate
         → HoldsTable shelf.old.files name table
         → ((choice : List ℕ) → IsSmallestChoice table choice → IsScheduled table choice)
+        → (result ≡ Status.Ok) ⊎ (result ≡ Status.OutOfMemory) }
+    // The table of each program that a file holds is made.
+    ensures probes { (file : List ℕ) (number : ℕ) (name : List ℕ) (program : Program) → IsProbeCommand (map string_bytes words.now) file number name
+        → HoldsProbed shelf.old.files file number program
         → (result ≡ Status.Ok) ⊎ (result ≡ Status.OutOfMemory) }
     // And each program that is asked for is made.
     ensures makes { (seed pictures : ℕ) (name : List ℕ) → IsGenCommand (map string_bytes words.now) seed pictures name

@@ -3,7 +3,7 @@
 //! Its contract is the main theorem: each status comes exactly where its cause stands, a plan is scheduled, its bound is
 //! true of every scheduled choice, and no file changes but those that the command writes. Each command is a case of a
 //! few definitions. Stands on `shelf_io`, `version_table`, `slot_rule`,
-//! `branch_plan`, `bound_certificate`, `program_maker`, `job_run` and `job_report`.
+//! `branch_plan`, `bound_certificate`, `program_maker`, `job_programs`, `program_table`, `job_run` and `job_report`.
 #![tactic(auto)]
 
 mod cert_room;
@@ -15,6 +15,7 @@ mod jobs_call;
 pub mod laws;
 mod plan_command;
 mod planned;
+mod probe_command;
 mod report;
 mod run_command;
 mod status;
@@ -23,6 +24,3 @@ mod top_call;
 
 pub use status::{CertRefusal, JobRefusal, Status};
 pub use top_call::run;
-
-#[cfg(test)]
-mod tests;

@@ -1,15 +1,19 @@
-//! What is reported of plans and refusals, as `job_report` prints it.
+//! What is reported of plans, programs and refusals, as `job_report` prints it.
 
-ghost use Rattle.std.specs.Prelude.{◌≡◌, ◌≤◌, length};
-ghost use Rattle.version_table.specs.declared.limits.TheConstants.{NODES_MOST};
+ghost use Rattle.std.specs.Prelude.{◌≡◌, ◌≤◌, length, map, IfOk};
+ghost use Rattle.version_table.specs.declared.limits.TheConstants.{NODES_MOST, TEXT_AUDIO_PACKETS_MOST, UNITS_MOST};
+ghost use Rattle.job_programs.specs.Probe.{audio_packets};
 ghost use Rattle.job_report.specs.Report.{report_line};
 ghost use Rattle.remux_core.specs.Report as spec;
 
 use crate::status::{CertRefusal, JobRefusal};
 use bound_certificate::Cert;
 use job_report::Report;
+use list_types::{ListOf, OutOfMemory};
+use program_reader::{AudioSource, Program};
 use run_report::cert_fault_report;
 use slot_rule::Miss;
+use std::alloc::Global;
 
 /// A plan, by its certificate.
 pub fn plan_report(plan: Cert) -> Report
@@ -33,6 +37,31 @@ pub fn gen_report(program: &[u8], pictures: u32) -> Report
         bytes: program.len() as u64,
         pictures,
     }
+}
+
+/// A program that was probed: the packets of each audio stream, and the units. Fails only for want of memory.
+pub fn probe_report(alloc: Global, program: &Program) -> Result<Report, OutOfMemory>
+    requires packets { audio_packets program.now.audios ≤ TEXT_AUDIO_PACKETS_MOST }
+    requires units { length program.now.units ≤ UNITS_MOST }
+    ensures { IfOk result (λ report. report ≡ spec.probe_report program.now) }
+{
+    let audio_packets = packets_of(alloc, program.audios.as_slice())?;
+    Ok(Report::Probe {
+        audio_packets,
+        units: program.units.len() as u32,
+    })
+}
+
+/// How many packets each audio stream has. Fails only for want of memory.
+fn packets_of(alloc: Global, audios: &[AudioSource]) -> Result<ListOf<u32>, OutOfMemory>
+    requires { audio_packets audios.now ≤ TEXT_AUDIO_PACKETS_MOST }
+    ensures { IfOk result (λ counts. counts ≡ map (λ audio. length audio.pieces) audios.now) }
+{
+    let mut counts = ListOf::new(alloc);
+    for audio in audios {
+        counts.push(audio.pieces.len() as u32)?;
+    }
+    Ok(counts)
 }
 
 /// A text that is refused.

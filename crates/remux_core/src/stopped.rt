@@ -49,7 +49,7 @@ fn job_refusal(refusal: TextRefusal) -> JobRefusal
 }
 
 /// A program that is refused; none for want of memory.
-fn end_refused_source(alloc: Global, fault: SourceFault) -> Option<Ended>
+pub fn end_refused_source(alloc: Global, fault: SourceFault) -> Option<Ended>
     ensures { IfSome result (λ ended. (ended.status ≡ Status.SourceRefused fault) × (ended.line.items ≡ report_line (told.source_report fault))) }
 {
     end_with(alloc, Status::SourceRefused(fault), &source_report(fault))

@@ -15,6 +15,7 @@ use crate::ended::{Ended, end_with};
 use crate::gen_command::gen_file;
 use crate::jobs_call::jobs_call_for_one;
 use crate::plan_command::plan_file;
+use crate::probe_command::probe_file;
 use crate::run_command::run_job;
 use crate::status::Status;
 use job_report::Report;
@@ -28,7 +29,8 @@ use version_table::{one_reading, smallest_choice_is_one};
 /// The words `plan TABLE CERT` plan the table text in the file TABLE and write the certificate of the plan to CERT. The words
 /// `gen SEED PICTURES OUT` write the generated program of a seed with so many pictures to OUT. `run JOB OUT CERT` plan the
 /// programs of the job in JOB, write their stream to OUT and the certificate of the plan to CERT. `check JOB CERT` read the same
-/// programs and check the certificate in CERT. All other words are a usage fault. One line of JSON goes to `out` for each status but want of memory.
+/// programs and check the certificate in CERT. `probe FILE PROGRAM TABLE` write the table of one program of FILE to TABLE. All other
+/// words are a usage fault. One line of JSON goes to `out` for each status but want of memory.
 pub fn run<K: Shelf, O: Sink>(alloc: Global, words: &[String], shelf: &mut K, out: &mut O) -> Status
     // What the words and files decide, what failed outside, how it is reported, and what every command promises.
     ensures outcome { Outcome (map string_bytes words.now)
@@ -82,6 +84,7 @@ fn perform<K: Shelf>(alloc: Global, words: &[String], shelf: &mut K) -> Option<E
         Some(Parsed::Gen(words)) => gen_file(alloc, &words, shelf),
         Some(Parsed::Run(files)) => run_job(alloc, &files, shelf),
         Some(Parsed::Check(files)) => check_job(alloc, &files, shelf),
+        Some(Parsed::Probe(words)) => probe_file(alloc, &words, shelf),
         None => end_with(alloc, Status::Usage, &Report::Usage),
     }
 }

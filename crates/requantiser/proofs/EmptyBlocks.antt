@@ -1,8 +1,7 @@
 -- Blocks without coefficients don't differ.
-use Rattle.std.proofs.Common.{◌≡◌, ℕ, zero, suc, ◌+◌, ℤ, pos, Some, List, [], ◌∷◌, true, false, refl, sym, ◌∙◌, ap, ap₂}
+use Rattle.std.proofs.Common.{◌≡◌, ℕ, zero, suc, ◌+◌, ℤ, pos, Some, true, sym, ◌∙◌, ap, ap₂}
 use Rattle.std.specs.Prelude.{slice_index_or}
 use Rattle.syntax_types.specs.declared.block.Block.{Block}
-use Rattle.syntax_types.specs.declared.block.RunLevel.{RunLevel}
 use Rattle.syntax_types.specs.declared.macroblock.Macroblock.{Macroblock}
 use Rattle.syntax_types.specs.declared.picture.PicCoding.{PicCoding}
 use Rattle.syntax_types.specs.declared.picture.SeqState.{SeqState}

@@ -1,3 +1,4 @@
+pub mod BlockChanges
 pub mod Blocks
 pub mod MacroblockSteps
 pub mod Made
@@ -9,11 +10,14 @@ pub mod Cursors
 pub mod Differences
 pub mod EmptyBlocks
 pub mod Examples
+pub mod LevelExamples
 pub mod Macroblocks
+pub mod MadeChanges
 pub mod Patterns
 pub mod Places
 pub mod Ranges
 pub mod Scans
+pub mod Sizes
 pub mod ShapeTest
 pub mod Slices
 pub mod Spelled

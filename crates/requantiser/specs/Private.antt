@@ -1,4 +1,6 @@
+pub mod Changes
 pub mod Cursor
 pub mod Shapes
+pub mod Sizes
 pub mod Sums
 pub mod Walk

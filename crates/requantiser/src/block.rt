@@ -1,16 +1,20 @@
-ghost use Rattle.std.specs.Prelude.{◌≡◌, ◌<◌, ◌≤◌, ◌++◌, [], unsigned_abs};
+ghost use Rattle.std.specs.Prelude.{◌≡◌, ◌<◌, ◌≤◌, ◌++◌, ◌^◌, [], unsigned_abs, if◌then◌else◌};
 ghost use Rattle.arrayvec.specs.ArrayVec.{array_vec_len};
 ghost use Rattle.picture_grammar.specs.Block.{first_place};
+ghost use Rattle.picture_grammar.specs.Picture.{AreWeights};
 ghost use Rattle.requantiser.specs.Levels.{HasWeights, weight_at as weight_at_place};
+ghost use Rattle.requantiser.specs.Private.Changes.{block_change, change_in, new_level_in, pair_changes, weight_in};
 ghost use Rattle.requantiser.specs.Private.Shapes.{FitBlock};
-ghost use Rattle.requantiser.specs.Private.Walk.{new_level, coarsened_pairs, coarsened_block, kept_pair, zeros_behind};
+ghost use Rattle.requantiser.specs.Private.Walk.{coarsened_pairs, coarsened_block, kept_pair, zeros_behind};
 
 use crate::codes::Codes;
+use crate::level::{Rescaling, change_level};
 use arrayvec::ArrayVec;
-use quant_math::{coarser_level, scale, scan};
+use quant_math::{scale, scan};
 use syntax_types::{BLOCK_PLACES, Block, BlockWay, PicCoding, RunLevel, SeqState};
 
-/// Writes a block under another code into one that is lent.
+/// Writes a block under another code into one that is lent, and gives the sum of the squares of the differences of its
+/// coefficients.
 pub fn coarsen_block(
     seq: &SeqState,
     coding: &PicCoding,
@@ -18,44 +22,59 @@ pub fn coarsen_block(
     codes: Codes,
     from: &Block,
     to: &mut Block,
-)
+) -> u64
     requires weights { HasWeights seq.now }
     requires places { FitBlock (first_place way) from.now.pairs.items }
-    ensures { to.new ≡ coarsened_block seq.now coding.now way codes.in_force codes.mapped from.now }
+    ensures block { to.new ≡ coarsened_block seq.now coding.now way codes.in_force codes.mapped from.now }
+    ensures distortion { result ≡ pair_changes (block_change seq.now coding.now way codes.in_force codes.mapped) (first_place way) from.now.pairs.items }
+    ensures bound { result ≤ 2 ^ 38 }
 {
     to.dc = from.dc;
-    coarsen_pairs(
-        seq,
-        coding,
-        way,
-        codes,
-        from.pairs.as_slice(),
-        &mut to.pairs,
-    );
+    let rescaling = Rescaling {
+        alternate: coding.alternate_scan,
+        intra: way.intra,
+        from: scale(coding.q_scale_type, codes.in_force),
+        to: scale(coding.q_scale_type, codes.mapped),
+    };
+    let weights = matrix(seq, way.intra);
+    coarsen_pairs(weights, rescaling, from.pairs.as_slice(), &mut to.pairs)
 }
 
-/// Writes the coefficients of a block under another code.
+/// The matrix of intra or non-intra blocks.
+fn matrix(seq: &SeqState, intra: bool) -> &[u8; BLOCK_PLACES]
+    requires weights { HasWeights seq.now }
+    ensures value { result.now ≡ (if intra then seq.now.intra else seq.now.non_intra) }
+    ensures weighted { AreWeights result.now }
+{
+    if intra { &seq.intra } else { &seq.non_intra }
+}
+
+/// Writes the coefficients of a block under another scale, and gives the sum of the squares of their differences.
 fn coarsen_pairs(
-    seq: &SeqState,
-    coding: &PicCoding,
-    way: BlockWay,
-    codes: Codes,
+    weights: &[u8; BLOCK_PLACES],
+    rescaling: Rescaling,
     pairs: &[RunLevel],
     to: &mut ArrayVec<RunLevel, BLOCK_PLACES>,
-)
-    requires weights { HasWeights seq.now }
-    requires places { FitBlock (first_place way) pairs.now }
-    ensures { to.new.items ≡ coarsened_pairs (new_level seq.now coding.now way codes.in_force codes.mapped) (first_place way) 0 pairs.now }
+) -> u64
+    requires weights { AreWeights weights.now }
+    requires places { FitBlock (if rescaling.intra then 1 else 0) pairs.now }
+    ensures items { to.new.items ≡ coarsened_pairs (new_level_in weights.now rescaling.alternate rescaling.intra rescaling.from rescaling.to) (if rescaling.intra then 1 else 0) 0 pairs.now }
+    ensures distortion { result ≡ pair_changes (change_in weights.now rescaling.alternate rescaling.intra rescaling.from rescaling.to) (if rescaling.intra then 1 else 0) pairs.now }
+    ensures bound { result ≤ 2 ^ 38 }
 {
     to.clear();
-    let mut place = u8::from(way.intra);
+    let mut place = u8::from(rescaling.intra);
     let mut waiting = 0;
+    let mut sum: u32 = 0;
     for pair in pairs {
         let at = place + pair.run;
-        let level = coarsen_level(seq, coding, way, codes, at, pair.level);
-        waiting = add_level(to, waiting + pair.run, level);
+        let weight = weight_in_scan(weights, rescaling.alternate, at);
+        let change = change_level(pair.level, weight, rescaling);
+        waiting = add_level(to, waiting + pair.run, change.level);
+        sum += change.squared;
         place = at + 1;
     }
+    u64::from(sum)
 }
 
 /// Adds a coefficient behind so many zeros, unless it is 0, and gives the zeros that wait then.
@@ -73,25 +92,6 @@ fn add_level(to: &mut ArrayVec<RunLevel, BLOCK_PLACES>, zeros: u8, level: i16) -
     }
 }
 
-/// The level that a level at a place of the scan becomes.
-fn coarsen_level(
-    seq: &SeqState,
-    coding: &PicCoding,
-    way: BlockWay,
-    codes: Codes,
-    place: u8,
-    level: i16,
-) -> i16
-    requires weights { HasWeights seq.now }
-    requires place { place < BLOCK_PLACES }
-    ensures { result ≡ new_level seq.now coding.now way codes.in_force codes.mapped place level }
-{
-    let weight = weight_at(seq, coding, way.intra, place);
-    let from = scale(coding.q_scale_type, codes.in_force);
-    let to = scale(coding.q_scale_type, codes.mapped);
-    coarser_level(level, weight, from, to, way.intra)
-}
-
 /// The weight of a place of the scan (ISO/IEC 13818-2, 7.3 and 7.4.2.1).
 pub fn weight_at(seq: &SeqState, coding: &PicCoding, intra: bool, place: u8) -> u8
     requires weights { HasWeights seq.now }
@@ -105,4 +105,14 @@ pub fn weight_at(seq: &SeqState, coding: &PicCoding, intra: bool, place: u8) -> 
     } else {
         seq.non_intra[index]
     }
+}
+
+/// The weight of a place of the scan in a matrix.
+fn weight_in_scan(weights: &[u8; BLOCK_PLACES], alternate: bool, place: u8) -> u8
+    requires weights { AreWeights weights.now }
+    requires place { place < BLOCK_PLACES }
+    ensures value { result ≡ weight_in weights.now alternate place }
+    ensures weighted { 0 < result }
+{
+    weights[usize::from(scan(alternate, place))]
 }

@@ -7,6 +7,7 @@ mod comparison;
 mod cursor;
 mod difference;
 pub mod laws;
+mod level;
 mod macroblock;
 mod picture;
 mod slice;

@@ -1,10 +1,12 @@
-ghost use Rattle.std.specs.Prelude.{◌≡◌, ◌<◌, ◌^◌, ◌+◌, ℕ, Option, true, false, if◌then◌else◌, unwrap_or, IsTrue, ◌↔◌};
+ghost use Rattle.std.specs.Prelude.{◌≡◌, ◌<◌, ◌≤◌, ◌^◌, ◌+◌, ◌&&◌, ℕ, Option, true, false, if◌then◌else◌, unwrap_or, IsTrue, ◌↔◌};
 ghost use Rattle.quant_math.specs.Scales.{IsCode, IsMappedCode};
 ghost use Rattle.syntax_types.specs.declared.block.Block.{Block as BlockOf};
 ghost use Rattle.picture_grammar.specs.Macroblock.{no_block};
 ghost use Rattle.requantiser.specs.Blocks.{no_blocks};
+ghost use Rattle.requantiser.specs.Distortion.{difference_of};
 ghost use Rattle.requantiser.specs.Levels.{HasWeights};
 ghost use Rattle.requantiser.specs.Macroblocks.{pattern_of as pattern_of_blocks};
+ghost use Rattle.requantiser.specs.Private.Changes.{coefficient_of_blocks, coefficient_of_made};
 ghost use Rattle.requantiser.specs.Private.Shapes.{FitBlock, HasShape, IsMeasured};
 ghost use Rattle.requantiser.specs.Private.Walk.{coarsened_blocks, made_blocks, kept_blocks, first_of, first_coded as first_coded_block, are_empty as are_all_empty, is_coded_without_motion as stands_without_motion, with_blocks};
 
@@ -17,6 +19,17 @@ use syntax_types::{
     BLOCKS, Block, Kind, Macroblock, PicCoding, RunLevel, SeqState, VECTORS_MOST, Vector,
 };
 
+/// What the blocks of a macroblock became.
+#[derive(Clone, Copy)]
+pub struct Made {
+    /// They stand in the coarser picture, and the macroblock isn't skipped.
+    pub coded: bool,
+    /// All would be emptied, and one coefficient is kept.
+    pub kept: bool,
+    /// The sum of the squares of the differences of the coefficients, where none is kept.
+    pub distortion: u64,
+}
+
 /// Writes the blocks that stand in the coarser picture for those of a macroblock, and says whether it is coded there.
 pub fn make_blocks(
     seq: &SeqState,
@@ -25,40 +38,69 @@ pub fn make_blocks(
     inner: bool,
     from: &Macroblock,
     to: &mut [Block; BLOCKS],
-) -> bool
+) -> Made
     requires weights { HasWeights seq.now }
     requires shape { HasShape from.now }
     requires measured { IsMeasured from.now }
-    ensures { (if result then Option.Some to.new else Option.None) ≡ made_blocks seq.now coding.now inner codes.in_force codes.mapped from.now }
+    ensures made { (if result.coded then Option.Some to.new else Option.None) ≡ made_blocks seq.now coding.now inner codes.in_force codes.mapped from.now }
+    ensures kept { result.coded ≡ false → result.kept ≡ false }
+    ensures distortion { result.kept ≡ false → result.distortion ≡ difference_of (coefficient_of_blocks seq.now coding.now from.now.kind codes.in_force from.now.blocks)
+        (coefficient_of_made seq.now coding.now from.now.kind codes.mapped (if result.coded then Option.Some to.new else Option.None)) }
+    ensures bound { result.distortion ≤ 2 ^ 41 }
 {
-    coarsen_blocks(seq, coding, codes, from, to);
-    if !(is_coded_without_motion(from.kind) && are_empty(to)) {
-        return true;
+    let distortion = coarsen_blocks(seq, coding, codes, from, to);
+    if !is_emptied(from.kind, to) {
+        return Made {
+            coded: true,
+            kept: false,
+            distortion,
+        };
     }
     if inner {
-        return false;
+        return Made {
+            coded: false,
+            kept: false,
+            distortion,
+        };
     }
     keep_first(from, to);
-    true
+    Made {
+        coded: true,
+        kept: true,
+        distortion,
+    }
 }
 
-/// Writes the blocks of a macroblock under another code.
+/// Writes the blocks of a macroblock under another code, and gives the sum of the squares of the differences of their
+/// coefficients.
 fn coarsen_blocks(
     seq: &SeqState,
     coding: &PicCoding,
     codes: Codes,
     from: &Macroblock,
     to: &mut [Block; BLOCKS],
-)
+) -> u64
     requires weights { HasWeights seq.now }
     requires shape { HasShape from.now }
     requires measured { IsMeasured from.now }
-    ensures { to.new ≡ coarsened_blocks seq.now coding.now from.now.kind codes.in_force codes.mapped from.now.blocks }
+    ensures blocks { to.new ≡ coarsened_blocks seq.now coding.now from.now.kind codes.in_force codes.mapped from.now.blocks }
+    ensures distortion { result ≡ difference_of (coefficient_of_blocks seq.now coding.now from.now.kind codes.in_force from.now.blocks)
+        (coefficient_of_blocks seq.now coding.now from.now.kind codes.mapped (coarsened_blocks seq.now coding.now from.now.kind codes.in_force codes.mapped from.now.blocks)) }
+    ensures bound { result ≤ 2 ^ 41 }
 {
+    let mut sum = 0;
     for i in 0..BLOCKS {
         let way = block_way(coding, from.kind, i);
-        coarsen_block(seq, coding, way, codes, &from.blocks[i], &mut to[i]);
+        sum += coarsen_block(seq, coding, way, codes, &from.blocks[i], &mut to[i]);
     }
+    sum
+}
+
+/// A macroblock without motion has no coefficients left in these blocks.
+fn is_emptied(kind: Kind, blocks: &[Block; BLOCKS]) -> bool
+    ensures { result ≡ (stands_without_motion kind && are_all_empty blocks.now) }
+{
+    is_coded_without_motion(kind) && are_empty(blocks)
 }
 
 /// A macroblock is coded with a pattern and without motion.

@@ -90,7 +90,8 @@ fn add_macroblock(
         (unwrap_or from.now.code state.old.source_code) state.old.version_code (state.old.skipped + from.now.skipped_before) from.now) state.old state.new }
 {
     let mut to = Macroblock::empty();
-    if step(seq, coding, inner, state, from, &mut to) {
+    let coarsened = step(seq, coding, inner, state, from, &mut to);
+    if coarsened.coded {
         made.push(to)?;
     }
     Ok(())

@@ -2,6 +2,7 @@ pub mod Counted
 pub mod Held
 pub mod Infallible
 pub mod OneFile
+pub mod Short
 pub mod Started
 pub mod Taken
 pub mod Whole

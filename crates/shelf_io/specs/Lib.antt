@@ -9,6 +9,7 @@ pub mod Files
 pub mod MemShelf
 pub mod MemSink
 pub mod Reading
+pub mod ShortShelf
 pub mod Sink
 pub mod Source
 pub mod WholeFile

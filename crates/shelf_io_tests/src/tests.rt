@@ -4,7 +4,8 @@ ghost use Rattle.shelf_io.specs.Sink.{with_bytes};
 
 use shelf_io::{
     CalmShelf, CalmSink, CountSink, Fault, FileShelf, MemShelf, MemSink, OutSink, Reading, Shelf,
-    Sink, SliceSource, Source, VecSink, Writing, put_all, read_file, take_full, write_file,
+    ShortShelf, Sink, SliceSource, Source, VecSink, Writing, put_all, read_file, take_full,
+    write_file,
 };
 use std::fmt::Display;
 use std::test::Fail;
@@ -38,6 +39,24 @@ fn a_calm_shelf_lacks_only_names_that_are_not_held(rt: HostRuntime) -> Result<()
     assert_eq!(rt; shelf.file("b").map(|bytes| bytes.len()), Some(1));
     assert_eq!(rt; shelf.start("a"), Ok(()));
     assert_eq!(rt; shelf.file("a").map(|bytes| bytes.len()), Some(0));
+    Ok(())
+}
+
+#[test]
+fn a_short_shelf_moves_few_bytes_a_call(rt: HostRuntime) -> Result<(), Fail> {
+    let alloc = rt.alloc();
+    let mut inner = CalmShelf::new(alloc);
+    inner.put_file("a", b"abcde")?;
+    let mut shelf = ShortShelf::new(inner, 2);
+    let mut buf = *b"xyz";
+    assert_eq!(rt; shelf.read("a", 1, &mut buf), Ok(2));
+    assert_eq!(rt; buf, *b"bcz");
+    assert_eq!(rt; shelf.append("a", b"fgh"), Ok(2));
+    assert_eq!(rt; shelf.file("a"), Some(b"abcdefg".as_slice()));
+    assert_eq!(rt; shelf.read("b", 0, &mut buf), Err(Fault::Missing));
+    write_file(&mut shelf, "b", b"abcdef")?;
+    let whole = read_file(alloc, &mut shelf, "b", 6)?;
+    assert_eq!(rt; whole.as_slice(), b"abcdef".as_slice());
     Ok(())
 }
 

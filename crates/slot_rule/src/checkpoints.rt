@@ -12,7 +12,7 @@ use crate::heads::due_head;
 use crate::run_state::RunState;
 use crate::sent::Miss;
 use crate::slots::run_slots;
-use version_table::{Choice, Table};
+use version_table::Table;
 
 /// Slots from one checkpoint to the next.
 pub const SLOTS_APART: u32 = 4_096;
@@ -24,7 +24,7 @@ pub const CHECKPOINTS_MOST: usize = 1_024;
 pub fn keep_same(
     table: &Table,
     old: &[u8],
-    new: &Choice,
+    new: &[u8],
     first: &RunState,
     checkpoints: &mut Vec<RunState>,
 )
@@ -40,7 +40,7 @@ pub fn keep_same(
     if checkpoints.is_empty() {
         return;
     }
-    let fronts = fronts_of(table, old, new.as_slice(), first.states.as_slice());
+    let fronts = fronts_of(table, old, new, first.states.as_slice());
     let right = still_right(checkpoints.as_slice(), fronts.as_slice());
     checkpoints.truncate(right);
 }
@@ -62,7 +62,7 @@ fn still_right(checkpoints: &[RunState], fronts: &[Front]) -> usize
 /// is what is kept before the first slot.
 pub fn run_on(
     table: &Table,
-    choice: &Choice,
+    choice: &[u8],
     first: RunState,
     checkpoints: &mut Vec<RunState>,
 ) -> Option<Miss>
@@ -91,7 +91,7 @@ pub fn run_on(
 }
 
 /// Runs a choice from its last checkpoint on, and adds the checkpoints that it comes to.
-fn run_from_last(table: &Table, choice: &Choice, checkpoints: &mut Vec<RunState>) -> Option<Miss>
+fn run_from_last(table: &Table, choice: &[u8], checkpoints: &mut Vec<RunState>) -> Option<Miss>
     requires valid { IsValidTable table.now }
     requires fits { Fits table.now choice.now }
     requires room { CHECKPOINTS_MOST ≤ vec_capacity checkpoints.old }

@@ -31,7 +31,7 @@ mod timetable;
 mod turns;
 
 pub use laws::{first_miss_is_one, no_miss_where_scheduled};
-pub use misses::first_miss;
+pub use misses::{first_miss, first_miss_of};
 pub use queue_kind::QueueKind;
 pub use queued_packet::QueuedPacket;
 pub use row::Row;

@@ -18,6 +18,16 @@ pub fn first_miss(table: &Table, choice: &Choice) -> Option<Miss>
     ensures scheduled { IsNone result ↔ IsScheduled table.now choice.now }
     ensures missed { (miss : Miss) → (result ≡ Some miss) ↔ IsFirstMiss table.now choice.now miss }
 {
+    first_miss_of(table, choice.as_slice())
+}
+
+/// The same, where the choice stands in a list of another kind.
+pub fn first_miss_of(table: &Table, choice: &[u8]) -> Option<Miss>
+    requires valid { IsValidTable table.now }
+    requires fits { Fits table.now choice.now }
+    ensures scheduled { IsNone result ↔ IsScheduled table.now choice.now }
+    ensures missed { (miss : Miss) → (result ≡ Some miss) ↔ IsFirstMiss table.now choice.now miss }
+{
     let mut run = RunState::new(table, choice);
     match run_slots(table, choice, &mut run, 0, TIME_SLOTS_MOST as u32) {
         After::Missed(miss) => Some(miss),

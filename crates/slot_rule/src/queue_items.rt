@@ -7,7 +7,7 @@ ghost use Rattle.slot_rule.specs.Private.QueueState.{IsNumbered, packets_at};
 
 use crate::queued_packet::QueuedPacket;
 use stream_constants::packets::PAYLOAD_BYTES;
-use version_table::{AudioPacket, Choice, ProgramRow, Table, Unit};
+use version_table::{AudioPacket, ProgramRow, Table, Unit};
 
 /// Where the packets of a stream stand in a table and a choice.
 #[derive(Clone, Copy)]
@@ -20,7 +20,7 @@ pub enum QueueItems {
 
 impl QueueItems {
     /// The first packet of the stream; none where it has none.
-    pub fn first_packet(self, table: &Table, choice: &Choice) -> Option<QueuedPacket>
+    pub fn first_packet(self, table: &Table, choice: &[u8]) -> Option<QueuedPacket>
         requires { IsPlace table.now choice.now self }
         ensures { result ≡ slice_get (packets_at table.now choice.now self) 0 }
     {
@@ -44,7 +44,7 @@ impl QueueItems {
     pub fn packet_after(
         self,
         table: &Table,
-        choice: &Choice,
+        choice: &[u8],
         packet: QueuedPacket,
     ) -> Option<QueuedPacket>
         requires place { IsPlace table.now choice.now self }
@@ -85,11 +85,11 @@ fn audio_at(table: &Table, program: usize, audio: usize) -> &[AudioPacket]
 }
 
 /// The numbers of a choice from a place on.
-fn versions_from(choice: &Choice, first: usize) -> &[u8]
+fn versions_from(choice: &[u8], first: usize) -> &[u8]
     requires { first ≤ length choice.now }
     ensures { result.now ≡ drop first choice.now }
 {
-    &choice.as_slice()[first..]
+    &choice[first..]
 }
 
 /// The packet after this one in a program's video, whose units have these version numbers.

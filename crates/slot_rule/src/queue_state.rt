@@ -13,7 +13,7 @@ use crate::queued_packet::QueuedPacket;
 use stream_constants::clock::SUBTICKS_PER_TICK;
 use stream_constants::decoder::{HOLD_TICKS, MB_SUBTICKS};
 use stream_constants::packets::PACKET_BYTES;
-use version_table::{Choice, Table};
+use version_table::Table;
 
 /// What the rule keeps of a queue between slots: its place among its packets, and one number for each buffer. Nothing of
 /// it changes while none of its packets goes.
@@ -116,7 +116,7 @@ impl QueueState {
     }
 
     /// The head packet goes, in a slot that begins at `now` subticks.
-    pub fn send(&mut self, table: &Table, choice: &Choice, packet: QueuedPacket, now: u64)
+    pub fn send(&mut self, table: &Table, choice: &[u8], packet: QueuedPacket, now: u64)
         requires place { IsPlace table.now choice.now self.old.items }
         requires numbered { All IsNumbered (packets_at table.now choice.now self.old.items) }
         requires keeps { KeepsPlace (packets_at table.now choice.now self.old.items) self.old }
@@ -152,7 +152,7 @@ impl QueueState {
     }
 
     /// Leaves out of `held` the packets that are gone at `start` ticks.
-    pub fn release(&mut self, table: &Table, choice: &Choice, start: u64)
+    pub fn release(&mut self, table: &Table, choice: &[u8], start: u64)
         requires place { IsPlace table.now choice.now self.old.items }
         requires numbered { All IsNumbered (packets_at table.now choice.now self.old.items) }
         requires keeps { KeepsPlace (packets_at table.now choice.now self.old.items) self.old }

@@ -19,7 +19,7 @@ use crate::sent::Sent;
 use crate::states::{States, first_gone, first_states, release_all, take_pcr};
 use crate::turns::{Turns, first_turns, pass_turn};
 use stream_constants::clock::SUBTICKS_PER_TICK;
-use version_table::{Choice, Table};
+use version_table::Table;
 
 /// What the rule keeps of all queues between slots.
 #[derive(Drop)]
@@ -34,7 +34,7 @@ pub struct RunState {
 
 impl RunState {
     /// The state before the first slot.
-    pub fn new(table: &Table, choice: &Choice) -> RunState
+    pub fn new(table: &Table, choice: &[u8]) -> RunState
         requires valid { IsValidTable table.now }
         requires fits { Fits table.now choice.now }
         ensures { IsFirstRun table.now choice.now result }
@@ -91,7 +91,7 @@ impl RunState {
     }
 
     /// The permitted head packet that is due first goes, in a slot that begins at `start` ticks.
-    pub fn send_first(&mut self, table: &Table, choice: &Choice, start: u64) -> Row
+    pub fn send_first(&mut self, table: &Table, choice: &[u8], start: u64) -> Row
         requires few { length self.old.states.items < 2 ^ 32 }
         requires placed { All (IsPlaced table.now choice.now) self.old.states.items }
         requires ready { All IsReady self.old.states.items }
@@ -130,7 +130,7 @@ impl RunState {
     }
 
     /// Leaves out what is gone at `start` ticks.
-    fn release(&mut self, table: &Table, choice: &Choice, start: u64)
+    fn release(&mut self, table: &Table, choice: &[u8], start: u64)
         requires placed { All (IsPlaced table.now choice.now) self.old.states.items }
         requires turns { AreTurns self.old.states.items self.old.turns.items }
         requires gone { NoneGoneBefore self.old.states.items self.old.first_gone }
@@ -145,7 +145,7 @@ impl RunState {
     }
 
     /// A head packet goes, in a slot that begins at `now` subticks.
-    fn send(&mut self, table: &Table, choice: &Choice, head: Head, now: u64)
+    fn send(&mut self, table: &Table, choice: &[u8], head: Head, now: u64)
         requires sender { IsSender table.now choice.now self.old.states.items head.stream head.packet }
         requires now { now < 2 ^ 60 }
         requires turns { AreTurns self.old.states.items self.old.turns.items }

@@ -49,6 +49,17 @@ pub fn schedule(alloc: Global, table: &Table, choice: &Choice) -> Result<SlotLis
     ensures missed { result ≢ Err ScheduleFault.OutOfMemory
         → (miss : Miss) → (result ≡ Err (ScheduleFault.Missed miss)) ↔ IsFirstMiss table.now choice.now miss }
 {
+    schedule_of(alloc, table, choice.as_slice())
+}
+
+/// The same, of the choice's numbers.
+fn schedule_of(alloc: Global, table: &Table, choice: &[u8]) -> Result<SlotList, ScheduleFault>
+    requires valid { IsValidTable table.now }
+    requires fits { Fits table.now choice.now }
+    ensures slots { IfOk result (IsSlotList table.now choice.now) }
+    ensures missed { result ≢ Err ScheduleFault.OutOfMemory
+        → (miss : Miss) → (result ≡ Err (ScheduleFault.Missed miss)) ↔ IsFirstMiss table.now choice.now miss }
+{
     let mut run = RunState::new(table, choice);
     let mut rows = ListOf::new(alloc);
     for n in 0..TIME_SLOTS_MOST as u32 {

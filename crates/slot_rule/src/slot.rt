@@ -10,10 +10,10 @@ ghost use Rattle.slot_rule.specs.Queues.{queues_of};
 use crate::row::Row;
 use crate::run_state::RunState;
 use crate::timetable::Timetable;
-use version_table::{Choice, Table};
+use version_table::Table;
 
 /// What stands in slot `n`, where `run` is what is kept before it; it becomes what is kept after it.
-pub fn run_slot(table: &Table, choice: &Choice, run: &mut RunState, n: u32) -> Row
+pub fn run_slot(table: &Table, choice: &[u8], run: &mut RunState, n: u32) -> Row
     requires valid { IsValidTable table.now }
     requires fits { Fits table.now choice.now }
     requires slot { n < TIME_SLOTS_MOST }

@@ -61,6 +61,16 @@ impl<'a> SlotRun<'a> {
         ensures missed { (miss : Miss) → (result ≡ Some miss) ↔ IsFirstMiss self.old.table choice.now miss }
         ensures keeps { self.new ≡ record { table = self.old.table; kept = Some choice.now } }
     {
+        self.run_of(choice.as_slice())
+    }
+
+    /// The same, of the choice's numbers.
+    fn run_of(&mut self, choice: &[u8]) -> Option<Miss>
+        requires fits { Fits self.old.table choice.now }
+        ensures scheduled { IsNone result ↔ IsScheduled self.old.table choice.now }
+        ensures missed { (miss : Miss) → (result ≡ Some miss) ↔ IsFirstMiss self.old.table choice.now miss }
+        ensures keeps { self.new ≡ record { table = self.old.table; kept = Some choice.now } }
+    {
         let table = self.table;
         let first = RunState::new(table, choice);
         keep_same(
@@ -97,13 +107,13 @@ impl<'a> SlotRun<'a> {
 }
 
 /// Writes a choice over another one, for which there is room.
-fn keep_choice(kept: &mut Vec<u8>, choice: &Choice)
+fn keep_choice(kept: &mut Vec<u8>, choice: &[u8])
     requires room { length choice.now ≤ vec_capacity kept.old }
     ensures same { kept.new.items ≡ choice.now }
     ensures room { vec_capacity kept.old ≤ vec_capacity kept.new }
 {
     kept.clear();
-    let Ok(()) = kept.extend_from_slice(choice.as_slice()) else {
+    let Ok(()) = kept.extend_from_slice(choice) else {
         unreachable!();
     };
 }

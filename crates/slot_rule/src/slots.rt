@@ -10,11 +10,11 @@ use crate::row::Row;
 use crate::run_state::RunState;
 use crate::slot::run_slot;
 use crate::timetable::Timetable;
-use version_table::{Choice, Table};
+use version_table::Table;
 
 /// Runs the slots from `first` up to `end`, until a packet misses or all is sent; `run` is what is kept before and after
 /// them. Slots in which nothing can happen are passed at once.
-pub fn run_slots(table: &Table, choice: &Choice, run: &mut RunState, first: u32, end: u32) -> After
+pub fn run_slots(table: &Table, choice: &[u8], run: &mut RunState, first: u32, end: u32) -> After
     requires valid { IsValidTable table.now }
     requires fits { Fits table.now choice.now }
     requires order { first ≤ end }

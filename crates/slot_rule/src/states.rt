@@ -14,8 +14,8 @@ use crate::queue_items::{QueueItems, program_at};
 use crate::queue_kind::QueueKind;
 use crate::queue_state::QueueState;
 use arrayvec::ArrayVec;
+use version_table::Table;
 use version_table::limits::{AUDIOS_MOST, PROGRAMS_MOST};
-use version_table::{Choice, Table};
 
 /// Streams of a table, at most.
 pub const QUEUES_MOST: usize = PROGRAMS_MOST * (1 + AUDIOS_MOST);
@@ -24,7 +24,7 @@ pub const QUEUES_MOST: usize = PROGRAMS_MOST * (1 + AUDIOS_MOST);
 pub type States = ArrayVec<QueueState, QUEUES_MOST>;
 
 /// The states of a table's streams before the first slot.
-pub fn first_states(table: &Table, choice: &Choice) -> States
+pub fn first_states(table: &Table, choice: &[u8]) -> States
     requires valid { IsValidTable table.now }
     requires fits { Fits table.now choice.now }
     ensures queues { map (queue_of table.now choice.now) result.items ≡ queues_of table.now choice.now }
@@ -41,7 +41,7 @@ pub fn first_states(table: &Table, choice: &Choice) -> States
 }
 
 /// Adds the states of a program's streams; the number of its first unit stands at `first` in the choice.
-fn add_program(table: &Table, choice: &Choice, states: &mut States, program: usize, first: usize)
+fn add_program(table: &Table, choice: &[u8], states: &mut States, program: usize, first: usize)
     requires few { program < 256 }
     requires place { IsPlace table.now choice.now (Units program first) }
     requires vbv { (program_at table.now program).vbv ≤ VBV_MOST }
@@ -77,13 +77,7 @@ fn add_program(table: &Table, choice: &Choice, states: &mut States, program: usi
     }
 }
 
-fn add_stream(
-    table: &Table,
-    choice: &Choice,
-    states: &mut States,
-    kind: QueueKind,
-    items: QueueItems,
-)
+fn add_stream(table: &Table, choice: &[u8], states: &mut States, kind: QueueKind, items: QueueItems)
     requires place { IsPlace table.now choice.now items }
     requires kind { kind ≡ (queue_at table.now choice.now items).kind }
     requires sized { IsKind kind }
@@ -98,7 +92,7 @@ fn add_stream(
 }
 
 /// Leaves out the packets that are gone at `start` ticks.
-pub fn release_all(table: &Table, choice: &Choice, states: &mut [QueueState], start: u64)
+pub fn release_all(table: &Table, choice: &[u8], states: &mut [QueueState], start: u64)
     requires { All (IsPlaced table.now choice.now) states.old }
     ensures { ChangesEach (ReleasesAll table.now choice.now start) states.old states.new }
 {

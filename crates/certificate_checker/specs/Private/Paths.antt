@@ -43,18 +43,18 @@ AreOpen table fixed (branch ∷ branches) =
 
 -- what is fixed, the choice that it leaves, and the branches, for which there is room
 pub record IsPath (table : Table) (path : Path) : Type 0 where
-  pub fixes : FixesVersions table path.fixed
-  pub choice : path.choice ≡ choice_left path.fixed
-  pub are_open : AreOpen table path.fixed (reverse path.branches.items)
-  pub room : length path.fixed ≤ vec_capacity path.branches
+  pub fixes : FixesVersions table path.fixed.items
+  pub choice : path.choice.items ≡ choice_left path.fixed.items
+  pub are_open : AreOpen table path.fixed.items (reverse path.branches.items)
+  pub room : length path.fixed.items ≤ vec_capacity path.branches
 
 -- what comes of the whole tree, once this has come of the tree in hand
 abbrev pub Completes : Table → Path → Walked → Walked → Type 0
-Completes table path walked whole = Resumes table path.fixed (reverse path.branches.items) walked whole
+Completes table path walked whole = Resumes table path.fixed.items (reverse path.branches.items) walked whole
 
 -- what comes of the whole tree, where these nodes are to come
 abbrev pub Ahead : Table → Path → List Node → Walked → Type 0
-Ahead table path nodes whole = (walked : Walked) × Walks table path.fixed nodes walked × Completes table path walked whole
+Ahead table path nodes whole = (walked : Walked) × Walks table path.fixed.items nodes walked × Completes table path walked whole
 
 -- what is to come, once a tree in hand has shown a bound
 abbrev pub IsClosed : Table → (old new : Path) → Option ℕ → Next → Type 0
@@ -77,6 +77,12 @@ abbrev pub IsTaken : Table → (old new : Path) → Node → Next → Type 0
 IsTaken table old new node Needed = (nodes : List Node) (whole : Walked) → Ahead table new nodes whole → Ahead table old (node ∷ nodes) whole
 IsTaken table old new node (Whole shown) = (nodes : List Node) → Ahead table old (node ∷ nodes) (Shows shown nodes)
 
--- a choice of as many numbers, and room for as many branches
-abbrev pub HasRoomFor : Path → Type 0
-HasRoomFor path = (length path.choice ≡ length path.fixed) × (length path.fixed ≤ vec_capacity path.branches)
+-- room for so many units, and for as many branches
+abbrev pub HasRoomFor : (units : ℕ) → Path → Type 0
+HasRoomFor units path = (units ≤ vec_capacity path.fixed) × (units ≤ vec_capacity path.choice) × (units ≤ vec_capacity path.branches)
+
+-- no room is given away
+abbrev pub KeepsRoom : (old new : Path) → Type 0
+KeepsRoom old new =
+    (vec_capacity old.fixed ≤ vec_capacity new.fixed) × (vec_capacity old.choice ≤ vec_capacity new.choice)
+    × (vec_capacity old.branches ≤ vec_capacity new.branches)

@@ -12,6 +12,10 @@ use Rattle.multiplier_search.specs.Single.{IsFirstBest, IsNoWorse}
 abbrev pub value_at : Table → List (Option ℕ) → (from due lambda : ℕ) → ℤ
 value_at table fixed from due lambda = value_of_windows table fixed (record { from = from; due = due; lambda = lambda } ∷ [])
 
+-- the value of a window with this lambda and some others
+abbrev pub value_beside : Table → List (Option ℕ) → List Window → (from due lambda : ℕ) → ℤ
+value_beside table fixed windows from due lambda = value_of_windows table fixed (record { from = from; due = due; lambda = lambda } ∷ windows)
+
 -- the value of some windows where the one at this place is from one time to another with this lambda
 abbrev pub value_with : Table → List (Option ℕ) → List Window → (place from due lambda : ℕ) → ℤ
 value_with table fixed windows place from due lambda = value_of_windows table fixed (slice_set windows place (record { from = from; due = due; lambda = lambda }))

@@ -29,10 +29,6 @@ pub record IsPlace (windows : List Window) (window : Window) (place : ℕ) : Typ
   pub before : (k : ℕ) (d : Window) → k < place → Precedes (slice_index_or windows k d) window
   pub behind : (d : Window) → place < length windows → Precedes (slice_index_or windows place d) window → ⊥
 
--- there is a window at this place that ends at a time
-abbrev pub EndsAt : List Window → (place time : ℕ) → Type 0
-EndsAt windows place time = (place < length windows) × ((d : Window) → (slice_index_or windows place d).due ≡ time)
-
 -- some windows have at least the value of those at the start with the lambda of one of the first n changed
 abbrev pub BeatFirstChanges : Table → List (Option ℕ) → (n : ℕ) → (start found : List Window) → Type 0
 BeatFirstChanges table fixed n start found =

@@ -1,11 +1,11 @@
 -- Times of PES packets on one axis, one behind the other.
-use Rattle.std.specs.Prelude.{ℕ, ◌+◌, ◌*◌, ◌^◌, false, List, [], ◌∷◌, All, IfSome, unwrap_or, ℤ, pos, neg_ℤ, ◌≤ℤ◌}
+use Rattle.std.specs.Prelude.{◌≡◌, ℕ, ◌+◌, ◌*◌, ◌^◌, false, List, [], ◌∷◌, All, IfSome, unwrap_or, ℤ, pos, neg_ℤ, ◌≤ℤ◌}
 use Rattle.audio_frames.specs.declared.pes_start.PesStart.{PesStart}
 use Rattle.ts_demux.specs.declared.demuxed.AudioStream.{AudioStream}
 use Rattle.program_reader.specs.declared.audio_stream.ReadStream.{ReadStream}
+use Rattle.program_reader.specs.Packets.{taken, packets_dropped, placed_from}
 use Rattle.program_reader.specs.Audio.{HasFrames}
 use Rattle.program_reader.specs.Private.Dues.{IsTime}
-use Rattle.program_reader.specs.Private.TakenPackets.{AreTaken}
 
 -- the last time of some packets, or the one before them
 abbrev pub last_time : ℤ → List PesStart → ℤ
@@ -21,9 +21,10 @@ pub record IsNear (count : ℕ) (time : ℤ) : Type 0 where
 abbrev pub AreNear : ℕ → List PesStart → Type 0
 AreNear count starts = All (λ start. IfSome start.time (IsNear count)) starts
 
--- an audio stream of a program whose video begins at this time is read: its PES packets are taken, and these are its frames, none far from 0
+-- an audio stream of a program whose video begins at this time is read: its PES packets are placed, and these are its frames, none far from 0
 pub record IsStreamRead (first : ℤ) (stream : AudioStream) (read : ReadStream) : Type 0 where
-  pub taken_are : AreTaken false stream.units read.taken
+  pub placed : read.packets.items ≡ placed_from 0 (taken false stream.units)
+  pub dropped : read.dropped ≡ packets_dropped false stream.units
   pub frames_are : HasFrames first stream read.frames
   pub ticks : All (λ frame. IsTime frame.time) read.frames
 

@@ -1,5 +1,7 @@
-use Rattle.std.proofs.Common.{Err, refl}
+use Rattle.std.proofs.Common.{Err, length, refl, ap, ◌∙◌}
 use Rattle.certificate_checker.specs.Checked.{in_head}
+use Rattle.certificate_checker.specs.declared.order.DueUnit.{DueUnit}
+use Rattle.certificate_checker.proofs.DueOrder.{order_size}
 use Rattle.certificate_checker.proofs.Outcomes.{answer_fault, answer_faultless}
 use Rattle.certificate_checker.proofs.Soundness.{answer_sound}
 use Rattle.certificate_checker.proofs.checker.check.Goals as goal
@@ -21,3 +23,7 @@ returns-in-None-clause-only_fault c = answer_fault c.args.table.now c.args.cert.
 
 pub returns-in-None-clause-sound : goal.returns-in-None-clause-sound
 returns-in-None-clause-sound c = answer_sound c.args.table.now c.args.cert.now c.check_tree.result c.requires.valid c.check_tree.ensures.bound c.check_tree.ensures.faultless
+
+pub fault_of_head-requires-clause-units : goal.fault_of_head-requires-clause-units
+fault_of_head-requires-clause-units c =
+    ap (length {A = DueUnit}) c.as_slice-order.ensures.value ∙ order_size c.args.table.now c.put_in_order.new.order.items c.put_in_order.ensures.order

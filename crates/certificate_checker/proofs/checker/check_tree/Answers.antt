@@ -1,26 +1,28 @@
-use Rattle.std.proofs.Common.{rules, ◌≡◌, false, arith}
+use Rattle.std.proofs.Common.{rules, ◌≡◌, ℕ, false, length, sym, subst, arith}
 use Rattle.std.proofs.lemmas.Bool.{iff_false}
 use Rattle.std.proofs.lemmas.Result.{err_from_is_err_and}
-use Rattle.certificate_checker.proofs.Verdicts.{bound_high, cleared_fixed, cleared_path, extra_node, fault_in_tree, path_size}
+use Rattle.certificate_checker.specs.Private.Paths.{HasRoomFor}
+use Rattle.certificate_checker.proofs.DueOrder.{order_size}
+use Rattle.certificate_checker.proofs.Verdicts.{bound_high, cleared_fixed, cleared_path, extra_node, fault_in_tree}
 use Rattle.certificate_checker.proofs.checker.check_tree.Goals as goal
+
+pub clear-requires : goal.clear-requires
+clear-requires c =
+    subst (λ (n : ℕ). HasRoomFor n c.args.path.now) (sym (order_size c.args.table.now c.args.order.now c.requires.order)) c.requires.room
 
 pub walk-requires-clause-path : goal.walk-requires-clause-path
 walk-requires-clause-path c =
-    cleared_path c.args.table.now c.args.path.now c.clear.new.path c.requires.units c.clear.ensures.room c.clear.ensures.fixed c.clear.ensures.choice c.clear.ensures.branches
+    cleared_path c.args.table.now c.args.path.now c.clear.new.path (length c.args.order.now) (order_size c.args.table.now c.args.order.now c.requires.order) c.requires.room
+    c.clear.ensures.room c.clear.ensures.fixed c.clear.ensures.choice c.clear.ensures.branches
 
 pub walk-requires-clause-fresh : goal.walk-requires-clause-fresh
-walk-requires-clause-fresh c = cleared_fixed c.args.table.now c.args.path.now c.clear.new.path c.requires.units c.clear.ensures.fixed
-
-pub returns-in_err-tree-clause-units : goal.returns-in_err-tree-clause-units
-returns-in_err-tree-clause-units c = path_size c.args.table.now c.args.path.now c.walk.new.path c.requires.units c.walk.ensures.path
+walk-requires-clause-fresh c =
+    cleared_fixed c.args.table.now c.clear.new.path (length c.args.order.now) (order_size c.args.table.now c.args.order.now c.requires.order) c.clear.ensures.fixed
 
 pub returns-in_err-tree-clause-fault : goal.returns-in_err-tree-clause-fault
 returns-in_err-tree-clause-fault c =
     let p = err_from_is_err_and c.from_residual.result c.from_residual.ensures.1 in
     rw (p.1, p.2) (fault_in_tree c.args.table.now c.args.cert.now c.as_slice.result.now c.in_err-tree.field-0.0 c.as_slice.ensures c.requires.head c.in_err-tree.ensures.fault)
-
-pub returns-then-tree-len-clause-units : goal.returns-then-tree-len-clause-units
-returns-then-tree-len-clause-units c = path_size c.args.table.now c.args.path.now c.walk.new.path c.requires.units c.walk.ensures.path
 
 pub returns-then-tree-len-clause-fault : goal.returns-then-tree-len-clause-fault
 returns-then-tree-len-clause-fault c =
@@ -28,15 +30,9 @@ returns-then-tree-len-clause-fault c =
     extra_node c.args.table.now c.args.cert.now c.as_slice.result.now tree.bound tree.nodes c.as_slice.ensures c.requires.head c.in_ok-tree.ensures.shown
     (omega (arith, c.if-tree-len.true, c.len.ensures))
 
-pub returns-then-not-is_at_most-clause-units : goal.returns-then-not-is_at_most-clause-units
-returns-then-not-is_at_most-clause-units c = path_size c.args.table.now c.args.path.now c.walk.new.path c.requires.units c.walk.ensures.path
-
 pub returns-then-not-is_at_most-clause-fault : goal.returns-then-not-is_at_most-clause-fault
 returns-then-not-is_at_most-clause-fault c =
     let tree = c.in_ok-tree.tree in
     let above : c.is_at_most.result ≡ false = search rules in
     bound_high c.args.table.now c.args.cert.now c.as_slice.result.now tree.bound tree.nodes c.as_slice.ensures c.requires.head c.in_ok-tree.ensures.shown
     (omega (arith, c.if-tree-len.false, c.len.ensures)) (iff_false c.is_at_most.ensures above)
-
-pub returns-clause-units : goal.returns-clause-units
-returns-clause-units c = path_size c.args.table.now c.args.path.now c.walk.new.path c.requires.units c.walk.ensures.path

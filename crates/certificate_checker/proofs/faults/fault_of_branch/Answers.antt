@@ -1,4 +1,4 @@
-use Rattle.std.proofs.Common.{length, sym, ap, ◌∙◌, arith}
+use Rattle.std.proofs.Common.{sym, ◌∙◌, arith}
 use Rattle.std.proofs.lemmas.Option.{none-some}
 use Rattle.version_table.specs.Table.{units_of}
 use Rattle.dual_bounds.specs.Fixed.{NamesVersion}
@@ -7,16 +7,16 @@ use Rattle.certificate_checker.proofs.faults.fault_of_branch.Goals as goal
 
 pub returns-then-unit-len : goal.returns-then-unit-len
 returns-then-unit-len c =
-    λ table is. omega (arith, all_zip_size NamesVersion (units_of table) c.args.path.now.fixed is.fixes, c.if-unit-len.true, c.len.ensures, ap length c.list.ensures)
+    λ table is. omega (arith, all_zip_size NamesVersion (units_of table) c.args.path.now.fixed.items is.fixes, c.if-unit-len.true, c.len.ensures, c.args.path.now.fixed.ok.0)
 
 pub returns-in-Some : goal.returns-in-Some
 returns-in-Some c =
     λ table is. (
-      omega (arith, all_zip_size NamesVersion (units_of table) c.args.path.now.fixed is.fixes, c.if-unit-len.false, c.len.ensures, ap length c.list.ensures),
+      omega (arith, all_zip_size NamesVersion (units_of table) c.args.path.now.fixed.items is.fixes, c.if-unit-len.false, c.len.ensures, c.args.path.now.fixed.ok.0),
       λ free. none-some c.in-Some._k (sym (c.in-Some.ensures ∙ free)),
     )
 
 pub returns-in-None : goal.returns-in-None
 returns-in-None c =
     λ table is.
-    (omega (arith, all_zip_size NamesVersion (units_of table) c.args.path.now.fixed is.fixes, c.if-unit-len.false, c.len.ensures, ap length c.list.ensures), sym c.in-None.ensures)
+    (omega (arith, all_zip_size NamesVersion (units_of table) c.args.path.now.fixed.items is.fixes, c.if-unit-len.false, c.len.ensures, c.args.path.now.fixed.ok.0), sym c.in-None.ensures)

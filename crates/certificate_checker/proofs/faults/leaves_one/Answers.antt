@@ -1,4 +1,4 @@
-use Rattle.std.proofs.Common.{rules, ◌≡◌, ℕ, ◌<◌, false, List, Option, None, length, get_or, sym, ap, subst, arith}
+use Rattle.std.proofs.Common.{rules, ◌≡◌, ◌<◌, false, None, length, get_or, sym, arith}
 use Rattle.std.proofs.lemmas.Bool.{iff_false}
 use Rattle.version_table.specs.Table.{units_of}
 use Rattle.dual_bounds.specs.Fixed.{NamesVersion}
@@ -11,12 +11,11 @@ returns-then-not-is_settled c =
     let units = units_of c.args.table.now in
     let fixed = c.args.fixed.now in
     let u = c.loop-unit.unit in
-    let size : length c.as_slice-fixed.result.now ≡ length fixed = ap length c.as_slice-fixed.ensures in
-    let within : u < length units = omega (arith, all_zip_size NamesVersion units fixed c.requires, c.loop-unit-test.true, size) in
+    let within : u < length units = omega (arith, all_zip_size NamesVersion units fixed c.requires, c.loop-unit-test.true) in
     let unsettled : c.is_settled.result ≡ false = search rules in
     let own = c.is_settled.ensures (get_or units u no_unit) (sym c.versions_of.ensures) in
     never (λ leaves. iff_false own unsettled
-    (subst (λ (xs : List (Option ℕ)). IsSettled (get_or units u no_unit) (get_or xs u None)) (sym c.as_slice-fixed.ensures) (all_zip_at IsSettled units fixed u no_unit None leaves within)))
+    (all_zip_at IsSettled units fixed u no_unit None leaves within))
 
 pub returns : goal.returns
 returns c =
@@ -24,5 +23,4 @@ returns c =
     let fixed = c.args.fixed.now in
     let size : length fixed ≡ length units = all_zip_size NamesVersion units fixed c.requires in
     always (all_zip_from IsSettled units fixed no_unit None size (λ u below.
-    subst (λ (xs : List (Option ℕ)). IsSettled (get_or units u no_unit) (get_or xs u None)) c.as_slice-fixed.ensures
-    (c.loop-unit.invariant u (omega (arith, below, size, c.loop-unit-test.false, ap length c.as_slice-fixed.ensures)))))
+    c.loop-unit.invariant u (omega (arith, below, size, c.loop-unit-test.false))))

@@ -9,8 +9,8 @@ use Rattle.certificate_checker.proofs.walk.take_branch.Goals as goal
 
 pub enter-requires-clause-within : goal.enter-requires-clause-within
 enter-requires-clause-within c =
-    let right : IsRight c.args.table.now c.args.path.now.fixed (Branch c.args.unit) = c.in-None.ensures c.args.table.now c.requires.path in
-    omega (arith, right.0, all_zip_size NamesVersion (units_of c.args.table.now) c.args.path.now.fixed c.requires.path.fixes)
+    let right : IsRight c.args.table.now c.args.path.now.fixed.items (Branch c.args.unit) = c.in-None.ensures c.args.table.now c.requires.path in
+    omega (arith, right.0, all_zip_size NamesVersion (units_of c.args.table.now) c.args.path.now.fixed.items c.requires.path.fixes)
 
 pub enter-requires-clause-room : goal.enter-requires-clause-room
 enter-requires-clause-room c = room_to_enter c.args.table.now c.args.path.now c.args.unit c.requires.path (c.in-None.ensures c.args.table.now c.requires.path)

@@ -11,14 +11,14 @@ returns-in-Dual-clause-next c =
     let old = c.args.path.now in
     let windows = c.as_slice-in-Dual.result.now in
     let same : windows ≡ windows_in (Dual c.in-Dual.with) = c.as_slice-in-Dual.ensures.value ∙ c.windows_of.ensures ∙ ap (map from_start) c.as_slice.ensures.value in
-    let by = subst (λ n. IsByWindows table old.fixed windows n) (sym c.in-Dual.is) (dual_by table old.fixed windows c.in-Dual.with same) in
+    let by = subst (λ n. IsByWindows table old.fixed.items windows n) (sym c.in-Dual.is) (dual_by table old.fixed.items windows c.in-Dual.with same) in
     windows_taken table old c.take_windows.new.path c.args.node.now windows c.take_windows.result by c.take_windows.ensures.right c.take_windows.ensures.closed
 
 pub returns-in-Open-clause-next : goal.returns-in-Open-clause-next
 returns-in-Open-clause-next c =
     let table = c.args.table.now in
     let old = c.args.path.now in
-    let by = subst (λ n. IsByWindows table old.fixed [] n) (sym c.in-Open.is) (open_by table old.fixed) in
+    let by = subst (λ n. IsByWindows table old.fixed.items [] n) (sym c.in-Open.is) (open_by table old.fixed.items) in
     windows_taken table old c.take_windows-in-Open.new.path c.args.node.now [] c.take_windows-in-Open.result by c.take_windows-in-Open.ensures.right c.take_windows-in-Open.ensures.closed
 
 pub returns-in-Window-clause-next : goal.returns-in-Window-clause-next
@@ -27,5 +27,5 @@ returns-in-Window-clause-next c =
     let old = c.args.path.now in
     let windows = c.as_slice-in-Window.result.now in
     let same : windows ≡ windows_in (Window c.in-Window.with) = c.as_slice-in-Window.ensures.value in
-    let by = subst (λ n. IsByWindows table old.fixed windows n) (sym c.in-Window.is) (window_by table old.fixed windows c.in-Window.with same) in
+    let by = subst (λ n. IsByWindows table old.fixed.items windows n) (sym c.in-Window.is) (window_by table old.fixed.items windows c.in-Window.with same) in
     windows_taken table old c.take_windows-in-Window.new.path c.args.node.now windows c.take_windows-in-Window.result by c.take_windows-in-Window.ensures.right c.take_windows-in-Window.ensures.closed

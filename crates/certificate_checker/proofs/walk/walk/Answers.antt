@@ -3,6 +3,7 @@ use Rattle.certificate_checker.specs.declared.path.Next.{Next}
 use Rattle.certificate_checker.specs.declared.path.Next.TheVariants.{Needed, Whole}
 use Rattle.certificate_checker.specs.Private.Paths.{IsTaken}
 use Rattle.certificate_checker.proofs.Nodes.{missing_in, one_more, whole_shown, wrong_in}
+use Rattle.certificate_checker.proofs.Steps.{keeps_both}
 use Rattle.certificate_checker.proofs.walk.walk.Goals as goal
 
 pub returns-in-Ok-Whole-clause-shown : goal.returns-in-Ok-Whole-clause-shown
@@ -28,6 +29,7 @@ loop-at-preserved c =
     let taken = subst (λ (n : Next). IsTaken table c.loop-at.path c.take_node.new.path node n) same c.in-Ok-Needed.ensures.next in
     record {
       path = c.take_node.ensures.path;
+      room = keeps_both c.args.path.now c.loop-at.path c.take_node.new.path c.loop-at.invariant.room c.take_node.ensures.room;
       ahead = one_more table c.args.nodes.now c.loop-at.path c.take_node.new.path c.loop-at.at node c.loop-at-test.true c.index-nodes-at.is c.loop-at.invariant.ahead taken;
     }
 

@@ -1,12 +1,13 @@
 use Rattle.std.proofs.Common.{drop}
 use Rattle.certificate_checker.specs.Shown.{unfixed}
 use Rattle.certificate_checker.specs.Walk.{Walked, Walks}
-use Rattle.certificate_checker.specs.Private.Paths.{Ahead, IsPath}
+use Rattle.certificate_checker.specs.Private.Paths.{Ahead, IsPath, KeepsRoom}
 use Rattle.certificate_checker.proofs.walk.walk.Given as goal
 
 -- what comes of the nodes that are left comes of all
 abbrev pub invariant-loop-at : goal.invariant-loop-at
 invariant-loop-at l = record {
   path : IsPath l.table l.path;
+  room : KeepsRoom l.fn.path l.path;
   ahead : (whole : Walked) → Ahead l.table l.path (drop l.at l.nodes) whole → Walks l.table (unfixed l.table) l.nodes whole;
 }

@@ -1,4 +1,4 @@
-use Rattle.std.proofs.Common.{ℕ, ◌-◌, ◌/◌, ◌≤◌, ap, arith}
+use Rattle.std.proofs.Common.{◌-◌, ◌/◌, ◌≤◌, ap, arith}
 use Rattle.cost_steps.proofs.Lines.{cross-before}
 use Rattle.cost_steps.proofs.steps.crossing.Goals as goal
 

@@ -1,10 +1,9 @@
-use Rattle.std.proofs.Common.{◌≡◌, ◌+◌, ◌<◌, ◌∷◌, length, drop, get_or, List, Option, None, ℕ, sym, subst, ap, ap₂, ◌∙◌, arith}
+use Rattle.std.proofs.Common.{◌+◌, ◌<◌, ◌∷◌, length, drop, get_or, List, Option, None, ℕ, sym, subst, ap, ◌∙◌, arith}
 use Rattle.std.proofs.lemmas.List.{drop_all, drop_more}
 use Rattle.version_table.specs.declared.table.Unit.{Unit as CodedUnit}
 use Rattle.dual_bounds.specs.Fixed.{NamesVersion}
 use Rattle.dual_bounds.proofs.LeastCosts.{names_at, names_length}
-use Rattle.cost_sweep.specs.declared.step.CostStep.{CostStep}
-use Rattle.multiplier_search.specs.Private.UnitSteps.{AddSteps, AddUnit}
+use Rattle.multiplier_search.specs.Private.UnitSteps.{AddSteps}
 use Rattle.multiplier_search.proofs.Added.{added-first, added-none}
 use Rattle.multiplier_search.proofs.all_steps.add_units.Goals as goal
 
@@ -27,13 +26,13 @@ loop-i-preserved c = λ after later.
     let first = drop_more units i unit c.loop-i-test.true ∙ ap (λ (u : CodedUnit). u ∷ drop (i + 1) units) (sym c.index-units-i.is) in
     let second = drop_more fixed i None within in
     c.loop-i.invariant after
-    (subst (λ (us : List CodedUnit). AddSteps us (drop i fixed) c.loop-i.steps.items after) (sym first)
-    (subst (λ (es : List (Option ℕ)). AddSteps (unit ∷ drop (i + 1) units) es c.loop-i.steps.items after) (sym second)
-    (added-first unit (get_or fixed i None) (drop (i + 1) units) (drop (i + 1) fixed) c.loop-i.steps.items _ after c.in_ok-add_unit.ensures later)))
+    (subst (λ (us : List CodedUnit). AddSteps c.args.windows.now us (drop i fixed) c.loop-i.steps.items after) (sym first)
+    (subst (λ (es : List (Option ℕ)). AddSteps c.args.windows.now (unit ∷ drop (i + 1) units) es c.loop-i.steps.items after) (sym second)
+    (added-first c.args.windows.now unit (get_or fixed i None) (drop (i + 1) units) (drop (i + 1) fixed) c.loop-i.steps.items _ after c.requires.room c.in_ok-add_unit.ensures later)))
 
 pub returns : goal.returns
 returns c =
     let items = c.loop-i.steps.items in
     let rest = drop c.loop-i.i c.args.fixed.now in
     let none = drop_all c.loop-i.i c.args.units.now c.loop-i-test.false in
-    c.loop-i.invariant items (subst (λ (us : List CodedUnit). AddSteps us rest items items) (sym none) (added-none rest items))
+    c.loop-i.invariant items (subst (λ (us : List CodedUnit). AddSteps c.args.windows.now us rest items items) (sym none) (added-none c.args.windows.now rest items))

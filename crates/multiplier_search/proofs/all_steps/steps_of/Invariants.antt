@@ -11,5 +11,5 @@ use Rattle.multiplier_search.proofs.all_steps.steps_of.Given as goal
 abbrev pub invariant-loop-program : goal.invariant-loop-program
 invariant-loop-program l = let units = units_from l.program-items l.program-index in record {
   names : AllZip NamesVersion units l.rest;
-  steps : (after : List CostStep) → AddSteps units l.rest l.steps.items after → AddSteps (units_of l.table) l.fixed [] after;
+  steps : (after : List CostStep) → AddSteps l.windows units l.rest l.steps.items after → AddSteps l.windows (units_of l.table) l.fixed [] after;
 }

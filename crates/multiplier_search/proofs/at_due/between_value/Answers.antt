@@ -6,8 +6,8 @@ use Rattle.multiplier_search.proofs.Between.{value-between}
 use Rattle.multiplier_search.proofs.at_due.between_value.Goals as goal
 
 pub returns : goal.returns
-returns c = λ table fixed from due at free room-is.
-    let is = value-between table fixed from due c.args.lambda c.args.last.now c.args.before.now c.args.free c.costs-costs.result c.costs-early.result c.args.capacity c.requires.lambda
+returns c = λ table fixed windows from due at free room-is.
+    let is = value-between table fixed windows from due c.args.lambda c.args.last.now c.args.before.now c.args.free c.costs-costs.result c.costs-early.result c.args.capacity c.requires.lambda
     at free c.costs-costs.ensures.paid c.costs-costs.ensures.spared c.costs-early.ensures.paid c.costs-early.ensures.spared room-is in
     let fits : SFits w64 c.args.capacity = search rules in
     let same : to_z w64 (of_z w64 c.args.capacity) ≡ c.args.capacity = to_z-of_z w64 c.args.capacity fits in

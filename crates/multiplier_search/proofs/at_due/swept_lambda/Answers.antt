@@ -1,21 +1,36 @@
-use Rattle.std.proofs.Common.{◌≡◌, ℕ, ◌+◌, ◌-◌, ◌/◌, ◌<ℤ◌, arith, ℤ}
+use Rattle.std.proofs.Common.{ℕ, ◌+◌, ◌<ℤ◌, inr, arith, ℤ}
 use Rattle.std.proofs.lemmas.Int.{ints}
-use Rattle.multiplier_search.specs.Private.Lambda.{value_at}
+use Rattle.multiplier_search.specs.Private.Lambda.{value_beside}
 use Rattle.multiplier_search.proofs.Best.{values_concave}
-use Rattle.multiplier_search.proofs.Rises.{rises_upto}
+use Rattle.multiplier_search.proofs.Rises.{le_beside, less_beside, rises_upto}
 use Rattle.multiplier_search.proofs.at_due.swept_lambda.Goals as goal
 
 pub loop-low-preserved-then-value-next : goal.loop-low-preserved-then-value-next
 loop-low-preserved-then-value-next c =
-    let middle = c.loop-low.low + (c.loop-low.high - c.loop-low.low) / 2 in
+    let middle = c.next_try-middle.result in
     record {
       order = omega arith;
       most = c.loop-low.invariant.most;
-      rises = λ table fixed due are reached room-is.
-          (let value : ℕ → ℤ = value_at table fixed 0 due in
-          let here = c.swept_value-value.ensures table fixed due are reached room-is in
-          let next = c.swept_value-next.ensures table fixed due are reached room-is in
-          let rise : value middle <ℤ value (middle + 1) = rw (← here, ← next) (grind (arith, ints)) in
-          rises_upto value (values_concave table fixed 0 due) middle rise);
+      rises = λ table fixed windows due are reached room-is.
+          (let value : ℕ → ℤ = value_beside table fixed windows 0 due in
+          let here = c.swept_value-value.ensures table fixed windows due are reached room-is in
+          let next = c.swept_value-next.ensures table fixed windows due are reached room-is in
+          let rise : value middle <ℤ value (middle + 1) = less_beside _ _ _ _ _ here next (grind (arith, ints)) in
+          rises_upto value (values_concave table fixed windows 0 due) middle rise);
       ends = c.loop-low.invariant.ends;
+    }
+
+pub loop-low-preserved : goal.loop-low-preserved
+loop-low-preserved c =
+    let least = c.next_try-middle.ensures.least in
+    let greatest = c.next_try-middle.ensures.greatest in
+    let limit = c.loop-low.invariant.most in
+    record {
+      order = least;
+      most = omega arith;
+      rises = c.loop-low.invariant.rises;
+      ends = λ table fixed windows due are reached room-is.
+          (let here = c.swept_value-value.ensures table fixed windows due are reached room-is in
+          let next = c.swept_value-next.ensures table fixed windows due are reached room-is in
+          inr (le_beside _ _ _ _ _ next here (omega (arith, ints, c.if-value-next.false))));
     }

@@ -13,7 +13,7 @@ dues-preserved c =
     let new = c.next_due.new.self in
     let same : new.steps.items ≡ c.dues.sweep.steps.items = c.in-Some.ensures.steps in
     let went = c.in-Some.ensures.next in
-    let steps : AreStepsOf table fixed new.steps.items = subst (λ (x : List CostStep). AreStepsOf table fixed x) (sym same) c.dues.invariant.steps in
+    let steps : AreStepsOf table fixed [] new.steps.items = subst (λ (x : List CostStep). AreStepsOf table fixed [] x) (sym same) c.dues.invariant.steps in
     let before : IsBestValued table fixed (times_of (take place new.steps.items)) c.dues.best =
     subst (λ (x : List CostStep). IsBestValued table fixed (times_of (take place x)) c.dues.best) (sym same) c.dues.invariant.best in
     record {

@@ -1,4 +1,4 @@
-use Rattle.std.proofs.Common.{Option, ap, subst, List, ℕ, ◌++◌, sym, [], ◌≡◌, refl}
+use Rattle.std.proofs.Common.{Option, subst}
 use Rattle.multiplier_search.specs.declared.single.Valued.{Valued}
 use Rattle.multiplier_search.specs.Private.UnitSteps.{IsBestValued}
 use Rattle.multiplier_search.proofs.FirstBest.{best-of, best-alone}

@@ -41,16 +41,16 @@ loop-left-preserved c =
     let start : List Window = map from_start from in
     let dues : List ℕ = dues_of (units_of table) in
     let with = c.loop-left.with.items in
-    let next = c.turn-next.result.items in
+    let next = c.in_ok-next.next.items in
     let same = c.as_slice-in-loop-left.ensures.value in
-    let follows : AreNext with 1 next = subst (λ (x : List Window). AreNext x 1 next) same c.turn-next.ensures.next in
+    let follows : AreNext with 1 next = subst (λ (x : List Window). AreNext x 1 next) same c.in_ok-next.ensures.next in
     let few = follows.few in
     let so_far = c.loop-left.invariant.value in
     let rise : value_of_windows table fixed with ≤ℤ value_of_windows table fixed next =
-    subst (λ (x : List Window). value_of_windows table fixed x ≤ℤ value_of_windows table fixed next) same c.turn-next.ensures.value in
-    let changes : BeatChanges table fixed with next = subst (λ (x : List Window). BeatChanges table fixed x next) same c.turn-next.ensures.changes in
+    subst (λ (x : List Window). value_of_windows table fixed x ≤ℤ value_of_windows table fixed next) same c.in_ok-next.ensures.value in
+    let changes : BeatChanges table fixed with next = subst (λ (x : List Window). BeatChanges table fixed x next) same c.in_ok-next.ensures.changes in
     let additions : length with < WINDOWS_MOST → BeatAdditions table fixed dues with next =
-    subst (λ (x : List Window). length x < WINDOWS_MOST → BeatAdditions table fixed dues x next) same c.turn-next.ensures.additions in
+    subst (λ (x : List Window). length x < WINDOWS_MOST → BeatAdditions table fixed dues x next) same c.in_ok-next.ensures.additions in
     let less : c.turns_left-left.result < c.loop-left.left = c.turns_left-left.ensures in
     let order = c.loop-left.invariant.order in
     record {

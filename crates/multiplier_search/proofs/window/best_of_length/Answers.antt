@@ -1,4 +1,4 @@
-use Rattle.std.proofs.Common.{◌≡◌, ◌+◌, ◌<◌, List, get_or, take, sym, ap, subst, arith}
+use Rattle.std.proofs.Common.{◌≡◌, ◌+◌, ◌<◌, List, [], get_or, take, sym, ap, subst, arith}
 use Rattle.cost_sweep.specs.declared.step.CostStep.{CostStep}
 use Rattle.multiplier_search.specs.Private.Lengths.{Outdoes}
 use Rattle.multiplier_search.specs.Private.UnitSteps.{AreStepsOf, times_of}
@@ -27,14 +27,14 @@ dues-preserved c =
     let new = c.next_due.new.self in
     let same : new.steps.items ≡ c.dues.last.steps.items = c.in-Some.ensures.steps in
     let went = c.in-Some.ensures.next in
-    let steps : AreStepsOf table fixed new.steps.items = subst (λ (x : List CostStep). AreStepsOf table fixed x) (sym same) c.dues.invariant.steps in
+    let steps : AreStepsOf table fixed [] new.steps.items = subst (λ (x : List CostStep). AreStepsOf table fixed [] x) (sym same) c.dues.invariant.steps in
     let so_far : Outdoes table fixed ticks (times_of (take place new.steps.items)) c.args.start c.dues.best =
     subst (λ (x : List CostStep). Outdoes table fixed ticks (times_of (take place x)) c.args.start c.dues.best) (sym same) c.dues.invariant.best in
     record {
       last = c.in-Some.ensures.sweep;
       before = c.or_at_due-best.ensures.before;
       steps = steps;
-      early = subst (λ (x : List CostStep). AreStepsOf table fixed x) (sym c.or_at_due-best.ensures.steps) c.dues.invariant.early;
+      early = subst (λ (x : List CostStep). AreStepsOf table fixed [] x) (sym c.or_at_due-best.ensures.steps) c.dues.invariant.early;
       behind = λ j d from within k d' low.
           (let is : (get_or c.or_at_due-best.new.before.steps.items k d').due + ticks < due = c.or_at_due-best.ensures.behind k d' low in
           let later : due < (get_or new.steps.items j d).due = went.reached.later j d from within in

@@ -1,4 +1,4 @@
-use Rattle.std.proofs.Common.{◌-◌, length, take}
+use Rattle.std.proofs.Common.{◌-◌, [], length, take}
 use Rattle.cost_sweep.specs.Sweep.{IsSweep}
 use Rattle.multiplier_search.specs.Private.Lengths.{IsBehindAll, Outdoes}
 use Rattle.multiplier_search.specs.Private.UnitSteps.{AreStepsOf, times_of}
@@ -9,8 +9,8 @@ abbrev pub invariant-dues : goal.invariant-dues
 invariant-dues l = record {
   last : IsSweep l.last;
   before : IsSweep l.before;
-  steps : AreStepsOf l.table l.fixed l.last.steps.items;
-  early : AreStepsOf l.table l.fixed l.before.steps.items;
+  steps : AreStepsOf l.table l.fixed [] l.last.steps.items;
+  early : AreStepsOf l.table l.fixed [] l.before.steps.items;
   behind : IsBehindAll l.ticks l.before l.last;
   sound : IsSound l.best.window;
   best : Outdoes l.table l.fixed l.ticks (times_of (take l.last.place l.last.steps.items)) l.fn.start l.best;

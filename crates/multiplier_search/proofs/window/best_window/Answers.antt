@@ -1,4 +1,4 @@
-use Rattle.std.proofs.Common.{◌≡◌, ℕ, ◌<◌, List, [], ◌∷◌, length, sym, ap, subst, arith, rules}
+use Rattle.std.proofs.Common.{◌<◌, List, length, sym, subst, arith}
 use Rattle.version_table.specs.Table.{units_of}
 use Rattle.dual_bounds.specs.declared.windows.Multiplier.{Multiplier}
 use Rattle.dual_bounds.specs.declared.windows.Window.{Window}

@@ -1,7 +1,7 @@
 use Rattle.std.proofs.Common.{◌<◌, Some, refl, inl, inr, lit<, arith}
 use Rattle.shelf_io.specs.Counts.{Rose}
 use Rattle.remux_core.specs.declared.status.Status.TheVariants.{Ok}
-use Rattle.remux_core.specs.Command.{Plan, Gen}
+use Rattle.remux_core.specs.Command.{Plan, Gen, Probe}
 use Rattle.remux_core.proofs.One.{is_ok}
 use Rattle.remux_core.proofs.laws.calm_run.Goals as goal
 
@@ -23,6 +23,13 @@ returns-clause-plans c = λ name certificate table command holds scheduled.
 pub returns-clause-makes : goal.returns-clause-makes
 returns-clause-makes c = λ seed pictures name command.
     elim (returns-clause-called_for c Ok (record { command = Some (Gen seed pictures name); said = command; called = tt })) [
+      | inl same ↦ inl (is_ok c.run.result same)
+      | inr wanted ↦ inr wanted
+    ]
+
+pub returns-clause-probes : goal.returns-clause-probes
+returns-clause-probes c = λ file number name program command holds.
+    elim (returns-clause-called_for c Ok (record { command = Some (Probe file number name); said = command; called = (program, holds) })) [
       | inl same ↦ inl (is_ok c.run.result same)
       | inr wanted ↦ inr wanted
     ]

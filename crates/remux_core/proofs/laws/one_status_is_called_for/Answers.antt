@@ -10,5 +10,6 @@ returns c =
       miss = c.first_miss_is_one.ensures;
       run = c.jobs_call_for_one.ensures.run;
       check = c.jobs_call_for_one.ensures.check;
+      probe = c.jobs_call_for_one.ensures.probe;
     } in
     words_call_for_one laws

@@ -2,6 +2,7 @@ use Rattle.std.proofs.Common.{◌≡◌, length, arith}
 use Rattle.std.proofs.lemmas.Slice.Zip.{AllZip-long}
 use Rattle.version_table.specs.Choice.{HasVersion}
 use Rattle.version_table.specs.Table.{units_of}
+use Rattle.remux_core.proofs.Searches.{budget_else}
 use Rattle.remux_core.proofs.planned.plan_of_table.Goals as goal
 
 pub look_at_cert-requires-clause-few_units : goal.look_at_cert-requires-clause-few_units
@@ -25,6 +26,8 @@ returns-in-Ok-clause-plan c =
       few_nodes = is.few_nodes;
       few_windows = is.few_windows;
       branches = is.branches;
+      spent = λ apart. is.spent (budget_else c.in-Ok.planned.search (λ optimal. apart (is.optimal.0 optimal)));
+      enough = λ nodes. is.optimal.0 (is.enough nodes);
       tried = is.tried;
       pairs = is.pairs;
       no_worse = is.no_worse;

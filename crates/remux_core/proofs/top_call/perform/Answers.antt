@@ -6,8 +6,8 @@ use Rattle.remux_core.specs.declared.command.Parsed.{Parsed}
 use Rattle.remux_core.specs.Answer.{Decides, AnswerHasCause}
 use Rattle.remux_core.specs.Command.{IsSaid}
 use Rattle.remux_core.specs.Outside.{shelf_facts}
-use Rattle.remux_core.specs.Private.Parsed.{command_of, plan_of, run_of, check_of}
-use Rattle.remux_core.proofs.Counted.{counts_same, asks_same, asks_table, asks_run}
+use Rattle.remux_core.specs.Private.Parsed.{command_of, plan_of, run_of, check_of, probe_of}
+use Rattle.remux_core.proofs.Counted.{counts_same, asks_same, asks_probe, asks_table, asks_run}
 use Rattle.remux_core.proofs.Ending.{ends_so}
 use Rattle.remux_core.proofs.Told.{on_same}
 use Rattle.remux_core.proofs.top_call.perform.Goals as goal
@@ -62,4 +62,18 @@ returns-in-Some-Check g c =
       cause = c.check_job.ensures.cause;
       counts = c.check_job.ensures.counts;
       asks = c.check_job.ensures.asked;
+    }
+
+pub returns-in-Some-Probe : goal.returns-in-Some-Probe
+returns-in-Some-Probe g c =
+    let words = c.in-Some-Probe.words in
+    let asked = g.K.Shelf.asked in
+    record {
+      command = probe_of words;
+      said = subst (λ (p : Parsed). IsSaid (map string_bytes c.args.words.now) (command_of (Some p))) c.in-Some-Probe.field-0-is c.in-Some-Probe.ensures;
+      decided = c.probe_file.ensures.decided;
+      cause = c.probe_file.ensures.cause;
+      counts = c.probe_file.ensures.counts;
+      asks = asks_probe words.file.now words.program words.table.now (g.K.Shelf.files c.args.shelf.now) (asked c.args.shelf.now) (asked c.probe_file.new.shelf)
+          c.probe_file.ensures.asked;
     }

@@ -61,6 +61,7 @@ returns-in-Ok-clause-called_for g c = λ files status told calls none.
       miss = c.first_miss_is_one.ensures;
       run = c.jobs_call_for_one.ensures.run;
       check = c.jobs_call_for_one.ensures.check;
+      probe = c.jobs_call_for_one.ensures.probe;
     } in
     as_called laws (map string_bytes c.args.words.now) files (shelf c.args.shelf.now) (shelf c.perform.new.shelf) (sink c.args.out.now) (sink c.put_all.new.sink)
     ended.status status (returns-in-Ok-clause-outcome g c) told calls none

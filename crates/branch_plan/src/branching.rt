@@ -1,0 +1,245 @@
+ghost use Rattle.std.specs.Prelude.{◌≡◌, ◌+◌, ◌<◌, ◌≤◌, ℕ, List, [], length, IfOk, OnOk};
+ghost use Rattle.std.specs.BinaryHeap.{heap_items};
+ghost use Rattle.version_table.specs.declared.limits.TheConstants.{NODES_MOST};
+ghost use Rattle.version_table.specs.Table.{IsValidTable};
+ghost use Rattle.dual_bounds.specs.declared.constants.TheConstants.{WINDOWS_MOST};
+ghost use Rattle.dual_bounds.specs.Bounds.{bound_of_value};
+ghost use Rattle.dual_bounds.specs.Fixed.{FixesVersions};
+ghost use Rattle.dual_bounds.specs.Values.{value_of_windows};
+ghost use Rattle.multiplier_search.specs.Windows.{AreSearched};
+ghost use Rattle.certificate_checker.specs.Shown.{unfixed};
+ghost use Rattle.branch_plan.specs.declared.limits.TheConstants.{FEW_WINDOWS_MOST, NODES_WITH_MANY_WINDOWS_MOST};
+ghost use Rattle.branch_plan.specs.Private.Branching.{Ends, EndsOrGrows, IsGrowth, IsTaken, IsWith};
+ghost use Rattle.branch_plan.specs.Private.Growth.{IsOrdered};
+ghost use Rattle.branch_plan.specs.Private.Known.{IsKnown};
+
+use crate::arena::{Arena, Link, path_to};
+use crate::changes::unit_at;
+use crate::children::{Place, with_branch};
+use crate::known::Known;
+use crate::leaves::{free_unit, leaf_on};
+use crate::open::{OpenLeaves, add_leaf, no_leaves, take_least};
+use crate::root::root_bound;
+use dual_bounds::{Windows, nothing_fixed};
+use list_types::OutOfMemory;
+use slot_rule::SlotRun;
+use std::alloc::Global;
+use std::cmp::Reverse;
+use version_table::Table;
+
+/// A tree while it grows.
+#[derive(Drop)]
+pub(crate) struct Growth {
+    /// Its nodes.
+    pub arena: Arena,
+    /// The leaves that may be branched.
+    pub leaves: OpenLeaves,
+    /// The best choice that is known.
+    pub known: Known,
+    /// The bound of the root by its own windows, which no leaf's falls below.
+    pub root: u64,
+}
+
+/// A tree that isn't branched any more.
+#[derive(Drop)]
+pub(crate) struct Ended {
+    /// Its nodes.
+    pub arena: Arena,
+    /// The bound of its root.
+    pub bound: u64,
+    /// The best choice that is known.
+    pub known: Known,
+}
+
+/// What a step came to.
+#[derive(Drop)]
+pub(crate) enum Step {
+    /// A leaf was branched.
+    Grown(Growth),
+    /// The bound has come up to the distortion, or a branch more would take the tree past its nodes.
+    Ended(Ended),
+}
+
+/// The tree that is branched at its leaf of least bound, one unit at a time, until its bound has come up to the best distortion
+/// that is known or the next branch would take it past so many nodes. Fails only for want of memory.
+pub(crate) fn branched(
+    alloc: Global,
+    table: &Table,
+    run: &mut SlotRun<'_>,
+    known: Known,
+    windows: Windows,
+    nodes: u32,
+) -> Result<Ended, OutOfMemory>
+    requires valid { IsValidTable table.now }
+    requires run { run.old.table ≡ table.now }
+    requires known { IsKnown table.now known }
+    requires windows { AreSearched windows.items }
+    requires few_windows { NODES_WITH_MANY_WINDOWS_MOST < nodes → length windows.items ≤ FEW_WINDOWS_MOST }
+    requires some_nodes { 1 ≤ nodes }
+    requires nodes { nodes ≤ NODES_MOST }
+    ensures run { run.new.table ≡ table.now }
+    ensures ends { IfOk result (Ends table.now nodes (bound_of_value (value_of_windows table.now (unfixed table.now) windows.items))) }
+    ensures kept { IfOk result (λ ended. ended.known.distortion ≤ known.distortion) }
+{
+    let mut growth = rooted(alloc, table, run, known, windows, nodes)?;
+    for _branches in 0..nodes {
+        match branch_least(alloc, table, run, growth, nodes)? {
+            Step::Grown(grown) => growth = grown,
+            Step::Ended(ended) => return Ok(ended),
+        }
+    }
+    unreachable!()
+}
+
+/// The tree of one node.
+fn rooted(
+    alloc: Global,
+    table: &Table,
+    run: &mut SlotRun<'_>,
+    known: Known,
+    windows: Windows,
+    nodes: u32,
+) -> Result<Growth, OutOfMemory>
+    requires valid { IsValidTable table.now }
+    requires run { run.old.table ≡ table.now }
+    requires known { IsKnown table.now known }
+    requires windows { AreSearched windows.items }
+    requires few_windows { NODES_WITH_MANY_WINDOWS_MOST < nodes → length windows.items ≤ FEW_WINDOWS_MOST }
+    requires some_nodes { 1 ≤ nodes }
+    ensures run { run.new.table ≡ table.now }
+    ensures grown { IfOk result (IsGrowth table.now nodes) }
+    ensures root { IfOk result (λ growth. growth.root ≡ bound_of_value (value_of_windows table.now (unfixed table.now) windows.items)) }
+    ensures kept { IfOk result (λ growth. growth.known.distortion ≤ known.distortion) }
+    ensures one { IfOk result (λ growth. length growth.arena.nodes.items ≡ 1) }
+{
+    let fixed = nothing_fixed(alloc, table)?;
+    let root = root_bound(table, &fixed, &windows, &known);
+    let leaf = leaf_on(alloc, table, run, known, &fixed, windows)?;
+    let mut leaves = no_leaves(alloc);
+    add_if_open(&mut leaves, leaf.bound, 0)?;
+    let mut arena = Arena {
+        nodes: Vec::new(alloc),
+        links: Vec::new(alloc),
+    };
+    arena.nodes.push(leaf.node)?;
+    arena.links.push(Link {
+        parent: 0,
+        unit: 0,
+        version: 0,
+        next: 0,
+    })?;
+    Ok(Growth {
+        arena,
+        leaves,
+        known: leaf.known,
+        root,
+    })
+}
+
+/// Adds a leaf where it may be branched.
+pub(crate) fn add_if_open(
+    leaves: &mut OpenLeaves,
+    bound: Option<u64>,
+    number: u32,
+) -> Result<(), OutOfMemory>
+    requires order { IsOrdered (heap_items leaves.old) }
+    ensures order { OnOk result (IsOrdered (heap_items leaves.new)) }
+    ensures more { OnOk result (IsWith bound number (heap_items leaves.old) (heap_items leaves.new)) }
+{
+    match bound {
+        Some(bound) => {
+            add_leaf(leaves, bound, number)?;
+            Ok(())
+        }
+        None => Ok(()),
+    }
+}
+
+/// Branches the leaf of least bound, where its bound is below the distortion and the nodes are enough.
+fn branch_least(
+    alloc: Global,
+    table: &Table,
+    run: &mut SlotRun<'_>,
+    growth: Growth,
+    nodes: u32,
+) -> Result<Step, OutOfMemory>
+    requires valid { IsValidTable table.now }
+    requires run { run.old.table ≡ table.now }
+    requires nodes { nodes ≤ NODES_MOST }
+    requires grown { IsGrowth table.now nodes growth }
+    ensures run { run.new.table ≡ table.now }
+    ensures step { IfOk result (EndsOrGrows table.now nodes growth) }
+{
+    let mut growth = growth;
+    match take_least(&mut growth.leaves) {
+        Some(Reverse((bound, number))) => {
+            if bound < growth.known.distortion {
+                branch_at(alloc, table, run, growth, bound, number, nodes)
+            } else {
+                Ok(Step::Ended(as_best(growth)))
+            }
+        }
+        None => Ok(Step::Ended(as_best(growth))),
+    }
+}
+
+/// The tree whose bound has come up to the distortion.
+fn as_best(growth: Growth) -> Ended
+    ensures { result ≡ record { arena = growth.arena; bound = growth.known.distortion; known = growth.known } }
+{
+    let Growth {
+        arena,
+        leaves: _,
+        known,
+        root: _,
+    } = growth;
+    Ended {
+        arena,
+        bound: known.distortion,
+        known,
+    }
+}
+
+/// Branches this leaf, whose bound is the least and below the distortion, where the nodes are enough.
+fn branch_at(
+    alloc: Global,
+    table: &Table,
+    run: &mut SlotRun<'_>,
+    growth: Growth,
+    bound: u64,
+    number: u32,
+    nodes: u32,
+) -> Result<Step, OutOfMemory>
+    requires valid { IsValidTable table.now }
+    requires run { run.old.table ≡ table.now }
+    requires nodes { nodes ≤ NODES_MOST }
+    requires taken { IsTaken table.now nodes growth bound number }
+    ensures run { run.new.table ≡ table.now }
+    ensures step { IfOk result (EndsOrGrows table.now nodes growth) }
+{
+    let fixed = path_to(alloc, table, growth.arena.links.as_slice(), number)?;
+    let Some(unit) = free_unit(table, &fixed) else {
+        unreachable!()
+    };
+    let versions = unit_at(table, unit as usize).versions.len();
+    if growth.arena.nodes.len() + versions > nodes as usize {
+        let Growth {
+            arena,
+            leaves: _,
+            known,
+            root: _,
+        } = growth;
+        Ok(Step::Ended(Ended {
+            arena,
+            bound,
+            known,
+        }))
+    } else {
+        let place = Place {
+            number,
+            unit,
+            fixed,
+        };
+        Ok(Step::Grown(with_branch(alloc, table, run, growth, place, nodes)?))
+    }
+}

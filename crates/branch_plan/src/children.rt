@@ -1,0 +1,270 @@
+ghost use Rattle.std.specs.Prelude.{◌≡◌, ◌+◌, ◌<◌, ◌≤◌, ◌^◌, true, false, [], length, IfOk, OnOk, ◌≤ℤ◌};
+ghost use Rattle.std.specs.BinaryHeap.{heap_items};
+ghost use Rattle.version_table.specs.declared.limits.TheConstants.{NODES_MOST, VERSIONS_MOST};
+ghost use Rattle.version_table.specs.Table.{IsValidTable};
+ghost use Rattle.dual_bounds.specs.Fixed.{FixesVersions};
+ghost use Rattle.dual_bounds.specs.Values.{value_of_windows};
+ghost use Rattle.multiplier_search.specs.Windows.{AreSearched};
+ghost use Rattle.bound_certificate.specs.Cert.{IsOfVersion};
+ghost use Rattle.certificate_checker.specs.Shown.{fix, versions_of, windows_in};
+ghost use Rattle.branch_plan.specs.declared.limits.TheConstants.{FEW_WINDOWS_MOST, NODES_WITH_MANY_WINDOWS_MOST};
+ghost use Rattle.branch_plan.specs.Private.Branching.{AreChildren, AreLinkedBehind, IsBranched, IsPlace, IsWithChild};
+ghost use Rattle.branch_plan.specs.Private.Growth.{IsOrdered};
+ghost use Rattle.branch_plan.specs.Private.Known.{IsKnown};
+ghost use Rattle.branch_plan.specs.Private.Leaves.{IsFreeUnit};
+
+use crate::arena::{Link, copied};
+use crate::branching::{Growth, add_if_open};
+use crate::changes::unit_at;
+use crate::known::Known;
+use crate::leaves::{Leaf, leaf_on};
+use crate::limits::{NODES_WITH_MANY_WINDOWS_MOST, RELAXED_MOST};
+use crate::open::OpenLeaves;
+use bound_certificate::Node;
+use dual_bounds::{Fixed, Windows};
+use list_types::{ListOf, OutOfMemory};
+use multiplier_search::relaxation;
+use slot_rule::SlotRun;
+use std::alloc::Global;
+use version_table::Table;
+
+/// Where a tree is branched.
+#[derive(Drop)]
+pub(crate) struct Place {
+    /// The number of the leaf.
+    pub number: u32,
+    /// The unit.
+    pub unit: u32,
+    /// The versions that are fixed at the leaf.
+    pub fixed: Fixed,
+}
+
+/// The children of a branch, in order.
+#[derive(Drop)]
+pub(crate) struct Children {
+    /// Their nodes.
+    pub nodes: Vec<Node>,
+    /// The leaves that may be branched, theirs among them.
+    pub leaves: OpenLeaves,
+    /// The best choice that is known.
+    pub known: Known,
+}
+
+/// The tree with a leaf branched on a unit, into a child for each of its versions. Fails only for want of memory.
+pub(crate) fn with_branch(
+    alloc: Global,
+    table: &Table,
+    run: &mut SlotRun<'_>,
+    growth: Growth,
+    place: Place,
+    nodes: u32,
+) -> Result<Growth, OutOfMemory>
+    requires valid { IsValidTable table.now }
+    requires run { run.old.table ≡ table.now }
+    requires nodes { nodes ≤ NODES_MOST }
+    requires place { IsPlace table.now nodes growth place }
+    ensures run { run.new.table ≡ table.now }
+    ensures branched { IfOk result (IsBranched table.now nodes growth) }
+{
+    let Growth {
+        mut arena,
+        leaves,
+        known,
+        root,
+    } = growth;
+    let number = place.number;
+    let unit = place.unit;
+    let first = arena.nodes.len() as u32;
+    let windows = windows_in(&arena.nodes[number as usize]);
+    let start = Children {
+        nodes: Vec::new(alloc),
+        leaves,
+        known,
+    };
+    let Children {
+        nodes: mut made,
+        leaves,
+        known,
+    } = children_of(alloc, table, run, start, &windows, place, first, nodes)?;
+    link_children(&mut arena.links, number, unit, made.len() as u32)?;
+    arena.nodes[number as usize] = Node::Branch { unit };
+    arena.nodes.append(&mut made)?;
+    Ok(Growth {
+        arena,
+        leaves,
+        known,
+        root,
+    })
+}
+
+/// Links so many children behind their branch.
+fn link_children(
+    links: &mut Vec<Link>,
+    number: u32,
+    unit: u32,
+    count: u32,
+) -> Result<(), OutOfMemory>
+    requires number { number < length links.old.items }
+    requires few { length links.old.items + count < 2 ^ 32 }
+    requires some { 0 < count }
+    requires count { count ≤ VERSIONS_MOST }
+    ensures { OnOk result (AreLinkedBehind number unit count links.old.items links.new.items) }
+{
+    let first = links.len() as u32;
+    let behind = links[number as usize].next;
+    links[number as usize].next = first;
+    for k in 0..count {
+        links.push(Link {
+            parent: number,
+            unit,
+            version: k as u8,
+            next: next_behind(first, k, count, behind),
+        })?;
+    }
+    Ok(())
+}
+
+/// The node behind child `k` of so many in preorder: the next child, and behind the last one what stands behind the branch.
+fn next_behind(first: u32, k: u32, count: u32, behind: u32) -> u32
+    requires few { first + count < 2 ^ 32 }
+    requires within { k < count }
+    ensures rise { k + 1 < count → result ≡ first + k + 1 }
+    ensures last { k + 1 ≡ count → result ≡ behind }
+{
+    if k + 1 == count {
+        behind
+    } else {
+        first + k + 1
+    }
+}
+
+/// The children of a branch. Each has a relaxation of its own while that is cheap, else the branch's windows.
+fn children_of(
+    alloc: Global,
+    table: &Table,
+    run: &mut SlotRun<'_>,
+    start: Children,
+    windows: &Windows,
+    place: Place,
+    first: u32,
+    nodes: u32,
+) -> Result<Children, OutOfMemory>
+    requires valid { IsValidTable table.now }
+    requires run { run.old.table ≡ table.now }
+    requires known { IsKnown table.now start.known }
+    requires order { IsOrdered (heap_items start.leaves) }
+    requires none { start.nodes.items ≡ [] }
+    requires fixed { FixesVersions table.now place.fixed }
+    requires free { IsFreeUnit table.now place.fixed place.unit }
+    requires windows { AreSearched windows.now.items }
+    requires few_windows { NODES_WITH_MANY_WINDOWS_MOST < nodes → length windows.now.items ≤ FEW_WINDOWS_MOST }
+    requires first { first ≤ NODES_MOST }
+    ensures run { run.new.table ≡ table.now }
+    ensures known { IfOk result (λ children. IsKnown table.now children.known) }
+    ensures kept { IfOk result (λ children. children.known.distortion ≤ start.known.distortion) }
+    ensures order { IfOk result (λ children. IsOrdered (heap_items children.leaves)) }
+    ensures children { IfOk result (λ children. AreChildren table.now nodes windows.now.items place.fixed place.unit first (versions_of table.now place.unit)
+        children.nodes.items (heap_items start.leaves) (heap_items children.leaves) children.known.distortion) }
+{
+    let Place {
+        number: _,
+        unit,
+        mut fixed,
+    } = place;
+    let relaxed = is_cheap(fixed.len(), nodes);
+    let mut children = start;
+    for k in 0..unit_at(table, unit as usize).versions.len() {
+        fixed = with_version(fixed, unit as usize, k as u8);
+        let own = windows_for(alloc, table, &fixed, windows, relaxed)?;
+        children = with_child(alloc, table, run, children, &fixed, own, first + k as u32)?;
+    }
+    Ok(children)
+}
+
+/// Whether relaxations of their own are cheap for the nodes of a search, which have few windows where there may be many nodes.
+fn is_cheap(units: usize, nodes: u32) -> bool
+    ensures { result ≡ true → nodes ≤ NODES_WITH_MANY_WINDOWS_MOST }
+{
+    nodes <= NODES_WITH_MANY_WINDOWS_MOST
+        && (units as u64).saturating_mul(u64::from(nodes)) <= RELAXED_MOST
+}
+
+/// What is fixed, with a version of one unit fixed too.
+fn with_version(fixed: Fixed, unit: usize, k: u8) -> Fixed
+    requires { unit < length fixed }
+    ensures { result ≡ fix unit k fixed }
+{
+    let mut entries = fixed.into_vec();
+    entries[unit] = Some(k);
+    ListOf::from_vec(entries)
+}
+
+/// The windows of a child: a relaxation of its own from these on, or these.
+fn windows_for(
+    alloc: Global,
+    table: &Table,
+    fixed: &Fixed,
+    windows: &Windows,
+    relaxed: bool,
+) -> Result<Windows, OutOfMemory>
+    requires valid { IsValidTable table.now }
+    requires fixed { FixesVersions table.now fixed.now }
+    requires windows { AreSearched windows.now.items }
+    ensures searched { IfOk result (λ own. AreSearched own.items) }
+    ensures value { IfOk result (λ own. value_of_windows table.now fixed.now windows.now.items ≤ℤ value_of_windows table.now fixed.now own.items) }
+    ensures few { relaxed ≡ false → IfOk result (λ own. own.items ≡ windows.now.items) }
+{
+    match relaxed {
+        true => relaxation(alloc, table, fixed, windows),
+        false => Ok(copied(windows)),
+    }
+}
+
+/// The children with one more, of this number.
+fn with_child(
+    alloc: Global,
+    table: &Table,
+    run: &mut SlotRun<'_>,
+    children: Children,
+    fixed: &Fixed,
+    windows: Windows,
+    number: u32,
+) -> Result<Children, OutOfMemory>
+    requires valid { IsValidTable table.now }
+    requires run { run.old.table ≡ table.now }
+    requires known { IsKnown table.now children.known }
+    requires order { IsOrdered (heap_items children.leaves) }
+    requires fixed { FixesVersions table.now fixed.now }
+    requires windows { AreSearched windows.items }
+    ensures run { run.new.table ≡ table.now }
+    ensures order { IfOk result (λ more. IsOrdered (heap_items more.leaves)) }
+    ensures child { IfOk result (IsWithChild table.now fixed.now windows.items number children) }
+{
+    let Children {
+        mut nodes,
+        mut leaves,
+        known,
+    } = children;
+    let Leaf { node, bound, known } = leaf_on(alloc, table, run, known, fixed, windows)?;
+    add_if_open(&mut leaves, bound, number)?;
+    nodes.push(node)?;
+    Ok(Children {
+        nodes,
+        leaves,
+        known,
+    })
+}
+
+/// The windows of a node that has some.
+fn windows_in(node: &Node) -> Windows
+    requires { IsOfVersion 2 node.now }
+    ensures { result.items ≡ windows_in node.now }
+{
+    match node {
+        Node::Window { with } => copied(with),
+        Node::Branch { unit: _ } => Windows::new(),
+        Node::Dual { with: _ } => unreachable!(),
+        Node::Run { scheduled: _ } => Windows::new(),
+        Node::Open => Windows::new(),
+    }
+}

@@ -1,0 +1,133 @@
+ghost use Rattle.version_table.specs.Table.{IsValidTable};
+
+use super::FilledUnit;
+use crate::corners::{Corner, corner_at};
+use dual_bounds::{capacity, window_capacity};
+use list_types::OutOfMemory;
+use multiplier_search::SlackTree;
+use std::alloc::Global;
+use stream_constants::decoder::EB_UNIT_BYTES;
+use stream_constants::packets::PAYLOAD_BYTES;
+use version_table::Table;
+
+/// Of 100 parts of the elementary buffers, those that are reckoned to be filled.
+const FILLED_PERCENT: u64 = 97;
+
+/// How many packets more each unit may have beside what is taken.
+#[derive(Drop)]
+pub(super) struct Room {
+    /// By unit: what may be sent by its due time less what is.
+    above: SlackTree,
+    /// By unit: what is sent of those before it less the slots before its own.
+    below: SlackTree,
+}
+
+impl Room {
+    /// The room beside what the units have now. Fails only for want of memory.
+    pub fn new(
+        alloc: Global,
+        units: &[FilledUnit],
+        corners: &[Corner],
+    ) -> Result<Room, OutOfMemory> {
+        let mut above = Vec::new(alloc);
+        let mut below = Vec::new(alloc);
+        let mut sent: i64 = 0;
+        for unit in units {
+            below.push(sent.saturating_sub(unit.below))?;
+            sent = sent.saturating_add(packets_of(corners, *unit));
+            above.push(unit.above.saturating_sub(sent))?;
+        }
+        Ok(Room {
+            above: SlackTree::new(alloc, above.as_slice())?,
+            below: SlackTree::new(alloc, below.as_slice())?,
+        })
+    }
+
+    /// How many packets more a unit may have.
+    pub fn of(&self, unit: usize) -> i64 {
+        self.above
+            .least_from(unit)
+            .saturating_add(self.below.least_upto(unit))
+    }
+
+    /// Takes packets for a unit.
+    pub fn take(&mut self, unit: usize, packets: i64) {
+        self.above.add_from(unit, 0i64.saturating_sub(packets));
+        self.below.add_from(unit.saturating_add(1), packets);
+    }
+}
+
+/// Sets what may be sent by each unit's due time, and the slots that stand before those of each.
+pub(super) fn set_rooms(table: &Table, units: &mut [FilledUnit])
+    requires { IsValidTable table.now }
+{
+    let held = held_packets(table);
+    let end = last_due(units);
+    let whole = capacity(table, end);
+    for place in 0..units.len() {
+        let due = units[place].due;
+        let above = capacity(table, due);
+        let held_back = whole.saturating_sub(window_capacity(table, due, end));
+        let below = held_back.max(above.saturating_sub(held));
+        units[place].above = above;
+        units[place].below = if place == 0 { below.max(0) } else { below };
+    }
+}
+
+/// How many packets the elementary buffers are reckoned to hold.
+fn held_packets(table: &Table) -> i64 {
+    let mut held: i64 = 0;
+    for program in table.programs.as_slice() {
+        let bytes = u64::from(program.vbv) * EB_UNIT_BYTES;
+        held = held.saturating_add((bytes * FILLED_PERCENT / (100 * PAYLOAD_BYTES as u64)) as i64);
+    }
+    held
+}
+
+/// The due time of the last unit.
+fn last_due(units: &[FilledUnit]) -> u64 {
+    match units.get(units.len().saturating_sub(1)) {
+        Some(unit) => unit.due,
+        None => 0,
+    }
+}
+
+/// Lowers the room of the last unit that is due by a time, so that what is sent by then is this much too much.
+pub(super) fn lower(units: &mut [FilledUnit], corners: &[Corner], due: u64, packets: u32) {
+    let sent = sent_by(units, corners, due);
+    let count = count_by(units, due);
+    let place = count.saturating_sub(1);
+    if place < units.len() {
+        let above = sent.saturating_sub(i64::from(packets));
+        units[place].above = units[place].above.saturating_sub(1).min(above);
+    }
+}
+
+/// The packets that units have which are due by a time, and the slots before them that nothing may use.
+fn sent_by(units: &[FilledUnit], corners: &[Corner], due: u64) -> i64 {
+    let mut sent: i64 = 0;
+    let mut unused: i64 = 0;
+    for unit in units {
+        if unit.due <= due {
+            unused = unused.max(unit.below.saturating_sub(sent));
+            sent = sent.saturating_add(packets_of(corners, *unit));
+        }
+    }
+    sent.saturating_add(unused)
+}
+
+/// How many units are due by a time.
+pub(super) fn count_by(units: &[FilledUnit], due: u64) -> usize {
+    let mut count: usize = 0;
+    for unit in units {
+        if unit.due <= due {
+            count = count.saturating_add(1);
+        }
+    }
+    count
+}
+
+/// The packets that a unit has now.
+fn packets_of(corners: &[Corner], unit: FilledUnit) -> i64 {
+    i64::from(corner_at(corners, unit.at).packets)
+}

@@ -1,0 +1,9 @@
+mod AudioStreams
+mod CarriedShape
+mod JobPrograms
+mod JobRows
+mod ReadyPrograms
+mod SentAudios
+mod SentStreams
+mod SentVideos
+mod VersionBytes

@@ -1,0 +1,37 @@
+-- What the programs of a job have for being read back.
+use Rattle.std.proofs.Common.{◌≡◌, ℕ, suc, ◌+◌, List, [], ◌∷◌, ◌++◌, All, length, refl, sym, ap, ◌∙◌, subst}
+use Rattle.std.proofs.lemmas.List.Elements.{All-cons, All-nil}
+use Rattle.psi_tables.specs.declared.program_map.ProgramMap.{ProgramMap}
+use Rattle.job_report.specs.declared.job.ProgramJob.{ProgramJob}
+use Rattle.program_reader.specs.declared.program.Program.{Program}
+use Rattle.program_reader.specs.Programs.{IsProgramOf}
+use Rattle.version_maker.specs.declared.version.UnitVersion.{UnitVersion}
+use Rattle.version_source.specs.Sendable.{IsSendable}
+use Rattle.version_source.specs.Versions.{AreAllVersions, ratios_of}
+use Rattle.program_table.specs.Table.{program_rows}
+use Rattle.job_programs.specs.Programs.{AreNextPrograms}
+use Rattle.job_stream.specs.Private.Outgoing.{CanGoOut}
+use Rattle.job_stream.proofs.ReadPrograms.{ReadIsSendable, goes-out}
+use Rattle.job_reading.proofs.CarriedShape.{HasKinds, carried-kinds-are}
+
+-- what a program has that was read
+pub record IsReady (program : Program) : Type 0 where
+  pub kinds : HasKinds program.map
+  pub out : CanGoOut program
+  pub sendable : IsSendable program
+
+pub ready-one : ReadIsSendable → (file : List ℕ) (number : ℕ) (dropped : List ℕ) (start : ℕ) (program : Program) → IsProgramOf file number dropped start program → IsReady program
+ready-one law file number dropped start program of = record {
+  kinds = subst HasKinds (sym of.program_is.map_is) (carried-kinds-are file number dropped of.demuxed.map of.demuxed.not_carried of.demuxed_is.tables);
+  out = goes-out file number dropped start program of;
+  sendable = law start of.demuxed program of.program_is;
+}
+
+pub rows-many : (jobs : List ProgramJob) (programs : List Program) (versions : List (List (List UnitVersion))) → AreAllVersions programs (ratios_of jobs) versions
+    → length (program_rows jobs programs versions) ≡ length programs
+rows-many [] [] [] are = refl
+rows-many [] [] (v ∷ vs) are = absurd are
+rows-many [] (p ∷ ps) versions are = absurd are
+rows-many (j ∷ js) [] versions are = absurd are
+rows-many (j ∷ js) (p ∷ ps) [] are = absurd are
+rows-many (j ∷ js) (p ∷ ps) (v ∷ vs) are = ap suc (rows-many js ps vs are.1)

@@ -1,0 +1,47 @@
+//! The programs of a job's stream.
+
+ghost use Rattle.std.specs.Prelude.{◌≡◌, ℕ, List, length};
+ghost use Rattle.version_table.specs.declared.table.Table.{Table};
+ghost use Rattle.version_table.specs.Choice.{Fits};
+ghost use Rattle.version_table.specs.Table.{IsValidTable};
+ghost use Rattle.slot_rule.specs.declared.slot_list.SlotList.{SlotList};
+ghost use Rattle.slot_rule.specs.SlotList.{IsSlotList};
+ghost use Rattle.job_report.specs.declared.job.Job.{Job};
+ghost use Rattle.job_report.specs.ValidJob.{IsValidJob};
+ghost use Rattle.program_reader.specs.declared.program.Program.{Program};
+ghost use Rattle.version_maker.specs.declared.version.UnitVersion.{UnitVersion};
+ghost use Rattle.version_source.specs.Pieces.{pieces_of, stream_items};
+ghost use Rattle.version_source.specs.Versions.{AreAllVersions, ratios_of};
+ghost use Rattle.mux_writer.specs.Output.{output_stream};
+ghost use Rattle.job_programs.specs.Programs.{ArePrograms};
+ghost use Rattle.program_table.specs.Table.{IsTableOf};
+ghost use Rattle.job_stream.specs.Stream.{layout_of};
+ghost use Rattle.job_reading.specs.ReadBack.{AreReadBack};
+
+use crate::streams::{slots_are_rows, streams_carry_their_items};
+use layer_laws::packets::packets_stand_in_order;
+use layer_laws::pes::{packets_gathered_again, video_packet_read_as_written};
+use mux_writer::laws::read_as_written;
+use stream_parsing::parsed::slots_begin_with_tables;
+use stream_parsing::programs::programs_are_taken_out;
+use version_source::laws::{one_list_of_versions, programs_can_be_sent};
+
+/// Each program of a job is read back from the job's stream: under its number, with its map and no stream left out, its units in the chosen versions with their
+/// times, and its audio PES packets byte for byte.
+pub fn programs_are_read_back()
+    ensures { (job : Job) (contents : List (List ℕ)) (programs : List Program) (table : Table) (choice : List ℕ) (slots : SlotList) (versions : List (List (List UnitVersion)))
+        → IsValidJob job → ArePrograms job contents programs → IsTableOf job programs table → IsValidTable table → Fits table choice
+        → IsSlotList table choice slots → AreAllVersions programs (ratios_of job.programs) versions
+        → AreReadBack (output_stream (layout_of job programs) job.slot (pieces_of (stream_items programs versions choice)) slots.rows) 0 job.programs contents programs versions choice }
+{
+    slots_are_rows();
+    streams_carry_their_items();
+    slots_begin_with_tables();
+    programs_are_taken_out();
+    packets_stand_in_order();
+    read_as_written();
+    packets_gathered_again();
+    video_packet_read_as_written();
+    programs_can_be_sent();
+    one_list_of_versions();
+}

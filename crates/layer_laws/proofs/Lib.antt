@@ -1,0 +1,8 @@
+mod CodesAtSeams
+mod CountedPackets
+mod Examples
+mod LayerExamples
+mod PesHeaders
+mod PesPieces
+pub mod Sections
+mod UnitCuts

@@ -1,0 +1,4 @@
+pub mod Counted
+pub mod PesPieces
+pub mod VideoPackets
+pub mod WholeUnits

@@ -1,0 +1,32 @@
+-- PES packets in the payloads of transport packets (ISO/IEC 13818-1, 2.4.3.3).
+use Rattle.std.specs.Prelude.{◌≡◌, ℕ, ◌+◌, ◌-◌, ◌*◌, ◌/◌, ◌<◌, ◌==◌, true, false, List, [], ◌∷◌, ◌++◌, length, take, drop, map}
+use Rattle.std.specs.List.{concat, range_with_len}
+use Rattle.stream_constants.specs.declared.packets.TheConstants.{PAYLOAD_BYTES}
+use Rattle.payload_lists.specs.Payload.{Payload}
+
+-- a payload that goes on with the packet before it
+abbrev pub going_on : List ℕ → Payload
+going_on bytes = record { start = false; bytes = bytes }
+
+-- payloads that carry one PES packet: the first one has bytes and the start flag, the others no flag
+pub record Carries (packet : List ℕ) (payloads : List Payload) : Type 0 where
+  pub first : List ℕ
+  pub others : List (List ℕ)
+  pub payloads_are : payloads ≡ record { start = true; bytes = first } ∷ map going_on others
+  pub some : 0 < length first
+  pub joined : packet ≡ first ++ concat others
+
+-- each PES packet in payloads of its own
+abbrev pub CarryAll : List (List ℕ) → List (List Payload) → Type 0
+CarryAll [] [] = Unit {0}
+CarryAll [] (_ ∷ _) = ⊥
+CarryAll (_ ∷ _) [] = ⊥
+CarryAll (packet ∷ packets) (payloads ∷ more) = Carries packet payloads × CarryAll packets more
+
+-- what transport packet k of a PES packet carries: the bytes from 184 k on, as many as one has room for
+abbrev pub piece_of : (packet : List ℕ) → (k : ℕ) → Payload
+piece_of packet k = record { start = k == 0; bytes = take PAYLOAD_BYTES (drop (PAYLOAD_BYTES * k) packet) }
+
+-- a PES packet in as few transport packets as it can be
+abbrev pub pes_pieces : (packet : List ℕ) → List Payload
+pes_pieces packet = map (piece_of packet) (range_with_len 0 ((length packet + (PAYLOAD_BYTES - 1)) / PAYLOAD_BYTES))

@@ -1,0 +1,5 @@
+mod Examples
+mod OwnPids
+mod Rows
+mod SentItems
+mod TableSections

@@ -1,0 +1,7 @@
+mod CarriedStreams
+mod Examples
+mod MapReading
+pub mod OutputTables
+pub mod ProgramParts
+mod SectionReading
+mod SlotsBegin

@@ -1,0 +1,8 @@
+use Rattle.stream_parsing.proofs.OutputTables.{maps-are-read}
+use Rattle.stream_parsing.proofs.programs.maps_are_read.Goals as goal
+
+pub returns : goal.returns
+returns c layout slot pieces rows program program_map are begin numbered =
+    maps-are-read c.packets_stand_in_order.ensures.count c.packets_stand_in_order.ensures.packet c.read_as_written.ensures c.pids_read_as_sent.ensures.sound
+    c.tables_read_again_and_again.ensures.pat c.tables_read_again_and_again.ensures.pmt c.pat_read_as_written.ensures.says c.pat_read_as_written.ensures.leads
+    c.pmt_read_as_written.ensures.says layout slot pieces rows program program_map are begin numbered
