@@ -1,9 +1,10 @@
 //! A program of streams that are read.
-ghost use Rattle.std.specs.Prelude.{◌≡◌, ◌≤◌, ◌<◌, ◌^◌, length, All, IfOk};
+ghost use Rattle.std.specs.Prelude.{◌≡◌, ◌≤◌, ◌<◌, ◌^◌, List, length, All, IfOk};
 ghost use Rattle.std.specs.List.{sum_by};
+ghost use Rattle.ts_demux.specs.declared.demuxed.PesUnit.{PesUnit};
 ghost use Rattle.program_reader.specs.Programs.{IsProgram};
 ghost use Rattle.program_reader.specs.Private.AudioStarts.{AreStreamsRead};
-ghost use Rattle.program_reader.specs.Private.Sources.{IsVideoRead};
+ghost use Rattle.program_reader.specs.Private.Sources.{IsVideoRead, with_video};
 
 use crate::audio_sources::audio_sources;
 use crate::audio_stream::ReadStream;
@@ -11,44 +12,54 @@ use crate::due::due_units;
 use crate::limits::PACKETS_MOST;
 use crate::program::Program;
 use crate::video_stream::ReadVideo;
-use list_types::OutOfMemory;
+use list_types::{ListOf, OutOfMemory};
+use psi_tables::ProgramMap;
 use std::alloc::Global;
 use stream_constants::limits::AUDIOS_MOST;
-use ts_demux::Demuxed;
+use ts_demux::AudioStream;
 use version_table::limits::UNITS_MOST;
+
+/// What is taken out of a file beside the PES packets of the video.
+#[derive(Drop)]
+pub struct BesideVideo {
+    pub map: ProgramMap,
+    pub audios: ListOf<AudioStream>,
+    pub rest: u8,
+    pub not_carried: ListOf<u16>,
+}
 
 /// The program of streams that are read, its earliest time due at `start`.
 pub fn due_program(
     alloc: Global,
-    demuxed: Demuxed,
+    beside: BesideVideo,
     video: ReadVideo,
     streams: &[ReadStream],
     start: u64,
 ) -> Result<Program, OutOfMemory>
     requires start { start < 2 ^ 50 }
-    requires audios_few { All (λ stream. length stream.units ≤ PACKETS_MOST) demuxed.audios }
-    requires audios_small { All (λ stream. sum_by (λ packet. length packet.bytes) stream.units < 2 ^ 30) demuxed.audios }
-    requires few_audios { length demuxed.audios ≤ AUDIOS_MOST }
-    requires video { IsVideoRead demuxed video }
-    requires streams { AreStreamsRead video.first.stated demuxed.audios streams.now }
+    requires audios_few { All (λ stream. length stream.units ≤ PACKETS_MOST) beside.audios }
+    requires audios_small { All (λ stream. sum_by (λ packet. length packet.bytes) stream.units < 2 ^ 30) beside.audios }
+    requires few_audios { length beside.audios ≤ AUDIOS_MOST }
+    requires video { (packets : List PesUnit) × IsVideoRead (with_video beside packets) video }
+    requires streams { AreStreamsRead video.first.stated beside.audios streams.now }
     requires few { length video.units.items ≤ UNITS_MOST }
-    ensures { IfOk result (IsProgram start demuxed) }
+    ensures { (packets : List PesUnit) → IsVideoRead (with_video beside packets) video → IfOk result (IsProgram start (with_video beside packets)) }
 {
     let first = video.first_ticks();
     let earliest = first.of_units(video.units.as_slice()).of_streams(streams);
     let clock = earliest.clock(start);
     let units = due_units(alloc, video.units.as_slice(), &clock)?;
-    let audios = audio_sources(alloc, demuxed.audios.as_slice(), streams, &clock)?;
+    let audios = audio_sources(alloc, beside.audios.as_slice(), streams, &clock)?;
     Ok(Program {
-        map: demuxed.map,
+        map: beside.map,
         base: clock.base(),
         vbv: video.first.seq.vbv,
         units,
         audios,
         units_dropped: video.units_dropped,
         pes_dropped: video.taken.dropped + audio_packets_dropped(streams),
-        rest: demuxed.rest,
-        not_carried: demuxed.not_carried,
+        rest: beside.rest,
+        not_carried: beside.not_carried,
         video: video.into_bytes(),
     })
 }

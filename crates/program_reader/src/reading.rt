@@ -5,7 +5,7 @@ ghost use Rattle.program_reader.specs.declared.program_fault.ProgramFault.TheVar
 ghost use Rattle.program_reader.specs.Programs.{IsProgram, IsDemuxedRefused, IsProgramOf, IsProgramRefused};
 
 use crate::audio_stream::read_streams;
-use crate::due_program::due_program;
+use crate::due_program::{BesideVideo, due_program};
 use crate::limits::{FILE_BYTES_MOST, PACKETS_MOST};
 use crate::program::Program;
 use crate::program_fault::{ProgramFault, SourceKind, demux_refused};
@@ -62,18 +62,31 @@ fn program_of(alloc: Global, demuxed: Demuxed, start: u64) -> Result<Program, Pr
     requires few_audios { length demuxed.audios ≤ AUDIOS_MOST }
     ensures { MatchResult result (IsProgram start demuxed) (λ fault. (fault ≡ OutOfMemory) ⊎ IsDemuxedRefused demuxed fault) }
 {
-    let video = match read_video(alloc, &demuxed) {
+    let Demuxed {
+        map,
+        video: packets,
+        audios,
+        rest,
+        not_carried,
+    } = demuxed;
+    let video = match read_video(alloc, packets) {
         Ok(video) => video,
         Err(fault) => return Err(fault),
     };
-    let streams = match read_streams(alloc, demuxed.audios.as_slice(), &video.first_time()) {
+    let streams = match read_streams(alloc, audios.as_slice(), &video.first_time()) {
         Ok(streams) => streams,
         Err(fault) => return Err(fault),
     };
     if video.units.as_slice().len() > UNITS_MOST {
         return Err(PROGRAM_LIMIT);
     }
-    match due_program(alloc, demuxed, video, streams.as_slice(), start) {
+    let beside = BesideVideo {
+        map,
+        audios,
+        rest,
+        not_carried,
+    };
+    match due_program(alloc, beside, video, streams.as_slice(), start) {
         Ok(program) => Ok(program),
         Err(_) => Err(ProgramFault::OutOfMemory),
     }

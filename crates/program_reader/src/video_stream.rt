@@ -20,7 +20,7 @@ use crate::timed_picture::TimedPicture;
 use es_units::{UnitFault, Units, split_units};
 use list_types::ListOf;
 use std::alloc::Global;
-use ts_demux::Demuxed;
+use ts_demux::PesUnit;
 
 /// What is read of a video.
 #[derive(Drop)]
@@ -41,15 +41,15 @@ const NO_SEQUENCE: ProgramFault = ProgramFault::Refused {
     at: 0,
 };
 
-/// Reads the video of what is taken out of a file. An error is the first fault of its PES packets, or that no unit is left, or else
-/// the first refusal of the first unit that is refused.
-pub fn read_video(alloc: Global, demuxed: &Demuxed) -> Result<ReadVideo, ProgramFault>
-    requires few { length demuxed.now.video ≤ PACKETS_MOST }
-    requires size { sum_by (λ packet. length packet.bytes) demuxed.now.video < 2 ^ 30 }
-    ensures { MatchResult result (IsVideoRead demuxed.now) (λ fault. (fault ≡ OutOfMemory) ⊎ IsDemuxedRefused demuxed.now fault) }
+/// Reads the video of what is taken out of a file, by its PES packets, which are let go. An error is the first fault of the packets,
+/// or that no unit is left, or else the first refusal of the first unit that is refused.
+pub fn read_video(alloc: Global, packets: ListOf<PesUnit>) -> Result<ReadVideo, ProgramFault>
+    requires few { length packets ≤ PACKETS_MOST }
+    requires size { sum_by (λ packet. length packet.bytes) packets < 2 ^ 30 }
+    ensures { (demuxed : Demuxed) → demuxed.video ≡ packets → MatchResult result (IsVideoRead demuxed) (λ fault. (fault ≡ OutOfMemory) ⊎ IsDemuxedRefused demuxed fault) }
 {
     cut_places();
-    let taken = match take_packets(alloc, demuxed.video.as_slice(), true) {
+    let taken = match take_packets(alloc, packets.as_slice(), true) {
         Ok(taken) => taken,
         Err(fault) => return Err(fault),
     };

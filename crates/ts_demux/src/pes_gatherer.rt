@@ -10,7 +10,6 @@ use crate::demuxed::PesUnit;
 use crate::file_packets::place_of;
 use list_types::ListOf;
 use std::alloc::Global;
-use std::mem;
 use stream_constants::packets::PACKET_BYTES;
 use ts_packets::PidReader;
 
@@ -23,7 +22,7 @@ pub struct PesGatherer<'a> {
     whole: Vec<PesUnit>,
     /// The place where the last one begins, once one has begun.
     begun: Option<u64>,
-    /// The bytes of the last one.
+    /// The bytes of the last one, in a room that serves all of them.
     bytes: Vec<u8>,
 }
 
@@ -125,7 +124,7 @@ impl<'a> PesGatherer<'a> {
         let Some(at) = self.begun else {
             return Ok(());
         };
-        let bytes = mem::replace(&mut self.bytes, Vec::new(alloc));
+        let bytes = self.bytes.as_slice().to_vec(alloc)?;
         self.begun = None;
         self.whole.push(PesUnit {
             at,

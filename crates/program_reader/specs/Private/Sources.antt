@@ -4,7 +4,9 @@ use Rattle.std.specs.List.{flat_map}
 use Rattle.audio_frames.specs.declared.frame.Frame.{Frame}
 use Rattle.ts_demux.specs.declared.demuxed.AudioStream.{AudioStream}
 use Rattle.ts_demux.specs.declared.demuxed.Demuxed.{Demuxed}
+use Rattle.ts_demux.specs.declared.demuxed.PesUnit.{PesUnit}
 use Rattle.program_reader.specs.declared.audio_stream.ReadStream.{ReadStream}
+use Rattle.program_reader.specs.declared.due_program.BesideVideo.{BesideVideo}
 use Rattle.program_reader.specs.declared.kept_units.KeptUnit.{KeptUnit}
 use Rattle.program_reader.specs.declared.timed_picture.TimedPicture.{TimedPicture}
 use Rattle.program_reader.specs.declared.video_stream.ReadVideo.{ReadVideo}
@@ -13,6 +15,11 @@ use Rattle.program_reader.specs.Private.AudioStarts.{IsNear, IsStreamRead}
 use Rattle.program_reader.specs.Private.Dues.{IsTime, IsTimeFrom}
 use Rattle.program_reader.specs.Private.KeptUnits.{AreRows}
 use Rattle.program_reader.specs.Private.TakenPackets.{AreTaken}
+
+-- what is taken out of a file, by its parts
+abbrev pub with_video : BesideVideo → List PesUnit → Demuxed
+with_video beside packets =
+    record { map = beside.map; video = packets; audios = beside.audios; rest = beside.rest; not_carried = beside.not_carried }
 
 -- the video of what is taken out of a file is read
 pub record IsVideoRead (demuxed : Demuxed) (video : ReadVideo) : Type 0 where

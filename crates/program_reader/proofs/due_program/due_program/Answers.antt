@@ -1,69 +1,69 @@
-use Rattle.std.proofs.Common.{◌+◌, ◌≤◌, List, length, All, sym, subst, arith}
+use Rattle.std.proofs.Common.{List, All, sym, subst, arith}
 use Rattle.ts_demux.specs.declared.demuxed.AudioStream.{AudioStream}
 use Rattle.program_reader.specs.declared.kept_units.KeptUnit.{KeptUnit}
 use Rattle.program_reader.specs.Private.Dues.{IsTimeFrom}
-use Rattle.program_reader.specs.Private.Sources.{AreStreamsFrom}
+use Rattle.program_reader.specs.Private.Sources.{AreStreamsFrom, with_video}
 use Rattle.program_reader.proofs.ProgramLemmas.{IsClockOf, clock_of, program_is, streams_dropped, video_dropped}
 use Rattle.program_reader.proofs.due_program.due_program.Goals as goal
 
 pub due_units-requires-clause-earliest : goal.due_units-requires-clause-earliest
 due_units-requires-clause-earliest c =
-    let clock : IsClockOf c.args.demuxed c.args.video c.args.streams.now c.clock-clock.result.earliest =
-    subst (IsClockOf c.args.demuxed c.args.video c.args.streams.now) (sym c.clock-clock.ensures.earliest)
-    (clock_of c.args.demuxed c.args.video c.args.streams.now c.as_slice.result.now c.first_ticks-first.result.ticks c.of_units.result.ticks c.of_streams-earliest.result.ticks
-    c.as_slice.ensures.value c.first_ticks-first.ensures c.requires.video c.requires.streams c.of_units.ensures c.of_streams-earliest.ensures) in
+    let clock : IsClockOf (with_video c.args.beside c.requires.video.0) c.args.video c.args.streams.now c.clock-clock.result.earliest =
+    subst (IsClockOf (with_video c.args.beside c.requires.video.0) c.args.video c.args.streams.now) (sym c.clock-clock.ensures.earliest)
+    (clock_of (with_video c.args.beside c.requires.video.0) c.args.video c.args.streams.now c.as_slice.result.now c.first_ticks-first.result.ticks c.of_units.result.ticks c.of_streams-earliest.result.ticks
+    c.as_slice.ensures.value c.first_ticks-first.ensures c.requires.video.1 c.requires.streams c.of_units.ensures c.of_streams-earliest.ensures) in
     clock.is_time
 
 pub audio_sources-requires-clause-earliest : goal.audio_sources-requires-clause-earliest
 audio_sources-requires-clause-earliest c =
-    let clock : IsClockOf c.args.demuxed c.args.video c.args.streams.now c.clock-clock.result.earliest =
-    subst (IsClockOf c.args.demuxed c.args.video c.args.streams.now) (sym c.clock-clock.ensures.earliest)
-    (clock_of c.args.demuxed c.args.video c.args.streams.now c.as_slice.result.now c.first_ticks-first.result.ticks c.of_units.result.ticks c.of_streams-earliest.result.ticks
-    c.as_slice.ensures.value c.first_ticks-first.ensures c.requires.video c.requires.streams c.of_units.ensures c.of_streams-earliest.ensures) in
+    let clock : IsClockOf (with_video c.args.beside c.requires.video.0) c.args.video c.args.streams.now c.clock-clock.result.earliest =
+    subst (IsClockOf (with_video c.args.beside c.requires.video.0) c.args.video c.args.streams.now) (sym c.clock-clock.ensures.earliest)
+    (clock_of (with_video c.args.beside c.requires.video.0) c.args.video c.args.streams.now c.as_slice.result.now c.first_ticks-first.result.ticks c.of_units.result.ticks c.of_streams-earliest.result.ticks
+    c.as_slice.ensures.value c.first_ticks-first.ensures c.requires.video.1 c.requires.streams c.of_units.ensures c.of_streams-earliest.ensures) in
     clock.is_time
 
 pub base-requires-clause-earliest : goal.base-requires-clause-earliest
 base-requires-clause-earliest c =
-    let clock : IsClockOf c.args.demuxed c.args.video c.args.streams.now c.clock-clock.result.earliest =
-    subst (IsClockOf c.args.demuxed c.args.video c.args.streams.now) (sym c.clock-clock.ensures.earliest)
-    (clock_of c.args.demuxed c.args.video c.args.streams.now c.as_slice.result.now c.first_ticks-first.result.ticks c.of_units.result.ticks c.of_streams-earliest.result.ticks
-    c.as_slice.ensures.value c.first_ticks-first.ensures c.requires.video c.requires.streams c.of_units.ensures c.of_streams-earliest.ensures) in
+    let clock : IsClockOf (with_video c.args.beside c.requires.video.0) c.args.video c.args.streams.now c.clock-clock.result.earliest =
+    subst (IsClockOf (with_video c.args.beside c.requires.video.0) c.args.video c.args.streams.now) (sym c.clock-clock.ensures.earliest)
+    (clock_of (with_video c.args.beside c.requires.video.0) c.args.video c.args.streams.now c.as_slice.result.now c.first_ticks-first.result.ticks c.of_units.result.ticks c.of_streams-earliest.result.ticks
+    c.as_slice.ensures.value c.first_ticks-first.ensures c.requires.video.1 c.requires.streams c.of_units.ensures c.of_streams-earliest.ensures) in
     clock.is_time
 
 pub due_units-requires-clause-times : goal.due_units-requires-clause-times
 due_units-requires-clause-times c =
-    let clock : IsClockOf c.args.demuxed c.args.video c.args.streams.now c.clock-clock.result.earliest =
-    subst (IsClockOf c.args.demuxed c.args.video c.args.streams.now) (sym c.clock-clock.ensures.earliest)
-    (clock_of c.args.demuxed c.args.video c.args.streams.now c.as_slice.result.now c.first_ticks-first.result.ticks c.of_units.result.ticks c.of_streams-earliest.result.ticks
-    c.as_slice.ensures.value c.first_ticks-first.ensures c.requires.video c.requires.streams c.of_units.ensures c.of_streams-earliest.ensures) in
+    let clock : IsClockOf (with_video c.args.beside c.requires.video.0) c.args.video c.args.streams.now c.clock-clock.result.earliest =
+    subst (IsClockOf (with_video c.args.beside c.requires.video.0) c.args.video c.args.streams.now) (sym c.clock-clock.ensures.earliest)
+    (clock_of (with_video c.args.beside c.requires.video.0) c.args.video c.args.streams.now c.as_slice.result.now c.first_ticks-first.result.ticks c.of_units.result.ticks c.of_streams-earliest.result.ticks
+    c.as_slice.ensures.value c.first_ticks-first.ensures c.requires.video.1 c.requires.streams c.of_units.ensures c.of_streams-earliest.ensures) in
     subst (λ (us : List KeptUnit). All (λ unit. IsTimeFrom c.clock-clock.result.earliest unit.ticks) us) (sym c.as_slice-2.ensures.value) clock.units_from
 
 pub audio_sources-requires-clause-read : goal.audio_sources-requires-clause-read
 audio_sources-requires-clause-read c =
-    let clock : IsClockOf c.args.demuxed c.args.video c.args.streams.now c.clock-clock.result.earliest =
-    subst (IsClockOf c.args.demuxed c.args.video c.args.streams.now) (sym c.clock-clock.ensures.earliest)
-    (clock_of c.args.demuxed c.args.video c.args.streams.now c.as_slice.result.now c.first_ticks-first.result.ticks c.of_units.result.ticks c.of_streams-earliest.result.ticks
-    c.as_slice.ensures.value c.first_ticks-first.ensures c.requires.video c.requires.streams c.of_units.ensures c.of_streams-earliest.ensures) in
+    let clock : IsClockOf (with_video c.args.beside c.requires.video.0) c.args.video c.args.streams.now c.clock-clock.result.earliest =
+    subst (IsClockOf (with_video c.args.beside c.requires.video.0) c.args.video c.args.streams.now) (sym c.clock-clock.ensures.earliest)
+    (clock_of (with_video c.args.beside c.requires.video.0) c.args.video c.args.streams.now c.as_slice.result.now c.first_ticks-first.result.ticks c.of_units.result.ticks c.of_streams-earliest.result.ticks
+    c.as_slice.ensures.value c.first_ticks-first.ensures c.requires.video.1 c.requires.streams c.of_units.ensures c.of_streams-earliest.ensures) in
     subst (λ (ss : List AudioStream). AreStreamsFrom c.clock-clock.result.earliest ss c.args.streams.now) (sym c.as_slice-3.ensures) clock.streams_from
 
 pub audio_packets_dropped-requires-clause-few : goal.audio_packets_dropped-requires-clause-few
 audio_packets_dropped-requires-clause-few c =
-    omega (arith, (streams_dropped c.args.video.first.stated c.args.demuxed.audios c.args.streams.now c.requires.streams).0, c.requires.few_audios)
+    omega (arith, (streams_dropped c.args.video.first.stated c.args.beside.audios c.args.streams.now c.requires.streams).0, c.requires.few_audios)
 
 pub audio_packets_dropped-requires-clause-each : goal.audio_packets_dropped-requires-clause-each
 audio_packets_dropped-requires-clause-each c =
-    (streams_dropped c.args.video.first.stated c.args.demuxed.audios c.args.streams.now c.requires.streams).1
+    (streams_dropped c.args.video.first.stated c.args.beside.audios c.args.streams.now c.requires.streams).1
 
 pub overflow_add-result : goal.overflow_add-result
 overflow_add-result c =
-    omega (arith, video_dropped c.args.demuxed.video c.args.video.taken c.requires.video.taken_are, c.audio_packets_dropped.ensures.most)
+    omega (arith, video_dropped c.requires.video.0 c.args.video.taken c.requires.video.1.taken_are, c.audio_packets_dropped.ensures.most)
 
 pub returns : goal.returns
-returns c =
-    let clock : IsClockOf c.args.demuxed c.args.video c.args.streams.now c.clock-clock.result.earliest =
-    subst (IsClockOf c.args.demuxed c.args.video c.args.streams.now) (sym c.clock-clock.ensures.earliest)
-    (clock_of c.args.demuxed c.args.video c.args.streams.now c.as_slice.result.now c.first_ticks-first.result.ticks c.of_units.result.ticks c.of_streams-earliest.result.ticks
-    c.as_slice.ensures.value c.first_ticks-first.ensures c.requires.video c.requires.streams c.of_units.ensures c.of_streams-earliest.ensures) in
-    program_is c.args.start c.args.demuxed c.args.video c.args.streams.now c.clock-clock.result c.as_slice-2.result.now c.as_slice-3.result.now c.base.result c.into_bytes.result c.in_ok-units.units
-    c.in_ok-audios.audios c.audio_packets_dropped.result c.requires.video c.requires.streams clock c.clock-clock.ensures.start c.requires.few c.base.ensures c.into_bytes.ensures
+returns c = λ packets read.
+    let clock : IsClockOf (with_video c.args.beside packets) c.args.video c.args.streams.now c.clock-clock.result.earliest =
+    subst (IsClockOf (with_video c.args.beside packets) c.args.video c.args.streams.now) (sym c.clock-clock.ensures.earliest)
+    (clock_of (with_video c.args.beside packets) c.args.video c.args.streams.now c.as_slice.result.now c.first_ticks-first.result.ticks c.of_units.result.ticks c.of_streams-earliest.result.ticks
+    c.as_slice.ensures.value c.first_ticks-first.ensures read c.requires.streams c.of_units.ensures c.of_streams-earliest.ensures) in
+    program_is c.args.start (with_video c.args.beside packets) c.args.video c.args.streams.now c.clock-clock.result c.as_slice-2.result.now c.as_slice-3.result.now c.base.result c.into_bytes.result c.in_ok-units.units
+    c.in_ok-audios.audios c.audio_packets_dropped.result read c.requires.streams clock c.clock-clock.ensures.start c.requires.few c.base.ensures c.into_bytes.ensures
     c.as_slice-2.ensures.value c.in_ok-units.ensures c.as_slice-3.ensures c.in_ok-audios.ensures c.audio_packets_dropped.ensures.sum

@@ -1,4 +1,4 @@
-use Rattle.std.proofs.Common.{◌≡◌, List, length, true, subst, sym, ap, ◌∙◌, refl, arith}
+use Rattle.std.proofs.Common.{List, length, subst, sym, ap, ◌∙◌, refl, arith}
 use Rattle.std.proofs.lemmas.List.{nil_from_length}
 use Rattle.audio_frames.specs.declared.frame.Frame.{Frame}
 use Rattle.program_reader.specs.Audio.{time_of_byte}

@@ -1,4 +1,4 @@
-use Rattle.std.proofs.Common.{◌≡◌, ◌+◌, ◌<◌, ◌≤◌, ℕ, true, List, length, ap, subst, arith}
+use Rattle.std.proofs.Common.{◌≡◌, ◌+◌, ◌≤◌, ℕ, true, List, length, ap, subst, sym, ◌∙◌, arith}
 use Rattle.ts_demux.specs.declared.demuxed.PesUnit.{PesUnit}
 use Rattle.program_reader.specs.Private.TakenPackets.{AreTaken}
 use Rattle.program_reader.proofs.ProgramLemmas.{video_is, bad_units, or_memory}
@@ -18,10 +18,10 @@ keep_units-requires-clause-few c =
     omega (arith, held.small, size, cuts, few)
 
 pub returns-in-Ok-keep_units : goal.returns-in-Ok-keep_units
-returns-in-Ok-keep_units c = or_memory c.args.demuxed.now c.read_units.result
-    (c.read_units.ensures c.args.demuxed.now (subst (λ (packets : List PesUnit). AreTaken true packets c.in-Ok.taken) c.as_slice.ensures c.in-Ok.ensures))
+returns-in-Ok-keep_units c = λ demuxed same. or_memory demuxed c.read_units.result
+    (c.read_units.ensures demuxed (subst (λ (packets : List PesUnit). AreTaken true packets c.in-Ok.taken) (c.as_slice.ensures ∙ sym same) c.in-Ok.ensures))
 
-pub returns-in-Err-keep_units : goal.returns-in-Err-keep_units
-returns-in-Err-keep_units c =
-    bad_units c.args.demuxed.now c.in-Ok.taken c.in-Ok-split_units.units c.as_slice.result.now c.as_slice-2.result.now c.as_slice-3.result.now c.in-Err-keep_units.fault c.as_slice.ensures
-    c.in-Ok.ensures c.as_slice-2.ensures.value c.in-Ok-split_units.ensures.units c.as_slice-3.ensures c.in-Err-keep_units.ensures
+pub returns : goal.returns
+returns c = λ demuxed same.
+    bad_units demuxed c.in-Ok.taken c.in-Ok-split_units.units c.as_slice.result.now c.as_slice-2.result.now c.as_slice-3.result.now c.in-Err-keep_units.fault
+    (c.as_slice.ensures ∙ sym same) c.in-Ok.ensures c.as_slice-2.ensures.value c.in-Ok-split_units.ensures.units c.as_slice-3.ensures c.in-Err-keep_units.ensures
