@@ -52,15 +52,20 @@ pub fn find_whole(table: TableName, window: u32) -> Option<(u16, u8)>
     ensures len { IfSome result (λ found. (0 < found.1) × (found.1 ≤ WINDOW_BITS)) }
 {
     let first = first_word(table, window);
-    if 0 < first && first < RARE_WORDS {
-        return Some((number(first), length(first)));
-    }
-    let last = last_word(table, window, first);
-    let len = length(last);
-    if len == 0 {
-        return None;
-    }
-    Some((number(last), len))
+    let word = if 0 < first && first < RARE_WORDS {
+        first
+    } else {
+        let last = last_word(table, window, first);
+        let len = length(last);
+        if len == 0 {
+            return None;
+        }
+        if last >= RARE_WORDS {
+            return Some((number(last), len));
+        }
+        last
+    };
+    Some((number(word), length(word)))
 }
 
 /// The code that a symbol is written by, without the sign bit of a motion code or a level. None where the table lacks
