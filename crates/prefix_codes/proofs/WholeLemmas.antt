@@ -61,11 +61,13 @@ module _ (table : TableName) (window word : ℕ) (is : word ≡ get_or (first_of
 abbrev pub Stands : TableName → ℕ → ℕ → Type 0
 Stands table window word = Answers table (bits_of WINDOW_BITS window) word × (0 < length_in word)
 
-pub stands_first : (table : TableName) (window first word : ℕ) → first ≡ get_or (first_of table) (window / 2 ^ 16 % 2 ^ 8) 0 → 0 < first → first < LINK → word ≡ first → Stands table window word
+pub stands_first : (table : TableName) (window first word : ℕ) → first ≡ get_or (first_of table) (window / 2 ^ 16 % 2 ^ 8) 0 → 0 < first
+    → first < LINK → word ≡ first → Stands table window word
 stands_first table window first word is some below same =
     subst (λ x. Stands table window x) (sym same) (word_answers table window first is below, word_long table window first is (length_in first) refl some)
 
-pub stands_last : (table : TableName) (window last len word : ℕ) → Answers table (bits_of WINDOW_BITS window) last → len ≡ length_in last → 0 < len → word ≡ last → Stands table window word
+pub stands_last : (table : TableName) (window last len word : ℕ) → Answers table (bits_of WINDOW_BITS window) last → len ≡ length_in last
+    → 0 < len → word ≡ last → Stands table window word
 stands_last table window last len word is len_is some same = subst (λ x. Stands table window x) (sym same) (is, subst (λ x. 0 < x) len_is some)
 
 -- its code is no longer than a window, and is the answer
