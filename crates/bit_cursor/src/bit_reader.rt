@@ -202,13 +202,15 @@ impl<'a, S: Source> BitReader<'a, S> {
         ensures missing { IsErrOf result Fault.Missing → Rose (absences_of self.old) (absences_of self.new) }
         ensures keeps { KeepsSource self.old self.new }
     {
-        while self.held < n {
+        let mut held = self.held;
+        while held < n {
             let Some(byte) = self.source.take_byte()? else {
                 break;
             };
+            held += 8;
             self.word = self.word << 8 | u64::from(byte);
-            self.held += 8;
             self.taken += 1;
+            self.held = held;
         }
         Ok(())
     }

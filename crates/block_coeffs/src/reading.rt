@@ -161,8 +161,11 @@ fn read_from_first<S: Source>(
         }
         Standing::Pair { run, level, len } => {
             from.skip(len);
-            into.push(RunLevel { run, level });
-            read_others(from, way, TableName::CoeffZero, u32::from(run) + 1, into)
+            into.push(RunLevel {
+                run: run as u8,
+                level,
+            });
+            read_others(from, way, TableName::CoeffZero, run + 1, into)
         }
         Standing::Refused { why, behind } => Err(why.at(from.place() + u64::from(behind))),
     }
@@ -198,8 +201,11 @@ fn read_others<S: Source>(
             }
             Standing::Pair { run, level, len } => {
                 from.skip(len);
-                into.push(RunLevel { run, level });
-                index += u32::from(run) + 1;
+                into.push(RunLevel {
+                    run: run as u8,
+                    level,
+                });
+                index += run + 1;
             }
             Standing::Refused { why, behind } => {
                 return Err(why.at(from.place() + u64::from(behind)));
@@ -237,8 +243,11 @@ fn read_last<S: Source>(
             }
             Standing::Pair { run, level, len } => {
                 from.skip(len);
-                into.push(RunLevel { run, level });
-                index += u32::from(run) + 1;
+                into.push(RunLevel {
+                    run: run as u8,
+                    level,
+                });
+                index += run + 1;
             }
             Standing::Refused { why, behind } => {
                 return Err(why.at(from.place() + u64::from(behind)));

@@ -10,7 +10,7 @@ use crate::why::Why;
 use grammar_reading::Window;
 use picture_grammar::escape::{LEVEL_BITS, RUN_BITS};
 use prefix_codes::symbol::{END_OF_BLOCK, ESCAPE, LEVELS_PER_RUN};
-use prefix_codes::{TableName, WINDOW_BITS, find};
+use prefix_codes::{TableName, WINDOW_BITS, find, find_whole};
 use syntax_types::BLOCK_PLACES;
 
 /// The level of an escape that is forbidden beside 0: -2048 in two's complement (Table B-16).
@@ -22,7 +22,7 @@ pub enum Standing {
     /// The end of block, in so many bits.
     EndOfBlock { len: u32 },
     /// A coefficient of this run and level, in so many bits with its sign.
-    Pair { run: u8, level: i16, len: u32 },
+    Pair { run: u32, level: i16, len: u32 },
     /// Neither, for this reason, behind so many bits.
     Refused { why: Why, behind: u32 },
 }
@@ -57,7 +57,7 @@ pub fn what_stands_whole(table: TableName, place: u32, window: Window) -> Standi
     requires whole { window.known ≡ WINDOW_BITS }
     ensures { IsFound table place window result }
 {
-    let Some((symbol, len)) = find(table, window.bits, WINDOW_BITS) else {
+    let Some((symbol, len)) = find_whole(table, window.bits) else {
         return Standing::Refused {
             why: why_none(table, place, window),
             behind: 0,
@@ -113,7 +113,7 @@ fn with_sign_behind(place: u32, window: Window, symbol: u16, len: u32) -> Standi
     }
     let level = with_sign(symbol % LEVELS_PER_RUN, bit_at(window, len));
     Standing::Pair {
-        run: run as u8,
+        run,
         level,
         len: len + 1,
     }
@@ -137,7 +137,7 @@ fn escaped(place: u32, window: Window) -> Standing
         Why::BadEscape
     } else {
         return Standing::Pair {
-            run: run as u8,
+            run,
             level: in_twos_complement(level),
             len: WINDOW_BITS,
         };

@@ -277,7 +277,7 @@ split_front k n m w =
 
 -- ---- the words of a table
 
-length-first_of : (table : TableName) → length (first_of table) ≡ 256
+pub length-first_of : (table : TableName) → length (first_of table) ≡ 256
 unfolding first_of
 length-first_of Address = refl
 length-first_of TypeI = refl
@@ -384,7 +384,7 @@ IsAnswer answer table bits = (s n : ℕ) → (answer ≡ Some (s, n)) ↔ Begins
 
 -- a word's answer, where its code is among the known bits, and where it isn't
 module _ (table : TableName) (window known word number len : ℕ) (is : Answers table (bits_of WINDOW_BITS window) word) (number_is : number ≡ number_in word) (len_is : len ≡ length_in word) where
-  given : 0 < len → answer_of word ≡ Some (number, len)
+  pub given : 0 < len → answer_of word ≡ Some (number, len)
   given some =
       cond-false _ None (Some (number_in word, length_in word)) (not_zero (length_in word) (omega arith))
       ∙ ap₂ (λ (x y : ℕ). Some (x, y)) (sym number_is) (sym len_is)

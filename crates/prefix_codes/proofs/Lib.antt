@@ -4,3 +4,4 @@ pub mod Computing
 pub mod Examples
 pub mod LevelLemmas
 pub mod TableLemmas
+pub mod WholeLemmas

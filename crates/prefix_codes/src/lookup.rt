@@ -16,6 +16,9 @@ use crate::tables::{
 /// The number of bits of a window.
 pub const WINDOW_BITS: u32 = 24;
 
+/// Words of a first level from this one on aren't those of a symbol below `END_OF_BLOCK`.
+const RARE_WORDS: u32 = (END_OF_BLOCK as u32) << LENGTH_BITS;
+
 /// A place past the codes of every table.
 const NO_PLACE: usize = 255;
 
@@ -38,6 +41,31 @@ pub fn find(table: TableName, window: u32, known: u32) -> Option<(u16, u8)>
         return None;
     }
     Some((number(word), len))
+}
+
+/// The same where all bits of the window are known. Most codes of a picture have at most `FIRST_BITS` bits and a symbol below
+/// `END_OF_BLOCK`: one comparison tells them from all others.
+#[inline(always)]
+pub fn find_whole(table: TableName, window: u32) -> Option<(u16, u8)>
+    ensures front { (symbol len : ℕ) →
+        (result ≡ Some (symbol, len)) ↔ Begins table (front_of WINDOW_BITS window WINDOW_BITS) symbol len }
+    ensures len { IfSome result (λ found. (0 < found.1) × (found.1 ≤ WINDOW_BITS)) }
+{
+    let first = first_word(table, window);
+    let word = if 0 < first && first < RARE_WORDS {
+        first
+    } else {
+        let last = last_word(table, window, first);
+        let len = length(last);
+        if len == 0 {
+            return None;
+        }
+        if last >= RARE_WORDS {
+            return Some((number(last), len));
+        }
+        last
+    };
+    Some((number(word), length(word)))
 }
 
 /// The code that a symbol is written by, without the sign bit of a motion code or a level. None where the table lacks
@@ -75,8 +103,24 @@ pub fn coefficient_code(table: TableName, run: u8, size: u16) -> Option<Code>
 fn word_at(table: TableName, window: u32) -> u32
     ensures { Answers table (bits_of WINDOW_BITS window) result }
 {
+    last_word(table, window, first_word(table, window))
+}
+
+/// The word of the first level for a window.
+#[inline]
+fn first_word(table: TableName, window: u32) -> u32
+    ensures { result ≡ slice_index (first_of table) (window / 2 ^ (WINDOW_BITS - FIRST_BITS) % 2 ^ FIRST_BITS) }
+{
     let place = (window >> (WINDOW_BITS - FIRST_BITS)) % (1 << FIRST_BITS);
-    let word = first_level(table)[place as usize];
+    first_level(table)[place as usize]
+}
+
+/// The word to which that one leads: itself, or one of the second levels.
+#[inline]
+fn last_word(table: TableName, window: u32, word: u32) -> u32
+    requires { word ≡ slice_index (first_of table) (window / 2 ^ (WINDOW_BITS - FIRST_BITS) % 2 ^ FIRST_BITS) }
+    ensures { Answers table (bits_of WINDOW_BITS window) result }
+{
     if word < LINK {
         word
     } else {

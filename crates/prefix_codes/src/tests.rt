@@ -14,6 +14,16 @@ fn a_code_is_found_where_all_its_bits_are_known(rt: HostRuntime) {
 }
 
 #[test]
+fn a_code_is_found_in_a_whole_window(rt: HostRuntime) {
+    let table = TableName::CoeffZero;
+    assert_eq!(rt; find_whole(table, 0xC0_0000), Some((1, 2)));
+    assert_eq!(rt; find_whole(table, 0x9F_FFFF), Some((END_OF_BLOCK, 2)));
+    assert_eq!(rt; find_whole(table, 0x04_1001), Some((ESCAPE, 6)));
+    assert_eq!(rt; find_whole(TableName::Address, 0x05_7FFF), Some((16, 10)));
+    assert_eq!(rt; find_whole(table, 0), None);
+}
+
+#[test]
 fn the_first_coefficient_has_a_code_of_one_bit_and_no_end_of_block(rt: HostRuntime) {
     let table = TableName::CoeffFirst;
     assert_eq!(rt; find(table, 0x80_0000, 24), Some((1, 1)));

@@ -42,8 +42,8 @@ coefficients-preserved g c =
           (place here) (place after) shows bits at c.in-Pair.run' c.in-Pair.level held len c.push.new.self.items
           (c.in-Pair.ensures.0, c.in-Pair.ensures.1, c.in-Pair.ensures.2) level left moved c.push.ensures.items (c.coefficients.invariant.so_far bits at r);
       advanced = advances-on c.coefficients.invariant.advanced (advances-found (bits_left here) (bits_left after) window len (place here) (place after) shows c.in-Pair.ensures.0 left moved);
-      place = more-behind way before c.push.new.self.items (record { run = c.in-Pair.run'; level = held }) index c.from.result
-          (index + (c.from.result + 1)) c.coefficients.invariant.place c.in-Pair.ensures.1 c.from.ensures refl c.push.ensures.items;
+      place = more-behind way before c.push.new.self.items (record { run = c.in-Pair.run'; level = held }) index c.in-Pair.run'
+          (index + (c.in-Pair.run' + 1)) c.coefficients.invariant.place c.in-Pair.ensures.1 refl refl c.push.ensures.items;
       keeps = search rules;
     }
 
