@@ -1,5 +1,6 @@
 pub mod DueOrder
 pub mod Examples
+pub mod LinkLaws
 pub mod Nodes
 pub mod OrderCosts
 pub mod Outcomes
@@ -7,5 +8,7 @@ pub mod Paths
 pub mod PriceLaws
 pub mod Soundness
 pub mod Steps
+pub mod SumTrees
+pub mod TallyLaws
 pub mod Units
 pub mod Verdicts

@@ -9,6 +9,7 @@ ghost use Rattle.certificate_checker.specs.Private.Order.{IsDueOrder};
 ghost use Rattle.certificate_checker.specs.Private.Paths.{HasRoomFor, KeepsRoom};
 
 use crate::faults::is_scheduled;
+use crate::filling::refill;
 use crate::order::{DueUnit, put_in_order};
 use crate::path::{Path, versions_of};
 use crate::walk::walk;
@@ -164,18 +165,6 @@ fn clear(path: &mut Path, units: usize)
     refill(&mut path.fixed, units, None);
     refill(&mut path.choice, units, 0);
     path.branches.clear();
-}
-
-/// So many of an item, in a list that has room for them.
-fn refill<T: Copy + Drop>(items: &mut Vec<T>, count: usize, item: T)
-    requires { count ≤ vec_capacity items.old }
-    ensures items { items.new.items ≡ replicate count item }
-    ensures room { vec_capacity items.new ≡ vec_capacity items.old }
-{
-    items.clear();
-    for _filled in 0..count {
-        items.push_reserved(item);
-    }
 }
 
 /// Whether a number is at most a bound; where there is none, each is.
