@@ -1,5 +1,6 @@
 pub mod DueOrder
 pub mod Examples
+pub mod FixedCosts
 pub mod LinkLaws
 pub mod Nodes
 pub mod OrderCosts
@@ -10,5 +11,6 @@ pub mod Soundness
 pub mod Steps
 pub mod SumTrees
 pub mod TallyLaws
+pub mod Told
 pub mod Units
 pub mod Verdicts

@@ -147,8 +147,13 @@ starts_rising sums place number are low =
       size = length-set before at number ∙ are.size;
       some = omega (arith, low);
       within = omega (arith, low);
-      pairs = λ j some less apart. omega (arith, other j (λ e. omega (arith, e, less)), other (2 * j) (λ e. apart (omega (arith, e))), other (2 * j + 1) (λ e. apart (omega (arith, e))),
-          are.pairs j some less);
+      pairs = λ j some less apart. omega (
+        arith,
+        other j (λ e. omega (arith, e, less)),
+        other (2 * j) (λ e. apart (omega (arith, e))),
+        other (2 * j + 1) (λ e. apart (omega (arith, e))),
+        are.pairs j some less,
+      );
       own = get_or-set_same before at number 0 (omega (arith, are.size, low));
       others = λ j from apart. other j apart;
     }

@@ -1,3 +1,4 @@
+pub mod FixedCosts
 pub mod Neighbours
 pub mod Order
 pub mod Paths

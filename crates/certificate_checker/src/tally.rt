@@ -1,11 +1,13 @@
 ghost use Rattle.std.specs.Prelude.{◌≡◌, ℕ, ◌<◌, ◌≤◌, List, [], ◌∷◌, Option, None, All, is_some, IsTrue, IfOk, length, slice_index, slice_index_or, vec_capacity};
+ghost use Rattle.std.specs.List.Sorted.{IsNonDecreasingBy};
 ghost use Rattle.version_table.specs.Choice.{version_at};
 ghost use Rattle.version_table.specs.Table.{IsValidTable, units_of};
 ghost use Rattle.certificate_checker.specs.Faults.{IsFree};
 ghost use Rattle.certificate_checker.specs.Shown.{fix, unfixed, versions_of};
+ghost use Rattle.certificate_checker.specs.Private.FixedCosts.{SplitsBefore, SplitsBy, packets_within};
 ghost use Rattle.certificate_checker.specs.Private.Order.{IsPlaced, unit_of};
 ghost use Rattle.certificate_checker.specs.Private.Paths.{unfix};
-ghost use Rattle.certificate_checker.specs.Private.PlaceSums.{AreSums};
+ghost use Rattle.certificate_checker.specs.Private.PlaceSums.{AreSums, sum_from};
 ghost use Rattle.certificate_checker.specs.Private.Tallies.{AreApart, ArePlaces, HasTallyRoom, IsTally, IsVersionPut, KeepsTallyRoom, unit_at};
 
 use crate::filling::refill;
@@ -62,7 +64,7 @@ impl Tally {
     }
 
     /// Fixes version 0 of a unit of which nothing is fixed.
-    pub(crate) fn enter(&mut self, table: &Table, unit: u32)
+    pub(crate) fn fix_first(&mut self, table: &Table, unit: u32)
         requires valid { IsValidTable table.now }
         requires unit { unit < length (units_of table.now) }
         requires tally { (fixed : List (Option ℕ)) × (innermost : List ℕ) × IsTally table.now fixed innermost self.old × IsFree fixed unit }
@@ -76,7 +78,7 @@ impl Tally {
     }
 
     /// Fixes another version of the innermost unit.
-    pub(crate) fn fix(&mut self, table: &Table, unit: u32, k: u8)
+    pub(crate) fn fix_next(&mut self, table: &Table, unit: u32, k: u8)
         requires valid { IsValidTable table.now }
         requires unit { unit < length (units_of table.now) }
         requires version { k < versions_of table.now unit }
@@ -90,7 +92,7 @@ impl Tally {
     }
 
     /// Fixes nothing of the innermost unit any more.
-    pub(crate) fn leave(&mut self, table: &Table, unit: u32)
+    pub(crate) fn set_free(&mut self, table: &Table, unit: u32)
         requires unit { unit < length (units_of table.now) }
         requires tally { (fixed : List (Option ℕ)) × (outer : List ℕ) × IsTally table.now fixed (unit ∷ outer) self.old }
         ensures tally { (fixed : List (Option ℕ)) (outer : List ℕ) → IsTally table.now fixed (unit ∷ outer) self.old → unit < length fixed
@@ -100,6 +102,18 @@ impl Tally {
         let place = self.places[unit as usize];
         self.links.put_back(place + 1);
         self.put_nothing(place);
+    }
+
+    /// How many packets of the versions that are fixed are due in a window.
+    pub(crate) fn packets_due(&self, from: u64, due: u64) -> u128
+        requires rising { IsNonDecreasingBy (λ at. at.due) self.now.order.items }
+        requires window { from ≤ due }
+        requires packets { AreSums self.now.packets × (self.now.packets.count ≡ length self.now.order.items) }
+        ensures { result ≡ sum_from (packets_within self.now from due) 0 (length self.now.order.items) }
+    {
+        let order = self.order.as_slice();
+        self.packets
+            .between(places_before(order, from), places_by(order, due))
     }
 
     /// Puts the amounts of a version at the place of its unit.
@@ -131,6 +145,22 @@ impl Tally {
         self.packets.put(place, 0);
         self.distortions.put(place, 0);
     }
+}
+
+/// How many units are due before a time.
+fn places_before(order: &[DueUnit], time: u64) -> usize
+    requires { IsNonDecreasingBy (λ at. at.due) order.now }
+    ensures { SplitsBefore time order.now result }
+{
+    order.partition_point(|at| at.due < time)
+}
+
+/// How many units are due by a time.
+fn places_by(order: &[DueUnit], time: u64) -> usize
+    requires { IsNonDecreasingBy (λ at. at.due) order.now }
+    ensures { SplitsBy time order.now result }
+{
+    order.partition_point(|at| at.due <= time)
 }
 
 /// Lists the place of each unit, in a list that has room for them.

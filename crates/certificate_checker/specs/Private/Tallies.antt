@@ -1,11 +1,13 @@
 -- What a path fixes and what it leaves free, by the places of the units in the order of their due times.
-use Rattle.std.specs.Prelude.{◌≡◌, ℕ, zero, suc, ◌+◌, ◌*◌, ◌<◌, ◌≤◌, Bool, true, false, ◌&&◌, nat_lt, is_some, List, [], ◌∷◌, length, slice_index, slice_index_or, slice_set, Option, Some, None, vec_capacity}
+use Rattle.std.specs.Prelude.{◌≡◌, ℕ, zero, suc, ◌+◌, ◌*◌, ◌<◌, ◌≤◌, Bool, true, false, ◌&&◌, nat_lt, is_some, List, [], ◌∷◌, length, map, reverse, slice_index, slice_index_or, slice_set, Option, Some, None, vec_capacity}
 use Rattle.version_table.specs.declared.table.Unit.{Unit as CodedUnit}
 use Rattle.version_table.specs.declared.table.Version.{Version}
 use Rattle.version_table.specs.declared.table.Table.{Table}
 use Rattle.version_table.specs.Choice.{version_at}
 use Rattle.dual_bounds.specs.Values.{packets_of}
 use Rattle.certificate_checker.specs.declared.order.DueUnit.{DueUnit}
+use Rattle.certificate_checker.specs.declared.path.OpenBranch.{OpenBranch}
+use Rattle.certificate_checker.specs.declared.path.Path.{Path}
 use Rattle.certificate_checker.specs.declared.sums.PlaceSums.{PlaceSums}
 use Rattle.certificate_checker.specs.declared.tally.Tally.{Tally}
 use Rattle.certificate_checker.specs.Private.Neighbours.{AreLinked, HasLinkRoom, KeepsLinkRoom}
@@ -62,6 +64,10 @@ pub record IsTally (table : Table) (fixed : List (Option ℕ)) (innermost : List
   pub chain : IsChain tally.order.items tally.places.items fixed innermost tally.links.next.items tally.links.previous.items
   pub packets : HasAmounts table tally.order.items fixed packets_of tally.packets
   pub distortions : HasAmounts table tally.order.items fixed (λ version. version.distortion) tally.distortions
+
+-- what is told of a path
+abbrev pub IsTold : Table → Path → Tally → Type 0
+IsTold table path tally = IsTally table path.fixed.items (map (λ (branch : OpenBranch). branch.unit) (reverse path.branches.items)) tally
 
 -- a number is put at a place
 pub record IsNumberPut (place number : ℕ) (old new : PlaceSums) : Type 0 where

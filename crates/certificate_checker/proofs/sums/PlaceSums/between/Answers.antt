@@ -1,5 +1,5 @@
-use Rattle.std.proofs.Common.{◌≡◌, ℕ, ◌+◌, ◌-◌, ◌*◌, ◌/◌, ◌<◌, ◌≤◌, List, get_or, ap, ◌∙◌, arith}
-use Rattle.certificate_checker.specs.Private.PlaceSums.{odd_at, odd_before, number_at, sum_from}
+use Rattle.std.proofs.Common.{◌≡◌, ℕ, ◌+◌, ◌-◌, List, get_or, ap, ◌∙◌, arith}
+use Rattle.certificate_checker.specs.Private.PlaceSums.{odd_at, odd_before}
 use Rattle.certificate_checker.proofs.SumTrees.{level_step, nothing_left, range_small, sum_shifted}
 use Rattle.certificate_checker.proofs.sums.PlaceSums.between.Goals as goal
 

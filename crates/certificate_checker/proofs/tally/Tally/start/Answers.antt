@@ -1,4 +1,4 @@
-use Rattle.std.proofs.Common.{◌≡◌, ◌≤◌, ℕ, ◌<◌, All, List, length, sym, ap, subst, ◌∙◌, arith}
+use Rattle.std.proofs.Common.{◌≡◌, ◌<◌, All, List, length, sym, ap, subst, ◌∙◌, arith}
 use Rattle.certificate_checker.specs.declared.order.DueUnit.{DueUnit}
 use Rattle.certificate_checker.specs.Private.Tallies.{AreApart, ArePlaces}
 use Rattle.certificate_checker.proofs.DueOrder.{order_size}

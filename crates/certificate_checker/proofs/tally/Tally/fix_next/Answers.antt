@@ -1,11 +1,11 @@
-use Rattle.std.proofs.Common.{◌≡◌, ℕ, ◌∷◌, length, get_or, Some, ap, ◌∙◌, arith}
+use Rattle.std.proofs.Common.{◌≡◌, ℕ, ◌∷◌, Some, ap, ◌∙◌, arith}
 use Rattle.std.proofs.lemmas.List.{get_or_default}
 use Rattle.version_table.specs.Choice.{version_at}
 use Rattle.certificate_checker.specs.Shown.{versions_of}
 use Rattle.certificate_checker.specs.Private.Order.{unit_of}
 use Rattle.certificate_checker.specs.Private.Tallies.{unit_at}
 use Rattle.certificate_checker.proofs.TallyLaws.{chain_fixed, ready_to_leave, told}
-use Rattle.certificate_checker.proofs.tally.Tally.fix.Goals as goal
+use Rattle.certificate_checker.proofs.tally.Tally.fix_next.Goals as goal
 
 pub index-place-requires : goal.index-place-requires
 index-place-requires c =

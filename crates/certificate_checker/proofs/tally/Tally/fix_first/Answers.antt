@@ -6,7 +6,7 @@ use Rattle.certificate_checker.specs.Private.Order.{unit_of}
 use Rattle.certificate_checker.specs.Private.Tallies.{unit_at}
 use Rattle.certificate_checker.proofs.TallyLaws.{chain_entered, has_place, ready_to_enter, told}
 use Rattle.certificate_checker.proofs.Units.{some_version}
-use Rattle.certificate_checker.proofs.tally.Tally.enter.Goals as goal
+use Rattle.certificate_checker.proofs.tally.Tally.fix_first.Goals as goal
 
 pub index-place-requires : goal.index-place-requires
 index-place-requires c =

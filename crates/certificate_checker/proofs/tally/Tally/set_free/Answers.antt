@@ -1,12 +1,7 @@
-use Rattle.std.proofs.Common.{◌≡◌, ℕ, ◌+◌, ◌<◌, ◌∷◌, length, get_or, None, refl, sym, ap, subst, ◌∙◌, arith}
+use Rattle.std.proofs.Common.{◌≡◌, ℕ, ◌+◌, ◌<◌, ◌∷◌, length, get_or, None, refl, sym, subst, ◌∙◌, arith}
 use Rattle.std.proofs.lemmas.List.{get_or_default}
-use Rattle.version_table.specs.Choice.{version_at}
-use Rattle.certificate_checker.specs.Shown.{versions_of}
-use Rattle.certificate_checker.specs.Private.Order.{unit_of}
-use Rattle.certificate_checker.specs.Private.Tallies.{unit_at}
-use Rattle.certificate_checker.proofs.TallyLaws.{chain_entered, has_place, ready_to_leave, told}
-use Rattle.certificate_checker.proofs.Units.{some_version}
-use Rattle.certificate_checker.proofs.tally.Tally.leave.Goals as goal
+use Rattle.certificate_checker.proofs.TallyLaws.{ready_to_leave, told}
+use Rattle.certificate_checker.proofs.tally.Tally.set_free.Goals as goal
 
 pub index-place-requires : goal.index-place-requires
 index-place-requires c =
