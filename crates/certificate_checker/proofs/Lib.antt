@@ -1,5 +1,7 @@
 pub mod DueOrder
 pub mod Examples
+pub mod FixedCosts
+pub mod LinkLaws
 pub mod Nodes
 pub mod OrderCosts
 pub mod Outcomes
@@ -7,5 +9,8 @@ pub mod Paths
 pub mod PriceLaws
 pub mod Soundness
 pub mod Steps
+pub mod SumTrees
+pub mod TallyLaws
+pub mod Told
 pub mod Units
 pub mod Verdicts

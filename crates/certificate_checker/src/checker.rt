@@ -5,12 +5,14 @@ ghost use Rattle.slot_rule.specs.Schedule.{IsScheduled};
 ghost use Rattle.certificate_checker.specs.Checked.{IsAtMost, IsFaultless, IsFirstFault};
 ghost use Rattle.certificate_checker.specs.Faults.{IsFirstOfHead, IsHeadRight};
 ghost use Rattle.certificate_checker.specs.declared.why.CertFault.{CertFault};
-ghost use Rattle.certificate_checker.specs.Private.Order.{IsDueOrder};
+ghost use Rattle.certificate_checker.specs.Shown.{unfixed};
 ghost use Rattle.certificate_checker.specs.Private.Paths.{HasRoomFor, KeepsRoom};
+ghost use Rattle.certificate_checker.specs.Private.Tallies.{IsTally, KeepsTallyRoom};
 
 use crate::faults::is_scheduled;
-use crate::order::{DueUnit, put_in_order};
+use crate::filling::refill;
 use crate::path::{Path, versions_of};
+use crate::tally::Tally;
 use crate::walk::walk;
 use crate::why::{CertFault, Why};
 use bound_certificate::Cert;
@@ -25,19 +27,19 @@ use version_table::{Choice, Table, distortion_of};
 pub struct CheckRoom {
     units: usize,
     path: Path,
-    /// The units of the table that is checked.
-    order: Vec<DueUnit>,
+    tally: Tally,
 }
 
 impl Model for CheckRoom {
-    ghost use Rattle.std.specs.Prelude.{ℕ, ◌≤◌, vec_capacity};
+    ghost use Rattle.std.specs.Prelude.{ℕ};
     ghost use Rattle.certificate_checker.specs.Private.Paths.{HasRoomFor};
+    ghost use Rattle.certificate_checker.specs.Private.Tallies.{HasTallyRoom};
 
     ghost Value = { ℕ };
 
     ghost view = { λ a. a.units };
 
-    ghost invariant = { λ a. HasRoomFor a.units a.path × (a.units ≤ vec_capacity a.order) };
+    ghost invariant = { λ a. HasRoomFor a.units a.path × HasTallyRoom a.units a.tally };
 }
 
 impl CheckRoom {
@@ -53,7 +55,7 @@ impl CheckRoom {
                 choice: Vec::with_capacity(alloc, units)?,
                 branches: Vec::with_capacity(alloc, units)?,
             },
-            order: Vec::with_capacity(alloc, units)?,
+            tally: Tally::new(alloc, units)?,
         })
     }
 }
@@ -76,33 +78,33 @@ pub fn check(table: &Table, cert: &Cert, room: &mut CheckRoom) -> Result<u64, Ce
     ensures sound { IfOk result (λ bound. (choice : List ℕ) → Fits table.now choice → IsScheduled table.now choice → bound ≤ distortion_of_choice table.now choice) }
     ensures room { room.new ≡ room.old }
 {
-    put_in_order(table, &mut room.order);
-    let order = room.order.as_slice();
-    match fault_of_head(table, order.len(), cert) {
+    room.tally.start(table);
+    match fault_of_head(table, room.tally.order.len(), cert) {
         Some(why) => Err(CertFault { node: 0, why }),
-        None => check_tree(table, order, cert, &mut room.path),
+        None => check_tree(table, cert, &mut room.path, &mut room.tally),
     }
 }
 
 /// Checks the tree of a certificate whose head is right.
 fn check_tree(
     table: &Table,
-    order: &[DueUnit],
     cert: &Cert,
     path: &mut Path,
+    tally: &mut Tally,
 ) -> Result<u64, CertFault>
     requires valid { IsValidTable table.now }
-    requires order { IsDueOrder table.now order.now }
     requires room { HasRoomFor (length (units_of table.now)) path.old }
+    requires tally { IsTally table.now (unfixed table.now) [] tally.old }
     requires few { length cert.now.nodes < 2 ^ 32 }
     requires head { IsHeadRight table.now cert.now }
     ensures room { KeepsRoom path.old path.new }
+    ensures tally_room { KeepsTallyRoom tally.old tally.new }
     ensures bound { IfOk result (λ bound. bound ≡ cert.now.bound) }
     ensures faultless { OnOk result (IsFaultless table.now cert.now) }
     ensures fault { IfErr result (IsFirstFault table.now cert.now) }
 {
-    clear(path, order.len());
-    let tree = walk(table, order, cert.nodes.as_slice(), path)?;
+    clear(path, tally.order.len());
+    let tree = walk(table, cert.nodes.as_slice(), path, tally)?;
     if tree.nodes < cert.nodes.len() {
         return Err(CertFault {
             node: tree.nodes as u32,
@@ -164,18 +166,6 @@ fn clear(path: &mut Path, units: usize)
     refill(&mut path.fixed, units, None);
     refill(&mut path.choice, units, 0);
     path.branches.clear();
-}
-
-/// So many of an item, in a list that has room for them.
-fn refill<T: Copy + Drop>(items: &mut Vec<T>, count: usize, item: T)
-    requires { count ≤ vec_capacity items.old }
-    ensures items { items.new.items ≡ replicate count item }
-    ensures room { vec_capacity items.new ≡ vec_capacity items.old }
-{
-    items.clear();
-    for _filled in 0..count {
-        items.push_reserved(item);
-    }
 }
 
 /// Whether a number is at most a bound; where there is none, each is.

@@ -7,10 +7,14 @@
 mod checker;
 mod costs;
 mod faults;
+mod filling;
 pub mod laws;
+mod links;
 mod order;
 mod path;
 mod prices;
+mod sums;
+mod tally;
 mod walk;
 mod why;
 

@@ -4,13 +4,13 @@ ghost use Rattle.bound_certificate.specs.declared.cert.Node.TheVariants as nodes
 ghost use Rattle.certificate_checker.specs.Faults.{AreRight, IsFirstOfBranch, IsFirstOfNode, IsFirstOfRun, IsFirstOfWindows};
 ghost use Rattle.certificate_checker.specs.Shown.{bound_of_windows, lesser, unfixed};
 ghost use Rattle.certificate_checker.specs.Walk.{Shows, Walks};
-ghost use Rattle.certificate_checker.specs.Private.Order.{IsDueOrder};
 ghost use Rattle.certificate_checker.specs.Private.Paths.{IsClosed, IsClosing, IsFaultIn, IsPath, IsTaken, KeepsRoom};
+ghost use Rattle.certificate_checker.specs.Private.Tallies.{IsTold, KeepsTallyRoom};
 
 use crate::costs::bound_of_windows;
 use crate::faults::{bound_of_run, fault_of_branch, fault_of_run, fault_of_windows, windows_of};
-use crate::order::DueUnit;
 use crate::path::{Next, OpenBranch, Path, versions_of};
+use crate::tally::Tally;
 use crate::why::{CertFault, Why};
 use bound_certificate::Node;
 use dual_bounds::Window;
@@ -38,24 +38,26 @@ pub(crate) enum Closing {
 /// The tree that some nodes begin with, or its first fault. The path has nothing fixed.
 pub(crate) fn walk(
     table: &Table,
-    order: &[DueUnit],
     nodes: &[Node],
     path: &mut Path,
+    tally: &mut Tally,
 ) -> Result<Tree, CertFault>
     requires valid { IsValidTable table.now }
-    requires order { IsDueOrder table.now order.now }
     requires path { IsPath table.now path.old }
+    requires tally { IsTold table.now path.old tally.old }
     requires fresh { path.old.fixed.items ≡ unfixed table.now }
     requires none { path.old.branches.items ≡ [] }
     requires few { length nodes.now < 2 ^ 32 }
     ensures path { IsPath table.now path.new }
     ensures room { KeepsRoom path.old path.new }
+    ensures tally { IsTold table.now path.new tally.new }
+    ensures tally_room { KeepsTallyRoom tally.old tally.new }
     ensures within { IfOk result (λ tree. tree.nodes ≤ length nodes.now) }
     ensures shown { IfOk result (λ tree. Walks table.now (unfixed table.now) nodes.now (Shows tree.bound (drop tree.nodes nodes.now))) }
     ensures fault { IfErr result (IsFaultIn table.now nodes.now) }
 {
     for (at, node) in nodes.iter().enumerate() {
-        match take_node(table, order, node, path) {
+        match take_node(table, node, path, tally) {
             Ok(Next::Needed) => {}
             Ok(Next::Whole(bound)) => return Ok(Tree {
                 bound,
@@ -74,35 +76,40 @@ pub(crate) fn walk(
 }
 
 /// Takes the next node, or names what is wrong with it first.
-fn take_node(table: &Table, order: &[DueUnit], node: &Node, path: &mut Path) -> Result<Next, Why>
+fn take_node(table: &Table, node: &Node, path: &mut Path, tally: &mut Tally) -> Result<Next, Why>
     requires valid { IsValidTable table.now }
-    requires order { IsDueOrder table.now order.now }
     requires path { IsPath table.now path.old }
+    requires tally { IsTold table.now path.old tally.old }
     ensures path { IsPath table.now path.new }
     ensures room { KeepsRoom path.old path.new }
+    ensures tally { IsTold table.now path.new tally.new }
+    ensures tally_room { KeepsTallyRoom tally.old tally.new }
     ensures next { IfOk result (IsTaken table.now path.old path.new node.now) }
     ensures wrong { IfErr result (IsFirstOfNode table.now path.old.fixed.items node.now) }
 {
     match node {
-        Node::Branch { unit } => take_branch(table, *unit, path),
+        Node::Branch { unit } => take_branch(table, *unit, path, tally),
         Node::Dual { with } => take_windows(
             table,
-            order,
             windows_of(with.as_slice()).as_slice(),
             path,
+            tally,
         ),
-        Node::Run { scheduled } => take_run(table, order, *scheduled, path),
-        Node::Open => take_windows(table, order, &[], path),
-        Node::Window { with } => take_windows(table, order, with.as_slice(), path),
+        Node::Run { scheduled } => take_run(table, *scheduled, path, tally),
+        Node::Open => take_windows(table, &[], path, tally),
+        Node::Window { with } => take_windows(table, with.as_slice(), path, tally),
     }
 }
 
 /// Takes a branch.
-fn take_branch(table: &Table, unit: u32, path: &mut Path) -> Result<Next, Why>
+fn take_branch(table: &Table, unit: u32, path: &mut Path, tally: &mut Tally) -> Result<Next, Why>
     requires valid { IsValidTable table.now }
     requires path { IsPath table.now path.old }
+    requires tally { IsTold table.now path.old tally.old }
     ensures path { IsPath table.now path.new }
     ensures room { KeepsRoom path.old path.new }
+    ensures tally { IsTold table.now path.new tally.new }
+    ensures tally_room { KeepsTallyRoom tally.old tally.new }
     ensures next { IfOk result (IsTaken table.now path.old path.new (nodes.Branch unit)) }
     ensures wrong { IfErr result (IsFirstOfBranch table.now path.old.fixed.items unit) }
 {
@@ -110,6 +117,7 @@ fn take_branch(table: &Table, unit: u32, path: &mut Path) -> Result<Next, Why>
         Some(why) => Err(why),
         None => {
             path.enter(unit);
+            tally.fix_first(table, unit);
             Ok(Next::Needed)
         }
     }
@@ -118,16 +126,18 @@ fn take_branch(table: &Table, unit: u32, path: &mut Path) -> Result<Next, Why>
 /// Takes a node that these windows bound.
 fn take_windows(
     table: &Table,
-    order: &[DueUnit],
     windows: &[Window],
     path: &mut Path,
+    tally: &mut Tally,
 ) -> Result<Next, Why>
     requires valid { IsValidTable table.now }
-    requires order { IsDueOrder table.now order.now }
     requires path { IsPath table.now path.old }
+    requires tally { IsTold table.now path.old tally.old }
     requires few { length windows.now ≤ WINDOWS_MOST }
     ensures path { IsPath table.now path.new }
     ensures room { KeepsRoom path.old path.new }
+    ensures tally { IsTold table.now path.new tally.new }
+    ensures tally_room { KeepsTallyRoom tally.old tally.new }
     ensures right { OnOk result (AreRight windows.now) }
     ensures closed { IfOk result (IsClosed table.now path.old path.new (bound_of_windows table.now path.old.fixed.items windows.now)) }
     ensures wrong { IfErr result (IsFirstOfWindows windows.now) }
@@ -135,42 +145,52 @@ fn take_windows(
     match fault_of_windows(windows) {
         Some(why) => Err(why),
         None => {
-            let bound = bound_of_windows(table, order, path.fixed.as_slice(), windows);
-            Ok(close(table, Some(bound), path))
+            let bound = bound_of_windows(table, tally, path.fixed.as_slice(), windows);
+            Ok(close(table, Some(bound), path, tally))
         }
     }
 }
 
 /// Takes a choice that was tried.
-fn take_run(table: &Table, order: &[DueUnit], scheduled: bool, path: &mut Path) -> Result<Next, Why>
+fn take_run(table: &Table, scheduled: bool, path: &mut Path, tally: &mut Tally) -> Result<Next, Why>
     requires valid { IsValidTable table.now }
-    requires order { IsDueOrder table.now order.now }
     requires path { IsPath table.now path.old }
+    requires tally { IsTold table.now path.old tally.old }
     ensures path { IsPath table.now path.new }
     ensures room { KeepsRoom path.old path.new }
+    ensures tally { IsTold table.now path.new tally.new }
+    ensures tally_room { KeepsTallyRoom tally.old tally.new }
     ensures next { IfOk result (IsTaken table.now path.old path.new (nodes.Run scheduled)) }
     ensures wrong { IfErr result (IsFirstOfRun table.now path.old.fixed.items scheduled) }
 {
     match fault_of_run(table, scheduled, path) {
         Some(why) => Err(why),
         None => {
-            let bound = bound_of_run(table, order, scheduled, path.choice.as_slice());
-            Ok(close(table, bound, path))
+            let bound = bound_of_run(
+                table,
+                tally.order.as_slice(),
+                scheduled,
+                path.choice.as_slice(),
+            );
+            Ok(close(table, bound, path, tally))
         }
     }
 }
 
 /// Closes the tree in hand, which shows a bound, and each branch of which it is the last child.
-fn close(table: &Table, bound: Option<u128>, path: &mut Path) -> Next
+fn close(table: &Table, bound: Option<u128>, path: &mut Path, tally: &mut Tally) -> Next
     requires valid { IsValidTable table.now }
     requires path { IsPath table.now path.old }
+    requires tally { IsTold table.now path.old tally.old }
     ensures path { IsPath table.now path.new }
     ensures room { KeepsRoom path.old path.new }
+    ensures tally { IsTold table.now path.new tally.new }
+    ensures tally_room { KeepsTallyRoom tally.old tally.new }
     ensures next { IsClosed table.now path.old path.new bound result }
 {
     let mut bound = bound;
     while !path.branches.is_empty() {
-        match close_child(table, bound, path) {
+        match close_child(table, bound, path, tally) {
             Closing::NextChild => return Next::Needed,
             Closing::Shown(least) => bound = least,
         }
@@ -179,12 +199,15 @@ fn close(table: &Table, bound: Option<u128>, path: &mut Path) -> Next
 }
 
 /// Closes a child of the innermost branch, which shows a bound.
-fn close_child(table: &Table, bound: Option<u128>, path: &mut Path) -> Closing
+fn close_child(table: &Table, bound: Option<u128>, path: &mut Path, tally: &mut Tally) -> Closing
     requires valid { IsValidTable table.now }
     requires path { IsPath table.now path.old }
+    requires tally { IsTold table.now path.old tally.old }
     requires some { 0 < length path.old.branches.items }
     ensures path { IsPath table.now path.new }
     ensures room { KeepsRoom path.old path.new }
+    ensures tally { IsTold table.now path.new tally.new }
+    ensures tally_room { KeepsTallyRoom tally.old tally.new }
     ensures next { IsClosing table.now path.old path.new bound result }
 {
     let Some(branch) = path.branches.pop() else {
@@ -193,6 +216,7 @@ fn close_child(table: &Table, bound: Option<u128>, path: &mut Path) -> Closing
     let least = lesser(branch.least, bound);
     let next = path.version(branch.unit).unwrap_or(0) + 1;
     if usize::from(next) < versions_of(table, branch.unit as usize) {
+        tally.fix_next(table, branch.unit, next);
         path.fix(branch.unit, next);
         path.keep(OpenBranch {
             unit: branch.unit,
@@ -200,6 +224,7 @@ fn close_child(table: &Table, bound: Option<u128>, path: &mut Path) -> Closing
         });
         return Closing::NextChild;
     }
+    tally.set_free(table, branch.unit);
     path.unfix(branch.unit);
     Closing::Shown(least)
 }

@@ -1,6 +1,5 @@
-use Rattle.std.proofs.Common.{Err, length, refl, ap, ◌∙◌}
+use Rattle.std.proofs.Common.{Err, refl, arith}
 use Rattle.certificate_checker.specs.Checked.{in_head}
-use Rattle.certificate_checker.specs.declared.order.DueUnit.{DueUnit}
 use Rattle.certificate_checker.proofs.DueOrder.{order_size}
 use Rattle.certificate_checker.proofs.Outcomes.{answer_fault, answer_faultless}
 use Rattle.certificate_checker.proofs.Soundness.{answer_sound}
@@ -26,4 +25,5 @@ returns-in-None-clause-sound c = answer_sound c.args.table.now c.args.cert.now c
 
 pub fault_of_head-requires-clause-units : goal.fault_of_head-requires-clause-units
 fault_of_head-requires-clause-units c =
-    ap (length {A = DueUnit}) c.as_slice-order.ensures.value ∙ order_size c.args.table.now c.put_in_order.new.order.items c.put_in_order.ensures.order
+    let order = c.start.new.self.order in
+    omega (arith, c.len.ensures, order.ok.0, order_size c.args.table.now order.items c.start.ensures.tally.order)

@@ -4,6 +4,7 @@ use Rattle.certificate_checker.specs.declared.path.Next.TheVariants.{Needed, Who
 use Rattle.certificate_checker.specs.Private.Paths.{IsTaken}
 use Rattle.certificate_checker.proofs.Nodes.{missing_in, one_more, whole_shown, wrong_in}
 use Rattle.certificate_checker.proofs.Steps.{keeps_both}
+use Rattle.certificate_checker.proofs.Told.{tally_room_both}
 use Rattle.certificate_checker.proofs.walk.walk.Goals as goal
 
 pub returns-in-Ok-Whole-clause-shown : goal.returns-in-Ok-Whole-clause-shown
@@ -30,6 +31,8 @@ loop-at-preserved c =
     record {
       path = c.take_node.ensures.path;
       room = keeps_both c.args.path.now c.loop-at.path c.take_node.new.path c.loop-at.invariant.room c.take_node.ensures.room;
+      tally = c.take_node.ensures.tally;
+      tally_room = tally_room_both c.args.tally.now c.loop-at.tally c.take_node.new.tally c.loop-at.invariant.tally_room c.take_node.ensures.tally_room;
       ahead = one_more table c.args.nodes.now c.loop-at.path c.take_node.new.path c.loop-at.at node c.loop-at-test.true c.index-nodes-at.is c.loop-at.invariant.ahead taken;
     }
 

@@ -1,5 +1,5 @@
 use Rattle.std.proofs.Common.{◌≡◌, replicate, vec_capacity}
-use Rattle.certificate_checker.proofs.checker.refill.Given as goal
+use Rattle.certificate_checker.proofs.filling.refill.Given as goal
 
 abbrev pub invariant-loop-filled : goal.invariant-loop-filled
 invariant-loop-filled g l = record {
