@@ -1,3 +1,4 @@
 pub mod Codes
 pub mod HeadCodes
 pub mod SliceCodes
+pub mod SourceUnits
