@@ -2,3 +2,5 @@ pub mod Codes
 pub mod HeadCodes
 pub mod SliceCodes
 pub mod SourceUnits
+pub mod TempWhole
+pub mod WholeVersions
