@@ -64,12 +64,14 @@ use Rattle.syntax_types.specs.declared.picture.PicCoding.{PicCoding}
 use Rattle.syntax_types.specs.declared.picture.Picture.{Picture}
 use Rattle.syntax_types.specs.declared.picture.SeqState.{SeqState}
 use Rattle.syntax_types.specs.declared.slice.Slice.{Slice}
+use Rattle.stream_constants.specs.declared.start_codes.TheConstants.{GROUP, PICTURE, SEQUENCE_END, SEQUENCE_HEADER}
 use Rattle.start_codes.specs.StartCodes.{is_slice, is_sequence_header, is_unit_start, has_code}
 use Rattle.picture_grammar.specs.Grammar.{SpellsList}
 use Rattle.picture_grammar.specs.StartCode.{start_code_prefix, start_code_bits}
 use Rattle.picture_grammar.specs.Picture.{next_slice, picture_unit, IsCoding, SpellsPicture}
 use Rattle.picture_laws.proofs.Codings.{coding-of_unit}
 use Rattle.picture_laws.proofs.StartCodes.{opened}
+use Rattle.picture_laws.proofs.WrittenPicture.{code_bounds}
 use Rattle.picture_heads.specs.Heads.{IsHeadWithoutDelay}
 use Rattle.picture_heads.proofs.Bytes.{bits-code, same_parts}
 use Rattle.version_units.proofs.TempWhole.{IsWholeUnit}
@@ -255,5 +257,132 @@ first-place test n is = by_cases (first-below test (suc n))
 
 -- ---- the codes behind the head
 
+or_parts : (a b : Bool) → a || b ≡ true → (a ≡ true) ⊎ (b ≡ true)
+or_parts true b is = inl refl
+or_parts false b is = inr is
+
 slice_no_start : (value : ℕ) → is_slice_or_end value ≡ true → is_unit_start value ≡ true → ⊥
-slice_no_start value is start = ?
+slice_no_start value is start = by_kinds (or_parts (is_slice value) (value == SEQUENCE_END) is) (or_parts (is_sequence_header value) _ start)
+  where
+    apart : (1 ≤ value) × (value ≤ 183) × (value ≢ 179) → (value == SEQUENCE_HEADER) ≡ true ⊎ ((value == GROUP) || (value == PICTURE)) ≡ true → ⊥
+    apart (low, high, other) (inl sequence) = other (eqb-true value SEQUENCE_HEADER sequence)
+    apart (low, high, other) (inr more) = elim (or_parts (value == GROUP) (value == PICTURE) more) [
+      | inl group ↦ omega (arith, high, eqb-true value GROUP group)
+      | inr picture ↦ omega (arith, low, eqb-true value PICTURE picture)
+    ]
+
+    by_kinds : (is_slice value ≡ true) ⊎ ((value == SEQUENCE_END) ≡ true) → (value == SEQUENCE_HEADER) ≡ true ⊎ ((value == GROUP) || (value == PICTURE)) ≡ true → ⊥
+    by_kinds (inl slice) starts = let bounds = code_bounds value slice in apart (bounds.0, omega (arith, bounds.1), λ e. omega (arith, e, bounds.1)) starts
+    by_kinds (inr end) starts = let e = eqb-true value SEQUENCE_END end in apart (omega (arith, e), omega (arith, e), λ e'. omega (arith, e, e')) starts
+
+own-code : (value : ℕ) (bits : List ℕ) → value < 2 ^ 8 → IsOwnCode (bits_of_byte value ++ bits) → is_slice_or_end value ≡ true
+own-code value bits fits own =
+    let (front, rest) = same_parts (bits_of_byte value) (bits_of 8 own.byte) bits own.rest (sym (length-bits_of 8 own.byte)) own.split in
+    let same : value ≡ own.byte = bits_of_byte-same value own.byte fits own.fits (front ∙ bits_of-byte own.byte) in
+    ap is_slice_or_end same ∙ own.is
+
+prefix-bits : bit_list (0 ∷ 0 ∷ 1 ∷ []) ≡ start_code_prefix
+unfolding bits_of
+prefix-bits = refl
+
+-- ---- a version
+
+module _ (picture made : Picture) (unit version : List ℕ) (source : IsSourceUnit unit) (u : HasParts picture unit) (v : HasParts made version) (are_unit : AreBytes unit) (are : AreBytes version)
+    (w : IsHeadWithoutDelay picture.head made.head) where
+  set : IsSetHead picture.head made.head
+  set = set-head picture.head made.head w
+
+  size : ℕ
+  size = length made.head
+
+  version-size : length version ≡ length made.head + length v.behind
+  version-size = ap length v.split ∙ length-append made.head v.behind
+
+  opens : OpensSlices v.behind
+  opens =
+      opens-slices v.behind (AreBytes-behind made.head v.behind (subst AreBytes v.split are))
+      (first_slice made.seq made.coding made.slices made.sequence_end (bit_list v.behind) [] v.spelled)
+
+  source-opens : OpensSlices u.behind
+  source-opens =
+      opens-slices u.behind (AreBytes-behind picture.head u.behind (subst AreBytes u.split are_unit))
+      (first_slice picture.seq picture.coding picture.slices picture.sequence_end (bit_list u.behind) [] u.spelled)
+
+  -- a code in the version's head is one of the source unit
+  code-in-head : (at value : ℕ) → at < length made.head → Code version at value → Code unit at value
+  code-in-head at value lt code =
+      let joined : Code (made.head ++ v.behind) at value = subst (λ (es : List ℕ). Code es at value) v.split code in
+      subst (λ (es : List ℕ). Code es at value) (sym u.split)
+      (kept-code picture.head made.head u.behind set at value (code-seam made.head v.behind u.behind at value opens.zeros source-opens.zeros lt joined))
+
+  -- a code behind the head is a slice's, or the sequence end code
+  code-behind-head : (at value : ℕ) → length made.head ≤ at → Code version at value → is_slice_or_end value ≡ true
+  code-behind-head at value le code =
+      let there = prefix-there version (length made.head) at value le code in
+      let rest : drop (length made.head) version ≡ v.behind = ap (drop (length made.head)) v.split ∙ drop_at made.head v.behind (length made.head) refl in
+      let sizes : length version ≡ length made.head + length v.behind = version-size in
+      let fits : value < 2 ^ 8 = subst (λ (n : ℕ). n < 2 ^ 8) code.last (byte-of version (at + 3) are) in
+      own-code value (bit_list (drop (at + 4) version)) fits
+      (list_codes made.seq made.coding v.coded [] made.slices made.sequence_end (bit_list v.behind) [] _ v.spelled (omega (arith, length-bit_list v.behind))
+      (subst (λ (es : List ℕ). PrefixStands (bit_list es) (bits_of_byte value ++ bit_list (drop (at + 4) version))) rest there))
+
+  slice_there : has_code is_slice version (length made.head + opens.place) ≡ true
+  slice_there =
+      let code : Code version (length made.head + opens.place) opens.value =
+      subst (λ (es : List ℕ). Code es (length made.head + opens.place) opens.value) (sym v.split) (code-later made.head v.behind opens.place opens.value opens.code) in
+      code-has is_slice version (length made.head + opens.place) opens.value code opens.is
+
+  -- the same code at the first byte
+  pub begins-alike : (test : ℕ → Bool) → (3 < length unit → CodeOf test unit 0) → has_code test version 0 ≡ true
+  begins-alike test begins =
+      let room = set.room in
+      let same_size = set.same_length in
+      let unit_size : length unit ≡ length picture.head + length u.behind = ap length u.split ∙ length-append picture.head u.behind in
+      let found : CodeOf test unit 0 = begins (omega (arith, unit_size, room)) in
+      let code = found.code in
+      let same : (i : ℕ) → i < 4 → get_or version i 0 ≡ get_or unit i 0 = λ i lt.
+      ap (λ (es : List ℕ). get_or es i 0) v.split ∙ get_or-append made.head v.behind 0 i (omega (arith, lt, room, same_size))
+      ∙ set.same i (λ e. omega (arith, lt, e)) (λ e. omega (arith, lt, e)) (λ e. omega (arith, lt, e))
+      ∙ sym (ap (λ (es : List ℕ). get_or es i 0) u.split ∙ get_or-append picture.head u.behind 0 i (omega (arith, lt, room))) in
+      code-has test version 0 found.value (record {
+        within = omega (arith, version-size, same_size, room);
+        first = same 0 (omega arith) ∙ code.first;
+        second = same 1 (omega arith) ∙ code.second;
+        third = same 2 (omega arith) ∙ code.third;
+        last = same 3 (omega arith) ∙ code.last;
+      }) found.passes
+
+  no-end : (front : List ℕ) → version ≢ front ++ 0x00 ∷ 0x00 ∷ 0x01 ∷ []
+  no-end front e =
+      let within = (let code = opens.code in code.within) in
+      let k : ℕ = length made.head in
+      let sizes : length version ≡ length front + 3 = ap length e ∙ length-append front (0x00 ∷ 0x00 ∷ 0x01 ∷ []) in
+      let cut : List ℕ = drop k front in
+      let parts : v.behind ≡ cut ++ 0x00 ∷ 0x00 ∷ 0x01 ∷ [] =
+      sym (drop_at made.head v.behind k refl) ∙ ap (drop k) (sym v.split ∙ e ∙ ap (λ (x : List ℕ). x ++ 0x00 ∷ 0x00 ∷ 0x01 ∷ []) (sym (take-append-drop k front)))
+      ∙ ap (drop k) (append_assoc (take k front) cut (0x00 ∷ 0x00 ∷ 0x01 ∷ []))
+      ∙ drop_at (take k front) (cut ++ 0x00 ∷ 0x00 ∷ 0x01 ∷ []) k (length-take k front ∙ omega (arith, within, version-size, sizes)) in
+      let own = list_codes made.seq made.coding v.coded [] made.slices made.sequence_end (bit_list v.behind) [] [] v.spelled (omega (arith, length-bit_list v.behind)) (record {
+        front = bit_list cut;
+        split = ap bit_list parts ∙ bit_list-append cut (0x00 ∷ 0x00 ∷ 0x01 ∷ []) ∙ ap (λ (x : List ℕ). bit_list cut ++ x) (prefix-bits ∙ sym (append-nil start_code_prefix));
+        whole = omega (arith, length-bit_list cut);
+      }) in
+      omega (arith, ap length own.split, length-append (bits_of 8 own.byte) own.rest, length-bits_of 8 own.byte)
+
+  pub whole-version : IsWholeUnit version
+  whole-version =
+      let (place, le, first) = first-place (has_code is_slice version) (length made.head + opens.place) slice_there in
+      record {
+        begins = begins-alike is_unit_start source.begins;
+        slice = place;
+        slice_is = first.is;
+        first_slice = first.none;
+        no_header = λ at lt. not-code is_unit_start version at (λ found. elim (cases_lt at (length made.head)) [
+          | inl inside ↦
+              let slice = has-code is_slice version place first.is in
+              source.apart place at lt (record { value = slice.value; code = code-in-head place slice.value (omega (arith, lt, inside)) slice.code; passes = slice.passes })
+              (record { value = found.value; code = code-in-head at found.value inside found.code; passes = found.passes })
+          | inr behind ↦ slice_no_start found.value (code-behind-head at found.value behind found.code) found.passes
+        ]);
+        no_prefix = no-end;
+      }
