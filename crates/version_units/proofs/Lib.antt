@@ -2,5 +2,6 @@ pub mod Codes
 pub mod HeadCodes
 pub mod SliceCodes
 pub mod SourceUnits
+pub mod SpelledVersions
 pub mod TempWhole
 pub mod WholeVersions
