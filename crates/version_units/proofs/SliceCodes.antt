@@ -47,7 +47,7 @@ use Rattle.bit_lists.proofs.JoinedLemmas.{bits_of-zero}
 use Rattle.syntax_types.specs.declared.picture.PicCoding.{PicCoding}
 use Rattle.syntax_types.specs.declared.picture.SeqState.{SeqState}
 use Rattle.syntax_types.specs.declared.slice.Slice.{Slice}
-use Rattle.stream_constants.specs.declared.start_codes.TheConstants.{SEQUENCE_END}
+use Rattle.stream_constants.specs.declared.start_codes.TheConstants.{FIRST_SLICE, SEQUENCE_END}
 use Rattle.picture_grammar.specs.Refusal.Refusal.{BadHeader}
 use Rattle.picture_grammar.specs.Grammar.{Grammar, done, ◌>>=◌, ◌>>◌, if_next, optional, SpellsList, Next}
 use Rattle.picture_grammar.specs.Grammar.Next.{more, last}
@@ -58,6 +58,7 @@ use Rattle.picture_grammar.proofs.MacroblockLaws.{exact-slice}
 use Rattle.picture_laws.proofs.StartCodes.{zeros_before, zeros_before-one, opened, opened-zeros, parted, end-zeros, code-taken}
 use Rattle.picture_laws.proofs.Tested.{prefix-zeros}
 use Rattle.picture_laws.proofs.WrittenPicture.{code_bounds, code_other}
+use Rattle.picture_laws.proofs.WrittenSlice.{macroblocks-of_slice}
 use Rattle.picture_laws.proofs.ShortSlices.{no-code-in-slice}
 
 -- the value of a slice's start code, or the sequence end code's
@@ -239,120 +240,154 @@ zero-bytes before (v ∷ vs) bits rest (middle, inr (some, inr (c, (byte, m, (co
     let zeros : code ≡ replicate 8 0 = is ∙ ap (bits_of 8) none ∙ bits_of-zero 8 in
     split ∙ ap₂ (λ (a b : List ℕ). a ++ b) zeros (f ∙ zero-bytes (before ++ v ∷ []) vs middle rest t) ∙ sym (more_zeros (length vs))
 
--- ---- slices
+-- ---- the parts behind a head
 
-module _ (seq : SeqState) (coding : PicCoding) (coded : IsCoding coding) where
-  -- in a slice and the zero bits that close it no prefix stands at a whole byte
-  behind_slice : (byte : ℕ) (s : Slice) (m rest after : List ℕ) → (whole_slice seq coding byte).Spells s m rest → length m % 8 ≡ 0 → PrefixStands m after → PrefixStands rest after
-  behind_slice byte s m rest after (s', m', t, (number, m'', u, (e, f))) whole there =
-      let (inner, parts) = (exact-slice seq coding (byte - 1)).spelled_front s' m m' t in
-      let spelled = subst (λ (b : List ℕ). (slice seq coding (byte - 1)).Spells s' b m') parts t in
-      let split : inner ++ m' ≡ there.front ++ start_code_prefix ++ after = sym parts ∙ there.split ∙ sym (append_assoc there.front start_code_prefix after) in
-      let most = no-code-in-slice seq coding (byte - 1) s' inner m' there.front after coded spelled split in
-      let (g, p, q) = behind_front inner m' there.front (start_code_prefix ++ after) (sym parts ∙ there.split) most in
-      let (pad, aligned) = padding number m' m'' u in
-      let zeros : List ℕ = replicate (length m' % 8) 0 in
-      let count : length zeros ≡ length m' % 8 = length-replicate {A = ℕ} (length m' % 8) 0 in
-      let sizes : length m ≡ length inner + length m' = ap length parts ∙ length-append inner m' in
-      let fronts : length there.front ≡ length inner + length g = ap length p ∙ length-append inner g in
-      let (h, p', q') = behind_front zeros m'' g (start_code_prefix ++ after) (sym pad ∙ q) (omega (arith, count, sizes, fronts, whole, there.whole)) in
-      record {
-        front = h;
-        split = sym f ∙ q';
-        whole = omega (arith, count, sizes, fronts, whole, there.whole, ap length p', length-append zeros h);
+-- one slice more: zero bytes, its start code, the slice and the zero bits that close it
+pub record OneSlice (seq : SeqState) (coding : PicCoding) (s : Slice) (bits rest : List ℕ) : Type 0 where
+  pub zeros : ℕ
+  pub byte : ℕ
+  pub behind : List ℕ
+  pub fits : byte < 2 ^ 8
+  pub is : is_slice byte ≡ true
+  pub row : byte ≡ s.row + FIRST_SLICE
+  pub split : bits ≡ replicate (8 * zeros) 0 ++ (start_code_bits byte ++ behind)
+  pub whole : (whole_slice seq coding byte).Spells s behind rest
+
+-- zero bytes, and the sequence end code among them where it stands
+pub data AtEnd (end : Bool) (bits : List ℕ) : Type 0 where
+  only_zeros : end ≡ false → bits ≡ replicate (length bits) 0 → AtEnd end bits
+  end_code : (zeros filling : ℕ) → end ≡ true → bits ≡ replicate (8 * zeros) 0 ++ (start_code_bits SEQUENCE_END ++ replicate (8 * filling) 0) → AtEnd end bits
+
+module _ (seq : SeqState) (coding : PicCoding) where
+  made_slice : (n byte : ℕ) (s : Slice) (bits m rest : List ℕ) → is_slice byte ≡ true → byte < 2 ^ 8 → bits ≡ replicate (8 * n) 0 ++ (start_code_bits byte ++ m) → (whole_slice seq coding byte).Spells s m rest
+      → OneSlice seq coding s bits rest
+  made_slice n byte s bits m rest is fits split (s', m', t, (number, m'', u, (e, f))) =
+      let (row, has) = macroblocks-of_slice seq coding (byte - 1) s' m m' t in
+      let bounds = code_bounds byte is in record {
+        zeros = n;
+        byte = byte;
+        behind = m;
+        fits = fits;
+        is = is;
+        row = (let same : s.row ≡ s'.row = ap (λ (x : Slice). x.row) e in omega (arith, same, row, bounds.0));
+        split = split;
+        whole = (s', m', t, (number, m'', u, (e, f)));
       }
 
-  -- zero bytes, the start code and the slice
-  behind_code : (n byte : ℕ) (s : Slice) (bits m rest after : List ℕ) → is_slice byte ≡ true → byte < 2 ^ 8 → length bits % 8 ≡ 0 → bits ≡ replicate (8 * n) 0 ++ (start_code_bits byte ++ m)
-      → (whole_slice seq coding byte).Spells s m rest → PrefixStands bits after → IsOwnCode after ⊎ PrefixStands rest after
-  behind_code n byte s bits m rest after is fits whole split spelled there = by_code (one_code n byte bits m after (code_bounds byte is).0 fits split there)
-    where
-      sizes : length bits ≡ 8 * n + (32 + length m)
-      sizes =
-          ap length split ∙ length-append (replicate (8 * n) 0) (start_code_bits byte ++ m)
-          ∙ ap₂ (λ (a b : ℕ). a + b) (length-replicate {A = ℕ} (8 * n) 0) (length-append (start_code_bits byte) m ∙ ap (λ (k : ℕ). k + length m) (length-code byte))
-
-      by_code : (after ≡ bits_of 8 byte ++ m) ⊎ PrefixStands m after → IsOwnCode after ⊎ PrefixStands rest after
-      by_code (inl own) = inl (record { byte = byte; rest = m; fits = fits; is = rw is refl; split = own })
-      by_code (inr later) = inr (behind_slice byte s m rest after spelled (omega (arith, whole, sizes)) later)
-
-  -- one slice more
-  one_more : (before : List Slice) (s : Slice) (bits rest after : List ℕ) → (next_slice seq coding before).Spells (more s) bits rest → length bits % 8 ≡ 0 → PrefixStands bits after
-      → IsOwnCode after ⊎ PrefixStands rest after
-  one_more [] s bits rest after (byte, m, code, (s', m', t, (e, f))) whole there =
+  pub one_slice : (before : List Slice) (s : Slice) (bits rest : List ℕ) → (next_slice seq coding before).Spells (more s) bits rest → OneSlice seq coding s bits rest
+  one_slice [] s bits rest (byte, m, code, (s', m', t, (e, f))) =
       let (n, split, fits, is) = code-taken BadHeader is_slice byte bits m code in
-      subst (λ (b : List ℕ). IsOwnCode after ⊎ PrefixStands b after) f (behind_code n byte s' bits m m' after is fits whole split t there)
-  one_more (b ∷ bs) s bits rest after (inl (c, (zeros, m, t, (e, f)))) whole there = absurd (let e' : more s ≡ last false = e in cc)
-  one_more (b ∷ bs) s bits rest after (inr (c, (byte, m, code, (item, m', t, (filling, m'', u, (e, f)))))) whole there =
+      let same : s ≡ s' = cc in
+      subst (λ (x : Slice). OneSlice seq coding x bits rest) (sym same) (subst (OneSlice seq coding s' bits) f (made_slice n byte s' bits m m' is fits split t))
+  one_slice (b ∷ bs) s bits rest (inl (c, (zeros, m, t, (e, f)))) = absurd (let e' : more s ≡ last false = e in cc)
+  one_slice (b ∷ bs) s bits rest (inr (c, (byte, m, code, (item, m', t, (filling, m'', u, (e, f)))))) =
       let (n, split, fits, may) = code-taken BadHeader is_slice_or_end byte bits m code in
       by_code (is_slice byte) refl n split fits item m' t filling u e where
         by_code : (is : Bool) → is_slice byte ≡ is → (n : ℕ) → bits ≡ replicate (8 * n) 0 ++ (start_code_bits byte ++ m) → byte < 2 ^ 8 → (item : Option Slice) (m' : List ℕ)
             → (optional is (whole_slice seq coding byte)).Spells item m m' → (filling : Option (List ℕ × Unit {0}))
-            → (optional (byte == SEQUENCE_END) only_zero_bytes).Spells filling m' m'' → more s ≡ slice_or_end item
-            → IsOwnCode after ⊎ PrefixStands rest after
+            → (optional (byte == SEQUENCE_END) only_zero_bytes).Spells filling m' m'' → more s ≡ slice_or_end item → OneSlice seq coding s bits rest
         by_code true is n split fits item m' (s', m2, t, (d, d')) filling u e =
+            let same : s ≡ s' = (let e' : more s ≡ more s' = e ∙ ap slice_or_end d in cc) in
             let none = subst (λ (c : Bool). (optional c only_zero_bytes).Spells filling m' m'') (code_other byte is) u in
             let reached : m2 ≡ rest = d' ∙ none.1 ∙ f in
-            subst (λ (b : List ℕ). IsOwnCode after ⊎ PrefixStands b after) reached (behind_code n byte s' bits m m2 after is fits whole split t there)
+            subst (λ (x : Slice). OneSlice seq coding x bits rest) (sym same) (subst (OneSlice seq coding s' bits) reached (made_slice n byte s' bits m m2 is fits split t))
         by_code false is n split fits item m' (d, d') filling u e = absurd (let e' : more s ≡ last true = e ∙ ap slice_or_end d in cc)
 
-  -- the sequence end code, or none
-  at_end : (before : List Slice) (end : Bool) (bits rest after : List ℕ) → (next_slice seq coding before).Spells (last end) bits rest → PrefixStands bits after → IsOwnCode after
-  at_end [] end bits rest after (byte, m, code, (s', m', t, (e, f))) there = absurd (let e' : last end ≡ more s' = e in cc)
-  at_end (b ∷ bs) end bits rest after (inl (zeros, found)) there = absurd (no_prefix (length bits) bits after zeros there)
-  at_end (b ∷ bs) end bits rest after (inr (c, (byte, m, code, (item, m', t, (filling, m'', u, (e, f)))))) there =
+  pub at_end : (before : List Slice) (end : Bool) (bits rest : List ℕ) → (next_slice seq coding before).Spells (last end) bits rest → AtEnd end bits
+  at_end [] end bits rest (byte, m, code, (s', m', t, (e, f))) = absurd (let e' : last end ≡ more s' = e in cc)
+  at_end (b ∷ bs) end bits rest (inl (zeros, (filling, m, t, (e, f)))) = only_zeros (let e' : last end ≡ last false = e in cc) zeros
+  at_end (b ∷ bs) end bits rest (inr (c, (byte, m, code, (item, m', t, (filling, m'', u, (e, f)))))) =
       let (n, split, fits, may) = code-taken BadHeader is_slice_or_end byte bits m code in
-      by_code (is_slice byte) (byte == SEQUENCE_END) refl refl n split fits may item m' t filling u e where
-        by_code : (is is_end : Bool) → is_slice byte ≡ is → (byte == SEQUENCE_END) ≡ is_end → (n : ℕ) → bits ≡ replicate (8 * n) 0 ++ (start_code_bits byte ++ m) → byte < 2 ^ 8
+      by_code (is_slice byte) (byte == SEQUENCE_END) refl refl n split may item m' t filling u e where
+        by_code : (is is_end : Bool) → is_slice byte ≡ is → (byte == SEQUENCE_END) ≡ is_end → (n : ℕ) → bits ≡ replicate (8 * n) 0 ++ (start_code_bits byte ++ m)
             → is_slice_or_end byte ≡ true → (item : Option Slice) (m' : List ℕ) → (optional is (whole_slice seq coding byte)).Spells item m m' → (filling : Option (List ℕ × Unit {0}))
-            → (optional is_end only_zero_bytes).Spells filling m' m'' → last end ≡ slice_or_end item → IsOwnCode after
-        by_code true is_end is ends n split fits may item m' (s', m2, t, (d, d')) filling u e = absurd (let e' : last end ≡ more s' = e ∙ ap slice_or_end d in cc)
-        by_code false false is ends n split fits may item m' t filling u e =
+            → (optional is_end only_zero_bytes).Spells filling m' m'' → last end ≡ slice_or_end item → AtEnd end bits
+        by_code true is_end is ends n split may item m' (s', m2, t, (d, d')) filling u e = absurd (let e' : last end ≡ more s' = e ∙ ap slice_or_end d in cc)
+        by_code false false is ends n split may item m' t filling u e =
             absurd (let none : is_slice_or_end byte ≡ false = rw (is, ends) refl in let both : true ≡ false = sym may ∙ none in cc)
-        by_code false true is ends n split fits may item m' (d, d') filling (zeros, m3, u, (g, h)) e =
-            let some : 1 ≤ byte = omega (arith, eqb-true byte SEQUENCE_END ends) in
+        by_code false true is ends n split may item m' (d, d') filling (zeros, m3, u, (g, h)) e =
             let all : m ≡ replicate (8 * length zeros.0) 0 = d' ∙ zero-bytes [] zeros.0 m' m3 u in
-            own (one_code n byte bits m after some fits split there) all
-          where
-            own : (after ≡ bits_of 8 byte ++ m) ⊎ PrefixStands m after → m ≡ replicate (8 * length zeros.0) 0 → IsOwnCode after
-            own (inl here) all = record { byte = byte; rest = m; fits = fits; is = may; split = here }
-            own (inr later) all = absurd (no_prefix (8 * length zeros.0) m after all later)
+            let there : bits ≡ replicate (8 * n) 0 ++ (start_code_bits SEQUENCE_END ++ replicate (8 * length zeros.0) 0) =
+            split ∙ ap₂ (λ (b : ℕ) (x : List ℕ). replicate (8 * n) 0 ++ (start_code_bits b ++ x)) (eqb-true byte SEQUENCE_END ends) all in
+            end_code n (length zeros.0) (let e' : last end ≡ last true = e ∙ ap slice_or_end d in cc) there
 
-  whole_ends : (byte : ℕ) (s : Slice) (m rest : List ℕ) → (whole_slice seq coding byte).Spells s m rest → length rest % 8 ≡ 0
-  whole_ends byte s m rest (s', m', t, (number, m'', u, (e, f))) = subst (λ (b : List ℕ). length b % 8 ≡ 0) f (padding number m' m'' u).1
+-- ---- prefixes behind a head
 
-  later_whole : (before : List Slice) (s : Slice) (bits rest : List ℕ) → (next_slice seq coding before).Spells (more s) bits rest → length rest % 8 ≡ 0
-  later_whole [] s bits rest (byte, m, code, (s', m', t, (e, f))) = subst (λ (b : List ℕ). length b % 8 ≡ 0) f (whole_ends byte s' m m' t)
-  later_whole (b ∷ bs) s bits rest (inl (c, (zeros, m, t, (e, f)))) = absurd (let e' : more s ≡ last false = e in cc)
-  later_whole (b ∷ bs) s bits rest (inr (c, (byte, m, code, (item, m', t, (filling, m'', u, (e, f)))))) = by_code (is_slice byte) refl item m' t filling u e
-    where
-      by_code : (is : Bool) → is_slice byte ≡ is → (item : Option Slice) (m' : List ℕ) → (optional is (whole_slice seq coding byte)).Spells item m m' → (filling : Option (List ℕ × Unit {0}))
-          → (optional (byte == SEQUENCE_END) only_zero_bytes).Spells filling m' m'' → more s ≡ slice_or_end item → length rest % 8 ≡ 0
-      by_code true is item m' (s', m2, t, (d, d')) filling u e =
-          let none = subst (λ (c : Bool). (optional c only_zero_bytes).Spells filling m' m'') (code_other byte is) u in
-          let reached : m2 ≡ rest = d' ∙ none.1 ∙ f in
-          subst (λ (b : List ℕ). length b % 8 ≡ 0) reached (whole_ends byte s' m m2 t)
-      by_code false is item m' (d, d') filling u e = absurd (let e' : more s ≡ last true = e ∙ ap slice_or_end d in cc)
+-- where a prefix stands at a whole byte of a slice with what stands before it: at its start code, or behind the slice and the zero bits that close it
+pub slice_prefix : (seq : SeqState) (coding : PicCoding) (s : Slice) (bits rest after : List ℕ) → IsCoding coding → (is : OneSlice seq coding s bits rest) → length bits % 8 ≡ 0 → PrefixStands bits after
+    → (after ≡ bits_of 8 is.byte ++ is.behind) ⊎ PrefixStands rest after
+slice_prefix seq coding s bits rest after coded is whole there = by_code (one_code is.zeros is.byte bits is.behind after (code_bounds is.byte is.is).0 is.fits is.split there)
+  where
+    sizes : length bits ≡ 8 * is.zeros + (32 + length is.behind)
+    sizes =
+        ap length is.split ∙ length-append (replicate (8 * is.zeros) 0) (start_code_bits is.byte ++ is.behind)
+        ∙ ap₂ (λ (a b : ℕ). a + b) (length-replicate {A = ℕ} (8 * is.zeros) 0)
+        (length-append (start_code_bits is.byte) is.behind ∙ ap (λ (k : ℕ). k + length is.behind) (length-code is.byte))
 
-  pub list_codes : (before values : List Slice) (end : Bool) (bits rest after : List ℕ) → SpellsList (next_slice seq coding) before values end bits rest → length bits % 8 ≡ 0 → PrefixStands bits after
-      → IsOwnCode after
-  list_codes before [] end bits rest after t whole there = at_end before end bits rest after t there
-  list_codes before (v ∷ vs) end bits rest after (mid, t, u) whole there = elim (one_more before v bits mid after t whole there) [
-    | inl own ↦ own
-    | inr later ↦ list_codes (before ++ v ∷ []) vs end mid rest after u (later_whole before v bits mid t) later
-  ]
+    -- in a slice and the zero bits that close it no prefix stands at a whole byte
+    behind_slice : (whole_slice seq coding is.byte).Spells s is.behind rest → PrefixStands is.behind after → PrefixStands rest after
+    behind_slice (s', m', t, (number, m'', u, (e, f))) there =
+        let m : List ℕ = is.behind in
+        let (inner, parts) = (exact-slice seq coding (is.byte - 1)).spelled_front s' m m' t in
+        let spelled = subst (λ (b : List ℕ). (slice seq coding (is.byte - 1)).Spells s' b m') parts t in
+        let split : inner ++ m' ≡ there.front ++ start_code_prefix ++ after = sym parts ∙ there.split ∙ sym (append_assoc there.front start_code_prefix after) in
+        let most = no-code-in-slice seq coding (is.byte - 1) s' inner m' there.front after coded spelled split in
+        let (g, p, q) = behind_front inner m' there.front (start_code_prefix ++ after) (sym parts ∙ there.split) most in
+        let (pad, aligned) = padding number m' m'' u in
+        let zeros : List ℕ = replicate (length m' % 8) 0 in
+        let count : length zeros ≡ length m' % 8 = length-replicate {A = ℕ} (length m' % 8) 0 in
+        let inside : length m ≡ length inner + length m' = ap length parts ∙ length-append inner m' in
+        let fronts : length there.front ≡ length inner + length g = ap length p ∙ length-append inner g in
+        let (h, p', q') = behind_front zeros m'' g (start_code_prefix ++ after) (sym pad ∙ q) (omega (arith, count, inside, fronts, whole, sizes, there.whole)) in
+        record {
+          front = h;
+          split = sym f ∙ q';
+          whole = omega (arith, count, inside, fronts, whole, sizes, there.whole, ap length p', length-append zeros h);
+        }
 
--- the first slice, behind zero bytes and its start code
-pub record HasFirstSlice (bits : List ℕ) : Type 0 where
-  pub zeros : ℕ
-  pub byte : ℕ
-  pub rest : List ℕ
-  pub fits : byte < 2 ^ 8
-  pub is : is_slice byte ≡ true
-  pub split : bits ≡ replicate (8 * zeros) 0 ++ (start_code_bits byte ++ rest)
+    by_code : (after ≡ bits_of 8 is.byte ++ is.behind) ⊎ PrefixStands is.behind after → (after ≡ bits_of 8 is.byte ++ is.behind) ⊎ PrefixStands rest after
+    by_code (inl own) = inl own
+    by_code (inr later) = inr (behind_slice is.whole later)
 
-pub first_slice : (seq : SeqState) (coding : PicCoding) (values : List Slice) (end : Bool) (bits rest : List ℕ) → SpellsList (next_slice seq coding) [] values end bits rest → HasFirstSlice bits
+-- behind the slice whole bytes follow, in its bits
+pub slice_ends : (seq : SeqState) (coding : PicCoding) (s : Slice) (bits rest : List ℕ) → (is : OneSlice seq coding s bits rest) → (length rest % 8 ≡ 0) × ((front : List ℕ) × (is.behind ≡ front ++ rest))
+slice_ends seq coding s bits rest is = ends is.whole
+  where
+    ends : (whole_slice seq coding is.byte).Spells s is.behind rest → (length rest % 8 ≡ 0) × ((front : List ℕ) × (is.behind ≡ front ++ rest))
+    ends (s', m', t, (number, m'', u, (e, f))) =
+        let (inner, parts) = (exact-slice seq coding (is.byte - 1)).spelled_front s' is.behind m' t in
+        let (pad, aligned) = padding number m' m'' u in
+        let zeros : List ℕ = replicate (length m' % 8) 0 in (
+          subst (λ (b : List ℕ). length b % 8 ≡ 0) f aligned,
+          (inner ++ zeros, parts ∙ ap (λ (x : List ℕ). inner ++ x) (pad ∙ ap (λ (x : List ℕ). zeros ++ x) f) ∙ sym (append_assoc inner zeros rest)),
+        )
+
+-- the prefix of a sequence end code is the only one at the end
+pub end_prefix : (end : Bool) (bits after : List ℕ) → AtEnd end bits → PrefixStands bits after
+    → (zeros : ℕ) × (filling : ℕ) × (end ≡ true) × (bits ≡ replicate (8 * zeros) 0 ++ (start_code_bits SEQUENCE_END ++ replicate (8 * filling) 0)) × (after ≡ bits_of 8 SEQUENCE_END ++ replicate (8 * filling) 0)
+end_prefix end bits after (only_zeros none zeros) there = absurd (no_prefix (length bits) bits after zeros there)
+end_prefix end bits after (end_code zeros filling is split) there = elim (one_code zeros SEQUENCE_END bits (replicate (8 * filling) 0) after (omega arith) (omega arith) split there) [
+  | inl own ↦ (zeros, filling, is, split, own)
+  | inr later ↦ absurd (no_prefix (8 * filling) (replicate (8 * filling) 0) after refl later)
+]
+
+slice_is_own : (byte : ℕ) → is_slice byte ≡ true → is_slice_or_end byte ≡ true
+slice_is_own byte is = rw is refl
+
+-- each prefix at a whole byte is a slice's, or the sequence end code's
+pub list_codes : (seq : SeqState) (coding : PicCoding) → IsCoding coding → (before values : List Slice) (end : Bool) (bits rest after : List ℕ)
+    → SpellsList (next_slice seq coding) before values end bits rest → length bits % 8 ≡ 0 → PrefixStands bits after → IsOwnCode after
+list_codes seq coding coded before [] end bits rest after t whole there =
+    let (zeros, filling, is, split, own) = end_prefix end bits after (at_end seq coding before end bits rest t) there in
+    record { byte = SEQUENCE_END; rest = replicate (8 * filling) 0; fits = omega arith; is = refl; split = own }
+list_codes seq coding coded before (v ∷ vs) end bits rest after (mid, t, u) whole there =
+    let is = one_slice seq coding before v bits mid t in elim (slice_prefix seq coding v bits mid after coded is whole there) [
+      | inl own ↦ record { byte = is.byte; rest = is.behind; fits = is.fits; is = slice_is_own is.byte is.is; split = own }
+      | inr later ↦ list_codes seq coding coded (before ++ v ∷ []) vs end mid rest after u (slice_ends seq coding v bits mid is).0 later
+    ]
+
+-- there is a first slice
+pub first_slice : (seq : SeqState) (coding : PicCoding) (values : List Slice) (end : Bool) (bits rest : List ℕ) → SpellsList (next_slice seq coding) [] values end bits rest
+    → (s : Slice) × (mid : List ℕ) × OneSlice seq coding s bits mid
 first_slice seq coding [] end bits rest (byte, m, code, (s', m', t, (e, f))) = absurd (let e' : last end ≡ more s' = e in cc)
-first_slice seq coding (v ∷ vs) end bits rest (mid, (byte, m, code, (s', m', t, (e, f))), u) =
-    let (n, split, fits, is) = code-taken BadHeader is_slice byte bits m code in
-    record { zeros = n; byte = byte; rest = m; fits = fits; is = is; split = split }
+first_slice seq coding (v ∷ vs) end bits rest (mid, t, u) = (v, mid, one_slice seq coding [] v bits mid t)

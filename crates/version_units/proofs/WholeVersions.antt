@@ -77,7 +77,7 @@ use Rattle.picture_heads.proofs.Bytes.{bits-code, same_parts}
 use Rattle.version_units.proofs.TempWhole.{IsWholeUnit}
 use Rattle.version_units.proofs.Codes.{Code, CodeOf, code-has, has-code, is-code, not-code, prefix-there}
 use Rattle.version_units.proofs.HeadCodes.{IsSetHead, kept-code, set-head}
-use Rattle.version_units.proofs.SliceCodes.{HasFirstSlice, IsOwnCode, PrefixStands, first_slice, is_slice_or_end, list_codes}
+use Rattle.version_units.proofs.SliceCodes.{IsOwnCode, OneSlice, PrefixStands, first_slice, is_slice_or_end, list_codes}
 use Rattle.version_units.proofs.SourceUnits.{IsSourceUnit}
 
 -- ---- a spelled picture's bytes
@@ -142,25 +142,25 @@ byte-of (x ∷ xs) (suc i) are = byte-of xs i are.1
 two-zeros : bit_list (0 ∷ 0 ∷ []) ≡ replicate 16 0
 two-zeros = refl
 
-opens-slices : (behind : List ℕ) → AreBytes behind → HasFirstSlice (bit_list behind) → OpensSlices behind
-opens-slices behind are found =
+opens-slices : (seq : SeqState) (coding : PicCoding) (s : Slice) (behind rest : List ℕ) → AreBytes behind → OneSlice seq coding s (bit_list behind) rest → OpensSlices behind
+opens-slices seq coding s behind rest_bits are found =
     let n : ℕ = found.zeros in
     let code : List ℕ = start_code_bits found.byte in
     let code_size : length code ≡ 32 = length-append start_code_prefix (bits_of 8 found.byte) ∙ omega (arith, length-bits_of 24 1, length-bits_of 8 found.byte) in
     let zeros_size : length (replicate {A = ℕ} (8 * n) 0) ≡ 8 * n = length-replicate {A = ℕ} (8 * n) 0 in
-    let sizes : 8 * length behind ≡ 8 * n + (32 + length found.rest) =
-    sym (length-bit_list behind) ∙ ap length found.split ∙ length-append (replicate (8 * n) 0) (code ++ found.rest) ∙ omega (arith, zeros_size, length-append code found.rest, code_size) in
-    let parts : bit_list (take n behind) ++ bit_list (drop n behind) ≡ replicate (8 * n) 0 ++ (code ++ found.rest) = sym (bit_list-take n behind) ∙ found.split in
+    let sizes : 8 * length behind ≡ 8 * n + (32 + length found.behind) =
+    sym (length-bit_list behind) ∙ ap length found.split ∙ length-append (replicate (8 * n) 0) (code ++ found.behind) ∙ omega (arith, zeros_size, length-append code found.behind, code_size) in
+    let parts : bit_list (take n behind) ++ bit_list (drop n behind) ≡ replicate (8 * n) 0 ++ (code ++ found.behind) = sym (bit_list-take n behind) ∙ found.split in
     let size : length (bit_list (take n behind)) ≡ length (replicate {A = ℕ} (8 * n) 0) = length-bit_list (take n behind) ∙ omega (arith, length-take n behind, sizes, zeros_size) in
-    let (front, rest) = same_parts (bit_list (take n behind)) (replicate (8 * n) 0) (bit_list (drop n behind)) (code ++ found.rest) size parts in
-    let (is, value, lt, left) = bits-code behind [] n found.byte found.rest are found.fits (omega (arith, sizes)) (omega arith) (append-nil (bit_list (drop n behind)) ∙ rest) in
+    let (front, rest) = same_parts (bit_list (take n behind)) (replicate (8 * n) 0) (bit_list (drop n behind)) (code ++ found.behind) size parts in
+    let (is, value, lt, left) = bits-code behind [] n found.byte found.behind are found.fits (omega (arith, sizes)) (omega arith) (append-nil (bit_list (drop n behind)) ∙ rest) in
     let stands = is-code behind n is in
-    let run : replicate (8 * n) 0 ++ (code ++ found.rest) ≡ replicate 16 0 ++ (replicate (8 * n + 7) 0 ++ 1 ∷ (bits_of 8 found.byte ++ found.rest)) =
-    opened (8 * n) found.byte found.rest
-    ∙ ap (λ (k : ℕ). replicate k 0 ++ 1 ∷ (bits_of 8 found.byte ++ found.rest)) (let e : 8 * n + 23 ≡ 16 + (8 * n + 7) = omega arith in e)
-    ∙ ap (λ (x : List ℕ). x ++ 1 ∷ (bits_of 8 found.byte ++ found.rest)) (sym (replicate-append-replicate 16 (8 * n + 7) 0))
-    ∙ append_assoc (replicate 16 0) (replicate (8 * n + 7) 0) (1 ∷ (bits_of 8 found.byte ++ found.rest)) in
-    let two : bit_list (take 2 behind) ++ bit_list (drop 2 behind) ≡ replicate 16 0 ++ (replicate (8 * n + 7) 0 ++ 1 ∷ (bits_of 8 found.byte ++ found.rest)) =
+    let run : replicate (8 * n) 0 ++ (code ++ found.behind) ≡ replicate 16 0 ++ (replicate (8 * n + 7) 0 ++ 1 ∷ (bits_of 8 found.byte ++ found.behind)) =
+    opened (8 * n) found.byte found.behind
+    ∙ ap (λ (k : ℕ). replicate k 0 ++ 1 ∷ (bits_of 8 found.byte ++ found.behind)) (let e : 8 * n + 23 ≡ 16 + (8 * n + 7) = omega arith in e)
+    ∙ ap (λ (x : List ℕ). x ++ 1 ∷ (bits_of 8 found.byte ++ found.behind)) (sym (replicate-append-replicate 16 (8 * n + 7) 0))
+    ∙ append_assoc (replicate 16 0) (replicate (8 * n + 7) 0) (1 ∷ (bits_of 8 found.byte ++ found.behind)) in
+    let two : bit_list (take 2 behind) ++ bit_list (drop 2 behind) ≡ replicate 16 0 ++ (replicate (8 * n + 7) 0 ++ 1 ∷ (bits_of 8 found.byte ++ found.behind)) =
     sym (bit_list-take 2 behind) ∙ found.split ∙ run in
     let two_size : length (bit_list (take 2 behind)) ≡ length (replicate {A = ℕ} 16 0) =
     length-bit_list (take 2 behind) ∙ omega (arith, length-take 2 behind, sizes, length-replicate {A = ℕ} 16 0) in
@@ -300,13 +300,13 @@ module _ (picture made : Picture) (unit version : List ℕ) (source : IsSourceUn
 
   opens : OpensSlices v.behind
   opens =
-      opens-slices v.behind (AreBytes-behind made.head v.behind (subst AreBytes v.split are))
-      (first_slice made.seq made.coding made.slices made.sequence_end (bit_list v.behind) [] v.spelled)
+      let (s, mid, first) = first_slice made.seq made.coding made.slices made.sequence_end (bit_list v.behind) [] v.spelled in
+      opens-slices made.seq made.coding s v.behind mid (AreBytes-behind made.head v.behind (subst AreBytes v.split are)) first
 
   source-opens : OpensSlices u.behind
   source-opens =
-      opens-slices u.behind (AreBytes-behind picture.head u.behind (subst AreBytes u.split are_unit))
-      (first_slice picture.seq picture.coding picture.slices picture.sequence_end (bit_list u.behind) [] u.spelled)
+      let (s, mid, first) = first_slice picture.seq picture.coding picture.slices picture.sequence_end (bit_list u.behind) [] u.spelled in
+      opens-slices picture.seq picture.coding s u.behind mid (AreBytes-behind picture.head u.behind (subst AreBytes u.split are_unit)) first
 
   -- a code in the version's head is one of the source unit
   code-in-head : (at value : ℕ) → at < length made.head → Code version at value → Code unit at value
