@@ -1,4 +1,5 @@
 pub mod Codes
+pub mod CodesInOrder
 pub mod HeadCodes
 pub mod SliceCodes
 pub mod SourceUnits

@@ -154,7 +154,7 @@ not_inside byte m after k j some fits low whole split e there = by_place (cases_
         not_last byte m after some fits (e ∙ ap (λ (x : List ℕ). x ++ m) (q ∙ ap (λ (x : List ℕ). x ++ bits_of 8 byte) none))
 
 -- A prefix at a whole byte of bits that begin with zero bytes and a start code is that code's, or stands behind it.
-one_code : (n byte : ℕ) (bits m after : List ℕ) → 1 ≤ byte → byte < 2 ^ 8 → bits ≡ replicate (8 * n) 0 ++ (start_code_bits byte ++ m) → PrefixStands bits after
+pub one_code : (n byte : ℕ) (bits m after : List ℕ) → 1 ≤ byte → byte < 2 ^ 8 → bits ≡ replicate (8 * n) 0 ++ (start_code_bits byte ++ m) → PrefixStands bits after
     → (after ≡ bits_of 8 byte ++ m) ⊎ PrefixStands m after
 one_code n byte bits m after some fits split there = by_parts (parted (replicate (8 * n) 0) (start_code_bits byte ++ m) there.front (start_code_prefix ++ after) (sym split ∙ there.split))
   where
@@ -195,7 +195,7 @@ one_code n byte bits m after some fits split there = by_parts (parted (replicate
         inl (here (sym (q ∙ ap (λ (x : List ℕ). x ++ (start_code_bits byte ++ m)) none)))
 
 -- in zeros no prefix stands
-no_prefix : (n : ℕ) (bits after : List ℕ) → bits ≡ replicate n 0 → PrefixStands bits after → ⊥
+pub no_prefix : (n : ℕ) (bits after : List ℕ) → bits ≡ replicate n 0 → PrefixStands bits after → ⊥
 no_prefix n bits after zeros there =
     let end : start_code_prefix ++ after ≡ replicate (length (start_code_prefix ++ after)) 0 = end-zeros n there.front (start_code_prefix ++ after) (sym zeros ∙ there.split) in
     let run = zeros-all (length (start_code_prefix ++ after)) in
@@ -362,12 +362,11 @@ slice_ends seq coding s bits rest is = ends is.whole
           (inner ++ zeros, parts ∙ ap (λ (x : List ℕ). inner ++ x) (pad ∙ ap (λ (x : List ℕ). zeros ++ x) f) ∙ sym (append_assoc inner zeros rest)),
         )
 
--- the prefix of a sequence end code is the only one at the end
-pub end_prefix : (end : Bool) (bits after : List ℕ) → AtEnd end bits → PrefixStands bits after
-    → (zeros : ℕ) × (filling : ℕ) × (end ≡ true) × (bits ≡ replicate (8 * zeros) 0 ++ (start_code_bits SEQUENCE_END ++ replicate (8 * filling) 0)) × (after ≡ bits_of 8 SEQUENCE_END ++ replicate (8 * filling) 0)
+-- at the end only the sequence end code has a prefix
+end_prefix : (end : Bool) (bits after : List ℕ) → AtEnd end bits → PrefixStands bits after → IsOwnCode after
 end_prefix end bits after (only_zeros none zeros) there = absurd (no_prefix (length bits) bits after zeros there)
 end_prefix end bits after (end_code zeros filling is split) there = elim (one_code zeros SEQUENCE_END bits (replicate (8 * filling) 0) after (omega arith) (omega arith) split there) [
-  | inl own ↦ (zeros, filling, is, split, own)
+  | inl own ↦ record { byte = SEQUENCE_END; rest = replicate (8 * filling) 0; fits = omega arith; is = refl; split = own }
   | inr later ↦ absurd (no_prefix (8 * filling) (replicate (8 * filling) 0) after refl later)
 ]
 
@@ -378,8 +377,7 @@ slice_is_own byte is = rw is refl
 pub list_codes : (seq : SeqState) (coding : PicCoding) → IsCoding coding → (before values : List Slice) (end : Bool) (bits rest after : List ℕ)
     → SpellsList (next_slice seq coding) before values end bits rest → length bits % 8 ≡ 0 → PrefixStands bits after → IsOwnCode after
 list_codes seq coding coded before [] end bits rest after t whole there =
-    let (zeros, filling, is, split, own) = end_prefix end bits after (at_end seq coding before end bits rest t) there in
-    record { byte = SEQUENCE_END; rest = replicate (8 * filling) 0; fits = omega arith; is = refl; split = own }
+    end_prefix end bits after (at_end seq coding before end bits rest t) there
 list_codes seq coding coded before (v ∷ vs) end bits rest after (mid, t, u) whole there =
     let is = one_slice seq coding before v bits mid t in elim (slice_prefix seq coding v bits mid after coded is whole there) [
       | inl own ↦ record { byte = is.byte; rest = is.behind; fits = is.fits; is = slice_is_own is.byte is.is; split = own }
