@@ -1,3 +1,4 @@
+pub mod ByteVideo
 pub mod Codes
 pub mod CodesInOrder
 pub mod HeadCodes
