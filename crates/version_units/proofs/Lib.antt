@@ -2,8 +2,8 @@ pub mod ByteVideo
 pub mod Codes
 pub mod CodesInOrder
 pub mod HeadCodes
+pub mod ProgramVersions
 pub mod SliceCodes
 pub mod SourceUnits
 pub mod SpelledVersions
-pub mod TempWhole
 pub mod WholeVersions

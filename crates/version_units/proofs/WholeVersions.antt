@@ -66,6 +66,7 @@ use Rattle.syntax_types.specs.declared.picture.SeqState.{SeqState}
 use Rattle.syntax_types.specs.declared.slice.Slice.{Slice}
 use Rattle.stream_constants.specs.declared.start_codes.TheConstants.{GROUP, PICTURE, SEQUENCE_END, SEQUENCE_HEADER}
 use Rattle.start_codes.specs.StartCodes.{is_slice, is_sequence_header, is_unit_start, has_code}
+use Rattle.layer_laws.specs.WholeUnits.{IsWholeUnit}
 use Rattle.picture_grammar.specs.Grammar.{SpellsList}
 use Rattle.picture_grammar.specs.StartCode.{start_code_prefix, start_code_bits}
 use Rattle.picture_grammar.specs.Picture.{next_slice, picture_unit, IsCoding, SpellsPicture}
@@ -74,7 +75,6 @@ use Rattle.picture_laws.proofs.StartCodes.{opened}
 use Rattle.picture_laws.proofs.WrittenPicture.{code_bounds}
 use Rattle.picture_heads.specs.Heads.{IsHeadWithoutDelay}
 use Rattle.picture_heads.proofs.Bytes.{bits-code, same_parts}
-use Rattle.version_units.proofs.TempWhole.{IsWholeUnit}
 use Rattle.version_units.proofs.Codes.{Code, CodeOf, code-has, has-code, is-code, not-code, prefix-there}
 use Rattle.version_units.proofs.HeadCodes.{IsSetHead, kept-code, set-head}
 use Rattle.version_units.proofs.SliceCodes.{IsOwnCode, OneSlice, PrefixStands, first_slice, is_slice_or_end, list_codes}

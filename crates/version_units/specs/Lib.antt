@@ -1,1 +1,2 @@
 pub mod OwnCodes
+pub mod WholeVersions
