@@ -1,6 +1,7 @@
 pub mod ByteVideo
 pub mod Codes
 pub mod CodesInOrder
+mod Examples
 pub mod HeadCodes
 pub mod ProgramVersions
 pub mod SliceCodes
