@@ -1,5 +1,5 @@
 -- The programs of a job are read back from its stream, one behind the other.
-use Rattle.std.proofs.Common.{◌≡◌, ◌≢◌, ℕ, zero, suc, ◌+◌, ◌<◌, ◌≤◌, List, [], ◌∷◌, ◌++◌, All, length, get_or, map, drop, Option, None, Some, refl, sym, ap, ap₂, ◌∙◌, subst, arith, append_assoc, length-append}
+use Rattle.std.proofs.Common.{◌≡◌, ◌≢◌, ℕ, zero, suc, ◌+◌, ◌<◌, ◌≤◌, List, [], ◌∷◌, ◌++◌, All, length, map, drop, None, Some, refl, sym, ap, ◌∙◌, subst, arith, append_assoc, length-append}
 use Rattle.std.specs.Prelude.{slice_get}
 use Rattle.std.specs.List.{AllZip, flat_map}
 use Rattle.std.proofs.lemmas.List.{length-map}
@@ -7,7 +7,6 @@ use Rattle.std.proofs.lemmas.List.Elements.{All-append, All-cons, All-from_get_o
 use Rattle.payload_lists.specs.Payload.{CarriedPayload}
 use Rattle.ts_packets.specs.TransportStream.{piece_count, pieces_of as packets_on}
 use Rattle.ts_packets.specs.Carried.{carried}
-use Rattle.syntax_types.specs.declared.picture.SeqState.{SeqState}
 use Rattle.psi_tables.specs.declared.program_map.ProgramMap.{ProgramMap}
 use Rattle.psi_tables.specs.declared.stream.Stream.{Stream}
 use Rattle.version_table.specs.declared.table.ProgramRow.{ProgramRow}
@@ -39,7 +38,7 @@ use Rattle.stream_parsing.proofs.ProgramParts.{GatheredAgain, VideoAsWritten, au
 use Rattle.job_reading.specs.ParsesTo.{ParsesTo, ParsesToProgram, sent_units}
 use Rattle.job_reading.proofs.CarriedShape.{GoesOutAs, output-kinds}
 use Rattle.job_reading.proofs.SentStreams.{fits-behind, rows-length}
-use Rattle.job_reading.proofs.SentVideos.{AllCarry, PiecesCarry, all-carry, carry-parts, items-carry, units-said}
+use Rattle.job_reading.proofs.SentVideos.{AllCarry, PiecesCarry, carry-parts, items-carry, units-said}
 use Rattle.job_reading.proofs.SentUnits.{UnitsCutAgain, VersionsAreLed, VersionsAreWhole, sent-led, sent-slices, sent-whole}
 use Rattle.job_reading.proofs.AudioStreams.{audios-carry}
 use Rattle.job_reading.proofs.ReadyPrograms.{IsReady, ready-one}

@@ -1,13 +1,12 @@
 -- The video of a file of bytes is bytes.
-use Rattle.std.proofs.Common.{◌≡◌, ℕ, zero, suc, ◌+◌, ◌*◌, ◌<◌, ◌^◌, ◌&&◌, Bool, true, false, cond, List, [], ◌∷◌, ◌++◌, filter, length, map, take, drop, Option, Some, None, refl, sym, subst, if◌then◌else◌, is_none}
-use Rattle.std.specs.List.{filter_map, cons_option, flat_map}
+use Rattle.std.proofs.Common.{◌≡◌, ℕ, zero, suc, ◌+◌, ◌*◌, Bool, true, false, cond, List, [], ◌∷◌, ◌++◌, filter, map, drop, Some, None, refl, sym, subst, if◌then◌else◌, is_none}
+use Rattle.std.specs.List.{filter_map, cons_option}
 use Rattle.std.specs.Option.{option_map}
-use Rattle.std.specs.Fork.{slice_chunk}
 use Rattle.bit_lists.specs.Fields.{AreBytes}
 use Rattle.bit_lists.proofs.ByteLemmas.{AreBytes-append, AreBytes-take}
 use Rattle.payload_lists.specs.Payload.{CarriedPayload, is_start}
-use Rattle.ts_packets.specs.Packet.{adaptation_field_length, fields_of, has_field, packet_of, refusal}
-use Rattle.ts_packets.specs.TransportStream.{Piece, is_of_pid, piece_at, piece_count, pieces_of}
+use Rattle.ts_packets.specs.Packet.{adaptation_field_length, fields_of, has_field, refusal}
+use Rattle.ts_packets.specs.TransportStream.{Piece, piece_at, piece_count, pieces_of}
 use Rattle.ts_packets.specs.Carried.{PlacedPacket, carried, carried_by, has_payload, is_repeat, not_repeated, payload_packets, placed, without_repeats}
 use Rattle.pes_units.specs.PesHeader.{header_length}
 use Rattle.pes_units.specs.PesPackets.{Gathered, gathered, is_dropped, up_to_start}

@@ -1,7 +1,7 @@
 -- Start codes by their four bytes.
-use Rattle.std.proofs.Common.{◌≡◌, ℕ, ◌+◌, ◌-◌, ◌*◌, ◌<◌, ◌≤◌, nat_lt, nat_eq, Bool, true, false, List, ◌++◌, get_or, length, take, drop, Some, refl, sym, ap, ◌∙◌, arith, eq-eqb, append_assoc}
+use Rattle.std.proofs.Common.{◌≡◌, ℕ, ◌+◌, ◌-◌, ◌*◌, ◌<◌, ◌≤◌, nat_lt, nat_eq, Bool, true, false, List, ◌++◌, get_or, length, take, drop, Some, refl, sym, ap, ◌∙◌, arith, eq-eqb}
 use Rattle.std.proofs.lemmas.Bool.{and_parts, and_from, eqb-true, lt-ltb, ltb-true}
-use Rattle.std.proofs.lemmas.List.{drop-drop, length-take, length-drop}
+use Rattle.std.proofs.lemmas.List.{drop-drop, length-take}
 use Rattle.bit_lists.specs.Fields.{bit_list, bits_of_byte}
 use Rattle.bit_lists.proofs.ByteLemmas.{bit_list-take, length-bit_list}
 use Rattle.start_codes.specs.StartCodes.{is_start_code_at, start_code_at, has_code}

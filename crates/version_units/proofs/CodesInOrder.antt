@@ -1,48 +1,6 @@
 -- Behind the head of a spelled unit the start codes are those of its slices in order, and the sequence end code.
-use Rattle.std.proofs.Common.{
-  ◌≡◌,
-  ◌≢◌,
-  ◌⊎◌,
-  ◌==◌,
-  ◌+◌,
-  ◌-◌,
-  ◌*◌,
-  ◌/◌,
-  ◌%◌,
-  ◌^◌,
-  ◌<◌,
-  ◌≤◌,
-  ◌&&◌,
-  ℕ,
-  nat_eq,
-  Bool,
-  true,
-  false,
-  List,
-  [],
-  ◌∷◌,
-  ◌++◌,
-  filter,
-  get_or,
-  length,
-  map,
-  replicate,
-  take,
-  drop,
-  if◌then◌else◌,
-  refl,
-  sym,
-  ap,
-  ap₂,
-  subst,
-  ◌∙◌,
-  inl,
-  inr,
-  arith,
-  append_assoc,
-  append-nil,
-}
-use Rattle.std.proofs.lemmas.Bool.{and_parts, and_from, cases_lt, eqb-true}
+use Rattle.std.proofs.Common.{◌≡◌, ◌+◌, ◌-◌, ◌*◌, ◌/◌, ◌%◌, ◌^◌, ◌<◌, ◌≤◌, ℕ, nat_eq, Bool, true, false, List, [], ◌∷◌, ◌++◌, filter, get_or, length, map, replicate, take, drop, if◌then◌else◌, refl, sym, ap, ap₂, subst, ◌∙◌, inl, inr, arith, append_assoc, append-nil}
+use Rattle.std.proofs.lemmas.Bool.{and_parts, cases_lt, eqb-true}
 use Rattle.std.proofs.lemmas.List.{drop_at, drop-drop, drop_more, get_or_past, length-append, length-drop, length-replicate, length-take}
 use Rattle.bit_lists.specs.Bits.{bits_of}
 use Rattle.bit_lists.specs.Fields.{AreBytes, bit_list}
@@ -61,7 +19,7 @@ use Rattle.picture_grammar.specs.Picture.{next_slice, IsCoding}
 use Rattle.picture_heads.proofs.Bytes.{bits-code, same_parts}
 use Rattle.version_units.specs.OwnCodes.{begins_code, codes_from, own_codes}
 use Rattle.version_units.proofs.Codes.{is-code}
-use Rattle.version_units.proofs.SliceCodes.{AtEnd, OneSlice, PrefixStands, at_end, no_prefix, one_code, one_slice, slice_ends, slice_prefix, only_zeros, end_code}
+use Rattle.version_units.proofs.SliceCodes.{AtEnd, PrefixStands, at_end, no_prefix, one_code, one_slice, slice_ends, slice_prefix, only_zeros, end_code}
 use Rattle.version_units.proofs.WholeVersions.{HasParts}
 
 -- ---- three bytes
@@ -190,15 +148,15 @@ module _ (seq : SeqState) (coding : PicCoding) (coded : IsCoding coding) (es : L
       let after : List ℕ = bit_list (drop (at + 3) es) in
       elim (one_code n SEQUENCE_END (bit_list (drop from es)) (replicate (8 * filling) 0) after (omega arith) (omega arith) split stands) [
         | inl own ↦ omega (
-            arith,
-            within,
-            sizes,
-            ap length own,
-            length-append (bits_of 8 SEQUENCE_END) (replicate (8 * filling) 0),
-            length-bits_of 8 SEQUENCE_END,
-            length-bit_list (drop (at + 3) es),
-            length-drop (at + 3) es,
-          )
+          arith,
+          within,
+          sizes,
+          ap length own,
+          length-append (bits_of 8 SEQUENCE_END) (replicate (8 * filling) 0),
+          length-bits_of 8 SEQUENCE_END,
+          length-bit_list (drop (at + 3) es),
+          length-drop (at + 3) es,
+        )
         | inr later ↦ absurd (no_prefix (8 * filling) (replicate (8 * filling) 0) after refl later)
       ]) in
       let none : codes_from es (length es) ≡ [] =

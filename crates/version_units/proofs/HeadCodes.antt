@@ -1,47 +1,10 @@
 -- A head without its vbv_delay has no start code that the head itself hasn't.
-use Rattle.std.proofs.Common.{
-  ◌≡◌,
-  ◌≢◌,
-  ◌⊎◌,
-  ◌==◌,
-  ◌+◌,
-  ◌-◌,
-  ◌*◌,
-  ◌/◌,
-  ◌%◌,
-  ◌<◌,
-  ◌≤◌,
-  ℕ,
-  zero,
-  suc,
-  List,
-  [],
-  ◌∷◌,
-  ◌++◌,
-  get_or,
-  set,
-  length,
-  replicate,
-  take,
-  drop,
-  refl,
-  sym,
-  ap,
-  ap₂,
-  subst,
-  ◌∙◌,
-  inl,
-  inr,
-  arith,
-  append_assoc,
-  append-nil,
-}
-use Rattle.std.specs.Prelude.{bit_or}
+use Rattle.std.proofs.Common.{◌≡◌, ◌≢◌, ◌⊎◌, ◌==◌, ◌+◌, ◌-◌, ◌*◌, ◌/◌, ◌%◌, ◌<◌, ◌≤◌, ℕ, zero, suc, List, [], ◌∷◌, ◌++◌, get_or, set, length, replicate, take, drop, refl, sym, ap, ap₂, ◌∙◌, inl, inr, arith, append_assoc, append-nil}
 use Rattle.std.proofs.Math.ListN.{get_or-append}
 use Rattle.std.proofs.lemmas.Bool.{cases_lt, eqb-true}
-use Rattle.std.proofs.lemmas.List.{append_cancel_right, get_or-append-add, get_or-replicate, get_or-set_other, length-append, length-replicate, length-set, length-take, length-drop}
+use Rattle.std.proofs.lemmas.List.{append_cancel_right, get_or-append-add, get_or-replicate, get_or-set_other, length-append, length-replicate, length-set, length-take}
 use Rattle.bit_lists.specs.Bits.{bits_of}
-use Rattle.bit_lists.specs.Fields.{AreBytes, bit_list}
+use Rattle.bit_lists.specs.Fields.{bit_list}
 use Rattle.bit_lists.proofs.BitLemmas.{length-bits_of}
 use Rattle.bit_lists.proofs.ByteLemmas.{bit_list-append, bit_list-take, length-bit_list}
 use Rattle.stream_constants.specs.declared.start_codes.TheConstants.{PICTURE}

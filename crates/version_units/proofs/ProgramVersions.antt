@@ -1,5 +1,5 @@
 -- All versions of all units of a program.
-use Rattle.std.proofs.Common.{◌≡◌, ℕ, ◌+◌, ◌-◌, ◌<◌, ◌≤◌, true, List, [], ◌∷◌, ◌++◌, All, length, take, drop, map, Option, Some, None, ℤ, refl, sym, ap, ap₂, subst, ◌∙◌, arith}
+use Rattle.std.proofs.Common.{◌≡◌, ℕ, ◌-◌, ◌<◌, true, List, [], ◌∷◌, ◌++◌, All, length, drop, Option, Some, None, ℤ, refl, sym, ap, ap₂, subst, ◌∙◌}
 use Rattle.std.specs.Prelude.{slice_range}
 use Rattle.std.specs.List.{AllZip}
 use Rattle.std.proofs.lemmas.List.Elements.{All-cons, All-head, All-nil, All-tail}
@@ -8,23 +8,21 @@ use Rattle.bit_lists.proofs.ByteLemmas.{AreBytes-append, AreBytes-take}
 use Rattle.syntax_types.specs.declared.picture.Picture.{Picture}
 use Rattle.syntax_types.specs.declared.picture.SeqState.{SeqState}
 use Rattle.start_codes.specs.StartCodes.{has_code, is_sequence_header}
-use Rattle.picture_grammar.specs.Picture.{IsCovered, MayPrecede, SpellsPicture}
+use Rattle.picture_grammar.specs.Picture.{MayPrecede, SpellsPicture}
 use Rattle.picture_grammar.proofs.HeaderLaws.{exact-picture_unit}
 use Rattle.picture_laws.proofs.SpelledStates.{state-of_unit}
 use Rattle.picture_heads.specs.Heads.{IsHeadWithoutDelay}
-use Rattle.pes_units.specs.declared.times.Times.{Times}
 use Rattle.picture_reader.specs.Picture.{IsPictureOf}
 use Rattle.program_reader.specs.declared.pes_packets.PlacedPacket.{PlacedPacket}
 use Rattle.program_reader.specs.declared.program.Program.{Program}
 use Rattle.program_reader.specs.declared.program.UnitSource.{UnitSource}
 use Rattle.program_reader.specs.declared.timed_picture.TimedPicture.{TimedPicture}
 use Rattle.program_reader.specs.Programs.{AreUnitSources, IsProgramOf, video_bytes, video_packets}
-use Rattle.program_reader.specs.Units.{AreInOrder, AreKept, all, but_last}
+use Rattle.program_reader.specs.Units.{AreKept, all, but_last}
 use Rattle.version_maker.specs.declared.version.UnitVersion.{UnitVersion}
 use Rattle.version_maker.specs.Versions.{AreVersions, IsCoarserVersion, IsSourceVersion}
 use Rattle.version_source.specs.Sendable.{Leaves, bytes_of}
 use Rattle.version_source.specs.Versions.{AreVideoVersions}
-use Rattle.version_units.specs.OwnCodes.{HasNoCodeInSlices}
 use Rattle.version_units.specs.WholeVersions.{AreWholeVersions, BeginWithSequence, IsWholeVersion}
 use Rattle.version_units.proofs.ByteVideo.{AreBytes-drop, video-bytes}
 use Rattle.version_units.proofs.Codes.{CodeOf}

@@ -39,7 +39,7 @@ use Rattle.std.proofs.Common.{
   append_assoc,
   append-nil,
 }
-use Rattle.std.proofs.lemmas.Bool.{and_parts, cases_Bool, cases_lt, eqb-true}
+use Rattle.std.proofs.lemmas.Bool.{and_parts, cases_lt, eqb-true}
 use Rattle.std.proofs.lemmas.List.{length-append, length-replicate, nil_from_length, replicate-append-replicate, take_at}
 use Rattle.bit_lists.specs.Bits.{IsPrefix, bits_of}
 use Rattle.bit_lists.proofs.BitLemmas.{length-bits_of, bits_of-one}
@@ -53,9 +53,9 @@ use Rattle.picture_grammar.specs.Grammar.{Grammar, done, ◌>>=◌, ◌>>◌, if
 use Rattle.picture_grammar.specs.Grammar.Next.{more, last}
 use Rattle.picture_grammar.specs.StartCode.{start_code_prefix, start_code_bits, start_code, only_zero_bytes, is_slice, zero_bits, zero_byte}
 use Rattle.picture_grammar.specs.Slice.{slice}
-use Rattle.picture_grammar.specs.Picture.{whole_slice, slice_or_end, next_slice, later_slice, IsCoding}
+use Rattle.picture_grammar.specs.Picture.{whole_slice, slice_or_end, next_slice, IsCoding}
 use Rattle.picture_grammar.proofs.MacroblockLaws.{exact-slice}
-use Rattle.picture_laws.proofs.StartCodes.{zeros_before, zeros_before-one, opened, opened-zeros, parted, end-zeros, code-taken}
+use Rattle.picture_laws.proofs.StartCodes.{zeros_before, zeros_before-one, opened-zeros, parted, end-zeros, code-taken}
 use Rattle.picture_laws.proofs.Tested.{prefix-zeros}
 use Rattle.picture_laws.proofs.WrittenPicture.{code_bounds, code_other}
 use Rattle.picture_laws.proofs.WrittenSlice.{macroblocks-of_slice}

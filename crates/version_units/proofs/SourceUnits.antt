@@ -1,52 +1,11 @@
 -- The units that a video is cut into: each begins with a header, and behind a slice it has none.
-use Rattle.std.proofs.Common.{
-  ◌≡◌,
-  ◌⊎◌,
-  ℕ,
-  zero,
-  suc,
-  ◌+◌,
-  ◌-◌,
-  ◌<◌,
-  ◌≤◌,
-  ◌&&◌,
-  ◌||◌,
-  min,
-  not,
-  nat_lt,
-  Bool,
-  true,
-  false,
-  cond,
-  List,
-  [],
-  ◌∷◌,
-  ◌++◌,
-  All,
-  filter,
-  get_or,
-  length,
-  take,
-  drop,
-  Option,
-  Some,
-  None,
-  refl,
-  sym,
-  ap,
-  ap₂,
-  subst,
-  ◌∙◌,
-  inl,
-  inr,
-  arith,
-}
+use Rattle.std.proofs.Common.{◌≡◌, ◌⊎◌, ℕ, zero, suc, ◌+◌, ◌-◌, ◌<◌, ◌≤◌, ◌&&◌, ◌||◌, min, nat_lt, Bool, true, false, cond, List, [], ◌∷◌, All, filter, get_or, length, drop, Option, Some, None, refl, sym, ap, subst, ◌∙◌, inl, inr, arith}
 use Rattle.std.specs.Prelude.{slice_range}
 use Rattle.std.specs.List.{find, range_with_len}
 use Rattle.std.specs.Option.{option_map}
 use Rattle.std.proofs.lemmas.Bool.{and_parts, and_from, cases_lt, lt-ltb, ltb-true}
 use Rattle.std.proofs.lemmas.List.{get_or-drop, get_or-take, length-drop, length-take}
-use Rattle.std.proofs.lemmas.List.Elements.{All-cons, All-head, All-nil, All-tail}
+use Rattle.std.proofs.lemmas.List.Elements.{All-cons, All-nil}
 use Rattle.start_codes.specs.StartCodes.{is_slice, is_sequence_header, is_unit_start, has_code}
 use Rattle.es_units.specs.declared.units.Units.{Units}
 use Rattle.es_units.specs.Units.{is_behind_slice, is_unit_cut, first_sequence, spans, cuts_up_to, cuts_behind, cut_units}

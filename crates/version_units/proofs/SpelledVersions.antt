@@ -1,7 +1,7 @@
 -- Each version of a unit spells its picture, behind the state that the unit is read behind.
-use Rattle.std.proofs.Common.{◌≡◌, Bool, ◌+◌, ◌*◌, ◌%◌, ℕ, Option, List, [], ◌∷◌, ◌++◌, length, refl, sym, ap, ap₂, subst, ◌∙◌, arith}
-use Rattle.std.proofs.lemmas.List.{append_cancel_left, length-append}
-use Rattle.bit_lists.specs.Fields.{AreBytes, bit_list}
+use Rattle.std.proofs.Common.{◌≡◌, Bool, ◌%◌, ℕ, Option, List, [], ◌∷◌, ◌++◌, length, refl, sym, ap, subst, ◌∙◌, arith}
+use Rattle.std.proofs.lemmas.List.{append_cancel_left}
+use Rattle.bit_lists.specs.Fields.{bit_list}
 use Rattle.bit_lists.proofs.ByteLemmas.{bit_list-append, length-bit_list}
 use Rattle.syntax_types.specs.declared.picture.PicCoding.{PicCoding}
 use Rattle.syntax_types.specs.declared.picture.Picture.{Picture}
@@ -18,7 +18,7 @@ use Rattle.picture_laws.proofs.WrittenPicture.{picture-read, slices-of_picture}
 use Rattle.picture_heads.specs.declared.TheConstants.{NO_DELAY}
 use Rattle.picture_heads.specs.Heads.{IsHeadWithoutDelay}
 use Rattle.picture_heads.proofs.ReadHeads.{without-read}
-use Rattle.requantiser.specs.Version.{IsVersion, IsLawfulBehind}
+use Rattle.requantiser.specs.Version.{IsVersion}
 use Rattle.requantiser.proofs.LawfulVersions.{version-behind}
 
 -- ---- vbv_delay plays no part in slices
@@ -55,8 +55,7 @@ source-spelled before picture unit head behind spelled source w =
     let there : (with_spelling (head_of before)).Spells ((headers.0.0, headers.0.1), headers.1) (bit_list headers.1 ++ m) m =
     (subst (λ (x : List ℕ). (head_of before).Spells headers.0 x m) split hs, are_head, refl) in
     let read = without-read before headers.0.0 headers.0.1 headers.1 head m there whole (subst (λ (x : List ℕ). IsHeadWithoutDelay x head) same_head w) in
-    let bits : bit_list head ++ m ≡ bit_list (head ++ behind) = ap (λ (x : List ℕ). bit_list head ++ x) rest ∙ sym (bit_list-append head behind) in
-    (
+    let bits : bit_list head ++ m ≡ bit_list (head ++ behind) = ap (λ (x : List ℕ). bit_list head ++ x) rest ∙ sym (bit_list-append head behind) in (
       ((headers.0.0, without headers.0.1), head),
       m,
       subst (λ (x : List ℕ). (with_spelling (head_of before)).Spells ((headers.0.0, without headers.0.1), head) x m) bits read,

@@ -1,59 +1,8 @@
 -- A version of a unit is a whole unit by its own bytes.
-use Rattle.std.proofs.Common.{
-  ◌≡◌,
-  ◌≢◌,
-  ◌⊎◌,
-  ◌==◌,
-  ◌||◌,
-  ◌+◌,
-  ◌-◌,
-  ◌*◌,
-  ◌%◌,
-  ◌^◌,
-  ◌<◌,
-  ◌≤◌,
-  ℕ,
-  zero,
-  suc,
-  Bool,
-  true,
-  false,
-  nat_eq,
-  List,
-  [],
-  ◌∷◌,
-  ◌++◌,
-  get_or,
-  length,
-  replicate,
-  take,
-  drop,
-  Option,
-  refl,
-  sym,
-  ap,
-  ap₂,
-  subst,
-  ◌∙◌,
-  inl,
-  inr,
-  arith,
-  append_assoc,
-  append-nil,
-}
+use Rattle.std.proofs.Common.{◌≡◌, ◌≢◌, ◌⊎◌, ◌==◌, ◌||◌, ◌+◌, ◌*◌, ◌^◌, ◌<◌, ◌≤◌, ℕ, zero, suc, Bool, true, false, List, [], ◌∷◌, ◌++◌, get_or, length, replicate, take, drop, Option, refl, sym, ap, subst, ◌∙◌, inl, inr, arith, append_assoc, append-nil}
 use Rattle.std.proofs.Math.ListN.{get_or-append}
 use Rattle.std.proofs.lemmas.Bool.{cases_lt, eqb-true}
-use Rattle.std.proofs.lemmas.List.{
-  append_cancel_left,
-  drop_at,
-  get_or-append-add,
-  length-append,
-  length-drop,
-  length-replicate,
-  length-take,
-  replicate-append-replicate,
-  take-append-drop,
-}
+use Rattle.std.proofs.lemmas.List.{drop_at, get_or-append-add, length-append, length-replicate, length-take, replicate-append-replicate, take-append-drop}
 use Rattle.bit_lists.specs.Bits.{bits_of}
 use Rattle.bit_lists.specs.Fields.{AreBytes, bit_list, bits_of_byte}
 use Rattle.bit_lists.proofs.BitLemmas.{length-bits_of}
