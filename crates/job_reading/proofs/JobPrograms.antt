@@ -175,8 +175,8 @@ module _ (law : ReadIsSendable) (taken : TakenOutLaw) (gathered : GatheredAgain)
       let parts = carry-parts file (length rows) (pids_of program_map) (flat_map pids_of (output_maps (n + 1) js ps)) (video_items p.units v choice ∷ map audio_items p.audios)
       (stream_items ps vs (drop (length p.units) choice)) own carry in
       let behind : AllZip HasVersion later (drop (length p.units) choice) = subst (λ (k : ℕ). AllZip HasVersion later (drop k choice)) many (fits-behind row.units later choice fits) in (
-        one-read n j js p j.coarser.items v choice before (output_maps (n + 1) js ps) later split size (All-head IsValidProgramJob j js valid).some_number apart c start next.0.holds are_versions.0 fits
-            parts.0,
+        one-read n j js p j.coarser.items v choice before (output_maps (n + 1) js ps) later split size (All-head IsValidProgramJob j js valid).some_number apart c start next.0.holds
+            are_versions.0 fits parts.0,
         read-back (n + 1) js ps vs (drop (length p.units) choice) (before ++ program_map ∷ [])
             (split ∙ sym (append_assoc before (program_map ∷ []) (output_maps (n + 1) js ps))) (omega (arith, size, length-append before (program_map ∷ [])))
             (apart-next before j js program_map refl apart pairs) (apart-tail j js pairs) (All-tail IsValidProgramJob j js valid)

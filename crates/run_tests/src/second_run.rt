@@ -39,11 +39,13 @@ fn agree(alloc: Global, file: &[u8], first: &Ran, second: &Ran) -> Result<bool, 
     let source = read_program(alloc, file, 1, &[], START)?;
     let sent = read_program(alloc, first.stream.as_slice(), 1, &[], START)?;
     let again = read_program(alloc, second.stream.as_slice(), 1, &[], START)?;
-    Ok(have_same_times(&source, &sent)
-        && have_same_audio(&source, &sent)
-        && have_same_times(&sent, &again)
-        && have_same_audio(&sent, &again)
-        && sent.video.as_slice() == again.video.as_slice())
+    Ok(
+        have_same_times(&source, &sent)
+            && have_same_audio(&source, &sent)
+            && have_same_times(&sent, &again)
+            && have_same_audio(&sent, &again)
+            && sent.video.as_slice() == again.video.as_slice(),
+    )
 }
 
 /// Pictures that were sent coarser: in a channel with room they go out again as they are.

@@ -46,7 +46,8 @@ ends-with-code head front delay back h =
     let last : List ℕ = delay ++ back ++ h.following in
     let zeros : List ℕ = replicate (8 * n) 0 in
     let whole : bit_list head ++ h.following ≡ (f1 ++ f2 ++ zeros) ++ (start_code_bits PICTURE ++ (c10 ++ (c3 ++ last))) =
-    e1 ∙ ap (λ (x : List ℕ). f1 ++ x) (e2 ∙ ap (λ (x : List ℕ). f2 ++ x) (e3 ∙ ap₂ (λ (b : ℕ) (x : List ℕ). zeros ++ (start_code_bits b ++ x)) picture (split10 ∙ ap (λ (x : List ℕ). c10 ++ x) split3)))
+    e1 ∙ ap (λ (x : List ℕ). f1 ++ x) (e2 ∙ ap (λ (x : List ℕ). f2 ++ x)
+    (e3 ∙ ap₂ (λ (b : ℕ) (x : List ℕ). zeros ++ (start_code_bits b ++ x)) picture (split10 ∙ ap (λ (x : List ℕ). c10 ++ x) split3)))
     ∙ joined f1 f2 zeros (start_code_bits PICTURE) (c10 ++ (c3 ++ last)) in
     let parts : bit_list head ++ h.following ≡ front ++ last = ap (λ (x : List ℕ). x ++ h.following) h.parts ∙ four front delay back h.following in
     let same : front ++ last ≡ ((f1 ++ f2 ++ zeros) ++ (start_code_bits PICTURE ++ (c10 ++ c3))) ++ last =
@@ -212,4 +213,5 @@ kept-code from to behind is p value code = by_place (cases_lt p (is.at + 3)) (ca
     by_place (inr le) (inr far) = alike (λ i low high. same-byte from to behind is i (λ e. omega (arith, far, low, e)) (λ e. omega (arith, far, low, e)) (λ e. omega (arith, far, low, e)))
     by_place (inr le) (inl near) =
         let bits = code-split (to ++ behind) p value code in
-        absurd (ones-clash bits.front bits.after is.front (is.back ++ bit_list behind) (sym bits.split ∙ split) (omega (arith, bits.size, is.front_size, near)) (omega (arith, bits.size, is.front_size, le)))
+        absurd (ones-clash bits.front bits.after is.front (is.back ++ bit_list behind) (sym bits.split ∙ split)
+        (omega (arith, bits.size, is.front_size, near)) (omega (arith, bits.size, is.front_size, le)))

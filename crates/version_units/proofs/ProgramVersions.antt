@@ -62,7 +62,8 @@ module _ (before : Option SeqState) (unit : List ℕ) (picture : Picture) (after
       made-version (without_delay picture is.head) version bytes
       (subst (SpellsPicture before (without_delay picture is.head)) (sym is.bytes) (source-spelled before picture unit is.head is.behind whole.spelled is.source is.without)) is.without refl
 
-  coarser-version : (m : ℕ) (version : UnitVersion) → IsCoarserVersion picture m version → IsWholeVersion before after version × ((3 < length unit → CodeOf is_sequence_header unit 0) → BeginsSequence version)
+  coarser-version : (m : ℕ) (version : UnitVersion) → IsCoarserVersion picture m version
+      → IsWholeVersion before after version × ((3 < length unit → CodeOf is_sequence_header unit 0) → BeginsSequence version)
   coarser-version m version is =
       made-version is.made version is.written.0 (coarser-spelled m before picture is.made unit version.bytes may whole.spelled whole.covered is.coarser is.written) is.coarser.head is.coarser.seq
 
@@ -104,7 +105,8 @@ all-versions es coarser before [] (v ∷ vs) are may spans is = absurd is
 all-versions es coarser before (u ∷ us) [] are may spans is = absurd is
 all-versions es coarser before (u ∷ us) (v ∷ vs) are may spans (after, leaves, here, rest) =
     let source = source-unit es u.begin u.end (All-head (IsSpanOf es) u us spans) in
-    let state : MayPrecede (Some after) = subst (λ (s : SeqState). MayPrecede (Some s)) leaves.after_is (state-of_unit before leaves.picture (bit_list (bytes_of es u)) [] may leaves.whole.spelled) in (
+    let state : MayPrecede (Some after) = subst (λ (s : SeqState). MayPrecede (Some s)) leaves.after_is
+    (state-of_unit before leaves.picture (bit_list (bytes_of es u)) [] may leaves.whole.spelled) in (
       after,
       (unit-versions before (bytes_of es u) coarser after v may source (range-bytes es u.begin u.end are) leaves here).0,
       all-versions es coarser (Some after) us vs are state (All-tail (IsSpanOf es) u us spans) rest,
@@ -163,7 +165,8 @@ program-versions content number dropped start program coarser versions are of is
     let es : List ℕ = video_bytes of.demuxed in
     let bytes : AreBytes es = video-bytes content number dropped of.demuxed are of.demuxed_is in
     let pictures = program_is.has_pictures in
-    let kept = kept-spans es (video_packets of.demuxed) pictures.units.cuts program_is.kept program_is.pictures pictures.at_end (cut-spans es pictures.units pictures.has_units.units_are) pictures.kept_are in
+    let kept = kept-spans es (video_packets of.demuxed) pictures.units.cuts program_is.kept program_is.pictures pictures.at_end
+    (cut-spans es pictures.units pictures.has_units.units_are) pictures.kept_are in
     let spans : All (IsSpanOf es) program.units = source-spans start program_is.earliest es program_is.kept program_is.pictures program.units program_is.units_are kept.0 in
     let there : AreVideoVersions es coarser None program.units versions = subst (λ (video : List ℕ). AreVideoVersions video coarser None program.units versions) program_is.video_is is in
     let (first, more, unit, others, kept_is, units_are, begins) =

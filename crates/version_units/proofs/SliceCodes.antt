@@ -259,8 +259,8 @@ pub data AtEnd (end : Bool) (bits : List ℕ) : Type 0 where
   end_code : (zeros filling : ℕ) → end ≡ true → bits ≡ replicate (8 * zeros) 0 ++ (start_code_bits SEQUENCE_END ++ replicate (8 * filling) 0) → AtEnd end bits
 
 module _ (seq : SeqState) (coding : PicCoding) where
-  made_slice : (n byte : ℕ) (s : Slice) (bits m rest : List ℕ) → is_slice byte ≡ true → byte < 2 ^ 8 → bits ≡ replicate (8 * n) 0 ++ (start_code_bits byte ++ m) → (whole_slice seq coding byte).Spells s m rest
-      → OneSlice seq coding s bits rest
+  made_slice : (n byte : ℕ) (s : Slice) (bits m rest : List ℕ) → is_slice byte ≡ true → byte < 2 ^ 8 → bits ≡ replicate (8 * n) 0 ++ (start_code_bits byte ++ m)
+      → (whole_slice seq coding byte).Spells s m rest → OneSlice seq coding s bits rest
   made_slice n byte s bits m rest is fits split (s', m', t, (number, m'', u, (e, f))) =
       let (row, has) = macroblocks-of_slice seq coding (byte - 1) s' m m' t in
       let bounds = code_bounds byte is in record {
@@ -314,8 +314,8 @@ module _ (seq : SeqState) (coding : PicCoding) where
 -- ---- prefixes behind a head
 
 -- where a prefix stands at a whole byte of a slice with what stands before it: at its start code, or behind the slice and the zero bits that close it
-pub slice_prefix : (seq : SeqState) (coding : PicCoding) (s : Slice) (bits rest after : List ℕ) → IsCoding coding → (is : OneSlice seq coding s bits rest) → length bits % 8 ≡ 0 → PrefixStands bits after
-    → (after ≡ bits_of 8 is.byte ++ is.behind) ⊎ PrefixStands rest after
+pub slice_prefix : (seq : SeqState) (coding : PicCoding) (s : Slice) (bits rest after : List ℕ) → IsCoding coding → (is : OneSlice seq coding s bits rest) → length bits % 8 ≡ 0
+    → PrefixStands bits after → (after ≡ bits_of 8 is.byte ++ is.behind) ⊎ PrefixStands rest after
 slice_prefix seq coding s bits rest after coded is whole there = by_code (one_code is.zeros is.byte bits is.behind after (code_bounds is.byte is.is).0 is.fits is.split there)
   where
     sizes : length bits ≡ 8 * is.zeros + (32 + length is.behind)
@@ -350,7 +350,8 @@ slice_prefix seq coding s bits rest after coded is whole there = by_code (one_co
     by_code (inr later) = inr (behind_slice is.whole later)
 
 -- behind the slice whole bytes follow, in its bits
-pub slice_ends : (seq : SeqState) (coding : PicCoding) (s : Slice) (bits rest : List ℕ) → (is : OneSlice seq coding s bits rest) → (length rest % 8 ≡ 0) × ((front : List ℕ) × (is.behind ≡ front ++ rest))
+pub slice_ends : (seq : SeqState) (coding : PicCoding) (s : Slice) (bits rest : List ℕ) → (is : OneSlice seq coding s bits rest)
+    → (length rest % 8 ≡ 0) × ((front : List ℕ) × (is.behind ≡ front ++ rest))
 slice_ends seq coding s bits rest is = ends is.whole
   where
     ends : (whole_slice seq coding is.byte).Spells s is.behind rest → (length rest % 8 ≡ 0) × ((front : List ℕ) × (is.behind ≡ front ++ rest))

@@ -108,7 +108,8 @@ cut-spans es units is = by_first (first_sequence es) refl is
           begins = first-begins first (cuts_behind es first) (length es);
         }
 
-    by_first : (first : Option ℕ) → first_sequence es ≡ first → option_map (λ first. record { dropped = min (cuts_up_to es first) 4294967295; cuts = spans first (cuts_behind es first) (length es) }) first ≡ Some units
+    by_first : (first : Option ℕ) → first_sequence es ≡ first
+        → option_map (λ first. record { dropped = min (cuts_up_to es first) 4294967295; cuts = spans first (cuts_behind es first) (length es) }) first ≡ Some units
         → AreSpans es units.cuts
     by_first None found is = absurd (let no : None ≡ Some units = is in cc)
     by_first (Some first) found is =

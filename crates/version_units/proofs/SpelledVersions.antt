@@ -42,8 +42,8 @@ same-slices seq coding before (v ∷ vs) end bits rest (mid, t, u) =
 abbrev pub without_delay : Picture → (head : List ℕ) → Picture
 without_delay picture head = record picture { coding = without picture.coding; head = head }
 
-pub source-spelled : (before : Option SeqState) (picture : Picture) (unit head behind : List ℕ) → SpellsPicture before picture unit → unit ≡ picture.head ++ behind → IsHeadWithoutDelay picture.head head
-    → SpellsPicture before (without_delay picture head) (head ++ behind)
+pub source-spelled : (before : Option SeqState) (picture : Picture) (unit head behind : List ℕ) → SpellsPicture before picture unit → unit ≡ picture.head ++ behind
+    → IsHeadWithoutDelay picture.head head → SpellsPicture before (without_delay picture head) (head ++ behind)
 unfolding picture_unit
 source-spelled before picture unit head behind spelled source w =
     let (headers, m, (hs, are_head, split), (slices, m', t, (e, f))) = spelled in
