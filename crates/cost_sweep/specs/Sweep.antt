@@ -42,3 +42,12 @@ pub record WentOn (place due : ℕ) (sweep : CostSweep) : Type 0 where
   pub more : place < sweep.place
   pub reached : HasReached due sweep
   pub here : (k : ℕ) (d : CostStep) → place ≤ k → k < sweep.place → (slice_index_or sweep.steps.items k d).due ≡ due
+
+-- how many packets fewer the steps behind which a sweep stands have at a price
+abbrev pub fewer_at : CostSweep → (price : ℕ) → ℕ
+fewer_at sweep price = sum_by (counted (λ step. step.fewer) price) (take sweep.place sweep.steps.items)
+
+-- the least price at which these are more than so many
+pub record IsFirstOver (sweep : CostSweep) (fewer price : ℕ) : Type 0 where
+  pub over : fewer < fewer_at sweep price
+  pub before : (other : ℕ) → other < price → fewer_at sweep other ≤ fewer

@@ -1,4 +1,4 @@
-ghost use Rattle.std.specs.Prelude.{◌≡◌, ◌<◌, ◌≤◌, ◌^◌, All, IfOk, length};
+ghost use Rattle.std.specs.Prelude.{◌≡◌, ◌<◌, ◌≤◌, ◌^◌, All, IfOk, MatchOption, length, slice_index};
 ghost use Rattle.std.specs.List.{Contains};
 ghost use Rattle.std.specs.List.Sorted.{IsNonDecreasing};
 ghost use Rattle.cost_sweep.specs.Places.{IsPlaceBehind};
@@ -36,6 +36,17 @@ pub fn place_behind(prices: &[u64], price: u64) -> usize
     ensures { IsPlaceBehind prices.now price result }
 {
     prices.partition_point(|other| *other <= price)
+}
+
+/// The price at a place, if there is one.
+pub fn price_at(prices: &[u64], place: usize) -> Option<u64>
+    ensures { MatchOption result (length prices.now ≤ place) (λ price. (place < length prices.now) × (price ≡ slice_index prices.now place)) }
+{
+    if place < prices.len() {
+        Some(prices[place])
+    } else {
+        None
+    }
 }
 
 /// Levels of a tree with more places than these.

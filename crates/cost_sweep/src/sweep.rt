@@ -1,10 +1,10 @@
-ghost use Rattle.std.specs.Prelude.{◌≡◌, ℕ, ◌+◌, ◌<◌, ◌≤◌, ◌^◌, length, sum_by, cond, nat_le, IfOk, IsTrue, ◌↔◌, MatchOption, slice_index_or};
+ghost use Rattle.std.specs.Prelude.{◌≡◌, ℕ, ◌+◌, ◌<◌, ◌≤◌, ◌^◌, length, sum_by, cond, nat_le, take, IfOk, IsTrue, ◌↔◌, MatchOption, slice_index_or};
 ghost use Rattle.std.specs.List.Sorted.{IsPermutation};
 ghost use Rattle.cost_sweep.specs.declared.step.CostStep.{CostStep as Step};
 ghost use Rattle.cost_sweep.specs.Steps.{AreSmall, paid_by, spared_by};
-ghost use Rattle.cost_sweep.specs.Sweep.{HasReached, IsSweep, WentOn, counted};
+ghost use Rattle.cost_sweep.specs.Sweep.{HasReached, IsFirstOver, IsSweep, WentOn, counted, fewer_at};
 
-use crate::sorted::{height_for, place_before, place_behind, prices_of};
+use crate::sorted::{height_for, place_before, place_behind, price_at, prices_of};
 use crate::step::CostStep;
 use list_types::OutOfMemory;
 use std::alloc::Global;
@@ -47,7 +47,7 @@ impl CostSweep {
         ensures steps { IfOk result (λ sweep. IsPermutation steps.items sweep.steps.items) }
     {
         let mut steps = steps;
-        steps.sort_unstable_by_key(|step| step.due);
+        steps.sort_by_key(|step| step.due)?;
         let prices = prices_of(alloc, steps.as_slice())?;
         let height = height_for(prices.len());
         let rises = SumTree::new(alloc, height)?;
@@ -109,6 +109,23 @@ impl CostSweep {
             paid: rises + self.rest + u128::from(self.packets) * u128::from(price),
             spared: fewer * u128::from(price),
         }
+    }
+
+    /// The packets that the due steps pay at each price.
+    pub fn packets(&self) -> u64
+        requires { IsSweep self.now }
+        ensures { result ≡ sum_by (λ step. step.packets) (take self.now.place self.now.steps.items) }
+    {
+        self.packets
+    }
+
+    /// The least price at which the due steps have more packets fewer than these; none where they have at no price.
+    pub fn price_over(&self, fewer: u128) -> Option<u64>
+        requires { IsSweep self.now }
+        ensures { MatchOption result ((price : ℕ) → fewer_at self.now price ≤ fewer) (IsFirstOver self.now fewer) }
+    {
+        let place = self.fewer.count_within(fewer);
+        price_at(self.prices.as_slice(), place)
     }
 
     /// Whether the next step is due by a time.

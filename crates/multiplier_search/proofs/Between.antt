@@ -1,5 +1,5 @@
 -- The values of windows that begin behind time 0.
-use Rattle.std.proofs.Common.{◌≡◌, ℕ, ◌+◌, ◌-◌, ◌≤◌, ◌&&◌, List, [], ◌∷◌, map, cond, nat_le, sum_by, Option, refl, ap, subst, ◌∙◌, inl, inr, arith, ℤ, pos, ◌+ℤ◌, ◌-ℤ◌, ◌*ℤ◌}
+use Rattle.std.proofs.Common.{◌≡◌, ℕ, ◌+◌, ◌-◌, ◌≤◌, ◌&&◌, List, [], ◌∷◌, map, cond, nat_le, sum_by, Option, refl, ap, ◌∙◌, inl, inr, arith, ℤ, pos, ◌+ℤ◌, ◌-ℤ◌, ◌*ℤ◌}
 use Rattle.std.specs.List.{zip}
 use Rattle.std.proofs.lemmas.Bool.{cases_lt, le-leb, lt-leb}
 use Rattle.std.proofs.lemmas.Int.{ints}
@@ -19,7 +19,7 @@ use Rattle.cost_sweep.specs.declared.sweep.Costs.{Costs}
 use Rattle.cost_sweep.specs.Steps.{paid_by, spared_by}
 use Rattle.cost_sweep.specs.Sweep.{HasReached}
 use Rattle.multiplier_search.specs.Private.Lambda.{value_beside}
-use Rattle.multiplier_search.specs.Private.UnitSteps.{AreAtWindow, AreFree, AreStepsOf, beside, IsSweepOf}
+use Rattle.multiplier_search.specs.Private.UnitSteps.{AreAtWindow, AreFree, AreStepsOf, beside}
 use Rattle.multiplier_search.proofs.Added.{price-beside}
 
 -- one window beside others
@@ -100,19 +100,6 @@ are-free table fixed windows due last free steps reached paid spared =
     let one = paid due reached in
     let two = spared due reached in
     omega arith
-
--- one sweep that has reached the end of a window, and one that has reached the tick before its beginning
-pub between-two : (table : Table) (fixed : List (Option ℕ)) (windows : List Window) (from due : ℕ) (last before : CostSweep) → from ≤ due → 1 ≤ from
-    → IsSweepOf table fixed windows last → IsSweepOf table fixed windows before → HasReached due last → HasReached (from - 1) before
-    → AreAtWindow table fixed windows from due last before
-between-two table fixed windows from due last before order some of_last of_before reached passed = record {
-  order = order;
-  some = some;
-  steps = of_last.steps;
-  early = of_before.steps;
-  reached = reached;
-  passed = λ time next. (let same : from - 1 ≡ time = omega arith in subst (λ n. HasReached n before) same passed);
-}
 
 pub value-between : (table : Table) (fixed : List (Option ℕ)) (windows : List Window) (from due lambda : ℕ) (last before : CostSweep) (free costs early : Costs) (capacity : ℤ) → lambda ≤ LAMBDA_MOST
     → AreAtWindow table fixed windows from due last before → AreFree table fixed windows due free

@@ -4,7 +4,6 @@ ghost use Rattle.version_table.specs.Table.{IsValidTable, IsValidUnit};
 ghost use Rattle.dual_bounds.specs.Fixed.{FixesVersions, NamesVersion};
 ghost use Rattle.dual_bounds.specs.declared.constants.TheConstants.{LAMBDA_MOST};
 ghost use Rattle.dual_bounds.specs.Values.{charge, price};
-ghost use Rattle.cost_sweep.specs.Sweep.{HasReached};
 ghost use Rattle.cost_steps.specs.declared.constants.TheConstants.{PRICE_MOST};
 ghost use Rattle.multiplier_search.specs.Private.UnitSteps.{AddSteps, AddUnit, AreStepsOf, IsSweepOf, LeaveRoom};
 
@@ -31,26 +30,6 @@ pub fn sweep_of(
 {
     let steps = steps_of(alloc, table, fixed, windows)?;
     let sweep = CostSweep::new(alloc, steps)?;
-    Ok(sweep)
-}
-
-/// A sweep over the steps of all units' least costs beside some windows, behind all that are due by a time. Fails only for want
-/// of memory.
-pub fn sweep_to(
-    alloc: Global,
-    table: &Table,
-    fixed: &Fixed,
-    windows: &[Window],
-    time: u64,
-) -> Result<CostSweep, OutOfMemory>
-    requires valid { IsValidTable table.now }
-    requires fixed { FixesVersions table.now fixed.now }
-    requires room { LeaveRoom windows.now }
-    ensures sweep { IfOk result (IsSweepOf table.now fixed.now windows.now) }
-    ensures reached { IfOk result (HasReached time) }
-{
-    let mut sweep = sweep_of(alloc, table, fixed, windows)?;
-    sweep.go_to(time);
     Ok(sweep)
 }
 

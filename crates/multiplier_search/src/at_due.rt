@@ -24,7 +24,7 @@ pub fn swept_lambda(sweep: &CostSweep, capacity: i64) -> u64
 {
     let mut low = 0;
     let mut high = LAMBDA_MOST;
-    let mut lines = Lines::unknown();
+    let mut lines = Lines::near(near_peak(sweep, capacity));
     while low < high {
         let middle = lines.next_try(low, high);
         let value = swept_value(sweep, capacity, middle);
@@ -38,6 +38,20 @@ pub fn swept_lambda(sweep: &CostSweep, capacity: i64) -> u64
         }
     }
     low
+}
+
+/// Near the lambda with the greatest value at the last due time of a sweep: before the first price at which no more packets are due than there is room for.
+fn near_peak(sweep: &CostSweep, capacity: i64) -> u64
+    requires { IsSweep sweep.now }
+{
+    let over = i128::from(sweep.packets()) - i128::from(capacity);
+    if over <= 0 {
+        return 0;
+    }
+    match sweep.price_over(over as u128 - 1) {
+        Some(price) => price.saturating_sub(1),
+        None => LAMBDA_MOST,
+    }
 }
 
 /// The value of a lambda at the last due time of a sweep, where the room up to it is this, and what the windows that the sweep
@@ -67,7 +81,7 @@ pub fn between_lambda(last: &CostSweep, before: &CostSweep, free: Costs, capacit
 {
     let mut low = 0;
     let mut high = LAMBDA_MOST;
-    let mut lines = Lines::unknown();
+    let mut lines = Lines::near(0);
     while low < high {
         let middle = lines.next_try(low, high);
         let value = between_value(last, before, free, capacity, middle);

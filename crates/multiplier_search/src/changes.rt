@@ -1,4 +1,4 @@
-ghost use Rattle.std.specs.Prelude.{◌≡◌, ◌≤◌, length, IfOk, ◌≤ℤ◌};
+ghost use Rattle.std.specs.Prelude.{◌≡◌, ◌≤◌, length, ◌≤ℤ◌};
 ghost use Rattle.version_table.specs.Table.{IsValidTable};
 ghost use Rattle.dual_bounds.specs.declared.constants.TheConstants.{WINDOWS_MOST};
 ghost use Rattle.dual_bounds.specs.Fixed.{FixesVersions};
@@ -10,32 +10,25 @@ ghost use Rattle.multiplier_search.specs.Windows.{AreSearched};
 use crate::lambda::best_lambda;
 use crate::lists::{copied, replaced};
 use dual_bounds::{Fixed, Window, Windows, window_value};
-use list_types::OutOfMemory;
-use std::alloc::Global;
 use version_table::Table;
 
-/// The windows with the one lambda changed that gains most. Fails only for want of memory.
-pub fn best_change(
-    alloc: Global,
-    table: &Table,
-    fixed: &Fixed,
-    start: &[Window],
-) -> Result<Windows, OutOfMemory>
+/// The windows with the one lambda changed that gains most.
+pub fn best_change(table: &Table, fixed: &Fixed, start: &[Window]) -> Windows
     requires valid { IsValidTable table.now }
     requires fixed { FixesVersions table.now fixed.now }
     requires few { length start.now ≤ WINDOWS_MOST }
     requires searched { AreSearched start.now }
-    ensures next { IfOk result (λ found. AreNext start.now 0 found.items) }
-    ensures value { IfOk result (λ found. value_of_windows table.now fixed.now start.now ≤ℤ value_of_windows table.now fixed.now found.items) }
-    ensures changes { IfOk result (λ found. BeatChanges table.now fixed.now start.now found.items) }
+    ensures next { AreNext start.now 0 result.items }
+    ensures value { value_of_windows table.now fixed.now start.now ≤ℤ value_of_windows table.now fixed.now result.items }
+    ensures changes { BeatChanges table.now fixed.now start.now result.items }
 {
     let mut best = copied(start);
     for (place, window) in start.iter().enumerate() {
-        let lambda = best_lambda(alloc, table, fixed, start, place, window.from, window.due)?;
+        let lambda = best_lambda(table, fixed, start, place, *window);
         let changed = replaced(start, place, Window { lambda, ..*window });
         best = of_greater_value(table, fixed, best, changed);
     }
-    Ok(best)
+    best
 }
 
 /// The windows of greater value.

@@ -1,47 +1,71 @@
-ghost use Rattle.std.specs.Prelude.{◌≡◌, ◌<◌, ◌≤◌, length, All, IfOk};
+ghost use Rattle.std.specs.Prelude.{◌≡◌, ◌<◌, ◌≤◌, length, All};
 ghost use Rattle.version_table.specs.Table.{IsValidTable};
 ghost use Rattle.dual_bounds.specs.declared.constants.TheConstants.{LAMBDA_MOST, WINDOWS_MOST};
+ghost use Rattle.dual_bounds.specs.declared.windows.Window.{Window};
 ghost use Rattle.dual_bounds.specs.Fixed.{FixesVersions};
 ghost use Rattle.multiplier_search.specs.Private.Lambda.{EndsRise, RisesTo, value_at, value_with};
 
-use crate::all_steps::sweep_to;
-use crate::at_due::{between_lambda, swept_lambda};
-use crate::lists::without;
-use dual_bounds::{Fixed, Window, window_capacity, window_value};
-use list_types::OutOfMemory;
-use std::alloc::Global;
+use crate::lists::replaced;
+use crate::meeting::Lines;
+use dual_bounds::constants::LAMBDA_MOST;
+use dual_bounds::{Fixed, Window, window_value};
 use version_table::Table;
 
-/// The least lambda with which a window from one time to another has the greatest value at this place among the others.
-/// Fails only for want of memory.
+/// The least lambda with which a window has the greatest value at this place among the others: values rise up to it and no
+/// more, since each rise is at most the one before. The window's own is tried first.
 pub fn best_lambda(
-    alloc: Global,
     table: &Table,
     fixed: &Fixed,
     windows: &[Window],
     place: usize,
-    from: u64,
-    due: u64,
-) -> Result<u64, OutOfMemory>
+    window: Window,
+) -> u64
     requires valid { IsValidTable table.now }
     requires fixed { FixesVersions table.now fixed.now }
     requires few { length windows.now ≤ WINDOWS_MOST }
-    requires lambdas { All (λ window. window.lambda ≤ LAMBDA_MOST) windows.now }
+    requires lambdas { All (λ other. other.lambda ≤ LAMBDA_MOST) windows.now }
     requires place { place < length windows.now }
-    requires order { from ≤ due }
-    ensures most { IfOk result (λ lambda. lambda ≤ LAMBDA_MOST) }
-    ensures rises { IfOk result (RisesTo (value_with table.now fixed.now windows.now place from due)) }
-    ensures ends { IfOk result (EndsRise (value_with table.now fixed.now windows.now place from due)) }
+    ensures most { result ≤ LAMBDA_MOST }
+    ensures rises { RisesTo (value_with table.now fixed.now windows.now place window.from window.due) result }
+    ensures ends { EndsRise (value_with table.now fixed.now windows.now place window.from window.due) result }
 {
-    let others = without(windows, place);
-    let capacity = window_capacity(table, from, due);
-    let last = sweep_to(alloc, table, fixed, others.as_slice(), due)?;
-    if from == 0 {
-        return Ok(swept_lambda(&last, capacity));
+    let mut low = 0;
+    let mut high = LAMBDA_MOST;
+    let mut lines = Lines::near(window.lambda);
+    while low < high {
+        let middle = lines.next_try(low, high);
+        let value = value_with(table, fixed, windows, place, window, middle);
+        let next = value_with(table, fixed, windows, place, window, middle + 1);
+        if value < next {
+            low = middle + 1;
+            lines = lines.behind_rise(value, next);
+        } else {
+            high = middle;
+            lines = lines.before_fall(value, next);
+        }
     }
-    let before = sweep_to(alloc, table, fixed, others.as_slice(), from - 1)?;
-    let free = last.costs(0);
-    Ok(between_lambda(&last, &before, free, capacity))
+    low
+}
+
+/// The value of some windows where the one at this place is another one with this lambda.
+fn value_with(
+    table: &Table,
+    fixed: &Fixed,
+    windows: &[Window],
+    place: usize,
+    window: Window,
+    lambda: u64,
+) -> i128
+    requires valid { IsValidTable table.now }
+    requires fixed { FixesVersions table.now fixed.now }
+    requires few { length windows.now ≤ WINDOWS_MOST }
+    requires lambdas { All (λ other. other.lambda ≤ LAMBDA_MOST) windows.now }
+    requires place { place < length windows.now }
+    requires lambda { lambda ≤ LAMBDA_MOST }
+    ensures { result ≡ value_with table.now fixed.now windows.now place window.from window.due lambda }
+{
+    let changed = replaced(windows, place, Window { lambda, ..window });
+    window_value(table, fixed, changed.as_slice())
 }
 
 /// The value of a window alone with this lambda.

@@ -1,5 +1,5 @@
 ghost use Rattle.std.specs.Prelude.{◌≡◌, ◌<◌, ◌≤◌, length, map, slice_index_or, slice_set, false, IsTrue, ◌↔◌};
-ghost use Rattle.std.specs.List.{insert, remove};
+ghost use Rattle.std.specs.List.{insert};
 ghost use Rattle.dual_bounds.specs.declared.constants.TheConstants.{WINDOWS_MOST};
 ghost use Rattle.dual_bounds.specs.declared.windows.Window.{Window};
 ghost use Rattle.dual_bounds.specs.Values.{from_start};
@@ -40,17 +40,6 @@ pub fn inserted(windows: &[Window], place: usize, window: Window) -> Windows
     let mut wider = copied(windows);
     wider.insert(place, window);
     wider
-}
-
-/// The same windows but the one at this place.
-pub fn without(windows: &[Window], place: usize) -> Windows
-    requires few { length windows.now ≤ WINDOWS_MOST }
-    requires place { place < length windows.now }
-    ensures { result.items ≡ remove windows.now place }
-{
-    let mut others = copied(windows);
-    others.remove(place);
-    others
 }
 
 /// The place of the first window that doesn't precede another one.

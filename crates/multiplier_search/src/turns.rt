@@ -67,7 +67,7 @@ pub fn improve_windows(
     let mut with = copied(from.as_slice());
     let mut left = turns;
     while left > 0 {
-        let next = best_change(alloc, table, fixed, with.as_slice())?;
+        let next = best_change(table, fixed, with.as_slice());
         left = turns_left(table, fixed, with.as_slice(), next.as_slice(), left);
         with = next;
     }
@@ -110,7 +110,7 @@ fn turn(
     ensures additions { IfOk result (λ found. length with.now < WINDOWS_MOST
         → BeatAdditions table.now fixed.now (dues_of (units_of table.now)) with.now found.items) }
 {
-    let changed = best_change(alloc, table, fixed, with)?;
+    let changed = best_change(table, fixed, with);
     if with.len() == WINDOWS_MOST {
         return Ok(changed);
     }

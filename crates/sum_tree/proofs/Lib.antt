@@ -1,3 +1,4 @@
+mod Down
 pub mod Growing
 pub mod Powers
 pub mod Sums

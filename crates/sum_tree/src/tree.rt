@@ -49,6 +49,28 @@ impl SumTree {
         total
     }
 
+    /// How many first numbers have a sum of at most this: the most of them, or all but the last.
+    pub fn count_within(&self, most: u128) -> usize
+        requires height { self.now.height ≤ 32 }
+        requires tree { (total : ℕ) × IsSumTree self.now.height total self.now.first self.now.nodes.items × (total < 2 ^ 128) }
+        ensures count { result < self.now.first }
+        ensures within { first_sum self.now.first self.now.nodes.items result ≤ most }
+        ensures more { result + 1 < self.now.first → most < first_sum self.now.first self.now.nodes.items (result + 1) }
+    {
+        let nodes = self.nodes.as_slice();
+        let mut node = 1;
+        let mut left = most;
+        for _level in 0..self.height {
+            node *= 2;
+            let below = nodes[node];
+            if below <= left {
+                left -= below;
+                node += 1;
+            }
+        }
+        node - self.first
+    }
+
     /// Adds to the number at a place.
     pub fn add(&mut self, place: usize, amount: u128)
         requires height { self.old.height ≤ 32 }

@@ -6,8 +6,8 @@ use stream_constants::packets::PAYLOAD_BYTES;
 use version_table::limits::VERSIONS_MOST;
 use version_table::{Table, Unit, Version};
 
-/// What a ratio of distortion to packets is multiplied by, so that different ratios stay different as whole numbers.
-const RATIO_PARTS: u128 = 1 << 64;
+/// What a ratio of distortion to packets is multiplied by, so that it is a whole number to more than the 1/256 of prices.
+const RATIO_PARTS: u64 = 1 << 15;
 
 /// A version of a unit at which its lower hull turns.
 #[derive(Clone, Copy, Debug, Default, PartialEq)]
@@ -40,6 +40,8 @@ pub struct HullStep {
     pub packets: u32,
     /// Distortion less.
     pub saved: u64,
+    /// Distortion less for a packet, in parts.
+    ratio: u64,
 }
 
 /// The units of a table in the order of due times, and the steps along their lower hulls, those that save most for a packet first.
@@ -71,7 +73,7 @@ impl MixedTable {
         for (number, unit) in units.iter().enumerate() {
             add_steps(&mut steps, corners.as_slice(), number, *unit)?;
         }
-        steps.sort_by_key(|step| Reverse(ratio(step.saved, step.packets)))?;
+        steps.sort_by_key(|step| Reverse(step.ratio))?;
         Ok(MixedTable { units, steps })
     }
 }
@@ -166,12 +168,12 @@ fn smallest_corner(versions: &[Version]) -> Corner {
 /// The next corner behind one: the version that saves most for a packet, and of those the largest.
 fn next_corner(versions: &[Version], from: Corner) -> Option<Corner> {
     let mut best = None;
-    let mut most = (0, 0);
+    let mut most = HullStep::default();
     for version in versions {
         let corner = corner_of(*version);
         if corner.packets > from.packets && corner.distortion < from.distortion {
-            let own = (step_ratio(from, corner), corner.packets);
-            if own > most {
+            let own = step_between(0, from, corner);
+            if own.saves_more(most) {
                 most = own;
                 best = Some(corner);
             }
@@ -180,12 +182,23 @@ fn next_corner(versions: &[Version], from: Corner) -> Option<Corner> {
     best
 }
 
-/// What a step from one corner to another saves for a packet.
-fn step_ratio(from: Corner, to: Corner) -> u128 {
-    ratio(
-        from.distortion.saturating_sub(to.distortion),
-        to.packets.saturating_sub(from.packets),
-    )
+impl HullStep {
+    /// Whether a step saves more for a packet than another, or as much with more packets.
+    fn saves_more(self, other: HullStep) -> bool {
+        let own = u128::from(self.saved).wrapping_mul(u128::from(other.packets));
+        let others = u128::from(other.saved).wrapping_mul(u128::from(self.packets));
+        own > others || (own == others && self.packets > other.packets)
+    }
+}
+
+/// The step of a unit from one corner to another, without its ratio.
+fn step_between(unit: usize, from: Corner, to: Corner) -> HullStep {
+    HullStep {
+        unit,
+        packets: to.packets.saturating_sub(from.packets),
+        saved: from.distortion.saturating_sub(to.distortion),
+        ratio: 0,
+    }
 }
 
 /// Adds the steps between the corners of a unit.
@@ -198,19 +211,19 @@ fn add_steps(
     for k in unit.first.saturating_add(1)..unit.until {
         if k < corners.len() {
             let from = corners[k.saturating_sub(1)];
+            let step = step_between(number, from, corners[k]);
             steps.push(HullStep {
-                unit: number,
-                packets: corners[k].packets.saturating_sub(from.packets),
-                saved: from.distortion.saturating_sub(corners[k].distortion),
+                ratio: ratio_of(step),
+                ..step
             })?;
         }
     }
     Ok(())
 }
 
-/// Distortion for a packet.
-fn ratio(saved: u64, packets: u32) -> u128 {
-    u128::from(saved).saturating_mul(RATIO_PARTS) / u128::from(packets.max(1))
+/// What a step saves for a packet, in parts.
+fn ratio_of(step: HullStep) -> u64 {
+    step.saved.saturating_mul(RATIO_PARTS) / u64::from(step.packets.max(1))
 }
 
 /// Packets and distortion of a version.

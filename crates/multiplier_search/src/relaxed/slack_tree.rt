@@ -12,11 +12,24 @@ pub struct SlackTree {
     height: u32,
     /// The first place is this node; the root is node 1, and below each node are its double and the next.
     first: usize,
-    /// The least number below each node, without what is added above it.
-    least: Vec<i64>,
-    /// What is added to all numbers below each node.
-    added: Vec<i64>,
+    /// What is known of each node.
+    nodes: Vec<SlackNode>,
 }
+
+/// What is known of the numbers below a node.
+#[derive(Clone, Copy, Debug, Default, PartialEq)]
+struct SlackNode {
+    /// The least of them, without what is added above it.
+    least: i64,
+    /// What is added to all of them.
+    added: i64,
+}
+
+/// A node behind the end: its number is above all that are asked for.
+const FAR_NODE: SlackNode = SlackNode {
+    least: FAR,
+    added: 0,
+};
 
 impl SlackTree {
     /// A tree of these numbers.
@@ -29,13 +42,11 @@ impl SlackTree {
                 height = level_above(height);
             }
         }
-        let least = vec![in alloc; FAR; first.saturating_mul(2)]?;
-        let added = vec![in alloc; 0; first.saturating_mul(2)]?;
+        let nodes = vec![in alloc; FAR_NODE; first.saturating_mul(2)]?;
         let mut tree = SlackTree {
             height,
             first,
-            least,
-            added,
+            nodes,
         };
         tree.fill(numbers);
         Ok(tree)
@@ -43,15 +54,16 @@ impl SlackTree {
 
     /// Puts the numbers at their places.
     fn fill(&mut self, numbers: &[i64]) {
+        let nodes = self.nodes.as_mut_slice();
         for (place, number) in numbers.iter().enumerate() {
-            put(
-                self.least.as_mut_slice(),
+            raise(
+                nodes,
                 self.first.saturating_add(place),
-                *number,
+                number.saturating_sub(FAR),
             );
         }
         for node in (1..self.first).rev() {
-            self.mend(node);
+            mend(nodes, node);
         }
     }
 
@@ -60,53 +72,57 @@ impl SlackTree {
         if place >= self.first {
             return;
         }
+        let nodes = self.nodes.as_mut_slice();
         let mut node = self.first.saturating_add(place);
-        self.raise(node, amount);
+        raise(nodes, node, amount);
         for _level in 0..self.height {
             if node % 2 == 0 {
-                self.raise(node | 1, amount);
+                raise(nodes, node | 1, amount);
             }
             node /= 2;
-            self.mend(node);
+            mend(nodes, node);
         }
     }
 
     /// The least number from a place on.
     pub fn least_from(&self, place: usize) -> i64 {
+        let nodes = self.nodes.as_slice();
         let mut node = self.first.saturating_add(place);
-        let mut least = at(self.least.as_slice(), node);
+        let mut least = at(nodes, node).least;
         for _level in 0..self.height {
             if node % 2 == 0 {
-                least = least.min(at(self.least.as_slice(), node | 1));
+                least = least.min(at(nodes, node | 1).least);
             }
             node /= 2;
-            least = least.saturating_add(at(self.added.as_slice(), node));
+            least = least.saturating_add(at(nodes, node).added);
         }
         least
     }
 
     /// The least number up to a place.
     pub fn least_upto(&self, place: usize) -> i64 {
+        let nodes = self.nodes.as_slice();
         let mut node = self.first.saturating_add(place);
-        let mut least = at(self.least.as_slice(), node);
+        let mut least = at(nodes, node).least;
         for _level in 0..self.height {
             if node % 2 == 1 {
-                least = least.min(at(self.least.as_slice(), node.saturating_sub(1)));
+                least = least.min(at(nodes, node.saturating_sub(1)).least);
             }
             node /= 2;
-            least = least.saturating_add(at(self.added.as_slice(), node));
+            least = least.saturating_add(at(nodes, node).added);
         }
         least
     }
 
     /// The last place whose number is at most this one, where there is one.
     pub fn last_at_most(&self, number: i64) -> usize {
+        let nodes = self.nodes.as_slice();
         let mut node: usize = 1;
         let mut left = number;
         for _level in 0..self.height {
-            left = left.saturating_sub(at(self.added.as_slice(), node));
+            left = left.saturating_sub(at(nodes, node).added);
             node = node.saturating_mul(2);
-            if at(self.least.as_slice(), node | 1) <= left {
+            if at(nodes, node | 1).least <= left {
                 node |= 1;
             }
         }
@@ -115,51 +131,50 @@ impl SlackTree {
 
     /// The first place whose number is at most this one, where there is one.
     pub fn first_at_most(&self, number: i64) -> usize {
+        let nodes = self.nodes.as_slice();
         let mut node: usize = 1;
         let mut left = number;
         for _level in 0..self.height {
-            left = left.saturating_sub(at(self.added.as_slice(), node));
+            left = left.saturating_sub(at(nodes, node).added);
             node = node.saturating_mul(2);
-            if at(self.least.as_slice(), node) > left {
+            if at(nodes, node).least > left {
                 node |= 1;
             }
         }
         node.saturating_sub(self.first)
     }
+}
 
-    /// Adds to all numbers below a node.
-    fn raise(&mut self, node: usize, amount: i64) {
-        let least = at(self.least.as_slice(), node).saturating_add(amount);
-        let added = at(self.added.as_slice(), node).saturating_add(amount);
-        put(self.least.as_mut_slice(), node, least);
-        put(self.added.as_mut_slice(), node, added);
+/// Adds to all numbers below a node.
+fn raise(nodes: &mut [SlackNode], node: usize, amount: i64) {
+    if node < nodes.len() {
+        let known = nodes[node];
+        nodes[node] = SlackNode {
+            least: known.least.saturating_add(amount),
+            added: known.added.saturating_add(amount),
+        };
     }
+}
 
-    /// Sets a node's least number from those of the two below it.
-    fn mend(&mut self, node: usize) {
-        let left = node.saturating_mul(2);
-        let below = at(self.least.as_slice(), left).min(at(self.least.as_slice(), left | 1));
-        let least = below.saturating_add(at(self.added.as_slice(), node));
-        put(self.least.as_mut_slice(), node, least);
+/// Sets a node's least number from those of the two below it.
+fn mend(nodes: &mut [SlackNode], node: usize) {
+    let left = node.saturating_mul(2);
+    let below = at(nodes, left).least.min(at(nodes, left | 1).least);
+    if node < nodes.len() {
+        nodes[node].least = below.saturating_add(nodes[node].added);
+    }
+}
+
+/// What is known of a node.
+fn at(nodes: &[SlackNode], node: usize) -> SlackNode {
+    if node < nodes.len() {
+        nodes[node]
+    } else {
+        FAR_NODE
     }
 }
 
 /// One level more.
 fn level_above(height: u32) -> u32 {
     height.saturating_add(1)
-}
-
-/// The number at a place, or one that is far above all behind the end.
-fn at(numbers: &[i64], place: usize) -> i64 {
-    match numbers.get(place) {
-        Some(number) => *number,
-        None => FAR,
-    }
-}
-
-/// Puts a number at a place, where there is one.
-fn put(numbers: &mut [i64], place: usize, number: i64) {
-    if place < numbers.len() {
-        numbers[place] = number;
-    }
 }

@@ -17,8 +17,8 @@ loop-place-preserved c =
     let first = greater.first in
     record {
       next = greater-next table fixed start 0 before changed best c.loop-place.invariant.next
-          (changed-next start changed place _ c.in_ok-lambda.lambda c.loop-place-test.true c.replaced-changed.ensures c.in_ok-lambda.ensures.most c.requires.searched) greater;
+          (changed-next start changed place _ c.best_lambda-lambda.result c.loop-place-test.true c.replaced-changed.ensures c.best_lambda-lambda.ensures.most c.requires.searched) greater;
       value = omega (arith, ints);
-      changes = changes-more table fixed start before changed best place _ c.in_ok-lambda.lambda c.loop-place-test.true c.loop-place.invariant.changes c.in_ok-lambda.ensures.rises
-          c.in_ok-lambda.ensures.ends c.replaced-changed.ensures greater;
+      changes = changes-more table fixed start before changed best place _ c.best_lambda-lambda.result c.loop-place-test.true c.loop-place.invariant.changes c.best_lambda-lambda.ensures.rises
+          c.best_lambda-lambda.ensures.ends c.replaced-changed.ensures greater;
     }

@@ -14,14 +14,14 @@ loop-left-preserved c =
     let fixed = c.args.fixed.now in
     let start = c.args.from.now.items in
     let with = c.loop-left.with.items in
-    let next = c.in_ok-next.next.items in
+    let next = c.best_change-next.result.items in
     let same = c.as_slice-in-loop-left.ensures.value in
-    let follows : AreNext with 0 next = subst (λ (x : List Window). AreNext x 0 next) same c.in_ok-next.ensures.next in
+    let follows : AreNext with 0 next = subst (λ (x : List Window). AreNext x 0 next) same c.best_change-next.ensures.next in
     let few = follows.few in
     let so_far = c.loop-left.invariant.value in
     let rise : value_of_windows table fixed with ≤ℤ value_of_windows table fixed next =
-    subst (λ (x : List Window). value_of_windows table fixed x ≤ℤ value_of_windows table fixed next) same c.in_ok-next.ensures.value in
-    let changes : BeatChanges table fixed with next = subst (λ (x : List Window). BeatChanges table fixed x next) same c.in_ok-next.ensures.changes in
+    subst (λ (x : List Window). value_of_windows table fixed x ≤ℤ value_of_windows table fixed next) same c.best_change-next.ensures.value in
+    let changes : BeatChanges table fixed with next = subst (λ (x : List Window). BeatChanges table fixed x next) same c.best_change-next.ensures.changes in
     let less : c.turns_left-left.result < c.loop-left.left = c.turns_left-left.ensures in
     let order = c.loop-left.invariant.order in
     record {

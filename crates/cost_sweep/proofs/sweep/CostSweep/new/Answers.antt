@@ -13,8 +13,8 @@ returns-clause-sweep c =
     let height = c.height_for-height.result in
     let room : length prices < 2 ^ height = omega (arith, c.height_for-height.ensures.room, c.len.ensures) in
     record {
-      order = IsNonDecreasingBy-from_sort_by_key (λ (s : CostStep). s.due) _ c.sort_unstable_by_key.ensures.sorted (λ a r q k. search rules);
-      small = small-moved c.args.steps.items c.sort_unstable_by_key.new.self.items c.sort_unstable_by_key.ensures.permutation c.requires;
+      order = IsNonDecreasingBy-from_sort_by_key (λ (s : CostStep). s.due) _ c.in_ok-sort_by_key.ensures.sorted (λ a r q k. search rules);
+      small = small-moved c.args.steps.items c.sort_by_key.new.self.items c.sort_by_key.ensures.permutation c.requires;
       prices = c.in_ok-prices.ensures.rise;
       all_prices = subst (λ (x : List CostStep). All (λ (s : CostStep). Contains prices s.from) x) c.as_slice.ensures.value c.in_ok-prices.ensures.all;
       within = omega arith;
