@@ -1,10 +1,10 @@
 -- Runs that single changes can do without.
-use Rattle.std.proofs.Common.{◌≡◌, ◌≢◌, ℕ, ◌+◌, ◌-◌, ◌*◌, ◌/◌, ◌%◌, ◌<◌, ◌≤◌, List, sym, ap, subst, ◌∙◌, inl, inr, arith}
+use Rattle.std.proofs.Common.{◌≡◌, ◌≢◌, ℕ, ◌+◌, ◌-◌, ◌*◌, ◌/◌, ◌%◌, ◌<◌, ◌≤◌, List, ap, ◌∙◌, inl, inr, arith}
 use Rattle.std.proofs.Math.Nat.{mul-le-mul_right}
 use Rattle.std.proofs.lemmas.Bool.{cases_lt}
 use Rattle.std.proofs.lemmas.Nat.{div-mul-add}
 use Rattle.version_table.specs.declared.table.Table.{Table}
-use Rattle.branch_plan.specs.Changes.{EndsBestAlone, HelpsAlone, change_count}
+use Rattle.branch_plan.specs.Changes.{EndsBestAlone, change_count}
 use Rattle.branch_plan.specs.Private.Changes.{GainsOver}
 use Rattle.branch_plan.specs.Private.Free.{AreFree}
 
@@ -31,6 +31,14 @@ rounds_for_all table evaluations free used choice distortion start premise is fe
           omega (arith, over changed some helps, same_rounds evaluations used M some (omega (arith, is.rounds some below, few)), worse)
       | inr above ↦ absurd (alone_for_all table evaluations free used choice is few alone (omega (arith, above)) changed helps)
     ]
+
+-- where so many runs are free, fewer are
+pub free_used : (table : Table) (evaluations free used : ℕ) → AreFree table evaluations free → used ≤ free → AreFree table evaluations used
+free_used table evaluations free used is few = record {
+  within = omega (arith, is.within, few);
+  enough = λ many. omega (arith, is.enough many, few);
+  rounds = λ some below. omega (arith, is.rounds some below, few);
+}
 
 -- a round behind each change is a number of 64 bits
 pub small_rounds : (changes : ℕ) → changes ≤ 262144 → (changes + 1) * changes ≤ 68719738880

@@ -17,7 +17,7 @@ use crate::arena::{Arena, Link, path_to};
 use crate::changes::unit_at;
 use crate::children::{Place, with_branch};
 use crate::known::Known;
-use crate::leaves::{free_unit, leaf_on};
+use crate::leaves::{closest_unit, leaf_on};
 use crate::open::{OpenLeaves, add_leaf, no_leaves, take_least};
 use crate::root::root_bound;
 use dual_bounds::{Windows, nothing_fixed};
@@ -218,7 +218,7 @@ fn branch_at(
     ensures step { IfOk result (EndsOrGrows table.now nodes growth) }
 {
     let fixed = path_to(alloc, table, growth.arena.links.as_slice(), number)?;
-    let Some(unit) = free_unit(table, &fixed) else {
+    let Some(unit) = closest_unit(table, &fixed, &growth.arena.nodes[number as usize]) else {
         unreachable!()
     };
     let versions = unit_at(table, unit as usize).versions.len();

@@ -6,7 +6,7 @@ mod rooms;
 use crate::corners::{Corner, add_corners, corner_at, ratio};
 use cuts::cut_before;
 use list_types::OutOfMemory;
-use rooms::{Room, lower, set_rooms};
+use rooms::{Room, are_open, lower, note_in_time, set_rooms};
 use std::alloc::Global;
 use std::cmp::Reverse;
 use stream_constants::decoder::EB_UNIT_BYTES;
@@ -29,6 +29,10 @@ pub(crate) struct FilledUnit {
     pub above: i64,
     /// How many slots for packets of units stand before the first that it may use.
     pub below: i64,
+    /// So many packets of units up to it were sent in time, where it was missed with more.
+    pub in_time: i64,
+    /// The fewest with which it was missed.
+    pub missed: i64,
 }
 
 /// A step along a unit's lower hull: more packets, less distortion.
@@ -58,8 +62,9 @@ pub(crate) struct Filling {
 }
 
 impl Filling {
-    /// The units of a table, each at its smallest version. Fails only for want of memory.
-    pub fn new(alloc: Global, table: &Table) -> Result<Filling, OutOfMemory>
+    /// The units of a table, each at its smallest version, where so many parts of 100 of the elementary buffers are reckoned to
+    /// be filled. Fails only for want of memory.
+    pub fn new(alloc: Global, table: &Table, percent: u64) -> Result<Filling, OutOfMemory>
         requires { IsValidTable table.now }
     {
         let mut units = Vec::new(alloc);
@@ -69,7 +74,7 @@ impl Filling {
             add_units(&mut units, &mut corners, program)?;
         }
         units.sort_by_key(|unit| unit.due)?;
-        set_rooms(table, units.as_mut_slice());
+        set_rooms(table, units.as_mut_slice(), percent);
         add_steps(&mut steps, units.as_slice(), corners.as_slice())?;
         steps.sort_by_key(|step| Reverse(step.ratio))?;
         Ok(Filling {
@@ -87,9 +92,10 @@ impl Filling {
         Ok(())
     }
 
-    /// Lowers the room before a miss by so many packets, and takes as many off the units that are due shortly before it.
+    /// Lowers the room before a miss, by so many packets where it isn't known how many are sent in time, and takes as many off the
+    /// units that are due shortly before it.
     pub fn lower_before(&mut self, due: u64, packets: u32) {
-        lower(
+        let less = lower(
             self.units.as_mut_slice(),
             self.corners.as_slice(),
             due,
@@ -99,8 +105,19 @@ impl Filling {
             self.units.as_mut_slice(),
             self.corners.as_slice(),
             due,
-            packets,
+            less,
         );
+    }
+
+    /// Notes how many packets are sent in time where there were misses, and raises the room there halfway to the fewest that
+    /// were too many.
+    pub fn note_in_time(&mut self) {
+        note_in_time(self.units.as_mut_slice(), self.corners.as_slice());
+    }
+
+    /// Whether there is a number somewhere between the packets that were sent in time and those that were missed.
+    pub fn is_open(&self) -> bool {
+        are_open(self.units.as_slice())
     }
 }
 
@@ -122,6 +139,8 @@ fn add_units(
             at: first,
             above: 0,
             below: 0,
+            in_time: i64::MIN,
+            missed: i64::MAX,
         })?;
     }
     Ok(())

@@ -29,7 +29,7 @@ pub(crate) fn free_runs(table: &Table, units: usize, evaluations: u32) -> u32
 }
 
 /// How many single changes a table has: of each unit its versions less one.
-fn change_count(table: &Table, units: usize) -> u64
+pub(crate) fn change_count(table: &Table, units: usize) -> u64
     requires valid { IsValidTable table.now }
     requires units { units ≡ length (units_of table.now) }
     ensures count { result ≡ change_count table.now }

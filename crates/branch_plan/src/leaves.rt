@@ -13,6 +13,7 @@ ghost use Rattle.branch_plan.specs.Private.Known.{IsKnown};
 ghost use Rattle.branch_plan.specs.Private.Changes.{unit_at};
 ghost use Rattle.branch_plan.specs.Private.Leaves.{IsFreeUnit, IsLeafOn};
 
+use crate::apart::costs_apart;
 use crate::changes::unit_at;
 use crate::known::Known;
 use bound_certificate::Node;
@@ -69,6 +70,30 @@ pub(crate) fn free_unit(table: &Table, fixed: &Fixed) -> Option<u32>
         }
     }
     None
+}
+
+/// A unit of two or more versions of which none is fixed: the first whose two cheapest versions lie closest at the prices of a
+/// leaf, so that its children's bounds rise most on the whole; none where one choice is left.
+pub(crate) fn closest_unit(table: &Table, fixed: &Fixed, leaf: &Node) -> Option<u32>
+    requires valid { IsValidTable table.now }
+    requires fixed { FixesVersions table.now fixed.now }
+    ensures { MatchOption result (LeavesOne table.now fixed.now) (IsFreeUnit table.now fixed.now) }
+{
+    let mut closest = free_unit(table, fixed);
+    if closest.is_none() {
+        return None;
+    }
+    let mut least = u64::MAX;
+    for unit in 0..fixed.len() {
+        if is_free(table, fixed, unit) {
+            let apart = costs_apart(unit_at(table, unit), leaf);
+            if apart < least {
+                least = apart;
+                closest = Some(unit as u32);
+            }
+        }
+    }
+    closest
 }
 
 /// Whether a unit has two or more versions, of which none is fixed.

@@ -4,6 +4,7 @@
 //! on `multiplier_search`, `certificate_checker` and those below them.
 #![tactic(auto)]
 
+mod apart;
 mod arena;
 mod branching;
 mod changes;
@@ -16,6 +17,7 @@ mod known;
 mod leaves;
 pub mod limits;
 mod open;
+mod owed;
 mod planner;
 mod root;
 

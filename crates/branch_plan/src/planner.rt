@@ -12,10 +12,10 @@ ghost use Rattle.branch_plan.specs.Tree.{AreEnough, BranchesOnMany, IsSpent};
 
 use crate::arena::in_order;
 use crate::branching::{Ended, branched};
-use crate::changes::after_changes;
 use crate::filled::by_filling;
 use crate::free::free_runs;
 use crate::known::best_premise;
+use crate::owed::after_owed;
 use crate::root::root_windows;
 use bound_certificate::Cert;
 use dual_bounds::nothing_fixed;
@@ -116,8 +116,9 @@ pub fn plan(
         known: first,
     } = ended;
     let free = free_runs(table, fixed.len(), evaluations);
+    let start = first.distortion;
     let filled = by_filling(alloc, table, &mut run, first, free)?;
-    let known = after_changes(table, &mut run, filled.known, evaluations - filled.used);
+    let known = after_owed(table, &mut run, start, filled, evaluations);
     let search = ended_by(bound, known.distortion);
     Ok(Planned {
         cert: Cert {

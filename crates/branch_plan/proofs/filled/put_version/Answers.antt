@@ -1,4 +1,4 @@
-use Rattle.std.proofs.Common.{◌≡◌, ◌<◌, List, ℕ, length, rules, sym, ap, subst, arith}
+use Rattle.std.proofs.Common.{◌<◌, List, ℕ, length, rules, sym, ap, subst, arith}
 use Rattle.version_table.specs.declared.table.Unit.{Unit as CodedUnit}
 use Rattle.version_table.specs.Choice.{Fits}
 use Rattle.version_table.specs.Table.{units_of}

@@ -12,7 +12,7 @@ use Rattle.branch_plan.specs.Bound.{unit_dues}
 use Rattle.branch_plan.specs.Private.Root.{BeatEachPair}
 use Rattle.branch_plan.proofs.Certs.{IsCertTree, branches_in, cert_tree, few_windows_in, pairs_in, tried_in, writable}
 use Rattle.branch_plan.proofs.Enough.{always_optimal}
-use Rattle.branch_plan.proofs.FreeRuns.{alone_for_all, rounds_for_all}
+use Rattle.branch_plan.proofs.FreeRuns.{free_used}
 use Rattle.branch_plan.proofs.Roots.{faultless, pair_bounds, tried_bounds}
 use Rattle.branch_plan.proofs.Trying.{gains}
 use Rattle.branch_plan.proofs.planner.plan.Goals as goal
@@ -34,9 +34,9 @@ returns-clause-written c =
     let root = bound_of_value (value_of_windows table (unfixed table) c.in_ok-windows.windows.items) in
     let tree : IsCertTree table c.args.nodes root c.in_ok-tree.tree ended.bound ended.known.distortion =
     cert_tree table c.args.nodes root ended c.in_ok-tree.tree is (c.in_ok-tree.ensures is.ids is.order) in
-    let known = c.after_changes-known.result in
+    let known = c.after_owed-known.result in
     let cert = cert_of ended.bound known.distortion known.choice c.in_ok-tree.tree in
-    writable table c.args.nodes root cert ended.known.distortion c.requires.valid c.requires.nodes refl tree c.after_changes-known.ensures.known.fits
+    writable table c.args.nodes root cert ended.known.distortion c.requires.valid c.requires.nodes refl tree c.after_owed-known.ensures.known.fits
 
 pub returns-clause-root : goal.returns-clause-root
 returns-clause-root c =
@@ -46,7 +46,7 @@ returns-clause-root c =
     let root = bound_of_value (value_of_windows table (unfixed table) c.in_ok-windows.windows.items) in
     let tree : IsCertTree table c.args.nodes root c.in_ok-tree.tree ended.bound ended.known.distortion =
     cert_tree table c.args.nodes root ended c.in_ok-tree.tree is (c.in_ok-tree.ensures is.ids is.order) in
-    let known = c.after_changes-known.result in
+    let known = c.after_owed-known.result in
     let cert = cert_of ended.bound known.distortion known.choice c.in_ok-tree.tree in
     tree.shows
 
@@ -58,9 +58,9 @@ returns-clause-faultless c =
     let root = bound_of_value (value_of_windows table (unfixed table) c.in_ok-windows.windows.items) in
     let tree : IsCertTree table c.args.nodes root c.in_ok-tree.tree ended.bound ended.known.distortion =
     cert_tree table c.args.nodes root ended c.in_ok-tree.tree is (c.in_ok-tree.ensures is.ids is.order) in
-    let known = c.after_changes-known.result in
+    let known = c.after_owed-known.result in
     let cert = cert_of ended.bound known.distortion known.choice c.in_ok-tree.tree in
-    let kept = c.after_changes-known.ensures.known in
+    let kept = c.after_owed-known.ensures.known in
     let head : IsHeadRight table cert = record { fits = kept.fits; scheduled = kept.scheduled; distortion = kept.distortion } in
     faultless table cert head tree.shows
 
@@ -72,7 +72,7 @@ returns-clause-bound c =
     let root = bound_of_value (value_of_windows table (unfixed table) c.in_ok-windows.windows.items) in
     let tree : IsCertTree table c.args.nodes root c.in_ok-tree.tree ended.bound ended.known.distortion =
     cert_tree table c.args.nodes root ended c.in_ok-tree.tree is (c.in_ok-tree.ensures is.ids is.order) in
-    let known = c.after_changes-known.result in
+    let known = c.after_owed-known.result in
     let cert = cert_of ended.bound known.distortion known.choice c.in_ok-tree.tree in
     faultless_bound table cert c.requires.valid (returns-clause-faultless c)
 
@@ -84,7 +84,7 @@ returns-clause-few_nodes c =
     let root = bound_of_value (value_of_windows table (unfixed table) c.in_ok-windows.windows.items) in
     let tree : IsCertTree table c.args.nodes root c.in_ok-tree.tree ended.bound ended.known.distortion =
     cert_tree table c.args.nodes root ended c.in_ok-tree.tree is (c.in_ok-tree.ensures is.ids is.order) in
-    let known = c.after_changes-known.result in
+    let known = c.after_owed-known.result in
     let cert = cert_of ended.bound known.distortion known.choice c.in_ok-tree.tree in
     tree.few
 
@@ -96,7 +96,7 @@ returns-clause-few_windows c =
     let root = bound_of_value (value_of_windows table (unfixed table) c.in_ok-windows.windows.items) in
     let tree : IsCertTree table c.args.nodes root c.in_ok-tree.tree ended.bound ended.known.distortion =
     cert_tree table c.args.nodes root ended c.in_ok-tree.tree is (c.in_ok-tree.ensures is.ids is.order) in
-    let known = c.after_changes-known.result in
+    let known = c.after_owed-known.result in
     let cert = cert_of ended.bound known.distortion known.choice c.in_ok-tree.tree in
     few_windows_in table c.args.nodes root c.in_ok-tree.tree ended.bound ended.known.distortion tree
 
@@ -108,7 +108,7 @@ returns-clause-branches c =
     let root = bound_of_value (value_of_windows table (unfixed table) c.in_ok-windows.windows.items) in
     let tree : IsCertTree table c.args.nodes root c.in_ok-tree.tree ended.bound ended.known.distortion =
     cert_tree table c.args.nodes root ended c.in_ok-tree.tree is (c.in_ok-tree.ensures is.ids is.order) in
-    let known = c.after_changes-known.result in
+    let known = c.after_owed-known.result in
     let cert = cert_of ended.bound known.distortion known.choice c.in_ok-tree.tree in
     branches_in table c.args.nodes root c.in_ok-tree.tree ended.bound ended.known.distortion tree
 
@@ -120,19 +120,19 @@ returns-clause-spent c =
     let root = bound_of_value (value_of_windows table (unfixed table) c.in_ok-windows.windows.items) in
     let tree : IsCertTree table c.args.nodes root c.in_ok-tree.tree ended.bound ended.known.distortion =
     cert_tree table c.args.nodes root ended c.in_ok-tree.tree is (c.in_ok-tree.ensures is.ids is.order) in
-    let known = c.after_changes-known.result in
+    let known = c.after_owed-known.result in
     let cert = cert_of ended.bound known.distortion known.choice c.in_ok-tree.tree in
-    let kept = c.after_changes-known.ensures.known in
+    let kept = c.after_owed-known.ensures.known in
     let under = returns-clause-bound c known.choice kept.fits kept.scheduled in
     λ budget.
     let differs = c.ended_by-search.ensures.budget budget in
     let less : ended.bound < ended.known.distortion = strictly ended.bound known.distortion ended.known.distortion (omega (arith, under, kept.distortion)) differs
-    (omega (arith, c.after_changes-known.ensures.kept, c.in_ok-filled.ensures.kept)) in
+    (omega (arith, c.after_owed-known.ensures.kept, c.in_ok-filled.ensures.kept)) in
     tree.spent less cert refl refl
 
 pub returns-clause-enough : goal.returns-clause-enough
 returns-clause-enough c =
-    let known = c.after_changes-known.result in
+    let known = c.after_owed-known.result in
     let cert = cert_of c.in_ok-ended.ended.bound known.distortion known.choice c.in_ok-tree.tree in
     always_optimal c.args.table.now c.args.nodes cert c.ended_by-search.result (returns-clause-root c) (returns-clause-branches c) (returns-clause-spent c)
 
@@ -144,7 +144,7 @@ returns-clause-tried c =
     let root = bound_of_value (value_of_windows table (unfixed table) c.in_ok-windows.windows.items) in
     let tree : IsCertTree table c.args.nodes root c.in_ok-tree.tree ended.bound ended.known.distortion =
     cert_tree table c.args.nodes root ended c.in_ok-tree.tree is (c.in_ok-tree.ensures is.ids is.order) in
-    let known = c.after_changes-known.result in
+    let known = c.after_owed-known.result in
     let cert = cert_of ended.bound known.distortion known.choice c.in_ok-tree.tree in
     let windows = c.in_ok-windows.windows.items in
     let least = tried_bounds table windows root
@@ -159,23 +159,18 @@ returns-clause-pairs c =
     let root = bound_of_value (value_of_windows table (unfixed table) c.in_ok-windows.windows.items) in
     let tree : IsCertTree table c.args.nodes root c.in_ok-tree.tree ended.bound ended.known.distortion =
     cert_tree table c.args.nodes root ended c.in_ok-tree.tree is (c.in_ok-tree.ensures is.ids is.order) in
-    let known = c.after_changes-known.result in
+    let known = c.after_owed-known.result in
     let cert = cert_of ended.bound known.distortion known.choice c.in_ok-tree.tree in
     let windows = c.in_ok-windows.windows.items in
     let least = pair_bounds table windows root (subst (λ (f : List (Option ℕ)). BeatEachPair table f windows) c.in_ok-fixed.ensures.value c.in_ok-windows.ensures.pairs) refl in
     pairs_in table root ended.bound least tree.at_least
 
-pub returns-clause-alone : goal.returns-clause-alone
-returns-clause-alone c =
-    alone_for_all c.args.table.now c.args.evaluations c.free_runs-free.result c.in_ok-filled.filled.used c.after_changes-known.result.choice c.free_runs-free.ensures
-    c.in_ok-filled.ensures.used c.after_changes-known.ensures.alone
+pub after_owed-known-requires-clause-free : goal.after_owed-known-requires-clause-free
+after_owed-known-requires-clause-free c =
+    free_used c.args.table.now c.args.evaluations c.free_runs-free.result c.in_ok-filled.filled.used c.free_runs-free.ensures c.in_ok-filled.ensures.used
 
 pub returns-clause-rounds : goal.returns-clause-rounds
 returns-clause-rounds c =
-    let table = c.args.table.now in
-    let known = c.after_changes-known.result in
-    let start = c.in_ok-ended.ended.known.distortion in
-    let over = rounds_for_all table c.args.evaluations c.free_runs-free.result c.in_ok-filled.filled.used known.choice known.distortion c.in_ok-filled.filled.known.distortion start
-    c.free_runs-free.ensures c.in_ok-filled.ensures.used c.after_changes-known.ensures.alone c.after_changes-known.ensures.rounds c.in_ok-filled.ensures.kept in
-    gains table c.args.evaluations known.choice known.distortion start over
+    let known = c.after_owed-known.result in
+    gains c.args.table.now c.args.evaluations known.choice known.distortion c.in_ok-ended.ended.known.distortion c.after_owed-known.ensures.rounds
     (λ premise is scheduled. omega (arith, c.in_ok-premise.ensures.no_worse premise is scheduled, c.in_ok-ended.ensures.kept))
