@@ -1,6 +1,7 @@
 pub mod Audios
 pub mod Clocks
 mod Examples
+pub mod OneClock
 pub mod Programs
 pub mod Spelled
 pub mod Tables

@@ -1,5 +1,7 @@
 //! Laws of the times of a job's stream, as functions that do nothing.
-ghost use Rattle.std.specs.Prelude.{ℕ, List, map};
+ghost use Rattle.std.specs.Prelude.{◌≡◌, ◌*◌, ◌^◌, ◌<◌, ℕ, ℤ, pos, List, map};
+ghost use Rattle.stream_constants.specs.declared.clock.TheConstants.{TICKS_PER_TIME_UNIT};
+ghost use Rattle.ts_packets.specs.Packet.{PacketRecord};
 ghost use Rattle.version_table.specs.declared.table.Table.{Table};
 ghost use Rattle.version_table.specs.Choice.{Fits};
 ghost use Rattle.version_table.specs.Table.{IsValidTable};
@@ -12,6 +14,7 @@ ghost use Rattle.job_programs.specs.Programs.{ArePrograms};
 ghost use Rattle.program_table.specs.Table.{IsTableOf};
 ghost use Rattle.job_stream.specs.Stream.{IsStreamIn};
 ghost use Rattle.stream_times.specs.Carried.{CarriesTable, IsCleanByItsTimes};
+ghost use Rattle.stream_times.specs.Clock.{IsClock, IsFirstShown};
 
 use clean_stream::laws::stream_is_clean;
 use job_reading::programs::programs_are_read_back;
@@ -55,3 +58,11 @@ pub fn stream_is_clean_by_its_times()
     stream_carries_its_times();
     stream_is_clean();
 }
+
+/// Nothing else is carried: PCRs are those of one clock, a clock first shows a time at one tick, and at a tick one time of a PES header.
+pub fn carried_times_are_one()
+    ensures base { (stream : List PacketRecord) (slot pid base other : ℕ) → IsClock stream slot pid base → IsClock stream slot pid other → base ≡ other }
+    ensures tick { (base at other : ℕ) (time : ℤ) → IsFirstShown base time at → IsFirstShown base time other → at ≡ other }
+    ensures time { (base at time other : ℕ) → time < 2 ^ 33 → other < 2 ^ 33 → IsFirstShown base (pos (TICKS_PER_TIME_UNIT * time)) at
+        → IsFirstShown base (pos (TICKS_PER_TIME_UNIT * other)) at → time ≡ other }
+{}
