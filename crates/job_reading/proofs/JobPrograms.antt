@@ -1,5 +1,5 @@
 -- The programs of a job are read back from its stream, one behind the other.
-use Rattle.std.proofs.Common.{◌≡◌, ◌≢◌, ℕ, zero, suc, ◌+◌, ◌<◌, ◌≤◌, List, [], ◌∷◌, ◌++◌, All, length, get_or, map, drop, Option, Some, refl, sym, ap, ap₂, ◌∙◌, subst, arith, append_assoc, length-append}
+use Rattle.std.proofs.Common.{◌≡◌, ◌≢◌, ℕ, zero, suc, ◌+◌, ◌<◌, ◌≤◌, List, [], ◌∷◌, ◌++◌, All, length, map, drop, None, Some, refl, sym, ap, ◌∙◌, subst, arith, append_assoc, length-append}
 use Rattle.std.specs.Prelude.{slice_get}
 use Rattle.std.specs.List.{AllZip, flat_map}
 use Rattle.std.proofs.lemmas.List.{length-map}
@@ -7,7 +7,6 @@ use Rattle.std.proofs.lemmas.List.Elements.{All-append, All-cons, All-from_get_o
 use Rattle.payload_lists.specs.Payload.{CarriedPayload}
 use Rattle.ts_packets.specs.TransportStream.{piece_count, pieces_of as packets_on}
 use Rattle.ts_packets.specs.Carried.{carried}
-use Rattle.syntax_types.specs.declared.picture.SeqState.{SeqState}
 use Rattle.psi_tables.specs.declared.program_map.ProgramMap.{ProgramMap}
 use Rattle.psi_tables.specs.declared.stream.Stream.{Stream}
 use Rattle.version_table.specs.declared.table.ProgramRow.{ProgramRow}
@@ -36,10 +35,11 @@ use Rattle.output_reading.specs.SentOn.{AreRowsOf}
 use Rattle.stream_parsing.specs.Parsed.{AreReadAs, CarriesPackets, bytes_of, sent_packet}
 use Rattle.stream_parsing.specs.TakenOut.{BeginWithTables, HasStreams, IsNumberedIn, taken_out}
 use Rattle.stream_parsing.proofs.ProgramParts.{GatheredAgain, VideoAsWritten, audio-packets, stream-packets, units-read}
-use Rattle.job_reading.specs.ReadBack.{AreReadBack, IsReadBack, sent_units}
+use Rattle.job_reading.specs.ParsesTo.{ParsesTo, ParsesToProgram, sent_units}
 use Rattle.job_reading.proofs.CarriedShape.{GoesOutAs, output-kinds}
 use Rattle.job_reading.proofs.SentStreams.{fits-behind, rows-length}
-use Rattle.job_reading.proofs.SentVideos.{AllCarry, PiecesCarry, all-carry, carry-parts, items-carry, units-said}
+use Rattle.job_reading.proofs.SentVideos.{AllCarry, PiecesCarry, carry-parts, items-carry, units-said}
+use Rattle.job_reading.proofs.SentUnits.{UnitsCutAgain, VersionsAreLed, VersionsAreWhole, sent-led, sent-slices, sent-whole}
 use Rattle.job_reading.proofs.AudioStreams.{audios-carry}
 use Rattle.job_reading.proofs.ReadyPrograms.{IsReady, ready-one}
 use Rattle.job_reading.proofs.VersionBytes.{video-versions-some}
@@ -103,19 +103,20 @@ TakenOutLaw =
     → IsDemuxed (output_stream layout slot pieces rows) program_map.number [] (taken_out (output_stream layout slot pieces rows) program_map video audios)
 
 module _ (law : ReadIsSendable) (taken : TakenOutLaw) (gathered : GatheredAgain) (written : VideoAsWritten) (cut : PiecesCarry)
+    (whole : VersionsAreWhole) (led : VersionsAreLed) (again : UnitsCutAgain)
     (layout : Layout) (slot : ℕ) (pieces : Pieces) (rows : List Sent) (are : AreRowsOf layout pieces rows) (begin : BeginWithTables (length layout.maps.items) rows)
     (count : piece_count (output_stream layout slot pieces rows) ≡ length rows) where
   abbrev file : List ℕ
   file = output_stream layout slot pieces rows
 
   one-read : (n : ℕ) (job : ProgramJob) (jobs : List ProgramJob) (p : Program) (coarser : List ℕ) (v : List (List UnitVersion)) (choice : List ℕ) (before rest : List ProgramMap)
-      (more : List CodedUnit) (state : Option SeqState)
+      (more : List CodedUnit)
       → layout.maps.items ≡ before ++ with_output_pids n job.number p.map ∷ rest → length before ≡ n → 1 ≤ job.number → All (IsOtherNumber (job ∷ jobs)) before → (content : List ℕ) (start : ℕ)
       → IsProgramOf content job.program job.drop.items start p
-      → AreVideoVersions p.video coarser state p.units v → AllZip HasVersion (unit_rows job.weight p.units v ++ more) choice
+      → AreVideoVersions p.video coarser None p.units v → AllZip HasVersion (unit_rows job.weight p.units v ++ more) choice
       → AllCarry file (length rows) (pids_of (with_output_pids n job.number p.map)) (video_items p.units v choice ∷ map audio_items p.audios)
-      → IsReadBack file content job (with_output_pids n job.number p.map) (sent_units p.units v choice)
-  one-read n job jobs p coarser v choice before rest more state split size some apart content start of versions fits carry =
+      → ParsesToProgram file content job (with_output_pids n job.number p.map) (sent_units p.units v choice)
+  one-read n job jobs p coarser v choice before rest more split size some apart content start of versions fits carry =
       let ready : IsReady p = ready-one law content job.program job.drop.items start p of in
       let is = of.program_is in
       let program_map : ProgramMap = with_output_pids n job.number p.map in
@@ -127,15 +128,22 @@ module _ (law : ReadIsSendable) (taken : TakenOutLaw) (gathered : GatheredAgain)
         each = items-carry cut p.units v choice;
         carried_are = ap (λ (k : ℕ). map (λ (c : CarriedPayload). c.payload) (carried (packets_on file goes.video.pid 0 k))) count ∙ carry_streams.0;
       } in
+      let read : AreReadAs (sent_units p.units v choice) (bytes_of (taken_out file program_map goes.video goes.audios).video) =
+      subst (λ (bytes : List (List ℕ)). AreReadAs (sent_units p.units v choice) bytes) (sym (stream-packets gathered file goes.video (map sent_packet (sent_units p.units v choice)) carries))
+      (units-read written (sent_units p.units v choice)
+      (units-said job.weight p.video p.units v choice more ready.sendable.units (video-versions-some p.video coarser None p.units v versions) fits)) in
       record {
         demuxed = taken_out file program_map goes.video goes.audios;
         taken_out = taken layout slot pieces rows n program_map goes.video goes.audios are begin
             (numbered layout.maps.items before rest program_map n job jobs split size refl some apart) goes.has;
         map_is = refl;
         whole = refl;
-        video = subst (λ (bytes : List (List ℕ)). AreReadAs (sent_units p.units v choice) bytes) (sym (stream-packets gathered file goes.video (map sent_packet (sent_units p.units v choice)) carries))
-            (units-read written (sent_units p.units v choice)
-            (units-said job.weight p.video p.units v choice more ready.sendable.units (video-versions-some p.video coarser state p.units v versions) fits));
+        video = read;
+        units = λ bytes.
+            again (sent_units p.units v choice) (bytes_of (taken_out file program_map goes.video goes.audios).video) read
+            (sent-led job.weight p.video coarser None p.units v choice more versions (led content job.program job.drop.items start p coarser v bytes of versions) fits)
+            (sent-whole job.weight None p.units v choice more (whole content job.program job.drop.items start p coarser v bytes of versions) fits);
+        slices = λ bytes. sent-slices job.weight None p.units v choice more (whole content job.program job.drop.items start p coarser v bytes of versions) fits;
         source = of.demuxed;
         source_is = of.demuxed_is;
         audio = audio-packets gathered file goes.audios (map (λ (stream : AudioStream). bytes_of (taken_of stream)) of.demuxed.audios)
@@ -148,7 +156,7 @@ module _ (law : ReadIsSendable) (taken : TakenOutLaw) (gathered : GatheredAgain)
       → AreAllVersions programs (ratios_of jobs) versions
       → AllZip HasVersion (flat_map (λ (row : ProgramRow). row.units) (program_rows jobs programs versions)) choice
       → AllCarry file (length rows) (flat_map pids_of (output_maps n jobs programs)) (stream_items programs versions choice)
-      → AreReadBack file n jobs further programs versions choice
+      → ParsesTo file n jobs further programs versions choice
   read-back n [] [] [] choice before split size apart pairs valid slots start read done [] next are_versions fits carry = tt
   read-back n [] [] [] choice before split size apart pairs valid slots start read done (c ∷ cs) next are_versions fits carry = absurd next
   read-back n [] [] (v ∷ vs) choice before split size apart pairs valid slots start read done further next are_versions fits carry = absurd are_versions
@@ -167,8 +175,8 @@ module _ (law : ReadIsSendable) (taken : TakenOutLaw) (gathered : GatheredAgain)
       let parts = carry-parts file (length rows) (pids_of program_map) (flat_map pids_of (output_maps (n + 1) js ps)) (video_items p.units v choice ∷ map audio_items p.audios)
       (stream_items ps vs (drop (length p.units) choice)) own carry in
       let behind : AllZip HasVersion later (drop (length p.units) choice) = subst (λ (k : ℕ). AllZip HasVersion later (drop k choice)) many (fits-behind row.units later choice fits) in (
-        one-read n j js p j.coarser.items v choice before (output_maps (n + 1) js ps) later _ split size (All-head IsValidProgramJob j js valid).some_number apart c start next.0.holds are_versions.0 fits
-            parts.0,
+        one-read n j js p j.coarser.items v choice before (output_maps (n + 1) js ps) later split size (All-head IsValidProgramJob j js valid).some_number apart c start next.0.holds
+            are_versions.0 fits parts.0,
         read-back (n + 1) js ps vs (drop (length p.units) choice) (before ++ program_map ∷ [])
             (split ∙ sym (append_assoc before (program_map ∷ []) (output_maps (n + 1) js ps))) (omega (arith, size, length-append before (program_map ∷ [])))
             (apart-next before j js program_map refl apart pairs) (apart-tail j js pairs) (All-tail IsValidProgramJob j js valid)

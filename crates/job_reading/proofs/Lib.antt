@@ -5,5 +5,6 @@ mod JobRows
 mod ReadyPrograms
 mod SentAudios
 mod SentStreams
+mod SentUnits
 mod SentVideos
 mod VersionBytes

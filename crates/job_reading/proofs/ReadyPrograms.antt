@@ -1,7 +1,5 @@
 -- What the programs of a job have for being read back.
-use Rattle.std.proofs.Common.{◌≡◌, ℕ, suc, ◌+◌, List, [], ◌∷◌, ◌++◌, All, length, refl, sym, ap, ◌∙◌, subst}
-use Rattle.std.proofs.lemmas.List.Elements.{All-cons, All-nil}
-use Rattle.psi_tables.specs.declared.program_map.ProgramMap.{ProgramMap}
+use Rattle.std.proofs.Common.{◌≡◌, ℕ, suc, List, [], ◌∷◌, length, refl, sym, ap, subst}
 use Rattle.job_report.specs.declared.job.ProgramJob.{ProgramJob}
 use Rattle.program_reader.specs.declared.program.Program.{Program}
 use Rattle.program_reader.specs.Programs.{IsProgramOf}
@@ -9,7 +7,6 @@ use Rattle.version_maker.specs.declared.version.UnitVersion.{UnitVersion}
 use Rattle.version_source.specs.Sendable.{IsSendable}
 use Rattle.version_source.specs.Versions.{AreAllVersions, ratios_of}
 use Rattle.program_table.specs.Table.{program_rows}
-use Rattle.job_programs.specs.Programs.{AreNextPrograms}
 use Rattle.job_stream.specs.Private.Outgoing.{CanGoOut}
 use Rattle.job_stream.proofs.ReadPrograms.{ReadIsSendable, goes-out}
 use Rattle.job_reading.proofs.CarriedShape.{HasKinds, carried-kinds-are}

@@ -1,9 +1,9 @@
 -- The payloads of an audio source are the PES packets that were taken of its stream, cut into pieces of 184 bytes.
-use Rattle.std.proofs.Common.{◌≡◌, ℕ, zero, suc, ◌+◌, ◌-◌, ◌*◌, ◌/◌, ◌<◌, ◌≤◌, ◌==◌, ◌⊎◌, inl, inr, min, Bool, true, false, List, [], ◌∷◌, ◌++◌, All, length, map, take, drop, ℤ, refl, sym, ap, ap₂, ◌∙◌, subst, arith, append_assoc, length-append}
+use Rattle.std.proofs.Common.{◌≡◌, ℕ, zero, suc, ◌+◌, ◌-◌, ◌*◌, ◌/◌, ◌<◌, ◌≤◌, ◌==◌, ◌⊎◌, inl, inr, min, Bool, List, [], ◌∷◌, ◌++◌, All, length, map, take, drop, ℤ, refl, sym, ap, ap₂, ◌∙◌, subst, arith, append_assoc, length-append}
 use Rattle.std.specs.Prelude.{slice_range}
 use Rattle.std.specs.List.{flat_map, range_with_len}
-use Rattle.std.proofs.lemmas.Bool.{cases_lt, eqb-true, eq-eqb, ne_eqb}
-use Rattle.std.proofs.lemmas.List.{append-nil, drop-append-le, drop-drop, length-drop, take-append-le, take_all}
+use Rattle.std.proofs.lemmas.Bool.{cases_lt, ne_eqb}
+use Rattle.std.proofs.lemmas.List.{drop-append-le, length-drop, take-append-le, take_all}
 use Rattle.std.proofs.lemmas.List.Elements.{All-head, All-tail}
 use Rattle.payload_lists.specs.Payload.{Payload}
 use Rattle.audio_frames.specs.declared.frame.Frame.{Frame}
@@ -11,11 +11,11 @@ use Rattle.pes_units.specs.PesHeader.{header_length}
 use Rattle.ts_demux.specs.declared.demuxed.PesUnit.{PesUnit}
 use Rattle.program_reader.specs.declared.pes_packets.PlacedPacket.{PlacedPacket}
 use Rattle.program_reader.specs.declared.program.AudioPiece.{AudioPiece}
-use Rattle.program_reader.specs.Audio.{ArePieces, IsPiece, packet_size, piece_places, piece_size, placed_pieces}
+use Rattle.program_reader.specs.Audio.{ArePieces, IsPiece, packet_size, piece_size, placed_pieces}
 use Rattle.program_reader.specs.Packets.{payload_of, placed_from}
 use Rattle.program_reader.proofs.StreamLemmas.{HasPayload}
 use Rattle.program_reader.proofs.TakenLemmas.{placed_at}
-use Rattle.version_source.specs.Pieces.{audio_payload, packets_for, pes_pieces, piece_of}
+use Rattle.version_source.specs.Pieces.{audio_payload, pes_pieces, piece_of}
 
 -- ---- one piece
 

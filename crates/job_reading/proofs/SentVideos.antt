@@ -1,13 +1,12 @@
 -- The PIDs of a job's stream carry the items of its streams, program by program, and of video the PES packets of its units.
-use Rattle.std.proofs.Common.{◌≡◌, ℕ, zero, suc, ◌+◌, ◌<◌, ◌≤◌, List, [], ◌∷◌, ◌++◌, All, length, get_or, map, drop, Some, Option, refl, sym, ap, ap₂, ◌∙◌, subst, arith, length-append}
-use Rattle.std.specs.Prelude.{slice_get, slice_index_or}
+use Rattle.std.proofs.Common.{◌≡◌, ℕ, suc, ◌<◌, List, [], ◌∷◌, ◌++◌, All, length, get_or, map, Option, ap, arith, length-append}
 use Rattle.std.specs.List.{AllZip, flat_map}
 use Rattle.std.specs.Option.{option_map_or}
 use Rattle.std.proofs.lemmas.List.{length-map}
 use Rattle.std.proofs.lemmas.List.Elements.{All-cons, All-get_or, All-head, All-nil, All-tail}
 use Rattle.std.proofs.lemmas.Option.{slice_get-get_or}
 use Rattle.payload_lists.specs.Payload.{Payload, CarriedPayload}
-use Rattle.ts_packets.specs.TransportStream.{piece_count, pieces_of as packets_on}
+use Rattle.ts_packets.specs.TransportStream.{pieces_of as packets_on}
 use Rattle.ts_packets.specs.Carried.{carried}
 use Rattle.pes_units.specs.VideoHeader.{written_header}
 use Rattle.version_table.specs.declared.table.Unit.{Unit as CodedUnit}
@@ -19,8 +18,8 @@ use Rattle.version_source.specs.Sendable.{IsUnitOf}
 use Rattle.version_source.specs.Versions.{chosen_bytes}
 use Rattle.program_table.specs.Table.{row_version, unit_rows}
 use Rattle.layer_laws.specs.PesPieces.{Carries, CarryAll}
-use Rattle.stream_parsing.specs.Parsed.{CanBeSaid, CarriesPackets, SentUnit, sent_packet}
-use Rattle.job_reading.specs.ReadBack.{sent_units}
+use Rattle.stream_parsing.specs.Parsed.{CanBeSaid, sent_packet}
+use Rattle.job_reading.specs.ParsesTo.{sent_units}
 use Rattle.job_reading.proofs.VersionBytes.{HasBytes, HaveBytes}
 
 -- ---- each PID with its items

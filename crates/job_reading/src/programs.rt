@@ -16,15 +16,16 @@ ghost use Rattle.mux_writer.specs.Output.{output_stream};
 ghost use Rattle.job_programs.specs.Programs.{ArePrograms};
 ghost use Rattle.program_table.specs.Table.{IsTableOf};
 ghost use Rattle.job_stream.specs.Stream.{layout_of};
-ghost use Rattle.job_reading.specs.ReadBack.{AreReadBack};
+ghost use Rattle.job_reading.specs.ParsesTo.{ParsesTo};
 
 use crate::streams::{slots_are_rows, streams_carry_their_items};
 use layer_laws::packets::packets_stand_in_order;
 use layer_laws::pes::{packets_gathered_again, video_packet_read_as_written};
 use mux_writer::laws::read_as_written;
-use stream_parsing::parsed::slots_begin_with_tables;
+use stream_parsing::parsed::{slots_begin_with_tables, units_of_the_video};
 use stream_parsing::programs::programs_are_taken_out;
 use version_source::laws::{one_list_of_versions, programs_can_be_sent};
+use version_units::units::versions_are_whole_units;
 
 /// Each program of a job is read back from the job's stream: under its number, with its map and no stream left out, its units in the chosen versions with their
 /// times, and its audio PES packets byte for byte.
@@ -32,7 +33,7 @@ pub fn programs_are_read_back()
     ensures { (job : Job) (contents : List (List ℕ)) (programs : List Program) (table : Table) (choice : List ℕ) (slots : SlotList) (versions : List (List (List UnitVersion)))
         → IsValidJob job → ArePrograms job contents programs → IsTableOf job programs table → IsValidTable table → Fits table choice
         → IsSlotList table choice slots → AreAllVersions programs (ratios_of job.programs) versions
-        → AreReadBack (output_stream (layout_of job programs) job.slot (pieces_of (stream_items programs versions choice)) slots.rows) 0 job.programs contents programs versions choice }
+        → ParsesTo (output_stream (layout_of job programs) job.slot (pieces_of (stream_items programs versions choice)) slots.rows) 0 job.programs contents programs versions choice }
 {
     slots_are_rows();
     streams_carry_their_items();
@@ -42,6 +43,8 @@ pub fn programs_are_read_back()
     read_as_written();
     packets_gathered_again();
     video_packet_read_as_written();
+    units_of_the_video();
+    versions_are_whole_units();
     programs_can_be_sent();
     one_list_of_versions();
 }

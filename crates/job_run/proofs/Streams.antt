@@ -21,7 +21,7 @@ use Rattle.version_maker.specs.declared.version.UnitVersion.{UnitVersion}
 use Rattle.version_source.specs.Pieces.{pieces_of, stream_items}
 use Rattle.version_source.specs.Versions.{AreAllVersions, ratios_of}
 use Rattle.mux_writer.specs.Output.{output_stream}
-use Rattle.job_reading.specs.ReadBack.{AreReadBack}
+use Rattle.job_reading.specs.ParsesTo.{ParsesTo}
 use Rattle.stream_times.specs.Carried.{CarriesTable, IsCleanByItsTimes}
 use Rattle.job_run.specs.declared.job_table.JobTable.{JobTable}
 use Rattle.job_run.specs.Written.{HoldsStream, HoldsStreamPart, IsJobStream}
@@ -55,7 +55,7 @@ abbrev pub ProgramsAreReadBack : Type 0
 ProgramsAreReadBack = (job : Job) (contents : List (List ℕ)) (programs : List Program) (table : Table) (choice : List ℕ) (slots : SlotList) (versions : List (List (List UnitVersion)))
     → IsValidJob job → ArePrograms job contents programs → IsTableOf job programs table → IsValidTable table → Fits table choice
     → IsSlotList table choice slots → AreAllVersions programs (ratios_of job.programs) versions
-    → AreReadBack (output_stream (layout_of job programs) job.slot (pieces_of (stream_items programs versions choice)) slots.rows) 0 job.programs contents programs versions choice
+    → ParsesTo (output_stream (layout_of job programs) job.slot (pieces_of (stream_items programs versions choice)) slots.rows) 0 job.programs contents programs versions choice
 
 -- so it is the job's stream, whole and clean, and its programs are read back from it
 pub is_job_stream : StreamHasSlots → StreamIsClean → StreamCarriesTimes → StreamIsCleanByTimes → ProgramsAreReadBack
@@ -68,7 +68,7 @@ is_job_stream law clean times by_times back made choice slots stream valid (cont
   clean = clean made.job contents made.programs made.table choice slots stream valid are table table_valid fits list is;
   times = times made.job contents made.programs made.table choice slots stream valid are table table_valid fits list is;
   clean_by_its_times = by_times made.job contents made.programs made.table choice slots stream valid are table table_valid fits list is;
-  read_back = λ files held. subst (λ (bytes : List ℕ). AreReadBack bytes 0 made.job.programs files made.programs is.versions choice) (sym is.stream_is)
+  read_back = λ files held. subst (λ (bytes : List ℕ). ParsesTo bytes 0 made.job.programs files made.programs is.versions choice) (sym is.stream_is)
       (back made.job files made.programs made.table choice slots is.versions valid held table table_valid fits list is.are_versions);
 }
 

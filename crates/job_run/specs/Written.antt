@@ -8,7 +8,7 @@ use Rattle.job_stream.specs.Stream.{IsStreamIn}
 use Rattle.clean_stream.specs.Clean.{IsCleanStream}
 use Rattle.stream_times.specs.Carried.{CarriesTable, IsCleanByItsTimes}
 use Rattle.job_programs.specs.Programs.{ArePrograms}
-use Rattle.job_reading.specs.ReadBack.{AreReadBack}
+use Rattle.job_reading.specs.ParsesTo.{ParsesTo}
 use Rattle.job_run.specs.declared.job_table.JobTable.{JobTable}
 
 -- The stream of a job in these versions and slots: a packet of 188 bytes for each slot, whose bytes, read by themselves, give no buffer of the
@@ -22,7 +22,7 @@ pub record IsJobStream (made : JobTable) (choice : List ℕ) (slots : SlotList) 
   pub times : CarriesTable made.table choice (map (λ program. program.number) made.job.programs) stream
   pub clean_by_its_times : IsCleanByItsTimes made.job.slot (map (λ program. program.number) made.job.programs) stream
   pub read_back : (contents : List (List ℕ)) → ArePrograms made.job contents made.programs
-      → AreReadBack stream 0 made.job.programs contents made.programs is_stream.versions choice
+      → ParsesTo stream 0 made.job.programs contents made.programs is_stream.versions choice
 
 -- the stream of a job in these versions and slots is the content of a file, and every other file stays
 abbrev pub HoldsStream : (old new : Option Files) → (name : List ℕ) → JobTable → (choice : List ℕ) → SlotList → Type 0

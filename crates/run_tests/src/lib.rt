@@ -1,5 +1,5 @@
-//! Tests of the command `run` over shelves in memory: what is sent of generated programs, read by itself, jobs that are refused, and
-//! writes that fail.
+//! Tests of the command `run` over shelves in memory: what is sent of generated programs, read by itself, OUT as the source of a
+//! second job, jobs that are refused, and writes that fail.
 //!
 //! They stand in a crate of their own, so that a change here proves nothing below again. Stands on `remux_core`, and on
 //! `program_reader` and `version_maker`, by which OUT is read and made again.
@@ -9,6 +9,8 @@
 mod kept_versions;
 #[cfg(test)]
 mod refused;
+#[cfg(test)]
+mod second_run;
 #[cfg(test)]
 mod shelves;
 #[cfg(test)]

@@ -31,6 +31,31 @@ pub fn run_words(alloc: Global) -> Result<Vec<String>, AllocError> {
     Ok(all)
 }
 
+/// What a probe printed, and the table that it wrote.
+#[derive(Drop)]
+pub struct Probed {
+    pub code: u8,
+    pub line: Vec<u8>,
+    pub table: Vec<u8>,
+}
+
+/// Probes program 1 of a file `a.ts`.
+pub fn probe_over(alloc: Global, file: &[u8]) -> Result<Probed, Fail> {
+    let mut words = Vec::new(alloc);
+    for word in ["probe", "a.ts", "1", "table.txt"] {
+        words.push(String::from_str(alloc, word)?)?;
+    }
+    let mut shelf = CalmShelf::new(alloc);
+    shelf.put_file("a.ts", file)?;
+    let mut out = CalmSink::new(alloc);
+    let status = run(alloc, words.as_slice(), &mut shelf, &mut out);
+    Ok(Probed {
+        code: status.code(),
+        line: content(alloc, Some(out.bytes()))?,
+        table: content(alloc, shelf.file("table.txt"))?,
+    })
+}
+
 /// The bytes of a file, none where it isn't there.
 fn content(alloc: Global, file: Option<&[u8]>) -> Result<Vec<u8>, AllocError> {
     let mut bytes = Vec::new(alloc);

@@ -35,7 +35,7 @@ use Rattle.program_table.specs.Table.{audio_row, program_row, program_rows, unit
 use Rattle.job_programs.specs.Programs.{AreNextPrograms, IsNextProgram, last_time}
 use Rattle.mux_writer.specs.Layout.{video_pid, with_output_pids, with_pids_from}
 use Rattle.stream_parsing.specs.Parsed.{AreReadAs, bytes_of}
-use Rattle.job_reading.specs.ReadBack.{AreReadBack, IsReadBack, sent_units}
+use Rattle.job_reading.specs.ParsesTo.{ParsesTo, ParsesToProgram, sent_units}
 use Rattle.stream_times.specs.Carried.{CarriesTimes}
 use Rattle.stream_times.specs.Clock.{IsClock}
 use Rattle.stream_times.specs.Video.{AreDecoded, BeginAt, DecodedPicture}
@@ -124,7 +124,7 @@ module _ (laws : SpellingLaws) (one : OneDemuxed) (wherever : WhereverItStands) 
 
   carries-one : (n : ℕ) (job : ProgramJob) (content : List ℕ) (p : Program) (coarser : List ℕ) (v : List (List UnitVersion)) (choice : List ℕ) (more : List CodedUnit) (contents : List (List ℕ))
       (programs : List Program) → IsNextProgram slot start contents programs job content p → AreVideoVersions p.video coarser None p.units v
-      → AllZip HasVersion (unit_rows job.weight p.units v ++ more) choice → IsReadBack bytes content job (with_output_pids n job.number p.map) (sent_units p.units v choice)
+      → AllZip HasVersion (unit_rows job.weight p.units v ++ more) choice → ParsesToProgram bytes content job (with_output_pids n job.number p.map) (sent_units p.units v choice)
       → IsClock stream slot (video_pid n) p.base → CarriesTimes bytes stream slot n job.number (program_row job.weight p v) choice
   carries-one n job content p coarser v choice more contents programs next versions fits read clock =
       let of = next.holds in
@@ -218,7 +218,7 @@ module _ (laws : SpellingLaws) (one : OneDemuxed) (wherever : WhereverItStands) 
 
   pub carries-each : (n : ℕ) (jobs : List ProgramJob) (programs : List Program) (versions : List (List (List UnitVersion))) (choice : List ℕ) (read : List (List ℕ)) (done : List Program)
       (further : List (List ℕ)) → AreNextPrograms slot start read done jobs further programs → AreAllVersions programs (ratios_of jobs) versions
-      → AllZip HasVersion (flat_map (λ (row : ProgramRow). row.units) (program_rows jobs programs versions)) choice → AreReadBack bytes n jobs further programs versions choice
+      → AllZip HasVersion (flat_map (λ (row : ProgramRow). row.units) (program_rows jobs programs versions)) choice → ParsesTo bytes n jobs further programs versions choice
       → ((place : ℕ) (p : Program) → slice_get programs place ≡ Some p → IsClock stream slot (video_pid (n + place)) p.base)
       → (place number : ℕ) (row : ProgramRow) → slice_get (map (λ (job : ProgramJob). job.number) jobs) place ≡ Some number → slice_get (program_rows jobs programs versions) place ≡ Some row
       → CarriesTimes bytes stream slot (n + place) number row (choice_from (program_rows jobs programs versions) place choice)

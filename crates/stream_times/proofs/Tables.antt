@@ -25,7 +25,7 @@ use Rattle.mux_writer.specs.Layout.{video_pid}
 use Rattle.mux_writer.specs.Output.{output_packets, output_stream}
 use Rattle.mux_writer.specs.Pieces.{Pieces}
 use Rattle.job_stream.specs.Stream.{layout_of}
-use Rattle.job_reading.specs.ReadBack.{AreReadBack}
+use Rattle.job_reading.specs.ParsesTo.{ParsesTo}
 use Rattle.stream_times.specs.Carried.{CarriesTable, CarriesTimes}
 use Rattle.stream_times.specs.Clock.{IsClock}
 use Rattle.stream_times.proofs.Audios.{WhereverItStands}
@@ -53,7 +53,7 @@ pub times-carried : SpellingLaws → OneDemuxed → WhereverItStands → (job : 
     → table.programs ≡ program_rows job.programs programs versions → AreAllVersions programs (ratios_of job.programs) versions → IsValidTable table → Fits table choice → IsSlotList table choice slots
     → All (λ (base : ℕ). base < 2576980377600) (map (λ (program : Program). program.base) programs)
     → packets (output_stream (layout_of job programs) job.slot pieces slots.rows) ≡ map Some (output_packets (layout_of job programs) job.slot pieces slots.rows)
-    → AreReadBack (output_stream (layout_of job programs) job.slot pieces slots.rows) 0 job.programs contents programs versions choice
+    → ParsesTo (output_stream (layout_of job programs) job.slot pieces slots.rows) 0 job.programs contents programs versions choice
     → CarriesTable table choice (map (λ (program : ProgramJob). program.number) job.programs) (output_stream (layout_of job programs) job.slot pieces slots.rows)
 times-carried laws one wherever job contents programs table choice slots pieces versions valid are slot_is rows_are are_versions table_valid fits list bases read back = record {
   stream = output_packets layout job.slot pieces slots.rows;

@@ -39,7 +39,7 @@ use Rattle.version_source.specs.Sendable.{bytes_of as bytes_of_unit}
 use Rattle.version_source.specs.Versions.{AreVideoVersions, chosen_bytes}
 use Rattle.program_table.specs.Table.{row_version, unit_row, unit_rows}
 use Rattle.stream_parsing.specs.Parsed.{AreReadAs, bytes_of}
-use Rattle.job_reading.specs.ReadBack.{sent_units}
+use Rattle.job_reading.specs.ParsesTo.{sent_units}
 use Rattle.stream_times.specs.Video.{AreDecoded, DecodedPicture, IsDecodedWhen, stated_time}
 use Rattle.stream_times.proofs.Spelled.{SpellingLaws, SpellsAlike, chosen-alike, one-picture}
 use Rattle.stream_times.proofs.Ticks.{due-behind, due-shown, stated-shown}

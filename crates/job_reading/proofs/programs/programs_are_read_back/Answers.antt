@@ -1,9 +1,8 @@
-use Rattle.std.proofs.Common.{◌≡◌, ℕ, ◌+◌, ◌<◌, List, [], ◌∷◌, All, length, refl, sym, ap, ◌∙◌, subst}
+use Rattle.std.proofs.Common.{◌≡◌, ℕ, ◌<◌, List, [], length, refl, sym, ap, ◌∙◌, subst}
 use Rattle.std.specs.List.{AllZip, flat_map}
 use Rattle.std.proofs.lemmas.List.Elements.{All-nil}
 use Rattle.payload_lists.specs.Payload.{Payload}
 use Rattle.ts_packets.specs.TransportStream.{piece_count}
-use Rattle.psi_tables.specs.declared.program_map.ProgramMap.{ProgramMap}
 use Rattle.version_table.specs.declared.table.ProgramRow.{ProgramRow}
 use Rattle.version_table.specs.Choice.{HasVersion}
 use Rattle.version_source.specs.Pieces.{pieces_of, stream_items}
@@ -45,5 +44,6 @@ returns c job contents programs table choice slots versions valid programs_are o
     c.streams_carry_their_items.ensures job contents programs table choice slots versions stream valid programs_are of table_valid fits list are_versions within
     (subst (λ (n : ℕ). stream < n) sizes within)) in
     read-back c.programs_can_be_sent.ensures.taken_out c.programs_are_taken_out.ensures c.packets_gathered_again.ensures.gathered c.video_packet_read_as_written.ensures
-    c.packets_gathered_again.ensures.pieces layout job.slot pieces slots.rows are begin count 0 job.programs programs versions choice [] refl refl (All-nil _) valid.apart valid.programs
+    c.packets_gathered_again.ensures.pieces c.versions_are_whole_units.ensures.whole c.versions_are_whole_units.ensures.led
+    c.units_of_the_video.ensures layout job.slot pieces slots.rows are begin count 0 job.programs programs versions choice [] refl refl (All-nil _) valid.apart valid.programs
     job.slot job.start [] [] contents programs_are are_versions fit carry
