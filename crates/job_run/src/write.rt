@@ -17,6 +17,7 @@ use job_stream::write_job_stream;
 use shelf_io::{Fault, Shelf, Writing};
 use slot_rule::SlotList;
 use std::alloc::Global;
+use stream_times::laws::{stream_carries_its_times, stream_is_clean_by_its_times};
 use version_table::Choice;
 
 /// Makes the stream of a job in the versions that the choice names, in these slots, the content of a file. After a fault the file
@@ -47,6 +48,8 @@ pub fn write_stream_file<K: Shelf>(
 {
     stream_has_slots();
     stream_is_clean();
+    stream_carries_its_times();
+    stream_is_clean_by_its_times();
     programs_are_read_back();
     shelf.start(name)?;
     write_job_stream(

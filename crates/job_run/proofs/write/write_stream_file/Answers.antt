@@ -13,7 +13,8 @@ returns-clause-ok g c =
     let choice = c.args.choice.now in
     let slots = c.args.slots.now in
     let (stream, is) = c.write_job_stream.ensures.one in
-    let whole = is_job_stream c.stream_has_slots.ensures c.stream_is_clean.ensures c.programs_are_read_back.ensures made choice slots stream c.requires.job
+    let whole = is_job_stream c.stream_has_slots.ensures c.stream_is_clean.ensures c.stream_carries_its_times.ensures c.stream_is_clean_by_its_times.ensures
+    c.programs_are_read_back.ensures made choice slots stream c.requires.job
     c.requires.programs c.requires.table c.requires.valid c.requires.fits c.requires.slots
     (subst (λ (ps : List Program). IsStreamIn made.job ps choice slots stream) c.as_slice.ensures is) in
     holds_stream c.write_job_stream.result told _ c.args.name.now made choice slots stream whole
@@ -28,7 +29,8 @@ returns-clause-err g c =
     let choice = c.args.choice.now in
     let slots = c.args.slots.now in
     let (stream, is) = c.write_job_stream.ensures.one in
-    let whole = is_job_stream c.stream_has_slots.ensures c.stream_is_clean.ensures c.programs_are_read_back.ensures made choice slots stream c.requires.job
+    let whole = is_job_stream c.stream_has_slots.ensures c.stream_is_clean.ensures c.stream_carries_its_times.ensures c.stream_is_clean_by_its_times.ensures
+    c.programs_are_read_back.ensures made choice slots stream c.requires.job
     c.requires.programs c.requires.table c.requires.valid c.requires.fits c.requires.slots
     (subst (λ (ps : List Program). IsStreamIn made.job ps choice slots stream) c.as_slice.ensures is) in
     holds_part c.write_job_stream.result told _ c.args.name.now made choice slots stream whole

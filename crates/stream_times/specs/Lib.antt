@@ -1,0 +1,4 @@
+pub mod Audio
+pub mod Carried
+pub mod Clock
+pub mod Video
