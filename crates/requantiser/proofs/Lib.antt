@@ -33,3 +33,4 @@ pub mod SpellableBlocks
 pub mod SpellableMacroblocks
 pub mod SpellableSlices
 pub mod LawfulVersions
+pub mod Tallies

@@ -2,6 +2,7 @@
 #![tactic(auto)]
 
 mod block;
+mod code_lengths;
 mod codes;
 mod comparison;
 mod cursor;
@@ -12,6 +13,7 @@ mod macroblock;
 mod picture;
 mod slice;
 mod step;
+mod tally;
 mod version_state;
 
 pub use comparison::distortion;
