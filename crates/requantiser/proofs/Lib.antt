@@ -34,3 +34,5 @@ pub mod SpellableMacroblocks
 pub mod SpellableSlices
 pub mod LawfulVersions
 pub mod Tallies
+pub mod BlockTallies
+pub mod Outlines

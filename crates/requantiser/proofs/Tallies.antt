@@ -225,7 +225,7 @@ module _ (way : BlockWay) (new : ℕ → ℤ → ℤ) (change : ℕ → ℤ → 
 
 -- ---- the end of a block
 
-no_end : length (code_for CoeffFirst END_OF_BLOCK) ≡ 0
+pub no_end : length (code_for CoeffFirst END_OF_BLOCK) ≡ 0
 no_end = by_code (code_in CoeffFirst END_OF_BLOCK) refl
   where
     by_code : (code : Option (List ℕ)) → code_in CoeffFirst END_OF_BLOCK ≡ code → length (unwrap_or code []) ≡ 0

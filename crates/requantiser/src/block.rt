@@ -41,7 +41,7 @@ pub fn coarsen_block(
 }
 
 /// The matrix of intra or non-intra blocks.
-fn matrix(seq: &SeqState, intra: bool) -> &[u8; BLOCK_PLACES]
+pub fn matrix(seq: &SeqState, intra: bool) -> &[u8; BLOCK_PLACES]
     requires weights { HasWeights seq.now }
     ensures value { result.now ≡ (if intra then seq.now.intra else seq.now.non_intra) }
     ensures weighted { AreWeights result.now }

@@ -78,7 +78,7 @@ impl Tally {
 }
 
 /// Counts a block in the first so many versions.
-fn add_block(
+pub fn add_block(
     tallies: &mut [Tally; VERSIONS_AT_ONCE],
     count: usize,
     way: BlockWay,

@@ -1,15 +1,25 @@
 -- What coefficients become in the coarser picture, counted one after the other, and in several versions at once.
-use Rattle.std.specs.Prelude.{◌≡◌, ◌<◌, ◌≤◌, ◌+◌, ◌-◌, ◌*◌, ◌^◌, ◌==◌, ◌&&◌, ◌||◌, ℕ, not, ℤ, unsigned_abs, List, [], ◌∷◌, length, Bool, true, false, slice_index_or, if◌then◌else◌}
+use Rattle.std.specs.Prelude.{◌≡◌, ◌<◌, ◌≤◌, ◌+◌, ◌-◌, ◌*◌, ◌^◌, ◌==◌, ◌&&◌, ◌||◌, ℕ, not, ℤ, unsigned_abs, List, [], ◌∷◌, length, drop, Bool, true, false, slice_index_or, if◌then◌else◌}
 use Rattle.bit_lists.specs.Fields.{flag}
 use Rattle.prefix_codes.specs.declared.symbol.TheConstants.{END_OF_BLOCK}
 use Rattle.prefix_codes.specs.declared.table_name.TableName.TheVariants.{CoeffZero}
+use Rattle.syntax_types.specs.declared.block.Block.{Block}
 use Rattle.syntax_types.specs.declared.block.BlockWay.{BlockWay}
 use Rattle.syntax_types.specs.declared.block.RunLevel.{RunLevel}
+use Rattle.syntax_types.specs.declared.macroblock.Kind.{Kind}
+use Rattle.syntax_types.specs.declared.picture.PicCoding.{PicCoding}
+use Rattle.syntax_types.specs.declared.picture.SeqState.{SeqState}
 use Rattle.picture_grammar.specs.Block.{coefficient_table, first_place}
 use Rattle.picture_grammar.specs.Written.{code_for, written_coefficient, written_coefficients}
+use Rattle.picture_grammar.specs.Macroblock.{block_way, no_block}
 use Rattle.requantiser.specs.declared.tally.Tally.{Tally}
-use Rattle.requantiser.specs.Private.Changes.{pair_changes}
-use Rattle.requantiser.specs.Private.Walk.{coarsened_pairs}
+use Rattle.requantiser.specs.Distortion.{squared_difference}
+use Rattle.requantiser.specs.Levels.{scale_of}
+use Rattle.requantiser.specs.Macroblocks.{pattern_of}
+use Rattle.requantiser.specs.Tallies.{bits_beyond}
+use Rattle.requantiser.specs.Private.Changes.{coefficient_of_blocks, pair_changes}
+use Rattle.requantiser.specs.Private.Sums.{sum_from}
+use Rattle.requantiser.specs.Private.Walk.{coarsened_blocks, coarsened_pairs}
 
 -- no coefficient stands
 abbrev pub has_none : List RunLevel → Bool
@@ -105,3 +115,41 @@ EachIs count P tallies = (k : ℕ) (d : Tally) → k < count → P (slice_index_
 -- each of the first so many tallies went on like this
 abbrev pub EachWent : ℕ → (Tally → Tally → Type 0) → List Tally → List Tally → Type 0
 EachWent count P before behind = (k : ℕ) (d : Tally) → k < count → P (slice_index_or before k d) (slice_index_or behind k d)
+
+-- ---- a macroblock
+
+-- a block without its coefficients
+abbrev pub outline_of : Block → Block
+outline_of block = record { dc = block.dc; pairs = record { items = [] } }
+
+-- in how many bits more a block is written than without coefficients
+abbrev pub bits_of_block : PicCoding → Kind → List Block → ℕ → ℕ
+bits_of_block coding kind blocks i = let block : Block = slice_index_or blocks i no_block in bits_beyond (block_way coding kind i) block.pairs.items
+
+-- the sum of the squares of the differences in a block
+abbrev pub block_distortion : (ℕ → ℕ → ℤ) → (ℕ → ℕ → ℤ) → ℕ → ℕ
+block_distortion f g i = sum_from (λ index. squared_difference (f i index) (g i index)) 0 64
+
+-- the blocks before this one were counted: what is counted, and what the others have, are what all have
+pub record AreBlocksTallied (seq : SeqState) (coding : PicCoding) (kind : Kind) (code : ℕ) (blocks : List Block) (i : ℕ) (start tally : Tally) : Type 0 where
+  pub target : tally.target ≡ start.target
+  pub next : tally.next ≡ (if kind.intra then 1 else 0)
+  pub pattern : tally.pattern * 2 ^ (6 - i) + pattern_of (drop i (coarsened_blocks seq coding kind code start.target.code blocks))
+      ≡ pattern_of (coarsened_blocks seq coding kind code start.target.code blocks)
+  pub bits : tally.bits + sum_from (bits_of_block coding kind (coarsened_blocks seq coding kind code start.target.code blocks)) i (6 - i)
+      ≡ sum_from (bits_of_block coding kind (coarsened_blocks seq coding kind code start.target.code blocks)) 0 6
+  pub distortion : tally.distortion + sum_from (block_distortion (coefficient_of_blocks seq coding kind code blocks)
+      (coefficient_of_blocks seq coding kind start.target.code (coarsened_blocks seq coding kind code start.target.code blocks))) i (6 - i)
+      ≡ sum_from (block_distortion (coefficient_of_blocks seq coding kind code blocks)
+      (coefficient_of_blocks seq coding kind start.target.code (coarsened_blocks seq coding kind code start.target.code blocks))) 0 6
+  pub small_pattern : tally.pattern < 2 ^ i
+  pub few : tally.bits ≤ i * 2712
+  pub small : tally.distortion ≤ i * 2 ^ 28
+
+-- nothing of the macroblock was counted
+pub record IsStart (coding : PicCoding) (intra : Bool) (tally : Tally) : Type 0 where
+  pub scale : tally.target.scale ≡ scale_of coding tally.target.code
+  pub next : tally.next ≡ (if intra then 1 else 0)
+  pub pattern : tally.pattern ≡ 0
+  pub bits : tally.bits ≡ 0
+  pub distortion : tally.distortion ≡ 0
