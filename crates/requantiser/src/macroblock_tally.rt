@@ -1,5 +1,5 @@
 //! The coefficients of a macroblock, counted in several versions at once.
-ghost use Rattle.std.specs.Prelude.{◌≡◌, ◌<◌, ◌≤◌, ◌-◌, ℕ, length, slice_index, slice_index_or, if◌then◌else◌};
+ghost use Rattle.std.specs.Prelude.{◌≡◌, ◌<◌, ◌≤◌, ◌-◌, ℕ, length, slice_index, slice_index_or, unwrap_or, if◌then◌else◌};
 ghost use Rattle.quant_math.specs.Scales.{IsCode};
 ghost use Rattle.picture_grammar.specs.Block.{first_place};
 ghost use Rattle.requantiser.specs.declared.tally.Tally.{Tally as TallyOf};
@@ -14,30 +14,34 @@ ghost use Rattle.requantiser.specs.Private.Walk.{mapped_code, new_level};
 use crate::block::matrix;
 use crate::codes::Target;
 use crate::level::Rescaling;
-use crate::step::mapped;
+use crate::step::{code_in_force, mapped};
 use crate::tally::{Tally, VERSIONS_AT_ONCE, add_block};
 use picture_grammar::stands::block_way;
 use quant_math::scale;
 use syntax_types::{BLOCKS, Block, BlockWay, Macroblock, PicCoding, SeqState};
 
-/// Counts the coefficients of a macroblock that some bits spell, in which this code is in force, in the version at each of
-/// these ratios, in sixteenths and in their order.
+/// Counts the coefficients of a macroblock that some bits spell, before which this code is in force, in the version at each
+/// of these ratios, in sixteenths and in their order. It gives the code that is in force in the macroblock.
 pub fn tally_macroblock(
     seq: &SeqState,
     coding: &PicCoding,
-    code: u8,
+    before: u8,
     ratios: &[u16],
     from: &Macroblock,
     tallies: &mut [Tally; VERSIONS_AT_ONCE],
-)
+) -> u8
     requires weights { HasWeights seq.now }
-    requires code { IsCode code }
+    requires before { IsCode before }
     requires spelled { IsSpelledMacroblock coding.now from.now }
     requires few { length ratios.now ≤ VERSIONS_AT_ONCE }
-    ensures { (k : ℕ) (d : TallyOf) → k < length ratios.now → IsTallyOf seq.now coding.now code (slice_index ratios.now k) from.now (slice_index_or tallies.new k d) }
+    ensures code { result ≡ unwrap_or from.now.code before }
+    ensures is_code { IsCode result }
+    ensures tallies { (k : ℕ) (d : TallyOf) → k < length ratios.now → IsTallyOf seq.now coding.now (unwrap_or from.now.code before) (slice_index ratios.now k) from.now (slice_index_or tallies.new k d) }
 {
+    let code = code_in_force(from.code, before);
     start(coding, code, from.kind.intra, ratios, tallies);
     add_blocks(seq, coding, code, from, ratios.len(), tallies);
+    code
 }
 
 /// Nothing of a macroblock in each version.

@@ -31,6 +31,19 @@ pub struct Tally {
 }
 
 impl Tally {
+    /// Nothing is counted.
+    pub fn empty() -> Tally
+        ensures { result.bits ≡ 0 }
+    {
+        Tally {
+            target: Target { code: 1, scale: 1 },
+            next: 0,
+            pattern: 0,
+            bits: 0,
+            distortion: 0,
+        }
+    }
+
     /// With one more coefficient.
     fn with(self, way: BlockWay, at: u8, change: Change) -> Tally
         requires at { at < BLOCK_PLACES }
