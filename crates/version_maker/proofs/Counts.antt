@@ -176,7 +176,7 @@ pub can-count : (seq : SeqState) (coding : PicCoding) (start : VersionState) (ms
     → from ≡ get_or ms i d → i < length ms → sum_by span_of ms ≤ 65535 → count.state.m ≡ m → count.state.source_code ≡ in_force
     → IsTallyOf seq coding (unwrap_or from.code in_force) m from tally → AreCounted seq coding start ms i count → CanCount seq coding from tally count
 can-count seq coding start ms i m in_force from d tally count at within few ratio code tallied was = record {
-  tally = subst (λ (n : ℕ). IsTallyOf seq coding (unwrap_or from.code count.state.source_code) n from tally) (sym ratio)
+  tallied = subst (λ (n : ℕ). IsTallyOf seq coding (unwrap_or from.code count.state.source_code) n from tally) (sym ratio)
       (subst (λ (n : ℕ). IsTallyOf seq coding (unwrap_or from.code n) m from tally) (sym code) tallied);
   room = omega (arith, one_span ms i from d at within, was.room);
   bits = omega (arith, was.few, few-macroblocks ms, few, within);

@@ -36,7 +36,7 @@ pub record IsCountedMacroblock (seq : SeqState) (coding : PicCoding) (inner : Bo
 
 -- one more macroblock can be counted in a version, in which its coefficients were
 pub record CanCount (seq : SeqState) (coding : PicCoding) (from : Macroblock) (tally : Tally) (count : VersionCount) : Type 0 where
-  pub tally : IsTallyOf seq coding (unwrap_or from.code count.state.source_code) count.state.m from tally
+  pub tallied : IsTallyOf seq coding (unwrap_or from.code count.state.source_code) count.state.m from tally
   pub room : count.state.skipped + from.skipped_before < 65535
   pub bits : count.bits + 2 ^ 18 < 2 ^ 64
   pub distortion : count.distortion + 2 ^ 41 < 2 ^ 64

@@ -9,11 +9,10 @@ use Rattle.version_maker.proofs.slice_count.count_macroblock.Goals as goal
 pub count_version-requires-clause-can : goal.count_version-requires-clause-can
 count_version-requires-clause-can c =
     let k : ℕ = c.loop-k.k in
-    let within : k < length c.loop-k.counts = omega (arith, c.loop-k-test.true, c.requires.count, c.loop-k.invariant.len) in
     let before : VersionCount = c.index-counts-k.result in
-    subst (CanCount c.args.seq.now c.args.coding.now c.args.from.now c.index-tallies-k.result) (sym (c.index-counts-k.is ∙ c.loop-k.invariant.stay k before (omega arith)))
-    (subst (λ (t : Tally). CanCount c.args.seq.now c.args.coding.now c.args.from.now t (get_or c.args.counts.now k before)) (sym c.index-tallies-k.is)
-    (c.requires.each k before c.index-tallies-k.result c.loop-k-test.true))
+    let tally : Tally = c.index-tallies-k.result in
+    subst (CanCount c.args.seq.now c.args.coding.now c.args.from.now (get_or c.args.tallies.now k tally)) (sym (c.loop-k.invariant.stay k before (omega arith)))
+    (c.requires.each k before tally c.loop-k-test.true)
 
 pub loop-k-preserved : goal.loop-k-preserved
 loop-k-preserved c =
@@ -25,6 +24,6 @@ loop-k-preserved c =
     record {
       len = length-set c.loop-k.counts k c.count_version.new.count ∙ c.loop-k.invariant.len;
       went = one_more_went P c.args.counts.now c.loop-k.counts k c.count_version.new.count within
-          (λ d. subst (λ (b : VersionCount). P b c.count_version.new.count) (c.index-counts-k.is ∙ here d) c.count_version.ensures) c.loop-k.invariant.went;
+          (λ d. subst (λ (b : VersionCount). P b c.count_version.new.count) (here d) c.count_version.ensures) c.loop-k.invariant.went;
       stay = others_stay c.args.counts.now c.loop-k.counts k c.count_version.new.count c.loop-k.invariant.stay;
     }

@@ -10,7 +10,7 @@ pub loop-k-preserved : goal.loop-k-preserved
 loop-k-preserved c =
     let within : c.loop-k.k < length c.loop-k.counts = omega (arith, c.loop-k-test.true, c.requires.ratios, c.loop-k.invariant.len) in
     record {
-      len = length-set c.loop-k.counts c.loop-k.k c.new-2.result ∙ c.loop-k.invariant.len;
+      len = length-set c.loop-k.counts c.loop-k.k c.new.result ∙ c.loop-k.invariant.len;
       each = one_more_is (λ j (count : VersionCount). IsStartCount c.args.coding.now (slice_index c.args.ratios.now j) c.args.code count)
-          c.loop-k.counts c.loop-k.k c.new-2.result within c.new-2.ensures c.loop-k.invariant.each;
+          c.loop-k.counts c.loop-k.k c.new.result within c.new.ensures c.loop-k.invariant.each;
     }
