@@ -102,7 +102,7 @@ pub one_more_tallied : (seq : SeqState) (coding : PicCoding) (kind : Kind) (code
     → (let block : Block = get_or blocks i d in block ≡ get_or blocks i no_block)
     → (let block : Block = get_or blocks i no_block in FitBlock (first_place (block_way coding kind i)) block.pairs.items)
     → (let block : Block = get_or blocks i d in IsBlockTallied (block_way coding kind i) (new_level seq coding (block_way coding kind i) code before.target.code)
-        (block_change seq coding (block_way coding kind i) code before.target.code) block.pairs.items before behind)
+    (block_change seq coding (block_way coding kind i) code before.target.code) block.pairs.items before behind)
     → AreBlocksTallied seq coding kind code blocks i start before → AreBlocksTallied seq coding kind code blocks (i + 1) start behind
 one_more_tallied seq coding kind code blocks i d start before behind below same fit is was =
     let way : BlockWay = block_way coding kind i in

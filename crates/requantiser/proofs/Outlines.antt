@@ -186,6 +186,7 @@ outline-length seq coding code mapped before skipped pattern from six is =
     not_coded i below false intra none =
         let blocks : List Block = coarsened_blocks seq coding from.kind code mapped from.blocks in
         not_failed _ (sym (pattern-bit blocks ((coarsened_blocks-are seq coding from.kind code mapped from.blocks six).0 ∙ six) i below) ∙ none)
+
     each : (i : ℕ) → i < 6
         → length (written_coded_block coding (with_pattern coding mapped before skipped pattern from (coarsened_blocks seq coding from.kind code mapped from.blocks)) i)
         ≡ length (written_coded_block coding (with_pattern coding mapped before skipped pattern from (map outline_of from.blocks)) i)

@@ -168,6 +168,7 @@ module _ (way : BlockWay) (new : ℕ → ℤ → ℤ) (change : ℕ → ℤ → 
       and_false : (b : Bool) → (b && false) ≡ false
       and_false true = refl
       and_false false = refl
+
       by_level : (unsigned_abs (new (place + pair.run) pair.level) == 0 ≡ true) ⊎ (unsigned_abs (new (place + pair.run) pair.level) == 0 ≡ false)
           → ((next == first_place way) && has_none (coarsened_pairs new place (place - next) (pair ∷ rest)))
           ≡ ((next_at next (place + pair.run) (new (place + pair.run) pair.level) == first_place way)

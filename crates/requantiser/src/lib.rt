@@ -18,8 +18,8 @@ mod step;
 mod tally;
 mod version_state;
 
-pub use comparison::distortion;
 pub use codes::Target;
+pub use comparison::distortion;
 pub use macroblock_tally::tally_macroblock;
 pub use outline::{Outlined, outline_macroblock};
 pub use picture::coarsen;

@@ -133,5 +133,12 @@ fn add_block_of(
         to: from,
     };
     let weights = matrix(seq, way.intra);
-    add_block(tallies, count, way, rescaling, weights, block.pairs.as_slice());
+    add_block(
+        tallies,
+        count,
+        way,
+        rescaling,
+        weights,
+        block.pairs.as_slice(),
+    );
 }

@@ -8,7 +8,7 @@ ghost use Rattle.requantiser.specs.Private.Tallies.{outline_of};
 ghost use Rattle.requantiser.specs.Private.Walk.{is_coded_without_motion as stands_without_motion};
 
 use crate::macroblock::{is_coded_without_motion, write_head_with};
-use crate::step::{code_in_force, coarsen_macroblock};
+use crate::step::{coarsen_macroblock, code_in_force};
 use crate::tally::Tally;
 use crate::version_state::VersionState;
 use syntax_types::{BLOCKS, Block, Kind, Macroblock, PicCoding, SeqState};

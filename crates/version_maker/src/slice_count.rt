@@ -64,7 +64,15 @@ pub fn count_slice(
 {
     let mut counts = start_counts(coding, ratios, slice.code);
     let macroblocks = slice.macroblocks.as_slice();
-    count_macroblocks(seq, coding, ratios, slice.code, macroblocks, lent, &mut counts);
+    count_macroblocks(
+        seq,
+        coding,
+        ratios,
+        slice.code,
+        macroblocks,
+        lent,
+        &mut counts,
+    );
     counts
 }
 
@@ -128,7 +136,16 @@ fn count_macroblocks(
         let from = &macroblocks[i];
         let inner = is_inner(i, macroblocks.len());
         in_force = tally_macroblock(seq, coding, in_force, ratios, from, &mut tallies);
-        count_macroblock(seq, coding, inner, from, ratios.len(), &tallies, lent, counts);
+        count_macroblock(
+            seq,
+            coding,
+            inner,
+            from,
+            ratios.len(),
+            &tallies,
+            lent,
+            counts,
+        );
     }
 }
 
