@@ -44,28 +44,24 @@ impl Tally {
         }
     }
 
-    /// With one more coefficient.
-    fn with(self, way: BlockWay, at: u8, change: Change) -> Tally
+    /// Counts one more coefficient.
+    #[inline]
+    fn add(&mut self, way: BlockWay, at: u8, change: Change)
         requires at { at < BLOCK_PLACES }
-        requires room { HasRoom at self }
+        requires room { HasRoom at self.old }
         requires small { change.squared ≤ 2 ^ 22 }
-        ensures { IsCounted way at change.level change.squared self result }
+        ensures { IsCounted way at change.level change.squared self.old self.new }
     {
-        let distortion = self.distortion + u64::from(change.squared);
+        self.distortion += u64::from(change.squared);
         if change.level == 0 {
-            return Tally { distortion, ..self };
+            return;
         }
         let pair = RunLevel {
             run: at - self.next,
             level: change.level,
         };
-        let bits = self.bits + coefficient_bits(table_at(way, self.next), pair);
-        Tally {
-            next: at + 1,
-            bits,
-            distortion,
-            ..self
-        }
+        self.bits += coefficient_bits(table_at(way, self.next), pair);
+        self.next = at + 1;
     }
 
     /// Behind the end of the block.
@@ -125,10 +121,9 @@ fn add_coefficient(
         (level_change coefficient.level coefficient.weight rescaling.from before.target.scale rescaling.intra) before behind) tallies.old tallies.new }
 {
     for k in 0..count {
-        let tally = tallies[k];
-        let to = rescaling.with_scale(tally.target.scale);
+        let to = rescaling.with_scale(tallies[k].target.scale);
         let change = change_level(coefficient.level, coefficient.weight, to);
-        tallies[k] = tally.with(way, coefficient.at, change);
+        tallies[k].add(way, coefficient.at, change);
     }
 }
 

@@ -17,20 +17,20 @@ loop-k-preserved c =
     let P : Tally → Tally → Type 0 = λ before behind. IsCounted c.args.way c.args.coefficient.at
     (coarser_level level weight c.args.rescaling.from before.target.scale c.args.rescaling.intra)
     (level_change level weight c.args.rescaling.from before.target.scale c.args.rescaling.intra) before behind in
-    let here : (d : Tally) → get_or c.loop-k.tallies k c.index-tallies-k.result ≡ get_or c.args.tallies.now k d = λ d.
-    get_or_default c.loop-k.tallies k c.index-tallies-k.result d within ∙ c.loop-k.invariant.stay k d (omega arith) in
+    let here : (e d : Tally) → get_or c.loop-k.tallies k e ≡ get_or c.args.tallies.now k d = λ e d.
+    get_or_default c.loop-k.tallies k e d within ∙ c.loop-k.invariant.stay k d (omega arith) in
     let held : to_z w16 (of_z w16 level) ≡ level = held_level level c.args.coefficient.small in
     let to = c.with_scale-to.result in
     record {
-      len = length-set c.loop-k.tallies k c.with.result ∙ c.loop-k.invariant.len;
-      went = one_more_went P c.args.tallies.now c.loop-k.tallies k c.with.result within
-          (λ d. let scale : c.with_scale-to.result.to ≡ (get_or c.args.tallies.now k d).target.scale = c.with_scale-to.ensures.to ∙ ap (λ (t : Tally). t.target.scale) (here d) in
+      len = length-set c.loop-k.tallies k c.add.new.self ∙ c.loop-k.invariant.len;
+      went = one_more_went P c.args.tallies.now c.loop-k.tallies k c.add.new.self within
+          (λ d. let scale : c.with_scale-to.result.to ≡ (get_or c.args.tallies.now k d).target.scale = c.with_scale-to.ensures.to ∙ ap (λ (t : Tally). t.target.scale) (here c.index-tallies-k.result d) in
           counted_as c.args.way c.args.coefficient.at c.change_level-change.result.level
           (coarser_level level weight c.args.rescaling.from (get_or c.args.tallies.now k d).target.scale c.args.rescaling.intra) c.change_level-change.result.squared
-          (level_change level weight c.args.rescaling.from (get_or c.args.tallies.now k d).target.scale c.args.rescaling.intra) (get_or c.loop-k.tallies k c.index-tallies-k.result) (get_or c.args.tallies.now k d) c.with.result
+          (level_change level weight c.args.rescaling.from (get_or c.args.tallies.now k d).target.scale c.args.rescaling.intra) (get_or c.loop-k.tallies k c.index-tallies-k-in-loop-k.result) (get_or c.args.tallies.now k d) c.add.new.self
           (c.change_level-change.ensures.level ∙ ap (λ (l : ℤ). coarser_level l weight to.from to.to to.intra) held ∙ same_three (coarser_level level weight) c.with_scale-to.ensures.from scale c.with_scale-to.ensures.intra)
           (c.change_level-change.ensures.squared ∙ ap (λ (l : ℤ). level_change l weight to.from to.to to.intra) held ∙ same_three (level_change level weight) c.with_scale-to.ensures.from scale c.with_scale-to.ensures.intra)
-          (here d) c.with.ensures)
+          (here c.index-tallies-k-in-loop-k.result d) c.add.ensures)
           c.loop-k.invariant.went;
-      stay = others_stay c.args.tallies.now c.loop-k.tallies k c.with.result c.loop-k.invariant.stay;
+      stay = others_stay c.args.tallies.now c.loop-k.tallies k c.add.new.self c.loop-k.invariant.stay;
     }
