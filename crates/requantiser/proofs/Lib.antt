@@ -33,3 +33,6 @@ pub mod SpellableBlocks
 pub mod SpellableMacroblocks
 pub mod SpellableSlices
 pub mod LawfulVersions
+pub mod Tallies
+pub mod BlockTallies
+pub mod Outlines

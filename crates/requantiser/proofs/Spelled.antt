@@ -153,7 +153,7 @@ pairs_fit way before (pair ∷ pairs) bits rest (middle, s, t) =
       subst (λ n. FitBlock n pairs) (next_place-push way before pair ∙ omega arith) (pairs_fit way (before ++ pair ∷ []) pairs middle rest t),
     )
 
-no_end_first : (code : List ℕ) → code_in CoeffFirst END_OF_BLOCK ≡ Some code → ⊥
+pub no_end_first : (code : List ℕ) → code_in CoeffFirst END_OF_BLOCK ≡ Some code → ⊥
 unfolding dct_coefficients_first shared_coefficients longest_coefficients
 no_end_first code listed = let clash : false ≡ true = code_in-passes (λ e. not (e.0 == END_OF_BLOCK)) CoeffFirst END_OF_BLOCK code refl listed in absurd (cc)
 

@@ -8,3 +8,4 @@ pub mod Slices
 pub mod Version
 pub mod VersionState
 pub mod Steps
+pub mod Tallies

@@ -4,3 +4,4 @@ pub mod Shapes
 pub mod Sizes
 pub mod Sums
 pub mod Walk
+pub mod Tallies

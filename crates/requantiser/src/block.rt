@@ -41,7 +41,7 @@ pub fn coarsen_block(
 }
 
 /// The matrix of intra or non-intra blocks.
-fn matrix(seq: &SeqState, intra: bool) -> &[u8; BLOCK_PLACES]
+pub fn matrix(seq: &SeqState, intra: bool) -> &[u8; BLOCK_PLACES]
     requires weights { HasWeights seq.now }
     ensures value { result.now ≡ (if intra then seq.now.intra else seq.now.non_intra) }
     ensures weighted { AreWeights result.now }
@@ -108,7 +108,8 @@ pub fn weight_at(seq: &SeqState, coding: &PicCoding, intra: bool, place: u8) -> 
 }
 
 /// The weight of a place of the scan in a matrix.
-fn weight_in_scan(weights: &[u8; BLOCK_PLACES], alternate: bool, place: u8) -> u8
+#[inline]
+pub fn weight_in_scan(weights: &[u8; BLOCK_PLACES], alternate: bool, place: u8) -> u8
     requires weights { AreWeights weights.now }
     requires place { place < BLOCK_PLACES }
     ensures value { result ≡ weight_in weights.now alternate place }

@@ -1,3 +1,4 @@
+ghost use Rattle.std.specs.Prelude.{◌≤◌};
 ghost use Rattle.quant_math.specs.Scales.{IsCode};
 
 /// The quantiser_scale_codes of a macroblock: the one in force in the source, and the one that it is mapped to.
@@ -7,4 +8,15 @@ pub struct Codes {
     pub mapped: u8,
     ghost source: { IsCode in_force },
     ghost coarser: { IsCode mapped },
+}
+
+/// What a version quantises by.
+#[derive(Clone, Copy)]
+pub struct Target {
+    /// The quantiser_scale_code that the one in force is mapped to.
+    pub code: u8,
+    /// Its quantiser_scale.
+    pub scale: u16,
+    ghost is_code: { IsCode code },
+    ghost range: { (1 ≤ scale) × (scale ≤ 112) },
 }

@@ -29,6 +29,37 @@ pub struct Rescaling {
     ghost to_range: { (1 ≤ to) × (to ≤ 112) },
 }
 
+impl Rescaling {
+    /// The same to another scale.
+    #[inline]
+    pub fn with_scale(self, to: u16) -> Rescaling
+        requires { (1 ≤ to) × (to ≤ 112) }
+        ensures alternate { result.alternate ≡ self.alternate }
+        ensures intra { result.intra ≡ self.intra }
+        ensures from { result.from ≡ self.from }
+        ensures to { result.to ≡ to }
+    {
+        Rescaling {
+            alternate: self.alternate,
+            intra: self.intra,
+            from: self.from,
+            to,
+        }
+    }
+}
+
+/// A coefficient of the source.
+#[derive(Clone, Copy)]
+pub struct Coefficient {
+    pub level: i16,
+    pub weight: u8,
+    /// Its place of the scan.
+    pub at: u8,
+    ghost weighted: { 0 < weight },
+    ghost small: { unsigned_abs level < 2 ^ (LEVEL_BITS - 1) },
+    ghost within: { at < 64 },
+}
+
 /// What a level becomes.
 #[derive(Clone, Copy)]
 pub struct Change {

@@ -2,6 +2,7 @@
 #![tactic(auto)]
 
 mod block;
+mod code_lengths;
 mod codes;
 mod comparison;
 mod cursor;
@@ -9,12 +10,19 @@ mod difference;
 pub mod laws;
 mod level;
 mod macroblock;
+mod macroblock_tally;
+mod outline;
 mod picture;
 mod slice;
 mod step;
+mod tally;
 mod version_state;
 
+pub use codes::Target;
 pub use comparison::distortion;
+pub use macroblock_tally::tally_macroblock;
+pub use outline::{Outlined, outline_macroblock};
 pub use picture::coarsen;
 pub use step::{Coarsened, coarsen_macroblock};
+pub use tally::{Tally, VERSIONS_AT_ONCE};
 pub use version_state::VersionState;

@@ -8,7 +8,7 @@ ghost use Rattle.requantiser.specs.Levels.{HasWeights};
 ghost use Rattle.requantiser.specs.Macroblocks.{pattern_of as pattern_of_blocks};
 ghost use Rattle.requantiser.specs.Private.Changes.{coefficient_of_blocks, coefficient_of_made};
 ghost use Rattle.requantiser.specs.Private.Shapes.{FitBlock, HasShape, IsMeasured};
-ghost use Rattle.requantiser.specs.Private.Walk.{coarsened_blocks, made_blocks, kept_blocks, first_of, first_coded as first_coded_block, are_empty as are_all_empty, is_coded_without_motion as stands_without_motion, with_blocks};
+ghost use Rattle.requantiser.specs.Private.Walk.{coarsened_blocks, made_blocks, kept_blocks, first_of, first_coded as first_coded_block, are_empty as are_all_empty, is_coded_without_motion as stands_without_motion, with_blocks, with_pattern};
 
 use crate::block::coarsen_block;
 use crate::codes::Codes;
@@ -104,7 +104,7 @@ fn is_emptied(kind: Kind, blocks: &[Block; BLOCKS]) -> bool
 }
 
 /// A macroblock is coded with a pattern and without motion.
-fn is_coded_without_motion(kind: Kind) -> bool
+pub fn is_coded_without_motion(kind: Kind) -> bool
     ensures { result ≡ stands_without_motion kind }
 {
     kind.pattern && !kind.intra && !kind.forward && !kind.backward
@@ -174,6 +174,23 @@ pub fn write_head(
     } else {
         pattern_of(&to.blocks)
     };
+    write_head_with(coding, mapped, before, skipped, pattern, from, to);
+}
+
+/// The same where the pattern is known.
+pub fn write_head_with(
+    coding: &PicCoding,
+    mapped: u8,
+    before: u8,
+    skipped: u16,
+    pattern: u8,
+    from: &Macroblock,
+    to: &mut Macroblock,
+)
+    requires { IsCode mapped }
+    ensures head { to.new ≡ with_pattern coding.now mapped before skipped pattern from.now to.old.blocks }
+    ensures code { (code : ℕ) → to.new.code ≡ Option.Some code → IsCode code }
+{
     let has_coefficients = from.kind.intra || pattern != 0;
     let code = if has_coefficients && mapped != before {
         Some(mapped)

@@ -152,7 +152,7 @@ pub fn code_in_force(written: Option<u8>, before: u8) -> u8
 }
 
 /// The mapped code.
-fn mapped(q_scale_type: bool, m: u16, code: u8) -> u8
+pub fn mapped(q_scale_type: bool, m: u16, code: u8) -> u8
     requires { IsCode code }
     ensures value { result ≡ mapped_code q_scale_type m code }
     ensures is_code { IsCode result }

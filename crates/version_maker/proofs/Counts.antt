@@ -1,6 +1,6 @@
 -- Versions counted step by step.
-use Rattle.std.proofs.Common.{◌≡◌, ℕ, zero, suc, ◌+◌, ◌-◌, ◌*◌, ◌/◌, ◌%◌, ◌^◌, ◌<◌, ◌≤◌, Option, Some, None, List, [], ◌∷◌, ◌++◌, Bool, refl, sym, ◌∙◌, ap, ap₂, subst, arith, length, take, drop, get_or, add-one, replicate}
-use Rattle.std.specs.Prelude.{◌==◌, ◌&&◌, not, is_some, if◌then◌else◌}
+use Rattle.std.proofs.Common.{◌≡◌, ℕ, zero, suc, ◌+◌, ◌-◌, ◌*◌, ◌/◌, ◌%◌, ◌^◌, ◌<◌, ◌≤◌, Option, Some, None, List, [], ◌∷◌, ◌++◌, Bool, refl, sym, ◌∙◌, ap, ap₂, subst, arith, length, take, drop, get_or, add-one, replicate, unwrap_or}
+use Rattle.std.specs.Prelude.{◌==◌, ◌&&◌, not, is_some, IfSome, if◌then◌else◌}
 use Rattle.std.specs.Option.{option_to_list}
 use Rattle.std.specs.List.{AllByRecursion, flat_map, sum_by}
 use Rattle.std.proofs.Math.Seq.{take-length, take-suc}
@@ -19,13 +19,15 @@ use Rattle.stream_constants.specs.declared.start_codes.TheConstants.{FIRST_SLICE
 use Rattle.picture_grammar.specs.StartCode.{start_code_bits, start_code_prefix}
 use Rattle.picture_grammar.specs.Written.{to_whole_bytes, written_macroblock, written_slice, written_slice_info}
 use Rattle.requantiser.specs.declared.version_state.VersionState.{VersionState}
+use Rattle.requantiser.specs.declared.tally.Tally.{Tally}
+use Rattle.requantiser.specs.Tallies.{IsTallyOf}
 use Rattle.requantiser.specs.Steps.{IsStep, Step, distortion_of, made_by, state_behind, taken_by}
 use Rattle.requantiser.specs.VersionState.{IsSpelledMacroblock, IsStateBehind}
 use Rattle.requantiser.proofs.MacroblockSteps.{one_span, span_of}
 use Rattle.requantiser.proofs.Steps.{length-taken, one-more-step}
 use Rattle.version_maker.specs.declared.slice_count.SliceCount.{SliceCount}
 use Rattle.version_maker.specs.declared.slice_count.VersionCount.{VersionCount}
-use Rattle.version_maker.specs.Private.Counts.{AreCounted, IsCountedSlice, IsCountedStep}
+use Rattle.version_maker.specs.Private.Counts.{AreAllCounted, AreCounted, CanCount, IsCountable, IsCountedMacroblock, IsCountedSlice, IsCountedStep, IsStartCount}
 
 state-behind : (start : VersionState) (steps : List Step) (step : Step) → state_behind start (steps ++ step ∷ []) ≡ step.behind
 state-behind start [] step = refl
@@ -152,3 +154,58 @@ all-counted seq coding m from start count bits info made ratio source version sk
 pub few-macroblocks : (ms : List Macroblock) → length ms ≤ sum_by span_of ms
 few-macroblocks [] = omega arith
 few-macroblocks (m ∷ ms) = omega (arith, sum_by-cons span_of m ms, few-macroblocks ms)
+
+-- ---- a slice in one of several versions
+
+pub none-counted : (seq : SeqState) (coding : PicCoding) (m code : ℕ) (ms : List Macroblock) (count : VersionCount) → IsStartCount coding m code count → sum_by span_of ms ≤ 65535
+    → AreCounted seq coding count.state ms 0 count
+none-counted seq coding m code ms count is room = record {
+  steps = [];
+  in_order = tt;
+  taken = refl;
+  state = refl;
+  bits = is.bits;
+  few = omega (arith, is.bits);
+  distortion = is.distortion;
+  small = omega (arith, is.distortion);
+  room = omega (arith, is.skipped, room);
+}
+
+-- one more macroblock can be counted
+pub can-count : (seq : SeqState) (coding : PicCoding) (start : VersionState) (ms : List Macroblock) (i m in_force : ℕ) (from d : Macroblock) (tally : Tally) (count : VersionCount)
+    → from ≡ get_or ms i d → i < length ms → sum_by span_of ms ≤ 65535 → count.state.m ≡ m → count.state.source_code ≡ in_force
+    → IsTallyOf seq coding (unwrap_or from.code in_force) m from tally → AreCounted seq coding start ms i count → CanCount seq coding from tally count
+can-count seq coding start ms i m in_force from d tally count at within few ratio code tallied was = record {
+  tallied = subst (λ (n : ℕ). IsTallyOf seq coding (unwrap_or from.code count.state.source_code) n from tally) (sym ratio)
+      (subst (λ (n : ℕ). IsTallyOf seq coding (unwrap_or from.code n) m from tally) (sym code) tallied);
+  room = omega (arith, one_span ms i from d at within, was.room);
+  bits = omega (arith, was.few, few-macroblocks ms, few, within);
+  distortion = omega (arith, was.small, few-macroblocks ms, few, within);
+}
+
+-- and then it was
+pub counted-more : (seq : SeqState) (coding : PicCoding) (start : VersionState) (ms : List Macroblock) (i : ℕ) (from d : Macroblock) (inner : Bool) (before behind : VersionCount)
+    → from ≡ get_or ms i d → i < length ms → inner ≡ (not (i == 0) && not (i + 1 == length ms)) → AreCounted seq coding start ms i before
+    → IsCountedMacroblock seq coding inner from before behind → AreCounted seq coding start ms (i + 1) behind
+counted-more seq coding start ms i from d inner before behind at within is_inner was is =
+    one-more-counted seq coding start ms i from d inner before behind is.step at within is_inner was is.same is.is is.counted
+
+pub state-kept : (seq : SeqState) (coding : PicCoding) (inner : Bool) (from : Macroblock) (m in_force : ℕ) (before behind : VersionCount) → before.state.m ≡ m → before.state.source_code ≡ in_force
+    → IsCountedMacroblock seq coding inner from before behind → (behind.state.m ≡ m) × (behind.state.source_code ≡ unwrap_or from.code in_force)
+state-kept seq coding inner from m in_force before behind ratio code is = (
+  ap (λ (s : VersionState). s.m) is.counted.state ∙ is.is.state.ratio ∙ ratio,
+  ap (λ (s : VersionState). s.source_code) is.counted.state ∙ is.is.state.source_code
+      ∙ ap₂ (λ (f : Macroblock) (n : ℕ). unwrap_or f.code n) is.same code,
+)
+
+-- a slice that was counted has this size
+pub slice-sized : (seq : SeqState) (coding : PicCoding) (m : ℕ) (from : Slice) (count : VersionCount) (made : SliceCount) → IsCountable coding from → AreAllCounted seq coding m from count
+    → made.bytes ≡ (37 + length (written_slice_info from.info) + count.bits + 7) / 8 → made.distortion ≡ count.distortion → IsCountedSlice seq coding m from made
+slice-sized seq coding m from count made countable all bytes distortion =
+    let few : length from.macroblocks ≤ 65535 = omega (arith, few-macroblocks from.macroblocks, countable.room) in
+    all-counted seq coding m from all.start count (37 + length (written_slice_info from.info) + count.bits) (length (written_slice_info from.info)) made
+    all.ratio all.source_code all.version_code all.skipped all.counted refl (few-info from.info countable.info) few refl bytes distortion
+  where
+    few-info : (info : Option SliceInfo) → IfSome info (λ i. length i.bytes ≤ 2 ^ 32) → length (written_slice_info info) ≤ 2 ^ 36
+    few-info None few = omega arith
+    few-info (Some info) few = omega (arith, info-length info, few)

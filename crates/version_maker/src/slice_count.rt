@@ -1,15 +1,18 @@
-//! One version of a slice, counted macroblock by macroblock and neither kept nor written.
-ghost use Rattle.std.specs.Prelude.{◌≡◌, ◌≤◌, ◌<◌, ◌+◌, ◌*◌, ◌/◌, ◌^◌, ◌==◌, ◌&&◌, not, length, IfSome};
+//! The versions of a slice, counted macroblock by macroblock and neither kept nor written.
+ghost use Rattle.std.specs.Prelude.{◌≡◌, ◌≤◌, ◌<◌, ◌+◌, ◌*◌, ◌/◌, ◌^◌, ◌==◌, ◌&&◌, ℕ, not, length, slice_index, slice_index_or, IfSome};
 ghost use Rattle.std.specs.List.{AllByRecursion, flat_map, sum_by};
 ghost use Rattle.std.specs.Option.{option_to_list};
+ghost use Rattle.quant_math.specs.Scales.{IsCode};
 ghost use Rattle.picture_grammar.specs.Written.{written_macroblock, written_slice_info};
 ghost use Rattle.requantiser.specs.Levels.{HasWeights};
-ghost use Rattle.requantiser.specs.Steps.{IsStep, Step};
+ghost use Rattle.requantiser.specs.declared.tally.Tally.{Tally as TallyOf};
 ghost use Rattle.requantiser.specs.VersionState.{IsSpelledMacroblock, made_of};
-ghost use Rattle.version_maker.specs.Private.Counts.{AreCounted, IsCountable, IsCountedSlice, IsCountedStep};
+ghost use Rattle.version_maker.specs.declared.slice_count.VersionCount.{VersionCount as CountOf};
+ghost use Rattle.version_maker.specs.Private.Counts.{AreAllCounted, AreCounted, CanCount, IsCountable, IsCountedMacroblock, IsStartCount};
 
 use macroblock_writer::macroblock_bits;
-use requantiser::{VersionState, coarsen_macroblock};
+use quant_math::WHOLE_RATIO;
+use requantiser::{Tally, VERSIONS_AT_ONCE, VersionState, outline_macroblock, tally_macroblock};
 use syntax_types::{Macroblock, PicCoding, SeqState, Slice, SliceInfo};
 
 /// Where one version stands in a slice, and what was counted of it.
@@ -32,20 +35,67 @@ pub struct SliceCount {
 /// Bits of a start code and of quantiser_scale_code behind it.
 const CODE_BITS: u64 = 32 + 5;
 
-/// Counts the slice of the version at `m` sixteenths, each macroblock through one that is lent.
+impl VersionCount {
+    /// Nothing of a slice with this code, in the version at `m` sixteenths.
+    fn new(coding: &PicCoding, m: u16, code: u8) -> VersionCount
+        requires { IsCode code }
+        ensures { IsStartCount coding.now m code result }
+    {
+        VersionCount {
+            state: VersionState::new(coding, m, code),
+            bits: 0,
+            distortion: 0,
+        }
+    }
+}
+
+/// Counts a slice in the version at each ratio, its macroblocks through one that is lent.
 pub fn count_slice(
     seq: &SeqState,
     coding: &PicCoding,
-    m: u16,
+    ratios: &[u16],
     slice: &Slice,
     lent: &mut Macroblock,
-) -> SliceCount
+) -> [VersionCount; VERSIONS_AT_ONCE]
     requires weights { HasWeights seq.now }
     requires countable { IsCountable coding.now slice.now }
-    ensures { IsCountedSlice seq.now coding.now m slice.now result }
+    requires ratios { length ratios.now ≤ VERSIONS_AT_ONCE }
+    ensures { (k : ℕ) (d : CountOf) → k < length ratios.now → AreAllCounted seq.now coding.now (slice_index ratios.now k) slice.now (slice_index_or result k d) }
 {
-    let start = VersionState::new(coding, m, slice.code);
-    let count = count_macroblocks(seq, coding, start, slice.macroblocks.as_slice(), lent);
+    let mut counts = start_counts(coding, ratios, slice.code);
+    let macroblocks = slice.macroblocks.as_slice();
+    count_macroblocks(
+        seq,
+        coding,
+        ratios,
+        slice.code,
+        macroblocks,
+        lent,
+        &mut counts,
+    );
+    counts
+}
+
+/// Nothing of a slice with this code, in each version.
+fn start_counts(coding: &PicCoding, ratios: &[u16], code: u8) -> [VersionCount; VERSIONS_AT_ONCE]
+    requires code { IsCode code }
+    requires ratios { length ratios.now ≤ VERSIONS_AT_ONCE }
+    ensures { (k : ℕ) (d : CountOf) → k < length ratios.now → IsStartCount coding.now (slice_index ratios.now k) code (slice_index_or result k d) }
+{
+    let mut counts = [VersionCount::new(coding, WHOLE_RATIO as u16, code); VERSIONS_AT_ONCE];
+    for k in 0..ratios.len() {
+        counts[k] = VersionCount::new(coding, ratios[k], code);
+    }
+    counts
+}
+
+/// The slice of a version whose macroblocks were counted.
+pub fn slice_size(slice: &Slice, count: VersionCount) -> SliceCount
+    requires info { IfSome slice.now.info (λ i. length i.bytes ≤ 2 ^ 32) }
+    requires few { count.bits ≤ 2 ^ 40 }
+    ensures bytes { result.bytes ≡ (37 + length (written_slice_info slice.now.info) + count.bits + 7) / 8 }
+    ensures distortion { result.distortion ≡ count.distortion }
+{
     let bits = CODE_BITS + info_bits(&slice.info) + count.bits;
     SliceCount {
         bytes: whole_bytes(bits),
@@ -61,29 +111,42 @@ fn whole_bytes(bits: u64) -> u64
     bits.div_ceil(8)
 }
 
-/// Counts what becomes of the macroblocks of a slice, from the state at its start.
+/// Counts what becomes of the macroblocks of a slice with this code in the version at each ratio.
 fn count_macroblocks(
     seq: &SeqState,
     coding: &PicCoding,
-    start: VersionState,
+    ratios: &[u16],
+    code: u8,
     macroblocks: &[Macroblock],
     lent: &mut Macroblock,
-) -> VersionCount
+    counts: &mut [VersionCount; VERSIONS_AT_ONCE],
+)
     requires weights { HasWeights seq.now }
+    requires code { IsCode code }
     requires spelled { AllByRecursion (IsSpelledMacroblock coding.now) macroblocks.now }
-    requires room { start.skipped + sum_by (λ m. m.skipped_before + 1) macroblocks.now ≤ u16.MAX }
-    ensures { AreCounted seq.now coding.now start macroblocks.now (length macroblocks.now) result }
+    requires room { sum_by (λ m. m.skipped_before + 1) macroblocks.now ≤ u16.MAX }
+    requires ratios { length ratios.now ≤ VERSIONS_AT_ONCE }
+    requires start { (k : ℕ) (d : CountOf) → k < length ratios.now → IsStartCount coding.now (slice_index ratios.now k) code (slice_index_or counts.old k d) }
+    ensures { (k : ℕ) (d : CountOf) → k < length ratios.now →
+        (let start : CountOf = slice_index_or counts.old k d in AreCounted seq.now coding.now start.state macroblocks.now (length macroblocks.now) (slice_index_or counts.new k d)) }
 {
-    let mut count = VersionCount {
-        state: start,
-        bits: 0,
-        distortion: 0,
-    };
+    let mut tallies = [Tally::empty(); VERSIONS_AT_ONCE];
+    let mut in_force = code;
     for i in 0..macroblocks.len() {
+        let from = &macroblocks[i];
         let inner = is_inner(i, macroblocks.len());
-        count_macroblock(seq, coding, inner, &macroblocks[i], lent, &mut count);
+        in_force = tally_macroblock(seq, coding, in_force, ratios, from, &mut tallies);
+        count_macroblock(
+            seq,
+            coding,
+            inner,
+            from,
+            ratios.len(),
+            &tallies,
+            lent,
+            counts,
+        );
     }
-    count
 }
 
 /// The macroblock with this index is neither the first nor the last one of so many.
@@ -94,24 +157,45 @@ fn is_inner(i: usize, count: usize) -> bool
     i != 0 && i + 1 != count
 }
 
-/// Counts what becomes of one more macroblock, through one that is lent.
+/// Counts what becomes of one more macroblock in the first so many versions, through one that is lent.
 fn count_macroblock(
     seq: &SeqState,
     coding: &PicCoding,
     inner: bool,
     from: &Macroblock,
+    count: usize,
+    tallies: &[Tally; VERSIONS_AT_ONCE],
+    lent: &mut Macroblock,
+    counts: &mut [VersionCount; VERSIONS_AT_ONCE],
+)
+    requires weights { HasWeights seq.now }
+    requires spelled { IsSpelledMacroblock coding.now from.now }
+    requires count { count ≤ VERSIONS_AT_ONCE }
+    requires each { (k : ℕ) (d : CountOf) (e : TallyOf) → k < count → CanCount seq.now coding.now from.now (slice_index_or tallies.now k e) (slice_index_or counts.old k d) }
+    ensures { (k : ℕ) (d : CountOf) → k < count → IsCountedMacroblock seq.now coding.now inner from.now (slice_index_or counts.old k d) (slice_index_or counts.new k d) }
+{
+    for k in 0..count {
+        count_version(seq, coding, inner, from, tallies[k], lent, &mut counts[k]);
+    }
+}
+
+/// Counts what becomes of one more macroblock in a version, through one that is lent.
+fn count_version(
+    seq: &SeqState,
+    coding: &PicCoding,
+    inner: bool,
+    from: &Macroblock,
+    tally: Tally,
     lent: &mut Macroblock,
     count: &mut VersionCount,
 )
     requires weights { HasWeights seq.now }
     requires spelled { IsSpelledMacroblock coding.now from.now }
-    requires room { count.old.state.skipped + from.now.skipped_before < u16.MAX }
-    requires bits { count.old.bits + 2 ^ 17 < 2 ^ 64 }
-    requires distortion { count.old.distortion + 2 ^ 41 < 2 ^ 64 }
-    ensures { (step : Step) × (step.from ≡ from.now) × IsStep seq.now coding.now inner count.old.state step × IsCountedStep coding.now step count.old count.new }
+    requires can { CanCount seq.now coding.now from.now tally count.old }
+    ensures { IsCountedMacroblock seq.now coding.now inner from.now count.old count.new }
 {
-    let made = coarsen_macroblock(seq, coding, inner, &mut count.state, from, lent);
-    count.bits += u64::from(bits_made(coding, made.coded, lent));
+    let made = outline_macroblock(seq, coding, inner, tally, &mut count.state, from, lent);
+    count.bits += u64::from(bits_made(coding, made.coded, lent) + made.bits);
     count.distortion += made.distortion;
 }
 

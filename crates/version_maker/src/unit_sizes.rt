@@ -7,7 +7,7 @@ ghost use Rattle.requantiser.specs.Levels.{HasWeights};
 ghost use Rattle.version_maker.specs.Private.Counts.{IsCountable};
 ghost use Rattle.version_maker.specs.Private.Sized.{AreSized, first_size, with_bytes};
 
-use crate::slice_count::{SliceCount, count_slice};
+use crate::slice_count::{SliceCount, count_slice, slice_size};
 use crate::version::VersionSize;
 use arrayvec::ArrayVec;
 use syntax_types::{Macroblock, PicCoding, SeqState, Slice};
@@ -45,8 +45,9 @@ pub fn with_slice(
         AreSized seq.now coding.now (slices ++ slice.now ∷ []) coarser.now result.items }
 {
     let mut sizes = ArrayVec::new();
+    let counts = count_slice(seq, coding, coarser, slice, lent);
     for i in 0..coarser.len() {
-        let count = count_slice(seq, coding, coarser[i], slice, lent);
+        let count = slice_size(slice, counts[i]);
         sizes.push(sum(before[i], count));
     }
     sizes

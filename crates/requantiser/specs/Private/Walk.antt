@@ -103,10 +103,9 @@ is_coded_without_motion kind = kind.pattern && not kind.intra && not kind.forwar
 abbrev pub are_empty : List Block → Bool
 are_empty blocks = list_all is_empty_block blocks
 
--- the macroblock with these blocks, behind so many skipped ones
-abbrev pub with_blocks : PicCoding → ℕ → ℕ → ℕ → Macroblock → List Block → Macroblock
-with_blocks coding mapped before skipped m blocks =
-    let pattern = if m.kind.intra then 0 else pattern_of blocks in
+-- the macroblock with this pattern and these blocks, behind so many skipped ones
+abbrev pub with_pattern : PicCoding → ℕ → ℕ → ℕ → ℕ → Macroblock → List Block → Macroblock
+with_pattern coding mapped before skipped pattern m blocks =
     let has = m.kind.intra || not (pattern == 0) in
     let code = if has && not (mapped == before) then Some mapped else None in
     let kind : Kind = record m.kind { quant = is_some code; pattern = not (pattern == 0) } in
@@ -121,6 +120,10 @@ with_blocks coding mapped before skipped m blocks =
       pattern = pattern;
       blocks = blocks;
     }
+
+-- the same with the pattern of its blocks
+abbrev pub with_blocks : PicCoding → ℕ → ℕ → ℕ → Macroblock → List Block → Macroblock
+with_blocks coding mapped before skipped m blocks = with_pattern coding mapped before skipped (if m.kind.intra then 0 else pattern_of blocks) m blocks
 
 -- the blocks that stand in the coarser picture for those of a macroblock, or none where it is skipped
 abbrev pub made_blocks : SeqState → PicCoding → Bool → ℕ → ℕ → Macroblock → Option (List Block)

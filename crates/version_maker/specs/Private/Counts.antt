@@ -1,8 +1,8 @@
 -- A version of a slice while it is counted, and behind that.
-use Rattle.std.specs.Prelude.{◌≡◌, ◌≤◌, ◌+◌, ◌++◌, ◌*◌, ◌^◌, ℕ, List, length, take, drop, IfSome}
+use Rattle.std.specs.Prelude.{◌≡◌, ◌<◌, ◌≤◌, ◌+◌, ◌++◌, ◌*◌, ◌^◌, ℕ, List, length, take, drop, unwrap_or, Bool, IfSome}
 use Rattle.std.specs.List.{AllByRecursion, flat_map, sum_by}
 use Rattle.std.specs.Option.{option_to_list}
-use Rattle.quant_math.specs.Scales.{IsCode}
+use Rattle.quant_math.specs.Scales.{IsCode, IsMappedCode}
 use Rattle.syntax_types.specs.declared.macroblock.Macroblock.{Macroblock}
 use Rattle.syntax_types.specs.declared.picture.PicCoding.{PicCoding}
 use Rattle.syntax_types.specs.declared.picture.SeqState.{SeqState}
@@ -12,7 +12,9 @@ use Rattle.picture_grammar.specs.StartCode.{start_code_bits}
 use Rattle.picture_grammar.specs.Written.{to_whole_bytes, written_macroblock, written_slice}
 use Rattle.requantiser.specs.declared.version_state.VersionState.{VersionState}
 use Rattle.requantiser.specs.Slices.{end_column}
-use Rattle.requantiser.specs.Steps.{AreSteps, MakeSlice, Step, distortion_of, made_by, state_behind, taken_by}
+use Rattle.requantiser.specs.declared.tally.Tally.{Tally}
+use Rattle.requantiser.specs.Tallies.{IsTallyOf}
+use Rattle.requantiser.specs.Steps.{AreSteps, IsStep, MakeSlice, Step, distortion_of, made_by, state_behind, taken_by}
 use Rattle.requantiser.specs.VersionState.{IsSpelledMacroblock}
 use Rattle.version_maker.specs.declared.slice_count.SliceCount.{SliceCount}
 use Rattle.version_maker.specs.declared.slice_count.VersionCount.{VersionCount}
@@ -21,9 +23,32 @@ use Rattle.version_maker.specs.declared.slice_count.VersionCount.{VersionCount}
 pub record IsCountedStep (coding : PicCoding) (step : Step) (before behind : VersionCount) : Type 0 where
   pub state : behind.state ≡ step.behind
   pub bits : behind.bits ≡ before.bits + length (flat_map (written_macroblock coding) (option_to_list step.made))
-  pub few : behind.bits ≤ before.bits + 2 ^ 17
+  pub few : behind.bits ≤ before.bits + 2 ^ 18
   pub distortion : behind.distortion ≡ before.distortion + step.distortion
   pub small : behind.distortion ≤ before.distortion + 2 ^ 41
+
+-- one more macroblock was counted in a version
+pub record IsCountedMacroblock (seq : SeqState) (coding : PicCoding) (inner : Bool) (from : Macroblock) (before behind : VersionCount) : Type 0 where
+  pub step : Step
+  pub same : step.from ≡ from
+  pub is : IsStep seq coding inner before.state step
+  pub counted : IsCountedStep coding step before behind
+
+-- one more macroblock can be counted in a version, in which its coefficients were
+pub record CanCount (seq : SeqState) (coding : PicCoding) (from : Macroblock) (tally : Tally) (count : VersionCount) : Type 0 where
+  pub tallied : IsTallyOf seq coding (unwrap_or from.code count.state.source_code) count.state.m from tally
+  pub room : count.state.skipped + from.skipped_before < 65535
+  pub bits : count.bits + 2 ^ 18 < 2 ^ 64
+  pub distortion : count.distortion + 2 ^ 41 < 2 ^ 64
+
+-- nothing of a slice with this code was counted in the version at m sixteenths
+pub record IsStartCount (coding : PicCoding) (m code : ℕ) (count : VersionCount) : Type 0 where
+  pub ratio : count.state.m ≡ m
+  pub source_code : count.state.source_code ≡ code
+  pub version_code : IsMappedCode coding.q_scale_type code m count.state.version_code
+  pub skipped : count.state.skipped ≡ 0
+  pub bits : count.bits ≡ 0
+  pub distortion : count.distortion ≡ 0
 
 -- the first so many macroblocks of a slice were counted
 pub record AreCounted (seq : SeqState) (coding : PicCoding) (start : VersionState) (macroblocks : List Macroblock) (so_many : ℕ) (count : VersionCount) : Type 0 where
@@ -32,7 +57,7 @@ pub record AreCounted (seq : SeqState) (coding : PicCoding) (start : VersionStat
   pub taken : taken_by steps ≡ take so_many macroblocks
   pub state : state_behind start steps ≡ count.state
   pub bits : count.bits ≡ length (flat_map (written_macroblock coding) (made_by steps))
-  pub few : count.bits ≤ so_many * 2 ^ 17
+  pub few : count.bits ≤ so_many * 2 ^ 18
   pub distortion : count.distortion ≡ distortion_of steps
   pub small : count.distortion ≤ so_many * 2 ^ 41
   pub room : count.state.skipped + sum_by (λ m. m.skipped_before + 1) (drop so_many macroblocks) ≤ 65535
@@ -44,6 +69,15 @@ pub record IsCountable (coding : PicCoding) (slice : Slice) : Type 0 where
   pub spelled : AllByRecursion (IsSpelledMacroblock coding) slice.macroblocks
   pub room : end_column slice ≤ 65535
   pub info : IfSome slice.info (λ i. length i.bytes ≤ 2 ^ 32)
+
+-- all macroblocks of the slice were counted in the version at m sixteenths
+pub record AreAllCounted (seq : SeqState) (coding : PicCoding) (m : ℕ) (slice : Slice) (count : VersionCount) : Type 0 where
+  pub start : VersionState
+  pub ratio : start.m ≡ m
+  pub source_code : start.source_code ≡ slice.code
+  pub version_code : IsMappedCode coding.q_scale_type slice.code m start.version_code
+  pub skipped : start.skipped ≡ 0
+  pub counted : AreCounted seq coding start slice.macroblocks (length slice.macroblocks) count
 
 -- a slice behind its start code as it is written, up to a whole byte
 abbrev pub written_whole : PicCoding → Slice → List ℕ

@@ -1,0 +1,53 @@
+-- What is counted of the coefficients of a macroblock in a version that isn't made, and what becomes of the macroblock there.
+use Rattle.std.specs.Prelude.{◌≡◌, ◌≤◌, ◌+◌, ◌-◌, ◌^◌, ℕ, Option, Some, List, [], length, slice_index_or, Bool}
+use Rattle.std.specs.Option.{option_to_list}
+use Rattle.std.specs.List.{flat_map, range_with_len, sum_by}
+use Rattle.quant_math.specs.Scales.{IsMappedCode}
+use Rattle.syntax_types.specs.declared.block.Block.{Block}
+use Rattle.syntax_types.specs.declared.block.BlockWay.{BlockWay}
+use Rattle.syntax_types.specs.declared.block.RunLevel.{RunLevel}
+use Rattle.syntax_types.specs.declared.macroblock.Macroblock.{Macroblock}
+use Rattle.syntax_types.specs.declared.macroblock.TheConstants.{BLOCKS}
+use Rattle.syntax_types.specs.declared.picture.PicCoding.{PicCoding}
+use Rattle.syntax_types.specs.declared.picture.SeqState.{SeqState}
+use Rattle.picture_grammar.specs.Block.{first_place}
+use Rattle.picture_grammar.specs.Macroblock.{block_way, no_block}
+use Rattle.picture_grammar.specs.Written.{written_coefficients, written_macroblock}
+use Rattle.requantiser.specs.declared.outline.Outlined.{Outlined}
+use Rattle.requantiser.specs.declared.tally.Tally.{Tally}
+use Rattle.requantiser.specs.declared.version_state.VersionState.{VersionState}
+use Rattle.requantiser.specs.Blocks.{AreCoarserBlocks}
+use Rattle.requantiser.specs.Distortion.{coefficient_of_macroblock, difference_of}
+use Rattle.requantiser.specs.Levels.{coefficient_at, place_of}
+use Rattle.requantiser.specs.Macroblocks.{IsCoarserAt, pattern_of}
+use Rattle.requantiser.specs.VersionState.{IsStateBehind, made_of}
+
+-- in how many bits more the coefficients of a block are written than none (ISO/IEC 13818-2, 6.2.6)
+abbrev pub bits_beyond : BlockWay → List RunLevel → ℕ
+bits_beyond way pairs = length (written_coefficients way (first_place way) pairs) - length (written_coefficients way (first_place way) [])
+
+-- The coefficients of a macroblock in which this code is in force were counted in the version at m sixteenths: the pattern
+-- of its coarser blocks, the bits in which they are written beyond those of blocks without coefficients, and how far their
+-- coefficients are from the source's.
+pub record IsTallyOf (seq : SeqState) (coding : PicCoding) (code m : ℕ) (from : Macroblock) (tally : Tally) : Type 0 where
+  pub mapped : IsMappedCode coding.q_scale_type code m tally.target.code
+  pub blocks : List Block
+  pub coarser : AreCoarserBlocks seq coding from.kind code tally.target.code from.blocks blocks
+  pub pattern : tally.pattern ≡ pattern_of blocks
+  pub bits : tally.bits ≡ sum_by (λ i. let block : Block = slice_index_or blocks i no_block in bits_beyond (block_way coding from.kind i) block.pairs.items) (range_with_len 0 BLOCKS)
+  pub few : tally.bits ≤ 2 ^ 15
+  pub distortion : tally.distortion ≡ difference_of
+      (λ i index. coefficient_at seq coding (block_way coding from.kind i) code (slice_index_or from.blocks i no_block) (place_of coding.alternate_scan index))
+      (λ i index. coefficient_at seq coding (block_way coding from.kind i) tally.target.code (slice_index_or blocks i no_block) (place_of coding.alternate_scan index))
+  pub small : tally.distortion ≤ 2 ^ 41
+
+-- What becomes of a macroblock in a version, told by an outline of it: what is made is written in so many bits more than
+-- the outline, and skipped where there is none. The state and the distortion are those of the step that makes it.
+pub record IsOutlined (seq : SeqState) (coding : PicCoding) (inner : Bool) (from : Macroblock) (before behind : VersionState) (outlined : Outlined) (outline : Macroblock) : Type 0 where
+  pub made : Option Macroblock
+  pub at : IsCoarserAt seq coding before.m inner before.source_code before.version_code (Some from) made
+  pub state : IsStateBehind from made before behind
+  pub difference : outlined.distortion ≡ difference_of (coefficient_of_macroblock seq coding behind.source_code (Some from))
+      (coefficient_of_macroblock seq coding behind.version_code made)
+  pub bits : length (flat_map (written_macroblock coding) (option_to_list made))
+      ≡ length (flat_map (written_macroblock coding) (option_to_list (made_of outlined.coded outline))) + outlined.bits
