@@ -5,6 +5,8 @@ use Rattle.cost_sweep.proofs.sweep.CostSweep.price_over.Goals as goal
 pub returns : goal.returns
 returns c =
     let place = c.count_within-place.result in
-    let read : MatchOption c.price_at.result (length c.args.self.now.prices.items ≤ place) (λ price. (place < length c.args.self.now.prices.items) × (price ≡ get_or c.args.self.now.prices.items place 0)) =
-    subst (λ (x : List ℕ). MatchOption c.price_at.result (length x ≤ place) (λ price. (place < length x) × (price ≡ get_or x place 0))) c.as_slice.ensures.value c.price_at.ensures in
+    let prices = c.args.self.now.prices.items in
+    let found = c.price_at.result in
+    let read : MatchOption found (length prices ≤ place) (λ price. (place < length prices) × (price ≡ get_or prices place 0)) =
+    subst (λ (x : List ℕ). MatchOption found (length x ≤ place) (λ price. (place < length x) × (price ≡ get_or x place 0))) c.as_slice.ensures.value c.price_at.ensures in
     over-of c.args.self.now c.requires c.args.fewer place c.count_within-place.ensures.within c.count_within-place.ensures.more c.price_at.result read

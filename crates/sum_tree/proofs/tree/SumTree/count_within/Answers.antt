@@ -10,8 +10,8 @@ bounds-nodes-node c =
     let tree = c.requires.tree.1 in
     let self = c.args.self.now in
     let is = c.loop-level.invariant in
-    let low = low_bound self.height c.requires.tree.0 self.first self.nodes.items tree c.loop-level._level c.loop-level.node c.loop-level.left c.args.most c.loop-level-test.true is.from is.within is.sum
-    is.more in
+    let low = low_bound self.height c.requires.tree.0 self.first self.nodes.items tree c.loop-level._level c.loop-level.node c.loop-level.left c.args.most
+    c.loop-level-test.true is.from is.within is.sum is.more in
     omega (arith, low, tree.size, ap (length {A = ℕ}) c.as_slice-nodes.ensures.value)
 
 pub loop-level-preserved : goal.loop-level-preserved
