@@ -150,7 +150,8 @@ written_head coding m =
     ++ (if has_concealment coding m.kind then 1 ∷ [] else [])
     ++ (if m.kind.pattern then code_for Pattern m.pattern else [])
 
-macroblock-length : (coding : PicCoding) (m : Macroblock) → length (written_macroblock coding m) ≡ length (written_head coding m) + length (flat_map (written_coded_block coding m) (range_with_len 0 6))
+macroblock-length : (coding : PicCoding) (m : Macroblock)
+    → length (written_macroblock coding m) ≡ length (written_head coding m) + length (flat_map (written_coded_block coding m) (range_with_len 0 6))
 unfolding written_macroblock
 macroblock-length coding m = length-append (written_head coding m) (flat_map (written_coded_block coding m) (range_with_len 0 6))
 
@@ -180,7 +181,8 @@ outline-length seq coding code mapped before skipped pattern from six is =
       flat_lengths (written_coded_block coding made) (written_coded_block coding outline) (bits_of_block coding from.kind blocks) 0 6 (λ i low high. each i (omega (arith, high))),
     )
   where
-    not_coded : (i : ℕ) → i < 6 → (intra : Bool) → intra ≡ from.kind.intra → (intra || (bit_at (if intra then 0 else pattern_of (coarsened_blocks seq coding from.kind code mapped from.blocks)) (5 - i) == 1)) ≡ false
+    not_coded : (i : ℕ) → i < 6 → (intra : Bool) → intra ≡ from.kind.intra
+        → (intra || (bit_at (if intra then 0 else pattern_of (coarsened_blocks seq coding from.kind code mapped from.blocks)) (5 - i) == 1)) ≡ false
         → is_empty_block (get_or (coarsened_blocks seq coding from.kind code mapped from.blocks) i no_block) ≡ true
     not_coded i below true intra none = absurd (cc)
     not_coded i below false intra none =
