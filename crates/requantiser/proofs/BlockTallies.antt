@@ -1,45 +1,9 @@
 -- The blocks of a macroblock counted one after the other.
-use Rattle.std.proofs.Common.{
-  ◌≡◌,
-  ℕ,
-  zero,
-  suc,
-  ◌+◌,
-  ◌-◌,
-  ◌*◌,
-  ◌^◌,
-  ◌<◌,
-  ◌≤◌,
-  ℤ,
-  List,
-  [],
-  ◌∷◌,
-  ◌++◌,
-  Bool,
-  true,
-  false,
-  refl,
-  sym,
-  ◌∙◌,
-  ap,
-  ap₂,
-  subst,
-  ◌⊎◌,
-  inl,
-  inr,
-  arith,
-  length,
-  drop,
-  get_or,
-  length-append,
-}
-use Rattle.std.specs.Prelude.{◌==◌, ◌&&◌, not, map, slice_set, slice_index_or, if◌then◌else◌}
-use Rattle.std.specs.List.{list_all}
-use Rattle.std.proofs.lemmas.Bool.{cases_Bool, cases_order, ne_eqb}
-use Rattle.std.proofs.lemmas.Nat.{pow_pos}
-use Rattle.std.proofs.lemmas.List.{get_or_default, get_or-set_same, get_or-set_other}
+use Rattle.std.proofs.Common.{◌≡◌, ℕ, zero, suc, ◌+◌, ◌-◌, ◌*◌, ◌^◌, ◌<◌, ◌≤◌, ℤ, List, [], ◌∷◌, true, false, refl, sym, ◌∙◌, ap, ap₂, subst, ◌⊎◌, inl, inr, arith, length, drop, get_or}
+use Rattle.std.specs.Prelude.{not, slice_set, if◌then◌else◌}
+use Rattle.std.proofs.lemmas.Bool.{cases_order}
+use Rattle.std.proofs.lemmas.List.{get_or-set_same, get_or-set_other}
 use Rattle.std.proofs.lemmas.List.FromFn.{length-map-range_with_len}
-use Rattle.bit_lists.specs.Bits.{number_of}
 use Rattle.bit_lists.specs.Fields.{flag}
 use Rattle.quant_math.specs.Scales.{IsMappedCode}
 use Rattle.syntax_types.specs.declared.block.Block.{Block}
@@ -51,17 +15,16 @@ use Rattle.syntax_types.specs.declared.picture.PicCoding.{PicCoding}
 use Rattle.syntax_types.specs.declared.picture.SeqState.{SeqState}
 use Rattle.picture_grammar.specs.Block.{first_place}
 use Rattle.picture_grammar.specs.Macroblock.{block_way, no_block}
-use Rattle.picture_grammar.specs.Written.{written_coefficients}
 use Rattle.requantiser.specs.declared.tally.Tally.{Tally}
 use Rattle.requantiser.specs.Distortion.{difference_of}
 use Rattle.requantiser.specs.Levels.{scale_of}
-use Rattle.requantiser.specs.Macroblocks.{is_empty_block, pattern_of}
+use Rattle.requantiser.specs.Macroblocks.{pattern_of}
 use Rattle.requantiser.specs.Tallies.{IsTallyOf, bits_beyond}
 use Rattle.requantiser.specs.Private.Changes.{block_change, change_in, coefficient_of_blocks, new_level_in}
 use Rattle.requantiser.specs.Private.Shapes.{FitBlock}
 use Rattle.requantiser.specs.Private.Sums.{sum_from}
 use Rattle.requantiser.specs.Private.Tallies.{AreBlocksTallied, IsBlockTallied, IsStart, StartsBlock, bits_of_block, block_distortion, has_none}
-use Rattle.requantiser.specs.Private.Walk.{are_empty, coarsened_block, coarsened_blocks, coarsened_pairs, mapped_code, new_level}
+use Rattle.requantiser.specs.Private.Walk.{coarsened_block, coarsened_blocks, coarsened_pairs, mapped_code, new_level}
 use Rattle.requantiser.proofs.BlockChanges.{block_changes-are}
 use Rattle.requantiser.proofs.Macroblocks.{coarsened_blocks-are, get_or-coarsened, one_block}
 use Rattle.requantiser.proofs.MappedCodes.{mapped_code-is}

@@ -1,48 +1,10 @@
 -- A macroblock of a version by its outline.
-use Rattle.std.proofs.Common.{
-  ◌≡◌,
-  ℕ,
-  zero,
-  suc,
-  ◌+◌,
-  ◌-◌,
-  ◌*◌,
-  ◌^◌,
-  ◌<◌,
-  ◌≤◌,
-  ℤ,
-  pos,
-  Option,
-  Some,
-  None,
-  unwrap_or,
-  option_map,
-  List,
-  [],
-  ◌∷◌,
-  ◌++◌,
-  Bool,
-  true,
-  false,
-  refl,
-  sym,
-  ◌∙◌,
-  ap,
-  ap₂,
-  subst,
-  ◌⊎◌,
-  inl,
-  inr,
-  arith,
-  length,
-  get_or,
-  length-append,
-}
-use Rattle.std.specs.Prelude.{◌==◌, ◌&&◌, ◌||◌, not, map, slice_index_or, if◌then◌else◌}
+use Rattle.std.proofs.Common.{◌≡◌, ℕ, zero, suc, ◌+◌, ◌-◌, ◌*◌, ◌^◌, ◌<◌, ◌≤◌, ℤ, pos, Option, Some, None, unwrap_or, List, [], ◌∷◌, ◌++◌, Bool, true, false, refl, sym, ◌∙◌, ap, ap₂, subst, arith, length, get_or, length-append}
+use Rattle.std.specs.Prelude.{◌==◌, ◌&&◌, ◌||◌, not, map, if◌then◌else◌}
 use Rattle.std.specs.Int.{bit_at}
 use Rattle.std.specs.Option.{option_to_list}
-use Rattle.std.specs.List.{flat_map, list_all, range_with_len}
-use Rattle.std.proofs.lemmas.Bool.{and_parts, cases_lt, ne_eqb}
+use Rattle.std.specs.List.{flat_map, range_with_len}
+use Rattle.std.proofs.lemmas.Bool.{and_parts, ne_eqb}
 use Rattle.std.proofs.lemmas.Nat.{pow_pos}
 use Rattle.bit_lists.specs.Bits.{bits_of, number_of}
 use Rattle.bit_lists.specs.Fields.{flag}
@@ -52,12 +14,11 @@ use Rattle.syntax_types.specs.declared.block.Block.{Block}
 use Rattle.syntax_types.specs.declared.block.BlockWay.{BlockWay}
 use Rattle.syntax_types.specs.declared.block.Dc.{Dc}
 use Rattle.syntax_types.specs.declared.block.RunLevel.{RunLevel}
-use Rattle.syntax_types.specs.declared.macroblock.Kind.{Kind}
 use Rattle.syntax_types.specs.declared.macroblock.Macroblock.{Macroblock}
 use Rattle.syntax_types.specs.declared.picture.PicCoding.{PicCoding}
 use Rattle.syntax_types.specs.declared.picture.SeqState.{SeqState}
 use Rattle.picture_grammar.specs.Block.{coefficient_table, first_place}
-use Rattle.picture_grammar.specs.Macroblock.{block_way, f_codes, has_concealment, has_dct_type, has_motion_type, is_coded, no_block, type_symbol, type_table}
+use Rattle.picture_grammar.specs.Macroblock.{block_way, f_codes, has_concealment, has_dct_type, has_motion_type, no_block, type_symbol, type_table}
 use Rattle.picture_grammar.specs.Written.{code_for, if_any, written_block, written_coded_block, written_coefficient, written_coefficients, written_dc, written_increment, written_macroblock, written_vector}
 use Rattle.requantiser.specs.declared.outline.Outlined.{Outlined}
 use Rattle.requantiser.specs.declared.tally.Tally.{Tally}
@@ -65,7 +26,7 @@ use Rattle.requantiser.specs.declared.version_state.VersionState.{VersionState}
 use Rattle.requantiser.specs.Distortion.{coefficient_of_macroblock, difference_of}
 use Rattle.requantiser.specs.Macroblocks.{IsCoarserAt, is_empty_block, pattern_of}
 use Rattle.requantiser.specs.Tallies.{IsOutlined, IsTallyOf, bits_beyond}
-use Rattle.requantiser.specs.VersionState.{IsStateBehind, made_of}
+use Rattle.requantiser.specs.VersionState.{made_of}
 use Rattle.requantiser.specs.Private.Changes.{coefficient_of_blocks}
 use Rattle.requantiser.specs.Private.Shapes.{HasShape}
 use Rattle.requantiser.specs.Private.Sums.{sum_from}
@@ -150,7 +111,8 @@ written_head coding m =
     ++ (if has_concealment coding m.kind then 1 ∷ [] else [])
     ++ (if m.kind.pattern then code_for Pattern m.pattern else [])
 
-macroblock-length : (coding : PicCoding) (m : Macroblock) → length (written_macroblock coding m) ≡ length (written_head coding m) + length (flat_map (written_coded_block coding m) (range_with_len 0 6))
+macroblock-length : (coding : PicCoding) (m : Macroblock)
+    → length (written_macroblock coding m) ≡ length (written_head coding m) + length (flat_map (written_coded_block coding m) (range_with_len 0 6))
 unfolding written_macroblock
 macroblock-length coding m = length-append (written_head coding m) (flat_map (written_coded_block coding m) (range_with_len 0 6))
 
@@ -180,7 +142,8 @@ outline-length seq coding code mapped before skipped pattern from six is =
       flat_lengths (written_coded_block coding made) (written_coded_block coding outline) (bits_of_block coding from.kind blocks) 0 6 (λ i low high. each i (omega (arith, high))),
     )
   where
-    not_coded : (i : ℕ) → i < 6 → (intra : Bool) → intra ≡ from.kind.intra → (intra || (bit_at (if intra then 0 else pattern_of (coarsened_blocks seq coding from.kind code mapped from.blocks)) (5 - i) == 1)) ≡ false
+    not_coded : (i : ℕ) → i < 6 → (intra : Bool) → intra ≡ from.kind.intra
+        → (intra || (bit_at (if intra then 0 else pattern_of (coarsened_blocks seq coding from.kind code mapped from.blocks)) (5 - i) == 1)) ≡ false
         → is_empty_block (get_or (coarsened_blocks seq coding from.kind code mapped from.blocks) i no_block) ≡ true
     not_coded i below true intra none = absurd (cc)
     not_coded i below false intra none =

@@ -1,46 +1,5 @@
 -- Coefficients counted one after the other.
-use Rattle.std.proofs.Common.{
-  ◌≡◌,
-  ◌≢◌,
-  ℕ,
-  zero,
-  suc,
-  ◌+◌,
-  ◌-◌,
-  ◌*◌,
-  ◌^◌,
-  ◌<◌,
-  ◌≤◌,
-  ℤ,
-  unsigned_abs,
-  Option,
-  Some,
-  None,
-  unwrap_or,
-  List,
-  [],
-  ◌∷◌,
-  ◌++◌,
-  Bool,
-  true,
-  false,
-  refl,
-  sym,
-  ◌∙◌,
-  ap,
-  ap₂,
-  subst,
-  ◌⊎◌,
-  inl,
-  inr,
-  arith,
-  length,
-  drop,
-  get_or,
-  drop-cons,
-  add-one,
-  length-append,
-}
+use Rattle.std.proofs.Common.{◌≡◌, ℕ, ◌+◌, ◌-◌, ◌*◌, ◌<◌, ◌≤◌, ℤ, unsigned_abs, Option, Some, None, unwrap_or, List, [], ◌∷◌, ◌++◌, Bool, true, false, refl, sym, ◌∙◌, ap, ap₂, subst, ◌⊎◌, inl, inr, arith, length, drop, get_or, drop-cons, add-one, length-append}
 use Rattle.std.specs.Prelude.{◌==◌, ◌&&◌, ◌||◌, not, slice_set, if◌then◌else◌}
 use Rattle.std.proofs.lemmas.Bool.{cases_Bool, cases_order, ne_eqb}
 use Rattle.std.proofs.lemmas.List.{drop_all, get_or-set_same, get_or-set_other}
@@ -54,7 +13,7 @@ use Rattle.picture_grammar.specs.Block.{coefficient_table, first_place}
 use Rattle.picture_grammar.specs.Written.{code_for, written_coefficient, written_coefficients}
 use Rattle.requantiser.specs.declared.tally.Tally.{Tally}
 use Rattle.requantiser.specs.Private.Changes.{pair_changes}
-use Rattle.requantiser.specs.Private.Tallies.{EachWent, HasRoom, IsCounted, IsCountedBlock, IsEnded, IsBlockTallied, IsTallied, bits_at, has_none, next_at}
+use Rattle.requantiser.specs.Private.Tallies.{IsCounted, IsCountedBlock, IsEnded, IsBlockTallied, IsTallied, bits_at, has_none, next_at}
 use Rattle.requantiser.specs.Private.Walk.{coarsened_pairs}
 use Rattle.requantiser.proofs.Spelled.{no_end_first}
 

@@ -1,8 +1,8 @@
-use Rattle.std.proofs.Common.{◌≡◌, ◌<◌, ◌≤◌, ◌∙◌, ℕ, length, get_or, ap, sym, subst, arith}
+use Rattle.std.proofs.Common.{◌≡◌, ◌∙◌, ℕ, get_or, ap, sym, subst, arith}
 use Rattle.std.proofs.lemmas.List.{get_or_default}
 use Rattle.syntax_types.specs.declared.block.Block.{Block}
 use Rattle.syntax_types.specs.declared.block.BlockWay.{BlockWay}
-use Rattle.picture_grammar.specs.Macroblock.{block_way, no_block}
+use Rattle.picture_grammar.specs.Macroblock.{no_block}
 use Rattle.requantiser.specs.declared.tally.Tally.{Tally}
 use Rattle.requantiser.specs.Levels.{scale_of}
 use Rattle.requantiser.specs.Private.Changes.{block_change}

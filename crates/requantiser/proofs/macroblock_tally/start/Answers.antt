@@ -1,7 +1,6 @@
-use Rattle.std.proofs.Common.{◌≡◌, ◌<◌, ◌≤◌, ◌∙◌, ℕ, length, get_or, arith}
+use Rattle.std.proofs.Common.{◌≡◌, ◌<◌, ◌∙◌, length, arith}
 use Rattle.std.proofs.lemmas.List.{length-set}
 use Rattle.std.specs.Prelude.{slice_index}
-use Rattle.requantiser.specs.declared.tally.Tally.{Tally}
 use Rattle.requantiser.specs.Private.Tallies.{IsStart}
 use Rattle.requantiser.specs.Private.Walk.{mapped_code}
 use Rattle.requantiser.proofs.BlockTallies.{one_more_is}

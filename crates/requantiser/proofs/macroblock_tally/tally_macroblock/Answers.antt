@@ -1,4 +1,4 @@
-use Rattle.std.proofs.Common.{◌≡◌, get_or, subst}
+use Rattle.std.proofs.Common.{get_or, subst}
 use Rattle.std.specs.Prelude.{slice_index}
 use Rattle.requantiser.specs.Tallies.{IsTallyOf}
 use Rattle.requantiser.proofs.BlockTallies.{all_tallied}

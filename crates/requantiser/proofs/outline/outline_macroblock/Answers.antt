@@ -1,8 +1,5 @@
-use Rattle.std.proofs.Common.{◌≡◌, ◌+◌, ◌∙◌, ℕ, List, Bool, refl, sym, ap, ap₂}
-use Rattle.std.specs.Prelude.{map}
+use Rattle.std.proofs.Common.{◌≡◌, ◌+◌, ◌∙◌, ℕ, List, refl, sym, ap₂}
 use Rattle.syntax_types.specs.declared.block.Block.{Block}
-use Rattle.syntax_types.specs.declared.macroblock.Macroblock.{Macroblock}
-use Rattle.requantiser.specs.Private.Tallies.{outline_of}
 use Rattle.requantiser.specs.Private.Walk.{with_pattern}
 use Rattle.requantiser.proofs.Outlines.{coded_outlined, skipped_outlined}
 use Rattle.requantiser.proofs.Spelled.{walkable}

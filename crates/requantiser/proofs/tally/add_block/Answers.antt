@@ -1,4 +1,4 @@
-use Rattle.std.proofs.Common.{◌≡◌, get_or}
+use Rattle.std.proofs.Common.{get_or}
 use Rattle.requantiser.proofs.Tallies.{block_tallied}
 use Rattle.requantiser.proofs.tally.add_block.Goals as goal
 

@@ -1,4 +1,4 @@
-use Rattle.std.proofs.Common.{◌≡◌, ◌<◌, ◌≤◌, ◌+◌, ◌∙◌, ℕ, ℤ, Bool, w16, to_z, of_z, length, get_or, ap, sym, arith}
+use Rattle.std.proofs.Common.{◌≡◌, ◌<◌, ◌∙◌, ℕ, ℤ, w16, to_z, of_z, length, get_or, ap, arith}
 use Rattle.std.proofs.lemmas.List.{get_or_default, length-set}
 use Rattle.quant_math.specs.Levels.{coarser_level}
 use Rattle.requantiser.specs.declared.tally.Tally.{Tally}
@@ -24,12 +24,16 @@ loop-k-preserved c =
     record {
       len = length-set c.loop-k.tallies k c.add.new.self ∙ c.loop-k.invariant.len;
       went = one_more_went P c.args.tallies.now c.loop-k.tallies k c.add.new.self within
-          (λ d. let scale : c.with_scale-to.result.to ≡ (get_or c.args.tallies.now k d).target.scale = c.with_scale-to.ensures.to ∙ ap (λ (t : Tally). t.target.scale) (here c.index-tallies-k.result d) in
+          (λ d. let scale : c.with_scale-to.result.to ≡ (get_or c.args.tallies.now k d).target.scale =
+          c.with_scale-to.ensures.to ∙ ap (λ (t : Tally). t.target.scale) (here c.index-tallies-k.result d) in
           counted_as c.args.way c.args.coefficient.at c.change_level-change.result.level
           (coarser_level level weight c.args.rescaling.from (get_or c.args.tallies.now k d).target.scale c.args.rescaling.intra) c.change_level-change.result.squared
-          (level_change level weight c.args.rescaling.from (get_or c.args.tallies.now k d).target.scale c.args.rescaling.intra) (get_or c.loop-k.tallies k c.index-tallies-k-in-loop-k.result) (get_or c.args.tallies.now k d) c.add.new.self
-          (c.change_level-change.ensures.level ∙ ap (λ (l : ℤ). coarser_level l weight to.from to.to to.intra) held ∙ same_three (coarser_level level weight) c.with_scale-to.ensures.from scale c.with_scale-to.ensures.intra)
-          (c.change_level-change.ensures.squared ∙ ap (λ (l : ℤ). level_change l weight to.from to.to to.intra) held ∙ same_three (level_change level weight) c.with_scale-to.ensures.from scale c.with_scale-to.ensures.intra)
+          (level_change level weight c.args.rescaling.from (get_or c.args.tallies.now k d).target.scale c.args.rescaling.intra)
+          (get_or c.loop-k.tallies k c.index-tallies-k-in-loop-k.result) (get_or c.args.tallies.now k d) c.add.new.self
+          (c.change_level-change.ensures.level ∙ ap (λ (l : ℤ). coarser_level l weight to.from to.to to.intra) held
+          ∙ same_three (coarser_level level weight) c.with_scale-to.ensures.from scale c.with_scale-to.ensures.intra)
+          (c.change_level-change.ensures.squared ∙ ap (λ (l : ℤ). level_change l weight to.from to.to to.intra) held
+          ∙ same_three (level_change level weight) c.with_scale-to.ensures.from scale c.with_scale-to.ensures.intra)
           (here c.index-tallies-k-in-loop-k.result d) c.add.ensures)
           c.loop-k.invariant.went;
       stay = others_stay c.args.tallies.now c.loop-k.tallies k c.add.new.self c.loop-k.invariant.stay;

@@ -1,10 +1,10 @@
-use Rattle.std.proofs.Common.{◌≡◌, ◌<◌, ◌≤◌, ◌+◌, ◌∙◌, rules, ℕ, ℤ, pos, w16, to_z, of_z, length, drop, get_or, ap, ap₂, sym, arith}
+use Rattle.std.proofs.Common.{◌≡◌, ◌<◌, ◌+◌, ◌∙◌, ℕ, ℤ, pos, w16, to_z, of_z, length, get_or, ap, ap₂, arith}
 use Rattle.quant_math.specs.Levels.{coarser_level}
 use Rattle.syntax_types.specs.declared.block.RunLevel.{RunLevel}
 use Rattle.requantiser.specs.declared.tally.Tally.{Tally}
 use Rattle.requantiser.specs.Private.Changes.{change_in, level_change, new_level_in, weight_in}
 use Rattle.requantiser.proofs.PairSteps.{held_level, one_fits}
-use Rattle.requantiser.proofs.Tallies.{block_counted, one_tally}
+use Rattle.requantiser.proofs.Tallies.{one_tally}
 use Rattle.requantiser.proofs.tally.add_coefficients.Goals as goal
 
 -- what stands past the end of the coefficients

@@ -1,4 +1,4 @@
-use Rattle.std.proofs.Common.{◌≡◌, ◌<◌, ◌≤◌, ℕ, drop, length, get_or}
+use Rattle.std.proofs.Common.{◌<◌, ◌≤◌, ℕ, drop, get_or}
 use Rattle.requantiser.specs.declared.tally.Tally.{Tally}
 use Rattle.requantiser.specs.Private.Changes.{change_in, new_level_in}
 use Rattle.requantiser.specs.Private.Shapes.{FitBlock}
