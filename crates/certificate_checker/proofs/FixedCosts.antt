@@ -1,6 +1,6 @@
 -- What units cost at least, summed apart for those of which nothing is fixed and for those of which a version is.
-use Rattle.std.proofs.Common.{◌≡◌, ℕ, zero, suc, ◌+◌, ◌-◌, ◌*◌, ◌^◌, ◌<◌, ◌≤◌, Bool, true, false, ◌&&◌, cond, nat_le, nat_lt, is_some, ◌⊎◌, List, [], ◌∷◌, length, map, take, get_or, sum_by, Option, Some, None, refl, sym, ap, subst, ◌∙◌, inl, inr, arith}
-use Rattle.std.specs.List.Sorted.{IsNonDecreasingBy}
+use Rattle.std.proofs.Common.{◌≡◌, ℕ, zero, suc, ◌+◌, ◌-◌, ◌*◌, ◌^◌, ◌<◌, ◌≤◌, Bool, true, false, ◌&&◌, cond, nat_le, nat_lt, is_some}
+use Rattle.std.proofs.Common.{List, length, take, get_or, sum_by, Option, Some, None, refl, sym, ap, subst, ◌∙◌, inl, inr, arith}
 use Rattle.std.proofs.lemmas.Bool.{and_from, and_left, and_parts, and_right, cases_lt, false≢true, true≢false, le-leb, lt-leb, lt-ltb}
 use Rattle.std.proofs.lemmas.List.{take_all}
 use Rattle.std.proofs.lemmas.List.Sums.{sum_by-take-le, sum_by_more}
@@ -18,7 +18,7 @@ use Rattle.certificate_checker.specs.declared.order.DueUnit.{DueUnit}
 use Rattle.certificate_checker.specs.declared.tally.Tally.{Tally}
 use Rattle.certificate_checker.specs.Private.FixedCosts.{SplitsBefore, SplitsBy, charged_at, due_at, free_cost, packets_within, where_free}
 use Rattle.certificate_checker.specs.Private.Neighbours.{AreLinked, IsNext}
-use Rattle.certificate_checker.specs.Private.Order.{IsDueOrder, unit_of}
+use Rattle.certificate_checker.specs.Private.Order.{unit_of}
 use Rattle.certificate_checker.specs.Private.PlaceSums.{number_at, sum_from}
 use Rattle.certificate_checker.specs.Private.Tallies.{IsTally, fixed_of, is_out, unit_at, version_fixed}
 use Rattle.certificate_checker.proofs.OrderCosts.{cost_of_number, costs_in_order, no_place}
@@ -66,8 +66,10 @@ pub costs_apart : (table : Table) (fixed : List (Option ℕ)) (innermost : List 
     + sum_from (charged_at tally windows) 0 (length tally.order.items)
 costs_apart table fixed innermost tally windows is fixes =
     let whole : sum_by (λ (at : DueUnit). cost_of_number table windows fixed at.unit) order ≡ sum_from (λ p. cost_of_number table windows fixed (unit_at order p)) 0 n =
-    ap (sum_by (λ (at : DueUnit). cost_of_number table windows fixed at.unit)) (sym (take_all n order (omega arith))) ∙ by_places (λ (at : DueUnit). cost_of_number table windows fixed at.unit) order n (omega arith) in
-    let parts : sum_from (λ p. cost_of_number table windows fixed (unit_at order p)) 0 n ≡ sum_from (λ p. (free p + DISTORTION_PARTS * number_at tally.distortions p) + charged_at tally windows p) 0 n =
+    ap (sum_by (λ (at : DueUnit). cost_of_number table windows fixed at.unit)) (sym (take_all n order (omega arith)))
+    ∙ by_places (λ (at : DueUnit). cost_of_number table windows fixed at.unit) order n (omega arith) in
+    let parts : sum_from (λ p. cost_of_number table windows fixed (unit_at order p)) 0 n
+    ≡ sum_from (λ p. (free p + DISTORTION_PARTS * number_at tally.distortions p) + charged_at tally windows p) 0 n =
     sum_same (λ p. cost_of_number table windows fixed (unit_at order p)) (λ p. (free p + DISTORTION_PARTS * number_at tally.distortions p) + charged_at tally windows p) 0 n
     (λ p from below. at_place p (omega (arith, below))) in
     omega (
@@ -205,7 +207,8 @@ one_window_more tally windows i window d within is =
     at_place p =
         let time : ℕ = due_at tally.order.items p in
         let packets : ℕ = number_at tally.packets p in
-        let split : packets * price (take (i + 1) windows) time ≡ packets * (price (take i windows) time + charge time window) = ap (λ (c : ℕ). packets * c) (price_more windows i window d within is time) in
+        let split : packets * price (take (i + 1) windows) time ≡ packets * (price (take i windows) time + charge time window) =
+        ap (λ (c : ℕ). packets * c) (price_more windows i window d within is time) in
         omega (arith, split, times_in (is_within window.from window.due time) window.lambda packets)
 
 pub windows_less : (tally : Tally) (windows : List PricedWindow) (i : ℕ)
@@ -257,8 +260,8 @@ pub record IsOnTo (table : Table) (order : List DueUnit) (fixed : List (Option �
   pub in_row : is_out order fixed q ≡ false
   pub sum : sum_from (free_cost table order fixed windows) 0 (q - 1) ≡ sum_from (free_cost table order fixed windows) 0 p
 
-pub on_to : (table : Table) (order : List DueUnit) (fixed : List (Option ℕ)) (windows : List PricedWindow) (next previous : List ℕ) (p : ℕ) → AreLinked (is_out order fixed) (length order) next previous
-    → p ≤ length order → is_out order fixed p ≡ false → IsOnTo table order fixed windows p (get_or next p 0)
+pub on_to : (table : Table) (order : List DueUnit) (fixed : List (Option ℕ)) (windows : List PricedWindow) (next previous : List ℕ) (p : ℕ)
+    → AreLinked (is_out order fixed) (length order) next previous → p ≤ length order → is_out order fixed p ≡ false → IsOnTo table order fixed windows p (get_or next p 0)
 on_to table order fixed windows next previous p linked low in_row = record {
   goes = is.goes;
   within = is.within;

@@ -1,9 +1,9 @@
 -- What is told of a path, where a unit is fixed, fixed to another version, and fixed no more.
-use Rattle.std.proofs.Common.{◌≡◌, ℕ, zero, suc, ◌+◌, ◌^◌, ◌<◌, ◌≤◌, ◌&&◌, Bool, true, false, nat_lt, is_some, ◌⊎◌, eqb, List, [], ◌∷◌, length, map, get_or, set, All, Option, Some, None, refl, sym, ap, subst, ◌∙◌, inl, inr, arith}
+use Rattle.std.proofs.Common.{◌≡◌, ℕ, zero, suc, ◌+◌, ◌^◌, ◌<◌, ◌≤◌, ◌&&◌, Bool, true, false, nat_lt, is_some, ◌⊎◌, eqb, List}
+use Rattle.std.proofs.Common.{[], ◌∷◌, length, map, get_or, set, All, Option, Some, None, refl, sym, ap, subst, ◌∙◌, inl, inr, arith}
 use Rattle.std.specs.List.{Contains, IsDistinct, range_with_len}
-use Rattle.std.specs.List.Sorted.{IsPermutation}
 use Rattle.std.proofs.lemmas.Bool.{and_left, and_right, cases_eq, cases_lt, eq-eqb, eqb-false, ne_eqb, lt-ltb, le-ltb}
-use Rattle.std.proofs.lemmas.List.{get_or-set_other, get_or-set_same, get_or-map, length-map, length-set}
+use Rattle.std.proofs.lemmas.List.{get_or-set_other, get_or-set_same, length-map}
 use Rattle.std.proofs.lemmas.List.FromFn.{get_or-range_with_len, length-range_with_len}
 use Rattle.std.proofs.lemmas.List.Sorted.{Contains-permutation}
 use Rattle.std.proofs.lemmas.Map.Keys.{apart_from_distinct, IsDistinct-from_apart, IsDistinct-IsPermutation}
@@ -20,12 +20,10 @@ use Rattle.certificate_checker.specs.Faults.{IsFree}
 use Rattle.certificate_checker.specs.Shown.{fix, unfixed}
 use Rattle.certificate_checker.specs.Private.Neighbours.{AreLinked, IsRow}
 use Rattle.certificate_checker.specs.Private.Order.{IsDueOrder, unit_of}
-use Rattle.certificate_checker.specs.Private.Paths.{unfix}
 use Rattle.certificate_checker.specs.Private.PlaceSums.{AreSums, number_at}
 use Rattle.certificate_checker.specs.Private.Tallies.{AreApart, ArePlaces, HasAmounts, IsChain, IsNumberPut, IsTally, IsVersionPut, fixed_of, is_out, unit_at, version_fixed}
 use Rattle.certificate_checker.proofs.DueOrder.{order_size}
 use Rattle.certificate_checker.proofs.LinkLaws.{IsOneMore, IsPutBack, linked_row, linked_same, linked_without, puts_back}
-use Rattle.certificate_checker.proofs.OrderCosts.{no_place}
 use Rattle.certificate_checker.proofs.Paths.{unfix-fix, unfix-free}
 
 -- ---- each unit has one place
@@ -113,7 +111,8 @@ pub chain_linked : (order : List DueUnit) (places : List ℕ) (fixed : List (Opt
 chain_linked order places fixed [] next previous chain = chain
 chain_linked order places fixed (unit ∷ outer) next previous chain = chain.0
 
-out_same : (order : List DueUnit) (fixed other : List (Option ℕ)) (at : ℕ) → ((place : ℕ) → suc place ≡ at → is_some (get_or other (unit_at order place) None) ≡ is_some (get_or fixed (unit_at order place) None))
+out_same : (order : List DueUnit) (fixed other : List (Option ℕ)) (at : ℕ)
+    → ((place : ℕ) → suc place ≡ at → is_some (get_or other (unit_at order place) None) ≡ is_some (get_or fixed (unit_at order place) None))
     → is_out order other at ≡ is_out order fixed at
 out_same order fixed other zero same = refl
 out_same order fixed other (suc place) same = ap (λ (b : Bool). nat_lt place (length order) && b) (same place refl)
@@ -159,7 +158,8 @@ pub chain_entered : (order : List DueUnit) (places : List ℕ) (fixed : List (Op
     → ArePlaces order places (length order) → IsAt order places unit → unit < length fixed → IsFree fixed unit → IsChain order places fixed innermost next previous
     → IsChain order places (fix unit 0 fixed) (unit ∷ innermost) (set next (get_or previous at 0) (get_or next at 0)) (set previous (get_or next at 0) (get_or previous at 0))
 chain_entered order places fixed innermost next previous unit at at_is are placed within free chain =
-    subst (λ (a : ℕ). IsChain order places (fix unit 0 fixed) (unit ∷ innermost) (set next (get_or previous a 0) (get_or next a 0)) (set previous (get_or next a 0) (get_or previous a 0))) (sym at_is) (
+    subst (λ (a : ℕ).
+    IsChain order places (fix unit 0 fixed) (unit ∷ innermost) (set next (get_or previous a 0) (get_or next a 0)) (set previous (get_or next a 0) (get_or previous a 0))) (sym at_is) (
       linked_without (is_out order fixed) (is_out order (fix unit 0 fixed)) (length order) own next previous linked (out_more order places fixed unit 0 are placed within) some low in_row,
       back.before,
       back.behind,
@@ -230,8 +230,8 @@ ready table fixed innermost tally unit is within before behind =
       behind = behind;
     }
 
-pub ready_to_enter : (table : Table) (fixed : List (Option ℕ)) (innermost : List ℕ) (tally : Tally) (unit : ℕ) → IsTally table fixed innermost tally → unit < length (units_of table) → IsFree fixed unit
-    → IsReady tally unit
+pub ready_to_enter : (table : Table) (fixed : List (Option ℕ)) (innermost : List ℕ) (tally : Tally) (unit : ℕ) → IsTally table fixed innermost tally
+    → unit < length (units_of table) → IsFree fixed unit → IsReady tally unit
 ready_to_enter table fixed innermost tally unit is within free =
     let order = tally.order.items in
     let places = tally.places.items in
@@ -243,7 +243,8 @@ ready_to_enter table fixed innermost tally unit is within free =
     let right = linked.nexts own (omega (arith, at.within)) in_row in
     ready table fixed innermost tally unit is within (omega (arith, left.goes, at.within, linked.next_size)) (omega (arith, right.within, linked.previous_size))
 
-pub ready_to_leave : (table : Table) (fixed : List (Option ℕ)) (outer : List ℕ) (tally : Tally) (unit : ℕ) → IsTally table fixed (unit ∷ outer) tally → unit < length (units_of table) → IsReady tally unit
+pub ready_to_leave : (table : Table) (fixed : List (Option ℕ)) (outer : List ℕ) (tally : Tally) (unit : ℕ) → IsTally table fixed (unit ∷ outer) tally
+    → unit < length (units_of table) → IsReady tally unit
 ready_to_leave table fixed outer tally unit is within = ready table fixed (unit ∷ outer) tally unit is within is.chain.1 is.chain.2
 
 -- the same links otherwise

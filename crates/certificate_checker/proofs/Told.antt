@@ -1,13 +1,12 @@
 -- What is told of a path, as the path goes on.
-use Rattle.std.proofs.Common.{◌≡◌, ℕ, ◌+◌, ◌<◌, List, [], ◌∷◌, ◌++◌, length, map, reverse, get_or, is_some, true, Option, Some, None, refl, sym, ap, subst, ◌∙◌, arith}
+use Rattle.std.proofs.Common.{◌≡◌, ℕ, ◌<◌, List, [], ◌∷◌, ◌++◌, length, map, reverse, get_or, is_some, true, Option, None, refl, sym, ap, subst, ◌∙◌, arith}
 use Rattle.version_table.specs.declared.table.Table.{Table}
 use Rattle.version_table.specs.Table.{units_of}
 use Rattle.dual_bounds.specs.Fixed.{NamesVersion}
 use Rattle.certificate_checker.specs.declared.path.OpenBranch.{OpenBranch}
 use Rattle.certificate_checker.specs.declared.path.Path.{Path}
 use Rattle.certificate_checker.specs.declared.tally.Tally.{Tally}
-use Rattle.certificate_checker.specs.Shown.{fix, unfixed}
-use Rattle.certificate_checker.specs.Private.Paths.{AreOpen, IsPath, unfix, version_in}
+use Rattle.certificate_checker.specs.Private.Paths.{AreOpen, IsPath}
 use Rattle.certificate_checker.specs.Private.Tallies.{IsTally, IsTold, KeepsTallyRoom}
 use Rattle.certificate_checker.proofs.Paths.{reverse-push}
 use Rattle.certificate_checker.proofs.Units.{all_zip_size}

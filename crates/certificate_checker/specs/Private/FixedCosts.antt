@@ -1,5 +1,5 @@
 -- What units cost at least, apart for those of which nothing is fixed and for those of which a version is.
-use Rattle.std.specs.Prelude.{◌≡◌, ℕ, ◌*◌, ◌<◌, ◌≤◌, List, length, cond, slice_index_or, Option, Some, None}
+use Rattle.std.specs.Prelude.{ℕ, ◌*◌, ◌<◌, ◌≤◌, List, length, cond, slice_index_or, Option, Some, None}
 use Rattle.version_table.specs.declared.table.Table.{Table}
 use Rattle.dual_bounds.specs.declared.windows.Window.{Window as PricedWindow}
 use Rattle.dual_bounds.specs.Room.{is_within}

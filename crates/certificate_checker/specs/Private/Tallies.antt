@@ -1,5 +1,6 @@
 -- What a path fixes and what it leaves free, by the places of the units in the order of their due times.
-use Rattle.std.specs.Prelude.{◌≡◌, ℕ, zero, suc, ◌+◌, ◌*◌, ◌<◌, ◌≤◌, Bool, true, false, ◌&&◌, nat_lt, is_some, List, [], ◌∷◌, length, map, reverse, slice_index, slice_index_or, slice_set, Option, Some, None, vec_capacity}
+use Rattle.std.specs.Prelude.{◌≡◌, ℕ, zero, suc, ◌+◌, ◌*◌, ◌<◌, ◌≤◌, Bool, false, ◌&&◌, nat_lt}
+use Rattle.std.specs.Prelude.{is_some, List, [], ◌∷◌, length, map, reverse, slice_index, slice_index_or, slice_set, Option, Some, None, vec_capacity}
 use Rattle.version_table.specs.declared.table.Unit.{Unit as CodedUnit}
 use Rattle.version_table.specs.declared.table.Version.{Version}
 use Rattle.version_table.specs.declared.table.Table.{Table}

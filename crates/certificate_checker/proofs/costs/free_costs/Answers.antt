@@ -150,8 +150,10 @@ loop-place-preserved c =
     ap (λ (xs : List DueUnit). cost_of_number table windows fixed (get_or xs (place - 1) no_place).unit) c.as_slice-order.ensures.value in
     let due : (get_or c.as_slice-order.result.now (place - 1) no_place).due ≡ (get_or order (place - 1) no_place).due =
     ap (λ (xs : List DueUnit). (get_or xs (place - 1) no_place).due) c.as_slice-order.ensures.value in
-    let later : (k : ℕ) (d : DueUnit) → get_or tally.links.next.items place 0 - 1 ≤ k → k < length order → (get_or c.as_slice-order.result.now (place - 1) no_place).due ≤ (get_or order k d).due = λ k d from within.
-    omega (arith, due, c.requires.tally.1.order.rising (place - 1) k no_place (omega (arith, from, on.goes, c.loop-place.invariant.some)) within, ap (λ (at : DueUnit). at.due) (get_or_default order k d no_place within)) in
+    let later : (k : ℕ) (d : DueUnit) → get_or tally.links.next.items place 0 - 1 ≤ k → k < length order
+    → (get_or c.as_slice-order.result.now (place - 1) no_place).due ≤ (get_or order k d).due = λ k d from within.
+    (let order_is = c.requires.tally.1.order.rising (place - 1) k no_place (omega (arith, from, on.goes, c.loop-place.invariant.some)) within in
+    omega (arith, due, order_is, ap (λ (at : DueUnit). at.due) (get_or_default order k d no_place within))) in
     rw next (record {
       some = omega (arith, on.goes);
       within = on.within;
@@ -169,7 +171,8 @@ loop-place-preserved c =
       rises_same = c.before-risen.ensures.same ∙ c.loop-place.invariant.rises_same;
       falls_same = c.before-fallen.ensures.same ∙ c.loop-place.invariant.falls_same;
       rises = λ k d from within.
-          passed_later ((get_or c.as_slice-order.result.now (place - 1) no_place).due + 1) ((get_or order k d).due + 1) c.before-risen.new.self c.before-risen.ensures.passed (omega (arith, later k d from within));
+          passed_later ((get_or c.as_slice-order.result.now (place - 1) no_place).due + 1) ((get_or order k d).due + 1) c.before-risen.new.self c.before-risen.ensures.passed
+          (omega (arith, later k d from within));
       falls = λ k d from within.
           passed_later (get_or c.as_slice-order.result.now (place - 1) no_place).due (get_or order k d).due c.before-fallen.new.self c.before-fallen.ensures.passed (later k d from within);
     })

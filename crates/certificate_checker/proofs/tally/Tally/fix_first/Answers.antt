@@ -72,5 +72,6 @@ returns-clause-tally c =
     told table fixed innermost (unit ∷ innermost) unit c.index-place.result.now (Some 0) (version_at (unit_of table (unit_at tally.order.items c.index-place.result.now)) 0) tally c.take_out.new.self
     c.put_version.new.self is c.requires.unit within place (ap (λ (u : ℕ). version_at (unit_of table u) 0) own) c.put_version.ensures.put
     (rw (c.take_out.ensures.next, c.take_out.ensures.previous)
-    (chain_entered tally.order.items tally.places.items fixed innermost tally.links.next.items tally.links.previous.items unit (c.index-place.result.now + 1) (ap (λ (p : ℕ). p + 1) place) is.places at within
+    (chain_entered tally.order.items tally.places.items fixed innermost tally.links.next.items tally.links.previous.items unit (c.index-place.result.now + 1)
+    (ap (λ (p : ℕ). p + 1) place) is.places at within
     free is.chain)))

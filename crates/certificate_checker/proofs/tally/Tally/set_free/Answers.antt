@@ -55,5 +55,6 @@ returns-clause-tally c =
     let ready = ready_to_leave table fixed outer tally unit is c.requires.unit in
     let place : c.index-place.result.now ≡ get_or tally.places.items unit 0 =
     c.index-place.ensures ∙ get_or_default tally.places.items unit c.index-place.result.now 0 ready.unit_within in
-    told table fixed (unit ∷ outer) outer unit c.index-place.result.now None (record { bytes = 0; distortion = 0 }) tally c.put_back.new.self c.put_nothing.new.self is c.requires.unit within place refl
+    told table fixed (unit ∷ outer) outer unit c.index-place.result.now None (record { bytes = 0; distortion = 0 }) tally c.put_back.new.self c.put_nothing.new.self is c.requires.unit within
+    place refl
     c.put_nothing.ensures.put (rw (c.put_back.ensures.next, c.put_back.ensures.previous, place) is.chain.3))
