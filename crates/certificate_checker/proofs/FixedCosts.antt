@@ -16,11 +16,11 @@ use Rattle.dual_bounds.specs.Values.{charge, least_cost, least_costs, packets_of
 use Rattle.dual_bounds.proofs.LeastCosts.{all_costs-fit}
 use Rattle.certificate_checker.specs.declared.order.DueUnit.{DueUnit}
 use Rattle.certificate_checker.specs.declared.tally.Tally.{Tally}
-use Rattle.certificate_checker.specs.Private.FixedCosts.{SplitsBefore, SplitsBy, charged_at, due_at, free_cost, packets_within, where_free}
+use Rattle.certificate_checker.specs.Private.FixedCosts.{SplitsBefore, SplitsBy, charged_at, due_at, packets_within}
 use Rattle.certificate_checker.specs.Private.Neighbours.{AreLinked, IsNext}
 use Rattle.certificate_checker.specs.Private.Order.{unit_of}
 use Rattle.certificate_checker.specs.Private.PlaceSums.{number_at, sum_from}
-use Rattle.certificate_checker.specs.Private.Tallies.{IsTally, fixed_of, is_out, unit_at, version_fixed}
+use Rattle.certificate_checker.specs.Private.Tallies.{IsTally, fixed_of, free_cost, is_out, unit_at, version_fixed, where_free}
 use Rattle.certificate_checker.proofs.OrderCosts.{cost_of_number, costs_in_order, no_place}
 use Rattle.certificate_checker.proofs.SumTrees.{sum_joined, sum_same}
 
@@ -37,11 +37,11 @@ pub sum_none : (f : ℕ → ℕ) (a n : ℕ) → ((k : ℕ) → a ≤ k → k < 
 sum_none f a zero none = refl
 sum_none f a (suc n) none = omega (arith, sum_none f a n (λ k from below. none k from (omega (arith, below))), none (a + n) (omega arith) (omega arith))
 
-sum_le : (f g : ℕ → ℕ) (a n : ℕ) → ((k : ℕ) → f k ≤ g k) → sum_from f a n ≤ sum_from g a n
+pub sum_le : (f g : ℕ → ℕ) (a n : ℕ) → ((k : ℕ) → f k ≤ g k) → sum_from f a n ≤ sum_from g a n
 sum_le f g a zero least = omega arith
 sum_le f g a (suc n) least = omega (arith, sum_le f g a n least, least (a + n))
 
-by_places : (f : DueUnit → ℕ) (order : List DueUnit) (n : ℕ) → n ≤ length order → sum_by f (take n order) ≡ sum_from (λ p. f (get_or order p no_place)) 0 n
+pub by_places : (f : DueUnit → ℕ) (order : List DueUnit) (n : ℕ) → n ≤ length order → sum_by f (take n order) ≡ sum_from (λ p. f (get_or order p no_place)) 0 n
 by_places f order zero within = refl
 by_places f order (suc n) within =
     let next : suc n ≡ n + 1 = omega arith in

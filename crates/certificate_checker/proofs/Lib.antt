@@ -1,6 +1,7 @@
 pub mod DueOrder
 pub mod Examples
 pub mod FixedCosts
+pub mod FreeLeast
 pub mod LinkLaws
 pub mod Nodes
 pub mod OrderCosts

@@ -21,7 +21,7 @@ use Rattle.certificate_checker.specs.Shown.{fix, unfixed}
 use Rattle.certificate_checker.specs.Private.Neighbours.{AreLinked, IsRow}
 use Rattle.certificate_checker.specs.Private.Order.{IsDueOrder, unit_of}
 use Rattle.certificate_checker.specs.Private.PlaceSums.{AreSums, number_at}
-use Rattle.certificate_checker.specs.Private.Tallies.{AreApart, ArePlaces, HasAmounts, IsChain, IsNumberPut, IsTally, IsVersionPut, fixed_of, is_out, unit_at, version_fixed}
+use Rattle.certificate_checker.specs.Private.Tallies.{AreApart, ArePlaces, HasAmounts, IsChain, IsNumberPut, IsTally, IsVersionPut, fixed_of, free_sum, is_out, unit_at, version_fixed}
 use Rattle.certificate_checker.proofs.DueOrder.{order_size}
 use Rattle.certificate_checker.proofs.LinkLaws.{IsOneMore, IsPutBack, linked_row, linked_same, linked_without, puts_back}
 use Rattle.certificate_checker.proofs.Paths.{unfix-fix, unfix-free}
@@ -249,13 +249,21 @@ ready_to_leave table fixed outer tally unit is within = ready table fixed (unit 
 
 -- the same links otherwise
 abbrev pub with_links : Tally → Links → Tally
-with_links tally links = record { order = tally.order; places = tally.places; links = links; packets = tally.packets; distortions = tally.distortions }
+with_links tally links =
+    record { order = tally.order; places = tally.places; links = links; packets = tally.packets; distortions = tally.distortions; free_least = tally.free_least }
+
+-- the same with another sum
+abbrev pub with_least : Tally → ℕ → Tally
+with_least tally least =
+    record { order = tally.order; places = tally.places; links = tally.links; packets = tally.packets; distortions = tally.distortions; free_least = least }
 
 pub told : (table : Table) (fixed : List (Option ℕ)) (before after : List ℕ) (unit place : ℕ) (entry : Option ℕ) (version : Version) (old : Tally) (links : Links) (new : Tally)
+    (least : ℕ)
     → IsTally table fixed before old → unit < length (units_of table) → unit < length fixed → place ≡ get_or old.places.items unit 0 → version ≡ version_fixed (unit_of table unit) entry
     → IsVersionPut place version (with_links old links) new
-    → IsChain old.order.items old.places.items (set fixed unit entry) after links.next.items links.previous.items → IsTally table (set fixed unit entry) after new
-told table fixed before after unit place entry version old links new is within fixed_within place_is version_is put chain =
+    → IsChain old.order.items old.places.items (set fixed unit entry) after links.next.items links.previous.items
+    → least ≡ free_sum table old.order.items (set fixed unit entry) → IsTally table (set fixed unit entry) after (with_least new least)
+told table fixed before after unit place entry version old links new least is within fixed_within place_is version_is put chain least_is =
     let order = old.order.items in
     let places = old.places.items in
     let at = has_place table order places unit is.order is.places within in
@@ -278,10 +286,11 @@ told table fixed before after unit place entry version old links new is within f
       chain = rw (order_is, places_are) chained;
       packets = rw order_is packets;
       distortions = rw order_is distortions;
+      least = rw order_is least_is;
     }
 
 -- ---- nothing is fixed
-unfixed_at : (units : List CodedUnit) (k : ℕ) → get_or {A = Option ℕ} (map (λ (unit : CodedUnit). None) units) k None ≡ None
+pub unfixed_at : (units : List CodedUnit) (k : ℕ) → get_or {A = Option ℕ} (map (λ (unit : CodedUnit). None) units) k None ≡ None
 unfixed_at [] k = refl
 unfixed_at (unit ∷ units) zero = refl
 unfixed_at (unit ∷ units) (suc k) = unfixed_at units k
@@ -303,8 +312,8 @@ no_amounts table order amount sums nothing are count zeros = record {
 pub started : (table : Table) (tally : Tally) (count : ℕ) → IsDueOrder table tally.order.items → count ≡ length tally.order.items → length tally.places.items ≡ length tally.order.items
     → ArePlaces tally.order.items tally.places.items (length tally.order.items) → IsRow (count + 2) tally.links → AreSums tally.packets → tally.packets.count ≡ count
     → ((place : ℕ) → number_at tally.packets place ≡ 0) → AreSums tally.distortions → tally.distortions.count ≡ count → ((place : ℕ) → number_at tally.distortions place ≡ 0)
-    → IsTally table (unfixed table) [] tally
-started table tally count order count_is size places row packets packets_count no_packets distortions distortions_count no_distortions = record {
+    → tally.free_least ≡ free_sum table tally.order.items (unfixed table) → IsTally table (unfixed table) [] tally
+started table tally count order count_is size places row packets packets_count no_packets distortions distortions_count no_distortions least = record {
   order = order;
   size = size;
   places = places;
@@ -312,4 +321,5 @@ started table tally count order count_is size places row packets packets_count n
       (subst (λ (n : ℕ). IsRow (n + 2) tally.links) count_is row);
   packets = no_amounts table tally.order.items packets_of tally.packets refl packets (packets_count ∙ count_is) no_packets;
   distortions = no_amounts table tally.order.items (λ (v : Version). v.distortion) tally.distortions refl distortions (distortions_count ∙ count_is) no_distortions;
+  least = least;
 }

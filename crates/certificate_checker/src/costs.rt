@@ -6,10 +6,10 @@ ghost use Rattle.dual_bounds.specs.Fixed.{FixesVersions};
 ghost use Rattle.dual_bounds.specs.Values.{least_costs, value_of_windows};
 ghost use Rattle.certificate_checker.specs.Faults.{AreRight, NoneEmpty};
 ghost use Rattle.certificate_checker.specs.Shown.{bound_of_windows};
-ghost use Rattle.certificate_checker.specs.Private.FixedCosts.{charged_at, free_cost};
+ghost use Rattle.certificate_checker.specs.Private.FixedCosts.{charged_at};
 ghost use Rattle.certificate_checker.specs.Private.Order.{IsDueOrder};
 ghost use Rattle.certificate_checker.specs.Private.PlaceSums.{AreSums, sum_from};
-ghost use Rattle.certificate_checker.specs.Private.Tallies.{IsTally};
+ghost use Rattle.certificate_checker.specs.Private.Tallies.{IsTally, free_cost};
 
 use crate::order::{DueUnit, unit_at};
 use crate::prices::{Passing, falls_of, rises_of};
@@ -59,9 +59,25 @@ fn least_costs(table: &Table, tally: &Tally, fixed: &[Option<u8>], windows: &[Wi
     ensures small { result < 2 ^ 80 }
 {
     let distortion = tally.distortions.between(0, tally.order.len());
-    free_costs(table, tally, fixed, windows)
+    least_of_free(table, tally, fixed, windows)
         + u128::from(DISTORTION_PARTS) * distortion
         + charges(tally, windows)
+}
+
+/// What the units cost at least of which nothing is fixed: without windows their sum is kept.
+fn least_of_free(table: &Table, tally: &Tally, fixed: &[Option<u8>], windows: &[Window]) -> u128
+    requires valid { IsValidTable table.now }
+    requires tally { (innermost : List ℕ) × IsTally table.now fixed.now innermost tally.now }
+    requires fixed { FixesVersions table.now fixed.now }
+    requires few { length windows.now ≤ WINDOWS_MOST }
+    requires right { AreRight windows.now }
+    ensures { result ≡ sum_from (free_cost table.now tally.now.order.items fixed.now windows.now) 0 (length tally.now.order.items) }
+{
+    if windows.is_empty() {
+        tally.free_least
+    } else {
+        free_costs(table, tally, fixed, windows)
+    }
 }
 
 /// What the units cost at least of which nothing is fixed: one after the other by due time, with the price of a packet that

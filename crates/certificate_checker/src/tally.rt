@@ -2,18 +2,20 @@ ghost use Rattle.std.specs.Prelude.{◌≡◌, ℕ, ◌<◌, ◌≤◌, List, []
 ghost use Rattle.std.specs.List.Sorted.{IsNonDecreasingBy};
 ghost use Rattle.version_table.specs.Choice.{version_at};
 ghost use Rattle.version_table.specs.Table.{IsValidTable, units_of};
+ghost use Rattle.dual_bounds.specs.Values.{least_cost};
 ghost use Rattle.certificate_checker.specs.Faults.{IsFree};
 ghost use Rattle.certificate_checker.specs.Shown.{fix, unfixed, versions_of};
 ghost use Rattle.certificate_checker.specs.Private.FixedCosts.{SplitsBefore, SplitsBy, packets_within};
-ghost use Rattle.certificate_checker.specs.Private.Order.{IsPlaced, unit_of};
+ghost use Rattle.certificate_checker.specs.Private.Order.{IsDueOrder, IsPlaced, unit_of};
 ghost use Rattle.certificate_checker.specs.Private.Paths.{unfix};
 ghost use Rattle.certificate_checker.specs.Private.PlaceSums.{AreSums, sum_from};
-ghost use Rattle.certificate_checker.specs.Private.Tallies.{AreApart, ArePlaces, HasTallyRoom, IsTally, IsVersionPut, KeepsTallyRoom, unit_at};
+ghost use Rattle.certificate_checker.specs.Private.Tallies.{AreApart, ArePlaces, HasTallyRoom, IsTally, IsVersionPut, KeepsTallyRoom, free_sum, unit_at};
 
 use crate::filling::refill;
 use crate::links::Links;
 use crate::order::{DueUnit, put_in_order, unit_at};
 use crate::sums::PlaceSums;
+use dual_bounds::unit_cost;
 use list_types::OutOfMemory;
 use std::alloc::Global;
 use stream_constants::packets::PAYLOAD_BYTES;
@@ -32,6 +34,8 @@ pub(crate) struct Tally {
     pub packets: PlaceSums,
     /// Their distortions.
     pub distortions: PlaceSums,
+    /// What the units cost at least together of which nothing is fixed, where no packet is charged, in 1/256 of a distortion.
+    pub free_least: u128,
 }
 
 impl Tally {
@@ -45,6 +49,7 @@ impl Tally {
             links: Links::new(alloc, most)?,
             packets: PlaceSums::new(alloc, most)?,
             distortions: PlaceSums::new(alloc, most)?,
+            free_least: 0,
         })
     }
 
@@ -61,6 +66,7 @@ impl Tally {
         self.links.clear(count);
         self.packets.clear(count);
         self.distortions.clear(count);
+        self.free_least = least_of_all(table, self.order.as_slice());
     }
 
     /// Fixes version 0 of a unit of which nothing is fixed.
@@ -73,8 +79,10 @@ impl Tally {
         ensures room { KeepsTallyRoom self.old self.new }
     {
         let place = self.places[unit as usize];
+        let least = self.least_at(table, place);
         self.links.take_out(place + 1);
         self.put_version(table, place, 0);
+        self.free_least -= u128::from(least);
     }
 
     /// Fixes another version of the innermost unit.
@@ -93,15 +101,18 @@ impl Tally {
 
     /// Fixes nothing of the innermost unit any more.
     pub(crate) fn set_free(&mut self, table: &Table, unit: u32)
+        requires valid { IsValidTable table.now }
         requires unit { unit < length (units_of table.now) }
         requires tally { (fixed : List (Option ℕ)) × (outer : List ℕ) × IsTally table.now fixed (unit ∷ outer) self.old }
         ensures tally { (fixed : List (Option ℕ)) (outer : List ℕ) → IsTally table.now fixed (unit ∷ outer) self.old → unit < length fixed
-            → IsTally table.now (unfix unit fixed) outer self.new }
+            → IsTrue (is_some (slice_index_or fixed unit None)) → IsTally table.now (unfix unit fixed) outer self.new }
         ensures room { KeepsTallyRoom self.old self.new }
     {
         let place = self.places[unit as usize];
+        let least = self.least_at(table, place);
         self.links.put_back(place + 1);
         self.put_nothing(place);
+        self.free_least += u128::from(least);
     }
 
     /// How many packets of the versions that are fixed are due in a window.
@@ -114,6 +125,16 @@ impl Tally {
         let order = self.order.as_slice();
         self.packets
             .between(places_before(order, from), places_by(order, due))
+    }
+
+    /// What the unit at a place costs at least where nothing is fixed of it and no packet is charged.
+    fn least_at(&self, table: &Table, place: usize) -> u64
+        requires valid { IsValidTable table.now }
+        requires place { place < length self.now.order.items }
+        requires placed { All (IsPlaced table.now) self.now.order.items }
+        ensures { result ≡ least_cost [] (unit_of table.now (unit_at self.now.order.items place)) None }
+    {
+        least_of(table, self.order[place])
     }
 
     /// Puts the amounts of a version at the place of its unit.
@@ -145,6 +166,28 @@ impl Tally {
         self.packets.put(place, 0);
         self.distortions.put(place, 0);
     }
+}
+
+/// What a unit costs at least where nothing is fixed of it and no packet is charged.
+fn least_of(table: &Table, at: DueUnit) -> u64
+    requires valid { IsValidTable table.now }
+    requires placed { IsPlaced table.now at }
+    ensures { result ≡ least_cost [] (unit_of table.now at.unit) None }
+{
+    unit_cost(unit_at(table, at), None, 0)
+}
+
+/// What all units cost at least together where nothing is fixed and no packet is charged.
+fn least_of_all(table: &Table, order: &[DueUnit]) -> u128
+    requires valid { IsValidTable table.now }
+    requires order { IsDueOrder table.now order.now }
+    ensures { result ≡ free_sum table.now order.now (unfixed table.now) }
+{
+    let mut total = 0;
+    for at in order {
+        total += u128::from(least_of(table, *at));
+    }
+    total
 }
 
 /// How many units are due before a time.

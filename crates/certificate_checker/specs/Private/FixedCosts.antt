@@ -1,24 +1,11 @@
--- What units cost at least, apart for those of which nothing is fixed and for those of which a version is.
-use Rattle.std.specs.Prelude.{ℕ, ◌*◌, ◌<◌, ◌≤◌, List, length, cond, slice_index_or, Option, Some, None}
-use Rattle.version_table.specs.declared.table.Table.{Table}
+-- What the packets of fixed versions are charged, and which of them are due in a window.
+use Rattle.std.specs.Prelude.{ℕ, ◌*◌, ◌<◌, ◌≤◌, List, length, cond, slice_index_or}
 use Rattle.dual_bounds.specs.declared.windows.Window.{Window as PricedWindow}
 use Rattle.dual_bounds.specs.Room.{is_within}
-use Rattle.dual_bounds.specs.Values.{least_cost, price}
+use Rattle.dual_bounds.specs.Values.{price}
 use Rattle.certificate_checker.specs.declared.order.DueUnit.{DueUnit}
 use Rattle.certificate_checker.specs.declared.tally.Tally.{Tally}
-use Rattle.certificate_checker.specs.Private.Order.{unit_of}
 use Rattle.certificate_checker.specs.Private.PlaceSums.{number_at}
-use Rattle.certificate_checker.specs.Private.Tallies.{unit_at}
-
--- a cost that counts where nothing is fixed
-abbrev pub where_free : Option ℕ → (amount : ℕ) → ℕ
-where_free None amount = amount
-where_free (Some k) amount = 0
-
--- what the unit at a place costs at least, where nothing is fixed of it
-abbrev pub free_cost : Table → List DueUnit → List (Option ℕ) → List PricedWindow → (place : ℕ) → ℕ
-free_cost table order fixed windows place =
-    where_free (slice_index_or fixed (unit_at order place) None) (least_cost windows (unit_of table (unit_at order place)) None)
 
 -- when the unit at a place is due
 abbrev pub due_at : List DueUnit → (place : ℕ) → ℕ

@@ -5,7 +5,8 @@ use Rattle.version_table.specs.declared.table.Unit.{Unit as CodedUnit}
 use Rattle.version_table.specs.declared.table.Version.{Version}
 use Rattle.version_table.specs.declared.table.Table.{Table}
 use Rattle.version_table.specs.Choice.{version_at}
-use Rattle.dual_bounds.specs.Values.{packets_of}
+use Rattle.dual_bounds.specs.declared.windows.Window.{Window as PricedWindow}
+use Rattle.dual_bounds.specs.Values.{least_cost, packets_of}
 use Rattle.certificate_checker.specs.declared.order.DueUnit.{DueUnit}
 use Rattle.certificate_checker.specs.declared.path.OpenBranch.{OpenBranch}
 use Rattle.certificate_checker.specs.declared.path.Path.{Path}
@@ -14,7 +15,7 @@ use Rattle.certificate_checker.specs.declared.tally.Tally.{Tally}
 use Rattle.certificate_checker.specs.Private.Neighbours.{AreLinked, HasLinkRoom, KeepsLinkRoom}
 use Rattle.certificate_checker.specs.Private.Order.{IsDueOrder, unit_of}
 use Rattle.certificate_checker.specs.Private.Paths.{unfix}
-use Rattle.certificate_checker.specs.Private.PlaceSums.{AreSums, number_at}
+use Rattle.certificate_checker.specs.Private.PlaceSums.{AreSums, number_at, sum_from}
 
 -- the number of the unit at a place
 abbrev pub unit_at : List DueUnit → (place : ℕ) → ℕ
@@ -57,6 +58,20 @@ pub record HasAmounts (table : Table) (order : List DueUnit) (fixed : List (Opti
   pub count : sums.count ≡ length order
   pub each : (place : ℕ) → place < length order → number_at sums place ≡ amount (fixed_of table fixed (unit_at order place))
 
+-- a cost that counts where nothing is fixed
+abbrev pub where_free : Option ℕ → (amount : ℕ) → ℕ
+where_free None amount = amount
+where_free (Some k) amount = 0
+
+-- what the unit at a place costs at least, where nothing is fixed of it
+abbrev pub free_cost : Table → List DueUnit → List (Option ℕ) → List PricedWindow → (place : ℕ) → ℕ
+free_cost table order fixed windows place =
+    where_free (slice_index_or fixed (unit_at order place) None) (least_cost windows (unit_of table (unit_at order place)) None)
+
+-- what the units cost at least together of which nothing is fixed, where no packet is charged
+abbrev pub free_sum : Table → List DueUnit → List (Option ℕ) → ℕ
+free_sum table order fixed = sum_from (free_cost table order fixed []) 0 (length order)
+
 -- what is told of these fixed versions, where the units were fixed one after the other, the innermost first
 pub record IsTally (table : Table) (fixed : List (Option ℕ)) (innermost : List ℕ) (tally : Tally) : Type 0 where
   pub order : IsDueOrder table tally.order.items
@@ -65,6 +80,7 @@ pub record IsTally (table : Table) (fixed : List (Option ℕ)) (innermost : List
   pub chain : IsChain tally.order.items tally.places.items fixed innermost tally.links.next.items tally.links.previous.items
   pub packets : HasAmounts table tally.order.items fixed packets_of tally.packets
   pub distortions : HasAmounts table tally.order.items fixed (λ version. version.distortion) tally.distortions
+  pub least : tally.free_least ≡ free_sum table tally.order.items fixed
 
 -- what is told of a path
 abbrev pub IsTold : Table → Path → Tally → Type 0
@@ -82,6 +98,7 @@ pub record IsVersionPut (place : ℕ) (version : Version) (old new : Tally) : Ty
   pub order : new.order ≡ old.order
   pub places : new.places ≡ old.places
   pub links : new.links ≡ old.links
+  pub least : new.free_least ≡ old.free_least
   pub packets : IsNumberPut place (packets_of version) old.packets new.packets
   pub distortions : IsNumberPut place version.distortion old.distortions new.distortions
 

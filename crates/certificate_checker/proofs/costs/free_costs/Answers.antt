@@ -3,7 +3,7 @@ use Rattle.std.proofs.lemmas.List.{get_or_default}
 use Rattle.version_table.specs.Table.{units_of}
 use Rattle.dual_bounds.proofs.LeastCosts.{names_length}
 use Rattle.certificate_checker.specs.declared.order.DueUnit.{DueUnit}
-use Rattle.certificate_checker.specs.Private.FixedCosts.{free_cost}
+use Rattle.certificate_checker.specs.Private.Tallies.{free_cost}
 use Rattle.certificate_checker.specs.Private.Order.{IsPlaced}
 use Rattle.certificate_checker.specs.Private.PlaceSums.{sum_from}
 use Rattle.certificate_checker.specs.Private.Prices.{HasPassed}

@@ -1,6 +1,6 @@
 use Rattle.std.proofs.Common.{◌≡◌, ℕ, ◌+◌, ◌-◌, ◌<◌, ◌≤◌, false, length, get_or}
 use Rattle.certificate_checker.specs.declared.order.DueUnit.{DueUnit}
-use Rattle.certificate_checker.specs.Private.FixedCosts.{free_cost}
+use Rattle.certificate_checker.specs.Private.Tallies.{free_cost}
 use Rattle.certificate_checker.specs.Private.PlaceSums.{sum_from}
 use Rattle.certificate_checker.specs.Private.Prices.{HasPassed}
 use Rattle.certificate_checker.specs.Private.Tallies.{is_out}

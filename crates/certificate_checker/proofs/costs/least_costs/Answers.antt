@@ -22,7 +22,7 @@ overflow_add-result c =
     let size : c.len.result - 0 ≡ length tally.order.items = omega (arith, c.len.ensures, tally.order.ok.0) in
     let own : c.from.result * c.between-distortion.result ≡ DISTORTION_PARTS * sum_from (number_at tally.distortions) 0 (length tally.order.items) =
     ap₂ (λ (a b : ℕ). a * b) c.from.ensures (c.between-distortion.ensures ∙ ap (sum_from (number_at tally.distortions) 0) size) in
-    omega (arith, own, c.free_costs.ensures, small.is, small.small)
+    omega (arith, own, c.least_of_free.ensures, small.is, small.small)
 
 pub charges-requires-clause-small : goal.charges-requires-clause-small
 charges-requires-clause-small c =
@@ -38,7 +38,7 @@ overflow_add-result-2 c =
     let size : c.len.result - 0 ≡ length tally.order.items = omega (arith, c.len.ensures, tally.order.ok.0) in
     let own : c.from.result * c.between-distortion.result ≡ DISTORTION_PARTS * sum_from (number_at tally.distortions) 0 (length tally.order.items) =
     ap₂ (λ (a b : ℕ). a * b) c.from.ensures (c.between-distortion.ensures ∙ ap (sum_from (number_at tally.distortions) 0) size) in
-    omega (arith, own, c.free_costs.ensures, c.charges.ensures, small.is, small.small)
+    omega (arith, own, c.least_of_free.ensures, c.charges.ensures, small.is, small.small)
 
 pub returns-clause-value : goal.returns-clause-value
 returns-clause-value c =
@@ -48,7 +48,7 @@ returns-clause-value c =
     let size : c.len.result - 0 ≡ length tally.order.items = omega (arith, c.len.ensures, tally.order.ok.0) in
     let own : c.from.result * c.between-distortion.result ≡ DISTORTION_PARTS * sum_from (number_at tally.distortions) 0 (length tally.order.items) =
     ap₂ (λ (a b : ℕ). a * b) c.from.ensures (c.between-distortion.ensures ∙ ap (sum_from (number_at tally.distortions) 0) size) in
-    omega (arith, own, c.free_costs.ensures, c.charges.ensures, small.is)
+    omega (arith, own, c.least_of_free.ensures, c.charges.ensures, small.is)
 
 pub returns-clause-small : goal.returns-clause-small
 returns-clause-small c =

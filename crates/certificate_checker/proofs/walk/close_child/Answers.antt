@@ -95,4 +95,4 @@ returns-clause-tally c =
     let hand = in_hand c.args.table.now c.args.path.now outer branch c.requires.path c.in-Some.ensures.items in
     let told = told_innermost c.args.table.now c.args.path.now outer branch c.args.tally.now c.requires.tally c.in-Some.ensures.items in
     told_without c.args.table.now c.unfix.new.self (unfix branch.unit c.args.path.now.fixed.items) outer c.set_free.new.self
-    (c.set_free.ensures.tally c.args.path.now.fixed.items (units_open (reverse outer)) told hand.within) c.unfix.ensures.fixed (ap (λ v. v.items) c.unfix.ensures.branches)
+    (c.set_free.ensures.tally c.args.path.now.fixed.items (units_open (reverse outer)) told hand.within hand.some) c.unfix.ensures.fixed (ap (λ v. v.items) c.unfix.ensures.branches)

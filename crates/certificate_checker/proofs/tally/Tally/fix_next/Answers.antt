@@ -4,6 +4,7 @@ use Rattle.version_table.specs.Choice.{version_at}
 use Rattle.certificate_checker.specs.Shown.{versions_of}
 use Rattle.certificate_checker.specs.Private.Order.{unit_of}
 use Rattle.certificate_checker.specs.Private.Tallies.{unit_at}
+use Rattle.certificate_checker.proofs.FreeLeast.{free_fixed}
 use Rattle.certificate_checker.proofs.TallyLaws.{chain_fixed, ready_to_leave, told}
 use Rattle.certificate_checker.proofs.tally.Tally.fix_next.Goals as goal
 
@@ -36,5 +37,6 @@ returns-clause-tally c =
     let place = c.index-place.ensures ∙ get_or_default tally.places.items unit c.index-place.result.now 0 ready.unit_within in
     let own : unit_at tally.order.items c.index-place.result.now ≡ unit = ap (unit_at tally.order.items) place ∙ ready.at.own in
     told table fixed (unit ∷ outer) (unit ∷ outer) unit c.index-place.result.now (Some c.args.k) (version_at (unit_of table (unit_at tally.order.items c.index-place.result.now)) c.args.k) tally
-    tally.links c.put_version.new.self is c.requires.unit within place (ap (λ (u : ℕ). version_at (unit_of table u) c.args.k) own) c.put_version.ensures.put
-    (chain_fixed tally.order.items tally.places.items fixed outer tally.links.next.items tally.links.previous.items unit c.args.k within some is.chain))
+    tally.links c.put_version.new.self c.put_version.new.self.free_least is c.requires.unit within place (ap (λ (u : ℕ). version_at (unit_of table u) c.args.k) own) c.put_version.ensures.put
+    (chain_fixed tally.order.items tally.places.items fixed outer tally.links.next.items tally.links.previous.items unit c.args.k within some is.chain)
+    (c.put_version.ensures.put.least ∙ is.least ∙ free_fixed table tally.order.items tally.places.items fixed unit c.args.k is.places ready.at within some))

@@ -1,5 +1,7 @@
-use Rattle.std.proofs.Common.{◌≡◌, ℕ, ◌+◌, ◌<◌, ◌∷◌, length, get_or, None, refl, sym, subst, ◌∙◌, arith}
+use Rattle.std.proofs.Common.{◌≡◌, ℕ, ◌+◌, ◌<◌, ◌∷◌, length, get_or, None, refl, sym, ap, subst, ◌∙◌, arith}
 use Rattle.std.proofs.lemmas.List.{get_or_default}
+use Rattle.certificate_checker.specs.Private.Tallies.{unit_at}
+use Rattle.certificate_checker.proofs.FreeLeast.{free_fits, free_least, free_left}
 use Rattle.certificate_checker.proofs.TallyLaws.{ready_to_leave, told}
 use Rattle.certificate_checker.proofs.tally.Tally.set_free.Goals as goal
 
@@ -13,6 +15,24 @@ overflow_add-place c =
     let ready = ready_to_leave c.args.table.now c.requires.tally.0 c.requires.tally.1 c.args.self.now c.args.unit c.requires.tally.2 c.requires.unit in
     let place = c.index-place.ensures ∙ get_or_default c.args.self.now.places.items c.args.unit c.index-place.result.now 0 ready.unit_within in
     omega (arith, ready.few, place)
+
+pub least_at-least-requires-clause-place : goal.least_at-least-requires-clause-place
+least_at-least-requires-clause-place c =
+    let ready = ready_to_leave c.args.table.now c.requires.tally.0 c.requires.tally.1 c.args.self.now c.args.unit c.requires.tally.2 c.requires.unit in
+    let place = c.index-place.ensures ∙ get_or_default c.args.self.now.places.items c.args.unit c.index-place.result.now 0 ready.unit_within in
+    omega (arith, ready.at.within, place)
+
+pub overflow_add-self : goal.overflow_add-self
+overflow_add-self c =
+    let tally = c.args.self.now in
+    let is = c.requires.tally.2 in
+    omega (
+      arith,
+      c.from.ensures,
+      c.put_nothing.ensures.put.least,
+      is.least,
+      free_fits c.args.table.now tally.order.items c.requires.tally.0 c.requires.valid is.order,
+    )
 
 pub put_back-requires-clause-next : goal.put_back-requires-clause-next
 put_back-requires-clause-next c =
@@ -48,13 +68,24 @@ put_nothing-requires-clause-place c =
 
 pub returns-clause-tally : goal.returns-clause-tally
 returns-clause-tally c =
-    λ fixed outer is within.
+    λ fixed outer is within some.
     (let table = c.args.table.now in
     let tally = c.args.self.now in
     let unit : ℕ = c.args.unit in
     let ready = ready_to_leave table fixed outer tally unit is c.requires.unit in
     let place : c.index-place.result.now ≡ get_or tally.places.items unit 0 =
     c.index-place.ensures ∙ get_or_default tally.places.items unit c.index-place.result.now 0 ready.unit_within in
-    told table fixed (unit ∷ outer) outer unit c.index-place.result.now None (record { bytes = 0; distortion = 0 }) tally c.put_back.new.self c.put_nothing.new.self is c.requires.unit within
+    let own : unit_at tally.order.items c.index-place.result.now ≡ unit = ap (unit_at tally.order.items) place ∙ ready.at.own in
+    told table fixed (unit ∷ outer) outer unit c.index-place.result.now None (record { bytes = 0; distortion = 0 }) tally c.put_back.new.self c.put_nothing.new.self
+    (c.put_nothing.new.self.free_least + c.from.result) is c.requires.unit within
     place refl
-    c.put_nothing.ensures.put (rw (c.put_back.ensures.next, c.put_back.ensures.previous, place) is.chain.3))
+    c.put_nothing.ensures.put (rw (c.put_back.ensures.next, c.put_back.ensures.previous, place) is.chain.3)
+    (omega (
+      arith,
+      c.from.ensures,
+      c.least_at-least.ensures,
+      ap (free_least table) own,
+      c.put_nothing.ensures.put.least,
+      is.least,
+      free_left table tally.order.items tally.places.items fixed unit is.places ready.at within some,
+    )))
