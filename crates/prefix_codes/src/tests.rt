@@ -19,7 +19,7 @@ fn a_code_is_found_in_a_whole_window(rt: HostRuntime) {
     assert_eq!(rt; find_whole(table, 0xC0_0000), Some((1, 2)));
     assert_eq!(rt; find_whole(table, 0x9F_FFFF), Some((END_OF_BLOCK, 2)));
     assert_eq!(rt; find_whole(table, 0x04_1001), Some((ESCAPE, 6)));
-    assert_eq!(rt; find_whole(TableName::Address, 0x05_7FFF), Some((16, 10)));
+    assert_eq!(rt; find_whole(TableName::Address, 0x05_FFFF), Some((16, 10)));
     assert_eq!(rt; find_whole(table, 0), None);
 }
 
