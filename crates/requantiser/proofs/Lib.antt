@@ -36,3 +36,4 @@ pub mod LawfulVersions
 pub mod Tallies
 pub mod BlockTallies
 pub mod Outlines
+pub mod Rungs

@@ -5,3 +5,4 @@ pub mod Sizes
 pub mod Sums
 pub mod Walk
 pub mod Tallies
+pub mod Rungs

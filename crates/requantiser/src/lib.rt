@@ -7,6 +7,7 @@ mod codes;
 mod comparison;
 mod cursor;
 mod difference;
+mod ladder;
 pub mod laws;
 mod level;
 mod macroblock;
@@ -20,6 +21,7 @@ mod version_state;
 
 pub use codes::Target;
 pub use comparison::distortion;
+pub use ladder::Ladder;
 pub use macroblock_tally::tally_macroblock;
 pub use outline::{Outlined, outline_macroblock};
 pub use picture::coarsen;

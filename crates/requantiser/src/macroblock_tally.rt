@@ -13,6 +13,7 @@ ghost use Rattle.requantiser.specs.Private.Walk.{mapped_code, new_level};
 
 use crate::block::matrix;
 use crate::codes::Target;
+use crate::ladder::Ladder;
 use crate::level::Rescaling;
 use crate::step::{code_in_force, mapped};
 use crate::tally::{Tally, VERSIONS_AT_ONCE, add_block};
@@ -29,6 +30,7 @@ pub fn tally_macroblock(
     ratios: &[u16],
     from: &Macroblock,
     tallies: &mut [Tally; VERSIONS_AT_ONCE],
+    ladder: &mut Ladder,
 ) -> u8
     requires weights { HasWeights seq.now }
     requires before { IsCode before }
@@ -40,7 +42,7 @@ pub fn tally_macroblock(
 {
     let code = code_in_force(from.code, before);
     start(coding, code, from.kind.intra, ratios, tallies);
-    add_blocks(seq, coding, code, from, ratios.len(), tallies);
+    add_blocks(seq, coding, code, from, ratios.len(), tallies, ladder);
     code
 }
 
@@ -91,6 +93,7 @@ fn add_blocks(
     from: &Macroblock,
     count: usize,
     tallies: &mut [Tally; VERSIONS_AT_ONCE],
+    ladder: &mut Ladder,
 )
     requires weights { HasWeights seq.now }
     requires code { IsCode code }
@@ -102,7 +105,16 @@ fn add_blocks(
 {
     for i in 0..BLOCKS {
         let way = block_way(coding, from.kind, i);
-        add_block_of(seq, coding, way, code, &from.blocks[i], count, tallies);
+        add_block_of(
+            seq,
+            coding,
+            way,
+            code,
+            &from.blocks[i],
+            count,
+            tallies,
+            ladder,
+        );
     }
 }
 
@@ -115,6 +127,7 @@ fn add_block_of(
     block: &Block,
     count: usize,
     tallies: &mut [Tally; VERSIONS_AT_ONCE],
+    ladder: &mut Ladder,
 )
     requires weights { HasWeights seq.now }
     requires code { IsCode code }
@@ -140,5 +153,6 @@ fn add_block_of(
         rescaling,
         weights,
         block.pairs.as_slice(),
+        ladder,
     );
 }

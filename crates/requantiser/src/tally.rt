@@ -1,5 +1,5 @@
 //! What becomes of the coefficients of a macroblock in several versions at once, counted and not made.
-ghost use Rattle.std.specs.Prelude.{◌≡◌, ◌<◌, ◌≤◌, ◌*◌, ◌-◌, ◌^◌, unsigned_abs};
+ghost use Rattle.std.specs.Prelude.{◌≡◌, ◌<◌, ◌≤◌, ◌*◌, ◌^◌};
 ghost use Rattle.quant_math.specs.Levels.{coarser_level};
 ghost use Rattle.picture_grammar.specs.Block.{first_place};
 ghost use Rattle.picture_grammar.specs.Picture.{AreWeights};
@@ -10,7 +10,8 @@ ghost use Rattle.requantiser.specs.Private.Tallies.{EachIs, EachWent, HasRoom, I
 use crate::block::weight_in_scan;
 use crate::code_lengths::{coefficient_bits, end_bits, table_at};
 use crate::codes::Target;
-use crate::level::{Change, Coefficient, Rescaling, change_level};
+use crate::ladder::Ladder;
+use crate::level::{Change, Coefficient, Rescaling};
 use syntax_types::{BLOCK_PLACES, BlockWay, RunLevel};
 
 /// Versions that are counted at once, at most.
@@ -94,6 +95,7 @@ pub fn add_block(
     rescaling: Rescaling,
     weights: &[u8; BLOCK_PLACES],
     pairs: &[RunLevel],
+    ladder: &mut Ladder,
 )
     requires count { count ≤ VERSIONS_AT_ONCE }
     requires intra { rescaling.intra ≡ way.intra }
@@ -103,7 +105,7 @@ pub fn add_block(
     ensures { EachWent count (λ before behind. IsBlockTallied way (new_level_in weights.now rescaling.alternate rescaling.intra rescaling.from before.target.scale)
         (change_in weights.now rescaling.alternate rescaling.intra rescaling.from before.target.scale) pairs.now before behind) tallies.old tallies.new }
 {
-    add_coefficients(tallies, count, way, rescaling, weights, pairs);
+    add_coefficients(tallies, count, way, rescaling, weights, pairs, ladder);
     end_block(tallies, count, way);
 }
 
@@ -114,15 +116,16 @@ fn add_coefficient(
     way: BlockWay,
     rescaling: Rescaling,
     coefficient: Coefficient,
+    ladder: &mut Ladder,
 )
     requires count { count ≤ VERSIONS_AT_ONCE }
     requires room { EachIs count (HasRoom coefficient.at) tallies.old }
     ensures { EachWent count (λ before behind. IsCounted way coefficient.at (coarser_level coefficient.level coefficient.weight rescaling.from before.target.scale rescaling.intra)
         (level_change coefficient.level coefficient.weight rescaling.from before.target.scale rescaling.intra) before behind) tallies.old tallies.new }
 {
+    let rung = ladder.rung_of(coefficient, rescaling, tallies);
     for k in 0..count {
-        let to = rescaling.with_scale(tallies[k].target.scale);
-        let change = change_level(coefficient.level, coefficient.weight, to);
+        let change = rung.change(k, tallies[k].target.scale);
         tallies[k].add(way, coefficient.at, change);
     }
 }
@@ -135,6 +138,7 @@ fn add_coefficients(
     rescaling: Rescaling,
     weights: &[u8; BLOCK_PLACES],
     pairs: &[RunLevel],
+    ladder: &mut Ladder,
 )
     requires count { count ≤ VERSIONS_AT_ONCE }
     requires intra { rescaling.intra ≡ way.intra }
@@ -153,7 +157,7 @@ fn add_coefficients(
             weight,
             at,
         };
-        add_coefficient(tallies, count, way, rescaling, coefficient);
+        add_coefficient(tallies, count, way, rescaling, coefficient, ladder);
         place = at + 1;
     }
 }

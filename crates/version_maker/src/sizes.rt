@@ -10,6 +10,7 @@ use crate::unit_sizes::{all_sizes, no_sizes, with_slice};
 use crate::version::VersionSize;
 use arrayvec::ArrayVec;
 use picture_reader::{PictureFault, UnitCursor, UnitPart};
+use requantiser::Ladder;
 use std::alloc::Global;
 use syntax_types::{Macroblock, SeqState};
 use version_table::limits::VERSIONS_MOST;
@@ -32,6 +33,7 @@ pub fn sizes_of(
         Ok(cursor) => cursor,
         Err(fault) => return Err(fault),
     };
+    let mut ladder = Ladder::new();
     let mut lent = Macroblock::empty();
     let mut sizes = no_sizes(coarser);
     'slices: loop {
@@ -58,6 +60,7 @@ pub fn sizes_of(
                     &read.slice,
                     coarser,
                     sizes.as_slice(),
+                    &mut ladder,
                     &mut lent,
                 );
             }

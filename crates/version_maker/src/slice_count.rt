@@ -12,7 +12,9 @@ ghost use Rattle.version_maker.specs.Private.Counts.{AreAllCounted, AreCounted, 
 
 use macroblock_writer::macroblock_bits;
 use quant_math::WHOLE_RATIO;
-use requantiser::{Tally, VERSIONS_AT_ONCE, VersionState, outline_macroblock, tally_macroblock};
+use requantiser::{
+    Ladder, Tally, VERSIONS_AT_ONCE, VersionState, outline_macroblock, tally_macroblock,
+};
 use syntax_types::{Macroblock, PicCoding, SeqState, Slice, SliceInfo};
 
 /// Where one version stands in a slice, and what was counted of it.
@@ -55,6 +57,7 @@ pub fn count_slice(
     coding: &PicCoding,
     ratios: &[u16],
     slice: &Slice,
+    ladder: &mut Ladder,
     lent: &mut Macroblock,
 ) -> [VersionCount; VERSIONS_AT_ONCE]
     requires weights { HasWeights seq.now }
@@ -70,6 +73,7 @@ pub fn count_slice(
         ratios,
         slice.code,
         macroblocks,
+        ladder,
         lent,
         &mut counts,
     );
@@ -118,6 +122,7 @@ fn count_macroblocks(
     ratios: &[u16],
     code: u8,
     macroblocks: &[Macroblock],
+    ladder: &mut Ladder,
     lent: &mut Macroblock,
     counts: &mut [VersionCount; VERSIONS_AT_ONCE],
 )
@@ -135,7 +140,7 @@ fn count_macroblocks(
     for i in 0..macroblocks.len() {
         let from = &macroblocks[i];
         let inner = is_inner(i, macroblocks.len());
-        in_force = tally_macroblock(seq, coding, in_force, ratios, from, &mut tallies);
+        in_force = tally_macroblock(seq, coding, in_force, ratios, from, &mut tallies, ladder);
         count_macroblock(
             seq,
             coding,

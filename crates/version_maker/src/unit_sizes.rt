@@ -10,6 +10,7 @@ ghost use Rattle.version_maker.specs.Private.Sized.{AreSized, first_size, with_b
 use crate::slice_count::{SliceCount, count_slice, slice_size};
 use crate::version::VersionSize;
 use arrayvec::ArrayVec;
+use requantiser::Ladder;
 use syntax_types::{Macroblock, PicCoding, SeqState, Slice};
 use version_table::limits::VERSIONS_MOST;
 
@@ -35,6 +36,7 @@ pub fn with_slice(
     slice: &Slice,
     coarser: &[u16],
     before: &[VersionSize],
+    ladder: &mut Ladder,
     lent: &mut Macroblock,
 ) -> ArrayVec<VersionSize, VERSIONS_MOST>
     requires weights { HasWeights seq.now }
@@ -45,7 +47,7 @@ pub fn with_slice(
         AreSized seq.now coding.now (slices ++ slice.now ∷ []) coarser.now result.items }
 {
     let mut sizes = ArrayVec::new();
-    let counts = count_slice(seq, coding, coarser, slice, lent);
+    let counts = count_slice(seq, coding, coarser, slice, ladder, lent);
     for i in 0..coarser.len() {
         let count = slice_size(slice, counts[i]);
         sizes.push(sum(before[i], count));

@@ -10,8 +10,8 @@ abbrev pub invariant-loop-k : goal.invariant-loop-k
 invariant-loop-k l = record {
   len : length l.tallies ≡ 8;
   went : (j : ℕ) (d : Tally) → j < l.k → IsCounted l.way l.coefficient.at
-      (coarser_level l.coefficient.level l.coefficient.weight l.rescaling.from (get_or l.initial.tallies j d).target.scale l.rescaling.intra)
-      (level_change l.coefficient.level l.coefficient.weight l.rescaling.from (get_or l.initial.tallies j d).target.scale l.rescaling.intra)
+      (coarser_level l.coefficient.level l.coefficient.weight l.fn.rescaling.from (get_or l.initial.tallies j d).target.scale l.fn.rescaling.intra)
+      (level_change l.coefficient.level l.coefficient.weight l.fn.rescaling.from (get_or l.initial.tallies j d).target.scale l.fn.rescaling.intra)
       (get_or l.initial.tallies j d) (get_or l.tallies j d);
   stay : (j : ℕ) (d : Tally) → l.k ≤ j → get_or l.tallies j d ≡ get_or l.initial.tallies j d;
 }
