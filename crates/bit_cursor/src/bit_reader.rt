@@ -5,6 +5,9 @@ ghost use Rattle.bit_cursor.specs.Shown.{IsFirstNumber, IsWindow, bytes_beyond, 
 use crate::fault::BitFault;
 use shelf_io::{Fault, Source};
 
+/// The most bits that are asked for at once.
+pub const AHEAD_BITS: u32 = 56;
+
 /// The bits of a source in order, most significant bit of each byte first. It borrows the source, and takes no byte of
 /// it before a bit of that byte is asked for.
 #[derive(Drop)]
@@ -15,7 +18,7 @@ pub struct BitReader<'a, S: Source> {
     held: u32,
     // bytes taken from the source
     taken: u64,
-    ghost few_held: { held < 40 },
+    ghost few_held: { held < 64 },
     ghost held_taken: { held ≤ 8 * taken },
     ghost source_ends: { taken + S.most source.now ≤ 2 ^ 60 },
 }
@@ -115,6 +118,27 @@ impl<'a, S: Source> BitReader<'a, S> {
         Ok(self.held >= n)
     }
 
+    /// The same, but where n bits aren't held, `AHEAD_BITS` bits are asked for, so that later calls find theirs held.
+    #[inline]
+    pub fn hold_ahead(&mut self, n: u32) -> Result<bool, Fault>
+        requires { n ≤ AHEAD_BITS }
+        ensures enough { IfOk result (λ enough. IsTrue enough ↔ (n ≤ bits_held self.new)) }
+        ensures few { IfOk result (λ _. bits_held self.new < n → IfSome (bits_left self.old) (λ bits. length bits ≡ bits_held self.new)) }
+
+        ensures left { bits_left self.new ≡ bits_left self.old }
+        ensures place { place self.new ≡ place self.old }
+        ensures fetched { Fetches AHEAD_BITS self.old self.new }
+
+        ensures failed { IsErrOf result Fault.Failed → Rose (faults_of self.old) (faults_of self.new) }
+        ensures missing { IsErrOf result Fault.Missing → Rose (absences_of self.old) (absences_of self.new) }
+        ensures keeps { KeepsSource self.old self.new }
+    {
+        if self.held < n {
+            self.fetch(AHEAD_BITS)?;
+        }
+        Ok(self.held >= n)
+    }
+
     /// The next n bits as a number, which are held, n at most 32. The reader stays where it is.
     #[inline]
     pub fn held_front(&self, n: u32) -> u32
@@ -192,7 +216,7 @@ impl<'a, S: Source> BitReader<'a, S> {
 
     // Takes bytes until n bits are held or the source ends.
     fn fetch(&mut self, n: u32) -> Result<(), Fault>
-        requires { n ≤ 32 }
+        requires { n ≤ AHEAD_BITS }
         ensures enough { IfOk result (λ _. bits_held self.new < n → IfSome (bits_left self.old) (λ bits. length bits ≡ bits_held self.new)) }
         ensures left { bits_left self.new ≡ bits_left self.old }
         ensures place { place self.new ≡ place self.old }

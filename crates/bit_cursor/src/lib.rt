@@ -12,7 +12,7 @@ mod bit_writer;
 mod fault;
 mod waiting_bits;
 
-pub use bit_reader::BitReader;
+pub use bit_reader::{AHEAD_BITS, BitReader};
 pub use bit_writer::BitWriter;
 pub use fault::BitFault;
 

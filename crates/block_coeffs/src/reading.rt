@@ -98,7 +98,7 @@ fn read_dc<S: Source>(from: &mut BitReader<'_, S>, table: TableName) -> Result<D
     ensures missing { IsErrOf result (BlockFault.Outside Fault.Missing) → Rose (absences_of from.old) (absences_of from.new) }
     ensures keeps { KeepsSource from.old from.new }
 {
-    from.hold(WINDOW_BITS)?;
+    from.hold_ahead(WINDOW_BITS)?;
     match what_dc(table, held_window(from)) {
         DcStanding::Coefficient { dc, len } => {
             from.skip(len);
@@ -151,7 +151,7 @@ fn read_from_first<S: Source>(
     ensures missing { IsErrOf result (BlockFault.Outside Fault.Missing) → Rose (absences_of from.old) (absences_of from.new) }
     ensures keeps { KeepsSource from.old from.new }
 {
-    if !from.hold(WINDOW_BITS)? {
+    if !from.hold_ahead(WINDOW_BITS)? {
         return read_last(from, way, 0, into);
     }
     match what_stands_whole(TableName::CoeffFirst, 0, whole_window(from)) {
@@ -193,7 +193,7 @@ fn read_others<S: Source>(
     ensures keeps { KeepsSource from.old from.new }
 {
     let mut index = first;
-    'coefficients: while from.hold(WINDOW_BITS)? {
+    'coefficients: while from.hold_ahead(WINDOW_BITS)? {
         match what_stands_whole(table, index, whole_window(from)) {
             Standing::EndOfBlock { len } => {
                 from.skip(len);
@@ -235,7 +235,7 @@ fn read_last<S: Source>(
 {
     let mut index = first;
     'coefficients: loop {
-        from.hold(WINDOW_BITS)?;
+        from.hold_ahead(WINDOW_BITS)?;
         match what_stands(table_at(way, index), index, held_window(from)) {
             Standing::EndOfBlock { len } => {
                 from.skip(len);

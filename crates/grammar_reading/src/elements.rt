@@ -10,6 +10,7 @@ use bit_cursor::{BitFault, BitReader};
 use shelf_io::{Fault, Source};
 
 /// The next n bits as a number (uimsbf), n at most 32. End says that the bits end within it.
+#[inline]
 pub fn read_number<S: Source>(reader: &mut BitReader<S>, n: u32) -> Result<u32, BitFault>
     requires { n ≤ 32 }
     ensures read { IfOk result (λ number. Reads (uimsbf n []) number reader.old reader.new) }
@@ -25,6 +26,7 @@ pub fn read_number<S: Source>(reader: &mut BitReader<S>, n: u32) -> Result<u32, 
 }
 
 /// The next bit as a flag. End says that no bit is left.
+#[inline]
 pub fn read_flag<S: Source>(reader: &mut BitReader<S>) -> Result<bool, BitFault>
     ensures read { IfOk result (λ is_set. Reads one_flag is_set reader.old reader.new) }
     ensures end { IsErrOf result BitFault.End → Explains one_flag reader.old (Some (record { refusal = End; at = place reader.old })) }

@@ -26,6 +26,7 @@ pub enum SymbolFound {
 }
 
 /// What stands at the front of a window where a code of the table must stand, of a symbol up to this one: one look-up.
+#[inline]
 pub fn what_symbol(table: TableName, most: u16, window: Window) -> SymbolFound
     ensures { IsSymbolFound table most window result }
 {
@@ -42,6 +43,8 @@ pub fn what_symbol(table: TableName, most: u16, window: Window) -> SymbolFound
 }
 
 /// Why no code stands there: the known bits end within codes, or no code begins as they do.
+#[cold]
+#[inline(never)]
 fn why_none(table: TableName, most: u16, window: Window) -> SymbolFound
     requires { (symbol len : ℕ) → Begins table (seen window window.known) symbol len → ⊥ }
     ensures { IsNoneFound table most window result }

@@ -14,6 +14,7 @@ use shelf_io::Source;
 use syntax_types::{I_PICTURE, PicCoding};
 
 /// How far the address rises, at most so far.
+#[inline]
 pub fn read_increment<S: Source>(from: &mut BitReader<'_, S>, most: u16) -> Result<u16, SliceFault>
     ensures answers { Answers ⊥ (address_increment most) result from.old from.new }
     ensures some { IfOk result (λ increment. 0 < increment) }
@@ -30,6 +31,7 @@ pub fn read_increment<S: Source>(from: &mut BitReader<'_, S>, most: u16) -> Resu
 }
 
 /// How far the address may rise.
+#[inline]
 pub fn most_increment(coding: &PicCoding, first: bool, columns_left: u16) -> u16
     ensures value { result ≡ most_of coding.now first columns_left }
     ensures within { result ≤ columns_left }

@@ -21,6 +21,7 @@ use shelf_io::Source;
 pub const SCALE_CODE_BITS: u32 = 5;
 
 /// The next n bits as a number of at most 16 bits, with no rule.
+#[inline]
 pub fn read_bits<S: Source>(from: &mut BitReader<'_, S>, n: u32) -> Result<u16, SliceFault>
     requires { n ≤ 16 }
     ensures { Answers ⊥ (uimsbf n []) result from.old from.new }
@@ -32,6 +33,7 @@ pub fn read_bits<S: Source>(from: &mut BitReader<'_, S>, n: u32) -> Result<u16, 
 }
 
 /// The next bit as a flag.
+#[inline]
 pub fn read_bit<S: Source>(from: &mut BitReader<'_, S>) -> Result<bool, SliceFault>
     ensures { Answers ⊥ one_flag result from.old from.new }
 {
@@ -42,6 +44,7 @@ pub fn read_bit<S: Source>(from: &mut BitReader<'_, S>) -> Result<bool, SliceFau
 }
 
 /// A flag that stands only where it is called for, and counts as false elsewhere.
+#[inline]
 pub fn read_bit_where<S: Source>(
     from: &mut BitReader<'_, S>,
     stands: bool,
@@ -52,6 +55,7 @@ pub fn read_bit_where<S: Source>(
 }
 
 /// A number of at most 8 bits that isn't 0.
+#[inline]
 pub fn read_not_zero<S: Source>(from: &mut BitReader<'_, S>, n: u32) -> Result<u8, SliceFault>
     requires some { 0 < n }
     requires width { n ≤ 8 }
@@ -70,6 +74,7 @@ pub fn read_not_zero<S: Source>(from: &mut BitReader<'_, S>, n: u32) -> Result<u
 }
 
 /// quantiser_scale_code, where it stands.
+#[inline]
 pub fn read_code_where<S: Source>(
     from: &mut BitReader<'_, S>,
     stands: bool,
@@ -84,6 +89,7 @@ pub fn read_code_where<S: Source>(
 }
 
 /// marker_bit, where it stands, which is 1.
+#[inline]
 pub fn read_marker_where<S: Source>(
     from: &mut BitReader<'_, S>,
     stands: bool,
@@ -109,6 +115,7 @@ fn read_marker<S: Source>(from: &mut BitReader<'_, S>) -> Result<(), SliceFault>
 }
 
 /// The symbol of a code of a table, up to this one: one look-up. Where none stands the refusal has this reason.
+#[inline(always)]
 pub fn read_symbol<S: Source>(
     from: &mut BitReader<'_, S>,
     table: TableName,
@@ -117,7 +124,7 @@ pub fn read_symbol<S: Source>(
 ) -> Result<u16, SliceFault>
     ensures { Answers ⊥ (symbol_up_to table most (refusal_of why) (refusal_of why)) result from.old from.new }
 {
-    from.hold(WINDOW_BITS)?;
+    from.hold_ahead(WINDOW_BITS)?;
     match what_symbol(table, most, held_window(from)) {
         SymbolFound::Symbol { symbol, len } => {
             from.skip(len);

@@ -30,6 +30,7 @@ const PATTERN_MOST: u16 = 63;
 const MOTION_TYPE_BITS: u32 = 2;
 
 /// macroblock_type.
+#[inline]
 pub fn read_kind<S: Source>(
     from: &mut BitReader<'_, S>,
     coding: &PicCoding,
@@ -41,6 +42,7 @@ pub fn read_kind<S: Source>(
 }
 
 /// The flags of a symbol of these tables.
+#[inline]
 fn kind_of(symbol: u16) -> Kind
     ensures { result ≡ kind_by symbol }
 {
@@ -54,6 +56,7 @@ fn kind_of(symbol: u16) -> Kind
 }
 
 /// frame_motion_type or field_motion_type, or what counts where none stands.
+#[inline]
 pub fn read_motion_type<S: Source>(
     from: &mut BitReader<'_, S>,
     coding: &PicCoding,
@@ -69,6 +72,7 @@ pub fn read_motion_type<S: Source>(
 }
 
 /// coded_block_pattern, where it stands, and 0 elsewhere.
+#[inline]
 pub fn read_pattern_where<S: Source>(
     from: &mut BitReader<'_, S>,
     stands: bool,
@@ -78,6 +82,7 @@ pub fn read_pattern_where<S: Source>(
     if stands { read_pattern(from) } else { Ok(0) }
 }
 
+#[inline(always)]
 fn read_pattern<S: Source>(from: &mut BitReader<'_, S>) -> Result<u8, SliceFault>
     ensures { Answers ⊥ (vlclbf Pattern BadPattern []) result from.old from.new }
 {

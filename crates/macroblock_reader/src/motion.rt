@@ -77,6 +77,7 @@ pub fn vector_format(coding: &PicCoding, motion_type: u8) -> VectorFormat
 }
 
 /// motion_vectors(s), where they stand, into a list that is lent.
+#[inline(always)]
 pub fn read_vectors_where<S: Source>(
     from: &mut BitReader<'_, S>,
     stands: bool,
@@ -96,6 +97,7 @@ pub fn read_vectors_where<S: Source>(
     }
 }
 
+#[inline(never)]
 fn read_vectors<S: Source>(
     from: &mut BitReader<'_, S>,
     codes: [u8; 2],
@@ -118,6 +120,7 @@ fn read_vectors<S: Source>(
 }
 
 /// motion_vertical_field_select, then motion_vector, with the f_codes of its direction.
+#[inline(always)]
 fn read_vector<S: Source>(
     from: &mut BitReader<'_, S>,
     codes: [u8; 2],
@@ -150,6 +153,7 @@ fn differences(dual: bool, horizontal: i8, vertical: i8) -> Option<[i8; 2]>
 }
 
 /// motion_vertical_field_select, where it stands.
+#[inline]
 fn read_select<S: Source>(
     from: &mut BitReader<'_, S>,
     stands: bool,
@@ -172,6 +176,7 @@ struct VectorPart {
 }
 
 /// motion_code and its sign bit, motion_residual, then dmvector.
+#[inline(always)]
 fn read_part<S: Source>(
     from: &mut BitReader<'_, S>,
     f_code: u8,
@@ -192,6 +197,7 @@ fn read_part<S: Source>(
 }
 
 /// The magnitude of motion_code.
+#[inline(always)]
 fn read_size<S: Source>(from: &mut BitReader<'_, S>) -> Result<u8, SliceFault>
     ensures answers { Answers ⊥ (vlclbf Motion NoCode []) result from.old from.new }
     ensures few { IfOk result (λ size. size ≤ SIZE_MOST) }
@@ -201,6 +207,7 @@ fn read_size<S: Source>(from: &mut BitReader<'_, S>) -> Result<u8, SliceFault>
 }
 
 /// A size with its sign.
+#[inline]
 fn signed(size: u8, negative: bool) -> i8
     requires { size ≤ SIZE_MOST }
     ensures { result ≡ signed_size size negative }
@@ -210,6 +217,7 @@ fn signed(size: u8, negative: bool) -> i8
 }
 
 /// motion_residual, where it stands, and 0 elsewhere.
+#[inline(always)]
 fn read_residual<S: Source>(
     from: &mut BitReader<'_, S>,
     f_code: u8,
@@ -232,6 +240,7 @@ fn has_residual(f_code: u8, size: u8) -> bool
 }
 
 /// dmvector, where it stands, and 0 elsewhere.
+#[inline]
 fn read_difference<S: Source>(from: &mut BitReader<'_, S>, dual: bool) -> Result<i8, SliceFault>
     ensures { Answers ⊥ (when dual dmvector (pos 0)) result from.old from.new }
 {
@@ -239,6 +248,8 @@ fn read_difference<S: Source>(from: &mut BitReader<'_, S>, dual: bool) -> Result
 }
 
 /// dmvector (Table B-11). It is refused at its first bit.
+#[cold]
+#[inline(never)]
 fn read_dmvector<S: Source>(from: &mut BitReader<'_, S>) -> Result<i8, SliceFault>
     ensures { Answers ⊥ dmvector result from.old from.new }
 {

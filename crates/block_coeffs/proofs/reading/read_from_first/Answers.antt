@@ -15,13 +15,13 @@ returns-in-EndOfBlock-clause-ok g c =
     let items = c.args.into.now.items in
     let here = c.args.from.now in
     let window = c.whole_window.result in
-    let shows : IfSome (bits_left here) (ShowsFront window) = subst (λ told. IfSome told (ShowsFront window)) c.in_ok-hold.ensures.left c.whole_window.ensures.shows in
+    let shows : IfSome (bits_left here) (ShowsFront window) = subst (λ told. IfSome told (ShowsFront window)) c.in_ok-hold_ahead.ensures.left c.whole_window.ensures.shows in
     let behind : IsBehind way 0 items = none-behind way items 0 (inter-place way c.requires.way) (omega arith) c.requires.none in
     let len = c.in-EndOfBlock.len in
     end-read way items CoeffFirst 0 (inter-first way c.requires.way) behind.is window (bits_left here) (bits_left c.skip.new.self) (place here)
     (place c.skip.new.self) shows (bits_left here) (place here) len (c.in-EndOfBlock.ensures.0, c.in-EndOfBlock.ensures.1)
-    (c.skip.ensures.left ∙ ap (λ told. option_map (drop len) told) c.in_ok-hold.ensures.left)
-    (c.skip.ensures.place ∙ ap (λ n. n + len) c.in_ok-hold.ensures.place) (none-read way items (bits_left here) (place here) c.requires.none)
+    (c.skip.ensures.left ∙ ap (λ told. option_map (drop len) told) c.in_ok-hold_ahead.ensures.left)
+    (c.skip.ensures.place ∙ ap (λ n. n + len) c.in_ok-hold_ahead.ensures.place) (none-read way items (bits_left here) (place here) c.requires.none)
 
 pub returns-in-Refused-clause-refused : goal.returns-in-Refused-clause-refused
 returns-in-Refused-clause-refused g c =
@@ -29,7 +29,7 @@ returns-in-Refused-clause-refused g c =
     let items = c.args.into.now.items in
     let here = c.args.from.now in
     let window = c.whole_window.result in
-    let shows : IfSome (bits_left here) (ShowsFront window) = subst (λ told. IfSome told (ShowsFront window)) c.in_ok-hold.ensures.left c.whole_window.ensures.shows in
+    let shows : IfSome (bits_left here) (ShowsFront window) = subst (λ told. IfSome told (ShowsFront window)) c.in_ok-hold_ahead.ensures.left c.whole_window.ensures.shows in
     let behind : IsBehind way 0 items = none-behind way items 0 (inter-place way c.requires.way) (omega arith) c.requires.none in
     refused-read way items CoeffFirst 0 (inter-first way c.requires.way) behind.is window (bits_left here) (bits_left here) (place here)
     (place here) shows (bits_left here) (place here) c.in-Refused.why c.in-Refused.behind _ c.at.result
@@ -42,14 +42,14 @@ returns-in-Pair-clause-ok g c =
     let here = c.args.from.now in
     let after = c.skip-in-Pair.new.self in
     let window = c.whole_window.result in
-    let shows : IfSome (bits_left here) (ShowsFront window) = subst (λ told. IfSome told (ShowsFront window)) c.in_ok-hold.ensures.left c.whole_window.ensures.shows in
+    let shows : IfSome (bits_left here) (ShowsFront window) = subst (λ told. IfSome told (ShowsFront window)) c.in_ok-hold_ahead.ensures.left c.whole_window.ensures.shows in
     let behind : IsBehind way 0 items = none-behind way items 0 (inter-place way c.requires.way) (omega arith) c.requires.none in
     let len = c.in-Pair.len in
     let fits : SFits w16 c.in-Pair.level = search rules in
     let held : ℤ = to_z w16 (of_z w16 c.in-Pair.level) in
     let level : held ≡ c.in-Pair.level = to_z-of_z w16 c.in-Pair.level fits in
-    let left : bits_left after ≡ without_bits (bits_left here) len = c.skip-in-Pair.ensures.left ∙ ap (λ told. option_map (drop len) told) c.in_ok-hold.ensures.left in
-    let moved : place after ≡ place here + len = c.skip-in-Pair.ensures.place ∙ ap (λ n. n + len) c.in_ok-hold.ensures.place in
+    let left : bits_left after ≡ without_bits (bits_left here) len = c.skip-in-Pair.ensures.left ∙ ap (λ told. option_map (drop len) told) c.in_ok-hold_ahead.ensures.left in
+    let moved : place after ≡ place here + len = c.skip-in-Pair.ensures.place ∙ ap (λ n. n + len) c.in_ok-hold_ahead.ensures.place in
     c.read_others.ensures.ok (bits_left here) (place here)
     (pair-read way items CoeffFirst 0 (inter-first way c.requires.way) behind.is window (bits_left here) (bits_left after) (place here)
     (place after) shows (bits_left here) (place here) c.in-Pair.run' c.in-Pair.level held len c.push.new.self.items
@@ -62,14 +62,14 @@ returns-in-Pair-clause-refused g c =
     let here = c.args.from.now in
     let after = c.skip-in-Pair.new.self in
     let window = c.whole_window.result in
-    let shows : IfSome (bits_left here) (ShowsFront window) = subst (λ told. IfSome told (ShowsFront window)) c.in_ok-hold.ensures.left c.whole_window.ensures.shows in
+    let shows : IfSome (bits_left here) (ShowsFront window) = subst (λ told. IfSome told (ShowsFront window)) c.in_ok-hold_ahead.ensures.left c.whole_window.ensures.shows in
     let behind : IsBehind way 0 items = none-behind way items 0 (inter-place way c.requires.way) (omega arith) c.requires.none in
     let len = c.in-Pair.len in
     let fits : SFits w16 c.in-Pair.level = search rules in
     let held : ℤ = to_z w16 (of_z w16 c.in-Pair.level) in
     let level : held ≡ c.in-Pair.level = to_z-of_z w16 c.in-Pair.level fits in
-    let left : bits_left after ≡ without_bits (bits_left here) len = c.skip-in-Pair.ensures.left ∙ ap (λ told. option_map (drop len) told) c.in_ok-hold.ensures.left in
-    let moved : place after ≡ place here + len = c.skip-in-Pair.ensures.place ∙ ap (λ n. n + len) c.in_ok-hold.ensures.place in
+    let left : bits_left after ≡ without_bits (bits_left here) len = c.skip-in-Pair.ensures.left ∙ ap (λ told. option_map (drop len) told) c.in_ok-hold_ahead.ensures.left in
+    let moved : place after ≡ place here + len = c.skip-in-Pair.ensures.place ∙ ap (λ n. n + len) c.in_ok-hold_ahead.ensures.place in
     c.read_others.ensures.refused (bits_left here) (place here)
     (pair-read way items CoeffFirst 0 (inter-first way c.requires.way) behind.is window (bits_left here) (bits_left after) (place here)
     (place after) shows (bits_left here) (place here) c.in-Pair.run' c.in-Pair.level held len c.push.new.self.items
@@ -82,11 +82,11 @@ returns-in-Pair-clause-advances g c =
     let here = c.args.from.now in
     let after = c.skip-in-Pair.new.self in
     let window = c.whole_window.result in
-    let shows : IfSome (bits_left here) (ShowsFront window) = subst (λ told. IfSome told (ShowsFront window)) c.in_ok-hold.ensures.left c.whole_window.ensures.shows in
+    let shows : IfSome (bits_left here) (ShowsFront window) = subst (λ told. IfSome told (ShowsFront window)) c.in_ok-hold_ahead.ensures.left c.whole_window.ensures.shows in
     let behind : IsBehind way 0 items = none-behind way items 0 (inter-place way c.requires.way) (omega arith) c.requires.none in
     let len = c.in-Pair.len in
-    let left : bits_left after ≡ without_bits (bits_left here) len = c.skip-in-Pair.ensures.left ∙ ap (λ told. option_map (drop len) told) c.in_ok-hold.ensures.left in
-    let moved : place after ≡ place here + len = c.skip-in-Pair.ensures.place ∙ ap (λ n. n + len) c.in_ok-hold.ensures.place in
+    let left : bits_left after ≡ without_bits (bits_left here) len = c.skip-in-Pair.ensures.left ∙ ap (λ told. option_map (drop len) told) c.in_ok-hold_ahead.ensures.left in
+    let moved : place after ≡ place here + len = c.skip-in-Pair.ensures.place ∙ ap (λ n. n + len) c.in_ok-hold_ahead.ensures.place in
     advances-result (bits_left here) (bits_left after) (bits_left c.read_others.new.from) (place here) (place after)
     (place c.read_others.new.from) c.read_others.result (advances-found (bits_left here) (bits_left after) window len (place here)
     (place after) shows c.in-Pair.ensures.0 left moved) c.read_others.ensures.advances
@@ -94,5 +94,5 @@ returns-in-Pair-clause-advances g c =
 pub returns-then-not-branch-clause-refused : goal.returns-then-not-branch-clause-refused
 returns-then-not-branch-clause-refused g c =
     c.read_last.ensures.refused (bits_left c.args.from.now) (place c.args.from.now)
-    (none-read_yet c.args.way c.args.into.now.items (bits_left c.args.from.now) (bits_left c.hold.new.self) (place c.args.from.now)
-    (place c.hold.new.self) c.requires.none c.in_ok-hold.ensures.left c.in_ok-hold.ensures.place)
+    (none-read_yet c.args.way c.args.into.now.items (bits_left c.args.from.now) (bits_left c.hold_ahead.new.self) (place c.args.from.now)
+    (place c.hold_ahead.new.self) c.requires.none c.in_ok-hold_ahead.ensures.left c.in_ok-hold_ahead.ensures.place)

@@ -27,16 +27,16 @@ coefficients-preserved g c =
     let here = c.coefficients.from in
     let window = c.held_window.result in
     let shows : IfSome (bits_left here) (ShowsFront window) = held-shown (bits_left here)
-    (bits_left c.hold.new.self) c.hold.new.self.held window c.in_ok-hold.ensures.left c.in_ok-hold.ensures.few c.held_window.ensures.shows in
+    (bits_left c.hold_ahead.new.self) c.hold_ahead.new.self.held window c.in_ok-hold_ahead.ensures.left c.in_ok-hold_ahead.ensures.few c.held_window.ensures.shows in
     let table_is : table ≡ coefficient_table way index = c.table_at.ensures.table in
     let after = c.skip-in-Pair.new.self in
     let len = c.in-Pair.len in
     let fits : SFits w16 c.in-Pair.level = search rules in
     let held : ℤ = to_z w16 (of_z w16 c.in-Pair.level) in
     let level : held ≡ c.in-Pair.level = to_z-of_z w16 c.in-Pair.level fits in
-    let left : bits_left after ≡ without_bits (bits_left here) len = c.skip-in-Pair.ensures.left ∙ ap (λ told. option_map (drop len) told) c.in_ok-hold.ensures.left in
-    let moved : place after ≡ place here + len = c.skip-in-Pair.ensures.place ∙ ap (λ n. n + len) c.in_ok-hold.ensures.place in
-    let kept = keeps_then g.met.S.Source.keeps_on c.coefficients.invariant.keeps c.in_ok-hold.ensures.keeps in
+    let left : bits_left after ≡ without_bits (bits_left here) len = c.skip-in-Pair.ensures.left ∙ ap (λ told. option_map (drop len) told) c.in_ok-hold_ahead.ensures.left in
+    let moved : place after ≡ place here + len = c.skip-in-Pair.ensures.place ∙ ap (λ n. n + len) c.in_ok-hold_ahead.ensures.place in
+    let kept = keeps_then g.met.S.Source.keeps_on c.coefficients.invariant.keeps c.in_ok-hold_ahead.ensures.keeps in
     record {
       so_far = λ bits at r. pair-read way before table index table_is c.coefficients.invariant.place.is window (bits_left here) (bits_left after)
           (place here) (place after) shows bits at c.in-Pair.run' c.in-Pair.level held len c.push.new.self.items
@@ -56,14 +56,14 @@ returns-in-EndOfBlock-clause-ok g c = λ bits at r.
     let here = c.coefficients.from in
     let window = c.held_window.result in
     let shows : IfSome (bits_left here) (ShowsFront window) = held-shown (bits_left here)
-    (bits_left c.hold.new.self) c.hold.new.self.held window c.in_ok-hold.ensures.left c.in_ok-hold.ensures.few c.held_window.ensures.shows in
+    (bits_left c.hold_ahead.new.self) c.hold_ahead.new.self.held window c.in_ok-hold_ahead.ensures.left c.in_ok-hold_ahead.ensures.few c.held_window.ensures.shows in
     let table_is : table ≡ coefficient_table way index = c.table_at.ensures.table in
     let after = c.skip.new.self in
     let len = c.in-EndOfBlock.len in
     end-read way before table index table_is c.coefficients.invariant.place.is window (bits_left here) (bits_left after) (place here)
     (place after) shows bits at len (c.in-EndOfBlock.ensures.0, c.in-EndOfBlock.ensures.1)
-    (c.skip.ensures.left ∙ ap (λ told. option_map (drop len) told) c.in_ok-hold.ensures.left)
-    (c.skip.ensures.place ∙ ap (λ n. n + len) c.in_ok-hold.ensures.place) (c.coefficients.invariant.so_far bits at r)
+    (c.skip.ensures.left ∙ ap (λ told. option_map (drop len) told) c.in_ok-hold_ahead.ensures.left)
+    (c.skip.ensures.place ∙ ap (λ n. n + len) c.in_ok-hold_ahead.ensures.place) (c.coefficients.invariant.so_far bits at r)
 
 pub returns-in-Refused-clause-refused : goal.returns-in-Refused-clause-refused
 returns-in-Refused-clause-refused g c = λ bits at r.
@@ -74,7 +74,7 @@ returns-in-Refused-clause-refused g c = λ bits at r.
     let here = c.coefficients.from in
     let window = c.held_window.result in
     let shows : IfSome (bits_left here) (ShowsFront window) = held-shown (bits_left here)
-    (bits_left c.hold.new.self) c.hold.new.self.held window c.in_ok-hold.ensures.left c.in_ok-hold.ensures.few c.held_window.ensures.shows in
+    (bits_left c.hold_ahead.new.self) c.hold_ahead.new.self.held window c.in_ok-hold_ahead.ensures.left c.in_ok-hold_ahead.ensures.few c.held_window.ensures.shows in
     let table_is : table ≡ coefficient_table way index = c.table_at.ensures.table in
     refused-read way before table index table_is c.coefficients.invariant.place.is window (bits_left here) (bits_left here) (place here)
     (place here) shows bits at c.in-Refused.why c.in-Refused.behind _ c.at.result

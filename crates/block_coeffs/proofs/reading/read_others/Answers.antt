@@ -28,16 +28,16 @@ coefficients-preserved g c =
     let index = c.coefficients.index in
     let here = c.coefficients.from in
     let window = c.whole_window.result in
-    let shows : IfSome (bits_left here) (ShowsFront window) = subst (λ told. IfSome told (ShowsFront window)) c.in_ok-hold.ensures.left c.whole_window.ensures.shows in
+    let shows : IfSome (bits_left here) (ShowsFront window) = subst (λ told. IfSome told (ShowsFront window)) c.in_ok-hold_ahead.ensures.left c.whole_window.ensures.shows in
     let table_is : table ≡ coefficient_table way index = c.requires.table ∙ sym (later-table way index c.coefficients.invariant.behind) in
     let after = c.skip-in-Pair.new.self in
     let len = c.in-Pair.len in
     let fits : SFits w16 c.in-Pair.level = search rules in
     let held : ℤ = to_z w16 (of_z w16 c.in-Pair.level) in
     let level : held ≡ c.in-Pair.level = to_z-of_z w16 c.in-Pair.level fits in
-    let left : bits_left after ≡ without_bits (bits_left here) len = c.skip-in-Pair.ensures.left ∙ ap (λ told. option_map (drop len) told) c.in_ok-hold.ensures.left in
-    let moved : place after ≡ place here + len = c.skip-in-Pair.ensures.place ∙ ap (λ n. n + len) c.in_ok-hold.ensures.place in
-    let kept = keeps_then g.met.S.Source.keeps_on c.coefficients.invariant.keeps c.in_ok-hold.ensures.keeps in
+    let left : bits_left after ≡ without_bits (bits_left here) len = c.skip-in-Pair.ensures.left ∙ ap (λ told. option_map (drop len) told) c.in_ok-hold_ahead.ensures.left in
+    let moved : place after ≡ place here + len = c.skip-in-Pair.ensures.place ∙ ap (λ n. n + len) c.in_ok-hold_ahead.ensures.place in
+    let kept = keeps_then g.met.S.Source.keeps_on c.coefficients.invariant.keeps c.in_ok-hold_ahead.ensures.keeps in
     record {
       so_far = λ bits at r. pair-read way before table index table_is c.coefficients.invariant.place.is window (bits_left here) (bits_left after)
           (place here) (place after) shows bits at c.in-Pair.run' c.in-Pair.level held len c.push.new.self.items
@@ -57,14 +57,14 @@ returns-in-EndOfBlock-clause-ok g c = λ bits at r.
     let index = c.coefficients.index in
     let here = c.coefficients.from in
     let window = c.whole_window.result in
-    let shows : IfSome (bits_left here) (ShowsFront window) = subst (λ told. IfSome told (ShowsFront window)) c.in_ok-hold.ensures.left c.whole_window.ensures.shows in
+    let shows : IfSome (bits_left here) (ShowsFront window) = subst (λ told. IfSome told (ShowsFront window)) c.in_ok-hold_ahead.ensures.left c.whole_window.ensures.shows in
     let table_is : table ≡ coefficient_table way index = c.requires.table ∙ sym (later-table way index c.coefficients.invariant.behind) in
     let after = c.skip.new.self in
     let len = c.in-EndOfBlock.len in
     end-read way before table index table_is c.coefficients.invariant.place.is window (bits_left here) (bits_left after) (place here)
     (place after) shows bits at len (c.in-EndOfBlock.ensures.0, c.in-EndOfBlock.ensures.1)
-    (c.skip.ensures.left ∙ ap (λ told. option_map (drop len) told) c.in_ok-hold.ensures.left)
-    (c.skip.ensures.place ∙ ap (λ n. n + len) c.in_ok-hold.ensures.place) (c.coefficients.invariant.so_far bits at r)
+    (c.skip.ensures.left ∙ ap (λ told. option_map (drop len) told) c.in_ok-hold_ahead.ensures.left)
+    (c.skip.ensures.place ∙ ap (λ n. n + len) c.in_ok-hold_ahead.ensures.place) (c.coefficients.invariant.so_far bits at r)
 
 pub returns-in-Refused-clause-refused : goal.returns-in-Refused-clause-refused
 returns-in-Refused-clause-refused g c = λ bits at r.
@@ -74,7 +74,7 @@ returns-in-Refused-clause-refused g c = λ bits at r.
     let index = c.coefficients.index in
     let here = c.coefficients.from in
     let window = c.whole_window.result in
-    let shows : IfSome (bits_left here) (ShowsFront window) = subst (λ told. IfSome told (ShowsFront window)) c.in_ok-hold.ensures.left c.whole_window.ensures.shows in
+    let shows : IfSome (bits_left here) (ShowsFront window) = subst (λ told. IfSome told (ShowsFront window)) c.in_ok-hold_ahead.ensures.left c.whole_window.ensures.shows in
     let table_is : table ≡ coefficient_table way index = c.requires.table ∙ sym (later-table way index c.coefficients.invariant.behind) in
     refused-read way before table index table_is c.coefficients.invariant.place.is window (bits_left here) (bits_left here) (place here)
     (place here) shows bits at c.in-Refused.why c.in-Refused.behind _ c.at.result
@@ -82,6 +82,6 @@ returns-in-Refused-clause-refused g c = λ bits at r.
 
 pub returns-clause-advances : goal.returns-clause-advances
 returns-clause-advances g c =
-    advances-result (bits_left c.args.from.now) (bits_left c.hold.new.self) (bits_left c.read_last.new.from) (place c.args.from.now)
-    (place c.hold.new.self) (place c.read_last.new.from) c.read_last.result
-    (stays-advanced c.coefficients.invariant.advanced c.in_ok-hold.ensures.left c.in_ok-hold.ensures.place) c.read_last.ensures.advances
+    advances-result (bits_left c.args.from.now) (bits_left c.hold_ahead.new.self) (bits_left c.read_last.new.from) (place c.args.from.now)
+    (place c.hold_ahead.new.self) (place c.read_last.new.from) c.read_last.result
+    (stays-advanced c.coefficients.invariant.advanced c.in_ok-hold_ahead.ensures.left c.in_ok-hold_ahead.ensures.place) c.read_last.ensures.advances
