@@ -1,35 +1,6 @@
 -- What a sink got in several calls: what each function that puts bits by other ones needs. They speak of `Gets` and
 -- `GetsFront`, so of `Puts` and `PutsFront` between states of a writer.
-use Rattle.std.proofs.Common.{
-  ◌≡◌,
-  ℕ,
-  ◌+◌,
-  ◌-◌,
-  ◌*◌,
-  ◌%◌,
-  ◌^◌,
-  ◌<◌,
-  List,
-  [],
-  ◌++◌,
-  false,
-  Result,
-  Ok,
-  Err,
-  OnOk,
-  IsErrAnd,
-  ◌≤◌,
-  length,
-  refl,
-  sym,
-  ap,
-  subst,
-  ◌∙◌,
-  arith,
-  append_assoc,
-  append-nil,
-  length-append,
-}
+use Rattle.std.proofs.Common.{◌≡◌, ℕ, ◌+◌, ◌*◌, ◌%◌, List, [], ◌++◌, false, Result, Ok, Err, OnOk, IsErrAnd, length, refl, sym, ap, subst, ◌∙◌, arith, append_assoc, append-nil, length-append}
 use Rattle.std.proofs.lemmas.Result.{on_ok_weaker, on_err_weaker}
 use Rattle.shelf_io.specs.declared.fault.Fault.{Fault}
 use Rattle.shelf_io.specs.Sink.{Told, with_bytes}

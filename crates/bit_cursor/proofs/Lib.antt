@@ -4,5 +4,6 @@ pub mod Fronts
 pub mod Gets
 pub mod Left
 pub mod Source
+pub mod Taking
 pub mod WordBits
 pub mod Words

@@ -226,16 +226,27 @@ impl<'a, S: Source> BitReader<'a, S> {
         ensures missing { IsErrOf result Fault.Missing → Rose (absences_of self.old) (absences_of self.new) }
         ensures keeps { KeepsSource self.old self.new }
     {
+        let mut word = self.word;
         let mut held = self.held;
+        let mut taken = self.taken;
         while held < n {
-            let Some(byte) = self.source.take_byte()? else {
-                break;
+            let byte = match self.source.take_byte() {
+                Ok(Some(byte)) => byte,
+                Ok(None) => break,
+                Err(fault) => {
+                    self.word = word;
+                    self.taken = taken;
+                    self.held = held;
+                    return Err(fault);
+                }
             };
+            word = word << 8 | u64::from(byte);
             held += 8;
-            self.word = self.word << 8 | u64::from(byte);
-            self.taken += 1;
-            self.held = held;
+            taken += 1;
         }
+        self.word = word;
+        self.taken = taken;
+        self.held = held;
         Ok(())
     }
 }
