@@ -3,5 +3,6 @@ pub mod Counts
 pub mod Infos
 pub mod Lists
 pub mod Units
+pub mod SliceSteps
 pub mod SizedSlices
 pub mod UnitSizes
