@@ -8,10 +8,7 @@ use Rattle.prefix_codes.specs.declared.symbol.TheConstants.{END_OF_BLOCK}
 use Rattle.picture_grammar.specs.Block.{coefficient_table}
 use Rattle.picture_grammar.specs.Written.{code_for, written_coefficient, written_coefficients}
 
--- four parts one behind the other
-pub four_parts : (a b c d : List ℕ) → length (a ++ b ++ c ++ d) ≡ length a + length b + length c + length d
-four_parts a b c d = omega (arith, length-append (a ++ b ++ c) d, length-append (a ++ b) c, length-append a b)
-
+-- three parts one behind the other
 pub three_parts : (a b c : List ℕ) → length (a ++ b ++ c) ≡ length a + length b + length c
 three_parts a b c = omega (arith, length-append (a ++ b) c, length-append a b)
 

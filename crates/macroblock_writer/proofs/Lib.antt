@@ -1,6 +1,7 @@
 pub mod Counts
 pub mod Examples
 pub mod Groups
+pub mod Parts
 pub mod Writable
 pub mod WritableSlices
 pub mod Writing

@@ -1,19 +1,15 @@
 //! How many bits a macroblock is written in: each table's code by its length, with no bits put together.
-ghost use Rattle.std.specs.Prelude.{◌≡◌, ◌≤◌, ◌<◌, ◌^◌, length, if◌then◌else◌, []};
+ghost use Rattle.std.specs.Prelude.{◌≡◌, ◌≤◌, ◌<◌, ◌+◌, ◌^◌, length, slice_index_or};
 ghost use Rattle.std.specs.List.{flat_map, range_with_len};
-ghost use Rattle.bit_lists.specs.Bits.{bits_of};
-ghost use Rattle.prefix_codes.specs.declared.table_name.TableName.TheVariants.{Pattern};
-ghost use Rattle.picture_grammar.specs.Written.{code_for, if_any, written_coded_block, written_increment, written_macroblock};
-ghost use Rattle.macroblock_writer.specs.Private.Writing.{written_coefficients, written_modes, written_motion};
+ghost use Rattle.syntax_types.specs.declared.block.Block.{Block as BlockOf};
+ghost use Rattle.picture_grammar.specs.Macroblock.{block_way as way_of_block, no_block};
+ghost use Rattle.picture_grammar.specs.Written.{written_coded_block, written_macroblock};
+ghost use Rattle.macroblock_writer.specs.Parts.{HasDcAlone, dc_length, head_length, motion_length, written_dc_block};
 
-use crate::block_counts::{block_bits, code_bits};
-use crate::increment::ESCAPE_INCREMENT;
-use crate::modes::type_symbol;
+use crate::block_counts::{block_bits, dc_block_bits};
+use crate::head_counts::{bits_where, head_bits};
 use crate::vector_counts::vectors_bits;
-use picture_grammar::stands::{
-    block_way, has_concealment, has_dct_type, has_motion_type, is_coded, type_table,
-};
-use prefix_codes::{TableName, symbol};
+use picture_grammar::stands::{block_way, has_concealment, has_motion_type, is_coded};
 use syntax_types::{BLOCKS, Macroblock, PicCoding};
 
 /// How many bits a macroblock of this picture is written in by `write_macroblock` (ISO/IEC 13818-2, 6.2.5).
@@ -21,87 +17,68 @@ pub fn macroblock_bits(coding: &PicCoding, macroblock: &Macroblock) -> u32
     ensures value { result ≡ length (written_macroblock coding.now macroblock.now) }
     ensures few { result < 2 ^ 17 }
 {
-    increment_bits(u32::from(macroblock.skipped_before) + 1)
-        + modes_bits(coding, macroblock)
+    let m = macroblock;
+    head_bits(coding, m.skipped_before, m.kind, m.code, m.pattern)
         + motion_bits(coding, macroblock)
-        + coefficients_bits(coding, macroblock)
+        + blocks_bits(coding, macroblock)
 }
 
-// macroblock_escape as often as it goes, then a code from 1 to 33.
-fn increment_bits(increment: u32) -> u32
-    requires some { 1 ≤ increment }
-    requires most { increment ≤ 2 ^ 16 }
-    ensures value { result ≡ length (written_increment increment) }
-    ensures few { result ≤ 2 ^ 16 }
+/// The bits of what a macroblock says whatever its coefficients are: its motion, and the DC coefficients of an intra one,
+/// each with the end of its block. Where no other coefficients stand, it is written in these and in those of its head.
+pub fn motion_and_dc_bits(coding: &PicCoding, macroblock: &Macroblock) -> u32
+    ensures value { result ≡ motion_length coding.now macroblock.now + dc_length coding.now macroblock.now }
+    ensures few { result ≤ 26403 }
+    ensures whole { HasDcAlone macroblock.now → length (written_macroblock coding.now macroblock.now)
+        ≡ head_length coding.now macroblock.now.skipped_before macroblock.now.kind macroblock.now.code macroblock.now.pattern + result }
 {
-    if increment <= ESCAPE_INCREMENT {
-        return code_bits(TableName::Address, increment as u16);
-    }
-    let escapes = (increment - 1) / ESCAPE_INCREMENT;
-    let left = increment - ESCAPE_INCREMENT * escapes;
-    escapes * code_bits(TableName::Address, symbol::ADDRESS_ESCAPE)
-        + code_bits(TableName::Address, left as u16)
+    motion_bits(coding, macroblock) + dc_bits(coding, macroblock)
 }
 
-// macroblock_modes() and quantiser_scale_code.
-fn modes_bits(coding: &PicCoding, macroblock: &Macroblock) -> u32
-    ensures value { result ≡ length (written_modes coding.now macroblock.now) }
-    ensures few { result ≤ 32 }
-{
-    let kind = macroblock.kind;
-    code_bits(type_table(coding), type_symbol(kind))
-        + bits_where(has_motion_type(coding, kind), 2)
-        + bits_where(has_dct_type(coding, kind), 1)
-        + quantiser_bits(macroblock.code)
-}
-
-// quantiser_scale_code where it stands.
-fn quantiser_bits(code: Option<u8>) -> u32
-    ensures value { result ≡ length (if_any (bits_of 5) code) }
-    ensures few { result ≤ 5 }
-{
-    match code {
-        Some(_code) => 5,
-        None => 0,
-    }
-}
-
-// So many bits where something stands.
-#[inline]
-fn bits_where(stands: bool, n: u32) -> u32
-    ensures { result ≡ (if stands then n else 0) }
-{
-    if stands { n } else { 0 }
-}
-
-// The vectors, and the marker behind a vector of concealment.
+// motion_type, the vectors, and the marker behind a vector of concealment.
 fn motion_bits(coding: &PicCoding, macroblock: &Macroblock) -> u32
-    ensures value { result ≡ length (written_motion coding.now macroblock.now) }
-    ensures few { result ≤ 2401 }
+    ensures value { result ≡ motion_length coding.now macroblock.now }
+    ensures few { result ≤ 2403 }
 {
-    vectors_bits(coding.f_code[0], macroblock.forward.as_slice())
+    bits_where(has_motion_type(coding, macroblock.kind), 2)
+        + vectors_bits(coding.f_code[0], macroblock.forward.as_slice())
         + vectors_bits(coding.f_code[1], macroblock.backward.as_slice())
         + bits_where(has_concealment(coding, macroblock.kind), 1)
 }
 
-// coded_block_pattern and the blocks.
-fn coefficients_bits(coding: &PicCoding, macroblock: &Macroblock) -> u32
-    ensures value { result ≡ length (written_coefficients coding.now macroblock.now) }
-    ensures few { result ≤ 24024 }
+// The DC coefficients of an intra macroblock.
+fn dc_bits(coding: &PicCoding, macroblock: &Macroblock) -> u32
+    ensures value { result ≡ dc_length coding.now macroblock.now }
+    ensures few { result ≤ 24000 }
 {
-    pattern_bits(macroblock.kind.pattern, macroblock.pattern) + blocks_bits(coding, macroblock)
-}
-
-// coded_block_pattern where it stands.
-fn pattern_bits(stands: bool, pattern: u8) -> u32
-    ensures value { result ≡ length (if stands then code_for Pattern pattern else []) }
-    ensures few { result ≤ 24 }
-{
-    if stands {
-        code_bits(TableName::Pattern, u16::from(pattern))
+    if macroblock.kind.intra {
+        dc_blocks_bits(coding, macroblock)
     } else {
         0
     }
+}
+
+// The DC coefficient of each block, with the end of the block.
+fn dc_blocks_bits(coding: &PicCoding, macroblock: &Macroblock) -> u32
+    ensures value { result ≡ length (flat_map (λ i. let block : BlockOf = slice_index_or macroblock.now.blocks i no_block in
+        written_dc_block (way_of_block coding.now macroblock.now.kind i) block.dc) (range_with_len 0 BLOCKS)) }
+    ensures few { result ≤ 24000 }
+{
+    let mut bits = 0;
+    for i in 0..BLOCKS {
+        bits += dc_bits_at(coding, macroblock, i);
+    }
+    bits
+}
+
+fn dc_bits_at(coding: &PicCoding, macroblock: &Macroblock, i: usize) -> u32
+    requires block { i < BLOCKS }
+    ensures value { result ≡ (let block : BlockOf = slice_index_or macroblock.now.blocks i no_block in length (written_dc_block (way_of_block coding.now macroblock.now.kind i) block.dc)) }
+    ensures few { result ≤ 4000 }
+{
+    dc_block_bits(
+        block_way(coding, macroblock.kind, i),
+        macroblock.blocks[i].dc,
+    )
 }
 
 // The coded blocks in order.

@@ -3,6 +3,7 @@ ghost use Rattle.std.specs.Prelude.{◌≡◌, ◌≤◌, length, IsTrue};
 ghost use Rattle.prefix_codes.specs.TableName.{is_coefficients};
 ghost use Rattle.picture_grammar.specs.Block.{coefficient_table, dc_table, first_place};
 ghost use Rattle.picture_grammar.specs.Written.{code_for, if_any, written_block, written_coefficient, written_coefficients, written_dc};
+ghost use Rattle.macroblock_writer.specs.Parts.{written_dc_block};
 
 use picture_grammar::escape::{LEVEL_BITS, RUN_BITS};
 use prefix_codes::{TableName, code_of, coefficient_code, symbol};
@@ -14,6 +15,14 @@ pub fn block_bits(way: BlockWay, block: &Block) -> u32
     ensures few { result ≤ 4000 }
 {
     dc_bits(way, block.dc) + coefficients_bits(way, block.pairs.as_slice())
+}
+
+/// The bits of a block with this DC coefficient and no other one, its end among them.
+pub fn dc_block_bits(way: BlockWay, dc: Option<Dc>) -> u32
+    ensures value { result ≡ length (written_dc_block way dc) }
+    ensures few { result ≤ 4000 }
+{
+    dc_bits(way, dc) + code_bits(first_table(way), symbol::END_OF_BLOCK)
 }
 
 // The size by its table, and so many bits.

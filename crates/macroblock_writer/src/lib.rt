@@ -2,12 +2,14 @@
 //!
 //! `write_macroblock` and `write_slice` put the written spelling of a part into a `BitWriter`, for each part that some bits
 //! spell by the grammar of `picture_grammar`: the tables' code wherever there is one, and nothing else. What is written is
-//! read as that part again. `macroblock_bits` counts the bits that a macroblock is written in. No call takes memory. Stands on `block_coeffs`, `bit_cursor`, `prefix_codes`, `syntax_types`
-//! and `picture_grammar`, with the laws of `picture_laws`.
+//! read as that part again. `macroblock_bits` counts the bits that a macroblock is written in; `head_bits` and
+//! `motion_and_dc_bits` those of its parts but for the other coefficients. No call takes memory. Stands on `block_coeffs`,
+//! `bit_cursor`, `prefix_codes`, `syntax_types` and `picture_grammar`, with the laws of `picture_laws`.
 #![tactic(auto)]
 
 mod bit_counts;
 mod block_counts;
+mod head_counts;
 mod increment;
 mod macroblock;
 mod modes;
@@ -15,6 +17,7 @@ mod slice;
 mod vector_counts;
 mod vectors;
 
-pub use bit_counts::macroblock_bits;
+pub use bit_counts::{macroblock_bits, motion_and_dc_bits};
+pub use head_counts::head_bits;
 pub use macroblock::write_macroblock;
 pub use slice::write_slice;

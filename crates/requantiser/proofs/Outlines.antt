@@ -20,18 +20,20 @@ use Rattle.syntax_types.specs.declared.picture.SeqState.{SeqState}
 use Rattle.picture_grammar.specs.Block.{coefficient_table, first_place}
 use Rattle.picture_grammar.specs.Macroblock.{block_way, f_codes, has_concealment, has_dct_type, has_motion_type, no_block, type_symbol, type_table}
 use Rattle.picture_grammar.specs.Written.{code_for, if_any, written_block, written_coded_block, written_coefficient, written_coefficients, written_dc, written_increment, written_macroblock, written_vector}
+use Rattle.requantiser.specs.declared.head.Head.{Head}
+use Rattle.requantiser.specs.declared.outline.Outline.{Outline}
+use Rattle.requantiser.specs.declared.outline.Outline.TheVariants.{Coded, Skipped}
 use Rattle.requantiser.specs.declared.outline.Outlined.{Outlined}
 use Rattle.requantiser.specs.declared.tally.Tally.{Tally}
 use Rattle.requantiser.specs.declared.version_state.VersionState.{VersionState}
 use Rattle.requantiser.specs.Distortion.{coefficient_of_macroblock, difference_of}
 use Rattle.requantiser.specs.Macroblocks.{IsCoarserAt, is_empty_block, pattern_of}
-use Rattle.requantiser.specs.Tallies.{IsOutlined, IsTallyOf, bits_beyond}
-use Rattle.requantiser.specs.VersionState.{made_of}
+use Rattle.requantiser.specs.Tallies.{IsOutlined, IsTallyOf, bits_beyond, outline_of, outline_under, told_by}
 use Rattle.requantiser.specs.Private.Changes.{coefficient_of_blocks}
 use Rattle.requantiser.specs.Private.Shapes.{HasShape}
 use Rattle.requantiser.specs.Private.Sums.{sum_from}
-use Rattle.requantiser.specs.Private.Tallies.{bits_of_block, outline_of}
-use Rattle.requantiser.specs.Private.Walk.{are_empty, coarsened_block, coarsened_blocks, coarsened_macroblock, is_coded_without_motion, kept_blocks, made_blocks, mapped_code, with_blocks, with_pattern}
+use Rattle.requantiser.specs.Private.Tallies.{bits_of_block}
+use Rattle.requantiser.specs.Private.Walk.{are_empty, coarsened_block, coarsened_blocks, coarsened_macroblock, head_with, is_coded_without_motion, kept_blocks, made_blocks, mapped_code, with_blocks, with_pattern}
 use Rattle.requantiser.proofs.MadeChanges.{emptied_changes, made_changes, not_failed}
 use Rattle.requantiser.proofs.Macroblocks.{coarsened_blocks-are, coarsened_macroblock-is, coarsened_macroblock-made, empty_items, get_or-coarsened, same_blocks}
 use Rattle.requantiser.proofs.MappedCodes.{mapped_code-is, one_mapped}
@@ -173,7 +175,7 @@ one-length coding m = length-append (written_macroblock coding m) [] ∙ omega a
 
 -- ---- what becomes of a macroblock
 
-module _ (seq : SeqState) (coding : PicCoding) (inner : Bool) (from : Macroblock) (before behind : VersionState) (tally : Tally) (outlined : Outlined) (to : Macroblock)
+module _ (seq : SeqState) (coding : PicCoding) (inner : Bool) (from : Macroblock) (before behind : VersionState) (tally : Tally) (outlined : Outlined) (lent : Macroblock)
     (shape : HasShape from) (tallied : IsTallyOf seq coding (unwrap_or from.code before.source_code) before.m from tally) where
   code : ℕ
   code = unwrap_or from.code before.source_code
@@ -204,12 +206,12 @@ module _ (seq : SeqState) (coding : PicCoding) (inner : Bool) (from : Macroblock
   unfolding sum_from
   bits_are = tallied.bits ∙ ap (λ bs. sum_from (bits_of_block coding from.kind bs) 0 6) blocks_are
 
-  pub coded_outlined : (is_coded_without_motion from.kind && (tally.pattern == 0)) ≡ false
-      → to ≡ with_pattern coding tally.target.code before.version_code (before.skipped + from.skipped_before) (if from.kind.intra then 0 else tally.pattern) from (map outline_of from.blocks)
-      → behind.m ≡ before.m → behind.source_code ≡ unwrap_or from.code before.source_code → behind.version_code ≡ unwrap_or to.code before.version_code → behind.skipped ≡ 0
-      → outlined.coded ≡ true → outlined.bits ≡ tally.bits → outlined.distortion ≡ tally.distortion
-      → IsOutlined seq coding inner from before behind outlined to
-  coded_outlined stays to_is ratio source_code version_code skipped coded bits distortion =
+  pub coded_outlined : (head : Head) → (is_coded_without_motion from.kind && (tally.pattern == 0)) ≡ false
+      → head ≡ head_with from.kind.intra tally.target.code before.version_code (before.skipped + from.skipped_before) (if from.kind.intra then 0 else tally.pattern)
+      → behind.m ≡ before.m → behind.source_code ≡ unwrap_or from.code before.source_code → behind.version_code ≡ unwrap_or head.code before.version_code → behind.skipped ≡ 0
+      → outlined.outline ≡ Coded head → outlined.bits ≡ tally.bits → outlined.distortion ≡ tally.distortion
+      → IsOutlined seq coding inner from before behind outlined lent
+  coded_outlined head stays head_is ratio source_code version_code skipped coded bits distortion =
       let in_force : ℕ = unwrap_or from.code before.source_code in
       let mapped : ℕ = tally.target.code in
       let gap : ℕ = before.skipped + from.skipped_before in
@@ -220,7 +222,9 @@ module _ (seq : SeqState) (coding : PicCoding) (inner : Bool) (from : Macroblock
       coarsened_macroblock-made seq coding before.m inner in_force mapped before.version_code gap from (Some made) mapped_is some in
       let patterns : (if from.kind.intra then 0 else tally.pattern) ≡ (if from.kind.intra then 0 else pattern_of made) = ap (λ n. if from.kind.intra then 0 else n) pattern_is in
       let outline : Macroblock = with_pattern coding mapped before.version_code gap (if from.kind.intra then 0 else tally.pattern) from (map outline_of from.blocks) in
-      let codes : to.code ≡ whole.code = ap (λ (m : Macroblock). m.code) to_is
+      let to : Macroblock = outline_under coding from head in
+      let to_is : to ≡ outline = ap (outline_under coding from) head_is in
+      let codes : head.code ≡ whole.code = ap (λ (m : Macroblock). m.code) to_is
       ∙ ap (λ p. let m : Macroblock = with_pattern coding mapped before.version_code gap p from made in m.code) patterns in
       record {
         made = Some whole;
@@ -245,14 +249,14 @@ module _ (seq : SeqState) (coding : PicCoding) (inner : Bool) (from : Macroblock
           one-length coding to,
           ap (λ (m : Macroblock). length (written_macroblock coding m)) to_is,
           outline-length seq coding in_force mapped before.version_code gap (if from.kind.intra then 0 else tally.pattern) from shape.six patterns,
-          ap (λ b. length (flat_map (written_macroblock coding) (option_to_list (made_of b to)))) coded,
+          ap (λ (o : Outline). length (flat_map (written_macroblock coding) (option_to_list (told_by coding from lent o)))) coded,
         );
       }
 
   pub skipped_outlined : (is_coded_without_motion from.kind && (tally.pattern == 0)) ≡ true → inner ≡ true
       → behind.m ≡ before.m → behind.source_code ≡ unwrap_or from.code before.source_code → behind.version_code ≡ before.version_code → behind.skipped ≡ before.skipped + from.skipped_before + 1
-      → outlined.coded ≡ false → outlined.bits ≡ 0 → outlined.distortion ≡ tally.distortion
-      → IsOutlined seq coding inner from before behind outlined to
+      → outlined.outline ≡ Skipped → outlined.bits ≡ 0 → outlined.distortion ≡ tally.distortion
+      → IsOutlined seq coding inner from before behind outlined lent
   skipped_outlined emptied is_inner ratio source_code version_code skipped coded bits distortion =
       let in_force : ℕ = unwrap_or from.code before.source_code in
       let mapped : ℕ = tally.target.code in
@@ -270,5 +274,5 @@ module _ (seq : SeqState) (coding : PicCoding) (inner : Bool) (from : Macroblock
         state = record { ratio = ratio; source_code = source_code; version_code = version_code; skipped = skipped; placed = tt };
         difference = distortion ∙ moved ∙ emptied_changes seq coding from.kind mapped source made empty
             ∙ ap (λ a. difference_of (coefficient_of_macroblock seq coding a (Some from)) (λ i index. pos 0)) (sym source_code);
-        bits = omega (arith, bits, ap (λ b. length (flat_map (written_macroblock coding) (option_to_list (made_of b to)))) coded);
+        bits = omega (arith, bits, ap (λ (o : Outline). length (flat_map (written_macroblock coding) (option_to_list (told_by coding from lent o)))) coded);
       }

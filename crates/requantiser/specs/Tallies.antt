@@ -1,18 +1,22 @@
 -- What is counted of the coefficients of a macroblock in a version that isn't made, and what becomes of the macroblock there.
-use Rattle.std.specs.Prelude.{◌≡◌, ◌≤◌, ◌+◌, ◌-◌, ◌^◌, ℕ, Option, Some, List, [], length, slice_index_or, Bool}
+use Rattle.std.specs.Prelude.{◌≡◌, ◌≤◌, ◌+◌, ◌-◌, ◌^◌, ◌==◌, ◌&&◌, ℕ, not, Option, Some, None, is_some, List, [], length, map, slice_index_or, Bool}
 use Rattle.std.specs.Option.{option_to_list}
 use Rattle.std.specs.List.{flat_map, range_with_len, sum_by}
 use Rattle.quant_math.specs.Scales.{IsMappedCode}
 use Rattle.syntax_types.specs.declared.block.Block.{Block}
 use Rattle.syntax_types.specs.declared.block.BlockWay.{BlockWay}
 use Rattle.syntax_types.specs.declared.block.RunLevel.{RunLevel}
+use Rattle.syntax_types.specs.declared.macroblock.Kind.{Kind}
 use Rattle.syntax_types.specs.declared.macroblock.Macroblock.{Macroblock}
 use Rattle.syntax_types.specs.declared.macroblock.TheConstants.{BLOCKS}
 use Rattle.syntax_types.specs.declared.picture.PicCoding.{PicCoding}
 use Rattle.syntax_types.specs.declared.picture.SeqState.{SeqState}
 use Rattle.picture_grammar.specs.Block.{first_place}
-use Rattle.picture_grammar.specs.Macroblock.{block_way, no_block}
+use Rattle.picture_grammar.specs.Macroblock.{block_way, has_dct_type, no_block}
 use Rattle.picture_grammar.specs.Written.{written_coefficients, written_macroblock}
+use Rattle.requantiser.specs.declared.head.Head.{Head}
+use Rattle.requantiser.specs.declared.outline.Outline.{Outline}
+use Rattle.requantiser.specs.declared.outline.Outline.TheVariants.{Coded, Kept, Skipped}
 use Rattle.requantiser.specs.declared.outline.Outlined.{Outlined}
 use Rattle.requantiser.specs.declared.tally.Tally.{Tally}
 use Rattle.requantiser.specs.declared.version_state.VersionState.{VersionState}
@@ -20,7 +24,7 @@ use Rattle.requantiser.specs.Blocks.{AreCoarserBlocks}
 use Rattle.requantiser.specs.Distortion.{coefficient_of_macroblock, difference_of}
 use Rattle.requantiser.specs.Levels.{coefficient_at, place_of}
 use Rattle.requantiser.specs.Macroblocks.{IsCoarserAt, pattern_of}
-use Rattle.requantiser.specs.VersionState.{IsStateBehind, made_of}
+use Rattle.requantiser.specs.VersionState.{IsStateBehind}
 
 -- in how many bits more the coefficients of a block are written than none (ISO/IEC 13818-2, 6.2.6)
 abbrev pub bits_beyond : BlockWay → List RunLevel → ℕ
@@ -41,13 +45,41 @@ pub record IsTallyOf (seq : SeqState) (coding : PicCoding) (code m : ℕ) (from 
       (λ i index. coefficient_at seq coding (block_way coding from.kind i) tally.target.code (slice_index_or blocks i no_block) (place_of coding.alternate_scan index))
   pub small : tally.distortion ≤ 2 ^ 41
 
+-- macroblock_type under a head: the source's, but that a code and a pattern stand where the head has them
+abbrev pub kind_under : Kind → Head → Kind
+kind_under kind head = record kind { quant = is_some head.code; pattern = not (head.pattern == 0) }
+
+-- a block without its coefficients
+abbrev pub outline_of : Block → Block
+outline_of block = record { dc = block.dc; pairs = record { items = [] } }
+
+-- the macroblock of a version with this head, but without its coefficients: the source's motion and its DC coefficients
+abbrev pub outline_under : PicCoding → Macroblock → Head → Macroblock
+outline_under coding from head = record {
+  skipped_before = head.skipped_before;
+  kind = kind_under from.kind head;
+  motion_type = from.motion_type;
+  field_dct = has_dct_type coding (kind_under from.kind head) && from.field_dct;
+  code = head.code;
+  forward = from.forward;
+  backward = from.backward;
+  pattern = head.pattern;
+  blocks = map outline_of from.blocks;
+}
+
+-- what an outline tells of the macroblock, where one was lent to be written whole
+abbrev pub told_by : PicCoding → Macroblock → Macroblock → Outline → Option Macroblock
+told_by coding from lent (Coded head) = Some (outline_under coding from head)
+told_by coding from lent Kept = Some lent
+told_by coding from lent Skipped = None
+
 -- What becomes of a macroblock in a version, told by an outline of it: what is made is written in so many bits more than
 -- the outline, and skipped where there is none. The state and the distortion are those of the step that makes it.
-pub record IsOutlined (seq : SeqState) (coding : PicCoding) (inner : Bool) (from : Macroblock) (before behind : VersionState) (outlined : Outlined) (outline : Macroblock) : Type 0 where
+pub record IsOutlined (seq : SeqState) (coding : PicCoding) (inner : Bool) (from : Macroblock) (before behind : VersionState) (outlined : Outlined) (lent : Macroblock) : Type 0 where
   pub made : Option Macroblock
   pub at : IsCoarserAt seq coding before.m inner before.source_code before.version_code (Some from) made
   pub state : IsStateBehind from made before behind
   pub difference : outlined.distortion ≡ difference_of (coefficient_of_macroblock seq coding behind.source_code (Some from))
       (coefficient_of_macroblock seq coding behind.version_code made)
   pub bits : length (flat_map (written_macroblock coding) (option_to_list made))
-      ≡ length (flat_map (written_macroblock coding) (option_to_list (made_of outlined.coded outline))) + outlined.bits
+      ≡ length (flat_map (written_macroblock coding) (option_to_list (told_by coding from lent outlined.outline))) + outlined.bits

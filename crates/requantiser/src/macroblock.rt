@@ -8,10 +8,11 @@ ghost use Rattle.requantiser.specs.Levels.{HasWeights};
 ghost use Rattle.requantiser.specs.Macroblocks.{pattern_of as pattern_of_blocks};
 ghost use Rattle.requantiser.specs.Private.Changes.{coefficient_of_blocks, coefficient_of_made};
 ghost use Rattle.requantiser.specs.Private.Shapes.{FitBlock, HasShape, IsMeasured};
-ghost use Rattle.requantiser.specs.Private.Walk.{coarsened_blocks, made_blocks, kept_blocks, first_of, first_coded as first_coded_block, are_empty as are_all_empty, is_coded_without_motion as stands_without_motion, with_blocks, with_pattern};
+ghost use Rattle.requantiser.specs.Private.Walk.{coarsened_blocks, made_blocks, kept_blocks, first_of, first_coded as first_coded_block, are_empty as are_all_empty, is_coded_without_motion as stands_without_motion, with_blocks};
 
 use crate::block::coarsen_block;
 use crate::codes::Codes;
+use crate::head::Head;
 use arrayvec::ArrayVec;
 use picture_grammar::stands::{block_way, has_dct_type, is_coded};
 use quant_math::map_code;
@@ -169,47 +170,24 @@ pub fn write_head(
     ensures head { to.new ≡ with_blocks coding.now mapped before skipped from.now to.old.blocks }
     ensures code { (code : ℕ) → to.new.code ≡ Option.Some code → IsCode code }
 {
-    let pattern = if from.kind.intra {
-        0
-    } else {
-        pattern_of(&to.blocks)
-    };
-    write_head_with(coding, mapped, before, skipped, pattern, from, to);
-}
-
-/// The same where the pattern is known.
-pub fn write_head_with(
-    coding: &PicCoding,
-    mapped: u8,
-    before: u8,
-    skipped: u16,
-    pattern: u8,
-    from: &Macroblock,
-    to: &mut Macroblock,
-)
-    requires { IsCode mapped }
-    ensures head { to.new ≡ with_pattern coding.now mapped before skipped pattern from.now to.old.blocks }
-    ensures code { (code : ℕ) → to.new.code ≡ Option.Some code → IsCode code }
-{
-    let has_coefficients = from.kind.intra || pattern != 0;
-    let code = if has_coefficients && mapped != before {
-        Some(mapped)
-    } else {
-        None
-    };
-    let kind = Kind {
-        quant: code.is_some(),
-        pattern: pattern != 0,
-        ..from.kind
-    };
-    to.skipped_before = skipped;
+    let pattern = written_pattern(from.kind.intra, pattern_of(&to.blocks));
+    let head = Head::new(from.kind.intra, mapped, before, skipped, pattern);
+    let kind = head.kind(from.kind);
+    to.skipped_before = head.skipped_before;
     to.kind = kind;
     to.motion_type = from.motion_type;
     to.field_dct = has_dct_type(coding, kind) && from.field_dct;
-    to.code = code;
+    to.code = head.code;
     copy_vectors(&from.forward, &mut to.forward);
     copy_vectors(&from.backward, &mut to.backward);
-    to.pattern = pattern;
+    to.pattern = head.pattern;
+}
+
+/// The pattern that a macroblock says, which an intra one has none of.
+pub fn written_pattern(intra: bool, pattern: u8) -> u8
+    ensures { result ≡ (if intra then 0 else pattern) }
+{
+    if intra { 0 } else { pattern }
 }
 
 /// coded_block_pattern: a bit for each block, the first one the most significant (ISO/IEC 13818-2, 6.3.17.4).

@@ -1,32 +1,43 @@
-//! What becomes of a macroblock in a version whose coefficients were counted, told by an outline: the macroblock without
-//! its coefficients.
-ghost use Rattle.std.specs.Prelude.{◌≡◌, ◌<◌, ◌≤◌, ◌+◌, ◌^◌, ◌==◌, ◌&&◌, map, unwrap_or, if◌then◌else◌};
+//! What becomes of a macroblock in a version in which its coefficients were counted, told by its head there.
+ghost use Rattle.std.specs.Prelude.{◌≡◌, ◌<◌, ◌≤◌, ◌+◌, ◌^◌, ◌==◌, ◌&&◌, unwrap_or};
 ghost use Rattle.requantiser.specs.Levels.{HasWeights};
-ghost use Rattle.requantiser.specs.Tallies.{IsOutlined, IsTallyOf};
-ghost use Rattle.requantiser.specs.VersionState.{IsSpelledMacroblock};
-ghost use Rattle.requantiser.specs.Private.Tallies.{outline_of};
+ghost use Rattle.syntax_types.specs.declared.macroblock.Macroblock.{Macroblock as MacroblockOf};
+ghost use Rattle.syntax_types.specs.declared.picture.PicCoding.{PicCoding as CodingOf};
+ghost use Rattle.requantiser.specs.Tallies.{IsOutlined, IsTallyOf, told_by};
+ghost use Rattle.requantiser.specs.VersionState.{IsSpelledMacroblock, made_of};
 ghost use Rattle.requantiser.specs.Private.Walk.{is_coded_without_motion as stands_without_motion};
 
-use crate::macroblock::{is_coded_without_motion, write_head_with};
+use crate::head::Head;
+use crate::macroblock::{is_coded_without_motion, written_pattern};
 use crate::step::{coarsen_macroblock, code_in_force};
 use crate::tally::Tally;
 use crate::version_state::VersionState;
-use syntax_types::{BLOCKS, Block, Kind, Macroblock, PicCoding, SeqState};
+use syntax_types::{Kind, Macroblock, PicCoding, SeqState};
 
-/// What became of a macroblock in a version, beside its outline.
+/// What becomes of a macroblock in a version in which its coefficients were counted.
+#[derive(Clone, Copy)]
+pub enum Outline {
+    /// It is coded, with this head and the coefficients that were counted.
+    Coded(Head),
+    /// It is coded with one coefficient, which is kept, and was written whole.
+    Kept,
+    /// It is skipped.
+    Skipped,
+}
+
+/// A macroblock in a version, and what was counted of it.
 #[derive(Clone, Copy)]
 pub struct Outlined {
-    /// It is coded there, and not skipped.
-    pub coded: bool,
+    pub outline: Outline,
     /// The bits in which it is written beyond its outline.
     pub bits: u32,
     /// The sum of the squares of the differences of its coefficients.
     pub distortion: u64,
 }
 
-/// Writes an outline of what becomes of a macroblock that some bits spell into one that is lent, where its coefficients
-/// were counted in the version. What is made is as with `coarsen_macroblock`, which it takes as long as this in the one
-/// case where a coefficient is kept.
+/// Says what becomes of a macroblock that some bits spell, where its coefficients were counted in the version. The state
+/// goes on as with `coarsen_macroblock`. Only in the one case where a coefficient is kept, which takes as long as that,
+/// the macroblock is written, into one that is lent.
 pub fn outline_macroblock(
     seq: &SeqState,
     coding: &PicCoding,
@@ -49,68 +60,53 @@ pub fn outline_macroblock(
             state.source_code = code_in_force(from.code, state.source_code);
             state.skipped = state.skipped + from.skipped_before + 1;
             return Outlined {
-                coded: false,
+                outline: Outline::Skipped,
                 bits: 0,
                 distortion: tally.distortion,
             };
         }
         let made = coarsen_macroblock(seq, coding, inner, state, from, to);
         return Outlined {
-            coded: made.coded,
+            outline: whole(made.coded),
             bits: 0,
             distortion: made.distortion,
         };
     }
     let skipped = state.skipped + from.skipped_before;
     let pattern = written_pattern(from.kind.intra, tally.pattern);
-    state.source_code = code_in_force(from.code, state.source_code);
-    outline_blocks(&from.blocks, &mut to.blocks);
     let mapped = tally.target.code;
-    write_head_with(
-        coding,
+    let head = Head::new(
+        from.kind.intra,
         mapped,
         state.version_code,
         skipped,
         pattern,
-        from,
-        to,
     );
-    state.version_code = code_in_force(to.code, state.version_code);
+    state.source_code = code_in_force(from.code, state.source_code);
+    state.version_code = code_in_force(head.code, state.version_code);
     state.skipped = 0;
     Outlined {
-        coded: true,
+        outline: Outline::Coded(head),
         bits: tally.bits,
         distortion: tally.distortion,
     }
 }
 
 /// A macroblock without motion has no coefficients left, if this is the pattern of its blocks.
+#[inline]
 fn would_be_emptied(kind: Kind, pattern: u8) -> bool
     ensures { result ≡ (stands_without_motion kind && (pattern == 0)) }
 {
     is_coded_without_motion(kind) && pattern == 0
 }
 
-/// The pattern that a macroblock says, which an intra one has none of.
-fn written_pattern(intra: bool, pattern: u8) -> u8
-    ensures { result ≡ (if intra then 0 else pattern) }
+/// What became of a macroblock that was coarsened, if it is coded.
+fn whole(coded: bool) -> Outline
+    ensures { (coding : CodingOf) (from lent : MacroblockOf) → told_by coding from lent result ≡ made_of coded lent }
 {
-    if intra { 0 } else { pattern }
-}
-
-/// Writes blocks without their coefficients.
-fn outline_blocks(from: &[Block; BLOCKS], to: &mut [Block; BLOCKS])
-    ensures { to.new ≡ map outline_of from.now }
-{
-    for i in 0..BLOCKS {
-        outline_block(&from[i], &mut to[i]);
+    if coded {
+        Outline::Kept
+    } else {
+        Outline::Skipped
     }
-}
-
-/// Writes a block without its coefficients.
-fn outline_block(from: &Block, to: &mut Block)
-    ensures { to.new ≡ outline_of from.now }
-{
-    to.dc = from.dc;
-    to.pairs.clear();
 }

@@ -2,6 +2,7 @@ pub mod Examples
 pub mod Counts
 pub mod Infos
 pub mod Lists
+pub mod OutlineCounts
 pub mod Units
 pub mod SliceSteps
 pub mod SizedSlices

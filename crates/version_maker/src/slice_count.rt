@@ -5,15 +5,17 @@ ghost use Rattle.std.specs.Option.{option_to_list};
 ghost use Rattle.quant_math.specs.Scales.{IsCode};
 ghost use Rattle.picture_grammar.specs.Written.{written_macroblock, written_slice_info};
 ghost use Rattle.requantiser.specs.Levels.{HasWeights};
+ghost use Rattle.macroblock_writer.specs.Parts.{dc_length, head_length, motion_length};
 ghost use Rattle.requantiser.specs.declared.tally.Tally.{Tally as TallyOf};
-ghost use Rattle.requantiser.specs.VersionState.{IsSpelledMacroblock, made_of};
+ghost use Rattle.requantiser.specs.Tallies.{kind_under, told_by};
+ghost use Rattle.requantiser.specs.VersionState.{IsSpelledMacroblock};
 ghost use Rattle.version_maker.specs.declared.slice_count.VersionCount.{VersionCount as CountOf};
 ghost use Rattle.version_maker.specs.Private.Counts.{CanCount, IsCountedMacroblock, IsStartCount};
 
-use macroblock_writer::macroblock_bits;
+use macroblock_writer::{head_bits, macroblock_bits, motion_and_dc_bits};
 use quant_math::WHOLE_RATIO;
-use requantiser::{Tally, VERSIONS_AT_ONCE, VersionState, outline_macroblock};
-use syntax_types::{Macroblock, PicCoding, SeqState, SliceInfo};
+use requantiser::{Head, Outline, Tally, VERSIONS_AT_ONCE, VersionState, outline_macroblock};
+use syntax_types::{Kind, Macroblock, PicCoding, SeqState, SliceInfo};
 
 /// Where one version stands in a slice, and what was counted of it.
 #[derive(Clone, Copy)]
@@ -112,41 +114,80 @@ pub fn count_macroblock(
     requires each { (k : ℕ) (d : CountOf) (e : TallyOf) → k < count → CanCount seq.now coding.now from.now (slice_index_or tallies.now k e) (slice_index_or counts.old k d) }
     ensures { (k : ℕ) (d : CountOf) → k < count → IsCountedMacroblock seq.now coding.now inner from.now (slice_index_or counts.old k d) (slice_index_or counts.new k d) }
 {
+    let shared = motion_and_dc_bits(coding, from);
     for k in 0..count {
-        count_version(seq, coding, inner, from, tallies[k], lent, &mut counts[k]);
+        count_version(
+            seq,
+            coding,
+            inner,
+            from,
+            shared,
+            tallies[k],
+            lent,
+            &mut counts[k],
+        );
     }
 }
 
-/// Counts what becomes of one more macroblock in a version, through one that is lent.
+/// Counts what becomes of one more macroblock in a version, through one that is lent. Its motion and its DC coefficients are
+/// the same in all versions, in so many bits.
 fn count_version(
     seq: &SeqState,
     coding: &PicCoding,
     inner: bool,
     from: &Macroblock,
+    shared: u32,
     tally: Tally,
     lent: &mut Macroblock,
     count: &mut VersionCount,
 )
     requires weights { HasWeights seq.now }
     requires spelled { IsSpelledMacroblock coding.now from.now }
+    requires shared { shared ≡ motion_length coding.now from.now + dc_length coding.now from.now }
+    requires few { shared ≤ 2 ^ 15 }
     requires can { CanCount seq.now coding.now from.now tally count.old }
     ensures { IsCountedMacroblock seq.now coding.now inner from.now count.old count.new }
 {
     let made = outline_macroblock(seq, coding, inner, tally, &mut count.state, from, lent);
-    count.bits += u64::from(bits_made(coding, made.coded, lent) + made.bits);
+    let outline = outline_bits(coding, from, shared, made.outline, lent);
+    count.bits += u64::from(outline + made.bits);
     count.distortion += made.distortion;
 }
 
-/// The bits of a macroblock where it is coded, and none where it is skipped.
-fn bits_made(coding: &PicCoding, coded: bool, made: &Macroblock) -> u32
-    ensures value { result ≡ length (flat_map (written_macroblock coding.now) (option_to_list (made_of coded made.now))) }
+/// The bits of what an outline tells of a macroblock, whose motion and DC coefficients are written in so many.
+fn outline_bits(
+    coding: &PicCoding,
+    from: &Macroblock,
+    shared: u32,
+    outline: Outline,
+    lent: &Macroblock,
+) -> u32
+    requires spelled { IsSpelledMacroblock coding.now from.now }
+    requires shared { shared ≡ motion_length coding.now from.now + dc_length coding.now from.now }
+    requires few { shared ≤ 2 ^ 15 }
+    ensures value { result ≡ length (flat_map (written_macroblock coding.now) (option_to_list (told_by coding.now from.now lent.now outline))) }
     ensures few { result < 2 ^ 17 }
 {
-    if coded {
-        macroblock_bits(coding, made)
-    } else {
-        0
+    match outline {
+        Outline::Coded(head) => head_in_version(coding, from.kind, head) + shared,
+        Outline::Kept => macroblock_bits(coding, lent),
+        Outline::Skipped => 0,
     }
+}
+
+/// The bits of a macroblock's head in a version, where it is of this kind in the source.
+#[inline]
+fn head_in_version(coding: &PicCoding, source: Kind, head: Head) -> u32
+    ensures value { result ≡ head_length coding.now head.skipped_before (kind_under source head) head.code head.pattern }
+    ensures few { result ≤ 2 ^ 16 + 54 }
+{
+    head_bits(
+        coding,
+        head.skipped_before,
+        head.kind(source),
+        head.code,
+        head.pattern,
+    )
 }
 
 /// The bits of slice_extension_flag and of what it calls for.

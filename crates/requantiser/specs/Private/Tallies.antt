@@ -118,10 +118,6 @@ EachWent count P before behind = (k : ℕ) (d : Tally) → k < count → P (slic
 
 -- ---- a macroblock
 
--- a block without its coefficients
-abbrev pub outline_of : Block → Block
-outline_of block = record { dc = block.dc; pairs = record { items = [] } }
-
 -- in how many bits more a block is written than without coefficients
 abbrev pub bits_of_block : PicCoding → Kind → List Block → ℕ → ℕ
 bits_of_block coding kind blocks i = let block : Block = slice_index_or blocks i no_block in bits_beyond (block_way coding kind i) block.pairs.items

@@ -44,6 +44,7 @@ use Rattle.syntax_types.specs.declared.picture.SeqState.{SeqState}
 use Rattle.syntax_types.specs.declared.slice.Slice.{Slice}
 use Rattle.picture_grammar.specs.Block.{first_place}
 use Rattle.picture_grammar.specs.Macroblock.{block_way, has_dct_type, is_coded, no_block}
+use Rattle.requantiser.specs.declared.head.Head.{Head}
 use Rattle.requantiser.specs.Blocks.{no_blocks, block_of_one}
 use Rattle.requantiser.specs.Levels.{weight_at, scale_of}
 use Rattle.requantiser.specs.Macroblocks.{is_empty_block, pattern_of}
@@ -102,6 +103,15 @@ is_coded_without_motion kind = kind.pattern && not kind.intra && not kind.forwar
 
 abbrev pub are_empty : List Block → Bool
 are_empty blocks = list_all is_empty_block blocks
+
+-- the head with this pattern behind so many skipped macroblocks, where the code before is `before` and its own would be
+-- `mapped`, which stands only where there are coefficients
+abbrev pub head_with : Bool → ℕ → ℕ → ℕ → ℕ → Head
+head_with intra mapped before skipped pattern = record {
+  skipped_before = skipped;
+  code = if (intra || not (pattern == 0)) && not (mapped == before) then Some mapped else None;
+  pattern = pattern;
+}
 
 -- the macroblock with this pattern and these blocks, behind so many skipped ones
 abbrev pub with_pattern : PicCoding → ℕ → ℕ → ℕ → ℕ → Macroblock → List Block → Macroblock

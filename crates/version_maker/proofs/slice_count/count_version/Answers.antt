@@ -1,4 +1,4 @@
-use Rattle.std.proofs.Common.{◌+◌, ℕ, refl, ap, ◌∙◌, arith}
+use Rattle.std.proofs.Common.{refl, arith}
 use Rattle.requantiser.specs.Steps.{Step}
 use Rattle.version_maker.proofs.slice_count.count_version.Goals as goal
 
@@ -13,8 +13,8 @@ returns c =
       is = record { at = outlined.at; state = outlined.state; difference = outlined.difference };
       counted = record {
         state = refl;
-        bits = omega (arith, c.from.ensures, c.bits_made.ensures.value, outlined.bits);
-        few = omega (arith, c.from.ensures, c.bits_made.ensures.few, made.ensures.few);
+        bits = omega (arith, c.from.ensures, c.outline_bits-outline.ensures.value, outlined.bits);
+        few = omega (arith, c.from.ensures, c.outline_bits-outline.ensures.few, made.ensures.few);
         distortion = refl;
         small = omega (arith, made.ensures.small);
       };

@@ -5,7 +5,7 @@ use Rattle.prefix_codes.specs.declared.symbol.TheConstants.{ADDRESS_ESCAPE}
 use Rattle.prefix_codes.specs.declared.table_name.TableName.TheVariants.{Address}
 use Rattle.picture_grammar.specs.Written.{code_for}
 use Rattle.macroblock_writer.proofs.Counts.{over_and_over}
-use Rattle.macroblock_writer.proofs.bit_counts.increment_bits.Goals as goal
+use Rattle.macroblock_writer.proofs.head_counts.increment_bits.Goals as goal
 
 pub returns-clause-value : goal.returns-clause-value
 returns-clause-value c =

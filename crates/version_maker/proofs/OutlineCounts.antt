@@ -1,0 +1,50 @@
+-- A macroblock's outline is as long as its head in the version, and its motion and DC coefficients in the source.
+use Rattle.std.proofs.Common.{◌≡◌, ℕ, zero, suc, ◌+◌, Some, List, [], ◌++◌, if◌then◌else◌, refl, ap, ap₂, ◌∙◌, length, get_or, length-append, arith}
+use Rattle.std.specs.Prelude.{map}
+use Rattle.std.specs.List.{flat_map, range_with_len}
+use Rattle.std.specs.Option.{option_to_list}
+use Rattle.syntax_types.specs.declared.block.Block.{Block}
+use Rattle.syntax_types.specs.declared.macroblock.Macroblock.{Macroblock}
+use Rattle.syntax_types.specs.declared.picture.PicCoding.{PicCoding}
+use Rattle.picture_grammar.specs.Macroblock.{block_way, no_block}
+use Rattle.picture_grammar.specs.Written.{written_macroblock}
+use Rattle.macroblock_writer.specs.Parts.{HasDcAlone, dc_length, head_length, motion_length, written_dc_block}
+use Rattle.macroblock_writer.proofs.Parts.{alone-length}
+use Rattle.requantiser.specs.declared.head.Head.{Head}
+use Rattle.requantiser.specs.Tallies.{kind_under, outline_of, outline_under}
+use Rattle.requantiser.specs.VersionState.{IsSpelledMacroblock}
+use Rattle.requantiser.specs.Private.Shapes.{HasShape}
+use Rattle.requantiser.proofs.Outlines.{get_or-outlines}
+use Rattle.requantiser.proofs.Spelled.{walkable}
+
+outline-alone : (coding : PicCoding) (from : Macroblock) (head : Head) → HasShape from → HasDcAlone (outline_under coding from head)
+outline-alone coding from head shape = record {
+  none = λ i below. ap (λ (b : Block). b.pairs.items) (get_or-outlines from.blocks i);
+  no_dc = λ non_intra i below. ap (λ (b : Block). b.dc) (get_or-outlines from.blocks i) ∙ shape.no_dc non_intra i below;
+}
+
+same_flat : (f g : ℕ → List ℕ) (a n : ℕ) → ((i : ℕ) → f i ≡ g i) → flat_map f (range_with_len a n) ≡ flat_map g (range_with_len a n)
+same_flat f g a zero each = refl
+same_flat f g a (suc n) each = ap₂ (λ (xs ys : List ℕ). xs ++ ys) (each a) (same_flat f g (a + 1) n each)
+
+outline-dc : (coding : PicCoding) (from : Macroblock) (head : Head) → dc_length coding (outline_under coding from head) ≡ dc_length coding from
+outline-dc coding from head =
+    ap (λ (bits : List ℕ). if from.kind.intra then length bits else 0)
+    (same_flat
+    (λ i. let block : Block = get_or (map outline_of from.blocks) i no_block in written_dc_block (block_way coding (kind_under from.kind head) i) block.dc)
+    (λ i. let block : Block = get_or from.blocks i no_block in written_dc_block (block_way coding from.kind i) block.dc)
+    0 6
+    (λ i. ap (λ (b : Block). written_dc_block (block_way coding from.kind i) b.dc) (get_or-outlines from.blocks i)))
+
+pub outline-counted : (coding : PicCoding) (from : Macroblock) (head : Head) (shared : ℕ) → IsSpelledMacroblock coding from → shared ≡ motion_length coding from + dc_length coding from
+    → head_length coding head.skipped_before (kind_under from.kind head) head.code head.pattern + shared
+    ≡ length (flat_map (written_macroblock coding) (option_to_list (Some (outline_under coding from head))))
+outline-counted coding from head shared spelled is =
+    let outline : Macroblock = outline_under coding from head in
+    omega (
+      arith,
+      is,
+      outline-dc coding from head,
+      alone-length coding outline (outline-alone coding from head (walkable coding from spelled).shape),
+      length-append (written_macroblock coding outline) [],
+    )
