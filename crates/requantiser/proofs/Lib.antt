@@ -36,4 +36,5 @@ pub mod LawfulVersions
 pub mod Tallies
 pub mod BlockTallies
 pub mod Outlines
+pub mod Counted
 pub mod Rungs

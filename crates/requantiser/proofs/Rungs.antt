@@ -1,15 +1,28 @@
--- What levels become, told by other numbers of the same values.
-use Rattle.std.proofs.Common.{◌≡◌, ◌∙◌, ℕ, ℤ, Bool, ap, subst}
-use Rattle.requantiser.specs.declared.level.Rescaled.{Rescaled}
-use Rattle.requantiser.specs.Private.Rungs.{IsRescaled}
-use Rattle.requantiser.proofs.Tallies.{same_three}
+-- What levels become, kept under the number of their weight, scale and kind of block.
+use Rattle.std.proofs.Common.{◌≡◌, ℕ, ◌+◌, ◌*◌, ◌<◌, ℤ, List, Bool, true, false, refl, sym, subst, arith}
+use Rattle.std.specs.Prelude.{if◌then◌else◌}
+use Rattle.requantiser.specs.Private.Rungs.{AreRescaled, AreRescaledBy, way_number}
 
-pub same_five : {A : Type 0} (f : ℤ → ℕ → ℕ → ℕ → Bool → A) {l l' : ℤ} {w w' a a' b b' : ℕ} {c c' : Bool} → l ≡ l' → w ≡ w' → a ≡ a' → b ≡ b' → c ≡ c'
-    → f l w a b c ≡ f l' w' a' b' c'
-same_five f {l} {l'} {w} {w'} {a} {a'} {b} {b'} {c} {c'} o p q r s = ap (λ n. f n w a b c) o ∙ ap (λ n. f l' n a b c) p ∙ same_three (f l' w') q r s
+abbrev one : Bool → ℕ
+one b = if b then 1 else 0
 
--- what a level becomes, under the same scale and in the same kind of block
-pub rescaled_by : (level : ℤ) (weight from from' : ℕ) (intra intra' : Bool) (rescaled : Rescaled) → from ≡ from' → intra ≡ intra'
-    → IsRescaled level weight from intra rescaled → IsRescaled level weight from' intra' rescaled
-rescaled_by level weight from from' intra intra' rescaled f i is =
-    subst (λ n. IsRescaled level weight n intra' rescaled) f (subst (λ b. IsRescaled level weight from b rescaled) i is)
+one-most : (b : Bool) → one b < 2
+one-most true = omega arith
+one-most false = omega arith
+
+same_kind : (a b : Bool) → one a ≡ one b → a ≡ b
+same_kind true true is = refl
+same_kind true false is = absurd (omega (arith, is))
+same_kind false true is = absurd (omega (arith, is))
+same_kind false false is = refl
+
+-- no other weight, scale and kind of block have the number
+pub by_number : (level : ℤ) (weight from number : ℕ) (intra : Bool) (scales sizes squares : List ℕ) → weight < 256 → from < 256 → number ≡ way_number weight from intra
+    → AreRescaled level weight from intra scales sizes squares → AreRescaledBy level number scales sizes squares
+by_number level weight from number intra scales sizes squares w f is are weight' from' intra' w' f' is' =
+    let kind : one intra ≡ one intra' = omega (arith, is, is', w, f, w', f', one-most intra, one-most intra') in
+    let scale : from ≡ from' = omega (arith, is, is', w, f, w', f', kind) in
+    let same : weight ≡ weight' = omega (arith, is, is', kind, scale) in
+    subst (λ (n : ℕ). AreRescaled level n from' intra' scales sizes squares) same
+    (subst (λ (n : ℕ). AreRescaled level weight n intra' scales sizes squares) scale
+    (subst (λ (b : Bool). AreRescaled level weight from b scales sizes squares) (same_kind intra intra' kind) are))

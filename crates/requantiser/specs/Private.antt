@@ -6,3 +6,5 @@ pub mod Sums
 pub mod Walk
 pub mod Tallies
 pub mod Rungs
+pub mod Lengths
+pub mod Counts

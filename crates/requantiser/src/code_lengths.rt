@@ -1,23 +1,26 @@
 //! How many bits the codes of coefficients have.
-ghost use Rattle.std.specs.Prelude.{◌≡◌, ◌≤◌, length, IsTrue, if◌then◌else◌};
+ghost use Rattle.std.specs.Prelude.{◌≡◌, ◌<◌, ◌≤◌, length, IsTrue, if◌then◌else◌};
 ghost use Rattle.prefix_codes.specs.TableName.{is_coefficients};
 ghost use Rattle.prefix_codes.specs.declared.symbol.TheConstants.{END_OF_BLOCK};
 ghost use Rattle.prefix_codes.specs.declared.table_name.TableName.TheVariants.{CoeffZero};
-ghost use Rattle.picture_grammar.specs.Block.{coefficient_table};
-ghost use Rattle.picture_grammar.specs.Written.{code_for, written_coefficient};
+ghost use Rattle.picture_grammar.specs.Written.{code_for};
+ghost use Rattle.requantiser.specs.Private.Lengths.{length_by, table_number as number_of, table_numbered};
 
 use picture_grammar::escape::{LEVEL_BITS, RUN_BITS};
 use prefix_codes::{TableName, code_of, coefficient_code, symbol};
-use syntax_types::{BlockWay, RunLevel};
+use syntax_types::BlockWay;
+
+/// Tables of coefficients.
+pub const TABLES: usize = 3;
 
 /// The bits of a coefficient by a table: the table's code and a sign bit where there is such a code, else an escape.
-#[inline]
-pub fn coefficient_bits(table: TableName, pair: RunLevel) -> u32
+#[cold]
+pub fn coefficient_bits(table: TableName, run: u8, size: u16) -> u32
     requires table { IsTrue (is_coefficients table) }
-    ensures value { result ≡ length (written_coefficient table pair) }
+    ensures value { result ≡ length_by table run size }
     ensures few { result ≤ 42 }
 {
-    match coefficient_code(table, pair.run, pair.level.unsigned_abs()) {
+    match coefficient_code(table, run, size) {
         Some(code) => u32::from(code.len) + 1,
         None => code_bits(table, symbol::ESCAPE) + (RUN_BITS + LEVEL_BITS),
     }
@@ -48,21 +51,30 @@ fn code_bits(table: TableName, symbol: u16) -> u32
     }
 }
 
-/// The table of a coefficient at a place, behind the others (ISO/IEC 13818-2, 7.2.2.1).
+/// The number of the table of a coefficient at a place, behind the others (ISO/IEC 13818-2, 7.2.2.1).
 #[inline]
-pub fn table_at(way: BlockWay, place: u8) -> TableName
-    ensures table { result ≡ coefficient_table way place }
-    ensures coefficients { IsTrue (is_coefficients result) }
+pub fn table_number(way: BlockWay, place: u8) -> usize
+    ensures value { result ≡ number_of way place }
+    ensures bound { result < TABLES }
 {
     if way.intra {
-        if way.vlc_one {
-            TableName::CoeffOne
-        } else {
-            TableName::CoeffZero
-        }
+        if way.vlc_one { 2 } else { 0 }
     } else if place == 0 {
-        TableName::CoeffFirst
+        1
     } else {
-        TableName::CoeffZero
+        0
+    }
+}
+
+/// The table with this number.
+pub fn numbered(number: usize) -> TableName
+    requires { number < TABLES }
+    ensures table { result ≡ table_numbered number }
+    ensures coefficients { IsTrue (is_coefficients result) }
+{
+    match number {
+        0 => TableName::CoeffZero,
+        1 => TableName::CoeffFirst,
+        _ => TableName::CoeffOne,
     }
 }

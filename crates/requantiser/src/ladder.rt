@@ -1,142 +1,151 @@
 //! What levels become in several versions, kept for those that come again.
-ghost use Rattle.std.specs.Prelude.{◌≡◌, ◌<◌, ◌≤◌, ◌^◌, IsTrue};
-ghost use Rattle.quant_math.specs.Levels.{coarser_level};
-ghost use Rattle.requantiser.specs.Private.Changes.{level_change};
-ghost use Rattle.requantiser.specs.Private.Rungs.{AreRescaled, IsRescaled};
+ghost use Rattle.std.specs.Prelude.{◌≡◌, ◌<◌, ◌≤◌, ◌+◌, IsTrue};
+ghost use Rattle.requantiser.specs.Private.Rungs.{AreRescaled, AreRescaledBy, IsGoneFrom, way_number};
 
-use crate::level::{Change, Coefficient, Rescaled, Rescaling, change_level};
-use crate::tally::{Tally, VERSIONS_AT_ONCE};
+use crate::codes::Target;
+use crate::lengths::Lengths;
+use crate::level::{Coefficient, Rescaling, change_level};
+use crate::tally::VERSIONS_AT_ONCE;
+use crate::targets::Targets;
 
 /// Levels that are kept at once.
 const RUNGS: usize = 1024;
 
-/// A coefficient of the source, and what it becomes under some scales.
+/// What a coefficient of the source becomes in each version.
 #[derive(Clone, Copy)]
 pub struct Rung {
-    /// Its place counts for nothing.
-    coefficient: Coefficient,
-    /// quantiser_scale in the source.
-    from: u16,
-    /// Its block is intra.
-    intra: bool,
-    rescaled: [Rescaled; VERSIONS_AT_ONCE],
-    ghost from_range: { from ≤ 112 },
-    ghost right: { AreRescaled coefficient.level coefficient.weight from intra rescaled },
+    /// Its weight, its scale and whether its block is intra, as one number.
+    number: u32,
+    level: i16,
+    /// From this version on it becomes 0.
+    pub living: u16,
+    /// The quantiser_scales of the versions.
+    scales: [u16; VERSIONS_AT_ONCE],
+    /// The sizes of the levels that it becomes.
+    pub sizes: [u16; VERSIONS_AT_ONCE],
+    /// The squares of the differences of the coefficients.
+    pub squares: [u32; VERSIONS_AT_ONCE],
+    ghost right: { AreRescaledBy level number scales sizes squares },
+    ghost few: { living ≤ 8 },
+    ghost gone: { IsGoneFrom living sizes },
+}
+
+/// What a coefficient becomes.
+#[derive(Clone, Copy)]
+pub struct Rescaled {
+    pub sizes: [u16; VERSIONS_AT_ONCE],
+    pub squares: [u32; VERSIONS_AT_ONCE],
+    pub living: u16,
 }
 
 impl Rung {
     /// What a coefficient becomes in each version.
     #[cold]
-    fn new(
-        coefficient: Coefficient,
-        rescaling: Rescaling,
-        tallies: &[Tally; VERSIONS_AT_ONCE],
-    ) -> Rung
-        ensures level { result.coefficient.level ≡ coefficient.level }
-        ensures weight { result.coefficient.weight ≡ coefficient.weight }
-        ensures from { result.from ≡ rescaling.from }
-        ensures intra { result.intra ≡ rescaling.intra }
+    fn new(coefficient: Coefficient, rescaling: Rescaling, targets: &Targets) -> Rung
+        ensures level { result.level ≡ coefficient.level }
+        ensures number { result.number ≡ way_number coefficient.weight rescaling.from rescaling.intra }
+        ensures scales { result.scales ≡ targets.now.scales }
     {
+        let Rescaled {
+            sizes,
+            squares,
+            living,
+        } = rescale(coefficient, rescaling, targets);
         Rung {
-            coefficient,
-            from: rescaling.from,
-            intra: rescaling.intra,
-            rescaled: rescale_all(coefficient, rescaling, tallies),
+            number: number_of(coefficient, rescaling),
+            level: coefficient.level,
+            living,
+            scales: targets.scales,
+            sizes,
+            squares,
         }
     }
 
     /// Whether it is the one of a coefficient.
     #[inline]
-    fn is_of(&self, coefficient: Coefficient, rescaling: Rescaling) -> bool
-        ensures level { IsTrue result → self.now.coefficient.level ≡ coefficient.level }
-        ensures weight { IsTrue result → self.now.coefficient.weight ≡ coefficient.weight }
-        ensures from { IsTrue result → self.now.from ≡ rescaling.from }
-        ensures intra { IsTrue result → self.now.intra ≡ rescaling.intra }
+    fn is_of(&self, coefficient: Coefficient, rescaling: Rescaling, targets: &Targets) -> bool
+        ensures level { IsTrue result → self.now.level ≡ coefficient.level }
+        ensures number { IsTrue result → self.now.number ≡ way_number coefficient.weight rescaling.from rescaling.intra }
+        ensures scales { IsTrue result → self.now.scales ≡ targets.now.scales }
     {
-        self.coefficient.level == coefficient.level
-            && self.coefficient.weight == coefficient.weight
-            && self.from == rescaling.from
-            && self.intra == rescaling.intra
+        self.level == coefficient.level
+            && self.number == number_of(coefficient, rescaling)
+            && self.scales == targets.scales
     }
+}
 
-    /// What it becomes under a scale, which is mostly that of the version with this number.
-    #[inline]
-    pub(crate) fn change(&self, number: usize, scale: u16) -> Change
-        requires number { number < VERSIONS_AT_ONCE }
-        requires scale { (1 ≤ scale) × (scale ≤ 112) }
-        ensures level { result.level ≡ coarser_level self.now.coefficient.level self.now.coefficient.weight self.now.from scale self.now.intra }
-        ensures squared { result.squared ≡ level_change self.now.coefficient.level self.now.coefficient.weight self.now.from scale self.now.intra }
-        ensures bound { result.squared ≤ 2 ^ 22 }
-    {
-        let kept = self.rescaled[number];
-        if kept.scale == scale {
-            return Change {
-                level: kept.level,
-                squared: kept.squared,
-            };
-        }
-        self.change_anew(scale)
-    }
-
-    /// What it becomes under a scale.
-    #[cold]
-    fn change_anew(&self, scale: u16) -> Change
-        requires scale { (1 ≤ scale) × (scale ≤ 112) }
-        ensures level { result.level ≡ coarser_level self.now.coefficient.level self.now.coefficient.weight self.now.from scale self.now.intra }
-        ensures squared { result.squared ≡ level_change self.now.coefficient.level self.now.coefficient.weight self.now.from scale self.now.intra }
-        ensures bound { result.squared ≤ 2 ^ 22 }
-    {
-        let rescaling = Rescaling {
-            alternate: false,
-            intra: self.intra,
-            from: self.from,
-            to: scale,
-        };
-        change_level(self.coefficient.level, self.coefficient.weight, rescaling)
-    }
+/// A coefficient's weight, its scale and whether its block is intra, as one number.
+#[inline]
+fn number_of(coefficient: Coefficient, rescaling: Rescaling) -> u32
+    ensures { result ≡ way_number coefficient.weight rescaling.from rescaling.intra }
+{
+    u32::from(coefficient.weight)
+        + 256 * u32::from(rescaling.from)
+        + 65_536 * u32::from(rescaling.intra)
 }
 
 /// What a coefficient becomes in each version.
-fn rescale_all(
-    coefficient: Coefficient,
-    rescaling: Rescaling,
-    tallies: &[Tally; VERSIONS_AT_ONCE],
-) -> [Rescaled; VERSIONS_AT_ONCE]
-    ensures { AreRescaled coefficient.level coefficient.weight rescaling.from rescaling.intra result }
+fn rescale(coefficient: Coefficient, rescaling: Rescaling, targets: &Targets) -> Rescaled
+    ensures each { AreRescaled coefficient.level coefficient.weight rescaling.from rescaling.intra targets.now.scales result.sizes result.squares }
+    ensures few { result.living ≤ 8 }
+    ensures gone { IsGoneFrom result.living result.sizes }
 {
-    let mut all = [Rescaled {
-        scale: 1,
-        level: 0,
-        squared: 0,
-    }; VERSIONS_AT_ONCE];
+    let mut sizes = [0; VERSIONS_AT_ONCE];
+    let mut squares = [0; VERSIONS_AT_ONCE];
+    let mut living = 0;
     for k in 0..VERSIONS_AT_ONCE {
-        let to = rescaling.with_scale(tallies[k].target.scale);
-        all[k] = rescale(coefficient, to);
+        let to = rescaling.with_scale(targets.scales[k]);
+        let change = change_level(coefficient.level, coefficient.weight, to);
+        let size = change.level.unsigned_abs();
+        sizes[k] = size;
+        squares[k] = change.squared;
+        living = living_behind(living, k as u16, size);
     }
-    all
-}
-
-/// What a coefficient becomes.
-fn rescale(coefficient: Coefficient, rescaling: Rescaling) -> Rescaled
-    ensures { IsRescaled coefficient.level coefficient.weight rescaling.from rescaling.intra result }
-{
-    let change = change_level(coefficient.level, coefficient.weight, rescaling);
     Rescaled {
-        scale: rescaling.to,
-        level: change.level,
-        squared: change.squared,
+        sizes,
+        squares,
+        living,
     }
 }
 
-/// What levels become in the versions of a picture, as far as they were asked for.
+/// From which version on a level becomes 0, among those up to one in which it has this size.
+#[inline]
+fn living_behind(living: u16, k: u16, size: u16) -> u16
+    requires living { living ≤ k }
+    requires few { k < 8 }
+    ensures most { result ≤ k + 1 }
+    ensures no_less { living ≤ result }
+    ensures gone { result ≤ k → size ≡ 0 }
+{
+    if size == 0 { living } else { k + 1 }
+}
+
+/// What levels become in the versions of a picture, and how long their codes are, as far as they were asked for.
 #[derive(Drop)]
 pub struct Ladder {
-    rungs: [Rung; RUNGS],
+    pub(crate) rungs: Rungs,
+    pub(crate) lengths: Lengths,
 }
 
 impl Ladder {
     /// Nothing but a level of 0.
     pub fn new() -> Ladder {
+        Ladder {
+            rungs: Rungs::new(),
+            lengths: Lengths::new(),
+        }
+    }
+}
+
+/// What levels become, each at a place that follows from it.
+#[derive(Drop)]
+pub struct Rungs {
+    rungs: [Rung; RUNGS],
+}
+
+impl Rungs {
+    /// Nothing but a level of 0.
+    fn new() -> Rungs {
         let none = Coefficient {
             level: 0,
             weight: 1,
@@ -148,28 +157,27 @@ impl Ladder {
             from: 1,
             to: 1,
         };
-        let tallies = [Tally::empty(); VERSIONS_AT_ONCE];
-        Ladder {
-            rungs: [Rung::new(none, whole, &tallies); RUNGS],
+        let targets = Targets::of(Target { code: 1, scale: 1 });
+        Rungs {
+            rungs: [Rung::new(none, whole, &targets); RUNGS],
         }
     }
 
     /// The rung of a coefficient, which is made where another one stands at its place.
     #[inline]
-    pub(crate) fn rung_of(
+    pub fn rung_of(
         &mut self,
         coefficient: Coefficient,
         rescaling: Rescaling,
-        tallies: &[Tally; VERSIONS_AT_ONCE],
+        targets: &Targets,
     ) -> &Rung
-        ensures level { result.now.coefficient.level ≡ coefficient.level }
-        ensures weight { result.now.coefficient.weight ≡ coefficient.weight }
-        ensures from { result.now.from ≡ rescaling.from }
-        ensures intra { result.now.intra ≡ rescaling.intra }
+        ensures level { result.now.level ≡ coefficient.level }
+        ensures number { result.now.number ≡ way_number coefficient.weight rescaling.from rescaling.intra }
+        ensures scales { result.now.scales ≡ targets.now.scales }
     {
         let place = place_of(coefficient, rescaling);
-        if !self.rungs[place].is_of(coefficient, rescaling) {
-            self.rungs[place] = Rung::new(coefficient, rescaling, tallies);
+        if !self.rungs[place].is_of(coefficient, rescaling, targets) {
+            self.rungs[place] = Rung::new(coefficient, rescaling, targets);
         }
         &self.rungs[place]
     }
@@ -180,9 +188,7 @@ impl Ladder {
 fn place_of(coefficient: Coefficient, rescaling: Rescaling) -> usize
     ensures { result < RUNGS }
 {
-    let level = (coefficient.level + 2048) as usize;
-    let weight = 29 * usize::from(coefficient.weight);
-    let from = 53 * usize::from(rescaling.from);
-    let intra = 511 * usize::from(rescaling.intra);
-    (level + weight + from + intra) % RUNGS
+    let level = (coefficient.level + 2048) as u32;
+    let row = number_of(coefficient, rescaling).wrapping_mul(0x9E37_79B1) >> 20;
+    (level + row) as usize % RUNGS
 }

@@ -68,15 +68,6 @@ pub struct Change {
     pub squared: u32,
 }
 
-/// What a level becomes under a scale.
-#[derive(Clone, Copy)]
-pub struct Rescaled {
-    pub scale: u16,
-    pub level: i16,
-    /// The square of the difference of both coefficients.
-    pub squared: u32,
-}
-
 /// What a level becomes at a place of this weight.
 pub fn change_level(level: i16, weight: u8, rescaling: Rescaling) -> Change
     requires weighted { 0 < weight }

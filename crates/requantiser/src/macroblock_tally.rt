@@ -7,16 +7,18 @@ ghost use Rattle.requantiser.specs.Levels.{HasWeights, scale_of};
 ghost use Rattle.requantiser.specs.Tallies.{IsTallyOf};
 ghost use Rattle.requantiser.specs.VersionState.{IsSpelledMacroblock};
 ghost use Rattle.requantiser.specs.Private.Changes.{block_change};
+ghost use Rattle.requantiser.specs.Private.Counts.{EachIs, EachWent, IsTheTally};
 ghost use Rattle.requantiser.specs.Private.Shapes.{FitBlock, HasShape, IsMeasured};
-ghost use Rattle.requantiser.specs.Private.Tallies.{AreBlocksTallied, EachIs, EachWent, IsBlockTallied, IsStart, StartsBlock};
-ghost use Rattle.requantiser.specs.Private.Walk.{mapped_code, new_level};
+ghost use Rattle.requantiser.specs.Private.Tallies.{AreBlocksTallied, IsBlockTallied, IsStart, StartsBlock};
+ghost use Rattle.requantiser.specs.Private.Walk.{new_level};
 
 use crate::block::matrix;
-use crate::codes::Target;
+use crate::counts::Counts;
 use crate::ladder::Ladder;
 use crate::level::Rescaling;
-use crate::step::{code_in_force, mapped};
+use crate::step::code_in_force;
 use crate::tally::{Tally, VERSIONS_AT_ONCE, add_block};
+use crate::targets::{Targets, targets_of};
 use picture_grammar::stands::block_way;
 use quant_math::scale;
 use syntax_types::{BLOCKS, Block, BlockWay, Macroblock, PicCoding, SeqState};
@@ -41,67 +43,44 @@ pub fn tally_macroblock(
     ensures tallies { (k : ℕ) (d : TallyOf) → k < length ratios.now → IsTallyOf seq.now coding.now (unwrap_or from.now.code before) (slice_index ratios.now k) from.now (slice_index_or tallies.new k d) }
 {
     let code = code_in_force(from.code, before);
-    start(coding, code, from.kind.intra, ratios, tallies);
-    add_blocks(seq, coding, code, from, ratios.len(), tallies, ladder);
+    let targets = targets_of(coding, code, ratios);
+    let mut counts = Counts::new(from.kind.intra);
+    add_blocks(seq, coding, code, from, &targets, &mut counts, ladder);
+    write_tallies(&targets, &counts, ratios.len(), tallies);
     code
 }
 
-/// Nothing of a macroblock in each version.
-fn start(
-    coding: &PicCoding,
-    code: u8,
-    intra: bool,
-    ratios: &[u16],
+/// Writes the tallies of the first so many versions.
+fn write_tallies(
+    targets: &Targets,
+    counts: &Counts,
+    count: usize,
     tallies: &mut [Tally; VERSIONS_AT_ONCE],
 )
-    requires code { IsCode code }
-    requires few { length ratios.now ≤ VERSIONS_AT_ONCE }
-    ensures { (k : ℕ) (d : TallyOf) → k < length ratios.now →
-        (let tally : TallyOf = slice_index_or tallies.new k d in tally.target.code ≡ mapped_code coding.now.q_scale_type (slice_index ratios.now k) code)
-        × IsStart coding.now intra (slice_index_or tallies.new k d) }
+    requires count { count ≤ VERSIONS_AT_ONCE }
+    ensures { (k : ℕ) (d : TallyOf) → k < count → IsTheTally targets.now counts.now k (slice_index_or tallies.new k d) }
 {
-    for k in 0..ratios.len() {
-        tallies[k] = no_tally(coding, code, intra, ratios[k]);
+    for k in 0..count {
+        tallies[k] = counts.tally(targets, k);
     }
 }
 
-/// Nothing of a macroblock in the version at m sixteenths.
-fn no_tally(coding: &PicCoding, code: u8, intra: bool, m: u16) -> Tally
-    requires { IsCode code }
-    ensures code { result.target.code ≡ mapped_code coding.now.q_scale_type m code }
-    ensures start { IsStart coding.now intra result }
-{
-    let mapped = mapped(coding.q_scale_type, m, code);
-    let target = Target {
-        code: mapped,
-        scale: scale(coding.q_scale_type, mapped),
-    };
-    Tally {
-        target,
-        next: u8::from(intra),
-        pattern: 0,
-        bits: 0,
-        distortion: 0,
-    }
-}
-
-/// Counts the blocks of a macroblock in the first so many versions.
+/// Counts the blocks of a macroblock in all versions.
 fn add_blocks(
     seq: &SeqState,
     coding: &PicCoding,
     code: u8,
     from: &Macroblock,
-    count: usize,
-    tallies: &mut [Tally; VERSIONS_AT_ONCE],
+    targets: &Targets,
+    counts: &mut Counts,
     ladder: &mut Ladder,
 )
     requires weights { HasWeights seq.now }
     requires code { IsCode code }
     requires shape { HasShape from.now }
     requires measured { IsMeasured from.now }
-    requires count { count ≤ VERSIONS_AT_ONCE }
-    requires start { EachIs count (IsStart coding.now from.now.kind.intra) tallies.old }
-    ensures { EachWent count (AreBlocksTallied seq.now coding.now from.now.kind code from.now.blocks 6) tallies.old tallies.new }
+    requires start { EachIs (IsStart coding.now from.now.kind.intra) targets.now counts.old }
+    ensures { EachWent (AreBlocksTallied seq.now coding.now from.now.kind code from.now.blocks 6) targets.now counts.old counts.new }
 {
     for i in 0..BLOCKS {
         let way = block_way(coding, from.kind, i);
@@ -111,32 +90,31 @@ fn add_blocks(
             way,
             code,
             &from.blocks[i],
-            count,
-            tallies,
+            targets,
+            counts,
             ladder,
         );
     }
 }
 
-/// Counts a block under this code in the first so many versions.
+/// Counts a block under this code in all versions.
 fn add_block_of(
     seq: &SeqState,
     coding: &PicCoding,
     way: BlockWay,
     code: u8,
     block: &Block,
-    count: usize,
-    tallies: &mut [Tally; VERSIONS_AT_ONCE],
+    targets: &Targets,
+    counts: &mut Counts,
     ladder: &mut Ladder,
 )
     requires weights { HasWeights seq.now }
     requires code { IsCode code }
     requires places { FitBlock (first_place way) block.now.pairs.items }
-    requires count { count ≤ VERSIONS_AT_ONCE }
-    requires room { EachIs count (StartsBlock way) tallies.old }
-    ensures { EachWent count (λ before behind. before.target.scale ≡ scale_of coding.now before.target.code →
+    requires room { EachIs (StartsBlock way) targets.now counts.old }
+    ensures { EachWent (λ before behind. before.target.scale ≡ scale_of coding.now before.target.code →
         IsBlockTallied way (new_level seq.now coding.now way code before.target.code) (block_change seq.now coding.now way code before.target.code) block.now.pairs.items before behind)
-        tallies.old tallies.new }
+        targets.now counts.old counts.new }
 {
     let from = scale(coding.q_scale_type, code);
     let rescaling = Rescaling {
@@ -147,8 +125,8 @@ fn add_block_of(
     };
     let weights = matrix(seq, way.intra);
     add_block(
-        tallies,
-        count,
+        counts,
+        targets,
         way,
         rescaling,
         weights,

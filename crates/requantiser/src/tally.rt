@@ -1,17 +1,19 @@
 //! What becomes of the coefficients of a macroblock in several versions at once, counted and not made.
-ghost use Rattle.std.specs.Prelude.{◌≡◌, ◌<◌, ◌≤◌, ◌*◌, ◌^◌};
+ghost use Rattle.std.specs.Prelude.{◌≡◌};
 ghost use Rattle.quant_math.specs.Levels.{coarser_level};
 ghost use Rattle.picture_grammar.specs.Block.{first_place};
 ghost use Rattle.picture_grammar.specs.Picture.{AreWeights};
 ghost use Rattle.requantiser.specs.Private.Changes.{change_in, level_change, new_level_in};
+ghost use Rattle.requantiser.specs.Private.Counts.{EachIs, EachWent};
 ghost use Rattle.requantiser.specs.Private.Shapes.{FitBlock};
-ghost use Rattle.requantiser.specs.Private.Tallies.{EachIs, EachWent, HasRoom, IsBlockTallied, IsCounted, IsCountedBlock, IsEnded, StartsBlock};
+ghost use Rattle.requantiser.specs.Private.Tallies.{HasRoom, IsBlockTallied, IsCounted, IsCountedBlock, StartsBlock};
 
 use crate::block::weight_in_scan;
-use crate::code_lengths::{coefficient_bits, end_bits, table_at};
 use crate::codes::Target;
+use crate::counts::Counts;
 use crate::ladder::Ladder;
-use crate::level::{Change, Coefficient, Rescaling};
+use crate::level::{Coefficient, Rescaling};
+use crate::targets::Targets;
 use syntax_types::{BLOCK_PLACES, BlockWay, RunLevel};
 
 /// Versions that are counted at once, at most.
@@ -44,109 +46,64 @@ impl Tally {
             distortion: 0,
         }
     }
-
-    /// Counts one more coefficient.
-    #[inline]
-    fn add(&mut self, way: BlockWay, at: u8, change: Change)
-        requires at { at < BLOCK_PLACES }
-        requires room { HasRoom at self.old }
-        requires small { change.squared ≤ 2 ^ 22 }
-        ensures { IsCounted way at change.level change.squared self.old self.new }
-    {
-        self.distortion += u64::from(change.squared);
-        if change.level == 0 {
-            return;
-        }
-        let pair = RunLevel {
-            run: at - self.next,
-            level: change.level,
-        };
-        self.bits += coefficient_bits(table_at(way, self.next), pair);
-        self.next = at + 1;
-    }
-
-    /// Behind the end of the block.
-    fn ended(self, way: BlockWay) -> Tally
-        requires room { self.bits ≤ 2 ^ 20 }
-        requires pattern { self.pattern < 2 ^ 6 }
-        ensures { IsEnded way self result }
-    {
-        let first = u8::from(way.intra);
-        if self.next == first {
-            return Tally {
-                pattern: 2 * self.pattern,
-                ..self
-            };
-        }
-        Tally {
-            next: first,
-            pattern: 2 * self.pattern + 1,
-            bits: self.bits + end_bits(way.intra),
-            ..self
-        }
-    }
 }
 
-/// Counts a block in the first so many versions.
+/// Counts a block in all versions.
 pub fn add_block(
-    tallies: &mut [Tally; VERSIONS_AT_ONCE],
-    count: usize,
+    counts: &mut Counts,
+    targets: &Targets,
     way: BlockWay,
     rescaling: Rescaling,
     weights: &[u8; BLOCK_PLACES],
     pairs: &[RunLevel],
     ladder: &mut Ladder,
 )
-    requires count { count ≤ VERSIONS_AT_ONCE }
     requires intra { rescaling.intra ≡ way.intra }
     requires weights { AreWeights weights.now }
     requires places { FitBlock (first_place way) pairs.now }
-    requires room { EachIs count (StartsBlock way) tallies.old }
-    ensures { EachWent count (λ before behind. IsBlockTallied way (new_level_in weights.now rescaling.alternate rescaling.intra rescaling.from before.target.scale)
-        (change_in weights.now rescaling.alternate rescaling.intra rescaling.from before.target.scale) pairs.now before behind) tallies.old tallies.new }
+    requires room { EachIs (StartsBlock way) targets.now counts.old }
+    ensures { EachWent (λ before behind. IsBlockTallied way (new_level_in weights.now rescaling.alternate rescaling.intra rescaling.from before.target.scale)
+        (change_in weights.now rescaling.alternate rescaling.intra rescaling.from before.target.scale) pairs.now before behind) targets.now counts.old counts.new }
 {
-    add_coefficients(tallies, count, way, rescaling, weights, pairs, ladder);
-    end_block(tallies, count, way);
+    add_coefficients(counts, targets, way, rescaling, weights, pairs, ladder);
+    counts.end_block(way);
 }
 
-/// Counts a coefficient in the first so many versions.
+/// Counts a coefficient in all versions.
+#[inline]
 fn add_coefficient(
-    tallies: &mut [Tally; VERSIONS_AT_ONCE],
-    count: usize,
+    counts: &mut Counts,
+    targets: &Targets,
     way: BlockWay,
     rescaling: Rescaling,
     coefficient: Coefficient,
     ladder: &mut Ladder,
 )
-    requires count { count ≤ VERSIONS_AT_ONCE }
-    requires room { EachIs count (HasRoom coefficient.at) tallies.old }
-    ensures { EachWent count (λ before behind. IsCounted way coefficient.at (coarser_level coefficient.level coefficient.weight rescaling.from before.target.scale rescaling.intra)
-        (level_change coefficient.level coefficient.weight rescaling.from before.target.scale rescaling.intra) before behind) tallies.old tallies.new }
+    requires { EachIs (HasRoom coefficient.at) targets.now counts.old }
+    ensures { EachWent (λ before behind. IsCounted way coefficient.at (coarser_level coefficient.level coefficient.weight rescaling.from before.target.scale rescaling.intra)
+        (level_change coefficient.level coefficient.weight rescaling.from before.target.scale rescaling.intra) before behind) targets.now counts.old counts.new }
 {
-    let rung = ladder.rung_of(coefficient, rescaling, tallies);
-    for k in 0..count {
-        let change = rung.change(k, tallies[k].target.scale);
-        tallies[k].add(way, coefficient.at, change);
-    }
+    let rung = ladder.rungs.rung_of(coefficient, rescaling, targets);
+    counts.add_squares(&rung.squares);
+    counts.add_sizes(way, coefficient.at, rung, &mut ladder.lengths);
 }
 
-/// Counts the coefficients of a block in the first so many versions.
+/// Counts the coefficients of a block in all versions.
 fn add_coefficients(
-    tallies: &mut [Tally; VERSIONS_AT_ONCE],
-    count: usize,
+    counts: &mut Counts,
+    targets: &Targets,
     way: BlockWay,
     rescaling: Rescaling,
     weights: &[u8; BLOCK_PLACES],
     pairs: &[RunLevel],
     ladder: &mut Ladder,
 )
-    requires count { count ≤ VERSIONS_AT_ONCE }
     requires intra { rescaling.intra ≡ way.intra }
     requires weights { AreWeights weights.now }
     requires places { FitBlock (first_place way) pairs.now }
-    requires room { EachIs count (StartsBlock way) tallies.old }
-    ensures { EachWent count (λ before behind. IsCountedBlock way (new_level_in weights.now rescaling.alternate rescaling.intra rescaling.from before.target.scale)
-        (change_in weights.now rescaling.alternate rescaling.intra rescaling.from before.target.scale) pairs.now before behind) tallies.old tallies.new }
+    requires room { EachIs (StartsBlock way) targets.now counts.old }
+    ensures { EachWent (λ before behind. IsCountedBlock way (new_level_in weights.now rescaling.alternate rescaling.intra rescaling.from before.target.scale)
+        (change_in weights.now rescaling.alternate rescaling.intra rescaling.from before.target.scale) pairs.now before behind) targets.now counts.old counts.new }
 {
     let mut place = u8::from(way.intra);
     for pair in pairs {
@@ -157,18 +114,7 @@ fn add_coefficients(
             weight,
             at,
         };
-        add_coefficient(tallies, count, way, rescaling, coefficient, ladder);
+        add_coefficient(counts, targets, way, rescaling, coefficient, ladder);
         place = at + 1;
-    }
-}
-
-/// Ends a block in the first so many versions.
-fn end_block(tallies: &mut [Tally; VERSIONS_AT_ONCE], count: usize, way: BlockWay)
-    requires count { count ≤ VERSIONS_AT_ONCE }
-    requires room { EachIs count (λ tally. (tally.bits ≤ 2 ^ 20) × (tally.pattern < 2 ^ 6)) tallies.old }
-    ensures { EachWent count (IsEnded way) tallies.old tallies.new }
-{
-    for k in 0..count {
-        tallies[k] = tallies[k].ended(way);
     }
 }

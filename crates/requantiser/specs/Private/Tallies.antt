@@ -49,7 +49,7 @@ pub record IsCounted (way : BlockWay) (at : ℕ) (level : ℤ) (squared : ℕ) (
 pub record HasRoom (at : ℕ) (tally : Tally) : Type 0 where
   pub next : tally.next ≤ at
   pub bits : tally.bits ≤ 2 ^ 20
-  pub distortion : tally.distortion ≤ 2 ^ 50
+  pub distortion : tally.distortion ≤ 2 ^ 31 + 2 ^ 29
 
 -- The coefficients before a place of the scan were counted, with what was there before the block: what is counted, and
 -- what the others become, are what all become.
@@ -93,7 +93,7 @@ pub record IsEnded (way : BlockWay) (before behind : Tally) : Type 0 where
 pub record StartsBlock (way : BlockWay) (tally : Tally) : Type 0 where
   pub next : tally.next ≡ first_place way
   pub bits : tally.bits ≤ 2 ^ 19
-  pub distortion : tally.distortion ≤ 2 ^ 49
+  pub distortion : tally.distortion ≤ 2 ^ 31
   pub pattern : tally.pattern < 2 ^ 6
 
 -- a block was counted
@@ -107,14 +107,6 @@ pub record IsBlockTallied (way : BlockWay) (new : ℕ → ℤ → ℤ) (change :
   pub no_less : before.bits ≤ behind.bits
   pub few : behind.bits ≤ before.bits + 2712
   pub small : behind.distortion ≤ before.distortion + 2 ^ 28
-
--- each of the first so many tallies is like this
-abbrev pub EachIs : ℕ → (Tally → Type 0) → List Tally → Type 0
-EachIs count P tallies = (k : ℕ) (d : Tally) → k < count → P (slice_index_or tallies k d)
-
--- each of the first so many tallies went on like this
-abbrev pub EachWent : ℕ → (Tally → Tally → Type 0) → List Tally → List Tally → Type 0
-EachWent count P before behind = (k : ℕ) (d : Tally) → k < count → P (slice_index_or before k d) (slice_index_or behind k d)
 
 -- ---- a macroblock
 

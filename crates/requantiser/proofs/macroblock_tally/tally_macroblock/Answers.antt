@@ -1,7 +1,9 @@
-use Rattle.std.proofs.Common.{get_or, subst}
+use Rattle.std.proofs.Common.{◌<◌, ℕ, get_or, subst, arith}
 use Rattle.std.specs.Prelude.{slice_index}
+use Rattle.requantiser.specs.Private.Counts.{tally_in}
 use Rattle.requantiser.specs.Tallies.{IsTallyOf}
 use Rattle.requantiser.proofs.BlockTallies.{all_tallied}
+use Rattle.requantiser.proofs.Counted.{tally_as}
 use Rattle.requantiser.proofs.Spelled.{walkable}
 use Rattle.requantiser.proofs.macroblock_tally.tally_macroblock.Goals as goal
 
@@ -11,11 +13,24 @@ add_blocks-requires-clause-shape c = (walkable c.args.coding.now c.args.from.now
 pub add_blocks-requires-clause-measured : goal.add_blocks-requires-clause-measured
 add_blocks-requires-clause-measured c = (walkable c.args.coding.now c.args.from.now c.requires.spelled).measured
 
+pub add_blocks-requires-clause-start : goal.add_blocks-requires-clause-start
+add_blocks-requires-clause-start c = λ k below. record {
+  scale = c.targets_of-targets.ensures.scales k below;
+  next = c.new-counts.ensures.next k below;
+  pattern = c.new-counts.ensures.patterns k below;
+  bits = c.new-counts.ensures.bits k below;
+  distortion = c.new-counts.ensures.squares k below;
+}
+
 pub code_in_force-code-requires-clause-written : goal.code_in_force-code-requires-clause-written
 code_in_force-code-requires-clause-written c = (walkable c.args.coding.now c.args.from.now c.requires.spelled).measured.code
 
 pub returns-clause-tallies : goal.returns-clause-tallies
 returns-clause-tallies c = λ k d below.
-    subst (λ code. IsTallyOf c.args.seq.now c.args.coding.now code (slice_index c.args.ratios.now k) c.args.from.now (get_or c.add_blocks.new.tallies k d)) c.code_in_force-code.ensures.value
-    (all_tallied c.args.seq.now c.args.coding.now (slice_index c.args.ratios.now k) c.code_in_force-code.result c.args.from.now (get_or c.start.new.tallies k d) (get_or c.add_blocks.new.tallies k d)
-    (walkable c.args.coding.now c.args.from.now c.requires.spelled).shape.six (c.start.ensures k d below).0 (c.add_blocks.ensures k d below))
+    let within : k < 8 = omega (arith, below, c.requires.few) in
+    let m : ℕ = slice_index c.args.ratios.now k in
+    let last = tally_in c.targets_of-targets.result c.add_blocks.new.counts k within in
+    tally_as c.args.seq.now c.args.coding.now _ m c.args.from.now c.targets_of-targets.result c.add_blocks.new.counts k within (get_or c.write_tallies.new.tallies k d) (c.write_tallies.ensures k d below)
+    (subst (λ code. IsTallyOf c.args.seq.now c.args.coding.now code m c.args.from.now last) c.code_in_force-code.ensures.value
+    (all_tallied c.args.seq.now c.args.coding.now m c.code_in_force-code.result c.args.from.now (tally_in c.targets_of-targets.result c.new-counts.result k within) last
+    (walkable c.args.coding.now c.args.from.now c.requires.spelled).shape.six (c.targets_of-targets.ensures.codes k below) (c.add_blocks.ensures k within)))

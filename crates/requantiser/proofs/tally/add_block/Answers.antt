@@ -1,7 +1,18 @@
-use Rattle.std.proofs.Common.{get_or}
+use Rattle.std.proofs.Common.{◌≡◌, ◌<◌, ℕ, get_or, refl, ap, arith}
+use Rattle.requantiser.specs.Private.Counts.{tally_in}
+use Rattle.requantiser.proofs.Counted.{ended_by}
 use Rattle.requantiser.proofs.Tallies.{block_tallied}
 use Rattle.requantiser.proofs.tally.add_block.Goals as goal
 
+pub end_block-requires-clause-patterns : goal.end_block-requires-clause-patterns
+end_block-requires-clause-patterns c = λ k below. omega (arith, (c.add_coefficients.ensures k below).pattern, (c.requires.room k below).pattern)
+
+pub end_block-requires-clause-room : goal.end_block-requires-clause-room
+end_block-requires-clause-room c = λ k below. omega (arith, (c.add_coefficients.ensures k below).few, (c.requires.room k below).bits)
+
 pub returns : goal.returns
-returns c = λ k d below. block_tallied c.args.way _ _ c.args.pairs.now (get_or c.args.tallies.now k d) (get_or c.add_coefficients.new.tallies k d) (get_or c.end_block.new.tallies k d)
-    (c.add_coefficients.ensures k d below) (c.end_block.ensures k d below)
+returns c = λ k below.
+    block_tallied c.args.way _ _ c.args.pairs.now (tally_in c.args.targets.now c.args.counts.now k below) (tally_in c.args.targets.now c.add_coefficients.new.counts k below)
+    (tally_in c.args.targets.now c.end_block.new.self k below) (c.add_coefficients.ensures k below)
+    (ended_by c.args.way (tally_in c.args.targets.now c.add_coefficients.new.counts k below) (tally_in c.args.targets.now c.end_block.new.self k below) refl
+    (ap (λ xs. get_or xs k 0) c.end_block.ensures.squares) (c.end_block.ensures.each k below))

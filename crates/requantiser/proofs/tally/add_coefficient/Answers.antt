@@ -1,37 +1,51 @@
-use Rattle.std.proofs.Common.{◌≡◌, ◌<◌, ◌∙◌, ℕ, ℤ, length, get_or, ap, arith}
-use Rattle.std.proofs.lemmas.List.{get_or_default, length-set}
+use Rattle.std.proofs.Common.{◌≡◌, ◌<◌, ◌≤◌, ◌∙◌, ◌^◌, ℕ, ℤ, Bool, List, unsigned_abs, get_or, refl, ap, subst, arith}
 use Rattle.quant_math.specs.Levels.{coarser_level}
-use Rattle.requantiser.specs.declared.tally.Tally.{Tally}
 use Rattle.requantiser.specs.Private.Changes.{level_change}
-use Rattle.requantiser.specs.Private.Tallies.{IsCounted}
-use Rattle.requantiser.proofs.Rungs.{same_five}
-use Rattle.requantiser.proofs.Tallies.{counted_as, one_more_went, others_stay}
+use Rattle.requantiser.specs.Private.Counts.{IsSized, tally_in}
+use Rattle.requantiser.specs.Private.Rungs.{AreRescaled}
+use Rattle.requantiser.proofs.Counted.{counted_by}
 use Rattle.requantiser.proofs.tally.add_coefficient.Goals as goal
 
-pub loop-k-preserved : goal.loop-k-preserved
-loop-k-preserved c =
-    let k : ℕ = c.loop-k.k in
-    let within : k < length c.loop-k.tallies = omega (arith, c.loop-k-test.true, c.requires.count, c.loop-k.invariant.len) in
+pub add_squares-requires-clause-room : goal.add_squares-requires-clause-room
+add_squares-requires-clause-room c = λ k below. (c.requires k below).distortion
+
+pub add_squares-requires-clause-small : goal.add_squares-requires-clause-small
+add_squares-requires-clause-small c = λ k below.
+    (c.rung_of-rung.result.now.right c.args.coefficient.weight c.args.rescaling.from c.args.rescaling.intra (omega arith) (omega (arith, c.args.rescaling.from_range)) c.rung_of-rung.ensures.number k below).2
+
+pub add_sizes-requires-clause-next : goal.add_sizes-requires-clause-next
+add_sizes-requires-clause-next c = λ k below.
+    let same : get_or c.add_squares.new.self.next k 0 ≡ get_or c.args.counts.now.next k 0 = ap (λ xs. get_or xs k 0) c.add_squares.ensures.next in
+    omega (arith, same, (c.requires k below).next)
+
+pub add_sizes-requires-clause-room : goal.add_sizes-requires-clause-room
+add_sizes-requires-clause-room c = λ k below.
+    let same : get_or c.add_squares.new.self.bits k 0 ≡ get_or c.args.counts.now.bits k 0 = ap (λ xs. get_or xs k 0) c.add_squares.ensures.bits in
+    omega (arith, same, (c.requires k below).bits)
+
+pub returns : goal.returns
+returns c = λ k below.
     let level : ℤ = c.args.coefficient.level in
     let weight : ℕ = c.args.coefficient.weight in
-    let P : Tally → Tally → Type 0 = λ before behind. IsCounted c.args.way c.args.coefficient.at
-    (coarser_level level weight c.args.rescaling.from before.target.scale c.args.rescaling.intra)
-    (level_change level weight c.args.rescaling.from before.target.scale c.args.rescaling.intra) before behind in
-    let here : (e d : Tally) → get_or c.loop-k.tallies k e ≡ get_or c.args.tallies.now k d = λ e d.
-    get_or_default c.loop-k.tallies k e d within ∙ c.loop-k.invariant.stay k d (omega arith) in
-    let rung = c.rung_of-rung.ensures in
-    record {
-      len = length-set c.loop-k.tallies k c.add.new.self ∙ c.loop-k.invariant.len;
-      went = one_more_went P c.args.tallies.now c.loop-k.tallies k c.add.new.self within
-          (λ d. let scale : (get_or c.loop-k.tallies k c.index-tallies-k.result).target.scale ≡ (get_or c.args.tallies.now k d).target.scale =
-          ap (λ (t : Tally). t.target.scale) (here c.index-tallies-k.result d) in
-          counted_as c.args.way c.args.coefficient.at c.change-change.result.level
-          (coarser_level level weight c.args.rescaling.from (get_or c.args.tallies.now k d).target.scale c.args.rescaling.intra) c.change-change.result.squared
-          (level_change level weight c.args.rescaling.from (get_or c.args.tallies.now k d).target.scale c.args.rescaling.intra)
-          (get_or c.loop-k.tallies k c.index-tallies-k-in-loop-k.result) (get_or c.args.tallies.now k d) c.add.new.self
-          (c.change-change.ensures.level ∙ same_five coarser_level rung.level rung.weight rung.from scale rung.intra)
-          (c.change-change.ensures.squared ∙ same_five level_change rung.level rung.weight rung.from scale rung.intra)
-          (here c.index-tallies-k-in-loop-k.result d) c.add.ensures)
-          c.loop-k.invariant.went;
-      stay = others_stay c.args.tallies.now c.loop-k.tallies k c.add.new.self c.loop-k.invariant.stay;
-    }
+    let from : ℕ = c.args.rescaling.from in
+    let intra : Bool = c.args.rescaling.intra in
+    let scales : List ℕ = c.args.targets.now.scales in
+    let rung = c.rung_of-rung.result.now in
+    let size : ℕ = get_or rung.sizes k 0 in
+    let squared : ℕ = get_or rung.squares k 0 in
+    let is = rung.right weight from intra (omega arith) (omega (arith, c.args.rescaling.from_range)) c.rung_of-rung.ensures.number k below in
+    let next' : ℕ = get_or c.add_sizes.new.self.next k 0 in
+    let bits' : ℕ = get_or c.add_sizes.new.self.bits k 0 in
+    let size_is : size ≡ unsigned_abs (coarser_level level weight from (get_or scales k 0) intra) =
+    is.0 ∙ ap (λ (l : ℤ). unsigned_abs (coarser_level l weight from (get_or rung.scales k 0) intra)) c.rung_of-rung.ensures.level
+    ∙ ap (λ (xs : List ℕ). unsigned_abs (coarser_level level weight from (get_or xs k 0) intra)) c.rung_of-rung.ensures.scales in
+    let squared_is : squared ≡ level_change level weight from (get_or scales k 0) intra =
+    is.1 ∙ ap (λ (l : ℤ). level_change l weight from (get_or rung.scales k 0) intra) c.rung_of-rung.ensures.level
+    ∙ ap (λ (xs : List ℕ). level_change level weight from (get_or xs k 0) intra) c.rung_of-rung.ensures.scales in
+    counted_by c.args.way c.args.coefficient.at size squared (coarser_level level weight from (get_or scales k 0) intra) (level_change level weight from (get_or scales k 0) intra)
+    (tally_in c.args.targets.now c.args.counts.now k below) (tally_in c.args.targets.now c.add_sizes.new.self k below) refl
+    (ap (λ (xs : List ℕ). get_or xs k 0) (c.add_sizes.ensures.patterns ∙ c.add_squares.ensures.patterns)) size_is squared_is is.2
+    (subst (λ (xs : List ℕ). IsSized c.args.way c.args.coefficient.at size (get_or xs k 0) (get_or c.args.counts.now.bits k 0) next' bits') c.add_squares.ensures.next
+    (subst (λ (xs : List ℕ). IsSized c.args.way c.args.coefficient.at size (get_or c.add_squares.new.self.next k 0) (get_or xs k 0) next' bits') c.add_squares.ensures.bits
+    (c.add_sizes.ensures.each k below)))
+    (ap (λ (xs : List ℕ). get_or xs k 0) c.add_sizes.ensures.squares ∙ c.add_squares.ensures.each k below)

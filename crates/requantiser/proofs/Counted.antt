@@ -1,0 +1,232 @@
+-- The counts of several versions at once, and the lengths of codes that they are made of.
+use Rattle.std.proofs.Common.{◌≡◌, ℕ, zero, suc, ◌+◌, ◌-◌, ◌*◌, ◌^◌, ◌<◌, ◌≤◌, ℤ, pos, unsigned_abs, int_lt, Option, Some, None, List, [], ◌∷◌, ◌++◌, Bool, true, false, refl, sym, ◌∙◌, ap, ap₂, subst, ◌⊎◌, inl, inr, arith, length, replicate, get_or, length-append}
+use Rattle.std.specs.Prelude.{◌==◌, ◌&&◌, ◌≢◌, slice_set, if◌then◌else◌}
+use Rattle.std.specs.Option.{option_map_or}
+use Rattle.std.proofs.lemmas.Bool.{cases_lt, cases_order, ne_eqb}
+use Rattle.std.proofs.lemmas.List.{get_or-set_same, get_or-set_other, get_or-replicate, get_or_past, length-replicate}
+use Rattle.bit_lists.specs.Bits.{bits_of}
+use Rattle.bit_lists.specs.Fields.{flag}
+use Rattle.bit_lists.proofs.BitLemmas.{length-bits_of}
+use Rattle.prefix_codes.specs.declared.symbol.TheConstants.{ESCAPE}
+use Rattle.prefix_codes.specs.declared.table_name.TableName.{TableName}
+use Rattle.prefix_codes.specs.declared.table_name.TableName.TheVariants.{CoeffZero, CoeffFirst, CoeffOne}
+use Rattle.prefix_codes.specs.TableName.{coefficient_code}
+use Rattle.syntax_types.specs.declared.block.BlockWay.{BlockWay}
+use Rattle.syntax_types.specs.declared.block.RunLevel.{RunLevel}
+use Rattle.picture_grammar.specs.Block.{coefficient_table, first_place}
+use Rattle.picture_grammar.specs.Written.{code_for, level_bits, written_coefficient, written_coefficients, written_escape}
+use Rattle.quant_math.specs.Scales.{IsMappedCode}
+use Rattle.syntax_types.specs.declared.macroblock.Macroblock.{Macroblock}
+use Rattle.syntax_types.specs.declared.picture.PicCoding.{PicCoding}
+use Rattle.syntax_types.specs.declared.picture.SeqState.{SeqState}
+use Rattle.picture_grammar.specs.Macroblock.{block_way, no_block}
+use Rattle.requantiser.specs.Blocks.{AreCoarserBlocks}
+use Rattle.requantiser.specs.Distortion.{difference_of}
+use Rattle.requantiser.specs.Levels.{coefficient_at, place_of}
+use Rattle.requantiser.specs.Tallies.{IsTallyOf}
+use Rattle.requantiser.specs.declared.counts.Counts.{Counts}
+use Rattle.requantiser.specs.declared.tally.Tally.{Tally}
+use Rattle.requantiser.specs.declared.targets.Targets.{Targets}
+use Rattle.requantiser.specs.Private.Counts.{IsEndedBy, IsSized, IsTheTally, bits_by, next_by, tally_in}
+use Rattle.requantiser.specs.Private.Lengths.{AreLengths, length_by, table_number, table_numbered}
+use Rattle.requantiser.specs.Private.Changes.{pair_changes}
+use Rattle.requantiser.specs.Private.Tallies.{IsCounted, IsEnded, IsTallied, bits_at, has_none}
+use Rattle.requantiser.specs.Private.Walk.{coarsened_pairs}
+use Rattle.requantiser.proofs.Tallies.{three_parts}
+
+-- ---- the lengths of codes
+
+by_found : (table : TableName) (pair : RunLevel) (sign : List ℕ) (found : Option (List ℕ)) → length sign ≡ 1
+    → length (option_map_or (λ code. code ++ sign) found (written_escape table pair)) ≡ option_map_or (λ code. length code + 1) found (length (code_for table ESCAPE) + 18)
+by_found table pair sign None one =
+    omega (arith, three_parts (code_for table ESCAPE) (bits_of 6 pair.run) (bits_of 12 (level_bits pair.level)), length-bits_of 6 pair.run, length-bits_of 12 (level_bits pair.level))
+by_found table pair sign (Some code) one = length-append code sign ∙ ap (λ n. length code + n) one
+
+-- a coefficient is written in as many bits
+pub written-length : (table : TableName) (pair : RunLevel) → length (written_coefficient table pair) ≡ length_by table pair.run (unsigned_abs pair.level)
+written-length table pair = by_found table pair (flag (int_lt pair.level (pos 0)) ∷ []) (coefficient_code table pair.run (unsigned_abs pair.level)) refl
+
+-- the table of a coefficient by its number
+pub table_is : (way : BlockWay) (place : ℕ) → coefficient_table way place ≡ table_numbered (table_number way place)
+table_is way place = by_bools way.intra way.vlc_one (place == 0)
+  where
+    by_bools : (intra one start : Bool) → (if intra then (if one then CoeffOne else CoeffZero) else (if start then CoeffFirst else CoeffZero))
+        ≡ table_numbered (if intra then (if one then 2 else 0) else (if start then 1 else 0))
+    by_bools true true start = refl
+    by_bools true false start = refl
+    by_bools false one true = refl
+    by_bools false one false = refl
+
+zero_at : (n i : ℕ) → ◌≡◌ {A = ℕ} (get_or (replicate n 0) i 0) 0
+zero_at n i = by_place (cases_lt i n)
+  where
+    by_place : (i < n) ⊎ (n ≤ i) → ◌≡◌ {A = ℕ} (get_or (replicate n 0) i 0) 0
+    by_place (inl there) = get_or-replicate n i 0 0 there
+    by_place (inr past) = get_or_past (replicate n 0) i 0 (omega (arith, past, length-replicate {A = ℕ} n 0))
+
+-- nothing is known
+pub none_known : (n : ℕ) → AreLengths (replicate n 0)
+none_known n number run size r s some = absurd (omega (arith, some, zero_at n (1024 * number + 16 * run + size)))
+
+-- one more is known
+pub one_more_length : (lengths : List ℕ) (number run size bits place : ℕ) → place ≡ 1024 * number + 16 * run + size → place < length lengths → run < 64 → size < 16
+    → bits ≡ length_by (table_numbered number) run size → bits ≤ 42 → AreLengths lengths → AreLengths (slice_set lengths place bits)
+one_more_length lengths number run size bits place at within r s value few was number' run' size' r' s' = by_place (cases_order (1024 * number' + 16 * run' + size') place)
+  where
+    by_place : (1024 * number' + 16 * run' + size' ≡ place) ⊎ ((1024 * number' + 16 * run' + size' < place) ⊎ (place < 1024 * number' + 16 * run' + size'))
+        → 0 < get_or (slice_set lengths place bits) (1024 * number' + 16 * run' + size') 0
+        → (get_or (slice_set lengths place bits) (1024 * number' + 16 * run' + size') 0 ≡ length_by (table_numbered number') run' size')
+        × (get_or (slice_set lengths place bits) (1024 * number' + 16 * run' + size') 0 ≤ 42)
+    by_place (inl here) some =
+        let same_number : number ≡ number' = omega (arith, here, at, r, s, r', s') in
+        let same_run : run ≡ run' = omega (arith, here, at, r, s, r', s', same_number) in
+        let same_size : size ≡ size' = omega (arith, here, at, same_number, same_run) in
+        let found : get_or (slice_set lengths place bits) (1024 * number' + 16 * run' + size') 0 ≡ bits =
+        ap (λ n. get_or (slice_set lengths place bits) n 0) here ∙ get_or-set_same lengths place bits 0 within in
+        (found ∙ value ∙ ap (λ n. length_by (table_numbered n) run size) same_number ∙ ap₂ (λ a b. length_by (table_numbered number') a b) same_run same_size, omega (arith, found, few))
+    by_place (inr (inl there)) some = subst (λ (v : ℕ). 0 < v → (v ≡ length_by (table_numbered number') run' size') × (v ≤ 42))
+        (sym (get_or-set_other lengths place (1024 * number' + 16 * run' + size') bits 0 (λ e. absurd (omega (arith, e, there))))) (was number' run' size' r' s') some
+    by_place (inr (inr past)) some = subst (λ (v : ℕ). 0 < v → (v ≡ length_by (table_numbered number') run' size') × (v ≤ 42))
+        (sym (get_or-set_other lengths place (1024 * number' + 16 * run' + size') bits 0 (λ e. absurd (omega (arith, e, past))))) (was number' run' size' r' s') some
+
+-- ---- one coefficient
+
+bits_same : (way : BlockWay) (next at : ℕ) (level : ℤ) → bits_by way next at (unsigned_abs level) ≡ bits_at way next at level
+bits_same way next at level = ap (λ (n : ℕ). elim (unsigned_abs level == 0) [ true ↦ 0 | false ↦ n ]) (sym (written-length (coefficient_table way next) (record { run = at - next; level = level })))
+
+-- a coefficient was counted by its size
+pub counted_by : (way : BlockWay) (at size squared : ℕ) (level : ℤ) (squared' : ℕ) (before behind : Tally) → behind.target ≡ before.target → behind.pattern ≡ before.pattern
+    → size ≡ unsigned_abs level → squared ≡ squared' → squared ≤ 2 ^ 22
+    → IsSized way at size before.next before.bits behind.next behind.bits → behind.distortion ≡ before.distortion + squared → IsCounted way at level squared' before behind
+counted_by way at size squared level squared' before behind target pattern l q most sized d = record {
+  target = target;
+  pattern = pattern;
+  next = sized.next_is ∙ ap (next_by before.next at) l;
+  bits = sized.bits_is ∙ ap (λ n. before.bits + bits_by way before.next at n) l ∙ ap (λ n. before.bits + n) (bits_same way before.next at level);
+  distortion = d ∙ ap (λ n. before.distortion + n) q;
+  few = sized.few;
+  small = omega (arith, d, most);
+}
+
+-- ---- one version after another
+
+-- one more place of two lists is written: what holds of the new items holds of all
+module _ (P : ℕ → ℕ → ℕ → Type 0) where
+  by_two : (j : ℕ) {a a' b b' : ℕ} → a' ≡ a → b' ≡ b → P j a b → P j a' b'
+  by_two j {a} {a'} {b} {b'} p q h = subst (λ n. P j n b') (sym p) (subst (λ n. P j a n) (sym q) h)
+
+  pub set_two : (Q R : ℕ → Type 0) (xs ys : List ℕ) (k x y : ℕ) → k < length xs → k < length ys → P k x y
+      → ((j : ℕ) → Q j → P j (get_or xs j 0) (get_or ys j 0)) → ((j : ℕ) → R j → j ≢ k → Q j)
+      → (j : ℕ) → R j → P j (get_or (slice_set xs k x) j 0) (get_or (slice_set ys k y) j 0)
+  set_two Q R xs ys k x y in_x in_y is each covers j here = by_place (cases_order j k)
+    where
+      by_place : (j ≡ k) ⊎ ((j < k) ⊎ (k < j)) → P j (get_or (slice_set xs k x) j 0) (get_or (slice_set ys k y) j 0)
+      by_place (inl at) = subst (λ n. P n (get_or (slice_set xs k x) n 0) (get_or (slice_set ys k y) n 0)) (sym at)
+          (by_two k (get_or-set_same xs k x 0 in_x) (get_or-set_same ys k y 0 in_y) is)
+      by_place (inr (inl there)) = by_two j (get_or-set_other xs k j x 0 (λ e. absurd (omega (arith, e, there)))) (get_or-set_other ys k j y 0 (λ e. absurd (omega (arith, e, there))))
+          (each j (covers j here (λ e. absurd (omega (arith, e, there)))))
+      by_place (inr (inr past)) = by_two j (get_or-set_other xs k j x 0 (λ e. absurd (omega (arith, e, past)))) (get_or-set_other ys k j y 0 (λ e. absurd (omega (arith, e, past))))
+          (each j (covers j here (λ e. absurd (omega (arith, e, past)))))
+
+-- all places of two lists have the same items
+pub all_alike : (P : ℕ → ℕ → Type 0) (n x y : ℕ) → P x y → (j : ℕ) → j < n → P (get_or (replicate n x) j 0) (get_or (replicate n y) j 0)
+all_alike P n x y is j below =
+    subst (λ a. P a (get_or (replicate n y) j 0)) (sym (get_or-replicate n j x 0 below)) (subst (λ b. P x b) (sym (get_or-replicate n j y 0 below)) is)
+
+-- one more version went on, and the others stayed as they were
+pub one_more_at : (P : ℕ → ℕ → ℕ → ℕ → Type 0) (a b c a' b' c' : ℕ → ℕ) (k : ℕ) → P k (a' k) (b' k) (c' k)
+    → ((j : ℕ) → j ≢ k → (a' j ≡ a j) × (b' j ≡ b j) × (c' j ≡ c j)) → ((j : ℕ) → j < k → P j (a j) (b j) (c j))
+    → (j : ℕ) → j < k + 1 → P j (a' j) (b' j) (c' j)
+one_more_at P a b c a' b' c' k is others each j below = by_place (cases_order j k)
+  where
+    by_place : (j ≡ k) ⊎ ((j < k) ⊎ (k < j)) → P j (a' j) (b' j) (c' j)
+    by_place (inl here) = subst (λ n. P n (a' n) (b' n) (c' n)) (sym here) is
+    by_place (inr (inl there)) =
+        let same = others j (λ e. absurd (omega (arith, e, there))) in
+        subst (λ n. P j n (b' j) (c' j)) (sym same.0) (subst (λ n. P j (a j) n (c' j)) (sym same.1) (subst (λ n. P j (a j) (b j) n) (sym same.2) (each j there)))
+    by_place (inr (inr past)) = absurd (omega (arith, past, below))
+
+-- a coefficient that is 0
+pub none_sized : (way : BlockWay) (at size next bits next' bits' : ℕ) → size ≡ 0 → next' ≡ next → bits' ≡ bits → IsSized way at size next bits next' bits'
+none_sized way at size next bits next' bits' gone n b = record {
+  next_is = n ∙ ap (next_by next at) (sym gone);
+  bits_is = omega (arith, b, ap (bits_by way next at) gone);
+  few = omega (arith, b);
+}
+
+-- a coefficient that stays
+pub some_sized : (way : BlockWay) (at size next bits more next' bits' : ℕ) → 0 < size → more ≡ length_by (table_numbered (table_number way next)) (at - next) size → more ≤ 42
+    → next' ≡ at + 1 → bits' ≡ bits + more → IsSized way at size next bits next' bits'
+some_sized way at size next bits more next' bits' some value few n b =
+    let stays : (size == 0) ≡ false = ne_eqb size 0 (λ e. absurd (omega (arith, e, some))) in
+    record {
+      next_is = n ∙ sym (ap (λ (gone : Bool). elim gone [ true ↦ next | false ↦ at + 1 ]) stays);
+      bits_is = b ∙ ap (λ n. bits + n) (value ∙ ap (λ table. length_by table (at - next) size) (sym (table_is way next))
+          ∙ sym (ap (λ (gone : Bool). elim gone [ true ↦ 0 | false ↦ length_by (coefficient_table way next) (at - next) size ]) stays));
+      few = omega (arith, b, few);
+    }
+
+-- the end of a block was counted
+pub ended_by : (way : BlockWay) (before behind : Tally) → behind.target ≡ before.target → behind.distortion ≡ before.distortion
+    → IsEndedBy way before.next before.pattern before.bits behind.next behind.pattern behind.bits → IsEnded way before behind
+ended_by way before behind target distortion is = record {
+  target = target;
+  next = is.next_is;
+  pattern = is.pattern_is;
+  bits = is.bits_is;
+  distortion = distortion;
+  few = is.few;
+}
+
+-- the same end, by other numbers of the same value
+pub ended_as : (way : BlockWay) (next pattern bits n p b n' p' b' : ℕ) → n' ≡ n → p' ≡ p → b' ≡ b → IsEndedBy way next pattern bits n p b → IsEndedBy way next pattern bits n' p' b'
+ended_as way next pattern bits n p b n' p' b' x y z is = record {
+  next_is = x ∙ is.next_is;
+  pattern_is = y ∙ is.pattern_is;
+  bits_is = z ∙ is.bits_is;
+  few = omega (arith, z, is.few);
+}
+
+-- a count that is told by a tally
+pub tally_as : (seq : SeqState) (coding : PicCoding) (code m : ℕ) (from : Macroblock) (targets : Targets) (counts : Counts) (k : ℕ) (below : k < 8) (tally : Tally)
+    → IsTheTally targets counts k tally → IsTallyOf seq coding code m from (tally_in targets counts k below) → IsTallyOf seq coding code m from tally
+tally_as seq coding code m from targets counts k below tally same is = record {
+  mapped = subst (IsMappedCode coding.q_scale_type code m) (sym same.code) is.mapped;
+  blocks = is.blocks;
+  coarser = subst (λ (n : ℕ). AreCoarserBlocks seq coding from.kind code n from.blocks is.blocks) (sym same.code) is.coarser;
+  pattern = same.pattern ∙ is.pattern;
+  bits = same.bits ∙ is.bits;
+  few = omega (arith, same.bits, is.few);
+  distortion = same.distortion ∙ is.distortion ∙ ap (λ (n : ℕ). difference_of
+      (λ i index. coefficient_at seq coding (block_way coding from.kind i) code (get_or from.blocks i no_block) (place_of coding.alternate_scan index))
+      (λ i index. coefficient_at seq coding (block_way coding from.kind i) n (get_or is.blocks i no_block) (place_of coding.alternate_scan index))) (sym same.code);
+  small = omega (arith, same.distortion, is.small);
+}
+
+-- nothing of a block was counted
+module _ (new : ℕ → ℤ → ℤ) (change : ℕ → ℤ → ℕ) (all : List RunLevel) (start : Tally) (place : ℕ) where
+  none_of : (intra luma vlc_one : Bool) → let way : BlockWay = record { intra = intra; luma = luma; vlc_one = vlc_one } in
+      place ≡ first_place way → start.next ≡ first_place way → has_none (coarsened_pairs new (first_place way) 0 all) ≡ ((start.next == first_place way) && has_none (coarsened_pairs new place (place - start.next) all))
+  none_of true luma vlc_one at next = subst (λ (n : ℕ). has_none (coarsened_pairs new 1 0 all) ≡ ((n == 1) && has_none (coarsened_pairs new place (place - n) all))) (sym next)
+      (subst (λ (p : ℕ). has_none (coarsened_pairs new 1 0 all) ≡ ((1 == 1) && has_none (coarsened_pairs new p (p - 1) all))) (sym at) refl)
+  none_of false luma vlc_one at next = subst (λ (n : ℕ). has_none (coarsened_pairs new 0 0 all) ≡ ((n == 0) && has_none (coarsened_pairs new place (place - n) all))) (sym next)
+      (subst (λ (p : ℕ). has_none (coarsened_pairs new 0 0 all) ≡ ((0 == 0) && has_none (coarsened_pairs new p (p - 0) all))) (sym at) refl)
+
+  pub none_counted : (way : BlockWay) → place ≡ first_place way → start.next ≡ first_place way → IsTallied way new change place all all start start
+  none_counted way at next =
+      let first : ℕ = first_place way in
+      let zeros : place - start.next ≡ 0 = omega (arith, at, next) in
+      record {
+        target = refl;
+        pattern = refl;
+        bits = ap (λ (n : ℕ). start.bits + length (written_coefficients way n (coarsened_pairs new place (place - start.next) all))) next
+            ∙ ap (λ (z : ℕ). start.bits + length (written_coefficients way (first_place way) (coarsened_pairs new place z all))) zeros
+            ∙ ap (λ (p : ℕ). start.bits + length (written_coefficients way (first_place way) (coarsened_pairs new p 0 all))) at;
+        none = none_of way.intra way.luma way.vlc_one at next;
+        distortion = ap (λ (p : ℕ). start.distortion + pair_changes change p all) at;
+        low = omega (arith, next);
+        high = omega (arith, at, next);
+        no_less = omega arith;
+        few = omega arith;
+        small = omega arith;
+      }

@@ -1,0 +1,174 @@
+//! The counts of a macroblock in several versions at once, kept by what they count.
+ghost use Rattle.std.specs.Prelude.{◌≡◌, ◌≢◌, ◌<◌, ◌≤◌, ◌+◌, ◌^◌, ℕ, length, slice_index, if◌then◌else◌};
+ghost use Rattle.prefix_codes.specs.declared.symbol.TheConstants.{END_OF_BLOCK};
+ghost use Rattle.prefix_codes.specs.declared.table_name.TableName.TheVariants.{CoeffZero};
+ghost use Rattle.picture_grammar.specs.Written.{code_for};
+ghost use Rattle.requantiser.specs.Private.Counts.{IsEndedBy, IsSized, IsTheTally};
+
+use crate::code_lengths::{end_bits, table_number};
+use crate::codes::Target;
+use crate::ladder::Rung;
+use crate::lengths::Lengths;
+use crate::tally::{Tally, VERSIONS_AT_ONCE};
+use crate::targets::Targets;
+use syntax_types::{BLOCK_PLACES, BlockWay};
+
+/// What was counted of the coefficients of a macroblock in each version: the fields of its tally.
+#[derive(Clone, Copy)]
+pub struct Counts {
+    pub next: [u8; VERSIONS_AT_ONCE],
+    pub patterns: [u8; VERSIONS_AT_ONCE],
+    pub bits: [u32; VERSIONS_AT_ONCE],
+    /// The squares of the differences of a macroblock's coefficients fit 32 bits.
+    pub squares: [u32; VERSIONS_AT_ONCE],
+}
+
+impl Counts {
+    /// Nothing is counted.
+    pub fn new(intra: bool) -> Counts
+        ensures next { (k : ℕ) → k < 8 → slice_index result.next k ≡ (if intra then 1 else 0) }
+        ensures patterns { (k : ℕ) → k < 8 → slice_index result.patterns k ≡ 0 }
+        ensures bits { (k : ℕ) → k < 8 → slice_index result.bits k ≡ 0 }
+        ensures squares { (k : ℕ) → k < 8 → slice_index result.squares k ≡ 0 }
+    {
+        Counts {
+            next: [u8::from(intra); VERSIONS_AT_ONCE],
+            patterns: [0; VERSIONS_AT_ONCE],
+            bits: [0; VERSIONS_AT_ONCE],
+            squares: [0; VERSIONS_AT_ONCE],
+        }
+    }
+
+    /// The tally of a version.
+    pub fn tally(&self, targets: &Targets, number: usize) -> Tally
+        requires { number < VERSIONS_AT_ONCE }
+        ensures { IsTheTally targets.now self.now number result }
+    {
+        Tally {
+            target: Target {
+                code: targets.codes[number],
+                scale: targets.scales[number],
+            },
+            next: self.next[number],
+            pattern: self.patterns[number],
+            bits: self.bits[number],
+            distortion: u64::from(self.squares[number]),
+        }
+    }
+
+    /// Adds the squares of the differences of a coefficient.
+    #[inline]
+    pub fn add_squares(&mut self, squares: &[u32; VERSIONS_AT_ONCE])
+        requires room { (k : ℕ) → k < 8 → slice_index self.old.squares k ≤ 2 ^ 31 + 2 ^ 29 }
+        requires small { (k : ℕ) → k < 8 → slice_index squares.now k ≤ 2 ^ 22 }
+        ensures each { (k : ℕ) → k < 8 → slice_index self.new.squares k ≡ slice_index self.old.squares k + slice_index squares.now k }
+        ensures next { self.new.next ≡ self.old.next }
+        ensures patterns { self.new.patterns ≡ self.old.patterns }
+        ensures bits { self.new.bits ≡ self.old.bits }
+    {
+        for k in 0..VERSIONS_AT_ONCE {
+            self.squares[k] += squares[k];
+        }
+    }
+
+    /// Adds the bits of a coefficient in each version in which it isn't 0.
+    #[inline]
+    pub fn add_sizes(&mut self, way: BlockWay, at: u8, rung: &Rung, lengths: &mut Lengths)
+        requires at { at < BLOCK_PLACES }
+        requires next { (k : ℕ) → k < 8 → slice_index self.old.next k ≤ at }
+        requires room { (k : ℕ) → k < 8 → slice_index self.old.bits k ≤ 2 ^ 20 }
+        ensures each { (k : ℕ) → k < 8 → IsSized way at (slice_index rung.now.sizes k) (slice_index self.old.next k) (slice_index self.old.bits k) (slice_index self.new.next k) (slice_index self.new.bits k) }
+        ensures patterns { self.new.patterns ≡ self.old.patterns }
+        ensures squares { self.new.squares ≡ self.old.squares }
+    {
+        for k in 0..usize::from(rung.living) {
+            self.add_size(k, way, at, rung.sizes[k], lengths);
+        }
+    }
+
+    /// Adds the bits of a coefficient in a version.
+    #[inline]
+    fn add_size(&mut self, k: usize, way: BlockWay, at: u8, size: u16, lengths: &mut Lengths)
+        requires k { k < VERSIONS_AT_ONCE }
+        requires at { at < BLOCK_PLACES }
+        requires next { slice_index self.old.next k ≤ at }
+        requires room { slice_index self.old.bits k ≤ 2 ^ 20 }
+        ensures here { IsSized way at size (slice_index self.old.next k) (slice_index self.old.bits k) (slice_index self.new.next k) (slice_index self.new.bits k) }
+        ensures others { (j : ℕ) → j ≢ k → (slice_index self.new.next j ≡ slice_index self.old.next j) × (slice_index self.new.bits j ≡ slice_index self.old.bits j) }
+        ensures patterns { self.new.patterns ≡ self.old.patterns }
+        ensures squares { self.new.squares ≡ self.old.squares }
+    {
+        if size == 0 {
+            return;
+        }
+        let next = self.next[k];
+        self.bits[k] += lengths.of(table_number(way, next), at - next, size);
+        self.next[k] = at + 1;
+    }
+
+    /// Ends a block in all versions.
+    pub fn end_block(&mut self, way: BlockWay)
+        requires patterns { (k : ℕ) → k < 8 → slice_index self.old.patterns k < 2 ^ 6 }
+        requires room { (k : ℕ) → k < 8 → slice_index self.old.bits k ≤ 2 ^ 20 }
+        ensures each { (k : ℕ) → k < 8 → IsEndedBy way (slice_index self.old.next k) (slice_index self.old.patterns k) (slice_index self.old.bits k)
+            (slice_index self.new.next k) (slice_index self.new.patterns k) (slice_index self.new.bits k) }
+        ensures squares { self.new.squares ≡ self.old.squares }
+    {
+        let end = end_bits(way.intra);
+        for k in 0..VERSIONS_AT_ONCE {
+            self.end(k, way, end);
+        }
+    }
+
+    /// Ends a block in a version.
+    #[inline]
+    fn end(&mut self, k: usize, way: BlockWay, end: u32)
+        requires k { k < VERSIONS_AT_ONCE }
+        requires end { end ≡ (if way.intra then 0 else length (code_for CoeffZero END_OF_BLOCK)) }
+        requires few { end ≤ 24 }
+        requires pattern { slice_index self.old.patterns k < 2 ^ 6 }
+        requires room { slice_index self.old.bits k ≤ 2 ^ 20 }
+        ensures here { IsEndedBy way (slice_index self.old.next k) (slice_index self.old.patterns k) (slice_index self.old.bits k)
+            (slice_index self.new.next k) (slice_index self.new.patterns k) (slice_index self.new.bits k) }
+        ensures others { (j : ℕ) → j ≢ k → (slice_index self.new.next j ≡ slice_index self.old.next j) × (slice_index self.new.patterns j ≡ slice_index self.old.patterns j)
+            × (slice_index self.new.bits j ≡ slice_index self.old.bits j) }
+        ensures squares { self.new.squares ≡ self.old.squares }
+    {
+        let ended = behind_end(way, self.next[k], self.patterns[k], self.bits[k], end);
+        self.next[k] = ended.next;
+        self.patterns[k] = ended.pattern;
+        self.bits[k] = ended.bits;
+    }
+}
+
+/// A version behind the end of a block.
+#[derive(Clone, Copy)]
+struct Ended {
+    next: u8,
+    pattern: u8,
+    bits: u32,
+}
+
+/// A version behind the end of a block, which has so many bits.
+#[inline]
+fn behind_end(way: BlockWay, next: u8, pattern: u8, bits: u32, end: u32) -> Ended
+    requires end { end ≡ (if way.intra then 0 else length (code_for CoeffZero END_OF_BLOCK)) }
+    requires few { end ≤ 24 }
+    requires pattern { pattern < 2 ^ 6 }
+    requires room { bits ≤ 2 ^ 20 }
+    ensures { IsEndedBy way next pattern bits result.next result.pattern result.bits }
+{
+    let first = u8::from(way.intra);
+    if next == first {
+        return Ended {
+            next: first,
+            pattern: 2 * pattern,
+            bits,
+        };
+    }
+    Ended {
+        next: first,
+        pattern: 2 * pattern + 1,
+        bits: bits + end,
+    }
+}
