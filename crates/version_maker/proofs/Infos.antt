@@ -1,5 +1,5 @@
 -- What the header of a slice says: its code, and what stands behind it, which is no longer than the slice.
-use Rattle.std.proofs.Common.{◌≡◌, ℕ, ◌+◌, ◌≤◌, Option, Some, None, List, [], ◌∷◌, ◌++◌, Bool, true, false, sym, ap, subst, arith, length, IfSome}
+use Rattle.std.proofs.Common.{ℕ, ◌+◌, ◌≤◌, Option, Some, None, List, [], ◌∷◌, ◌++◌, Bool, true, false, sym, ap, subst, arith, length, IfSome}
 use Rattle.std.proofs.lemmas.List.{length-append}
 use Rattle.quant_math.specs.Scales.{IsCode}
 use Rattle.syntax_types.specs.declared.slice.SliceInfo.{SliceInfo}

@@ -1,13 +1,12 @@
-use Rattle.std.proofs.Common.{◌≡◌, ◌≤◌, ◌+◌, ◌∷◌, ◌++◌, ℕ, List, [], Some, Bool, true, false, length, get_or, refl, sym, ap, ap₂, subst, ◌∙◌, inl, arith}
+use Rattle.std.proofs.Common.{◌≡◌, ◌≤◌, ◌+◌, ◌∷◌, ◌++◌, ℕ, List, [], Some, Bool, true, false, length, get_or, refl, sym, ap, subst, ◌∙◌, inl, arith}
 use Rattle.std.specs.Prelude.{◌==◌, ◌&&◌, not, slice_index}
 use Rattle.std.specs.List.{sum_by}
-use Rattle.std.proofs.lemmas.List.Sums.{sum_by-cons}
 use Rattle.std.proofs.lemmas.Result.{err_from_is_err_and}
 use Rattle.bit_cursor.specs.BitReader.{bits_left, place}
 use Rattle.bit_cursor.proofs.Source.{keeps_then}
 use Rattle.picture_grammar.specs.Grammar.{many}
 use Rattle.picture_grammar.specs.Grammar.Next.{more, last}
-use Rattle.picture_grammar.specs.Slice.{ClosesSlice, next_macroblock}
+use Rattle.picture_grammar.specs.Slice.{next_macroblock}
 use Rattle.grammar_reading.proofs.Several.{several-more, several-end}
 use Rattle.macroblock_reader.specs.SliceFault.{refusal_told}
 use Rattle.macroblock_reader.specs.SliceCursor.{next_of}
