@@ -5,6 +5,7 @@ use Rattle.std.specs.List.{AllZip, flat_map}
 use Rattle.std.proofs.lemmas.List.{length-map}
 use Rattle.std.proofs.lemmas.List.Elements.{All-append, All-cons, All-from_get_or, All-head, All-nil, All-tail, All-weaker}
 use Rattle.payload_lists.specs.Payload.{CarriedPayload}
+use Rattle.bit_lists.specs.Fields.{AreBytes}
 use Rattle.ts_packets.specs.TransportStream.{piece_count, pieces_of as packets_on}
 use Rattle.ts_packets.specs.Carried.{carried}
 use Rattle.psi_tables.specs.declared.program_map.ProgramMap.{ProgramMap}
@@ -112,11 +113,11 @@ module _ (law : ReadIsSendable) (taken : TakenOutLaw) (gathered : GatheredAgain)
   one-read : (n : ℕ) (job : ProgramJob) (jobs : List ProgramJob) (p : Program) (coarser : List ℕ) (v : List (List UnitVersion)) (choice : List ℕ) (before rest : List ProgramMap)
       (more : List CodedUnit)
       → layout.maps.items ≡ before ++ with_output_pids n job.number p.map ∷ rest → length before ≡ n → 1 ≤ job.number → All (IsOtherNumber (job ∷ jobs)) before → (content : List ℕ) (start : ℕ)
-      → IsProgramOf content job.program job.drop.items start p
+      → IsProgramOf content job.program job.drop.items start p → AreBytes p.video
       → AreVideoVersions p.video coarser None p.units v → AllZip HasVersion (unit_rows job.weight p.units v ++ more) choice
       → AllCarry file (length rows) (pids_of (with_output_pids n job.number p.map)) (video_items p.units v choice ∷ map audio_items p.audios)
       → ParsesToProgram file content job (with_output_pids n job.number p.map) (sent_units p.units v choice)
-  one-read n job jobs p coarser v choice before rest more split size some apart content start of versions fits carry =
+  one-read n job jobs p coarser v choice before rest more split size some apart content start of bytes versions fits carry =
       let ready : IsReady p = ready-one law content job.program job.drop.items start p of in
       let is = of.program_is in
       let program_map : ProgramMap = with_output_pids n job.number p.map in
@@ -139,11 +140,11 @@ module _ (law : ReadIsSendable) (taken : TakenOutLaw) (gathered : GatheredAgain)
         map_is = refl;
         whole = refl;
         video = read;
-        units = λ bytes.
+        units =
             again (sent_units p.units v choice) (bytes_of (taken_out file program_map goes.video goes.audios).video) read
             (sent-led job.weight p.video coarser None p.units v choice more versions (led content job.program job.drop.items start p coarser v bytes of versions) fits)
             (sent-whole job.weight None p.units v choice more (whole content job.program job.drop.items start p coarser v bytes of versions) fits);
-        slices = λ bytes. sent-slices job.weight None p.units v choice more (whole content job.program job.drop.items start p coarser v bytes of versions) fits;
+        slices = sent-slices job.weight None p.units v choice more (whole content job.program job.drop.items start p coarser v bytes of versions) fits;
         source = of.demuxed;
         source_is = of.demuxed_is;
         audio = audio-packets gathered file goes.audios (map (λ (stream : AudioStream). bytes_of (taken_of stream)) of.demuxed.audios)
@@ -153,18 +154,18 @@ module _ (law : ReadIsSendable) (taken : TakenOutLaw) (gathered : GatheredAgain)
   pub read-back : (n : ℕ) (jobs : List ProgramJob) (programs : List Program) (versions : List (List (List UnitVersion))) (choice : List ℕ) (before : List ProgramMap)
       → layout.maps.items ≡ before ++ output_maps n jobs programs → length before ≡ n → All (IsOtherNumber jobs) before → HaveNumbersApart jobs → All IsValidProgramJob jobs
       → (slots start : ℕ) (read : List (List ℕ)) (done : List Program) (further : List (List ℕ)) → AreNextPrograms slots start read done jobs further programs
-      → AreAllVersions programs (ratios_of jobs) versions
+      → AreAllVersions programs (ratios_of jobs) versions → All (λ (p : Program). AreBytes p.video) programs
       → AllZip HasVersion (flat_map (λ (row : ProgramRow). row.units) (program_rows jobs programs versions)) choice
       → AllCarry file (length rows) (flat_map pids_of (output_maps n jobs programs)) (stream_items programs versions choice)
       → ParsesTo file n jobs further programs versions choice
-  read-back n [] [] [] choice before split size apart pairs valid slots start read done [] next are_versions fits carry = tt
-  read-back n [] [] [] choice before split size apart pairs valid slots start read done (c ∷ cs) next are_versions fits carry = absurd next
-  read-back n [] [] (v ∷ vs) choice before split size apart pairs valid slots start read done further next are_versions fits carry = absurd are_versions
-  read-back n [] (p ∷ ps) versions choice before split size apart pairs valid slots start read done further next are_versions fits carry = absurd are_versions
-  read-back n (j ∷ js) [] versions choice before split size apart pairs valid slots start read done further next are_versions fits carry = absurd are_versions
-  read-back n (j ∷ js) (p ∷ ps) [] choice before split size apart pairs valid slots start read done further next are_versions fits carry = absurd are_versions
-  read-back n (j ∷ js) (p ∷ ps) (v ∷ vs) choice before split size apart pairs valid slots start read done [] next are_versions fits carry = absurd next
-  read-back n (j ∷ js) (p ∷ ps) (v ∷ vs) choice before split size apart pairs valid slots start read done (c ∷ cs) next are_versions fits carry =
+  read-back n [] [] [] choice before split size apart pairs valid slots start read done [] next are_versions bytes fits carry = tt
+  read-back n [] [] [] choice before split size apart pairs valid slots start read done (c ∷ cs) next are_versions bytes fits carry = absurd next
+  read-back n [] [] (v ∷ vs) choice before split size apart pairs valid slots start read done further next are_versions bytes fits carry = absurd are_versions
+  read-back n [] (p ∷ ps) versions choice before split size apart pairs valid slots start read done further next are_versions bytes fits carry = absurd are_versions
+  read-back n (j ∷ js) [] versions choice before split size apart pairs valid slots start read done further next are_versions bytes fits carry = absurd are_versions
+  read-back n (j ∷ js) (p ∷ ps) [] choice before split size apart pairs valid slots start read done further next are_versions bytes fits carry = absurd are_versions
+  read-back n (j ∷ js) (p ∷ ps) (v ∷ vs) choice before split size apart pairs valid slots start read done [] next are_versions bytes fits carry = absurd next
+  read-back n (j ∷ js) (p ∷ ps) (v ∷ vs) choice before split size apart pairs valid slots start read done (c ∷ cs) next are_versions bytes fits carry =
       let program_map : ProgramMap = with_output_pids n j.number p.map in
       let is : IsReady p = ready-one law c j.program j.drop.items start p next.0.holds in
       let row : ProgramRow = program_row j.weight p v in
@@ -176,9 +177,9 @@ module _ (law : ReadIsSendable) (taken : TakenOutLaw) (gathered : GatheredAgain)
       (stream_items ps vs (drop (length p.units) choice)) own carry in
       let behind : AllZip HasVersion later (drop (length p.units) choice) = subst (λ (k : ℕ). AllZip HasVersion later (drop k choice)) many (fits-behind row.units later choice fits) in (
         one-read n j js p j.coarser.items v choice before (output_maps (n + 1) js ps) later split size (All-head IsValidProgramJob j js valid).some_number apart c start next.0.holds
-            are_versions.0 fits parts.0,
+            (All-head (λ (p : Program). AreBytes p.video) p ps bytes) are_versions.0 fits parts.0,
         read-back (n + 1) js ps vs (drop (length p.units) choice) (before ++ program_map ∷ [])
             (split ∙ sym (append_assoc before (program_map ∷ []) (output_maps (n + 1) js ps))) (omega (arith, size, length-append before (program_map ∷ [])))
             (apart-next before j js program_map refl apart pairs) (apart-tail j js pairs) (All-tail IsValidProgramJob j js valid)
-            slots start (read ++ c ∷ []) (done ++ p ∷ []) cs next.1 are_versions.1 behind parts.1,
+            slots start (read ++ c ∷ []) (done ++ p ∷ []) cs next.1 are_versions.1 (All-tail (λ (p : Program). AreBytes p.video) p ps bytes) behind parts.1,
       )

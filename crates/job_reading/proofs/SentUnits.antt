@@ -28,12 +28,12 @@ use Rattle.job_reading.specs.ParsesTo.{sent_units}
 
 abbrev pub VersionsAreWhole : Type 0
 VersionsAreWhole =
-    (content : List ℕ) (number : ℕ) (dropped : List ℕ) (start : ℕ) (program : Program) (coarser : List ℕ) (versions : List (List UnitVersion)) → AreBytes content
+    (content : List ℕ) (number : ℕ) (dropped : List ℕ) (start : ℕ) (program : Program) (coarser : List ℕ) (versions : List (List UnitVersion)) → AreBytes program.video
     → IsProgramOf content number dropped start program → AreVideoVersions program.video coarser None program.units versions → AreWholeVersions None versions
 
 abbrev pub VersionsAreLed : Type 0
 VersionsAreLed =
-    (content : List ℕ) (number : ℕ) (dropped : List ℕ) (start : ℕ) (program : Program) (coarser : List ℕ) (versions : List (List UnitVersion)) → AreBytes content
+    (content : List ℕ) (number : ℕ) (dropped : List ℕ) (start : ℕ) (program : Program) (coarser : List ℕ) (versions : List (List UnitVersion)) → AreBytes program.video
     → IsProgramOf content number dropped start program → AreVideoVersions program.video coarser None program.units versions → BeginWithSequence versions
 
 abbrev pub bytes_sent : List SentUnit → List (List ℕ)

@@ -1,6 +1,5 @@
 -- What it is that a stream parses to the programs of a job (ISO/IEC 13818-1, 2.4).
 use Rattle.std.specs.Prelude.{◌≡◌, ℕ, ◌+◌, List, [], ◌∷◌, length, drop, map, Some, None}
-use Rattle.bit_lists.specs.Fields.{AreBytes}
 use Rattle.psi_tables.specs.declared.program_map.ProgramMap.{ProgramMap}
 use Rattle.psi_tables.specs.Pmt.{without_dropped}
 use Rattle.es_units.specs.Units.{cut_units}
@@ -24,7 +23,7 @@ sent_units units versions choice = []
 
 -- A stream parses to the program of this map that stands in a file of this content: read as files are, it gives the map's streams with their kinds and
 -- kept descriptors under the map's number, with no refusal and no stream left out. Its video is one PES packet for each of these units, with the unit's times and
--- bytes. Where the file is bytes, their payloads joined are cut into exactly these units, none dropped, and no start code begins inside a slice of them. Each
+-- bytes. Their payloads joined are cut into exactly these units, none dropped, and no start code begins inside a slice of them. Each
 -- audio stream has the PES packets that are taken of the file's, byte for byte. A decoding time that is the presentation time may be unwritten.
 pub record ParsesToProgram (stream content : List ℕ) (job : ProgramJob) (program_map : ProgramMap) (sent : List SentUnit) : Type 0 where
   pub demuxed : Demuxed
@@ -32,9 +31,9 @@ pub record ParsesToProgram (stream content : List ℕ) (job : ProgramJob) (progr
   pub map_is : demuxed.map ≡ without_dropped program_map
   pub whole : demuxed.not_carried ≡ []
   pub video : AreReadAs sent (bytes_of demuxed.video)
-  pub units : AreBytes content
-      → cut_units (joined_payloads (bytes_of demuxed.video)) ≡ Some (record { dropped = 0; cuts = placed_units 0 (map (λ unit. unit.bytes) sent) })
-  pub slices : AreBytes content → HaveNoCodeInSlices None (map (λ unit. unit.bytes) sent)
+  pub units : cut_units (joined_payloads (bytes_of demuxed.video))
+      ≡ Some (record { dropped = 0; cuts = placed_units 0 (map (λ unit. unit.bytes) sent) })
+  pub slices : HaveNoCodeInSlices None (map (λ unit. unit.bytes) sent)
   pub source : Demuxed
   pub source_is : IsDemuxed content job.program job.drop.items source
   pub audio : map (λ audio. bytes_of audio.units) demuxed.audios ≡ map (λ audio. bytes_of (taken_of audio)) source.audios

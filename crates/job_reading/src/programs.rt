@@ -1,6 +1,7 @@
 //! The programs of a job's stream.
 
-ghost use Rattle.std.specs.Prelude.{◌≡◌, ℕ, List, length};
+ghost use Rattle.std.specs.Prelude.{◌≡◌, ℕ, All, List, length};
+ghost use Rattle.bit_lists.specs.Fields.{AreBytes};
 ghost use Rattle.version_table.specs.declared.table.Table.{Table};
 ghost use Rattle.version_table.specs.Choice.{Fits};
 ghost use Rattle.version_table.specs.Table.{IsValidTable};
@@ -28,11 +29,12 @@ use version_source::laws::{one_list_of_versions, programs_can_be_sent};
 use version_units::units::versions_are_whole_units;
 
 /// Each program of a job is read back from the job's stream: under its number, with its map and no stream left out, its units in the chosen versions with their
-/// times, and its audio PES packets byte for byte.
+/// times, and its audio PES packets byte for byte. The videos that were read are bytes.
 pub fn programs_are_read_back()
     ensures { (job : Job) (contents : List (List ℕ)) (programs : List Program) (table : Table) (choice : List ℕ) (slots : SlotList) (versions : List (List (List UnitVersion)))
         → IsValidJob job → ArePrograms job contents programs → IsTableOf job programs table → IsValidTable table → Fits table choice
         → IsSlotList table choice slots → AreAllVersions programs (ratios_of job.programs) versions
+        → All (λ program. AreBytes program.video) programs
         → ParsesTo (output_stream (layout_of job programs) job.slot (pieces_of (stream_items programs versions choice)) slots.rows) 0 job.programs contents programs versions choice }
 {
     slots_are_rows();

@@ -5,6 +5,7 @@
 //! `job_programs`, `program_table`, `job_stream` and `shelf_io`.
 #![tactic(auto)]
 
+mod bytes;
 mod job_stop;
 mod job_table;
 pub mod laws;

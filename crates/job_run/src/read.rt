@@ -1,5 +1,4 @@
-ghost use Rattle.std.specs.Prelude.{◌≡◌, ◌∷◌, ◌++◌, ◌+◌, length, map, All, Contains, IfOk, IfErr, List, ℕ};
-ghost use Rattle.bit_lists.specs.Fields.{AreBytes};
+ghost use Rattle.std.specs.Prelude.{◌≡◌, ◌∷◌, ◌++◌, ◌+◌, length, map, Contains, IfOk, IfErr, List, ℕ};
 ghost use Rattle.job_report.specs.declared.job.ProgramJob.{ProgramJob as AnyProgram};
 ghost use Rattle.job_report.specs.ValidJob.{IsValidJob};
 ghost use Rattle.job_programs.specs.Programs.{ArePrograms};
@@ -10,6 +9,7 @@ ghost use Rattle.job_run.specs.JobTable.{IsJobTable};
 ghost use Rattle.job_run.specs.Stops.{AsksForJob, StopsFor};
 ghost use Rattle.job_run.specs.Private.Steps.{IsMissing, IsProgramAt, IsTableOfJob, IsUnread, StopsJob};
 
+use crate::bytes::see_videos;
 use crate::job_stop::JobStop;
 use crate::job_table::JobTable;
 use crate::text::job_of_text;
@@ -99,22 +99,6 @@ fn table_of_programs(
     let sources = programs.as_slice();
     see_videos(sources);
     table_of(alloc, job, sources)
-}
-
-/// The videos of programs are bytes.
-fn see_videos(programs: &[Program])
-    ensures { All (λ program. AreBytes program.video) programs.now }
-{
-    for program in programs {
-        see_bytes(program.video.as_slice());
-    }
-}
-
-/// The items of a slice of bytes are bytes.
-fn see_bytes(bytes: &[u8])
-    ensures { AreBytes bytes.now }
-{
-    let _ = bytes;
 }
 
 /// The file of the program of this number in a job.

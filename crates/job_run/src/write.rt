@@ -9,6 +9,7 @@ ghost use Rattle.job_programs.specs.Programs.{ArePrograms};
 ghost use Rattle.program_table.specs.Table.{IsTableOf};
 ghost use Rattle.job_run.specs.Written.{HoldsStream, HoldsStreamPart};
 
+use crate::bytes::see_videos;
 use crate::job_table::JobTable;
 use clean_stream::laws::stream_is_clean;
 use job_reading::programs::programs_are_read_back;
@@ -51,6 +52,7 @@ pub fn write_stream_file<K: Shelf>(
     stream_carries_its_times();
     stream_is_clean_by_its_times();
     programs_are_read_back();
+    see_videos(made.programs.as_slice());
     shelf.start(name)?;
     write_job_stream(
         alloc,

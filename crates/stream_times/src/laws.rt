@@ -1,5 +1,6 @@
 //! Laws of the times of a job's stream, as functions that do nothing.
-ghost use Rattle.std.specs.Prelude.{◌≡◌, ◌*◌, ◌^◌, ◌<◌, ℕ, ℤ, pos, List, map};
+ghost use Rattle.std.specs.Prelude.{◌≡◌, ◌*◌, ◌^◌, ◌<◌, ℕ, ℤ, pos, All, List, map};
+ghost use Rattle.bit_lists.specs.Fields.{AreBytes};
 ghost use Rattle.stream_constants.specs.declared.clock.TheConstants.{TICKS_PER_TIME_UNIT};
 ghost use Rattle.ts_packets.specs.Packet.{PacketRecord};
 ghost use Rattle.version_table.specs.declared.table.Table.{Table};
@@ -33,7 +34,7 @@ use version_source::laws::one_list_of_versions;
 pub fn stream_carries_its_times()
     ensures { (job : Job) (contents : List (List ℕ)) (programs : List Program) (table : Table) (choice : List ℕ) (slots : SlotList) (stream : List ℕ)
         → IsValidJob job → ArePrograms job contents programs → IsTableOf job programs table → IsValidTable table → Fits table choice
-        → IsSlotList table choice slots → IsStreamIn job programs choice slots stream
+        → IsSlotList table choice slots → IsStreamIn job programs choice slots stream → All (λ program. AreBytes program.video) programs
         → CarriesTable table choice (map (λ program. program.number) job.programs) stream }
 {
     programs_are_read_back();
@@ -52,7 +53,7 @@ pub fn stream_carries_its_times()
 pub fn stream_is_clean_by_its_times()
     ensures { (job : Job) (contents : List (List ℕ)) (programs : List Program) (table : Table) (choice : List ℕ) (slots : SlotList) (stream : List ℕ)
         → IsValidJob job → ArePrograms job contents programs → IsTableOf job programs table → IsValidTable table → Fits table choice
-        → IsSlotList table choice slots → IsStreamIn job programs choice slots stream
+        → IsSlotList table choice slots → IsStreamIn job programs choice slots stream → All (λ program. AreBytes program.video) programs
         → IsCleanByItsTimes job.slot (map (λ program. program.number) job.programs) stream }
 {
     stream_carries_its_times();

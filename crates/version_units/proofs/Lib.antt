@@ -1,4 +1,3 @@
-pub mod ByteVideo
 pub mod Codes
 pub mod CodesInOrder
 mod Examples

@@ -24,12 +24,11 @@ use Rattle.version_maker.specs.Versions.{AreVersions, IsCoarserVersion, IsSource
 use Rattle.version_source.specs.Sendable.{Leaves, bytes_of}
 use Rattle.version_source.specs.Versions.{AreVideoVersions}
 use Rattle.version_units.specs.WholeVersions.{AreWholeVersions, BeginWithSequence, IsWholeVersion}
-use Rattle.version_units.proofs.ByteVideo.{AreBytes-drop, video-bytes}
 use Rattle.version_units.proofs.Codes.{CodeOf}
 use Rattle.version_units.proofs.CodesInOrder.{codes-in-order}
 use Rattle.version_units.proofs.SourceUnits.{AreSpans, IsSourceUnit, IsSpan, cut-spans, led-unit, source-unit}
 use Rattle.version_units.proofs.SpelledVersions.{coarser-spelled, source-spelled, without_delay}
-use Rattle.version_units.proofs.WholeVersions.{AreBytes-behind, HasParts, begins-alike, has-parts, whole-version}
+use Rattle.version_units.proofs.WholeVersions.{AreBytes-behind, AreBytes-drop, HasParts, begins-alike, has-parts, whole-version}
 
 -- a version that begins with a sequence header
 abbrev BeginsSequence : UnitVersion → Type 0
@@ -158,12 +157,12 @@ first-source start earliest (u ∷ us) [] picture later sources are is = absurd 
 first-source start earliest (u ∷ us) (p ∷ ps) picture later [] are is = absurd are
 first-source start earliest (u ∷ us) (p ∷ ps) picture later (s ∷ ss) (begins, ends, times, due, are) is = (u, us, s, ss, refl, refl, begins)
 
-pub program-versions : (content : List ℕ) (number : ℕ) (dropped : List ℕ) (start : ℕ) (program : Program) (coarser : List ℕ) (versions : List (List UnitVersion)) → AreBytes content
+pub program-versions : (content : List ℕ) (number : ℕ) (dropped : List ℕ) (start : ℕ) (program : Program) (coarser : List ℕ) (versions : List (List UnitVersion)) → AreBytes program.video
     → IsProgramOf content number dropped start program → AreVideoVersions program.video coarser None program.units versions → AreWholeVersions None versions × BeginWithSequence versions
 program-versions content number dropped start program coarser versions are of is =
     let program_is = of.program_is in
     let es : List ℕ = video_bytes of.demuxed in
-    let bytes : AreBytes es = video-bytes content number dropped of.demuxed are of.demuxed_is in
+    let bytes : AreBytes es = subst AreBytes program_is.video_is are in
     let pictures = program_is.has_pictures in
     let kept = kept-spans es (video_packets of.demuxed) pictures.units.cuts program_is.kept program_is.pictures pictures.at_end
     (cut-spans es pictures.units pictures.has_units.units_are) pictures.kept_are in

@@ -74,7 +74,7 @@ pub record OpensSlices (behind : List ℕ) : Type 0 where
   pub is : is_slice value ≡ true
   pub zeros : take 2 behind ≡ 0 ∷ 0 ∷ []
 
-AreBytes-drop : (k : ℕ) (xs : List ℕ) → AreBytes xs → AreBytes (drop k xs)
+pub AreBytes-drop : (k : ℕ) (xs : List ℕ) → AreBytes xs → AreBytes (drop k xs)
 AreBytes-drop zero xs are = are
 AreBytes-drop (suc k) [] are = tt
 AreBytes-drop (suc k) (x ∷ xs) are = AreBytes-drop k xs are.1

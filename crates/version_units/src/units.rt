@@ -12,14 +12,14 @@ ghost use Rattle.version_source.specs.Versions.{AreVideoVersions};
 ghost use Rattle.version_units.specs.OwnCodes.{codes_from, own_codes};
 ghost use Rattle.version_units.specs.WholeVersions.{AreWholeVersions, BeginWithSequence};
 
-/// Each version of each unit of a program that was read from bytes is a unit again, whole by its own bytes and with no start code inside a slice, and is
+/// Each version of each unit of a program whose video is bytes is a unit again, whole by its own bytes and with no start code inside a slice, and is
 /// read behind the state that the unit before leaves, in whichever version that goes out; and the first unit's versions begin with a sequence header.
 pub fn versions_are_whole_units()
     ensures whole { (content : List ℕ) (number : ℕ) (dropped : List ℕ) (start : ℕ) (program : Program) (coarser : List ℕ) (versions : List (List UnitVersion))
-        → AreBytes content → IsProgramOf content number dropped start program → AreVideoVersions program.video coarser None program.units versions
+        → AreBytes program.video → IsProgramOf content number dropped start program → AreVideoVersions program.video coarser None program.units versions
         → AreWholeVersions None versions }
     ensures led { (content : List ℕ) (number : ℕ) (dropped : List ℕ) (start : ℕ) (program : Program) (coarser : List ℕ) (versions : List (List UnitVersion))
-        → AreBytes content → IsProgramOf content number dropped start program → AreVideoVersions program.video coarser None program.units versions
+        → AreBytes program.video → IsProgramOf content number dropped start program → AreVideoVersions program.video coarser None program.units versions
         → BeginWithSequence versions }
 {}
 

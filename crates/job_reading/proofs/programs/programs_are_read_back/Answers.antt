@@ -23,7 +23,7 @@ use Rattle.job_reading.proofs.SentVideos.{AllCarry, all-carry}
 use Rattle.job_reading.proofs.programs.programs_are_read_back.Goals as goal
 
 pub returns : goal.returns
-returns c job contents programs table choice slots versions valid programs_are of table_valid fits list are_versions =
+returns c job contents programs table choice slots versions valid programs_are of table_valid fits list are_versions bytes =
     let layout : Layout = layout_of job programs in
     let items : List (List (List Payload)) = stream_items programs versions choice in
     let pieces : Pieces = pieces_of items in
@@ -46,4 +46,4 @@ returns c job contents programs table choice slots versions valid programs_are o
     read-back c.programs_can_be_sent.ensures.taken_out c.programs_are_taken_out.ensures c.packets_gathered_again.ensures.gathered c.video_packet_read_as_written.ensures
     c.packets_gathered_again.ensures.pieces c.versions_are_whole_units.ensures.whole c.versions_are_whole_units.ensures.led
     c.units_of_the_video.ensures layout job.slot pieces slots.rows are begin count 0 job.programs programs versions choice [] refl refl (All-nil _) valid.apart valid.programs
-    job.slot job.start [] [] contents programs_are are_versions fit carry
+    job.slot job.start [] [] contents programs_are are_versions bytes fit carry

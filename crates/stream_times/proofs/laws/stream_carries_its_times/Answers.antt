@@ -11,7 +11,7 @@ use Rattle.stream_times.proofs.Tables.{times-carried}
 use Rattle.stream_times.proofs.laws.stream_carries_its_times.Goals as goal
 
 pub returns : goal.returns
-returns c job contents programs table choice slots stream valid are of table_valid fits list in_slots =
+returns c job contents programs table choice slots stream valid are of table_valid fits list in_slots bytes =
     let versions = in_slots.versions in
     let pieces : Pieces = pieces_of (stream_items programs versions choice) in
     let same = c.one_list_of_versions.ensures programs (ratios_of job.programs) of.versions versions of.are_versions in_slots.are_versions in
@@ -26,4 +26,4 @@ returns c job contents programs table choice slots stream valid are of table_val
     (times-carried spelling c.one_answer.ensures.demuxed c.audio_packet_wherever_it_stands.ensures job contents programs table choice slots pieces versions valid are of.slot
     (of.rows ∙ ap (program_rows job.programs programs) same) in_slots.are_versions table_valid fits list rows.is_layout.bases
     (c.read_as_written.ensures (layout_of job programs) job.slot pieces slots.rows rows.is_layout rows.few rows.each)
-    (c.programs_are_read_back.ensures job contents programs table choice slots versions valid are of table_valid fits list in_slots.are_versions))
+    (c.programs_are_read_back.ensures job contents programs table choice slots versions valid are of table_valid fits list in_slots.are_versions bytes))

@@ -1,10 +1,10 @@
 use Rattle.stream_times.proofs.laws.stream_is_clean_by_its_times.Goals as goal
 
 pub returns : goal.returns
-returns c job contents programs table choice slots stream valid are of table_valid fits list in_slots = record {
+returns c job contents programs table choice slots stream valid are of table_valid fits list in_slots bytes = record {
   table = table;
   choice = choice;
   slot_is = of.slot;
-  carried = c.stream_carries_its_times.ensures job contents programs table choice slots stream valid are of table_valid fits list in_slots;
+  carried = c.stream_carries_its_times.ensures job contents programs table choice slots stream valid are of table_valid fits list in_slots bytes;
   clean = c.stream_is_clean.ensures job contents programs table choice slots stream valid are of table_valid fits list in_slots;
 }

@@ -3,7 +3,7 @@ use Rattle.std.proofs.lemmas.List.{take_all}
 use Rattle.std.proofs.lemmas.List.Elements.{All-more}
 use Rattle.bit_lists.specs.Fields.{AreBytes}
 use Rattle.program_reader.specs.declared.program.Program.{Program}
-use Rattle.job_run.proofs.read.see_videos.Goals as goal
+use Rattle.job_run.proofs.bytes.see_videos.Goals as goal
 
 pub loop-program-preserved : goal.loop-program-preserved
 loop-program-preserved c =
