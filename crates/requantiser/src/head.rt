@@ -21,7 +21,7 @@ impl Head {
     /// The head with this pattern behind so many skipped macroblocks, of an intra macroblock or another one, where the code
     /// before it is `before` and its own would be `mapped`.
     #[inline]
-    pub fn new(intra: bool, mapped: u8, before: u8, skipped_before: u16, pattern: u8) -> Head
+    pub(crate) fn new(intra: bool, mapped: u8, before: u8, skipped_before: u16, pattern: u8) -> Head
         requires { IsCode mapped }
         ensures value { result ≡ head_with intra mapped before skipped_before pattern }
         ensures code { (code : ℕ) → result.code ≡ Option.Some code → IsCode code }
