@@ -1,6 +1,5 @@
 -- Worked examples: how far the coefficients of levels move.
-use Rattle.std.proofs.Common.{◌≡◌, ℕ, ℤ, pos, negsuc, List, [], ◌∷◌, true, false, refl}
-use Rattle.syntax_types.specs.declared.block.RunLevel.{RunLevel}
+use Rattle.std.proofs.Common.{◌≡◌, pos, negsuc, [], ◌∷◌, true, false, refl}
 use Rattle.requantiser.specs.Private.Changes.{level_change, pair_changes}
 use Rattle.requantiser.specs.Private.Sizes.{half_of, limit_of, size_of}
 

@@ -1,5 +1,5 @@
 -- What levels become, kept under the number of their weight, scale and kind of block.
-use Rattle.std.proofs.Common.{◌≡◌, ℕ, ◌+◌, ◌*◌, ◌<◌, ℤ, List, Bool, true, false, refl, sym, subst, arith}
+use Rattle.std.proofs.Common.{◌≡◌, ℕ, ◌<◌, ℤ, List, Bool, true, false, refl, subst, arith}
 use Rattle.std.specs.Prelude.{if◌then◌else◌}
 use Rattle.requantiser.specs.Private.Rungs.{AreRescaled, AreRescaledBy, way_number}
 

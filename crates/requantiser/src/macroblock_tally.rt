@@ -1,5 +1,5 @@
 //! The coefficients of a macroblock, counted in several versions at once.
-ghost use Rattle.std.specs.Prelude.{◌≡◌, ◌<◌, ◌≤◌, ◌-◌, ℕ, length, slice_index, slice_index_or, unwrap_or, if◌then◌else◌};
+ghost use Rattle.std.specs.Prelude.{◌≡◌, ◌<◌, ◌≤◌, ℕ, length, slice_index, slice_index_or, unwrap_or};
 ghost use Rattle.quant_math.specs.Scales.{IsCode};
 ghost use Rattle.picture_grammar.specs.Block.{first_place};
 ghost use Rattle.requantiser.specs.declared.tally.Tally.{Tally as TallyOf};

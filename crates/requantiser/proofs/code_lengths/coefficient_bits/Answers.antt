@@ -1,4 +1,4 @@
-use Rattle.std.proofs.Common.{◌+◌, ◌∙◌, ap, sym, length, ◌∷◌}
+use Rattle.std.proofs.Common.{◌+◌, ◌∙◌, ap, sym, length}
 use Rattle.std.specs.Option.{option_map_or}
 use Rattle.bit_lists.proofs.BitLemmas.{length-bits_of}
 use Rattle.prefix_codes.specs.declared.symbol.TheConstants.{ESCAPE}

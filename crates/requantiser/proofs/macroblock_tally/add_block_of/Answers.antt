@@ -1,4 +1,4 @@
-use Rattle.std.proofs.Common.{◌<◌, ℕ, List, get_or, subst}
+use Rattle.std.proofs.Common.{ℕ, List, get_or, subst}
 use Rattle.syntax_types.specs.declared.block.RunLevel.{RunLevel}
 use Rattle.requantiser.specs.Private.Changes.{block_change}
 use Rattle.requantiser.specs.Private.Counts.{tally_in}

@@ -1,4 +1,4 @@
-use Rattle.std.proofs.Common.{◌≡◌, ◌∙◌, ℕ, get_or, ap, subst, arith}
+use Rattle.std.proofs.Common.{◌≡◌, ℕ, get_or, ap, subst, arith}
 use Rattle.std.proofs.lemmas.List.{get_or_default}
 use Rattle.syntax_types.specs.declared.block.Block.{Block}
 use Rattle.syntax_types.specs.declared.block.BlockWay.{BlockWay}

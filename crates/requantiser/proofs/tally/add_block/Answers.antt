@@ -1,4 +1,4 @@
-use Rattle.std.proofs.Common.{◌≡◌, ◌<◌, ℕ, get_or, refl, ap, arith}
+use Rattle.std.proofs.Common.{get_or, refl, ap, arith}
 use Rattle.requantiser.specs.Private.Counts.{tally_in}
 use Rattle.requantiser.proofs.Counted.{ended_by}
 use Rattle.requantiser.proofs.Tallies.{block_tallied}

@@ -1,8 +1,7 @@
-use Rattle.std.proofs.Common.{◌≡◌, ◌<◌, ◌≤◌, ◌∙◌, ◌^◌, ℕ, ℤ, Bool, List, unsigned_abs, get_or, refl, ap, subst, arith}
+use Rattle.std.proofs.Common.{◌≡◌, ◌∙◌, ℕ, ℤ, Bool, List, unsigned_abs, get_or, refl, ap, subst, arith}
 use Rattle.quant_math.specs.Levels.{coarser_level}
 use Rattle.requantiser.specs.Private.Changes.{level_change}
 use Rattle.requantiser.specs.Private.Counts.{IsSized, tally_in}
-use Rattle.requantiser.specs.Private.Rungs.{AreRescaled}
 use Rattle.requantiser.proofs.Counted.{counted_by}
 use Rattle.requantiser.proofs.tally.add_coefficient.Goals as goal
 

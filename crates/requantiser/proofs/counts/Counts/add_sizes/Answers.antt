@@ -1,4 +1,4 @@
-use Rattle.std.proofs.Common.{◌≡◌, ◌<◌, ◌≤◌, ◌+◌, ◌∙◌, ◌⊎◌, inl, inr, ℕ, get_or, subst, arith}
+use Rattle.std.proofs.Common.{◌<◌, ◌≤◌, ◌∙◌, ◌⊎◌, inl, inr, ℕ, get_or, subst, arith}
 use Rattle.std.proofs.lemmas.Bool.{cases_lt}
 use Rattle.requantiser.specs.Private.Counts.{IsSized}
 use Rattle.requantiser.proofs.Counted.{none_sized, one_more_at}

@@ -1,4 +1,4 @@
-use Rattle.std.proofs.Common.{◌≡◌, ◌<◌, ◌≤◌, ◌+◌, ◌∙◌, ℕ, get_or, subst, arith}
+use Rattle.std.proofs.Common.{◌<◌, ◌∙◌, ℕ, get_or, subst, arith}
 use Rattle.requantiser.specs.Private.Counts.{IsEndedBy}
 use Rattle.requantiser.proofs.Counted.{one_more_at}
 use Rattle.requantiser.proofs.counts.Counts.end_block.Goals as goal
