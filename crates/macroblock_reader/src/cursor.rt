@@ -76,8 +76,10 @@ impl SliceCursor {
         Ok(true)
     }
 
-    /// Whether the slice is closed by the next bits, which are left as they are. Before its first macroblock it never is.
-    fn is_closed<S: Source>(&self, from: &mut BitReader<'_, S>) -> Result<bool, SliceFault>
+    /// Whether the next bits close the slice (6.2.4): 23 zero bits, or nothing but zero bits to the end. They are left as
+    /// they are. Before its first macroblock a slice is never closed. The answer is Outside where the source failed. It
+    /// takes no memory.
+    pub fn is_closed<S: Source>(&self, from: &mut BitReader<'_, S>) -> Result<bool, SliceFault>
         ensures closed { IfOk result (λ closed. closed ≡ true → (self.now.first ≡ false) × IfSome (bits_left from.old) ClosesSlice) }
         ensures going { IfOk result (λ closed. closed ≡ false → (self.now.first ≡ true) ⊎ IfSome (bits_left from.old) (λ bits. ClosesSlice bits → ⊥)) }
         ensures left { bits_left from.new ≡ bits_left from.old }
