@@ -2,7 +2,8 @@
 //!
 //! `write_macroblock` and `write_slice` put the written spelling of a part into a `BitWriter`, for each part that some bits
 //! spell by the grammar of `picture_grammar`: the tables' code wherever there is one, and nothing else. What is written is
-//! read as that part again. `macroblock_bits` counts the bits that a macroblock is written in; `head_bits` and
+//! read as that part again. `write_slice_head` puts what stands in a slice before its macroblocks, for callers that write
+//! one macroblock after another. `macroblock_bits` counts the bits that a macroblock is written in; `head_bits` and
 //! `motion_and_dc_bits` those of its parts but for the other coefficients. No call takes memory. Stands on `block_coeffs`,
 //! `bit_cursor`, `prefix_codes`, `syntax_types` and `picture_grammar`, with the laws of `picture_laws`.
 #![tactic(auto)]
@@ -20,4 +21,4 @@ mod vectors;
 pub use bit_counts::{macroblock_bits, motion_and_dc_bits};
 pub use head_counts::head_bits;
 pub use macroblock::write_macroblock;
-pub use slice::write_slice;
+pub use slice::{write_slice, write_slice_head};

@@ -1,5 +1,6 @@
 ghost use Rattle.std.specs.Prelude.{◌≡◌, ◌<◌, ◌^◌, ℕ, List, ◌++◌, false, IfSome};
 ghost use Rattle.std.specs.List.{flat_map, AllByRecursion};
+ghost use Rattle.bit_lists.specs.Bits.{bits_of};
 ghost use Rattle.bit_cursor.specs.BitWriter.{is_stopped, Writes};
 ghost use Rattle.picture_grammar.specs.Picture.{IsCoding};
 ghost use Rattle.picture_grammar.specs.Slice.{ClosesSlice, slice as slice_grammar};
@@ -40,9 +41,25 @@ fn write_header_and_macroblocks<K: Sink>(
     requires fits { SliceFits coding.now slice.now }
     ensures { Writes K.written K.faults K.keeps to.old to.new result (written_slice coding.now slice.now) }
 {
-    to.put_bits(u32::from(slice.code), 5)?;
-    write_info(to, &slice.info)?;
+    write_slice_head(to, slice.code, &slice.info)?;
     write_macroblocks(to, coding, slice.macroblocks.as_slice())
+}
+
+/// Writes what stands in a slice from behind its start code to its first macroblock (ISO/IEC 13818-2, 6.2.4):
+/// quantiser_scale_code, and the flag of the extension with what it calls for. A fault is the sink's own, and stops the
+/// writer.
+pub fn write_slice_head<K: Sink>(
+    to: &mut BitWriter<'_, K>,
+    code: u8,
+    info: &Option<SliceInfo>,
+) -> Result<(), Fault>
+    requires goes { is_stopped to.old ≡ false }
+    requires code { code < 2 ^ 5 }
+    requires reserved { IfSome info.now (λ info. info.reserved < 2 ^ 7) }
+    ensures { Writes K.written K.faults K.keeps to.old to.new result (bits_of 5 code ++ written_slice_info info.now) }
+{
+    to.put_bits(u32::from(code), 5)?;
+    write_info(to, info)
 }
 
 // The flag of the extension, and what stands behind it where it is set.

@@ -3,7 +3,8 @@ ghost use Rattle.std.specs.List.{flat_map, AllByRecursion};
 ghost use Rattle.bit_cursor.specs.BitWriter.{is_stopped, odd_bits, Writes};
 ghost use Rattle.picture_grammar.specs.Picture.{IsCoding};
 ghost use Rattle.picture_grammar.specs.StartCode.{start_code_bits};
-ghost use Rattle.picture_writer.specs.Private.Slices.{CanBeWritten, written_end, written_whole_slice};
+ghost use Rattle.picture_writer.specs.WrittenPicture.{written_end};
+ghost use Rattle.picture_writer.specs.Private.Slices.{CanBeWritten, written_whole_slice};
 
 use bit_cursor::BitWriter;
 use macroblock_writer::write_slice;
@@ -49,7 +50,7 @@ fn write_whole_slice<K: Sink>(
     to.align_zero()
 }
 
-/// Writes the sequence end code where it stands.
+/// Writes the sequence end code where it stands (6.2.1). A fault is the sink's own, and stops the writer.
 pub fn write_end<K: Sink>(to: &mut BitWriter<'_, K>, sequence_end: bool) -> Result<(), Fault>
     requires goes { is_stopped to.old ≡ false }
     requires whole { odd_bits to.old ≡ 0 }
@@ -63,8 +64,8 @@ pub fn write_end<K: Sink>(to: &mut BitWriter<'_, K>, sequence_end: bool) -> Resu
     }
 }
 
-// A start code by its last byte (6.2.1).
-fn write_start_code<K: Sink>(to: &mut BitWriter<'_, K>, byte: u8) -> Result<(), Fault>
+/// Writes the start code with this last byte (ISO/IEC 13818-2, 6.2.1). A fault is the sink's own, and stops the writer.
+pub fn write_start_code<K: Sink>(to: &mut BitWriter<'_, K>, byte: u8) -> Result<(), Fault>
     requires goes { is_stopped to.old ≡ false }
     ensures writes { Writes K.written K.faults K.keeps to.old to.new result (start_code_bits byte) }
     ensures odd { OnOk result (odd_bits to.new ≡ odd_bits to.old) }
