@@ -17,6 +17,3 @@ mod pes_start;
 pub use audio_fault::AudioFault;
 pub use frame::{Frame, frames};
 pub use pes_start::PesStart;
-
-#[cfg(test)]
-mod tests;

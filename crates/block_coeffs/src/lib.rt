@@ -20,6 +20,3 @@ mod written_codes;
 pub use fault::BlockFault;
 pub use reading::{read_block, read_block_into};
 pub use written::{write_block, write_code};
-
-#[cfg(test)]
-mod tests;

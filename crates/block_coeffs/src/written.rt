@@ -108,6 +108,3 @@ fn write_escape<K: Sink>(
     let run = u32::from(pair.run) << LEVEL_BITS;
     to.put_bits(run + level_field(pair.level), RUN_BITS + LEVEL_BITS)
 }
-
-#[cfg(test)]
-mod tests;

@@ -18,6 +18,3 @@ pub use cert::{Cert, Node};
 pub use fault::CertFormat;
 pub use read::read_cert;
 pub use write::write_cert;
-
-#[cfg(test)]
-mod tests;

@@ -22,6 +22,3 @@ mod planner;
 mod root;
 
 pub use planner::{PlanFault, Planned, Search, plan};
-
-#[cfg(test)]
-mod tests;

@@ -20,6 +20,3 @@ mod why;
 
 pub use checker::{CheckRoom, check};
 pub use why::{CertFault, Why};
-
-#[cfg(test)]
-mod tests;

@@ -20,6 +20,3 @@ pub use fixed::{Fixed, nothing_fixed};
 pub use room::{capacity, window_capacity};
 pub use values::{dual_value, window_value, windows_of, worth};
 pub use windows::{Multiplier, Multipliers, Window, Windows};
-
-#[cfg(test)]
-mod tests;

@@ -20,6 +20,3 @@ pub use relaxed::{SlackTree, relaxation};
 pub use single::best_single;
 pub use turns::{improve, improve_windows};
 pub use window::best_window;
-
-#[cfg(test)]
-mod tests;

@@ -18,6 +18,3 @@ pub use pes_header::PesHeader;
 pub use time_axis::unwrap_time;
 pub use times::Times;
 pub use video_header::{MOST_HEADER_BYTES, write_video_header};
-
-#[cfg(test)]
-mod tests;

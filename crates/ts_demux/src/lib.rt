@@ -23,6 +23,3 @@ pub use demux_fault::DemuxFault;
 pub use demux_program::demux;
 pub use demuxed::{AudioStream, Demuxed, PesUnit};
 pub use payloads::Payloads;
-
-#[cfg(test)]
-mod tests;

@@ -1,7 +1,7 @@
-use super::*;
 use shelf_io::{Source, take_full};
 use std::test::Fail;
 use stream_constants::packets::PACKET_BYTES;
+use ts_demux::Payloads;
 
 /// A packet of PID 256 with payload alone: its fourth byte, and the byte that fills the payload.
 fn packet(fourth: u8, byte: u8) -> [u8; PACKET_BYTES] {

@@ -1,11 +1,11 @@
 ghost use Rattle.std.specs.Prelude.{◌≤◌, length};
 
-use super::*;
-use crate::reading::read_block;
-use bit_cursor::BitReader;
+use bit_cursor::{BitReader, BitWriter};
+use block_coeffs::{read_block, write_block};
 use shelf_io::{SliceSource, VecSink};
 use std::alloc::Global;
 use std::test::Fail;
+use syntax_types::BlockWay;
 
 const NON_INTRA: BlockWay = BlockWay {
     intra: false,

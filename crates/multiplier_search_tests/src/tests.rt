@@ -1,4 +1,4 @@
-use crate::{best_single, best_window, improve, improve_windows, relaxation};
+use multiplier_search::{best_single, best_window, improve, improve_windows, relaxation};
 use dual_bounds::{Multiplier, Multipliers, Window, Windows, nothing_fixed, window_value};
 use std::alloc::Global;
 use std::process::Abort;

@@ -1,6 +1,6 @@
-use super::*;
 use arrayvec::ArrayVec;
 use bit_cursor::BitReader;
+use block_coeffs::{BlockFault, read_block};
 use shelf_io::{Fault, MemShelf, Reading, SliceSource};
 use std::test::Fail;
 use syntax_types::{Block, BlockWay, Dc};

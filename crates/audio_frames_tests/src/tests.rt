@@ -1,4 +1,4 @@
-use super::*;
+use audio_frames::{Frame, PesStart, frames};
 use std::test::Fail;
 
 /// Two frames of 192 kbit/s at 48,000 Hz, 576 bytes each.

@@ -1,4 +1,4 @@
-use crate::{Cert, CertFormat, Node, read_cert, write_cert};
+use bound_certificate::{Cert, CertFormat, Node, read_cert, write_cert};
 use dual_bounds::{Multiplier, Multipliers, Window, Windows};
 use list_types::ListOf;
 use std::alloc::Global;

@@ -1,4 +1,6 @@
-use super::*;
+use pes_units::{
+    MOST_HEADER_BYTES, PesFault, PesHeader, Times, unwrap_time, write_video_header,
+};
 
 #[test]
 fn a_pts_alone_takes_fourteen_bytes(rt: HostRuntime) {

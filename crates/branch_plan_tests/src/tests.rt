@@ -1,7 +1,7 @@
 ghost use Rattle.std.specs.Prelude.{◌≤◌};
 ghost use Rattle.version_table.specs.declared.limits.TheConstants.{EVALUATIONS_MOST, NODES_MOST};
 
-use crate::{PlanFault, Search, plan};
+use branch_plan::{PlanFault, Search, plan};
 use slot_rule::Miss;
 use std::alloc::Global;
 use std::process::Abort;

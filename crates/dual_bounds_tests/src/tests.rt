@@ -1,4 +1,4 @@
-use crate::{
+use dual_bounds::{
     Multiplier, Window, bound_of, capacity, dual_value, nothing_fixed, window_capacity,
     window_value,
 };

@@ -1,7 +1,7 @@
 ghost use Rattle.std.specs.Prelude.{◌≡◌, IfOk, length};
 ghost use Rattle.version_table.specs.Table.{units_of};
 
-use crate::{CertFault, CheckRoom, Why, check};
+use certificate_checker::{CertFault, CheckRoom, Why, check};
 use bound_certificate::read_cert;
 use dual_bounds::nothing_fixed;
 use list_types::OutOfMemory;
