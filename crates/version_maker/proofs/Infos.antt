@@ -66,7 +66,7 @@ slice-info-few seq coding row s bits rest (number, m, (code, coded, passing, spl
 
 -- ---- some bits spell each macroblock
 
-parts-spelled : (coding : PicCoding) (first : Bool) (left : ℕ) (m : Macroblock) → HasSpellableParts coding first left m → IsSpelledMacroblock coding m
+pub parts-spelled : (coding : PicCoding) (first : Bool) (left : ℕ) (m : Macroblock) → HasSpellableParts coding first left m → IsSpelledMacroblock coding m
 parts-spelled coding first left m parts =
     record { first = first; columns_left = left; bits = written_macroblock coding m ++ []; rest = []; spelled = (anywhere-macroblock coding first left m parts).before [] }
 

@@ -5,3 +5,6 @@ pub mod Lists
 pub mod Units
 pub mod SizedSlices
 pub mod UnitSizes
+pub mod SpelledMade
+pub mod MadeSlices
+pub mod MadeUnits
