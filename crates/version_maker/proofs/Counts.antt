@@ -1,11 +1,11 @@
 -- Versions counted step by step.
-use Rattle.std.proofs.Common.{◌≡◌, ℕ, zero, suc, ◌+◌, ◌-◌, ◌*◌, ◌/◌, ◌%◌, ◌^◌, ◌<◌, ◌≤◌, Option, Some, None, List, [], ◌∷◌, ◌++◌, Bool, refl, sym, ◌∙◌, ap, ap₂, subst, arith, length, take, drop, get_or, add-one, replicate, unwrap_or}
-use Rattle.std.specs.Prelude.{◌==◌, ◌&&◌, not, is_some, IfSome, if◌then◌else◌}
+use Rattle.std.proofs.Common.{◌≡◌, ℕ, ◌+◌, ◌-◌, ◌*◌, ◌/◌, ◌%◌, ◌^◌, ◌<◌, ◌≤◌, Option, Some, None, List, [], ◌∷◌, ◌++◌, Bool, true, false, refl, sym, ◌∙◌, ap, ap₂, subst, arith, length, get_or, replicate, unwrap_or}
+use Rattle.std.specs.Prelude.{◌==◌, ◌&&◌, not, is_some, if◌then◌else◌}
 use Rattle.std.specs.Option.{option_to_list}
-use Rattle.std.specs.List.{AllByRecursion, flat_map, sum_by}
-use Rattle.std.proofs.Math.Seq.{take-length, take-suc}
+use Rattle.std.specs.List.{flat_map, sum_by}
 use Rattle.std.proofs.lemmas.Grind.{flat_map-append}
-use Rattle.std.proofs.lemmas.List.{length-append, length-replicate, length-take-le, map-append}
+use Rattle.std.proofs.lemmas.Bool.{eq-eqb, ne_eqb}
+use Rattle.std.proofs.lemmas.List.{length-append, length-replicate, map-append}
 use Rattle.std.proofs.lemmas.List.Sums.{sum_by-append, sum_by-cons}
 use Rattle.bit_lists.specs.Bits.{bits_of}
 use Rattle.bit_lists.proofs.BitLemmas.{length-bits_of}
@@ -22,12 +22,14 @@ use Rattle.requantiser.specs.declared.version_state.VersionState.{VersionState}
 use Rattle.requantiser.specs.declared.tally.Tally.{Tally}
 use Rattle.requantiser.specs.Tallies.{IsTallyOf}
 use Rattle.requantiser.specs.Steps.{IsStep, Step, distortion_of, made_by, state_behind, taken_by}
-use Rattle.requantiser.specs.VersionState.{IsSpelledMacroblock, IsStateBehind}
-use Rattle.requantiser.proofs.MacroblockSteps.{one_span, span_of}
+use Rattle.requantiser.specs.VersionState.{IsStateBehind}
+use Rattle.requantiser.proofs.MacroblockSteps.{span_of}
 use Rattle.requantiser.proofs.Steps.{length-taken, one-more-step}
 use Rattle.version_maker.specs.declared.slice_count.SliceCount.{SliceCount}
 use Rattle.version_maker.specs.declared.slice_count.VersionCount.{VersionCount}
-use Rattle.version_maker.specs.Private.Counts.{AreAllCounted, AreCounted, CanCount, IsCountable, IsCountedMacroblock, IsCountedSlice, IsCountedStep, IsStartCount}
+use Rattle.version_maker.specs.declared.slice_read.SliceRead.{SliceRead}
+use Rattle.version_maker.specs.Private.Counts.{AreCounted, CanCount, CanCountBehind, IsCountedMacroblock, IsCountedSlice, IsStartCount, MayBeAll}
+use Rattle.version_maker.specs.Private.Read.{IsSliceCounted}
 
 pub state-behind : (start : VersionState) (steps : List Step) (step : Step) → state_behind start (steps ++ step ∷ []) ≡ step.behind
 state-behind start [] step = refl
@@ -40,11 +42,6 @@ made-more steps step = flat_map-append (λ (s : Step). option_to_list s.made) st
     nil-behind [] = refl
     nil-behind (m ∷ ms) = ap (λ (xs : List Macroblock). m ∷ xs) (nil-behind ms)
 
-pub spelled-at : (coding : PicCoding) (ms : List Macroblock) (i : ℕ) (d : Macroblock) → i < length ms → AllByRecursion (IsSpelledMacroblock coding) ms → IsSpelledMacroblock coding (get_or ms i d)
-spelled-at coding [] i d within are = absurd (omega (arith, within))
-spelled-at coding (m ∷ ms) zero d within are = are.0
-spelled-at coding (m ∷ ms) (suc i) d within are = spelled-at coding ms i d (omega (arith, within)) are.1
-
 pub skipped-behind : (from : Macroblock) (made : Option Macroblock) (before behind : VersionState) → IsStateBehind from made before behind → behind.skipped ≤ before.skipped + from.skipped_before + 1
 skipped-behind from made before behind is = is-few made is.skipped
   where
@@ -52,39 +49,54 @@ skipped-behind from made before behind is = is-few made is.skipped
     is-few None e = omega (arith, e)
     is-few (Some to) e = omega (arith, e)
 
+-- one more than so many is among as many as may be all, and the last one just where these are closed
+before-all : (closed : Bool) (n more all : ℕ) → more ≡ n + 1 → MayBeAll closed more all → n < all
+before-all true n more all e may = omega (arith, e, may)
+before-all false n more all e may = omega (arith, e, may)
+
+last-of-all : (closed : Bool) (n more all : ℕ) → more ≡ n + 1 → MayBeAll closed more all → (n + 1 == all) ≡ closed
+last-of-all true n more all e may = eq-eqb (n + 1) all (omega (arith, e, may))
+last-of-all false n more all e may = ne_eqb (n + 1) all (λ h. absurd (omega (arith, e, may, h)))
+
 -- one more macroblock was counted
-pub one-more-counted : (seq : SeqState) (coding : PicCoding) (start : VersionState) (ms : List Macroblock) (i : ℕ) (from d : Macroblock) (inner : Bool) (before behind : VersionCount)
-    (step : Step) → from ≡ get_or ms i d → i < length ms → inner ≡ (not (i == 0) && not (i + 1 == length ms)) → AreCounted seq coding start ms i before
-    → step.from ≡ from → IsStep seq coding inner before.state step → IsCountedStep coding step before behind → AreCounted seq coding start ms (i + 1) behind
-one-more-counted seq coding start ms i from d inner before behind step at within is_inner was same is counted =
-    let count : length was.steps ≡ i = sym (length-taken was.steps) ∙ ap length was.taken ∙ length-take-le i ms (omega (arith, within)) in
-    let here : IsStep seq coding (not (length was.steps == 0) && not (length was.steps + 1 == length ms)) (state_behind start was.steps) step =
-    subst (λ (s : VersionState). IsStep seq coding (not (length was.steps == 0) && not (length was.steps + 1 == length ms)) s step) (sym was.state)
-    (subst (λ (n : ℕ). IsStep seq coding (not (n == 0) && not (n + 1 == length ms)) before.state step) (sym count)
-    (subst (λ (b : Bool). IsStep seq coding b before.state step) is_inner is)) in
+pub counted-more : (seq : SeqState) (coding : PicCoding) (start : VersionState) (ms : List Macroblock) (from : Macroblock) (inner closed : Bool) (before behind : VersionCount)
+    → inner ≡ (not (length ms == 0) && not closed) → AreCounted seq coding start ms false before → IsCountedMacroblock seq coding inner from before behind
+    → AreCounted seq coding start (ms ++ from ∷ []) closed behind
+counted-more seq coding start ms from inner closed before behind is_inner was is =
+    let step = is.step in
+    let counted = is.counted in
+    let count : length was.steps ≡ length ms = sym (length-taken was.steps) ∙ ap length was.taken in
+    let more : length (ms ++ from ∷ []) ≡ length ms + 1 = length-append ms (from ∷ []) in
+    let here : (all : ℕ) → MayBeAll closed (length (ms ++ from ∷ [])) all
+    → IsStep seq coding (not (length was.steps == 0) && not (length was.steps + 1 == all)) (state_behind start was.steps) step = λ all may.
+    subst (λ (s : VersionState). IsStep seq coding (not (length was.steps == 0) && not (length was.steps + 1 == all)) s step) (sym was.state)
+    (subst (λ (n : ℕ). IsStep seq coding (not (n == 0) && not (n + 1 == all)) before.state step) (sym count)
+    (subst (λ (b : Bool). IsStep seq coding b before.state step)
+    (is_inner ∙ ap (λ (c : Bool). not (length ms == 0) && not c) (sym (last-of-all closed (length ms) (length (ms ++ from ∷ [])) all more may))) is.is)) in
     let one : taken_by (was.steps ++ step ∷ []) ≡ taken_by was.steps ++ step.from ∷ [] = map-append (λ (s : Step). s.from) was.steps (step ∷ []) in
-    let front : take (i + 1) ms ≡ take i ms ++ get_or ms i d ∷ [] = ap (λ (n : ℕ). take n ms) (add-one i) ∙ take-suc ms i d within in
     let bits : flat_map (written_macroblock coding) (made_by (was.steps ++ step ∷ []))
     ≡ flat_map (written_macroblock coding) (made_by was.steps) ++ flat_map (written_macroblock coding) (option_to_list step.made) =
     ap (flat_map (written_macroblock coding)) (made-more was.steps step) ∙ flat_map-append (written_macroblock coding) (made_by was.steps) (option_to_list step.made) in
     let sums : distortion_of (was.steps ++ step ∷ []) ≡ distortion_of was.steps + distortion_of (step ∷ []) = sum_by-append (λ (s : Step). s.distortion) was.steps (step ∷ []) in
     let last : distortion_of (step ∷ []) ≡ step.distortion + 0 = sum_by-cons (λ (s : Step). s.distortion) step [] in
-    let spans : sum_by span_of (drop i ms) ≡ span_of from + sum_by span_of (drop (i + 1) ms) = one_span ms i from d at within in
-    let gap : step.behind.skipped ≤ before.state.skipped + step.from.skipped_before + 1 = skipped-behind step.from step.made before.state step.behind is.state in
-    let from_gap : step.from.skipped_before ≡ from.skipped_before = ap (λ (m : Macroblock). m.skipped_before) same in
+    let spans : sum_by span_of (ms ++ from ∷ []) ≡ sum_by span_of ms + sum_by span_of (from ∷ []) = sum_by-append span_of ms (from ∷ []) in
+    let span : sum_by span_of (from ∷ []) ≡ span_of from + 0 = sum_by-cons span_of from [] in
+    let gap : step.behind.skipped ≤ before.state.skipped + step.from.skipped_before + 1 = skipped-behind step.from step.made before.state step.behind is.is.state in
+    let from_gap : step.from.skipped_before ≡ from.skipped_before = ap (λ (m : Macroblock). m.skipped_before) is.same in
     let now : behind.state.skipped ≡ step.behind.skipped = ap (λ (s : VersionState). s.skipped) counted.state in
     record {
       steps = was.steps ++ step ∷ [];
-      in_order = one-more-step seq coding (length ms) start was.steps step was.in_order here;
-      taken = one ∙ ap₂ (λ (xs : List Macroblock) (x : Macroblock). xs ++ x ∷ []) was.taken (same ∙ at) ∙ sym front;
+      in_order = λ all may. one-more-step seq coding all start was.steps step
+          (was.in_order all (before-all closed (length ms) (length (ms ++ from ∷ [])) all more may)) (here all may);
+      taken = one ∙ ap₂ (λ (xs : List Macroblock) (x : Macroblock). xs ++ x ∷ []) was.taken is.same;
       state = state-behind start was.steps step ∙ sym counted.state;
       bits = counted.bits ∙ ap (λ (n : ℕ). n + length (flat_map (written_macroblock coding) (option_to_list step.made))) was.bits
           ∙ sym (length-append (flat_map (written_macroblock coding) (made_by was.steps)) (flat_map (written_macroblock coding) (option_to_list step.made)))
           ∙ sym (ap length bits);
-      few = omega (arith, counted.few, was.few);
+      few = omega (arith, counted.few, was.few, more);
       distortion = omega (arith, counted.distortion, was.distortion, sums, last);
-      small = omega (arith, counted.small, was.small);
-      room = omega (arith, was.room, spans, gap, from_gap, now);
+      small = omega (arith, counted.small, was.small, more);
+      room = omega (arith, was.room, spans, span, gap, from_gap, now);
     }
 
 -- ---- what stands around the macroblocks
@@ -123,7 +135,7 @@ slice-length coding slice =
 -- all macroblocks of a slice were counted: so was the slice
 pub all-counted : (seq : SeqState) (coding : PicCoding) (m : ℕ) (from : Slice) (start : VersionState) (count : VersionCount) (bits info : ℕ) (made : SliceCount) → start.m ≡ m
     → start.source_code ≡ from.code → IsMappedCode coding.q_scale_type from.code m start.version_code → start.skipped ≡ 0
-    → AreCounted seq coding start from.macroblocks (length from.macroblocks) count → info ≡ length (written_slice_info from.info) → info ≤ 2 ^ 36
+    → AreCounted seq coding start from.macroblocks true count → info ≡ length (written_slice_info from.info) → info ≤ 2 ^ 36
     → length from.macroblocks ≤ 65535 → bits ≡ 37 + info + count.bits → made.bytes ≡ (bits + 7) / 8 → made.distortion ≡ count.distortion → IsCountedSlice seq coding m from made
 all-counted seq coding m from start count bits info made ratio source version skipped all info_is few_info few bits_are bytes distortion =
     let to : Slice = record { row = from.row; code = start.version_code; info = from.info; macroblocks = made_by all.steps } in
@@ -137,8 +149,8 @@ all-counted seq coding m from start count bits info made ratio source version sk
         source_code = source;
         version_code = version;
         skipped = skipped;
-        in_order = all.in_order;
-        taken = all.taken ∙ take-length from.macroblocks;
+        in_order = all.in_order (length from.macroblocks) refl;
+        taken = all.taken;
         row = refl;
         code = refl;
         info = refl;
@@ -157,38 +169,40 @@ few-macroblocks (m ∷ ms) = omega (arith, sum_by-cons span_of m ms, few-macrobl
 
 -- ---- a slice in one of several versions
 
-pub none-counted : (seq : SeqState) (coding : PicCoding) (m code : ℕ) (ms : List Macroblock) (count : VersionCount) → IsStartCount coding m code count → sum_by span_of ms ≤ 65535
-    → AreCounted seq coding count.state ms 0 count
-none-counted seq coding m code ms count is room = record {
+pub none-counted : (seq : SeqState) (coding : PicCoding) (m code : ℕ) (count : VersionCount) → IsStartCount coding m code count → AreCounted seq coding count.state [] false count
+none-counted seq coding m code count is = record {
   steps = [];
-  in_order = tt;
+  in_order = λ all may. tt;
   taken = refl;
   state = refl;
   bits = is.bits;
   few = omega (arith, is.bits);
   distortion = is.distortion;
   small = omega (arith, is.distortion);
-  room = omega (arith, is.skipped, room);
+  room = omega (arith, is.skipped);
 }
 
--- one more macroblock can be counted
-pub can-count : (seq : SeqState) (coding : PicCoding) (start : VersionState) (ms : List Macroblock) (i m in_force : ℕ) (from d : Macroblock) (tally : Tally) (count : VersionCount)
-    → from ≡ get_or ms i d → i < length ms → sum_by span_of ms ≤ 65535 → count.state.m ≡ m → count.state.source_code ≡ in_force
-    → IsTallyOf seq coding (unwrap_or from.code in_force) m from tally → AreCounted seq coding start ms i count → CanCount seq coding from tally count
-can-count seq coding start ms i m in_force from d tally count at within few ratio code tallied was = record {
-  tallied = subst (λ (n : ℕ). IsTallyOf seq coding (unwrap_or from.code count.state.source_code) n from tally) (sym ratio)
-      (subst (λ (n : ℕ). IsTallyOf seq coding (unwrap_or from.code n) m from tally) (sym code) tallied);
-  room = omega (arith, one_span ms i from d at within, was.room);
-  bits = omega (arith, was.few, few-macroblocks ms, few, within);
-  distortion = omega (arith, was.small, few-macroblocks ms, few, within);
+-- one more macroblock can be counted, where it stands in the row
+pub can-count : (seq : SeqState) (coding : PicCoding) (start : VersionState) (ms : List Macroblock) (closed : Bool) (m code : ℕ) (from : Macroblock) (count : VersionCount)
+    → sum_by span_of ms + span_of from ≤ 4096 → count.state.m ≡ m → count.state.source_code ≡ code → AreCounted seq coding start ms closed count → CanCountBehind code m from count
+can-count seq coding start ms closed m code from count few ratio source_code was = record {
+  ratio = ratio;
+  source_code = source_code;
+  room = omega (arith, was.room, few);
+  bits = omega (arith, was.few, few-macroblocks ms, few);
+  distortion = omega (arith, was.small, few-macroblocks ms, few);
 }
 
--- and then it was
-pub counted-more : (seq : SeqState) (coding : PicCoding) (start : VersionState) (ms : List Macroblock) (i : ℕ) (from d : Macroblock) (inner : Bool) (before behind : VersionCount)
-    → from ≡ get_or ms i d → i < length ms → inner ≡ (not (i == 0) && not (i + 1 == length ms)) → AreCounted seq coding start ms i before
-    → IsCountedMacroblock seq coding inner from before behind → AreCounted seq coding start ms (i + 1) behind
-counted-more seq coding start ms i from d inner before behind at within is_inner was is =
-    one-more-counted seq coding start ms i from d inner before behind is.step at within is_inner was is.same is.is is.counted
+-- and it can, once its coefficients were
+pub can-count-tallied : (seq : SeqState) (coding : PicCoding) (m code : ℕ) (from : Macroblock) (tally : Tally) (count : VersionCount) → CanCountBehind code m from count
+    → IsTallyOf seq coding (unwrap_or from.code code) m from tally → CanCount seq coding from tally count
+can-count-tallied seq coding m code from tally count can tallied = record {
+  tallied = subst (λ (n : ℕ). IsTallyOf seq coding (unwrap_or from.code count.state.source_code) n from tally) (sym can.ratio)
+      (subst (λ (n : ℕ). IsTallyOf seq coding (unwrap_or from.code n) m from tally) (sym can.source_code) tallied);
+  room = can.room;
+  bits = can.bits;
+  distortion = can.distortion;
+}
 
 pub state-kept : (seq : SeqState) (coding : PicCoding) (inner : Bool) (from : Macroblock) (m in_force : ℕ) (before behind : VersionCount) → before.state.m ≡ m → before.state.source_code ≡ in_force
     → IsCountedMacroblock seq coding inner from before behind → (behind.state.m ≡ m) × (behind.state.source_code ≡ unwrap_or from.code in_force)
@@ -199,13 +213,19 @@ state-kept seq coding inner from m in_force before behind ratio code is = (
 )
 
 -- a slice that was counted has this size
-pub slice-sized : (seq : SeqState) (coding : PicCoding) (m : ℕ) (from : Slice) (count : VersionCount) (made : SliceCount) → IsCountable coding from → AreAllCounted seq coding m from count
-    → made.bytes ≡ (37 + length (written_slice_info from.info) + count.bits + 7) / 8 → made.distortion ≡ count.distortion → IsCountedSlice seq coding m from made
-slice-sized seq coding m from count made countable all bytes distortion =
-    let few : length from.macroblocks ≤ 65535 = omega (arith, few-macroblocks from.macroblocks, countable.room) in
-    all-counted seq coding m from all.start count (37 + length (written_slice_info from.info) + count.bits) (length (written_slice_info from.info)) made
-    all.ratio all.source_code all.version_code all.skipped all.counted refl (few-info from.info countable.info) few refl bytes distortion
-  where
-    few-info : (info : Option SliceInfo) → IfSome info (λ i. length i.bytes ≤ 2 ^ 32) → length (written_slice_info info) ≤ 2 ^ 36
-    few-info None few = omega arith
-    few-info (Some info) few = omega (arith, info-length info, few)
+pub slice-sized : (seq : SeqState) (coding : PicCoding) (ratios : List ℕ) (found : Slice) (read : SliceRead) (k : ℕ) (d : VersionCount) (made : SliceCount)
+    → IsSliceCounted seq coding ratios found read → k < length ratios → made.bytes ≡ (37 + read.info_bits + (get_or read.counts k d).bits + 7) / 8
+    → made.distortion ≡ (get_or read.counts k d).distortion → IsCountedSlice seq coding (get_or ratios k 0) found made
+slice-sized seq coding ratios found read k d made is within bytes distortion =
+    let all = is.each k d within in
+    let count : VersionCount = get_or read.counts k d in
+    let few : length found.macroblocks ≤ 65535 = omega (arith, few-macroblocks found.macroblocks, is.spans.end, is.few) in
+    all-counted seq coding (get_or ratios k 0) found all.start count (37 + read.info_bits + count.bits) read.info_bits made
+    all.ratio all.source_code all.version_code all.skipped all.counted is.info is.few_info few refl bytes distortion
+
+-- and few bits
+pub few-bits : (seq : SeqState) (coding : PicCoding) (ratios : List ℕ) (found : Slice) (read : SliceRead) (k : ℕ) (d : VersionCount) → IsSliceCounted seq coding ratios found read
+    → k < length ratios → (get_or read.counts k d).bits ≤ 2 ^ 40
+few-bits seq coding ratios found read k d is within =
+    let all = is.each k d within in
+    omega (arith, all.counted.few, few-macroblocks found.macroblocks, is.spans.end, is.few)

@@ -1,26 +1,15 @@
--- Slices that bits spell can be counted.
-use Rattle.std.proofs.Common.{◌≡◌, ℕ, ◌+◌, ◌^◌, ◌≤◌, Option, Some, None, List, [], ◌∷◌, ◌++◌, Bool, true, false, refl, sym, ◌∙◌, ap, subst, arith, length, IfSome, append_assoc}
-use Rattle.std.specs.Prelude.{◌==◌}
-use Rattle.std.specs.List.{AllByRecursion}
+-- What the header of a slice says: its code, and what stands behind it, which is no longer than the slice.
+use Rattle.std.proofs.Common.{ℕ, ◌+◌, ◌≤◌, Option, Some, None, List, [], ◌∷◌, ◌++◌, Bool, true, false, sym, ap, subst, arith, length, IfSome}
 use Rattle.std.proofs.lemmas.List.{length-append}
-use Rattle.syntax_types.specs.declared.macroblock.Macroblock.{Macroblock}
-use Rattle.syntax_types.specs.declared.picture.PicCoding.{PicCoding}
-use Rattle.syntax_types.specs.declared.picture.SeqState.{SeqState}
-use Rattle.syntax_types.specs.declared.slice.Slice.{Slice}
+use Rattle.quant_math.specs.Scales.{IsCode}
 use Rattle.syntax_types.specs.declared.slice.SliceInfo.{SliceInfo}
 use Rattle.picture_grammar.specs.Element.{uimsbf}
 use Rattle.picture_grammar.specs.Grammar.{SpellsList, optional, Next}
 use Rattle.picture_grammar.specs.Grammar.Next.{more}
-use Rattle.picture_grammar.specs.Slice.{columns, columns_left, extra_information, slice, slice_extension, slice_info}
-use Rattle.picture_laws.specs.Spellable.{HasSpellableMacroblocks, HasSpellableParts}
-use Rattle.picture_laws.proofs.WrittenMacroblock.{anywhere-macroblock}
-use Rattle.picture_laws.proofs.WrittenSlice.{macroblocks-of_slice}
-use Rattle.picture_grammar.specs.Written.{written_macroblock}
-use Rattle.requantiser.specs.VersionState.{IsSpelledMacroblock}
-use Rattle.requantiser.proofs.SpelledSlices.{spelled_slice-walkable}
-use Rattle.version_maker.specs.Private.Counts.{IsCountable}
-
--- ---- what a slice's header says besides is no longer than the slice
+use Rattle.picture_grammar.specs.Slice.{extra_information, slice_extension, slice_info}
+use Rattle.macroblock_reader.specs.declared.head.SliceHead.{SliceHead}
+use Rattle.macroblock_reader.specs.SliceHead.{slice_head}
+use Rattle.requantiser.proofs.Spelled.{is_code}
 
 optional-few : (present : Bool) (byte : Option ℕ) (bits rest : List ℕ) → (optional present (uimsbf 8 [])).Spells byte bits rest → length rest ≤ length bits
 optional-few true byte bits rest (value, m, (code, coded, passing, split), (e, f)) = omega (arith, ap length split, length-append code m, ap length f)
@@ -58,33 +47,11 @@ info-few : (info : Option SliceInfo) (bits rest : List ℕ) → slice_info.Spell
 info-few info bits rest (extended, m, (code, coded, passing, split), s) =
     if-more info (length m) (length bits) (omega (arith, ap length split, length-append code m)) (extended-few extended info m rest s)
 
-slice-info-few : (seq : SeqState) (coding : PicCoding) (row : ℕ) (s : Slice) (bits rest : List ℕ) → (slice seq coding row).Spells s bits rest → IfSome s.info (λ i. length i.bytes ≤ length bits)
-unfolding slice
-slice-info-few seq coding row s bits rest (number, m, (code, coded, passing, split), (info, m', t, (ms, m'', u, (e, f)))) =
-    subst (λ (o : Option SliceInfo). IfSome o (λ i. length i.bytes ≤ length bits)) (ap (λ (x : Slice). x.info) (sym e))
-    (if-more info (length m) (length bits) (omega (arith, ap length split, length-append code m)) (info-few info m m' t))
+-- what a slice's header says
+pub head-info-few : (head : SliceHead) (bits rest : List ℕ) (most : ℕ) → length bits ≤ most → slice_head.Spells head bits rest → IfSome head.info (λ i. length i.bytes ≤ most)
+head-info-few head bits rest most short (number, m, (code, coded, passing, split), (info, m', t, (e, f))) =
+    subst (λ (o : Option SliceInfo). IfSome o (λ i. length i.bytes ≤ most)) (ap (λ (h : SliceHead). h.info) (sym e))
+    (if-more info (length m) most (omega (arith, short, ap length split, length-append code m)) (info-few info m m' t))
 
--- ---- some bits spell each macroblock
-
-pub parts-spelled : (coding : PicCoding) (first : Bool) (left : ℕ) (m : Macroblock) → HasSpellableParts coding first left m → IsSpelledMacroblock coding m
-parts-spelled coding first left m parts =
-    record { first = first; columns_left = left; bits = written_macroblock coding m ++ []; rest = []; spelled = (anywhere-macroblock coding first left m parts).before [] }
-
-all-spelled : (seq : SeqState) (coding : PicCoding) (s : Slice) (front ms : List Macroblock) → s.macroblocks ≡ front ++ ms → HasSpellableMacroblocks seq coding s
-    → AllByRecursion (IsSpelledMacroblock coding) ms
-all-spelled seq coding s front [] split has = tt
-all-spelled seq coding s front (m ∷ ms) split has = (
-  parts-spelled coding (length front == 0) (columns_left seq front) m (has.each front ms m split),
-  all-spelled seq coding s (front ++ m ∷ []) ms (split ∙ sym (append_assoc front (m ∷ []) ms)) has,
-)
-
-pub spelled-countable : (seq : SeqState) (coding : PicCoding) (row : ℕ) (s : Slice) (bits rest : List ℕ) → columns seq ≤ 65535 → length bits ≤ 2 ^ 32
-    → (slice seq coding row).Spells s bits rest → IsCountable coding s
-spelled-countable seq coding row s bits rest few short spelled =
-    let walkable = spelled_slice-walkable seq coding row s bits rest spelled in
-    record {
-      code = walkable.code;
-      spelled = all-spelled seq coding s [] s.macroblocks refl (macroblocks-of_slice seq coding row s bits rest spelled).1;
-      room = omega (arith, walkable.within, few);
-      info = if-more s.info (length bits) (2 ^ 32) short (slice-info-few seq coding row s bits rest spelled);
-    }
+pub head-code : (head : SliceHead) (bits rest : List ℕ) → slice_head.Spells head bits rest → IsCode head.code
+head-code head bits rest (number, m, s, (info, m', t, (e, f))) = subst IsCode (ap (λ (h : SliceHead). h.code) (sym e)) (is_code number bits m s)

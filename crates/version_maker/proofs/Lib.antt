@@ -3,6 +3,7 @@ pub mod Counts
 pub mod Infos
 pub mod Lists
 pub mod Units
+pub mod SliceSteps
 pub mod SizedSlices
 pub mod UnitSizes
 pub mod SpelledMade

@@ -88,16 +88,6 @@ written-more coding steps step =
     sym (ap (flat_map (written_macroblock coding)) (made-more steps step) ∙ flat_map-append (written_macroblock coding) (made_by steps) (option_to_list step.made))
 
 module _ (seq : SeqState) (coding : PicCoding) where
-  -- a macroblock that was read is spelled
-  pub spelled-next : (ms : List Macroblock) (m : Macroblock) (bits rest : List ℕ) → (next_macroblock seq coding ms).Spells (more m) bits rest → IsSpelledMacroblock coding m
-  spelled-next [] m bits rest (x, end, s, (e, f)) =
-      let same : x ≡ m = (let e' : more m ≡ more x = e in cc) in
-      subst (IsSpelledMacroblock coding) same (record { first = true; columns_left = columns seq; bits = bits; rest = end; spelled = s })
-  spelled-next (b ∷ bs) m bits rest (inl (closes, (e, f))) = absurd (let e' : more m ≡ last tt = e in cc)
-  spelled-next (b ∷ bs) m bits rest (inr (going, (x, end, s, (e, f)))) =
-      let same : x ≡ m = (let e' : more m ≡ more x = e in cc) in
-      subst (IsSpelledMacroblock coding) same (record { first = false; columns_left = columns_left seq (b ∷ bs); bits = bits; rest = end; spelled = s })
-
   -- where the slice ends its bits close it
   pub closes-last : (ms : List Macroblock) (bits rest : List ℕ) → (next_macroblock seq coding ms).Spells (last tt) bits rest → ClosesSlice bits
   closes-last [] bits rest (x, end, s, (e, f)) = absurd (let e' : last tt ≡ more x = e in cc)
@@ -145,9 +135,6 @@ module _ (seq : SeqState) (coding : PicCoding) where
     )
 
 -- ---- the head of a slice
-
-pub head-code : (head : SliceHead) (bits rest : List ℕ) → slice_head.Spells head bits rest → IsCode head.code
-head-code head bits rest (code, m, s, (info, m', s', (e, f))) = subst IsCode (ap (λ (h : SliceHead). h.code) (sym e)) (is_code code bits m s)
 
 info-fits : (extended : Bool) (info : Option SliceInfo) (bits rest : List ℕ) → (optional extended slice_extension).Spells info bits rest → IfSome info (λ info. info.reserved < 2 ^ 7)
 info-fits true info bits rest (made, m, (intra, m1, s1, (reserved, m2, (code, (fits, same), passing, split), (found, m3, s3, (d, d')))), (e, f)) =

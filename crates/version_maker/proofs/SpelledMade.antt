@@ -1,12 +1,13 @@
 -- What becomes of a macroblock in a version can be written: some bits spell it.
-use Rattle.std.proofs.Common.{◌≡◌, ◌==◌, ◌&&◌, ℕ, ◌+◌, min, not, Option, Some, None, Bool, true, false, if◌then◌else◌, unwrap_or, refl, ap, subst, arith}
+use Rattle.std.proofs.Common.{◌≡◌, ◌==◌, ◌&&◌, ℕ, ◌+◌, ◌++◌, [], min, not, Option, Some, None, Bool, true, false, if◌then◌else◌, unwrap_or, refl, ap, subst, arith}
 use Rattle.syntax_types.specs.declared.macroblock.Macroblock.{Macroblock}
 use Rattle.syntax_types.specs.declared.picture.PicCoding.{PicCoding}
 use Rattle.syntax_types.specs.declared.picture.SeqState.{SeqState}
 use Rattle.syntax_types.specs.declared.picture.TheConstants.{I_PICTURE}
 use Rattle.picture_grammar.specs.Macroblock.{address_increment, most_increment}
-use Rattle.picture_laws.specs.Spellable.{IsSpellable}
-use Rattle.picture_laws.proofs.WrittenMacroblock.{parts-of_macroblock}
+use Rattle.picture_grammar.specs.Written.{written_macroblock}
+use Rattle.picture_laws.specs.Spellable.{HasSpellableParts, IsSpellable}
+use Rattle.picture_laws.proofs.WrittenMacroblock.{anywhere-macroblock, parts-of_macroblock}
 use Rattle.requantiser.specs.Macroblocks.{IsCoarserAt}
 use Rattle.requantiser.specs.Private.Shapes.{IsWalkable}
 use Rattle.requantiser.specs.Private.Walk.{coarsened_macroblock}
@@ -16,7 +17,11 @@ use Rattle.requantiser.proofs.Made.{FitBlocks, made-fits}
 use Rattle.requantiser.proofs.SpellableElements.{increment-spelled}
 use Rattle.requantiser.proofs.SpellableMacroblocks.{coarser-parts}
 use Rattle.requantiser.proofs.Spelled.{walkable}
-use Rattle.version_maker.proofs.Infos.{parts-spelled}
+
+-- some bits spell a macroblock of such parts
+parts-spelled : (coding : PicCoding) (first : Bool) (left : ℕ) (m : Macroblock) → HasSpellableParts coding first left m → IsSpelledMacroblock coding m
+parts-spelled coding first left m parts =
+    record { first = first; columns_left = left; bits = written_macroblock coding m ++ []; rest = []; spelled = (anywhere-macroblock coding first left m parts).before [] }
 
 -- an increment of the first macroblock in a row that is just wide enough
 most_first : (b : Bool) (n : ℕ) → (if b && not true then min 1 n else n) ≡ n

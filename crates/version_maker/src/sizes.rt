@@ -5,7 +5,7 @@ ghost use Rattle.picture_reader.specs.Picture.{IsRefusedAs};
 ghost use Rattle.version_maker.specs.Versions.{AreSizes};
 
 use crate::limits::UNIT_BYTES_MOST;
-use crate::slice_read::read_one_slice;
+use crate::slice_read::read_and_count;
 use crate::unit_sizes::{all_sizes, no_sizes, with_slice};
 use crate::version::VersionSize;
 use arrayvec::ArrayVec;
@@ -16,7 +16,7 @@ use syntax_types::{Macroblock, SeqState};
 use version_table::limits::VERSIONS_MOST;
 
 /// How long all versions of a unit are, and their distortions, in the order of `versions_of`, which refuses the same units.
-/// It goes once through the unit, and keeps one slice at a time.
+/// It goes once through the unit, and keeps no macroblock.
 pub fn sizes_of(
     alloc: Global,
     unit: &[u8],
@@ -34,7 +34,8 @@ pub fn sizes_of(
         Err(fault) => return Err(fault),
     };
     let mut ladder = Ladder::new();
-    let mut lent = Macroblock::empty();
+    let mut read = Macroblock::empty();
+    let mut made = Macroblock::empty();
     let mut sizes = no_sizes(coarser);
     'slices: loop {
         let part = match cursor.next(unit) {
@@ -49,20 +50,21 @@ pub fn sizes_of(
             UnitPart::Slice { row, at } => {
                 let headers = cursor.headers;
                 let bytes = bytes_from(unit, at);
-                let read = match read_one_slice(alloc, bytes, &headers.seq, &headers.coding, row) {
-                    Ok(read) => read,
-                    Err(fault) => return Err(cursor.fault_of(unit, row, at, fault)),
-                };
-                cursor = cursor.past(unit, row, at, read.bits, read.span);
-                sizes = with_slice(
+                let slice = match read_and_count(
+                    alloc,
+                    bytes,
                     &headers.seq,
                     &headers.coding,
-                    &read.slice,
                     coarser,
-                    sizes.as_slice(),
                     &mut ladder,
-                    &mut lent,
-                );
+                    &mut read,
+                    &mut made,
+                ) {
+                    Ok(slice) => slice,
+                    Err(fault) => return Err(cursor.fault_of(unit, row, at, fault)),
+                };
+                cursor = cursor.past(unit, row, at, slice.bits, slice.span);
+                sizes = with_slice(&slice, sizes.as_slice());
             }
         }
     }
@@ -77,7 +79,7 @@ fn end_bytes(sequence_end: bool) -> u64
 }
 
 /// The bytes from this one on.
-fn bytes_from(unit: &[u8], first: usize) -> &[u8]
+pub fn bytes_from(unit: &[u8], first: usize) -> &[u8]
     requires { first ≤ length unit.now }
     ensures { result.now ≡ drop first unit.now }
 {

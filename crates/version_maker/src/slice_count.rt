@@ -1,6 +1,6 @@
-//! The versions of a slice, counted macroblock by macroblock and neither kept nor written.
-ghost use Rattle.std.specs.Prelude.{◌≡◌, ◌≤◌, ◌<◌, ◌+◌, ◌*◌, ◌/◌, ◌^◌, ◌==◌, ◌&&◌, ℕ, not, length, slice_index, slice_index_or, IfSome};
-ghost use Rattle.std.specs.List.{AllByRecursion, flat_map, sum_by};
+//! A slice in its versions, counted macroblock by macroblock and neither kept nor written.
+ghost use Rattle.std.specs.Prelude.{◌≡◌, ◌≤◌, ◌<◌, ◌+◌, ◌*◌, ◌/◌, ◌^◌, ◌&&◌, ℕ, not, length, slice_index, slice_index_or, IfSome};
+ghost use Rattle.std.specs.List.{flat_map};
 ghost use Rattle.std.specs.Option.{option_to_list};
 ghost use Rattle.quant_math.specs.Scales.{IsCode};
 ghost use Rattle.picture_grammar.specs.Written.{written_macroblock, written_slice_info};
@@ -8,14 +8,12 @@ ghost use Rattle.requantiser.specs.Levels.{HasWeights};
 ghost use Rattle.requantiser.specs.declared.tally.Tally.{Tally as TallyOf};
 ghost use Rattle.requantiser.specs.VersionState.{IsSpelledMacroblock, made_of};
 ghost use Rattle.version_maker.specs.declared.slice_count.VersionCount.{VersionCount as CountOf};
-ghost use Rattle.version_maker.specs.Private.Counts.{AreAllCounted, AreCounted, CanCount, IsCountable, IsCountedMacroblock, IsStartCount};
+ghost use Rattle.version_maker.specs.Private.Counts.{CanCount, IsCountedMacroblock, IsStartCount};
 
 use macroblock_writer::macroblock_bits;
 use quant_math::WHOLE_RATIO;
-use requantiser::{
-    Ladder, Tally, VERSIONS_AT_ONCE, VersionState, outline_macroblock, tally_macroblock,
-};
-use syntax_types::{Macroblock, PicCoding, SeqState, Slice, SliceInfo};
+use requantiser::{Tally, VERSIONS_AT_ONCE, VersionState, outline_macroblock};
+use syntax_types::{Macroblock, PicCoding, SeqState, SliceInfo};
 
 /// Where one version stands in a slice, and what was counted of it.
 #[derive(Clone, Copy)]
@@ -51,37 +49,12 @@ impl VersionCount {
     }
 }
 
-/// Counts a slice in the version at each ratio, its macroblocks through one that is lent.
-pub fn count_slice(
-    seq: &SeqState,
+/// Nothing of a slice with this code, in each version.
+pub fn start_counts(
     coding: &PicCoding,
     ratios: &[u16],
-    slice: &Slice,
-    ladder: &mut Ladder,
-    lent: &mut Macroblock,
+    code: u8,
 ) -> [VersionCount; VERSIONS_AT_ONCE]
-    requires weights { HasWeights seq.now }
-    requires countable { IsCountable coding.now slice.now }
-    requires ratios { length ratios.now ≤ VERSIONS_AT_ONCE }
-    ensures { (k : ℕ) (d : CountOf) → k < length ratios.now → AreAllCounted seq.now coding.now (slice_index ratios.now k) slice.now (slice_index_or result k d) }
-{
-    let mut counts = start_counts(coding, ratios, slice.code);
-    let macroblocks = slice.macroblocks.as_slice();
-    count_macroblocks(
-        seq,
-        coding,
-        ratios,
-        slice.code,
-        macroblocks,
-        ladder,
-        lent,
-        &mut counts,
-    );
-    counts
-}
-
-/// Nothing of a slice with this code, in each version.
-fn start_counts(coding: &PicCoding, ratios: &[u16], code: u8) -> [VersionCount; VERSIONS_AT_ONCE]
     requires code { IsCode code }
     requires ratios { length ratios.now ≤ VERSIONS_AT_ONCE }
     ensures { (k : ℕ) (d : CountOf) → k < length ratios.now → IsStartCount coding.now (slice_index ratios.now k) code (slice_index_or result k d) }
@@ -93,14 +66,14 @@ fn start_counts(coding: &PicCoding, ratios: &[u16], code: u8) -> [VersionCount; 
     counts
 }
 
-/// The slice of a version whose macroblocks were counted.
-pub fn slice_size(slice: &Slice, count: VersionCount) -> SliceCount
-    requires info { IfSome slice.now.info (λ i. length i.bytes ≤ 2 ^ 32) }
+/// The slice of a version whose macroblocks were counted, with so many bits in its header behind the code.
+pub fn slice_size(info_bits: u64, count: VersionCount) -> SliceCount
+    requires info { info_bits ≤ 2 ^ 36 }
     requires few { count.bits ≤ 2 ^ 40 }
-    ensures bytes { result.bytes ≡ (37 + length (written_slice_info slice.now.info) + count.bits + 7) / 8 }
+    ensures bytes { result.bytes ≡ (37 + info_bits + count.bits + 7) / 8 }
     ensures distortion { result.distortion ≡ count.distortion }
 {
-    let bits = CODE_BITS + info_bits(&slice.info) + count.bits;
+    let bits = CODE_BITS + info_bits + count.bits;
     SliceCount {
         bytes: whole_bytes(bits),
         distortion: count.distortion,
@@ -115,55 +88,15 @@ fn whole_bytes(bits: u64) -> u64
     bits.div_ceil(8)
 }
 
-/// Counts what becomes of the macroblocks of a slice with this code in the version at each ratio.
-fn count_macroblocks(
-    seq: &SeqState,
-    coding: &PicCoding,
-    ratios: &[u16],
-    code: u8,
-    macroblocks: &[Macroblock],
-    ladder: &mut Ladder,
-    lent: &mut Macroblock,
-    counts: &mut [VersionCount; VERSIONS_AT_ONCE],
-)
-    requires weights { HasWeights seq.now }
-    requires code { IsCode code }
-    requires spelled { AllByRecursion (IsSpelledMacroblock coding.now) macroblocks.now }
-    requires room { sum_by (λ m. m.skipped_before + 1) macroblocks.now ≤ u16.MAX }
-    requires ratios { length ratios.now ≤ VERSIONS_AT_ONCE }
-    requires start { (k : ℕ) (d : CountOf) → k < length ratios.now → IsStartCount coding.now (slice_index ratios.now k) code (slice_index_or counts.old k d) }
-    ensures { (k : ℕ) (d : CountOf) → k < length ratios.now →
-        (let start : CountOf = slice_index_or counts.old k d in AreCounted seq.now coding.now start.state macroblocks.now (length macroblocks.now) (slice_index_or counts.new k d)) }
+/// A macroblock is neither the first of its slice nor the last one, behind which the slice is closed.
+pub fn is_inner(is_first: bool, closed: bool) -> bool
+    ensures { result ≡ (not is_first && not closed) }
 {
-    let mut tallies = [Tally::empty(); VERSIONS_AT_ONCE];
-    let mut in_force = code;
-    for i in 0..macroblocks.len() {
-        let from = &macroblocks[i];
-        let inner = is_inner(i, macroblocks.len());
-        in_force = tally_macroblock(seq, coding, in_force, ratios, from, &mut tallies, ladder);
-        count_macroblock(
-            seq,
-            coding,
-            inner,
-            from,
-            ratios.len(),
-            &tallies,
-            lent,
-            counts,
-        );
-    }
-}
-
-/// The macroblock with this index is neither the first nor the last one of so many.
-fn is_inner(i: usize, count: usize) -> bool
-    requires { i < count }
-    ensures { result ≡ (not (i == 0) && not (i + 1 == count)) }
-{
-    i != 0 && i + 1 != count
+    !is_first && !closed
 }
 
 /// Counts what becomes of one more macroblock in the first so many versions, through one that is lent.
-fn count_macroblock(
+pub fn count_macroblock(
     seq: &SeqState,
     coding: &PicCoding,
     inner: bool,
@@ -217,7 +150,7 @@ fn bits_made(coding: &PicCoding, coded: bool, made: &Macroblock) -> u32
 }
 
 /// The bits of slice_extension_flag and of what it calls for.
-fn info_bits(info: &Option<SliceInfo>) -> u64
+pub fn info_bits(info: &Option<SliceInfo>) -> u64
     requires { IfSome info.now (λ i. length i.bytes ≤ 2 ^ 32) }
     ensures value { result ≡ length (written_slice_info info.now) }
     ensures few { result ≤ 2 ^ 36 }

@@ -1,62 +1,174 @@
-//! One slice of a unit, read into a tree of its own.
-ghost use Rattle.std.specs.Prelude.{◌≡◌, ◌≤◌, ◌+◌, ◌^◌, length, IfErr, MatchResult};
-ghost use Rattle.std.specs.List.{sum_by};
+//! One slice of a unit, read and counted macroblock by macroblock.
+ghost use Rattle.std.specs.Prelude.{◌≡◌, ◌≤◌, ◌<◌, ◌+◌, ◌^◌, ℕ, List, Some, length, slice_index, slice_index_or, unwrap_or, IfErr, IsErrOf, MatchResult};
+ghost use Rattle.shelf_io.specs.Counts.{Rose};
 ghost use Rattle.bit_lists.specs.Fields.{bit_list};
+ghost use Rattle.bit_cursor.specs.BitReader.{bits_left, place, faults_of, absences_of, KeepsSource};
+ghost use Rattle.quant_math.specs.Scales.{IsCode};
+ghost use Rattle.picture_grammar.specs.Grammar.{many};
 ghost use Rattle.picture_grammar.specs.Picture.{IsCoding};
-ghost use Rattle.picture_grammar.specs.Slice.{slice as slice_of};
+ghost use Rattle.picture_grammar.specs.Slice.{next_macroblock, slice as slice_of};
 ghost use Rattle.macroblock_reader.specs.SliceFault.{refusal_told};
-ghost use Rattle.picture_reader.specs.Coverage.{IsSpanSoFar};
 ghost use Rattle.picture_reader.specs.Told.{IsInside, RefusesTold};
-ghost use Rattle.version_maker.specs.Private.Read.{IsSliceRead};
+ghost use Rattle.requantiser.specs.Levels.{HasWeights};
+ghost use Rattle.requantiser.specs.VersionState.{IsSpelledMacroblock};
+ghost use Rattle.version_maker.specs.declared.slice_count.VersionCount.{VersionCount as CountOf};
+ghost use Rattle.version_maker.specs.Private.Counts.{CanCountBehind, IsCountedMacroblock, IsStartCount};
+ghost use Rattle.version_maker.specs.Private.Read.{AreMacroblocksRead, IsSliceRead};
 
+use crate::slice_count::{VersionCount, count_macroblock, info_bits, is_inner, start_counts};
 use bit_cursor::BitReader;
-use macroblock_reader::{SliceFault, read_slice};
+use macroblock_reader::{SliceCursor, SliceFault, read_slice_head};
 use picture_reader::{Span, columns};
-use shelf_io::SliceSource;
+use requantiser::{Ladder, Tally, VERSIONS_AT_ONCE, tally_macroblock};
+use shelf_io::{Fault, SliceSource, Source};
 use std::alloc::Global;
-use syntax_types::{Macroblock, PicCoding, SeqState, Slice};
+use syntax_types::{Macroblock, PicCoding, SeqState};
 
-/// A slice that was read.
-#[derive(Drop)]
+/// What was counted of a slice that was read.
+#[derive(Clone, Copy)]
 pub struct SliceRead {
-    pub slice: Slice,
-    /// The columns that it holds.
-    pub span: Span,
     /// How many bits spell it.
     pub bits: u64,
+    /// The columns that it holds.
+    pub span: Span,
+    /// The bits of slice_extension_flag and of what it calls for.
+    pub info_bits: u64,
+    /// Its macroblocks in each version.
+    pub counts: [VersionCount; VERSIONS_AT_ONCE],
 }
 
-/// Reads the slice at the front of these bytes, behind its start code.
-pub fn read_one_slice(
+/// Reads the slice at the front of these bytes, behind its start code, and counts it in the version at each ratio. Each of
+/// its macroblocks is read into one that is lent, and outlined in another one.
+pub fn read_and_count(
     alloc: Global,
     bytes: &[u8],
     seq: &SeqState,
     coding: &PicCoding,
-    row: u8,
+    ratios: &[u16],
+    ladder: &mut Ladder,
+    read: &mut Macroblock,
+    made: &mut Macroblock,
 ) -> Result<SliceRead, SliceFault>
     requires coding { IsCoding coding.now }
-    requires length { length bytes.now ≤ 2 ^ 60 }
-    ensures gives { MatchResult result (λ read. IsSliceRead seq.now coding.now row read (bit_list bytes.now))
+    requires weights { HasWeights seq.now }
+    requires length { length bytes.now ≤ 2 ^ 20 }
+    requires ratios { length ratios.now ≤ VERSIONS_AT_ONCE }
+    ensures gives { (row : ℕ) → MatchResult result (λ found. IsSliceRead seq.now coding.now ratios.now row found (bit_list bytes.now))
         (λ fault. RefusesTold (slice_of seq.now coding.now row) (refusal_told fault) (length (bit_list bytes.now)) (bit_list bytes.now)) }
     ensures inside { IfErr result IsInside }
 {
     let mut source = SliceSource::new(bytes);
     let mut reader = BitReader::new(&mut source);
-    let slice = read_slice(&mut reader, seq, coding, row, alloc)?;
+    let head = read_slice_head(&mut reader, alloc)?;
+    let mut counts = start_counts(coding, ratios, head.code);
+    let span = count_macroblocks(
+        &mut reader,
+        seq,
+        coding,
+        ratios,
+        head.code,
+        ladder,
+        read,
+        made,
+        &mut counts,
+    )?;
     let bits = reader.place();
-    let _columns = columns(seq);
-    let span = span_of(slice.macroblocks.as_slice());
-    Ok(SliceRead { slice, span, bits })
+    let info = info_bits(&head.info);
+    Ok(SliceRead {
+        bits,
+        span,
+        info_bits: info,
+        counts,
+    })
 }
 
-/// The columns that the macroblocks of a slice hold.
-fn span_of(macroblocks: &[Macroblock]) -> Span
-    requires { sum_by (λ m. m.skipped_before + 1) macroblocks.now ≤ 4096 }
-    ensures { IsSpanSoFar macroblocks.now result }
+/// Counts the macroblocks of a slice with this code in the version at each ratio, up to the close of the slice. It answers
+/// the columns that they hold.
+fn count_macroblocks<S: Source>(
+    from: &mut BitReader<'_, S>,
+    seq: &SeqState,
+    coding: &PicCoding,
+    ratios: &[u16],
+    code: u8,
+    ladder: &mut Ladder,
+    read: &mut Macroblock,
+    made: &mut Macroblock,
+    counts: &mut [VersionCount; VERSIONS_AT_ONCE],
+) -> Result<Span, SliceFault>
+    requires coding { IsCoding coding.now }
+    requires weights { HasWeights seq.now }
+    requires told { (bits : List ℕ) × (bits_left from.old ≡ Some bits) }
+    requires code { IsCode code }
+    requires ratios { length ratios.now ≤ VERSIONS_AT_ONCE }
+    requires start { (k : ℕ) (d : CountOf) → k < length ratios.now → IsStartCount coding.now (slice_index ratios.now k) code (slice_index_or counts.old k d) }
+    ensures gives { (bits : List ℕ) → bits_left from.old ≡ Some bits →
+        MatchResult result (λ span. AreMacroblocksRead seq.now coding.now (length ratios.now) counts.old counts.new span bits from.old from.new)
+        (λ fault. RefusesTold (many (next_macroblock seq.now coding.now)) (refusal_told fault) (place from.old + length bits) bits) }
+    ensures failed { IsErrOf result (SliceFault.Outside Fault.Failed) → Rose (faults_of from.old) (faults_of from.new) }
+    ensures missing { IsErrOf result (SliceFault.Outside Fault.Missing) → Rose (absences_of from.old) (absences_of from.new) }
+    ensures keeps { KeepsSource from.old from.new }
 {
+    let _columns = columns(seq);
+    let mut cursor = SliceCursor::new(seq);
     let mut span = Span::new();
-    for macroblock in macroblocks {
-        span = span.with(macroblock.skipped_before);
+    let mut tallies = [Tally::empty(); VERSIONS_AT_ONCE];
+    let mut in_force = code;
+    'macroblocks: loop {
+        let is_more = cursor.next(from, coding, read)?;
+        if !is_more {
+            return Ok(span);
+        }
+        let closed = cursor.is_closed(from)?;
+        let inner = is_inner(span.end == 0, closed);
+        in_force = count_next(
+            seq,
+            coding,
+            inner,
+            in_force,
+            ratios,
+            read,
+            &mut tallies,
+            ladder,
+            made,
+            counts,
+        );
+        span = span.with(read.skipped_before);
     }
-    span
+}
+
+/// Counts one more macroblock in the version at each ratio, where this code of the source is in force before it. It answers
+/// the code behind it.
+fn count_next(
+    seq: &SeqState,
+    coding: &PicCoding,
+    inner: bool,
+    code: u8,
+    ratios: &[u16],
+    from: &Macroblock,
+    tallies: &mut [Tally; VERSIONS_AT_ONCE],
+    ladder: &mut Ladder,
+    made: &mut Macroblock,
+    counts: &mut [VersionCount; VERSIONS_AT_ONCE],
+) -> u8
+    requires weights { HasWeights seq.now }
+    requires code { IsCode code }
+    requires spelled { IsSpelledMacroblock coding.now from.now }
+    requires ratios { length ratios.now ≤ VERSIONS_AT_ONCE }
+    requires each { (k : ℕ) (d : CountOf) → k < length ratios.now → CanCountBehind code (slice_index ratios.now k) from.now (slice_index_or counts.old k d) }
+    ensures code { result ≡ unwrap_or from.now.code code }
+    ensures is_code { IsCode result }
+    ensures each { (k : ℕ) (d : CountOf) → k < length ratios.now → IsCountedMacroblock seq.now coding.now inner from.now (slice_index_or counts.old k d) (slice_index_or counts.new k d) }
+{
+    let behind = tally_macroblock(seq, coding, code, ratios, from, tallies, ladder);
+    count_macroblock(
+        seq,
+        coding,
+        inner,
+        from,
+        ratios.len(),
+        tallies,
+        made,
+        counts,
+    );
+    behind
 }

@@ -1,17 +1,15 @@
 //! The sizes of all versions, while the slices of a unit are counted.
-ghost use Rattle.std.specs.Prelude.{◌≡◌, ◌≤◌, ◌<◌, ◌+◌, ◌%◌, ◌^◌, ◌∷◌, ◌++◌, [], List, length, map};
+ghost use Rattle.std.specs.Prelude.{◌≡◌, ◌≤◌, ◌<◌, ◌+◌, ◌%◌, ◌^◌, ◌∷◌, ◌++◌, [], ℕ, List, length, map};
 ghost use Rattle.syntax_types.specs.declared.picture.PicCoding.{PicCoding as CodingValue};
 ghost use Rattle.syntax_types.specs.declared.picture.SeqState.{SeqState as SeqValue};
 ghost use Rattle.syntax_types.specs.declared.slice.Slice.{Slice as SliceValue};
-ghost use Rattle.requantiser.specs.Levels.{HasWeights};
-ghost use Rattle.version_maker.specs.Private.Counts.{IsCountable};
+ghost use Rattle.version_maker.specs.Private.Read.{IsSliceCounted};
 ghost use Rattle.version_maker.specs.Private.Sized.{AreSized, first_size, with_bytes};
 
-use crate::slice_count::{SliceCount, count_slice, slice_size};
+use crate::slice_count::{SliceCount, slice_size};
+use crate::slice_read::SliceRead;
 use crate::version::VersionSize;
 use arrayvec::ArrayVec;
-use requantiser::Ladder;
-use syntax_types::{Macroblock, PicCoding, SeqState, Slice};
 use version_table::limits::VERSIONS_MOST;
 
 /// Sizes before the first slice, one for each ratio.
@@ -29,27 +27,17 @@ pub fn no_sizes(coarser: &[u16]) -> ArrayVec<VersionSize, VERSIONS_MOST>
     sizes
 }
 
-/// The sizes behind one more slice, whose macroblocks are counted through one that is lent.
-pub fn with_slice(
-    seq: &SeqState,
-    coding: &PicCoding,
-    slice: &Slice,
-    coarser: &[u16],
-    before: &[VersionSize],
-    ladder: &mut Ladder,
-    lent: &mut Macroblock,
-) -> ArrayVec<VersionSize, VERSIONS_MOST>
-    requires weights { HasWeights seq.now }
-    requires countable { IsCountable coding.now slice.now }
-    requires coarser { length coarser.now < VERSIONS_MOST }
-    requires as_many { length before.now ≡ length coarser.now }
-    ensures { (slices : List SliceValue) → AreSized seq.now coding.now slices coarser.now before.now →
-        AreSized seq.now coding.now (slices ++ slice.now ∷ []) coarser.now result.items }
+/// The sizes behind one more slice, which was counted in each version.
+pub fn with_slice(read: &SliceRead, before: &[VersionSize]) -> ArrayVec<VersionSize, VERSIONS_MOST>
+    requires counted { (seq : SeqValue) × (coding : CodingValue) × (ratios : List ℕ) × (found : SliceValue) ×
+        IsSliceCounted seq coding ratios found read.now × (length ratios ≡ length before.now) }
+    requires few { length before.now < VERSIONS_MOST }
+    ensures { (seq : SeqValue) (coding : CodingValue) (ratios : List ℕ) (found : SliceValue) (slices : List SliceValue) → IsSliceCounted seq coding ratios found read.now →
+        AreSized seq coding slices ratios before.now → AreSized seq coding (slices ++ found ∷ []) ratios result.items }
 {
     let mut sizes = ArrayVec::new();
-    let counts = count_slice(seq, coding, coarser, slice, ladder, lent);
-    for i in 0..coarser.len() {
-        let count = slice_size(slice, counts[i]);
+    for i in 0..before.len() {
+        let count = slice_size(read.info_bits, read.counts[i]);
         sizes.push(sum(before[i], count));
     }
     sizes

@@ -1,5 +1,5 @@
 //! The version of a unit, written while the unit is read: one slice after another, of which none is kept.
-ghost use Rattle.std.specs.Prelude.{◌≡◌, ◌≤◌, ◌^◌, ℕ, List, length, drop, take, IfOk, MatchResult, OnOk};
+ghost use Rattle.std.specs.Prelude.{◌≡◌, ◌≤◌, ◌^◌, ℕ, List, length, take, IfOk, MatchResult, OnOk};
 ghost use Rattle.std.specs.Option.{option_copied};
 ghost use Rattle.shelf_io.specs.Sink.{with_bytes};
 ghost use Rattle.bit_cursor.specs.BitWriter.{AddsBits};
@@ -11,6 +11,7 @@ ghost use Rattle.version_maker.specs.Private.Bytes.{AreCoarserBytesOf};
 ghost use Rattle.version_maker.specs.Private.Making.{IsMadeVersion};
 
 use crate::limits::UNIT_BYTES_MOST;
+use crate::sizes::bytes_from;
 use crate::slice_version::{Lent, in_memory, make_slice};
 use bit_cursor::BitWriter;
 use list_types::{ListOf, OutOfMemory};
@@ -123,12 +124,4 @@ fn write_last<K: Sink>(sequence_end: bool, to: &mut K) -> Result<(), OutOfMemory
     let mut writer = BitWriter::new(to);
     in_memory(write_end(&mut writer, sequence_end))?;
     in_memory(writer.finish())
-}
-
-/// The bytes from this one on.
-pub fn bytes_from(unit: &[u8], first: usize) -> &[u8]
-    requires { first ≤ length unit.now }
-    ensures { result.now ≡ drop first unit.now }
-{
-    &unit[first..]
 }

@@ -1,8 +1,8 @@
 -- A version of a slice while it is counted, and behind that.
-use Rattle.std.specs.Prelude.{◌≡◌, ◌<◌, ◌≤◌, ◌+◌, ◌++◌, ◌*◌, ◌^◌, ℕ, List, length, take, drop, unwrap_or, Bool, IfSome}
-use Rattle.std.specs.List.{AllByRecursion, flat_map, sum_by}
+use Rattle.std.specs.Prelude.{◌≡◌, ◌<◌, ◌≤◌, ◌+◌, ◌++◌, ◌*◌, ◌^◌, ℕ, List, length, unwrap_or, Bool, true, false}
+use Rattle.std.specs.List.{flat_map, sum_by}
 use Rattle.std.specs.Option.{option_to_list}
-use Rattle.quant_math.specs.Scales.{IsCode, IsMappedCode}
+use Rattle.quant_math.specs.Scales.{IsMappedCode}
 use Rattle.syntax_types.specs.declared.macroblock.Macroblock.{Macroblock}
 use Rattle.syntax_types.specs.declared.picture.PicCoding.{PicCoding}
 use Rattle.syntax_types.specs.declared.picture.SeqState.{SeqState}
@@ -11,11 +11,9 @@ use Rattle.stream_constants.specs.declared.start_codes.TheConstants.{FIRST_SLICE
 use Rattle.picture_grammar.specs.StartCode.{start_code_bits}
 use Rattle.picture_grammar.specs.Written.{to_whole_bytes, written_macroblock, written_slice}
 use Rattle.requantiser.specs.declared.version_state.VersionState.{VersionState}
-use Rattle.requantiser.specs.Slices.{end_column}
 use Rattle.requantiser.specs.declared.tally.Tally.{Tally}
 use Rattle.requantiser.specs.Tallies.{IsTallyOf}
 use Rattle.requantiser.specs.Steps.{AreSteps, IsStep, MakeSlice, Step, distortion_of, made_by, state_behind, taken_by}
-use Rattle.requantiser.specs.VersionState.{IsSpelledMacroblock}
 use Rattle.version_maker.specs.declared.slice_count.SliceCount.{SliceCount}
 use Rattle.version_maker.specs.declared.slice_count.VersionCount.{VersionCount}
 
@@ -41,6 +39,14 @@ pub record CanCount (seq : SeqState) (coding : PicCoding) (from : Macroblock) (t
   pub bits : count.bits + 2 ^ 18 < 2 ^ 64
   pub distortion : count.distortion + 2 ^ 41 < 2 ^ 64
 
+-- one more macroblock can be counted in the version at m sixteenths, where this code of the source is in force
+pub record CanCountBehind (code m : ℕ) (from : Macroblock) (count : VersionCount) : Type 0 where
+  pub ratio : count.state.m ≡ m
+  pub source_code : count.state.source_code ≡ code
+  pub room : count.state.skipped + from.skipped_before < 65535
+  pub bits : count.bits + 2 ^ 18 < 2 ^ 64
+  pub distortion : count.distortion + 2 ^ 41 < 2 ^ 64
+
 -- nothing of a slice with this code was counted in the version at m sixteenths
 pub record IsStartCount (coding : PicCoding) (m code : ℕ) (count : VersionCount) : Type 0 where
   pub ratio : count.state.m ≡ m
@@ -50,25 +56,24 @@ pub record IsStartCount (coding : PicCoding) (m code : ℕ) (count : VersionCoun
   pub bits : count.bits ≡ 0
   pub distortion : count.distortion ≡ 0
 
--- the first so many macroblocks of a slice were counted
-pub record AreCounted (seq : SeqState) (coding : PicCoding) (start : VersionState) (macroblocks : List Macroblock) (so_many : ℕ) (count : VersionCount) : Type 0 where
+-- so many macroblocks may be all of a slice, of which so many were counted: just these where it is closed behind them, and
+-- more where it isn't
+abbrev pub MayBeAll : Bool → ℕ → ℕ → Type 0
+MayBeAll true so_many all = all ≡ so_many
+MayBeAll false so_many all = so_many < all
+
+-- the first macroblocks of a slice were counted, behind which it is closed or isn't: their steps are those among as many
+-- macroblocks as may be all
+pub record AreCounted (seq : SeqState) (coding : PicCoding) (start : VersionState) (macroblocks : List Macroblock) (closed : Bool) (count : VersionCount) : Type 0 where
   pub steps : List Step
-  pub in_order : AreSteps seq coding (length macroblocks) 0 start steps
-  pub taken : taken_by steps ≡ take so_many macroblocks
+  pub in_order : (all : ℕ) → MayBeAll closed (length macroblocks) all → AreSteps seq coding all 0 start steps
+  pub taken : taken_by steps ≡ macroblocks
   pub state : state_behind start steps ≡ count.state
   pub bits : count.bits ≡ length (flat_map (written_macroblock coding) (made_by steps))
-  pub few : count.bits ≤ so_many * 2 ^ 18
+  pub few : count.bits ≤ length macroblocks * 2 ^ 18
   pub distortion : count.distortion ≡ distortion_of steps
-  pub small : count.distortion ≤ so_many * 2 ^ 41
-  pub room : count.state.skipped + sum_by (λ m. m.skipped_before + 1) (drop so_many macroblocks) ≤ 65535
-
--- what counting needs of a slice: its code is one, some bits spell each of its macroblocks, which stand in a row, and what
--- its header says besides isn't too long
-pub record IsCountable (coding : PicCoding) (slice : Slice) : Type 0 where
-  pub code : IsCode slice.code
-  pub spelled : AllByRecursion (IsSpelledMacroblock coding) slice.macroblocks
-  pub room : end_column slice ≤ 65535
-  pub info : IfSome slice.info (λ i. length i.bytes ≤ 2 ^ 32)
+  pub small : count.distortion ≤ length macroblocks * 2 ^ 41
+  pub room : count.state.skipped ≤ sum_by (λ m. m.skipped_before + 1) macroblocks
 
 -- all macroblocks of the slice were counted in the version at m sixteenths
 pub record AreAllCounted (seq : SeqState) (coding : PicCoding) (m : ℕ) (slice : Slice) (count : VersionCount) : Type 0 where
@@ -77,7 +82,7 @@ pub record AreAllCounted (seq : SeqState) (coding : PicCoding) (m : ℕ) (slice 
   pub source_code : start.source_code ≡ slice.code
   pub version_code : IsMappedCode coding.q_scale_type slice.code m start.version_code
   pub skipped : start.skipped ≡ 0
-  pub counted : AreCounted seq coding start slice.macroblocks (length slice.macroblocks) count
+  pub counted : AreCounted seq coding start slice.macroblocks true count
 
 -- a slice behind its start code as it is written, up to a whole byte
 abbrev pub written_whole : PicCoding → Slice → List ℕ

@@ -1,9 +1,8 @@
-use Rattle.std.proofs.Common.{◌++◌, ◌∷◌, ◌+◌, ◌<◌, ℕ, List, [], length, take, drop, refl, sym, ap, ap₂, subst, ◌∙◌, arith}
+use Rattle.std.proofs.Common.{◌++◌, ◌∷◌, ◌+◌, ◌<◌, ℕ, List, [], length, take, refl, sym, ap, ap₂, subst, ◌∙◌, arith}
 use Rattle.std.specs.Prelude.{map}
 use Rattle.std.specs.Option.{option_copied}
-use Rattle.std.proofs.lemmas.List.{length-append, length-drop, length-take-le}
+use Rattle.std.proofs.lemmas.List.{length-append, length-take-le}
 use Rattle.bit_lists.specs.Fields.{AreBytes, bit_list}
-use Rattle.bit_lists.proofs.ByteLemmas.{length-bit_list}
 use Rattle.video_headers.specs.declared.head.Headers.{Headers}
 use Rattle.picture_reader.specs.declared.cursor.UnitPart.{UnitPart}
 use Rattle.picture_reader.specs.UnitCursor.{IsNextPart, bits_from, picture_of}
@@ -14,41 +13,78 @@ use Rattle.version_maker.specs.declared.version.VersionSize.{VersionSize}
 use Rattle.version_maker.specs.Versions.{AreSizes}
 use Rattle.version_maker.specs.Private.Read.{IsSliceRead}
 use Rattle.version_maker.specs.Private.Sized.{AreSized, IsSized, first_size, with_bytes}
-use Rattle.version_maker.proofs.Infos.{spelled-countable}
 use Rattle.version_maker.proofs.SizedSlices.{all-zip-length}
 use Rattle.version_maker.proofs.UnitSizes.{unit-sizes}
 use Rattle.version_maker.proofs.sizes.sizes_of.Goals as goal
 
-pub read_one_slice-requires-clause-coding : goal.read_one_slice-requires-clause-coding
-read_one_slice-requires-clause-coding c =
+pub read_and_count-requires-clause-coding : goal.read_and_count-requires-clause-coding
+read_and_count-requires-clause-coding c =
     let unit = c.args.unit.now in
     head-coding (option_copied c.args.before) unit (are-bytes unit (λ i. omega (arith, c.type_inv.unit i))) c.slices.cursor.headers c.slices.invariant.stands.headed
 
-pub with_slice-sizes-requires-clause-weights : goal.with_slice-sizes-requires-clause-weights
-with_slice-sizes-requires-clause-weights c =
+pub read_and_count-requires-clause-weights : goal.read_and_count-requires-clause-weights
+read_and_count-requires-clause-weights c =
     let unit = c.args.unit.now in
     let headers = c.slices.cursor.headers in
     (head-usable (option_copied c.args.before) (headers.seq, headers.coding) (bit_list unit) (bits_from unit headers.slices_at) c.requires.before c.slices.invariant.stands.headed.spelled).weights
 
-pub with_slice-sizes-requires-clause-countable : goal.with_slice-sizes-requires-clause-countable
-with_slice-sizes-requires-clause-countable c =
+pub past-cursor-requires-clause-bits : goal.past-cursor-requires-clause-bits
+past-cursor-requires-clause-bits c =
     let unit = c.args.unit.now in
     let headers = c.slices.cursor.headers in
-    let read = c.in-Ok-read_one_slice.read in
-    let usable = head-usable (option_copied c.args.before) (headers.seq, headers.coding) (bit_list unit) (bits_from unit headers.slices_at) c.requires.before
-    c.slices.invariant.stands.headed.spelled in
-    let w : IsSliceRead headers.seq headers.coding c.in-Slice.row read (bits_from unit c.in-Slice.at) =
-    subst (λ (b : List ℕ). IsSliceRead headers.seq headers.coding c.in-Slice.row read (bit_list b)) c.bytes_from-bytes.ensures c.in-Ok-read_one_slice.ensures.gives in
-    spelled-countable headers.seq headers.coding c.in-Slice.row read.slice (bits_from unit c.in-Slice.at) (drop read.bits (bits_from unit c.in-Slice.at))
-    (omega (arith, usable.width))
-    (omega (arith, length-bit_list (drop c.in-Slice.at unit), length-drop c.in-Slice.at unit, c.requires.unit)) w.spelled
+    let coarser = c.args.coarser.now in
+    let read = c.in-Ok-read_and_count.slice in
+    let w : IsSliceRead headers.seq headers.coding coarser c.in-Slice.row read (bits_from unit c.in-Slice.at) =
+    subst (λ (b : List ℕ). IsSliceRead headers.seq headers.coding coarser c.in-Slice.row read (bit_list b)) c.bytes_from-bytes.ensures (c.in-Ok-read_and_count.ensures.gives c.in-Slice.row) in
+    w.within
 
-pub with_slice-sizes-requires-clause-as_many : goal.with_slice-sizes-requires-clause-as_many
-with_slice-sizes-requires-clause-as_many c =
+pub past-cursor-requires-clause-some : goal.past-cursor-requires-clause-some
+past-cursor-requires-clause-some c =
+    let unit = c.args.unit.now in
+    let headers = c.slices.cursor.headers in
+    let coarser = c.args.coarser.now in
+    let read = c.in-Ok-read_and_count.slice in
+    let w : IsSliceRead headers.seq headers.coding coarser c.in-Slice.row read (bits_from unit c.in-Slice.at) =
+    subst (λ (b : List ℕ). IsSliceRead headers.seq headers.coding coarser c.in-Slice.row read (bit_list b)) c.bytes_from-bytes.ensures (c.in-Ok-read_and_count.ensures.gives c.in-Slice.row) in
+    w.counted.spans.some
+
+pub past-cursor-requires-clause-few : goal.past-cursor-requires-clause-few
+past-cursor-requires-clause-few c =
+    let unit = c.args.unit.now in
+    let headers = c.slices.cursor.headers in
+    let coarser = c.args.coarser.now in
+    let read = c.in-Ok-read_and_count.slice in
+    let w : IsSliceRead headers.seq headers.coding coarser c.in-Slice.row read (bits_from unit c.in-Slice.at) =
+    subst (λ (b : List ℕ). IsSliceRead headers.seq headers.coding coarser c.in-Slice.row read (bit_list b)) c.bytes_from-bytes.ensures (c.in-Ok-read_and_count.ensures.gives c.in-Slice.row) in
+    w.counted.few
+
+pub with_slice-sizes-requires-clause-counted : goal.with_slice-sizes-requires-clause-counted
+with_slice-sizes-requires-clause-counted c =
+    let unit = c.args.unit.now in
+    let headers = c.slices.cursor.headers in
+    let coarser = c.args.coarser.now in
+    let read = c.in-Ok-read_and_count.slice in
+    let w : IsSliceRead headers.seq headers.coding coarser c.in-Slice.row read (bits_from unit c.in-Slice.at) =
+    subst (λ (b : List ℕ). IsSliceRead headers.seq headers.coding coarser c.in-Slice.row read (bit_list b)) c.bytes_from-bytes.ensures (c.in-Ok-read_and_count.ensures.gives c.in-Slice.row) in (
+      headers.seq,
+      headers.coding,
+      coarser,
+      w.found,
+      w.counted,
+      all-zip-length (IsSized headers.seq headers.coding c.slices.invariant.slices) coarser c.slices.sizes.items c.slices.invariant.sized
+          ∙ ap (λ (xs : List VersionSize). length xs) (sym c.as_slice-in-Slice.ensures.value),
+    )
+
+pub with_slice-sizes-requires-clause-few : goal.with_slice-sizes-requires-clause-few
+with_slice-sizes-requires-clause-few c =
     let headers = c.slices.cursor.headers in
     let inv = c.slices.invariant in
-    ap (λ (xs : List VersionSize). length xs) c.as_slice-in-Slice.ensures.value
-    ∙ sym (all-zip-length (IsSized headers.seq headers.coding inv.slices) c.args.coarser.now c.slices.sizes.items inv.sized)
+    omega (
+      arith,
+      ap (λ (xs : List VersionSize). length xs) c.as_slice-in-Slice.ensures.value,
+      all-zip-length (IsSized headers.seq headers.coding inv.slices) c.args.coarser.now c.slices.sizes.items inv.sized,
+      c.requires.coarser,
+    )
 
 pub slices-preserved : goal.slices-preserved
 slices-preserved c =
@@ -59,16 +95,18 @@ slices-preserved c =
     let cursor = c.slices.cursor in
     let seq = cursor.headers.seq in
     let coding = cursor.headers.coding in
-    let read = c.in-Ok-read_one_slice.read in
-    let w : IsSliceRead seq coding c.in-Slice.row read (bits_from unit c.in-Slice.at) =
-    subst (λ (b : List ℕ). IsSliceRead seq coding c.in-Slice.row read (bit_list b)) c.bytes_from-bytes.ensures c.in-Ok-read_one_slice.ensures.gives in
+    let read = c.in-Ok-read_and_count.slice in
+    let w : IsSliceRead seq coding coarser c.in-Slice.row read (bits_from unit c.in-Slice.at) =
+    subst (λ (b : List ℕ). IsSliceRead seq coding coarser c.in-Slice.row read (bit_list b)) c.bytes_from-bytes.ensures (c.in-Ok-read_and_count.ensures.gives c.in-Slice.row) in
     let begins = subst (λ (p : UnitPart). IsNextPart before unit inv.slices cursor p) c.in-Slice.is (c.in-Ok-next.ensures before inv.slices inv.stands) in
     record {
-      slices = inv.slices ++ read.slice ∷ [];
-      stands = c.past-cursor.ensures.stands before inv.slices read.slice inv.stands begins (record { spelled = w.spelled; within = w.within; in_row = w.in_row; spans = w.spans });
-      few = omega (arith, inv.few, begins.onward, c.past-cursor.ensures.onward, length-append inv.slices (read.slice ∷ []));
-      sized = subst (λ (h : Headers). AreSized h.seq h.coding (inv.slices ++ read.slice ∷ []) coarser c.with_slice-sizes.result.items) (sym c.past-cursor.ensures.headers)
-          (c.with_slice-sizes.ensures inv.slices (subst (AreSized seq coding inv.slices coarser) (sym c.as_slice-in-Slice.ensures.value) inv.sized));
+      slices = inv.slices ++ w.found ∷ [];
+      stands = c.past-cursor.ensures.stands before inv.slices w.found inv.stands begins
+          (record { spelled = w.spelled; within = w.within; in_row = w.in_row; spans = w.counted.spans });
+      few = omega (arith, inv.few, begins.onward, c.past-cursor.ensures.onward, length-append inv.slices (w.found ∷ []));
+      sized = subst (λ (h : Headers). AreSized h.seq h.coding (inv.slices ++ w.found ∷ []) coarser c.with_slice-sizes.result.items) (sym c.past-cursor.ensures.headers)
+          (c.with_slice-sizes.ensures seq coding coarser w.found inv.slices w.counted
+          (subst (AreSized seq coding inv.slices coarser) (sym c.as_slice-in-Slice.ensures.value) inv.sized));
     }
 
 pub all_sizes-requires : goal.all_sizes-requires

@@ -15,7 +15,8 @@ use Rattle.picture_reader.proofs.Told.{reads-told, explains-told, list-refused, 
 use Rattle.requantiser.specs.Steps.{IsStep, taken_by, state_behind, AreSteps}
 use Rattle.requantiser.proofs.Steps.{length-taken}
 use Rattle.version_maker.proofs.Counts.{skipped-behind, state-behind}
-use Rattle.version_maker.proofs.MadeSlices.{closes-last, closing-kept, goes-as, goes-nowhere, goes-then, later-state, none-in-order, one-more-in-order, spelled-next, taken-more, written-more}
+use Rattle.version_maker.proofs.MadeSlices.{closes-last, closing-kept, goes-as, goes-nowhere, goes-then, later-state, none-in-order, one-more-in-order, taken-more, written-more}
+use Rattle.version_maker.proofs.SliceSteps.{spelled-next}
 use Rattle.version_maker.proofs.slice_version.make_macroblocks.Goals as goal
 
 pub macroblocks-init : goal.macroblocks-init

@@ -11,7 +11,8 @@ use Rattle.picture_reader.specs.Private.Reading.{HasLeft}
 use Rattle.picture_reader.proofs.Told.{reads-told, explains-told}
 use Rattle.picture_reader.proofs.Slices.{inside-when, rest-dropped, head-told, rest-told, slice-spelled}
 use Rattle.version_maker.specs.Private.Making.{slice_of}
-use Rattle.version_maker.proofs.MadeSlices.{head-code, head-fits}
+use Rattle.version_maker.proofs.Infos.{head-code}
+use Rattle.version_maker.proofs.MadeSlices.{head-fits}
 use Rattle.version_maker.proofs.slice_version.make_slice.Goals as goal
 
 none-rose : Rose 0 0 → ⊥
