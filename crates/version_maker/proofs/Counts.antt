@@ -31,18 +31,18 @@ use Rattle.version_maker.specs.declared.slice_read.SliceRead.{SliceRead}
 use Rattle.version_maker.specs.Private.Counts.{AreCounted, CanCount, CanCountBehind, IsCountedMacroblock, IsCountedSlice, IsStartCount, MayBeAll}
 use Rattle.version_maker.specs.Private.Read.{IsSliceCounted}
 
-state-behind : (start : VersionState) (steps : List Step) (step : Step) → state_behind start (steps ++ step ∷ []) ≡ step.behind
+pub state-behind : (start : VersionState) (steps : List Step) (step : Step) → state_behind start (steps ++ step ∷ []) ≡ step.behind
 state-behind start [] step = refl
 state-behind start (s ∷ ss) step = state-behind s.behind ss step
 
-made-more : (steps : List Step) (step : Step) → made_by (steps ++ step ∷ []) ≡ made_by steps ++ option_to_list step.made
+pub made-more : (steps : List Step) (step : Step) → made_by (steps ++ step ∷ []) ≡ made_by steps ++ option_to_list step.made
 made-more steps step = flat_map-append (λ (s : Step). option_to_list s.made) steps (step ∷ []) ∙ ap (λ (ms : List Macroblock). made_by steps ++ ms) (nil-behind (option_to_list step.made))
   where
     nil-behind : (ms : List Macroblock) → ms ++ [] ≡ ms
     nil-behind [] = refl
     nil-behind (m ∷ ms) = ap (λ (xs : List Macroblock). m ∷ xs) (nil-behind ms)
 
-skipped-behind : (from : Macroblock) (made : Option Macroblock) (before behind : VersionState) → IsStateBehind from made before behind → behind.skipped ≤ before.skipped + from.skipped_before + 1
+pub skipped-behind : (from : Macroblock) (made : Option Macroblock) (before behind : VersionState) → IsStateBehind from made before behind → behind.skipped ≤ before.skipped + from.skipped_before + 1
 skipped-behind from made before behind is = is-few made is.skipped
   where
     is-few : (made : Option Macroblock) → behind.skipped ≡ (if is_some made then 0 else before.skipped + from.skipped_before + 1) → behind.skipped ≤ before.skipped + from.skipped_before + 1

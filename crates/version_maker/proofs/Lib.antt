@@ -7,3 +7,6 @@ pub mod Units
 pub mod SliceSteps
 pub mod SizedSlices
 pub mod UnitSizes
+pub mod SpelledMade
+pub mod MadeSlices
+pub mod MadeUnits

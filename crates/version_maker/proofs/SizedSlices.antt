@@ -16,7 +16,7 @@ use Rattle.version_maker.specs.Private.Sized.{AreSized, IsSized, first_size}
 
 -- ---- lists side by side
 
-all-zip-more : {A B : Type 0} (P : A → B → Type 0) (xs : List A) (ys : List B) (x : A) (y : B) → AllZip P xs ys → P x y → AllZip P (xs ++ x ∷ []) (ys ++ y ∷ [])
+pub all-zip-more : {A B : Type 0} (P : A → B → Type 0) (xs : List A) (ys : List B) (x : A) (y : B) → AllZip P xs ys → P x y → AllZip P (xs ++ x ∷ []) (ys ++ y ∷ [])
 all-zip-more P [] [] x y are is = (is, tt)
 all-zip-more P [] (b ∷ bs) x y are is = absurd are
 all-zip-more P (a ∷ xs) [] x y are is = absurd are

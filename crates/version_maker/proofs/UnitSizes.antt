@@ -102,7 +102,7 @@ same-written : (coding : PicCoding) (slice : Slice) → written_whole (record co
 unfolding written_slice written_macroblock
 same-written coding slice = refl
 
-all-written : (coding : PicCoding) (slices : List Slice) → flat_map (written_whole (record coding { vbv_delay = NO_DELAY })) slices ≡ flat_map (written_whole coding) slices
+pub all-written : (coding : PicCoding) (slices : List Slice) → flat_map (written_whole (record coding { vbv_delay = NO_DELAY })) slices ≡ flat_map (written_whole coding) slices
 all-written coding [] = refl
 all-written coding (s ∷ ss) = ap₂ (λ (a b : List ℕ). a ++ b) (same-written coding s) (all-written coding ss)
 

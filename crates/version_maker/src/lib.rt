@@ -11,8 +11,10 @@ mod limits;
 mod sizes;
 mod slice_count;
 mod slice_read;
+mod slice_version;
 mod unit_sizes;
 mod version;
+mod version_write;
 mod versions;
 
 pub use limits::UNIT_BYTES_MOST;

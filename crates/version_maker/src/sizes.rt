@@ -79,7 +79,7 @@ fn end_bytes(sequence_end: bool) -> u64
 }
 
 /// The bytes from this one on.
-fn bytes_from(unit: &[u8], first: usize) -> &[u8]
+pub fn bytes_from(unit: &[u8], first: usize) -> &[u8]
     requires { first ≤ length unit.now }
     ensures { result.now ≡ drop first unit.now }
 {

@@ -1,16 +1,18 @@
-ghost use Rattle.std.specs.Prelude.{◌≡◌, ◌++◌, ◌≤◌, ℕ, List, length, IfOk, MatchResult};
+ghost use Rattle.std.specs.Prelude.{◌≡◌, ◌++◌, ◌≤◌, ℕ, List, drop, length, take, IfOk, MatchResult};
 ghost use Rattle.std.specs.Option.{option_copied};
 ghost use Rattle.picture_grammar.specs.Picture.{IsLawful, MayPrecede};
 ghost use Rattle.picture_grammar.specs.Written.{IsWritten};
+ghost use Rattle.picture_heads.specs.Heads.{HasDelay, IsHeadWithoutDelay};
 ghost use Rattle.picture_reader.specs.Picture.{IsRefusedAs};
 ghost use Rattle.version_maker.specs.Versions.{AreVersions, AreVersionsOf, IsCoarserVersion, IsVersionAt};
-ghost use Rattle.version_maker.specs.Private.Bytes.{AreBytesAt, AreSourceBytes};
+ghost use Rattle.version_maker.specs.Private.Bytes.{AreSourceBytes, AreSourceBytesOf};
 
 use crate::limits::UNIT_BYTES_MOST;
 use crate::version::UnitVersion;
+use crate::version_write::coarser_bytes;
 use list_types::{ListOf, OutOfMemory};
 use picture_heads::without_delay;
-use picture_reader::{PictureFault, read_picture};
+use picture_reader::{PictureFault, check_picture, read_picture};
 use picture_writer::write_picture;
 use requantiser::{coarsen, distortion};
 use shelf_io::{CalmSink, Fault};
@@ -39,7 +41,8 @@ pub fn versions_of(
     Ok(versions)
 }
 
-/// The bytes of the version with this number alone.
+/// The bytes of the version with this number alone. It goes once through the unit, and keeps neither its macroblocks nor
+/// those of the version.
 pub fn version_of(
     alloc: Global,
     unit: &[u8],
@@ -53,12 +56,10 @@ pub fn version_of(
     ensures { MatchResult result (IsVersionAt (option_copied before.entry) unit.now coarser.now index)
         (IsRefusedAs (option_copied before.entry) unit.now) }
 {
-    let picture = match read_picture(alloc, unit, before) {
-        Ok(picture) => picture,
-        Err(fault) => return Err(fault),
-    };
-    let bytes = bytes_at(alloc, unit, &picture, coarser, usize::from(index))?;
-    Ok(bytes)
+    if index == 0 {
+        return source_version(alloc, unit, before);
+    }
+    coarser_bytes(alloc, unit, before, coarser[usize::from(index) - 1])
 }
 
 // The versions of the picture that the unit spells.
@@ -72,7 +73,7 @@ fn versions_of_picture(
     requires begins { (behind : List ℕ) × (unit.now ≡ picture.now.head ++ behind) }
     ensures { IfOk result (AreVersionsOf picture.now unit.now coarser.now) }
 {
-    let bytes = source_bytes(alloc, unit, picture)?;
+    let bytes = source_of_picture(alloc, unit, picture)?;
     let mut versions = ListOf::new(alloc);
     versions.push(UnitVersion {
         bytes,
@@ -84,36 +85,47 @@ fn versions_of_picture(
     Ok(versions)
 }
 
-// The bytes of the version with this number.
-fn bytes_at(
+// Version 0 of the unit, which is gone through and not kept.
+fn source_version(
     alloc: Global,
     unit: &[u8],
-    picture: &Picture,
-    coarser: &[u16],
-    index: usize,
-) -> Result<ListOf<u8>, OutOfMemory>
-    requires lawful { IsLawful picture.now }
-    requires begins { (behind : List ℕ) × (unit.now ≡ picture.now.head ++ behind) }
-    requires index { index ≤ length coarser.now }
-    ensures { IfOk result (AreBytesAt picture.now unit.now coarser.now index) }
+    before: Option<&SeqState>,
+) -> Result<ListOf<u8>, PictureFault>
+    requires unit { length unit.now ≤ UNIT_BYTES_MOST }
+    requires before { MayPrecede (option_copied before) }
+    ensures { MatchResult result (AreSourceBytesOf (option_copied before.entry) unit.now) (IsRefusedAs (option_copied before.entry) unit.now) }
 {
-    if index == 0 {
-        return source_bytes(alloc, unit, picture);
-    }
-    let made = coarsen(alloc, picture, coarser[index - 1])?;
-    let bytes = written(alloc, &made)?;
+    let headers = match check_picture(alloc, unit, before) {
+        Ok(headers) => headers,
+        Err(fault) => return Err(fault),
+    };
+    let bytes = source_bytes(alloc, unit, headers.slices_at as usize)?;
     Ok(bytes)
 }
 
-// The unit with the head without its vbv_delay.
-fn source_bytes(alloc: Global, unit: &[u8], picture: &Picture) -> Result<ListOf<u8>, OutOfMemory>
+// Version 0 of the unit that spells the picture.
+fn source_of_picture(
+    alloc: Global,
+    unit: &[u8],
+    picture: &Picture,
+) -> Result<ListOf<u8>, OutOfMemory>
     requires lawful { IsLawful picture.now }
     requires begins { (behind : List ℕ) × (unit.now ≡ picture.now.head ++ behind) }
     ensures { IfOk result (AreSourceBytes picture.now unit.now) }
 {
-    let head = without_delay(alloc, picture.head.as_slice())?;
+    let bytes = source_bytes(alloc, unit, picture.head.len())?;
+    Ok(bytes)
+}
+
+// The unit with the head, its first so many bytes, without its vbv_delay.
+fn source_bytes(alloc: Global, unit: &[u8], size: usize) -> Result<ListOf<u8>, OutOfMemory>
+    requires within { size ≤ length unit.now }
+    requires delay { (front : List ℕ) × (delay : List ℕ) × (back : List ℕ) × HasDelay (take size unit.now) front delay back }
+    ensures { IfOk result (λ bytes. (head : List ℕ) × IsHeadWithoutDelay (take size unit.now) head × (bytes ≡ head ++ drop size unit.now)) }
+{
+    let head = without_delay(alloc, &unit[..size])?;
     let mut bytes = head.into_vec();
-    bytes.extend_from_slice(&unit[picture.head.len()..])?;
+    bytes.extend_from_slice(&unit[size..])?;
     Ok(ListOf::from_vec(bytes))
 }
 

@@ -1,18 +1,26 @@
-use Rattle.std.proofs.Common.{subst, arith}
+use Rattle.std.proofs.Common.{ℕ, ◌-◌, ap, arith}
+use Rattle.std.specs.Prelude.{slice_index}
 use Rattle.std.specs.Option.{option_copied}
 use Rattle.picture_reader.proofs.Parts.{are-bytes}
-use Rattle.version_maker.specs.Private.Bytes.{AreBytesAt}
-use Rattle.version_maker.proofs.Lists.{version-at}
-use Rattle.version_maker.proofs.Units.{head-begins}
+use Rattle.picture_reader.specs.Picture.{IsRefusedAs}
+use Rattle.version_maker.specs.Versions.{IsVersionAt}
+use Rattle.version_maker.specs.Private.Bytes.{AreCoarserBytesOf, AreSourceBytesOf}
+use Rattle.version_maker.proofs.MadeUnits.{first-version, later-version, match-weaker}
 use Rattle.version_maker.proofs.versions.version_of.Goals as goal
 
-pub bytes_at-requires-clause-begins : goal.bytes_at-requires-clause-begins
-bytes_at-requires-clause-begins c =
-    head-begins (option_copied c.args.before) c.in-Ok.picture c.args.unit.now (are-bytes c.args.unit.now (λ i. omega (arith, c.type_inv.unit i))) c.in-Ok.ensures.ok.spelled
+pub returns-then-index-eq0 : goal.returns-then-index-eq0
+returns-then-index-eq0 c =
+    let before = option_copied c.args.before in
+    let unit = c.args.unit.now in
+    match-weaker (AreSourceBytesOf before unit) (IsVersionAt before unit c.args.coarser.now c.args.index) (IsRefusedAs before unit) c.source_version.result
+    (λ bytes is. first-version before unit c.args.coarser.now c.args.index bytes c.requires.before (are-bytes unit (λ i. omega (arith, c.type_inv.unit i))) c.if-index-eq0.true is) c.source_version.ensures
 
 pub returns : goal.returns
 returns c =
+    let before = option_copied c.args.before in
     let unit = c.args.unit.now in
     let coarser = c.args.coarser.now in
-    version-at (option_copied c.args.before) c.in-Ok.picture unit coarser c.args.index c.in_ok-bytes.bytes c.requires.before (are-bytes unit (λ i. omega (arith, c.type_inv.unit i))) c.in-Ok.ensures.ok
-    c.requires.index (subst (λ n. AreBytesAt c.in-Ok.picture unit coarser n c.in_ok-bytes.bytes) c.from.ensures c.in_ok-bytes.ensures)
+    let m : ℕ = slice_index coarser (c.from.result - 1) in
+    match-weaker (AreCoarserBytesOf before unit m) (IsVersionAt before unit coarser c.args.index) (IsRefusedAs before unit) c.coarser_bytes.result
+    (λ bytes is. later-version before unit coarser c.args.index m bytes c.requires.before (are-bytes unit (λ i. omega (arith, c.type_inv.unit i))) c.if-index-eq0.false c.requires.index
+    (ap (λ (n : ℕ). slice_index coarser (n - 1)) c.from.ensures) is) c.coarser_bytes.ensures
