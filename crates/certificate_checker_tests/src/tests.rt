@@ -1,8 +1,8 @@
 ghost use Rattle.std.specs.Prelude.{◌≡◌, IfOk, length};
 ghost use Rattle.version_table.specs.Table.{units_of};
 
-use certificate_checker::{CertFault, CheckRoom, Why, check};
 use bound_certificate::read_cert;
+use certificate_checker::{CertFault, CheckRoom, Why, check};
 use dual_bounds::nothing_fixed;
 use list_types::OutOfMemory;
 use std::alloc::Global;

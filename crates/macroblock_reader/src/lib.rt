@@ -3,8 +3,9 @@
 //! `read_slice` reads a whole slice into a tree. Under it stands one loop that others may go as well: `read_slice_head`,
 //! then `SliceCursor::next`, which reads one macroblock after another into one that is lent, up to the close of the slice,
 //! and keeps nothing; `SliceCursor::is_closed` says whether the one that was read is the last. `read_macroblock_into` reads
-//! one into a macroblock that is lent and may be used again, and `read_macroblock` gives a new one. Each answers what the bits spell by the grammar of `picture_grammar`, or the kind
-//! and the place of their refusal. Only slices take memory. Stands on `block_coeffs`, `grammar_reading` and `picture_laws`.
+//! one into a macroblock that is lent and may be used again, and `read_macroblock` gives a new one. Each answers what the
+//! bits spell by the grammar of `picture_grammar`, or the kind and the place of their refusal. Only slices take memory.
+//! Stands on `block_coeffs`, `grammar_reading` and `picture_laws`.
 #![tactic(auto)]
 
 mod address;

@@ -1,5 +1,5 @@
-use multiplier_search::{best_single, best_window, improve, improve_windows, relaxation};
 use dual_bounds::{Multiplier, Multipliers, Window, Windows, nothing_fixed, window_value};
+use multiplier_search::{best_single, best_window, improve, improve_windows, relaxation};
 use std::alloc::Global;
 use std::process::Abort;
 use std::test::Fail;

@@ -1,6 +1,4 @@
-use pes_units::{
-    MOST_HEADER_BYTES, PesFault, PesHeader, Times, unwrap_time, write_video_header,
-};
+use pes_units::{MOST_HEADER_BYTES, PesFault, PesHeader, Times, unwrap_time, write_video_header};
 
 #[test]
 fn a_pts_alone_takes_fourteen_bytes(rt: HostRuntime) {

@@ -1,5 +1,5 @@
 //! The version of a slice, written while the slice is read: one macroblock after another, of which none is kept.
-ghost use Rattle.std.specs.Prelude.{◌≡◌, ◌≤◌, ◌<◌, ◌+◌, ◌^◌, ◌++◌, ◌&&◌, ℕ, List, not, true, false, is_err, length, IfOk, IfErr, IfSome, IsErrOf, MatchResult, OnOk};
+ghost use Rattle.std.specs.Prelude.{◌≡◌, ◌≤◌, ◌<◌, ◌+◌, ◌^◌, ◌++◌, ℕ, List, true, false, is_err, length, IfOk, IfErr, IfSome, IsErrOf, MatchResult, OnOk};
 ghost use Rattle.std.specs.List.{flat_map};
 ghost use Rattle.std.specs.Option.{option_to_list};
 ghost use Rattle.shelf_io.specs.Counts.{Rose};
@@ -20,6 +20,7 @@ ghost use Rattle.requantiser.specs.Levels.{HasWeights};
 ghost use Rattle.requantiser.specs.VersionState.{IsSpelledMacroblock, made_of};
 ghost use Rattle.version_maker.specs.Private.Making.{AreMade, GoesOn, IsMadeBehind, IsMadeSlice, IsWrittenStep};
 
+use crate::slice_count::is_inner;
 use bit_cursor::{BitReader, BitWriter};
 use list_types::OutOfMemory;
 use macroblock_reader::{SliceCursor, SliceFault, SliceHead, read_slice_head};
@@ -158,13 +159,6 @@ fn make_macroblocks<S: Source, K: Sink>(
         make_macroblock(seq, coding, inner, &mut state, lent, to)?;
         is_first = false;
     }
-}
-
-/// A macroblock is neither the first nor the last one of its slice.
-fn is_inner(is_first: bool, is_last: bool) -> bool
-    ensures { result ≡ (not is_first && not is_last) }
-{
-    !is_first && !is_last
 }
 
 /// Writes what becomes of the macroblock of the source that was read.
