@@ -17,8 +17,8 @@ returns-clause-ok g c =
     let whole = is_job_stream c.stream_has_slots.ensures c.stream_is_clean.ensures c.stream_carries_its_times.ensures c.stream_is_clean_by_its_times.ensures
     c.programs_are_read_back.ensures made choice slots stream c.requires.job
     c.requires.programs c.requires.table c.requires.valid c.requires.fits c.requires.slots
-    (subst (λ (ps : List Program). IsStreamIn made.job ps choice slots stream) c.as_slice.ensures is)
-    (subst (All (λ (program : Program). AreBytes program.video)) c.as_slice-made.ensures c.see_videos.ensures) in
+    (subst (λ (ps : List Program). IsStreamIn made.job ps choice slots stream) c.as_slice-2.ensures is)
+    (subst (All (λ (program : Program). AreBytes program.video)) c.as_slice.ensures c.see_videos.ensures) in
     holds_stream c.write_job_stream.result told _ c.args.name.now made choice slots stream whole
     (wrote_whole g.K.Shelf.files g.K.Shelf.counts g.K.Shelf.asked c.new.result c.write_job_stream.new.to told _ c.args.name.now c.new.ensures.name
     (ap g.K.Shelf.files c.new.ensures.shelf ∙ c.in_ok-start.ensures.ok) c.write_job_stream.ensures.keeps (search rules) c.write_job_stream.result stream
@@ -34,8 +34,8 @@ returns-clause-err g c =
     let whole = is_job_stream c.stream_has_slots.ensures c.stream_is_clean.ensures c.stream_carries_its_times.ensures c.stream_is_clean_by_its_times.ensures
     c.programs_are_read_back.ensures made choice slots stream c.requires.job
     c.requires.programs c.requires.table c.requires.valid c.requires.fits c.requires.slots
-    (subst (λ (ps : List Program). IsStreamIn made.job ps choice slots stream) c.as_slice.ensures is)
-    (subst (All (λ (program : Program). AreBytes program.video)) c.as_slice-made.ensures c.see_videos.ensures) in
+    (subst (λ (ps : List Program). IsStreamIn made.job ps choice slots stream) c.as_slice-2.ensures is)
+    (subst (All (λ (program : Program). AreBytes program.video)) c.as_slice.ensures c.see_videos.ensures) in
     holds_part c.write_job_stream.result told _ c.args.name.now made choice slots stream whole
     (wrote_part g.K.Shelf.files g.K.Shelf.counts g.K.Shelf.asked c.new.result c.write_job_stream.new.to told _ c.args.name.now c.new.ensures.name
     (ap g.K.Shelf.files c.new.ensures.shelf ∙ c.in_ok-start.ensures.ok) c.write_job_stream.ensures.keeps (search rules) c.write_job_stream.result stream
