@@ -21,11 +21,7 @@ pub struct Ask {
 }
 
 /// Whether the source gives these pieces as they are kept, asked for in this order.
-pub fn are_right(
-    source: &mut VersionSource<'_>,
-    kept: &Kept,
-    asks: &[Ask],
-) -> Result<bool, Fault>
+pub fn are_right(source: &mut VersionSource<'_>, kept: &Kept, asks: &[Ask]) -> Result<bool, Fault>
     requires kept { AreKept kept.now.programs kept.now.jobs kept.now.versions kept.now.choice.items }
     requires has { HasAll (stream_items kept.now.programs kept.now.versions kept.now.choice.items) source.old }
     ensures { HasAll (stream_items kept.now.programs kept.now.versions kept.now.choice.items) source.new }

@@ -38,12 +38,7 @@ pub fn count_items(kept: &Kept, stream: u32) -> u32
 }
 
 /// Adds all pieces of an item in order.
-fn push_item(
-    asks: &mut Vec<Ask>,
-    kept: &Kept,
-    stream: u32,
-    item: u32,
-) -> Result<(), AllocError>
+fn push_item(asks: &mut Vec<Ask>, kept: &Kept, stream: u32, item: u32) -> Result<(), AllocError>
     requires { AreKept kept.now.programs kept.now.jobs kept.now.versions kept.now.choice.items }
 {
     for piece in 0..count_pieces(kept, stream, item) {
@@ -100,12 +95,7 @@ pub fn last_pieces(alloc: Global, kept: &Kept, streams: u32) -> Result<Vec<Ask>,
 }
 
 /// The pieces of two streams in turn, one of each, item by item. Where one item has fewer pieces, those of the other one go on.
-pub fn by_turns(
-    alloc: Global,
-    kept: &Kept,
-    first: u32,
-    second: u32,
-) -> Result<Vec<Ask>, AllocError>
+pub fn by_turns(alloc: Global, kept: &Kept, first: u32, second: u32) -> Result<Vec<Ask>, AllocError>
     requires { AreKept kept.now.programs kept.now.jobs kept.now.versions kept.now.choice.items }
 {
     let mut asks = Vec::new(alloc);
