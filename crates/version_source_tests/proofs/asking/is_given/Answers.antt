@@ -1,0 +1,13 @@
+use Rattle.version_source_tests.proofs.asking.is_given.Goals as goal
+
+pub filled_with-requires : goal.filled_with-requires
+filled_with-requires c = c.requires.has c.args.ask.stream c.args.ask.item c.args.ask.piece c.in-Some.ensures
+
+pub returns-in_err-filled : goal.returns-in_err-filled
+returns-in_err-filled c = λ stream item piece has. c.filled_with.ensures stream item piece (c.requires.has stream item piece has)
+
+pub returns-then-eq : goal.returns-then-eq
+returns-then-eq c = λ stream item piece has. c.filled_with.ensures stream item piece (c.requires.has stream item piece has)
+
+pub returns-else-eq : goal.returns-else-eq
+returns-else-eq c = λ stream item piece has. c.filled_with.ensures stream item piece (c.requires.has stream item piece has)

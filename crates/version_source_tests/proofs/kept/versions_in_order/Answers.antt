@@ -1,0 +1,16 @@
+use Rattle.std.proofs.Common.{drop}
+use Rattle.std.specs.Option.{option_copied}
+use Rattle.std.proofs.lemmas.List.{drop_all}
+use Rattle.version_source_tests.proofs.SoFar.{all-units, one-more-unit}
+use Rattle.version_source_tests.proofs.kept.versions_in_order.Goals as goal
+
+pub loop-k-preserved : goal.loop-k-preserved
+loop-k-preserved c =
+    one-more-unit c.args.es.now c.args.coarser.now c.args.units.now c.loop-k.k c.unit_bytes-unit.result.now c.loop-k.before (option_copied c.as_ref.result)
+    (option_copied c.as_ref-in-loop-k.result) c.in_ok-state.state c.loop-k.kept c.push.new.self _ _ c.loop-k-test.true c.unit_bytes-unit.ensures.bytes c.as_ref.ensures.value
+    c.as_ref-in-loop-k.ensures.value c.in_ok-push.ensures.ok c.loop-k.invariant c.in_ok-versions.ensures c.in_ok-state.ensures
+
+pub returns : goal.returns
+returns c =
+    all-units c.args.es.now c.args.coarser.now c.args.units.now (drop c.loop-k.k c.args.units.now) c.loop-k.before c.loop-k.kept
+    (drop_all c.loop-k.k c.args.units.now c.loop-k-test.false) c.loop-k.invariant
