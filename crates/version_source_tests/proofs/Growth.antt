@@ -8,7 +8,7 @@ use Rattle.program_reader.specs.declared.program.UnitSource.{UnitSource}
 use Rattle.version_maker.specs.declared.version.UnitVersion.{UnitVersion}
 use Rattle.version_source.specs.Sendable.{IsSendable}
 use Rattle.version_source.specs.Versions.{AreAllVersions, AreVideoVersions, NamesVersions, ratios_of}
-use Rattle.version_source_tests.specs.Kept.{AreKept}
+use Rattle.version_source_tests.specs.Private.Kept.{AreKept}
 
 names-grow : (programs : List Program) (ratios : List (List ℕ)) (choice : List ℕ) (program : Program) (coarser own : List ℕ) → NamesVersions programs ratios choice
     → length own ≡ length program.units → All (λ index. index ≤ length coarser) own → NamesVersions (programs ++ program ∷ []) (ratios ++ coarser ∷ []) (choice ++ own)

@@ -11,7 +11,7 @@ use Rattle.version_maker.specs.declared.version.UnitVersion.{UnitVersion}
 use Rattle.version_maker.specs.Versions.{AreVersions}
 use Rattle.version_source.specs.Sendable.{Leaves, SpellInOrder, bytes_of}
 use Rattle.version_source.specs.Versions.{AreVideoVersions}
-use Rattle.version_source_tests.specs.Kept.{AreVersionsSoFar}
+use Rattle.version_source_tests.specs.Private.Kept.{AreVersionsSoFar}
 
 -- a unit that spells a picture leaves one state alone
 one-state : (before : Option SeqState) (unit : List ℕ) (a b : SeqState) → Leaves before unit a → Leaves before unit b → a ≡ b

@@ -2,7 +2,7 @@
 ghost use Rattle.std.specs.Prelude.{ℕ, IfSome};
 ghost use Rattle.version_source.specs.Pieces.{HasPiece, stream_items};
 ghost use Rattle.version_source.specs.Source.{HasIt};
-ghost use Rattle.version_source_tests.specs.Kept.{AreKept, HasAll};
+ghost use Rattle.version_source_tests.specs.Private.Kept.{AreKept, HasAll};
 
 use crate::item::{Item, item_of};
 use crate::kept::Kept;

@@ -2,7 +2,7 @@
 ghost use Rattle.std.specs.Prelude.{◌≡◌, ◌≤◌, None, All, length, IfOk, OnOk};
 ghost use Rattle.version_source.specs.Sendable.{IsSendable, IsUnitOf, SpellInOrder};
 ghost use Rattle.version_source.specs.Versions.{AreVideoVersions};
-ghost use Rattle.version_source_tests.specs.Kept.{AreKept};
+ghost use Rattle.version_source_tests.specs.Private.Kept.{AreKept};
 
 use job_report::ProgramJob;
 use list_types::{ListOf, Text};

@@ -1,5 +1,5 @@
 //! Orders in which pieces are asked for.
-ghost use Rattle.version_source_tests.specs.Kept.{AreKept};
+ghost use Rattle.version_source_tests.specs.Private.Kept.{AreKept};
 
 use crate::asking::{Ask, item_of_piece};
 use crate::kept::Kept;

@@ -1,5 +1,5 @@
 use Rattle.version_source.specs.Pieces.{stream_items}
-use Rattle.version_source_tests.specs.Kept.{HasAll}
+use Rattle.version_source_tests.specs.Private.Kept.{HasAll}
 use Rattle.version_source_tests.proofs.asking.are_right.Given as goal
 
 abbrev pub invariant-loop-ask : goal.invariant-loop-ask
