@@ -6,7 +6,7 @@ use crate::fault::BitFault;
 use shelf_io::{Fault, Source};
 
 /// The most bits that are asked for at once.
-pub const AHEAD_BITS: u32 = 56;
+pub const AHEAD_BITS: u32 = 32;
 
 /// The bits of a source in order, most significant bit of each byte first. It borrows the source, and takes no byte of
 /// it before a bit of that byte is asked for.
@@ -18,7 +18,7 @@ pub struct BitReader<'a, S: Source> {
     held: u32,
     // bytes taken from the source
     taken: u64,
-    ghost few_held: { held < 64 },
+    ghost few_held: { held < 40 },
     ghost held_taken: { held ≤ 8 * taken },
     ghost source_ends: { taken + S.most source.now ≤ 2 ^ 60 },
 }

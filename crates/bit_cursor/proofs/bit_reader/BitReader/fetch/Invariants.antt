@@ -8,7 +8,7 @@ abbrev pub invariant-loop-held : goal.invariant-loop-held
 invariant-loop-held g l = record {
   left : told_bits (g.S.Source.left l.self.source.now) l.held l.word ≡ bits_left l.fn.self;
   place : 8 * l.taken - l.held ≡ place l.fn.self;
-  few : l.held < 64;
+  few : l.held < 40;
   within : l.held ≤ 8 * l.taken;
   ends : l.taken + g.S.Source.most l.self.source.now ≤ 2 ^ 60;
   taken : TakenSoFar l.n l.fn.self l.self l.held;
