@@ -118,7 +118,9 @@ impl<'a, S: Source> BitReader<'a, S> {
         Ok(self.held >= n)
     }
 
-    /// The same, but where n bits aren't held, `AHEAD_BITS` bits are asked for, so that later calls find theirs held.
+    /// Whether n bits are held, n at most `AHEAD_BITS`, behind up to `AHEAD_BITS` bits that this call may ask for, so that
+    /// later calls find theirs held: no only where fewer than n are left. A source that fails at a byte behind the n bits fails
+    /// the call too. The reader stays where it is.
     #[inline]
     pub fn hold_ahead(&mut self, n: u32) -> Result<bool, Fault>
         requires { n ≤ AHEAD_BITS }

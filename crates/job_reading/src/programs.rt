@@ -29,7 +29,7 @@ use version_source::laws::{one_list_of_versions, programs_can_be_sent};
 use version_units::units::versions_are_whole_units;
 
 /// Each program of a job is read back from the job's stream: under its number, with its map and no stream left out, its units in the chosen versions with their
-/// times, and its audio PES packets byte for byte. The videos that were read are bytes.
+/// times, and its audio PES packets byte for byte. It needs programs whose videos are bytes.
 pub fn programs_are_read_back()
     ensures { (job : Job) (contents : List (List ℕ)) (programs : List Program) (table : Table) (choice : List ℕ) (slots : SlotList) (versions : List (List (List UnitVersion)))
         → IsValidJob job → ArePrograms job contents programs → IsTableOf job programs table → IsValidTable table → Fits table choice

@@ -14,8 +14,8 @@ use Rattle.syntax_types.specs.declared.picture.PicCoding.{PicCoding}
 use Rattle.picture_grammar.specs.Macroblock.{type_table, type_symbol, has_motion_type, has_dct_type, has_concealment, f_codes, block_way, no_block}
 use Rattle.picture_grammar.specs.Written.{code_for, if_any, written_block, written_increment, written_vector}
 
--- the head behind so many skipped macroblocks: macroblock_address_increment, macroblock_type, dct_type, quantiser_scale_code
--- and coded_block_pattern (ISO/IEC 13818-2, 6.2.5 and 6.2.5.1)
+-- The head behind so many skipped macroblocks: macroblock_address_increment, macroblock_type, dct_type, quantiser_scale_code
+-- and coded_block_pattern (ISO/IEC 13818-2, 6.2.5, 6.2.5.1 and 6.2.5.3). Motion_type and the vectors stand between these.
 abbrev pub head_length : PicCoding → ℕ → Kind → Option ℕ → ℕ → ℕ
 head_length coding skipped_before kind code pattern =
     length (written_increment (skipped_before + 1))
@@ -24,7 +24,8 @@ head_length coding skipped_before kind code pattern =
     + length (if_any (bits_of 5) code)
     + length (if kind.pattern then code_for Pattern pattern else [])
 
--- motion_type, the vectors of both directions, and the marker behind a vector of concealment
+-- motion_type, the vectors of both directions, and the marker behind a vector of concealment (ISO/IEC 13818-2, 6.2.5, 6.2.5.1 and
+-- 6.2.5.2)
 abbrev pub motion_length : PicCoding → Macroblock → ℕ
 motion_length coding m =
     (if has_motion_type coding m.kind then 2 else 0)
@@ -36,14 +37,15 @@ motion_length coding m =
 abbrev pub written_dc_block : BlockWay → Option Dc → List ℕ
 written_dc_block way dc = written_block way (record { dc = dc; pairs = record { items = [] } })
 
--- the DC coefficients of an intra macroblock, each with the end of its block
+-- the DC coefficients of an intra macroblock, each with the end of its block (ISO/IEC 13818-2, 6.2.6)
 abbrev pub dc_length : PicCoding → Macroblock → ℕ
 dc_length coding m =
     if m.kind.intra
     then length (flat_map (λ i. let block : Block = slice_index_or m.blocks i no_block in written_dc_block (block_way coding m.kind i) block.dc) (range_with_len 0 BLOCKS))
     else 0
 
--- no other coefficients stand in the macroblock: then it is its head, its motion and its DC coefficients
+-- no other coefficients stand in the macroblock, and no DC coefficient but in an intra one: then it is its head, its motion and its
+-- DC coefficients
 pub record HasDcAlone (m : Macroblock) : Type 0 where
   pub none : (i : ℕ) → i < BLOCKS → let block : Block = slice_index_or m.blocks i no_block in block.pairs.items ≡ []
   pub no_dc : m.kind.intra ≡ false → (i : ℕ) → i < BLOCKS → let block : Block = slice_index_or m.blocks i no_block in block.dc ≡ None

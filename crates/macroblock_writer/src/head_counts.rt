@@ -14,7 +14,7 @@ use prefix_codes::{TableName, symbol};
 use syntax_types::{Kind, PicCoding};
 
 /// The bits of a macroblock's head behind so many skipped ones: macroblock_address_increment, macroblock_type, and dct_type,
-/// quantiser_scale_code and coded_block_pattern where they stand (ISO/IEC 13818-2, 6.2.5 and 6.2.5.1).
+/// quantiser_scale_code and coded_block_pattern where they stand (ISO/IEC 13818-2, 6.2.5, 6.2.5.1 and 6.2.5.3).
 pub fn head_bits(
     coding: &PicCoding,
     skipped_before: u16,

@@ -1,5 +1,5 @@
 -- A macroblock of a version by its outline.
-use Rattle.std.proofs.Common.{◌≡◌, ℕ, zero, suc, ◌+◌, ◌-◌, ◌*◌, ◌^◌, ◌<◌, ◌≤◌, ℤ, pos, Option, Some, None, unwrap_or, List, [], ◌∷◌, ◌++◌, Bool, true, false, refl, sym, ◌∙◌, ap, ap₂, subst, arith, length, get_or, length-append}
+use Rattle.std.proofs.Common.{◌≡◌, ℕ, zero, suc, ◌+◌, ◌-◌, ◌*◌, ◌^◌, ◌<◌, ◌≤◌, ℤ, pos, Option, Some, None, unwrap_or, is_some, IfSome, List, [], ◌∷◌, ◌++◌, Bool, true, false, refl, sym, ◌∙◌, ap, ap₂, subst, arith, length, get_or, length-append}
 use Rattle.std.specs.Prelude.{◌==◌, ◌&&◌, ◌||◌, not, map, if◌then◌else◌}
 use Rattle.std.specs.Int.{bit_at}
 use Rattle.std.specs.Option.{option_to_list}
@@ -251,6 +251,14 @@ module _ (seq : SeqState) (coding : PicCoding) (inner : Bool) (from : Macroblock
           outline-length seq coding in_force mapped before.version_code gap (if from.kind.intra then 0 else tally.pattern) from shape.six patterns,
           ap (λ (o : Outline). length (flat_map (written_macroblock coding) (option_to_list (told_by coding from lent o)))) coded,
         );
+        coded = ap (λ (o : Outline). is_some (told_by coding from lent o)) (sym coded);
+        head = subst (λ (o : Outline). IfSome (told_by coding from lent o) (λ told. (told.skipped_before ≡ whole.skipped_before) × (told.kind ≡ whole.kind) × (told.code ≡ whole.code) × (told.pattern ≡ whole.pattern)))
+            (sym coded) (
+              ap (λ (m : Macroblock). m.skipped_before) to_is,
+              ap (λ (m : Macroblock). m.kind) to_is ∙ ap (λ p. let m : Macroblock = with_pattern coding mapped before.version_code gap p from made in m.kind) patterns,
+              codes,
+              ap (λ (m : Macroblock). m.pattern) to_is ∙ ap (λ p. let m : Macroblock = with_pattern coding mapped before.version_code gap p from made in m.pattern) patterns,
+            );
       }
 
   pub skipped_outlined : (is_coded_without_motion from.kind && (tally.pattern == 0)) ≡ true → inner ≡ true
@@ -275,4 +283,6 @@ module _ (seq : SeqState) (coding : PicCoding) (inner : Bool) (from : Macroblock
         difference = distortion ∙ moved ∙ emptied_changes seq coding from.kind mapped source made empty
             ∙ ap (λ a. difference_of (coefficient_of_macroblock seq coding a (Some from)) (λ i index. pos 0)) (sym source_code);
         bits = omega (arith, bits, ap (λ (o : Outline). length (flat_map (written_macroblock coding) (option_to_list (told_by coding from lent o)))) coded);
+        coded = ap (λ (o : Outline). is_some (told_by coding from lent o)) (sym coded);
+        head = tt;
       }

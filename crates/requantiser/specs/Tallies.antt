@@ -1,5 +1,5 @@
 -- What is counted of the coefficients of a macroblock in a version that isn't made, and what becomes of the macroblock there.
-use Rattle.std.specs.Prelude.{◌≡◌, ◌≤◌, ◌+◌, ◌-◌, ◌^◌, ◌==◌, ◌&&◌, ℕ, not, Option, Some, None, is_some, List, [], length, map, slice_index_or, Bool}
+use Rattle.std.specs.Prelude.{◌≡◌, ◌≤◌, ◌+◌, ◌-◌, ◌^◌, ◌==◌, ◌&&◌, ℕ, not, Option, Some, None, is_some, IfSome, List, [], length, map, slice_index_or, Bool}
 use Rattle.std.specs.Option.{option_to_list}
 use Rattle.std.specs.List.{flat_map, range_with_len, sum_by}
 use Rattle.quant_math.specs.Scales.{IsMappedCode}
@@ -67,7 +67,8 @@ outline_under coding from head = record {
   blocks = map outline_of from.blocks;
 }
 
--- what an outline tells of the macroblock, where one was lent to be written whole
+-- the macroblock that an outline stands for: the source's under the head and without coefficients, the lent one where it was written
+-- whole, none where it is skipped
 abbrev pub told_by : PicCoding → Macroblock → Macroblock → Outline → Option Macroblock
 told_by coding from lent (Coded head) = Some (outline_under coding from head)
 told_by coding from lent Kept = Some lent
@@ -83,3 +84,5 @@ pub record IsOutlined (seq : SeqState) (coding : PicCoding) (inner : Bool) (from
       (coefficient_of_macroblock seq coding behind.version_code made)
   pub bits : length (flat_map (written_macroblock coding) (option_to_list made))
       ≡ length (flat_map (written_macroblock coding) (option_to_list (told_by coding from lent outlined.outline))) + outlined.bits
+  pub coded : is_some made ≡ is_some (told_by coding from lent outlined.outline)
+  pub head : IfSome made (λ to. IfSome (told_by coding from lent outlined.outline) (λ told. (told.skipped_before ≡ to.skipped_before) × (told.kind ≡ to.kind) × (told.code ≡ to.code) × (told.pattern ≡ to.pattern)))

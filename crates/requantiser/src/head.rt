@@ -6,7 +6,8 @@ ghost use Rattle.requantiser.specs.Private.Walk.{head_with};
 
 use syntax_types::Kind;
 
-/// What a macroblock says in a version that depends on its coefficients there, besides dct_type (ISO/IEC 13818-2, 6.2.5).
+/// What a macroblock says in a version that depends on coefficients there, its own or those before it, besides
+/// macroblock_type and dct_type, which follow (ISO/IEC 13818-2, 6.2.5).
 #[derive(Clone, Copy)]
 pub struct Head {
     /// The skipped macroblocks before it in its slice; for the first macroblock of a slice, its column.

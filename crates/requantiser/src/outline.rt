@@ -28,6 +28,7 @@ pub enum Outline {
 /// A macroblock in a version, and what was counted of it.
 #[derive(Clone, Copy)]
 pub struct Outlined {
+    /// What it becomes.
     pub outline: Outline,
     /// The bits in which it is written beyond its outline.
     pub bits: u32,

@@ -30,7 +30,7 @@ use ts_demux::laws::one_answer;
 use version_source::laws::one_list_of_versions;
 
 /// A job's stream carries the times of its table: its PCRs, its PES headers and its frames say when each unit is due, and when each
-/// audio packet is due and gone, and its PES packets are as long as the chosen versions.
+/// audio packet is due and gone, and its PES packets are as long as the chosen versions. It needs programs whose videos are bytes.
 pub fn stream_carries_its_times()
     ensures { (job : Job) (contents : List (List ℕ)) (programs : List Program) (table : Table) (choice : List ℕ) (slots : SlotList) (stream : List ℕ)
         → IsValidJob job → ArePrograms job contents programs → IsTableOf job programs table → IsValidTable table → Fits table choice
@@ -49,7 +49,8 @@ pub fn stream_carries_its_times()
     one_list_of_versions();
 }
 
-/// A job's stream, read by itself, gives no decoder a fault, with removals by the times that it itself carries.
+/// A job's stream, read by itself, gives no decoder a fault, with removals by the times that it itself carries. It needs programs
+/// whose videos are bytes.
 pub fn stream_is_clean_by_its_times()
     ensures { (job : Job) (contents : List (List ℕ)) (programs : List Program) (table : Table) (choice : List ℕ) (slots : SlotList) (stream : List ℕ)
         → IsValidJob job → ArePrograms job contents programs → IsTableOf job programs table → IsValidTable table → Fits table choice
