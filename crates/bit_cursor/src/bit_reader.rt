@@ -118,9 +118,9 @@ impl<'a, S: Source> BitReader<'a, S> {
         Ok(self.held >= n)
     }
 
-    /// Whether n bits are held, n at most `AHEAD_BITS`, behind up to `AHEAD_BITS` bits that this call may ask for, so that
-    /// later calls find theirs held: no only where fewer than n are left. A source that fails at a byte behind the n bits fails
-    /// the call too. The reader stays where it is.
+    /// Whether n bits are held, n at most `AHEAD_BITS`: no only where fewer are left. Where they aren't held yet, `AHEAD_BITS` bits
+    /// are asked for, so that later calls find theirs held, and a source that fails at a byte behind the n bits fails the call
+    /// too. The reader stays where it is.
     #[inline]
     pub fn hold_ahead(&mut self, n: u32) -> Result<bool, Fault>
         requires { n ≤ AHEAD_BITS }
@@ -130,6 +130,7 @@ impl<'a, S: Source> BitReader<'a, S> {
         ensures left { bits_left self.new ≡ bits_left self.old }
         ensures place { place self.new ≡ place self.old }
         ensures fetched { Fetches AHEAD_BITS self.old self.new }
+        ensures stays { n ≤ bits_held self.old → Fetches 0 self.old self.new }
 
         ensures failed { IsErrOf result Fault.Failed → Rose (faults_of self.old) (faults_of self.new) }
         ensures missing { IsErrOf result Fault.Missing → Rose (absences_of self.old) (absences_of self.new) }
