@@ -138,7 +138,7 @@ fn next_behind(first: u32, k: u32, count: u32, behind: u32) -> u32
     }
 }
 
-/// The children of a branch. Each has a relaxation of its own while that is cheap, else the branch's windows.
+/// The children of a branch. Each has a relaxation of its own where it is one of the first nodes, else the branch's windows.
 fn children_of(
     alloc: Global,
     table: &Table,
@@ -171,7 +171,7 @@ fn children_of(
         unit,
         mut fixed,
     } = place;
-    let relaxed = is_cheap(fixed.len(), nodes);
+    let relaxed = is_cheap(fixed.len(), first, nodes);
     let mut children = start;
     for k in 0..unit_at(table, unit as usize).versions.len() {
         fixed = with_version(fixed, unit as usize, k as u8);
@@ -181,12 +181,13 @@ fn children_of(
     Ok(children)
 }
 
-/// Whether relaxations of their own are cheap for the nodes of a search, which have few windows where there may be many nodes.
-fn is_cheap(units: usize, nodes: u32) -> bool
+/// Whether nodes from this number on have relaxations of their own: the first ones of a search, as many as are cheap, where a node
+/// may have many windows.
+fn is_cheap(units: usize, first: u32, nodes: u32) -> bool
     ensures { result ≡ true → nodes ≤ NODES_WITH_MANY_WINDOWS_MOST }
 {
     nodes <= NODES_WITH_MANY_WINDOWS_MOST
-        && (units as u64).saturating_mul(u64::from(nodes)) <= RELAXED_MOST
+        && (units as u64).saturating_mul(u64::from(first)) <= RELAXED_MOST
 }
 
 /// What is fixed, with a version of one unit fixed too.

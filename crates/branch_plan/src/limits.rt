@@ -4,5 +4,5 @@
 pub const NODES_WITH_MANY_WINDOWS_MOST: u32 = 32_768;
 /// Windows of a node, at most, where there may be few.
 pub const FEW_WINDOWS_MOST: usize = 2;
-/// Each node gets a relaxation of its own while units times nodes are so many at most.
-pub const RELAXED_MOST: u64 = 2_000_000;
+/// The first nodes get relaxations of their own: while units times the nodes before are so many at most.
+pub const RELAXED_MOST: u64 = 128_000;
