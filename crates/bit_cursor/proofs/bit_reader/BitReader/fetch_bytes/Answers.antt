@@ -3,8 +3,8 @@ use Rattle.shelf_io.specs.Source.{Takes}
 use Rattle.bit_cursor.specs.BitReader.{bits_left}
 use Rattle.shelf_io.proofs.Taken.{takes_twice}
 use Rattle.bit_cursor.proofs.Left.{told_bits, told_more, told_end}
-use Rattle.bit_cursor.proofs.bit_reader.BitReader.fetch.Goals.{else-loop-held-test, then-loop-held-test+in-Ok-None}
-use Rattle.bit_cursor.proofs.bit_reader.BitReader.fetch.Goals as goal
+use Rattle.bit_cursor.proofs.bit_reader.BitReader.fetch_bytes.Goals.{else-loop-held-test, then-loop-held-test+in-Ok-None}
+use Rattle.bit_cursor.proofs.bit_reader.BitReader.fetch_bytes.Goals as goal
 
 pub loop-held-preserved : goal.loop-held-preserved
 loop-held-preserved g c =
