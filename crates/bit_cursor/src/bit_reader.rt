@@ -245,6 +245,7 @@ impl<'a, S: Source> BitReader<'a, S> {
     }
 
     // The same byte by byte.
+    #[cold]
     #[inline(never)]
     fn fetch_bytes(&mut self, n: u32) -> Result<(), Fault>
         requires { n ≤ AHEAD_BITS }
