@@ -19,6 +19,7 @@ use Rattle.std.proofs.Common.{
   IfSome,
   slice_get,
   length,
+  take,
   drop,
   refl,
   sym,
@@ -30,6 +31,7 @@ use Rattle.std.proofs.Common.{
   append_assoc,
   append-nil,
 }
+use Rattle.std.specs.Int.{bytes_high_first}
 use Rattle.std.specs.Option.{option_map}
 use Rattle.std.proofs.lemmas.List.{drop-append-le}
 use Rattle.shelf_io.specs.Source.{without_front}
@@ -37,8 +39,9 @@ use Rattle.bit_lists.specs.Bits.{bits_of}
 use Rattle.bit_lists.specs.Fields.{bit_list, bits_of_byte}
 use Rattle.bit_lists.proofs.BitLemmas.{length-bits_of}
 use Rattle.bit_cursor.specs.BitReader.{without_bits}
-use Rattle.bit_lists.proofs.JoinedLemmas.{drop-bits_of}
-use Rattle.bit_cursor.proofs.Words.{bits_of-more}
+use Rattle.bit_lists.proofs.ByteLemmas.{bit_list-take}
+use Rattle.bit_lists.proofs.JoinedLemmas.{drop-bits_of, bits_of-byte}
+use Rattle.bit_cursor.proofs.Words.{bits_of-more, bits_of-bytes}
 
 -- the lowest h bits of a word, then those of a source
 abbrev pub told_bits : Option (List ℕ) → ℕ → ℕ → Option (List ℕ)
@@ -61,9 +64,22 @@ told_more (Some []) after h w byte le lt first is = cc
 told_more (Some (b ∷ bytes)) after h w byte le lt first is =
     let same : byte ≡ b = cc in
     ap (λ a. told_bits a (h + 8) (bit_or (w * 2 ^ 8 % 2 ^ 64) byte)) is
-    ∙ ap (λ f. Some (f ++ bit_list bytes)) (bits_of-more h w byte le lt)
+    ∙ ap (λ f. Some (f ++ bit_list bytes)) (bits_of-more h w 8 byte (omega arith) lt ∙ ap (λ bits. bits_of h w ++ bits) (bits_of-byte byte))
     ∙ ap Some (append_assoc (bits_of h w) (bits_of_byte byte) (bit_list bytes))
     ∙ ap (λ x. Some (bits_of h w ++ (bits_of_byte x ++ bit_list bytes))) same
+
+-- so many bytes went into them at once, as a number
+pub told_number : (told after : Option (List ℕ)) (h w count number : ℕ) → count ≤ 4 → h + 8 * count ≤ 64 → number < 2 ^ (8 * count)
+    → IfSome told (λ bytes. bytes_high_first count number ≡ take count bytes) → after ≡ without_front told count
+    → told_bits after (h + 8 * count) (bit_or (w * 2 ^ (8 * count) % 2 ^ 64) number) ≡ told_bits told h w
+told_number None after h w count number few le lt front is = ap (λ a. told_bits a (h + 8 * count) (bit_or (w * 2 ^ (8 * count) % 2 ^ 64) number)) is
+told_number (Some bytes) after h w count number few le lt front is =
+    let rest = bit_list (drop count bytes) in
+    ap (λ a. told_bits a (h + 8 * count) (bit_or (w * 2 ^ (8 * count) % 2 ^ 64) number)) is
+    ∙ ap (λ f. Some (f ++ rest)) (bits_of-more h w (8 * count) number le lt)
+    ∙ ap Some (append_assoc (bits_of h w) (bits_of (8 * count) number) rest)
+    ∙ ap (λ f. Some (bits_of h w ++ (f ++ rest))) (bits_of-bytes count number few ∙ ap bit_list front)
+    ∙ ap (λ bits. Some (bits_of h w ++ bits)) (sym (bit_list-take count bytes))
 
 -- no byte came
 pub told_end : (told bits : Option (List ℕ)) (h w : ℕ) → IfSome told (λ bytes. None ≡ slice_get bytes 0) → told_bits told h w ≡ bits → IfSome bits (λ bs. length bs ≡ h)

@@ -217,8 +217,37 @@ impl<'a, S: Source> BitReader<'a, S> {
         (window, self.held)
     }
 
-    // Takes bytes until n bits are held or the source ends.
+    // Takes bytes until n bits are held or the source ends: all at once where the source gives so many.
+    #[inline]
     fn fetch(&mut self, n: u32) -> Result<(), Fault>
+        requires width { n ≤ AHEAD_BITS }
+        requires short { bits_held self.old < n }
+        ensures enough { IfOk result (λ _. bits_held self.new < n → IfSome (bits_left self.old) (λ bits. length bits ≡ bits_held self.new)) }
+        ensures left { bits_left self.new ≡ bits_left self.old }
+        ensures place { place self.new ≡ place self.old }
+        ensures fetched { Fetches n self.old self.new }
+
+        ensures failed { IsErrOf result Fault.Failed → Rose (faults_of self.old) (faults_of self.new) }
+        ensures missing { IsErrOf result Fault.Missing → Rose (absences_of self.old) (absences_of self.new) }
+        ensures keeps { KeepsSource self.old self.new }
+    {
+        let bytes = (n - self.held + 7) / 8;
+        match self.source.take_number(bytes) {
+            Ok(Some(number)) => {
+                self.word = self.word << (8 * bytes) | u64::from(number);
+                self.held += 8 * bytes;
+                self.taken += u64::from(bytes);
+                Ok(())
+            }
+            Ok(None) => self.fetch_bytes(n),
+            Err(fault) => Err(fault),
+        }
+    }
+
+    // The same byte by byte.
+    #[cold]
+    #[inline(never)]
+    fn fetch_bytes(&mut self, n: u32) -> Result<(), Fault>
         requires { n ≤ AHEAD_BITS }
         ensures enough { IfOk result (λ _. bits_held self.new < n → IfSome (bits_left self.old) (λ bits. length bits ≡ bits_held self.new)) }
         ensures left { bits_left self.new ≡ bits_left self.old }

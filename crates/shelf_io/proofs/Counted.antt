@@ -1,5 +1,5 @@
 -- An object that counts each fault once meets what a shelf and a sink promise of their counts.
-use Rattle.std.proofs.Common.{◌≡◌, ◌≢◌, ℕ, List, Result, Ok, Err, IfOk, OnErr, IsErrOf, ◌<◌, ◌≤◌, ◌+◌, ◌-◌, ◌^◌, refl, arith}
+use Rattle.std.proofs.Common.{◌≡◌, ◌≢◌, ℕ, List, Result, Ok, Err, IfOk, OnErr, IsErrOf, ◌≤◌, refl, arith}
 use Rattle.std.proofs.lemmas.Bool.Decides.{nat_tests}
 use Rattle.shelf_io.specs.declared.fault.Fault.{Fault}
 use Rattle.shelf_io.specs.declared.fault.Fault.TheVariants.{Failed, Missing, OutOfMemory}

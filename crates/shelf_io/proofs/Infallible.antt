@@ -5,13 +5,16 @@ use Rattle.std.proofs.Common.{
   ◌+◌,
   ◌-◌,
   ◌^◌,
+  ◌↔◌,
   min,
   ℕ,
   List,
   [],
   ◌∷◌,
   Option,
+  None,
   Some,
+  IsSome,
   cond,
   is_some,
   slice_get,
@@ -64,3 +67,16 @@ pub takes_byte : (r : Result (Option ℕ) Fault) (old new : List ℕ) → length
     (cond (is_some byte) 1 0))
 takes_byte (Ok byte) old new fits first rest = rw (first, rest) (one_byte old fits)
 takes_byte (Err e) old new fits first rest = absurd first
+
+pub takes_number : (r : Result (Option ℕ) Fault) (old new : List ℕ) (count : ℕ) → length old ≤ 2 ^ 60 → count ≤ 4 → IsOkAnd r (λ taken. IsSome taken ↔ (4 ≤ length old))
+    → IsOkAnd r (λ taken. new ≡ drop (cond (is_some taken) count 0) old) → IfOk r (λ taken. Takes (Some old) (Some new) (min (length old) (2 ^ 60)) (min (length new) (2 ^ 60))
+    (cond (is_some taken) count 0))
+takes_number (Ok None) old new count fits few enough rest = record { rest = ap Some rest; fewer = simp rest (omega arith) }
+takes_number (Ok (Some number)) old new count fits few enough rest = record {
+  rest = ap Some rest;
+  fewer = simp (rest, length-drop) (fewer (enough.0 refl));
+}
+  where
+    fewer : 4 ≤ length old → min (length old - count) (2 ^ 60) + count ≡ min (length old) (2 ^ 60)
+    fewer long = omega arith
+takes_number (Err e) old new count fits few enough rest = absurd enough

@@ -48,9 +48,8 @@ use Rattle.shelf_io.specs.declared.fault.Fault.{Fault}
 use Rattle.shelf_io.specs.Buffer.{CopiesFront}
 use Rattle.shelf_io.specs.Files.{Files, IfTold, content_of, with_more}
 use Rattle.shelf_io.specs.Reading.{most_from, left_from}
-use Rattle.shelf_io.specs.Asked.{AsksNothing}
 use Rattle.shelf_io.specs.Counts.{ShelfCounts}
-use Rattle.shelf_io.specs.Sink.{Told, Bytes, Nothing, with_bytes}
+use Rattle.shelf_io.specs.Sink.{Bytes, with_bytes}
 use Rattle.shelf_io.specs.Source.{without_front}
 use Rattle.shelf_io.specs.declared.writing.Writing.{Writing}
 use Rattle.shelf_io.specs.Writing.{written_to, others, FileIsHeld, KeepsOthers}

@@ -1,5 +1,5 @@
 -- Calls that move a front of what they are lent.
-use Rattle.std.proofs.Common.{◌≡◌, ℕ, ◌<◌, ◌≤◌, List, ◌++◌, length, take, drop, min, Option, Some, None, IsSomeAnd, sym, ap, ◌∙◌, arith, append_assoc}
+use Rattle.std.proofs.Common.{◌≡◌, ℕ, ◌<◌, ◌≤◌, List, ◌++◌, length, take, drop, Option, Some, None, IsSomeAnd, sym, ap, ◌∙◌, arith, append_assoc}
 use Rattle.std.proofs.lemmas.List.{take-append-drop, drop-append-le, length-take-le}
 use Rattle.shelf_io.specs.Buffer.{CopiesFront}
 

@@ -1,4 +1,5 @@
-ghost use Rattle.std.specs.Prelude.{◌≡◌, ◌≤◌, ◌^◌, length, drop, min, slice_get, IsOkAnd};
+ghost use Rattle.std.specs.Prelude.{◌≡◌, ◌*◌, ◌<◌, ◌≤◌, ◌^◌, ◌↔◌, length, take, drop, min, slice_get, is_some, if◌then◌else◌, IsSome, IfSome, IsOkAnd};
+ghost use Rattle.std.specs.Int.{bytes_high_first};
 ghost use Rattle.shelf_io.specs.Buffer.{CopiesFront};
 
 use crate::buffer::copy_front;
@@ -74,4 +75,33 @@ impl<'a> Source for SliceSource<'a> {
         self.rest = rest;
         Ok(Some(*first))
     }
+
+    fn take_number(&mut self, count: u32) -> Result<Option<u32>, Fault>
+        requires some { 1 ≤ count }
+        requires few { count ≤ 4 }
+        ensures enough { IsOkAnd result (λ taken. IsSome taken ↔ (4 ≤ length self.old)) }
+        ensures front { IsOkAnd result (λ taken. IfSome taken (λ number. bytes_high_first count number ≡ take count self.old)) }
+        ensures below { IsOkAnd result (λ taken. IfSome taken (λ number. number < 2 ^ (8 * count))) }
+        ensures taken { IsOkAnd result (λ taken. self.new ≡ drop (if is_some taken then count else 0) self.old) }
+        ensures bounded { length self.old ≤ 2 ^ 60 }
+    {
+        if self.rest.len() < 4 {
+            return Ok(None);
+        }
+        let number = front_number(self.rest, count);
+        self.rest = &self.rest[count as usize..];
+        Ok(Some(number))
+    }
+}
+
+/// The number in the first `count` of four bytes or more, 1 to 4, the first the most significant.
+fn front_number(bytes: &[u8], count: u32) -> u32
+    requires long { 4 ≤ length bytes.now }
+    requires some { 1 ≤ count }
+    requires few { count ≤ 4 }
+    ensures front { bytes_high_first count result ≡ take count bytes.now }
+    ensures below { result < 2 ^ (8 * count) }
+{
+    let word = u32::from_be_bytes([bytes[0], bytes[1], bytes[2], bytes[3]]);
+    word >> (32 - 8 * count)
 }

@@ -1,4 +1,5 @@
-ghost use Rattle.std.specs.Prelude.{◌≡◌, ℕ, Option, List, length, ◌≤◌, slice_get, is_some, if◌then◌else◌, IfOk, OnErr, IfSome, IsErrOf};
+ghost use Rattle.std.specs.Prelude.{◌≡◌, ℕ, Option, List, length, take, ◌*◌, ◌^◌, ◌<◌, ◌≤◌, slice_get, is_some, if◌then◌else◌, IfOk, OnErr, IfSome, IsErrOf};
+ghost use Rattle.std.specs.Int.{bytes_high_first};
 ghost use Rattle.shelf_io.specs.Buffer.{CopiesFront};
 ghost use Rattle.shelf_io.specs.Causes.{SourceCauses};
 ghost use Rattle.shelf_io.specs.Source.{Takes, FillsUp, source_bytes_most};
@@ -52,6 +53,24 @@ pub trait Source {
         let mut byte = [0u8];
         let count = self.take(&mut byte)?;
         Ok(if count == 0 { None } else { Some(byte[0]) })
+    }
+
+    /// Takes `count` bytes at once, 1 to 4, as a number, the first byte the most significant, where the source gives so
+    /// many at once. Else it answers None and takes nothing; bytes may be left then.
+    fn take_number(&mut self, count: u32) -> Result<Option<u32>, Fault>
+        requires some { 1 ≤ count }
+        requires few { count ≤ 4 }
+        ensures told { IfOk result (λ taken. IfSome taken (λ number. IfSome (left self.old) (λ bytes. bytes_high_first count number ≡ take count bytes))) }
+        ensures below { IfOk result (λ taken. IfSome taken (λ number. number < 2 ^ (8 * count))) }
+        ensures ok { IfOk result (λ taken. Takes (left self.old) (left self.new) (most self.old) (most self.new)
+            (if is_some taken then count else 0)) }
+        ensures err { OnErr result ((left self.new ≡ left self.old) × (most self.new ≡ most self.old)) }
+
+        ensures causes { SourceCauses faults absences (IsErrOf result Fault.Failed) (IsErrOf result Fault.Missing) self.old self.new }
+        ensures keeps { keeps self.old self.new }
+    {
+        let _ = count;
+        Ok(None)
     }
 
     ghost most_fits: { (source : Self) → most source ≤ source_bytes_most };

@@ -188,6 +188,30 @@ fn a_source_gives_its_bytes_and_ends(rt: HostRuntime) -> Result<(), Fail> {
 }
 
 #[test]
+fn bytes_in_memory_come_several_at_a_time_while_four_are_left(rt: HostRuntime) -> Result<(), Fail> {
+    let mut source = SliceSource::new(&[0xFE, 0x02, 0x03, 0x04, 0x05, 0x06]);
+    assert_eq!(rt; source.take_number(1), Ok(Some(0xFE)));
+    assert_eq!(rt; source.take_number(2), Ok(Some(0x0203)));
+    assert_eq!(rt; source.take_number(2), Ok(None));
+    assert_eq!(rt; source.take_byte(), Ok(Some(0x04)));
+    let mut source = SliceSource::new(&[0xFE, 0x02, 0x03, 0x04]);
+    assert_eq!(rt; source.take_number(4), Ok(Some(0xFE02_0304)));
+    assert_eq!(rt; source.take_byte(), Ok(None));
+    Ok(())
+}
+
+#[test]
+fn bytes_of_a_file_come_one_at_a_time(rt: HostRuntime) -> Result<(), Fail> {
+    let alloc = rt.alloc();
+    let mut shelf = MemShelf::new(alloc, Vec::new(alloc));
+    shelf.put_file("a", b"abcde")?;
+    let mut reading = Reading::new(&mut shelf, "a");
+    assert_eq!(rt; reading.take_number(4), Ok(None));
+    assert_eq!(rt; reading.take_byte(), Ok(Some(b'a')));
+    Ok(())
+}
+
+#[test]
 fn one_file_of_a_shelf_is_a_source_and_a_sink(rt: HostRuntime) -> Result<(), Fail> {
     let alloc = rt.alloc();
     let mut shelf = MemShelf::new(alloc, vec![in alloc; 4]?);

@@ -1,4 +1,4 @@
-use Rattle.std.proofs.Common.{◌≡◌, ◌≤◌, ◌<◌, length, take, min, ap, sym, arith}
+use Rattle.std.proofs.Common.{◌≡◌, ◌≤◌, length, take, min, ap, sym, arith}
 use Rattle.std.proofs.lemmas.List.{length-take-le}
 use Rattle.shelf_io.specs.ShortShelf.{ShortState}
 use Rattle.shelf_io.proofs.Short.{held_part}

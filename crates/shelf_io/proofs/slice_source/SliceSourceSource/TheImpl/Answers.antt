@@ -1,6 +1,6 @@
 -- A take of a source over bytes in memory always answers Ok.
-use Rattle.std.proofs.Common.{◌≡◌, ◌≤◌, ◌+◌, ◌-◌, ◌^◌, [], ◌∷◌, arith}
-use Rattle.shelf_io.proofs.Infallible.{if_ok, on_err, never_err, takes, takes_byte}
+use Rattle.std.proofs.Common.{arith}
+use Rattle.shelf_io.proofs.Infallible.{if_ok, on_err, never_err, takes, takes_byte, takes_number}
 use Rattle.shelf_io.proofs.slice_source.SliceSourceSource.TheImpl.Goals as goal
 
 pub take-tells : goal.take-tells
@@ -28,6 +28,21 @@ take_byte-tells g c = record {
   causes = record {
     failed_rose = λ is. absurd (never_err c.result _ _ c.ensures.first is);
     missing_rose = λ is. absurd (never_err c.result _ _ c.ensures.first is);
+    faults_grow = omega arith;
+    absences_grow = omega arith;
+  };
+  keeps = tt;
+}
+
+pub take_number-tells : goal.take_number-tells
+take_number-tells g c = record {
+  told = if_ok c.result _ c.ensures.front;
+  below = if_ok c.result _ c.ensures.below;
+  ok = takes_number c.result c.args.self.now c.new.self.now c.args.count c.ensures.bounded c.requires.few c.ensures.enough c.ensures.taken;
+  err = on_err c.result _ _ c.ensures.front;
+  causes = record {
+    failed_rose = λ is. absurd (never_err c.result _ _ c.ensures.front is);
+    missing_rose = λ is. absurd (never_err c.result _ _ c.ensures.front is);
     faults_grow = omega arith;
     absences_grow = omega arith;
   };

@@ -2,7 +2,7 @@ use Rattle.std.proofs.Common.{◌≡◌, ◌<◌, ◌≤◌, ◌+◌, ◌-◌, �
 use Rattle.bit_cursor.specs.BitReader.{bits_left, place, KeepsSource}
 use Rattle.bit_cursor.proofs.Left.{told_bits}
 use Rattle.bit_cursor.proofs.Taking.{TakenSoFar}
-use Rattle.bit_cursor.proofs.bit_reader.BitReader.fetch.Given as goal
+use Rattle.bit_cursor.proofs.bit_reader.BitReader.fetch_bytes.Given as goal
 
 abbrev pub invariant-loop-held : goal.invariant-loop-held
 invariant-loop-held g l = record {
