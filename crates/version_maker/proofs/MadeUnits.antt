@@ -2,6 +2,7 @@
 use Rattle.std.proofs.Common.{◌≡◌, ℕ, ◌≤◌, Option, Ok, Err, Result, MatchResult, List, [], ◌∷◌, ◌++◌, Bool, refl, sym, ◌∙◌, ap, ap₂, subst, arith, length, take, drop, slice_index, ◌-◌, append_assoc, append-nil}
 use Rattle.std.specs.List.{AllZip, flat_map}
 use Rattle.std.proofs.lemmas.Grind.{flat_map-append}
+use Rattle.std.proofs.lemmas.List.{length-append, length-drop}
 use Rattle.shelf_io.specs.Sink.{Told, with_bytes}
 use Rattle.shelf_io.specs.Sink.Told.{Bytes}
 use Rattle.shelf_io.proofs.Written.{with_bytes-twice}
@@ -13,8 +14,9 @@ use Rattle.syntax_types.specs.declared.picture.Picture.{Picture}
 use Rattle.syntax_types.specs.declared.picture.SeqState.{SeqState}
 use Rattle.syntax_types.specs.declared.slice.Slice.{Slice}
 use Rattle.picture_grammar.specs.Head.{head}
-use Rattle.picture_grammar.specs.Picture.{MayPrecede}
+use Rattle.picture_grammar.specs.Picture.{MayPrecede, SpellsPicture, picture_unit}
 use Rattle.picture_grammar.specs.Written.{written_picture}
+use Rattle.picture_grammar.proofs.HeaderLaws.{exact-head}
 use Rattle.picture_heads.specs.declared.TheConstants.{NO_DELAY}
 use Rattle.picture_heads.specs.Heads.{HasDelay, IsHeadWithoutDelay}
 use Rattle.picture_heads.proofs.ReadHeads.{head-has}
@@ -89,6 +91,27 @@ source-of before picture unit head bytes size may are whole len without is = rec
   whole = whole;
   are = subst (AreSourceBytes picture unit) (sym is) (source-bytes picture unit head size (head-is before picture unit size may are whole len) without);
 }
+
+-- the head that was read of a unit is the one of the picture that the unit spells
+head-size : (before : Option SeqState) (picture : Picture) (unit : List ℕ) (headers : Headers) → SpellsPicture before picture unit → HeadStands before unit headers
+    → length picture.head ≡ headers.slices_at
+unfolding picture_unit
+head-size before picture unit headers (spelled, m, (s, are_head, split), (slices, m', t, (e, f))) stands =
+    let start : ℕ = headers.slices_at in
+    let same : m ≡ bits_from unit start = ((exact-head before).one_value spelled.0 (headers.seq, headers.coding) (bit_list unit) m (bits_from unit start) s stands.spelled).1 in
+    let own : length picture.head ≡ length spelled.1 = ap (λ (p : Picture). length p.head) e in
+    omega (
+      arith,
+      own,
+      ap length split,
+      length-append (bit_list spelled.1) m,
+      ap length same,
+      length-bit_list unit,
+      length-bit_list spelled.1,
+      length-bit_list (drop start unit),
+      length-drop start unit,
+      stands.within,
+    )
 
 -- ---- one slice after another
 
@@ -176,6 +199,14 @@ pub first-version : (before : Option SeqState) (unit coarser : List ℕ) (index 
     → IsVersionAt before unit coarser index bytes
 first-version before unit coarser index bytes may are zero is =
     version-at before is.picture unit coarser index bytes may are is.whole (omega (arith, zero)) (subst (λ (n : ℕ). AreBytesAt is.picture unit coarser n bytes) (sym zero) is.are)
+
+-- version 0 of a unit that is known to spell a picture, by its head alone
+pub known-version : (before : Option SeqState) (picture : Picture) (unit head bytes : List ℕ) (headers : Headers) → MayPrecede before → AreBytes unit → IsPictureOf before unit picture
+    → HeadStands before unit headers → IsHeadWithoutDelay (take headers.slices_at unit) head → bytes ≡ head ++ drop headers.slices_at unit
+    → (coarser : List ℕ) → IsVersionAt before unit coarser 0 bytes
+known-version before picture unit head bytes headers may are whole stands without is coarser =
+    first-version before unit coarser 0 bytes may are refl
+    (source-of before picture unit head bytes headers.slices_at may are whole (head-size before picture unit headers whole.spelled stands) without is)
 
 pub later-version : (before : Option SeqState) (unit coarser : List ℕ) (index m : ℕ) (bytes : List ℕ) → MayPrecede before → AreBytes unit → (index ≡ 0 → ⊥) → index ≤ length coarser
     → m ≡ slice_index coarser (index - 1) → AreCoarserBytesOf before unit m bytes → IsVersionAt before unit coarser index bytes

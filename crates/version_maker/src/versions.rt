@@ -1,9 +1,10 @@
 ghost use Rattle.std.specs.Prelude.{◌≡◌, ◌++◌, ◌≤◌, ℕ, List, drop, length, take, IfOk, MatchResult};
 ghost use Rattle.std.specs.Option.{option_copied};
+ghost use Rattle.syntax_types.specs.declared.picture.Picture.{Picture};
 ghost use Rattle.picture_grammar.specs.Picture.{IsLawful, MayPrecede};
 ghost use Rattle.picture_grammar.specs.Written.{IsWritten};
 ghost use Rattle.picture_heads.specs.Heads.{HasDelay, IsHeadWithoutDelay};
-ghost use Rattle.picture_reader.specs.Picture.{IsRefusedAs};
+ghost use Rattle.picture_reader.specs.Picture.{IsPictureOf, IsRefusedAs};
 ghost use Rattle.version_maker.specs.Versions.{AreVersions, AreVersionsOf, IsCoarserVersion, IsVersionAt};
 ghost use Rattle.version_maker.specs.Private.Bytes.{AreSourceBytes, AreSourceBytesOf};
 
@@ -12,7 +13,7 @@ use crate::version::UnitVersion;
 use crate::version_write::coarser_bytes;
 use list_types::{ListOf, OutOfMemory};
 use picture_heads::without_delay;
-use picture_reader::{PictureFault, check_picture, read_picture};
+use picture_reader::{PictureFault, UnitCursor, check_picture, read_picture};
 use picture_writer::write_picture;
 use requantiser::{coarsen, distortion};
 use shelf_io::{CalmSink, Fault};
@@ -60,6 +61,27 @@ pub fn version_of(
         return source_version(alloc, unit, before);
     }
     coarser_bytes(alloc, unit, before, coarser[usize::from(index) - 1])
+}
+
+/// The bytes of version 0 of a unit that is known to spell a picture, the same as `version_of` makes. Only its head is read,
+/// and none of its macroblocks.
+pub fn first_version_of(
+    alloc: Global,
+    unit: &[u8],
+    before: Option<&SeqState>,
+) -> Result<ListOf<u8>, PictureFault>
+    requires unit { length unit.now ≤ UNIT_BYTES_MOST }
+    requires before { MayPrecede (option_copied before) }
+    requires picture { (picture : Picture) × IsPictureOf (option_copied before) unit.now picture }
+    ensures { MatchResult result (λ bytes. (coarser : List ℕ) → IsVersionAt (option_copied before.entry) unit.now coarser 0 bytes)
+        (λ fault. fault ≡ PictureFault.OutOfMemory) }
+{
+    let cursor = match UnitCursor::new(unit, before) {
+        Ok(cursor) => cursor,
+        Err(fault) => return Err(fault),
+    };
+    let version = source_bytes(alloc, unit, cursor.headers.slices_at as usize)?;
+    Ok(version)
 }
 
 // The versions of the picture that the unit spells.

@@ -5,6 +5,7 @@ ghost use Rattle.syntax_types.specs.declared.picture.SeqState.{SeqState};
 ghost use Rattle.pes_units.specs.VideoHeader.{AreInRange, IsBesidePts, written_header};
 ghost use Rattle.picture_grammar.specs.Picture.{MayPrecede};
 ghost use Rattle.mux_writer.specs.Pieces.{HasPayloadSize, IsFilledWith};
+ghost use Rattle.version_maker.specs.Versions.{IsVersionAt};
 ghost use Rattle.version_source.specs.Pieces.{audio_payload, packets_for, piece_of};
 ghost use Rattle.version_source.specs.Sendable.{IsPieceOf, IsUnitOf, Leaves, bytes_of};
 ghost use Rattle.version_source.specs.Private.Sending.{IsPacketOf};
@@ -17,7 +18,7 @@ use program_reader::{AudioPiece, UnitSource};
 use std::alloc::Global;
 use stream_constants::packets::PAYLOAD_BYTES;
 use syntax_types::SeqState;
-use version_maker::version_of;
+use version_maker::{UNIT_BYTES_MOST, first_version_of, version_of};
 
 /// The PES packet of a unit of a video in the version of this number, behind the state before it. The error is want of memory.
 pub fn unit_packet(
@@ -35,12 +36,36 @@ pub fn unit_packet(
     ensures { IfOk result (IsPacketOf es.now coarser.now (option_copied before.entry) unit.now index) }
 {
     let bytes = unit_bytes(es, unit);
-    let version = match version_of(alloc, bytes, before, coarser, index) {
-        Ok(version) => version,
-        Err(fault) => return Err(want_of_memory(fault)),
-    };
+    let version = unit_version(alloc, bytes, before, coarser, index)?;
     let packet = with_header(alloc, &unit.times, &version)?;
     Ok(packet)
+}
+
+/// The version of this number of a unit that spells a picture. The macroblocks of the unit itself, version 0, aren't read.
+/// The error is want of memory.
+fn unit_version(
+    alloc: Global,
+    unit: &[u8],
+    before: Option<&SeqState>,
+    coarser: &[u16],
+    index: u8,
+) -> Result<ListOf<u8>, OutOfMemory>
+    requires unit { length unit.now ≤ UNIT_BYTES_MOST }
+    requires before { MayPrecede (option_copied before) }
+    requires picture { (after : SeqState) × Leaves (option_copied before) unit.now after }
+    requires index { index ≤ length coarser.now }
+    ensures { IfOk result (IsVersionAt (option_copied before.entry) unit.now coarser.now index) }
+{
+    if index == 0 {
+        return match first_version_of(alloc, unit, before) {
+            Ok(version) => Ok(version),
+            Err(fault) => Err(want_of_memory(fault)),
+        };
+    }
+    match version_of(alloc, unit, before, coarser, index) {
+        Ok(version) => Ok(version),
+        Err(fault) => Err(want_of_memory(fault)),
+    }
 }
 
 /// The bytes of a unit of a video.

@@ -1,0 +1,25 @@
+use Rattle.std.proofs.Common.{arith}
+use Rattle.std.specs.Option.{option_copied}
+use Rattle.picture_reader.proofs.Parts.{are-bytes}
+use Rattle.picture_reader.proofs.Units.{fault-of_picture}
+use Rattle.version_maker.proofs.MadeUnits.{head-delay, known-version}
+use Rattle.version_maker.proofs.versions.first_version_of.Goals as goal
+
+pub source_bytes-requires-clause-delay : goal.source_bytes-requires-clause-delay
+source_bytes-requires-clause-delay c =
+    let unit = c.args.unit.now in
+    head-delay (option_copied c.args.before) unit c.in-Ok.cursor.headers (are-bytes unit (λ i. omega (arith, c.type_inv.unit i))) c.in-Ok.ensures.headed
+
+pub returns-in-Err : goal.returns-in-Err
+returns-in-Err c =
+    let (picture, whole) = c.requires.picture in
+    fault-of_picture (option_copied c.args.before) c.args.unit.now c.in-Err.fault c.in-Err.ensures picture whole
+
+pub returns : goal.returns
+returns c =
+    let before = option_copied c.args.before in
+    let unit = c.args.unit.now in
+    let (picture, whole) = c.requires.picture in
+    let (head, without, bytes) = c.in_ok-version.ensures in
+    known-version before picture unit head c.in_ok-version.version c.in-Ok.cursor.headers c.requires.before (are-bytes unit (λ i. omega (arith, c.type_inv.unit i))) whole
+    c.in-Ok.ensures.headed without bytes
