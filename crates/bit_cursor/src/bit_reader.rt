@@ -113,9 +113,9 @@ impl<'a, S: Source> BitReader<'a, S> {
         ensures keeps { KeepsSource self.old self.new }
     {
         if self.held < n {
-            self.fetch(n)?;
+            return self.fetch(n);
         }
-        Ok(self.held >= n)
+        Ok(true)
     }
 
     /// Whether n bits are held, n at most `AHEAD_BITS`: no only where fewer are left. Where they aren't held yet, `AHEAD_BITS` bits
@@ -137,9 +137,10 @@ impl<'a, S: Source> BitReader<'a, S> {
         ensures keeps { KeepsSource self.old self.new }
     {
         if self.held < n {
-            self.fetch(AHEAD_BITS)?;
+            let all = self.fetch(AHEAD_BITS)?;
+            return Ok(all || self.held >= n);
         }
-        Ok(self.held >= n)
+        Ok(true)
     }
 
     /// The next n bits as a number, which are held, n at most 32. The reader stays where it is.
@@ -217,12 +218,14 @@ impl<'a, S: Source> BitReader<'a, S> {
         (window, self.held)
     }
 
-    // Takes bytes until n bits are held or the source ends: all at once where the source gives so many.
+    // Takes bytes until n bits are held or the source ends, and answers whether they are: all at once where the source
+    // gives so many.
     #[inline]
-    fn fetch(&mut self, n: u32) -> Result<(), Fault>
+    fn fetch(&mut self, n: u32) -> Result<bool, Fault>
         requires width { n ≤ AHEAD_BITS }
         requires short { bits_held self.old < n }
-        ensures enough { IfOk result (λ _. bits_held self.new < n → IfSome (bits_left self.old) (λ bits. length bits ≡ bits_held self.new)) }
+        ensures enough { IfOk result (λ enough. IsTrue enough ↔ (n ≤ bits_held self.new)) }
+        ensures few { IfOk result (λ _. bits_held self.new < n → IfSome (bits_left self.old) (λ bits. length bits ≡ bits_held self.new)) }
         ensures left { bits_left self.new ≡ bits_left self.old }
         ensures place { place self.new ≡ place self.old }
         ensures fetched { Fetches n self.old self.new }
@@ -237,9 +240,12 @@ impl<'a, S: Source> BitReader<'a, S> {
                 self.word = self.word << (8 * bytes) | u64::from(number);
                 self.held += 8 * bytes;
                 self.taken += u64::from(bytes);
-                Ok(())
+                Ok(true)
             }
-            Ok(None) => self.fetch_bytes(n),
+            Ok(None) => {
+                self.fetch_bytes(n)?;
+                Ok(self.held >= n)
+            }
             Err(fault) => Err(fault),
         }
     }
