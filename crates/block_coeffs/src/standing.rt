@@ -6,6 +6,7 @@ ghost use Rattle.block_coeffs.specs.Private.Standing.{IsFound};
 ghost use Rattle.grammar_reading.specs.Window.{seen};
 
 use crate::cut::why_none;
+use crate::short_codes::{PAIR_WORDS, SHORT_BITS, length_in, level_in, run_in, short_word};
 use crate::why::Why;
 use grammar_reading::Window;
 use picture_grammar::escape::{LEVEL_BITS, RUN_BITS};
@@ -49,9 +50,36 @@ pub fn what_stands(table: TableName, place: u32, window: Window) -> Standing
     }
 }
 
-/// The same where the window is whole: then a code of the table has its sign there.
+/// The same where the window is whole: the word of its first bits tells most coefficients and the end of block, and the
+/// table all others.
 #[inline(always)]
 pub fn what_stands_whole(table: TableName, place: u32, window: Window) -> Standing
+    requires table { IsTrue (is_coefficients table) }
+    requires place { place ≤ BLOCK_PLACES }
+    requires whole { window.known ≡ WINDOW_BITS }
+    ensures { IsFound table place window result }
+{
+    let word = short_word(table, window.bits >> (WINDOW_BITS - SHORT_BITS));
+    if word >= PAIR_WORDS {
+        let run = run_in(word);
+        if place + run < BLOCK_PLACES as u32 {
+            return Standing::Pair {
+                run,
+                level: level_in(word),
+                len: length_in(word),
+            };
+        }
+    } else if word > 0 {
+        return Standing::EndOfBlock {
+            len: length_in(word),
+        };
+    }
+    what_else_stands(table, place, window)
+}
+
+/// The same by the table alone: as the window is whole, a code of it has its sign there.
+#[inline(always)]
+fn what_else_stands(table: TableName, place: u32, window: Window) -> Standing
     requires table { IsTrue (is_coefficients table) }
     requires place { place ≤ BLOCK_PLACES }
     requires whole { window.known ≡ WINDOW_BITS }
