@@ -8,6 +8,7 @@ use Rattle.std.proofs.Common.{
   suc,
   ◌+◌,
   ◌-◌,
+  ◌*◌,
   ◌/◌,
   ◌%◌,
   ◌^◌,
@@ -68,7 +69,7 @@ use Rattle.grammar_reading.proofs.Fronts.{take-front_of}
 use Rattle.block_coeffs.specs.declared.short_codes.TheConstants.{PAIR_WORDS, SHORT_BITS}
 use Rattle.block_coeffs.specs.declared.standing.Standing.TheVariants.{EndOfBlock, Pair}
 use Rattle.block_coeffs.specs.Private.ShortCodes.{words_of, run_of, length_of, level_of}
-use Rattle.block_coeffs.specs.Private.Standing.{coefficient_at, IsFound}
+use Rattle.block_coeffs.specs.Private.Standing.{coefficient_at, IsFound, IsPair}
 use Rattle.block_coeffs.proofs.Pairs.{spells-end, spells-pair}
 
 -- ---- the test
@@ -199,19 +200,16 @@ module _ (table : TableName) (place : ℕ) (window : Window) (word : ℕ) (whole
         absurd (both_ways (nat_lt word PAIR_WORDS) (not-true (nat_lt word PAIR_WORDS) parts.0) (lt-ltb word PAIR_WORDS below))
   ]
 
-  pub short-pair : PAIR_WORDS ≤ word → word < 2 ^ 32 → (run len : ℕ) (level : ℤ) → run ≡ run_of word → len ≡ length_of word → level ≡ level_of word
-      → place + run < 64 → IsFound table place window (Pair run level len)
-  short-pair above below run len level run_is len_is level_is fits =
+  pub short-pair : PAIR_WORDS ≤ word → word < 2 ^ 32 → place + run_of word < 64 → IsFound table place window (Pair word)
+  short-pair above below fits =
       let t = there (flag negative ∷ []) front (length_of word) (coefficient_code table (run_of word) size) (pair-there above) in
-      let few : len ≤ 9 = subst (λ n. n ≤ 9) (sym len_is) t.3 in
-      let listed : coefficient_code table run size ≡ Some t.0 = ap (λ r. coefficient_code table r size) run_is ∙ t.1 in
-      let split : seen window len ≡ t.0 ++ flag negative ∷ [] = seen-front window len few ∙ ap (λ n. take n (bits_of 9 front)) len_is ∙ t.2 in
-      let high : word / 2 ^ 16 < 2 ^ 16 = omega (arith, below) in
-      let signed_is : level ≡ signed size negative = level_is ∙ level-signed (word / 2 ^ 16) high in (
-        omega (arith, few, whole),
+      let split : seen window (length_of word) ≡ t.0 ++ flag negative ∷ [] = seen-front window (length_of word) t.3 ∙ t.2 in
+      let high : word / 2 ^ 16 < 2 ^ 16 = omega (arith, below) in (
+        omega (arith, t.3, whole),
         fits,
-        subst (λ (l : ℤ). (coefficient_at table place).Spells (more (record { run = run; level = l })) (seen window len) []) (sym signed_is)
-            (spells-pair table place run size t.0 listed negative (seen window len) fits split),
+        subst (λ (l : ℤ). (coefficient_at table place).Spells (more (record { run = run_of word; level = l })) (seen window (length_of word)) [])
+            (sym (level-signed (word / 2 ^ 16) high))
+            (spells-pair table place (run_of word) size t.0 t.1 negative (seen window (length_of word)) fits split),
       )
 
   pub short-end : 0 < word → word < PAIR_WORDS → (len : ℕ) → len ≡ length_of word → IsFound table place window (EndOfBlock len)
@@ -222,3 +220,15 @@ module _ (table : TableName) (place : ℕ) (window : Window) (word : ℕ) (whole
         omega (arith, few, whole),
         subst (λ x. (coefficient_at table place).Spells (last tt) x []) (sym all) (spells-end table place t.0 t.1),
       )
+
+-- ---- the word of a coefficient
+
+pub as-word : (table : TableName) (place : ℕ) (window : Window) (run len word : ℕ) (level : ℤ) → IsPair table place window run level len → run_of word ≡ run
+    → length_of word ≡ len → level_of word ≡ level → IsFound table place window (Pair word)
+as-word table place window run len word level is run_is len_is level_is =
+    subst (λ n. IsPair table place window n (level_of word) (length_of word)) (sym run_is)
+    (subst (λ (l : ℤ). IsPair table place window run l (length_of word)) (sym level_is) (subst (λ n. IsPair table place window run level n) (sym len_is) is))
+
+-- the number of a run, a length and 16 bits of a level
+pub word-parts : (n len run word : ℕ) → run < 2 ^ 8 → len < 2 ^ 8 → word ≡ n * 2 ^ 16 + len * 2 ^ 8 + run → (run_of word ≡ run) × (length_of word ≡ len) × (word / 2 ^ 16 ≡ n)
+word-parts n len run word run_few len_few is = (omega arith, omega arith, omega arith)

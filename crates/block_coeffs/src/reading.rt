@@ -14,6 +14,7 @@ ghost use Rattle.block_coeffs.specs.BlockFault.{refusal_told};
 use crate::coefficient_table::{size_table, table_at};
 use crate::dc_standing::{DcStanding, what_dc};
 use crate::fault::BlockFault;
+use crate::short_codes::{length_in, level_in, run_in};
 use crate::standing::{Standing, what_stands, what_stands_whole};
 use arrayvec::ArrayVec;
 use bit_cursor::BitReader;
@@ -159,11 +160,12 @@ fn read_from_first<S: Source>(
             from.skip(len);
             Ok(())
         }
-        Standing::Pair { run, level, len } => {
-            from.skip(len);
+        Standing::Pair { word } => {
+            let run = run_in(word);
+            from.skip(length_in(word));
             into.push(RunLevel {
                 run: run as u8,
-                level,
+                level: level_in(word),
             });
             read_others(from, way, TableName::CoeffZero, run + 1, into)
         }
@@ -199,11 +201,12 @@ fn read_others<S: Source>(
                 from.skip(len);
                 return Ok(());
             }
-            Standing::Pair { run, level, len } => {
-                from.skip(len);
+            Standing::Pair { word } => {
+                let run = run_in(word);
+                from.skip(length_in(word));
                 into.push(RunLevel {
                     run: run as u8,
-                    level,
+                    level: level_in(word),
                 });
                 index += run + 1;
             }
@@ -241,11 +244,12 @@ fn read_last<S: Source>(
                 from.skip(len);
                 return Ok(());
             }
-            Standing::Pair { run, level, len } => {
-                from.skip(len);
+            Standing::Pair { word } => {
+                let run = run_in(word);
+                from.skip(length_in(word));
                 into.push(RunLevel {
                     run: run as u8,
-                    level,
+                    level: level_in(word),
                 });
                 index += run + 1;
             }

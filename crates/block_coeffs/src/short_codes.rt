@@ -88,3 +88,15 @@ pub fn level_in(word: u32) -> i16
 {
     ((word >> 16) as u16).cast_signed()
 }
+
+/// The word of a coefficient.
+#[inline(always)]
+pub fn word_of(run: u32, level: i16, len: u32) -> u32
+    requires run { run < 2 ^ 8 }
+    requires len { len < 2 ^ 8 }
+    ensures run { run_of result ≡ run }
+    ensures len { length_of result ≡ len }
+    ensures level { level_of result ≡ level }
+{
+    u32::from(level.cast_unsigned()) * (1 << 16) + len * (1 << 8) + run
+}

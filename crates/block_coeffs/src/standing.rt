@@ -6,7 +6,7 @@ ghost use Rattle.block_coeffs.specs.Private.Standing.{IsFound};
 ghost use Rattle.grammar_reading.specs.Window.{seen};
 
 use crate::cut::why_none;
-use crate::short_codes::{PAIR_WORDS, SHORT_BITS, length_in, level_in, run_in, short_word};
+use crate::short_codes::{PAIR_WORDS, SHORT_BITS, length_in, run_in, short_word, word_of};
 use crate::why::Why;
 use grammar_reading::Window;
 use picture_grammar::escape::{LEVEL_BITS, RUN_BITS};
@@ -22,8 +22,8 @@ const FORBIDDEN_LEVEL: u32 = 1 << (LEVEL_BITS - 1);
 pub enum Standing {
     /// The end of block, in so many bits.
     EndOfBlock { len: u32 },
-    /// A coefficient of this run and level, in so many bits with its sign.
-    Pair { run: u32, level: i16, len: u32 },
+    /// A coefficient, by a word of `short_codes`.
+    Pair { word: u32 },
     /// Neither, for this reason, behind so many bits.
     Refused { why: Why, behind: u32 },
 }
@@ -61,13 +61,8 @@ pub fn what_stands_whole(table: TableName, place: u32, window: Window) -> Standi
 {
     let word = short_word(table, window.bits >> (WINDOW_BITS - SHORT_BITS));
     if word >= PAIR_WORDS {
-        let run = run_in(word);
-        if place + run < BLOCK_PLACES as u32 {
-            return Standing::Pair {
-                run,
-                level: level_in(word),
-                len: length_in(word),
-            };
+        if place + run_in(word) < BLOCK_PLACES as u32 {
+            return Standing::Pair { word };
         }
     } else if word > 0 {
         return Standing::EndOfBlock {
@@ -141,9 +136,7 @@ fn with_sign_behind(place: u32, window: Window, symbol: u16, len: u32) -> Standi
     }
     let level = with_sign(symbol % LEVELS_PER_RUN, bit_at(window, len));
     Standing::Pair {
-        run,
-        level,
-        len: len + 1,
+        word: word_of(run, level, len + 1),
     }
 }
 
@@ -165,9 +158,7 @@ fn escaped(place: u32, window: Window) -> Standing
         Why::BadEscape
     } else {
         return Standing::Pair {
-            run,
-            level: in_twos_complement(level),
-            len: WINDOW_BITS,
+            word: word_of(run, in_twos_complement(level), WINDOW_BITS),
         };
     };
     Standing::Refused { why, behind: 0 }
