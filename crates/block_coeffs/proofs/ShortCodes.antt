@@ -33,6 +33,7 @@ use Rattle.std.proofs.Common.{
   Option,
   Some,
   None,
+  IfSome,
   refl,
   sym,
   ap,
@@ -53,7 +54,8 @@ use Rattle.std.proofs.lemmas.Int.{to_z_pos}
 use Rattle.std.proofs.lemmas.List.{length-take}
 use Rattle.bit_lists.specs.Bits.{IsPrefix, bits_of, front_of}
 use Rattle.bit_lists.specs.Fields.{flag}
-use Rattle.bit_lists.proofs.BitLemmas.{length-bits_of, take-bits_of}
+use Rattle.bit_lists.proofs.BitLemmas.{length-bits_of, take-bits_of, bits_of-same}
+use Rattle.bit_cursor.specs.Shown.{IsFirstNumber}
 use Rattle.prefix_codes.specs.declared.symbol.TheConstants.{END_OF_BLOCK}
 use Rattle.prefix_codes.specs.declared.table_name.TableName.{TableName}
 use Rattle.prefix_codes.specs.declared.table_name.TableName.TheVariants.{Address, TypeI, TypeP, TypeB, Pattern, Motion, DcLuma, DcChroma, CoeffZero, CoeffFirst, CoeffOne}
@@ -64,13 +66,15 @@ use Rattle.prefix_codes.proofs.LevelLemmas.{IsPrefix_from_begins, not_zero}
 use Rattle.picture_grammar.specs.Grammar.Next.{more, last}
 use Rattle.picture_grammar.specs.Block.{signed}
 use Rattle.grammar_reading.specs.declared.window.Window.{Window}
-use Rattle.grammar_reading.specs.Window.{seen}
+use Rattle.grammar_reading.specs.Window.{seen, ShowsFront}
 use Rattle.grammar_reading.proofs.Fronts.{take-front_of}
 use Rattle.block_coeffs.specs.declared.short_codes.TheConstants.{PAIR_WORDS, SHORT_BITS}
+use Rattle.block_coeffs.specs.declared.standing.Standing.{Standing}
 use Rattle.block_coeffs.specs.declared.standing.Standing.TheVariants.{EndOfBlock, Pair}
 use Rattle.block_coeffs.specs.Private.ShortCodes.{words_of, run_of, length_of, level_of}
-use Rattle.block_coeffs.specs.Private.Standing.{coefficient_at, IsFound, IsPair}
+use Rattle.block_coeffs.specs.Private.Standing.{coefficient_at, IsFound, IsPair, StandsNext}
 use Rattle.block_coeffs.proofs.Pairs.{spells-end, spells-pair}
+use Rattle.block_coeffs.proofs.Steps.{taken}
 
 -- ---- the test
 
@@ -232,3 +236,35 @@ as-word table place window run len word level is run_is len_is level_is =
 -- the number of a run, a length and 16 bits of a level
 pub word-parts : (n len run word : ℕ) → run < 2 ^ 8 → len < 2 ^ 8 → word ≡ n * 2 ^ 16 + len * 2 ^ 8 + run → (run_of word ≡ run) × (length_of word ≡ len) × (word / 2 ^ 16 ≡ n)
 word-parts n len run word run_few len_few is = (omega arith, omega arith, omega arith)
+
+-- ---- first bits and a window, of which it isn't known that they are its own
+
+-- a window that has these first bits
+abbrev pub window_of : (front : ℕ) → front < 2 ^ 9 → Window
+window_of front few = record { bits = front * 2 ^ 15; known = 24; within = omega arith; below = omega arith; filled = omega arith }
+
+pub window_of-front : (table : TableName) (front word : ℕ) (few : front < 2 ^ 9) → word ≡ get_or (words_of table) front 0
+    → word ≡ get_or (words_of table) ((window_of front few).bits / 2 ^ 15) 0
+window_of-front table front word few is =
+    let back : front ≡ front * 2 ^ 15 / 2 ^ 15 = omega arith in
+    is ∙ ap (λ n. get_or (words_of table) n 0) back
+
+-- they are its own where both are those of the bits
+front-same : (bits : List ℕ) (front : ℕ) (window : Window) → window.known ≡ 24 → front < 2 ^ 9 → IsFirstNumber 9 bits front → ShowsFront window bits → front ≡ window.bits / 2 ^ 15
+front-same bits front window whole few first shows =
+    let below : window.bits < 2 ^ 24 = window.below in
+    let both : bits_of 9 front ≡ bits_of 9 (window.bits / 2 ^ 15) =
+    sym first.front ∙ taken window bits 9 shows (omega (arith, whole)) ∙ take-bits_of 9 15 window.bits in
+    let same : front % 2 ^ 9 ≡ window.bits / 2 ^ 15 % 2 ^ 9 = bits_of-same 9 front (window.bits / 2 ^ 15) both in
+    omega (arith, same, few, below)
+
+pub next-found : (table : TableName) (place : ℕ) (told : Option (List ℕ)) (standing : Standing) (front : ℕ) (window : Window) → window.known ≡ 24 → front < 2 ^ 9
+    → IfSome told (λ bits. IsFirstNumber 9 bits front) → IfSome told (ShowsFront window) → (front ≡ window.bits / 2 ^ 15 → IsFound table place window standing)
+    → ((other : Window) × (other.known ≡ 24) × IsFound table place other standing) → StandsNext table place told standing
+next-found table place None standing front window whole few first shows same some = record { window = some.0; whole = some.1; shows = tt; found = some.2 }
+next-found table place (Some bits) standing front window whole few first shows same some = record {
+  window = window;
+  whole = whole;
+  shows = shows;
+  found = same (front-same bits front window whole few first shows);
+}

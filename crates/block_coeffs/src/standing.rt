@@ -1,4 +1,4 @@
-ghost use Rattle.std.specs.Prelude.{◌≡◌, ◌≢◌, ◌≤◌, ◌<◌, ◌^◌, ◌+◌, ℕ, [], ◌∷◌, ◌++◌, IsTrue};
+ghost use Rattle.std.specs.Prelude.{◌≡◌, ◌≢◌, ◌≤◌, ◌<◌, ◌^◌, ◌+◌, ◌-◌, ◌/◌, ℕ, [], ◌∷◌, ◌++◌, IsTrue};
 ghost use Rattle.bit_lists.specs.Fields.{flag};
 ghost use Rattle.prefix_codes.specs.TableName.{Begins, is_coefficients};
 ghost use Rattle.picture_grammar.specs.Block.{signed, escape_level};
@@ -50,16 +50,18 @@ pub fn what_stands(table: TableName, place: u32, window: Window) -> Standing
     }
 }
 
-/// The same where the window is whole: the word of its first bits tells most coefficients and the end of block, and the
-/// table all others.
+/// The same where the window is whole, by its first bits and by all: the word of the first ones tells most coefficients and the
+/// end of block, and the table all others.
 #[inline(always)]
-pub fn what_stands_whole(table: TableName, place: u32, window: Window) -> Standing
+pub fn what_stands_whole(table: TableName, place: u32, front: u32, window: Window) -> Standing
     requires table { IsTrue (is_coefficients table) }
     requires place { place ≤ BLOCK_PLACES }
+    requires front { front < 2 ^ SHORT_BITS }
     requires whole { window.known ≡ WINDOW_BITS }
-    ensures { IsFound table place window result }
+    ensures same { front ≡ window.bits / 2 ^ (WINDOW_BITS - SHORT_BITS) → IsFound table place window result }
+    ensures some { (other : Window) × (other.known ≡ WINDOW_BITS) × IsFound table place other result }
 {
-    let word = short_word(table, window.bits >> (WINDOW_BITS - SHORT_BITS));
+    let word = short_word(table, front);
     if word >= PAIR_WORDS {
         if place + run_in(word) < BLOCK_PLACES as u32 {
             return Standing::Pair { word };

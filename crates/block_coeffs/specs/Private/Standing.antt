@@ -1,5 +1,6 @@
 -- What is found at the front of a window, where a coefficient or the end of block must stand (ISO/IEC 13818-2, 6.2.6).
-use Rattle.std.specs.Prelude.{◌≤◌, ◌+◌, ◌<◌, ℕ, ℤ, List, [], drop}
+use Rattle.std.specs.Prelude.{◌≡◌, Option, IfSome, ◌≤◌, ◌+◌, ◌<◌, ℕ, ℤ, List, [], drop}
+use Rattle.prefix_codes.specs.declared.lookup.TheConstants.{WINDOW_BITS}
 use Rattle.prefix_codes.specs.declared.table_name.TableName.{TableName}
 use Rattle.syntax_types.specs.declared.block.TheConstants.{BLOCK_PLACES}
 use Rattle.syntax_types.specs.declared.block.RunLevel.{RunLevel}
@@ -31,3 +32,10 @@ IsFound table place window (EndOfBlock len) =
 IsFound table place window (Pair word) = IsPair table place window (run_of word) (level_of word) (length_of word)
 IsFound table place window (Refused why behind) =
     (behind ≤ window.known) × ((bits : List ℕ) → ShowsFront window bits → (coefficient_at table place).Refuses bits (refusal_of why) (drop behind bits))
+
+-- what is found at the next bits, by a whole window that shows them
+pub record StandsNext (table : TableName) (place : ℕ) (told : Option (List ℕ)) (standing : Standing) : Type 0 where
+  pub window : Window
+  pub whole : window.known ≡ WINDOW_BITS
+  pub shows : IfSome told (ShowsFront window)
+  pub found : IsFound table place window standing
