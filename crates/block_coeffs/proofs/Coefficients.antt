@@ -54,8 +54,9 @@ use Rattle.block_coeffs.specs.declared.why.Why.{Why}
 use Rattle.block_coeffs.specs.declared.standing.Standing.TheVariants.{EndOfBlock, Pair, Refused}
 use Rattle.block_coeffs.specs.BlockFault.{refusal_told}
 use Rattle.block_coeffs.specs.Private.Why.{fault_at}
-use Rattle.block_coeffs.specs.Private.Standing.{coefficient_at, IsFound}
+use Rattle.block_coeffs.specs.Private.Standing.{coefficient_at, IsFound, IsPair}
 use Rattle.block_coeffs.specs.Private.Pairs.{IsBehind}
+use Rattle.block_coeffs.specs.Private.ShortCodes.{run_of, level_of, length_of}
 use Rattle.block_coeffs.proofs.Blocks.{local-at, local-coefficients, reads-coefficient, explains-coefficient}
 use Rattle.block_coeffs.proofs.Steps.{reads-found, explains-found}
 
@@ -113,14 +114,16 @@ more-behind way before items pair index run next b within same next_is items_are
 module _ (way : BlockWay) (before : List RunLevel) (table : TableName) (index : ℕ) (table_is : table ≡ coefficient_table way index) (index_is : index ≡ next_place way before)
     (window : Window) (told after : Option (List ℕ)) (place place_after : ℕ) (shows : IfSome told (ShowsFront window)) where
   -- a coefficient was found and its bits were passed
-  pub pair-read : (bits : Option (List ℕ)) (at run : ℕ) (level held : ℤ) (len : ℕ) (items : List RunLevel)
-      → IsFound table index window (Pair run level len) → held ≡ level → after ≡ without_bits told len → place_after ≡ place + len
+  pub pair-read : (bits : Option (List ℕ)) (at word run : ℕ) (held : ℤ) (len : ℕ) (items : List RunLevel)
+      → IsFound table index window (Pair word) → run ≡ run_of word → held ≡ level_of word → len ≡ length_of word → after ≡ without_bits told len → place_after ≡ place + len
       → items ≡ before ++ record { run = run; level = held } ∷ [] → ReadsFrom (several (coefficient way)) before bits told at place
       → ReadsFrom (several (coefficient way)) items bits after at place_after
-  pair-read bits at run level held len items is same left moved items_are r =
+  pair-read bits at word run held len items is run_is held_is len_is left moved items_are r =
       let pair : RunLevel = record { run = run; level = held } in
-      let spelled = subst (λ (n : ℤ). (coefficient_at table index).Spells (more (record { run = run; level = n })) (seen window len) []) (sym same) is.2 in
-      let found = reads-found (coefficient_at table index) (local-at way before table index table_is index_is) (more pair) told after window len place place_after shows is.0 spelled left moved in
+      let p : IsPair table index window run held len =
+      subst (λ n. IsPair table index window n held len) (sym run_is)
+      (subst (λ (l : ℤ). IsPair table index window (run_of word) l len) (sym held_is) (subst (λ n. IsPair table index window (run_of word) (level_of word) n) (sym len_is) is)) in
+      let found = reads-found (coefficient_at table index) (local-at way before table index table_is index_is) (more pair) told after window len place place_after shows p.0 p.2 left moved in
       let read = reads-coefficient way before table index table_is index_is (Some pair) (Some pair) refl told after place place_after found in
       subst (λ pairs. ReadsFrom (several (coefficient way)) pairs bits after at place_after) (sym items_are)
       (reads-more (coefficient way) (stands-before (coefficient way before) before (more pair) (local-coefficients way)) r read)

@@ -61,7 +61,7 @@ use Rattle.grammar_reading.specs.declared.window.Window.{Window}
 use Rattle.block_coeffs.specs.declared.standing.Standing.TheVariants.{Pair, Refused}
 use Rattle.block_coeffs.specs.declared.why.Why.TheVariants as why
 use Rattle.block_coeffs.specs.Private.Why.{rules_at}
-use Rattle.block_coeffs.specs.Private.Standing.{coefficient_at, IsFound}
+use Rattle.block_coeffs.specs.Private.Standing.{coefficient_at, IsFound, IsPair}
 use Rattle.grammar_reading.specs.Window.{seen, ShowsFront}
 use Rattle.grammar_reading.proofs.Fronts.{front_of-bits, length-front_of}
 use Rattle.block_coeffs.proofs.Symbols.{escape_code}
@@ -265,7 +265,7 @@ module _ {table : TableName} (is : IsCoefficients table) (place : ℕ) (window :
         let within = and_from (nat_lt (place + the_run) 64) true (lt-ltb (place + the_run) 64 fits) refl in
         (omega arith, whole-breaks (rule TooMany (fits_in_block place) ∷ []) [] (rule BadEscape is_level) refl within (is_level-forbidden the_run the_level forbidden))
 
-    pub pair-whole : (level : ℤ) → place + the_run < 64 → (the_level ≡ 0 → ⊥) → (the_level ≡ 2048 → ⊥) → level ≡ escape_level the_level → IsFound table place window (Pair the_run level 24)
+    pub pair-whole : (level : ℤ) → place + the_run < 64 → (the_level ≡ 0 → ⊥) → (the_level ≡ 2048 → ⊥) → level ≡ escape_level the_level → IsPair table place window the_run level 24
     pair-whole level fits not_zero not_least level_is =
         let within = lt-ltb (place + the_run) 64 fits in
         let allowed = and_from (is_level (escape the_run the_level)) true (is_level-allowed the_run the_level not_zero not_least) refl in

@@ -5,6 +5,7 @@ pub mod Dcs
 pub mod Escapes
 pub mod Examples
 pub mod Pairs
+pub mod ShortCodes
 pub mod Steps
 pub mod Symbols
 pub mod Writable

@@ -48,9 +48,9 @@ use Rattle.picture_grammar.specs.Block.Coefficient.{end_of_block, run_size}
 use Rattle.picture_grammar.proofs.Codes.{free-coefficient}
 use Rattle.picture_grammar.proofs.ElementLaws.{breaks}
 use Rattle.grammar_reading.specs.declared.window.Window.{Window}
-use Rattle.block_coeffs.specs.declared.standing.Standing.TheVariants.{EndOfBlock, Pair, Refused}
+use Rattle.block_coeffs.specs.declared.standing.Standing.TheVariants.{EndOfBlock, Refused}
 use Rattle.block_coeffs.specs.declared.why.Why.TheVariants as why
-use Rattle.block_coeffs.specs.Private.Standing.{coefficient_at, IsFound}
+use Rattle.block_coeffs.specs.Private.Standing.{coefficient_at, IsFound, IsPair}
 use Rattle.grammar_reading.specs.Window.{seen}
 use Rattle.grammar_reading.proofs.Fronts.{front_of-more, length-front_of, take-front_of}
 use Rattle.block_coeffs.proofs.Symbols.{shorter-code, length-code}
@@ -151,7 +151,7 @@ module _ {table : TableName} (is : IsCoefficients table) (place : ℕ) (window :
   )
 
   pub pair-found : (negative : Bool) (level : ℤ) → place + run < 64 → (len ≡ window.known → ⊥) → level ≡ signed (symbol % LEVELS_PER_RUN) negative
-      → seen window (len + 1) ≡ seen window len ++ flag negative ∷ [] → IsFound table place window (Pair run level (len + 1))
+      → seen window (len + 1) ≡ seen window len ++ flag negative ∷ [] → IsPair table place window run level (len + 1)
   pair-found negative level fits more_known level_is longer =
       let le : len ≤ window.known = at.0 in
       let split : seen window (len + 1) ≡ b.code ++ flag negative ∷ [] = longer ∙ ap (λ c. c ++ flag negative ∷ []) at.1 in (

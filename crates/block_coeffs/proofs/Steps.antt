@@ -21,7 +21,7 @@ use Rattle.block_coeffs.specs.BlockFault.{refusal_told}
 use Rattle.grammar_reading.proofs.Fronts.{length-front_of, take-front_of}
 
 -- a front of the bits, as far as the window knows them
-taken : (window : Window) (bits : List ℕ) (len : ℕ) → ShowsFront window bits → len ≤ window.known → take len bits ≡ seen window len
+pub taken : (window : Window) (bits : List ℕ) (len : ℕ) → ShowsFront window bits → len ≤ window.known → take len bits ≡ seen window len
 taken window bits len shows le =
     let within = window.within in
     sym (take-take len 24 bits (omega arith)) ∙ ap (take len) shows ∙ take-front_of 24 window.bits len window.known le

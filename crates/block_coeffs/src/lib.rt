@@ -12,6 +12,7 @@ mod cut;
 mod dc_standing;
 mod fault;
 mod reading;
+mod short_codes;
 mod standing;
 mod why;
 mod written;

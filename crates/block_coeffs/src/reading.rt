@@ -6,6 +6,7 @@ ghost use Rattle.picture_grammar.specs.Grammar.{many, optional};
 ghost use Rattle.picture_grammar.specs.Block.{block, coefficient, coefficient_table, dc_coefficient};
 ghost use Rattle.prefix_codes.specs.TableName.{is_coefficients};
 ghost use Rattle.block_coeffs.specs.Private.Pairs.{IsBehind, ReadsOn, RefusesOn};
+ghost use Rattle.block_coeffs.specs.Private.Standing.{StandsNext};
 ghost use Rattle.block_coeffs.specs.Private.DcStanding.{is_sizes, dc_by};
 ghost use Rattle.grammar_reading.specs.Window.{ShowsFront};
 ghost use Rattle.grammar_reading.specs.BitsRead.{Advances, AnswersSpelling, BeginsWith, Explains, Reads};
@@ -14,6 +15,7 @@ ghost use Rattle.block_coeffs.specs.BlockFault.{refusal_told};
 use crate::coefficient_table::{size_table, table_at};
 use crate::dc_standing::{DcStanding, what_dc};
 use crate::fault::BlockFault;
+use crate::short_codes::{SHORT_BITS, length_in, level_in, run_in};
 use crate::standing::{Standing, what_stands, what_stands_whole};
 use arrayvec::ArrayVec;
 use bit_cursor::BitReader;
@@ -154,16 +156,17 @@ fn read_from_first<S: Source>(
     if !from.hold_ahead(WINDOW_BITS)? {
         return read_last(from, way, 0, into);
     }
-    match what_stands_whole(TableName::CoeffFirst, 0, whole_window(from)) {
+    match stands_next(from, TableName::CoeffFirst, 0) {
         Standing::EndOfBlock { len } => {
             from.skip(len);
             Ok(())
         }
-        Standing::Pair { run, level, len } => {
-            from.skip(len);
+        Standing::Pair { word } => {
+            let run = run_in(word);
+            from.skip(length_in(word));
             into.push(RunLevel {
                 run: run as u8,
-                level,
+                level: level_in(word),
             });
             read_others(from, way, TableName::CoeffZero, run + 1, into)
         }
@@ -194,16 +197,17 @@ fn read_others<S: Source>(
 {
     let mut index = first;
     'coefficients: while from.hold_ahead(WINDOW_BITS)? {
-        match what_stands_whole(table, index, whole_window(from)) {
+        match stands_next(from, table, index) {
             Standing::EndOfBlock { len } => {
                 from.skip(len);
                 return Ok(());
             }
-            Standing::Pair { run, level, len } => {
-                from.skip(len);
+            Standing::Pair { word } => {
+                let run = run_in(word);
+                from.skip(length_in(word));
                 into.push(RunLevel {
                     run: run as u8,
-                    level,
+                    level: level_in(word),
                 });
                 index += run + 1;
             }
@@ -241,11 +245,12 @@ fn read_last<S: Source>(
                 from.skip(len);
                 return Ok(());
             }
-            Standing::Pair { run, level, len } => {
-                from.skip(len);
+            Standing::Pair { word } => {
+                let run = run_in(word);
+                from.skip(length_in(word));
                 into.push(RunLevel {
                     run: run as u8,
-                    level,
+                    level: level_in(word),
                 });
                 index += run + 1;
             }
@@ -254,6 +259,18 @@ fn read_last<S: Source>(
             }
         }
     }
+}
+
+/// What stands next, by a table of coefficients at a place, where a whole window is held.
+#[inline(always)]
+fn stands_next<S: Source>(from: &BitReader<'_, S>, table: TableName, place: u32) -> Standing
+    requires table { IsTrue (is_coefficients table) }
+    requires place { place ≤ BLOCK_PLACES }
+    requires held { WINDOW_BITS ≤ bits_held from.now }
+    ensures { StandsNext table place (bits_left from.now) result }
+{
+    let front = from.held_front(SHORT_BITS);
+    what_stands_whole(table, place, front, whole_window(from))
 }
 
 /// What is seen of the bits that are left by those that are held: all of them, or a whole window.

@@ -1,5 +1,6 @@
 -- What is found at the front of a window, where a coefficient or the end of block must stand (ISO/IEC 13818-2, 6.2.6).
-use Rattle.std.specs.Prelude.{◌≤◌, ◌+◌, ◌<◌, ℕ, List, [], drop}
+use Rattle.std.specs.Prelude.{◌≡◌, Option, IfSome, ◌≤◌, ◌+◌, ◌<◌, ℕ, ℤ, List, [], drop}
+use Rattle.prefix_codes.specs.declared.lookup.TheConstants.{WINDOW_BITS}
 use Rattle.prefix_codes.specs.declared.table_name.TableName.{TableName}
 use Rattle.syntax_types.specs.declared.block.TheConstants.{BLOCK_PLACES}
 use Rattle.syntax_types.specs.declared.block.RunLevel.{RunLevel}
@@ -12,17 +13,29 @@ use Rattle.grammar_reading.specs.declared.window.Window.{Window}
 use Rattle.grammar_reading.specs.Window.{seen, ShowsFront}
 use Rattle.block_coeffs.specs.declared.standing.Standing.{Standing}
 use Rattle.block_coeffs.specs.declared.standing.Standing.TheVariants.{EndOfBlock, Pair, Refused}
+use Rattle.block_coeffs.specs.Private.ShortCodes.{run_of, level_of, length_of}
 use Rattle.block_coeffs.specs.Private.Why.{rules_at, refusal_of}
 
 -- a coefficient or the end of block at a place, by a table
 abbrev pub coefficient_at : TableName → ℕ → Grammar (Next RunLevel (Unit {0}))
 coefficient_at table place = element (CoefficientCode table) NoCode (rules_at place) >>= after_code
 
+-- a coefficient of this run and level stands at the front of a window, in so many bits
+abbrev pub IsPair : TableName → ℕ → Window → ℕ → ℤ → ℕ → Type 0
+IsPair table place window run level len =
+    (len ≤ window.known) × (place + run < BLOCK_PLACES) × (coefficient_at table place).Spells (more (record { run = run; level = level })) (seen window len) []
+
 -- what is found there stands there, and a refusal is that of all bits that the window shows
 abbrev pub IsFound : TableName → ℕ → Window → Standing → Type 0
 IsFound table place window (EndOfBlock len) =
     (len ≤ window.known) × (coefficient_at table place).Spells (last tt) (seen window len) []
-IsFound table place window (Pair run level len) =
-    (len ≤ window.known) × (place + run < BLOCK_PLACES) × (coefficient_at table place).Spells (more (record { run = run; level = level })) (seen window len) []
+IsFound table place window (Pair word) = IsPair table place window (run_of word) (level_of word) (length_of word)
 IsFound table place window (Refused why behind) =
     (behind ≤ window.known) × ((bits : List ℕ) → ShowsFront window bits → (coefficient_at table place).Refuses bits (refusal_of why) (drop behind bits))
+
+-- what is found at the next bits, by a whole window that shows them
+pub record StandsNext (table : TableName) (place : ℕ) (told : Option (List ℕ)) (standing : Standing) : Type 0 where
+  pub window : Window
+  pub whole : window.known ≡ WINDOW_BITS
+  pub shows : IfSome told (ShowsFront window)
+  pub found : IsFound table place window standing

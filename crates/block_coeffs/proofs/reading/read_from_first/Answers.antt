@@ -5,6 +5,7 @@ use Rattle.prefix_codes.specs.declared.table_name.TableName.TheVariants.{CoeffFi
 use Rattle.bit_cursor.specs.BitReader.{bits_left, without_bits, place}
 use Rattle.grammar_reading.specs.Window.{ShowsFront}
 use Rattle.block_coeffs.specs.Private.Pairs.{IsBehind}
+use Rattle.block_coeffs.specs.Private.ShortCodes.{level_of}
 use Rattle.block_coeffs.proofs.Coefficients.{none-read, none-read_yet, none-behind, inter-place, inter-first, pair-read, end-read, refused-read, advances-result}
 use Rattle.block_coeffs.proofs.Steps.{advances-found}
 use Rattle.block_coeffs.proofs.reading.read_from_first.Goals as goal
@@ -14,12 +15,12 @@ returns-in-EndOfBlock-clause-ok g c =
     let way = c.args.way in
     let items = c.args.into.now.items in
     let here = c.args.from.now in
-    let window = c.whole_window.result in
-    let shows : IfSome (bits_left here) (ShowsFront window) = subst (λ told. IfSome told (ShowsFront window)) c.in_ok-hold_ahead.ensures.left c.whole_window.ensures.shows in
+    let window = c.in-EndOfBlock.ensures.window in
+    let shows : IfSome (bits_left here) (ShowsFront window) = subst (λ told. IfSome told (ShowsFront window)) c.in_ok-hold_ahead.ensures.left c.in-EndOfBlock.ensures.shows in
     let behind : IsBehind way 0 items = none-behind way items 0 (inter-place way c.requires.way) (omega arith) c.requires.none in
     let len = c.in-EndOfBlock.len in
     end-read way items CoeffFirst 0 (inter-first way c.requires.way) behind.is window (bits_left here) (bits_left c.skip.new.self) (place here)
-    (place c.skip.new.self) shows (bits_left here) (place here) len (c.in-EndOfBlock.ensures.0, c.in-EndOfBlock.ensures.1)
+    (place c.skip.new.self) shows (bits_left here) (place here) len (c.in-EndOfBlock.ensures.found.0, c.in-EndOfBlock.ensures.found.1)
     (c.skip.ensures.left ∙ ap (λ told. option_map (drop len) told) c.in_ok-hold_ahead.ensures.left)
     (c.skip.ensures.place ∙ ap (λ n. n + len) c.in_ok-hold_ahead.ensures.place) (none-read way items (bits_left here) (place here) c.requires.none)
 
@@ -28,12 +29,12 @@ returns-in-Refused-clause-refused g c =
     let way = c.args.way in
     let items = c.args.into.now.items in
     let here = c.args.from.now in
-    let window = c.whole_window.result in
-    let shows : IfSome (bits_left here) (ShowsFront window) = subst (λ told. IfSome told (ShowsFront window)) c.in_ok-hold_ahead.ensures.left c.whole_window.ensures.shows in
+    let window = c.in-Refused.ensures.window in
+    let shows : IfSome (bits_left here) (ShowsFront window) = subst (λ told. IfSome told (ShowsFront window)) c.in_ok-hold_ahead.ensures.left c.in-Refused.ensures.shows in
     let behind : IsBehind way 0 items = none-behind way items 0 (inter-place way c.requires.way) (omega arith) c.requires.none in
     refused-read way items CoeffFirst 0 (inter-first way c.requires.way) behind.is window (bits_left here) (bits_left here) (place here)
     (place here) shows (bits_left here) (place here) c.in-Refused.why c.in-Refused.behind _ c.at.result
-    (c.in-Refused.ensures.0, c.in-Refused.ensures.1) c.at.ensures (omega arith) (none-read way items (bits_left here) (place here) c.requires.none)
+    (c.in-Refused.ensures.found.0, c.in-Refused.ensures.found.1) c.at.ensures (omega arith) (none-read way items (bits_left here) (place here) c.requires.none)
 
 pub returns-in-Pair-clause-ok : goal.returns-in-Pair-clause-ok
 returns-in-Pair-clause-ok g c =
@@ -41,19 +42,19 @@ returns-in-Pair-clause-ok g c =
     let items = c.args.into.now.items in
     let here = c.args.from.now in
     let after = c.skip-in-Pair.new.self in
-    let window = c.whole_window.result in
-    let shows : IfSome (bits_left here) (ShowsFront window) = subst (λ told. IfSome told (ShowsFront window)) c.in_ok-hold_ahead.ensures.left c.whole_window.ensures.shows in
+    let window = c.in-Pair.ensures.window in
+    let shows : IfSome (bits_left here) (ShowsFront window) = subst (λ told. IfSome told (ShowsFront window)) c.in_ok-hold_ahead.ensures.left c.in-Pair.ensures.shows in
     let behind : IsBehind way 0 items = none-behind way items 0 (inter-place way c.requires.way) (omega arith) c.requires.none in
-    let len = c.in-Pair.len in
-    let fits : SFits w16 c.in-Pair.level = search rules in
-    let held : ℤ = to_z w16 (of_z w16 c.in-Pair.level) in
-    let level : held ≡ c.in-Pair.level = to_z-of_z w16 c.in-Pair.level fits in
+    let len = c.length_in.result in
+    let fits : SFits w16 c.level_in.result = search rules in
+    let held : ℤ = to_z w16 (of_z w16 c.level_in.result) in
+    let level : held ≡ level_of c.in-Pair.word = to_z-of_z w16 c.level_in.result fits ∙ c.level_in.ensures in
     let left : bits_left after ≡ without_bits (bits_left here) len = c.skip-in-Pair.ensures.left ∙ ap (λ told. option_map (drop len) told) c.in_ok-hold_ahead.ensures.left in
     let moved : place after ≡ place here + len = c.skip-in-Pair.ensures.place ∙ ap (λ n. n + len) c.in_ok-hold_ahead.ensures.place in
     c.read_others.ensures.ok (bits_left here) (place here)
     (pair-read way items CoeffFirst 0 (inter-first way c.requires.way) behind.is window (bits_left here) (bits_left after) (place here)
-    (place after) shows (bits_left here) (place here) c.in-Pair.run' c.in-Pair.level held len c.push.new.self.items
-    (c.in-Pair.ensures.0, c.in-Pair.ensures.1, c.in-Pair.ensures.2) level left moved c.push.ensures.items (none-read way items (bits_left here) (place here) c.requires.none))
+    (place after) shows (bits_left here) (place here) c.in-Pair.word c.run_in-run.result held len c.push.new.self.items
+    (c.in-Pair.ensures.found.0, c.in-Pair.ensures.found.1, c.in-Pair.ensures.found.2) c.run_in-run.ensures.place level c.length_in.ensures left moved c.push.ensures.items (none-read way items (bits_left here) (place here) c.requires.none))
 
 pub returns-in-Pair-clause-refused : goal.returns-in-Pair-clause-refused
 returns-in-Pair-clause-refused g c =
@@ -61,19 +62,19 @@ returns-in-Pair-clause-refused g c =
     let items = c.args.into.now.items in
     let here = c.args.from.now in
     let after = c.skip-in-Pair.new.self in
-    let window = c.whole_window.result in
-    let shows : IfSome (bits_left here) (ShowsFront window) = subst (λ told. IfSome told (ShowsFront window)) c.in_ok-hold_ahead.ensures.left c.whole_window.ensures.shows in
+    let window = c.in-Pair.ensures.window in
+    let shows : IfSome (bits_left here) (ShowsFront window) = subst (λ told. IfSome told (ShowsFront window)) c.in_ok-hold_ahead.ensures.left c.in-Pair.ensures.shows in
     let behind : IsBehind way 0 items = none-behind way items 0 (inter-place way c.requires.way) (omega arith) c.requires.none in
-    let len = c.in-Pair.len in
-    let fits : SFits w16 c.in-Pair.level = search rules in
-    let held : ℤ = to_z w16 (of_z w16 c.in-Pair.level) in
-    let level : held ≡ c.in-Pair.level = to_z-of_z w16 c.in-Pair.level fits in
+    let len = c.length_in.result in
+    let fits : SFits w16 c.level_in.result = search rules in
+    let held : ℤ = to_z w16 (of_z w16 c.level_in.result) in
+    let level : held ≡ level_of c.in-Pair.word = to_z-of_z w16 c.level_in.result fits ∙ c.level_in.ensures in
     let left : bits_left after ≡ without_bits (bits_left here) len = c.skip-in-Pair.ensures.left ∙ ap (λ told. option_map (drop len) told) c.in_ok-hold_ahead.ensures.left in
     let moved : place after ≡ place here + len = c.skip-in-Pair.ensures.place ∙ ap (λ n. n + len) c.in_ok-hold_ahead.ensures.place in
     c.read_others.ensures.refused (bits_left here) (place here)
     (pair-read way items CoeffFirst 0 (inter-first way c.requires.way) behind.is window (bits_left here) (bits_left after) (place here)
-    (place after) shows (bits_left here) (place here) c.in-Pair.run' c.in-Pair.level held len c.push.new.self.items
-    (c.in-Pair.ensures.0, c.in-Pair.ensures.1, c.in-Pair.ensures.2) level left moved c.push.ensures.items (none-read way items (bits_left here) (place here) c.requires.none))
+    (place after) shows (bits_left here) (place here) c.in-Pair.word c.run_in-run.result held len c.push.new.self.items
+    (c.in-Pair.ensures.found.0, c.in-Pair.ensures.found.1, c.in-Pair.ensures.found.2) c.run_in-run.ensures.place level c.length_in.ensures left moved c.push.ensures.items (none-read way items (bits_left here) (place here) c.requires.none))
 
 pub returns-in-Pair-clause-advances : goal.returns-in-Pair-clause-advances
 returns-in-Pair-clause-advances g c =
@@ -81,15 +82,15 @@ returns-in-Pair-clause-advances g c =
     let items = c.args.into.now.items in
     let here = c.args.from.now in
     let after = c.skip-in-Pair.new.self in
-    let window = c.whole_window.result in
-    let shows : IfSome (bits_left here) (ShowsFront window) = subst (λ told. IfSome told (ShowsFront window)) c.in_ok-hold_ahead.ensures.left c.whole_window.ensures.shows in
+    let window = c.in-Pair.ensures.window in
+    let shows : IfSome (bits_left here) (ShowsFront window) = subst (λ told. IfSome told (ShowsFront window)) c.in_ok-hold_ahead.ensures.left c.in-Pair.ensures.shows in
     let behind : IsBehind way 0 items = none-behind way items 0 (inter-place way c.requires.way) (omega arith) c.requires.none in
-    let len = c.in-Pair.len in
+    let len = c.length_in.result in
     let left : bits_left after ≡ without_bits (bits_left here) len = c.skip-in-Pair.ensures.left ∙ ap (λ told. option_map (drop len) told) c.in_ok-hold_ahead.ensures.left in
     let moved : place after ≡ place here + len = c.skip-in-Pair.ensures.place ∙ ap (λ n. n + len) c.in_ok-hold_ahead.ensures.place in
     advances-result (bits_left here) (bits_left after) (bits_left c.read_others.new.from) (place here) (place after)
     (place c.read_others.new.from) c.read_others.result (advances-found (bits_left here) (bits_left after) window len (place here)
-    (place after) shows c.in-Pair.ensures.0 left moved) c.read_others.ensures.advances
+    (place after) shows (omega (arith, c.in-Pair.ensures.found.0, c.length_in.ensures)) left moved) c.read_others.ensures.advances
 
 pub returns-then-not-branch-clause-refused : goal.returns-then-not-branch-clause-refused
 returns-then-not-branch-clause-refused g c =

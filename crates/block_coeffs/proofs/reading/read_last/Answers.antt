@@ -6,6 +6,7 @@ use Rattle.bit_cursor.proofs.Source.{keeps_then}
 use Rattle.picture_grammar.specs.Block.{coefficient_table}
 use Rattle.grammar_reading.specs.Window.{ShowsFront}
 use Rattle.grammar_reading.proofs.BitsRead.{advances-on, advances-none}
+use Rattle.block_coeffs.specs.Private.ShortCodes.{level_of}
 use Rattle.block_coeffs.proofs.Coefficients.{more-behind, pair-read, end-read, refused-read}
 use Rattle.block_coeffs.proofs.Steps.{held-shown, advances-found}
 use Rattle.block_coeffs.proofs.reading.read_last.Goals as goal
@@ -30,20 +31,20 @@ coefficients-preserved g c =
     (bits_left c.hold_ahead.new.self) c.hold_ahead.new.self.held window c.in_ok-hold_ahead.ensures.left c.in_ok-hold_ahead.ensures.few c.held_window.ensures.shows in
     let table_is : table ≡ coefficient_table way index = c.table_at.ensures.table in
     let after = c.skip-in-Pair.new.self in
-    let len = c.in-Pair.len in
-    let fits : SFits w16 c.in-Pair.level = search rules in
-    let held : ℤ = to_z w16 (of_z w16 c.in-Pair.level) in
-    let level : held ≡ c.in-Pair.level = to_z-of_z w16 c.in-Pair.level fits in
+    let len = c.length_in.result in
+    let fits : SFits w16 c.level_in.result = search rules in
+    let held : ℤ = to_z w16 (of_z w16 c.level_in.result) in
+    let level : held ≡ level_of c.in-Pair.word = to_z-of_z w16 c.level_in.result fits ∙ c.level_in.ensures in
     let left : bits_left after ≡ without_bits (bits_left here) len = c.skip-in-Pair.ensures.left ∙ ap (λ told. option_map (drop len) told) c.in_ok-hold_ahead.ensures.left in
     let moved : place after ≡ place here + len = c.skip-in-Pair.ensures.place ∙ ap (λ n. n + len) c.in_ok-hold_ahead.ensures.place in
     let kept = keeps_then g.met.S.Source.keeps_on c.coefficients.invariant.keeps c.in_ok-hold_ahead.ensures.keeps in
     record {
       so_far = λ bits at r. pair-read way before table index table_is c.coefficients.invariant.place.is window (bits_left here) (bits_left after)
-          (place here) (place after) shows bits at c.in-Pair.run' c.in-Pair.level held len c.push.new.self.items
-          (c.in-Pair.ensures.0, c.in-Pair.ensures.1, c.in-Pair.ensures.2) level left moved c.push.ensures.items (c.coefficients.invariant.so_far bits at r);
-      advanced = advances-on c.coefficients.invariant.advanced (advances-found (bits_left here) (bits_left after) window len (place here) (place after) shows c.in-Pair.ensures.0 left moved);
-      place = more-behind way before c.push.new.self.items (record { run = c.in-Pair.run'; level = held }) index c.in-Pair.run'
-          (index + (c.in-Pair.run' + 1)) c.coefficients.invariant.place c.in-Pair.ensures.1 refl refl c.push.ensures.items;
+          (place here) (place after) shows bits at c.in-Pair.word c.run_in-run.result held len c.push.new.self.items
+          (c.in-Pair.ensures.0, c.in-Pair.ensures.1, c.in-Pair.ensures.2) c.run_in-run.ensures.place level c.length_in.ensures left moved c.push.ensures.items (c.coefficients.invariant.so_far bits at r);
+      advanced = advances-on c.coefficients.invariant.advanced (advances-found (bits_left here) (bits_left after) window len (place here) (place after) shows (omega (arith, c.in-Pair.ensures.0, c.length_in.ensures)) left moved);
+      place = more-behind way before c.push.new.self.items (record { run = c.run_in-run.result; level = held }) index c.run_in-run.result
+          (index + (c.run_in-run.result + 1)) c.coefficients.invariant.place (omega (arith, c.in-Pair.ensures.1, c.run_in-run.ensures.place)) refl refl c.push.ensures.items;
       keeps = search rules;
     }
 
