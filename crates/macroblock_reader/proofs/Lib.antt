@@ -7,3 +7,6 @@ pub mod Sixes
 pub mod Macroblocks
 pub mod Closing
 pub mod Slices
+pub mod Ahead
+pub mod Emptied
+pub mod WholeParts

@@ -6,7 +6,8 @@ ghost use Rattle.picture_grammar.specs.Grammar.{optional, when};
 ghost use Rattle.picture_grammar.specs.Element.{uimsbf, one_flag, marker_bit, rule};
 ghost use Rattle.picture_grammar.specs.Macroblock.{quantiser_scale_code};
 ghost use Rattle.grammar_reading.specs.Window.{ShowsFront};
-ghost use Rattle.grammar_reading.specs.Symbol.{symbol_up_to};
+ghost use Rattle.grammar_reading.specs.declared.symbol.SymbolFound.TheVariants.{Symbol};
+ghost use Rattle.grammar_reading.specs.Symbol.{IsSymbolFound, symbol_up_to};
 ghost use Rattle.macroblock_reader.specs.Private.Answers.{Answers, answer_as};
 ghost use Rattle.macroblock_reader.specs.Private.Why.{refusal_of, fault_of_bits};
 
@@ -14,7 +15,7 @@ use crate::fault::SliceFault;
 use crate::why::Why;
 use bit_cursor::{BitFault, BitReader};
 use grammar_reading::{SymbolFound, Window, read_flag, read_number, what_symbol};
-use prefix_codes::{TableName, WINDOW_BITS};
+use prefix_codes::{TableName, WINDOW_BITS, find_whole};
 use shelf_io::Source;
 
 /// Bits of quantiser_scale_code (6.2.4, 6.2.5).
@@ -124,6 +125,27 @@ pub fn read_symbol<S: Source>(
 ) -> Result<u16, SliceFault>
     ensures { Answers ⊥ (symbol_up_to table most (refusal_of why) (refusal_of why)) result from.old from.new }
 {
+    if !from.hold_ahead(WINDOW_BITS)? {
+        return read_rare_symbol(from, table, most, why);
+    }
+    let Some((symbol, len)) = whole_symbol(table, most, whole_window(from)) else {
+        return read_rare_symbol(from, table, most, why);
+    };
+    from.skip(len);
+    Ok(symbol)
+}
+
+/// The same where no such code stands at the front of a whole window, or fewer bits than that are left.
+#[cold]
+#[inline(never)]
+fn read_rare_symbol<S: Source>(
+    from: &mut BitReader<'_, S>,
+    table: TableName,
+    most: u16,
+    why: Why,
+) -> Result<u16, SliceFault>
+    ensures { Answers ⊥ (symbol_up_to table most (refusal_of why) (refusal_of why)) result from.old from.new }
+{
     from.hold_ahead(WINDOW_BITS)?;
     match what_symbol(table, most, held_window(from)) {
         SymbolFound::Symbol { symbol, len } => {
@@ -133,6 +155,35 @@ pub fn read_symbol<S: Source>(
         SymbolFound::NoCode => Err(why.at(from.place())),
         SymbolFound::PastMost => Err(why.at(from.place())),
         SymbolFound::Cut => Err(Why::End.at(from.place())),
+    }
+}
+
+/// The symbol of the code that stands at the front of a whole window, and its length in bits. None where none does, or the
+/// symbol is past the greatest one that may stand.
+#[inline(always)]
+fn whole_symbol(table: TableName, most: u16, window: Window) -> Option<(u16, u32)>
+    requires { window.known ≡ WINDOW_BITS }
+    ensures { IfSome result (λ found. IsSymbolFound table most window (Symbol found.0 found.1)) }
+{
+    let Some((symbol, len)) = find_whole(table, window.bits) else {
+        return None;
+    };
+    if symbol > most {
+        return None;
+    }
+    Some((symbol, u32::from(len)))
+}
+
+/// What is seen of the bits that are left where a whole window of them is held.
+#[inline]
+pub fn whole_window<S: Source>(from: &BitReader<'_, S>) -> Window
+    requires { WINDOW_BITS ≤ bits_held from.now }
+    ensures shows { IfSome (bits_left from.now) (ShowsFront result) }
+    ensures whole { result.known ≡ WINDOW_BITS }
+{
+    Window {
+        bits: from.held_front(WINDOW_BITS),
+        known: WINDOW_BITS,
     }
 }
 

@@ -1,5 +1,5 @@
 //! Motion vectors (6.2.5.2, 6.2.5.2.1 and 6.3.17.2).
-ghost use Rattle.std.specs.Prelude.{◌≡◌, ◌<◌, ◌≤◌, ◌^◌, ◌-◌, [], pos, IfOk, slice_index};
+ghost use Rattle.std.specs.Prelude.{◌≡◌, ◌<◌, ◌≤◌, ◌^◌, ◌-◌, [], pos, IfOk, IfSome, slice_index};
 ghost use Rattle.prefix_codes.specs.declared.table_name.TableName.TheVariants.{Motion};
 ghost use Rattle.picture_grammar.specs.Refusal.Refusal.{NoCode};
 ghost use Rattle.picture_grammar.specs.Grammar.{optional, when};
@@ -10,14 +10,16 @@ ghost use Rattle.picture_grammar.specs.Macroblock.{f_codes, motion_format as for
 ghost use Rattle.picture_grammar.specs.Picture.{IsCoding};
 ghost use Rattle.macroblock_reader.specs.Private.Answers.{Answers, answer_as};
 ghost use Rattle.macroblock_reader.specs.Private.Parts.{part_of, format_of, differences_by};
+ghost use Rattle.macroblock_reader.specs.Private.WholeParts.{IsPartFound};
 
-use crate::elements::{read_bit, read_bit_where, read_bits, read_symbol};
+use crate::elements::{read_bit, read_bit_where, read_bits, read_symbol, whole_window};
 use crate::fault::SliceFault;
 use crate::why::Why;
 use arrayvec::ArrayVec;
 use bit_cursor::BitReader;
+use grammar_reading::Window;
 use picture_grammar::stands::is_frame;
-use prefix_codes::TableName;
+use prefix_codes::{TableName, WINDOW_BITS, find_whole};
 use shelf_io::Source;
 use syntax_types::{DUAL_PRIME, FIELD_BASED, PicCoding, SIXTEEN_BY_EIGHT, VECTORS_MOST, Vector};
 
@@ -89,12 +91,25 @@ pub fn read_vectors_where<S: Source>(
     requires vertical { slice_index codes 1 < 2 ^ 4 }
     ensures { Answers ⊥ (when stands (motion_vectors codes (format_of format)) []) (answer_as (λ _. into.new.items) result) from.old from.new }
 {
-    into.clear();
+    empty(into);
     if stands {
         read_vectors(from, codes, format, into)
     } else {
         Ok(())
     }
+}
+
+/// Empties a list of vectors: two are taken one by one at less cost than a list is cleared.
+#[inline]
+fn empty(list: &mut ArrayVec<Vector, VECTORS_MOST>)
+    ensures { list.new.items ≡ [] }
+{
+    let count = list.len();
+    if count == 0 {
+        return;
+    }
+    list.pop();
+    list.pop();
 }
 
 #[inline(never)]
@@ -175,9 +190,72 @@ struct VectorPart {
     difference: i8,
 }
 
-/// motion_code and its sign bit, motion_residual, then dmvector.
+/// motion_code and its sign bit, motion_residual, then dmvector. Most parts stand whole in a window, and have no dmvector.
 #[inline(always)]
 fn read_part<S: Source>(
+    from: &mut BitReader<'_, S>,
+    f_code: u8,
+    dual: bool,
+) -> Result<VectorPart, SliceFault>
+    requires { f_code < 2 ^ 4 }
+    ensures { Answers ⊥ (vector_part f_code dual) (answer_as part_of result) from.old from.new }
+{
+    if dual {
+        return read_part_by_elements(from, f_code, dual);
+    }
+    if !from.hold_ahead(WINDOW_BITS)? {
+        return read_part_by_elements(from, f_code, dual);
+    }
+    let Some((part, len)) = whole_part(f_code, whole_window(from)) else {
+        return read_part_by_elements(from, f_code, dual);
+    };
+    from.skip(len);
+    Ok(part)
+}
+
+/// The part without dmvector that stands at the front of a whole window, and its length in bits. None where none does, or it
+/// is longer than the window.
+#[inline(always)]
+fn whole_part(f_code: u8, window: Window) -> Option<(VectorPart, u32)>
+    requires code { f_code < 2 ^ 4 }
+    requires whole { window.known ≡ WINDOW_BITS }
+    ensures { IfSome result (λ found. IsPartFound f_code window (part_of found.0) found.1) }
+{
+    let Some((size, len)) = find_whole(TableName::Motion, window.bits) else {
+        return None;
+    };
+    let behind = u32::from(len);
+    if size == 0 {
+        return Some((
+            VectorPart {
+                code: 0,
+                residual: 0,
+                difference: 0,
+            },
+            behind,
+        ));
+    }
+    let residual_bits = u32::from(f_code.saturating_sub(1));
+    let end = behind + 1 + residual_bits;
+    if end > WINDOW_BITS {
+        return None;
+    }
+    let negative = (window.bits >> (WINDOW_BITS - 1 - behind)) % 2 == 1;
+    let residual = (window.bits >> (WINDOW_BITS - end)) % (1 << residual_bits);
+    Some((
+        VectorPart {
+            code: signed(size as u8, negative),
+            residual: residual as u16,
+            difference: 0,
+        },
+        end,
+    ))
+}
+
+/// The same element by element.
+#[cold]
+#[inline(never)]
+fn read_part_by_elements<S: Source>(
     from: &mut BitReader<'_, S>,
     f_code: u8,
     dual: bool,
