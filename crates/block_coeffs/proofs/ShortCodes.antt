@@ -69,12 +69,11 @@ use Rattle.grammar_reading.specs.declared.window.Window.{Window}
 use Rattle.grammar_reading.specs.Window.{seen, ShowsFront}
 use Rattle.grammar_reading.proofs.Fronts.{take-front_of}
 use Rattle.block_coeffs.specs.declared.short_codes.TheConstants.{PAIR_WORDS, SHORT_BITS}
-use Rattle.block_coeffs.specs.declared.standing.Standing.{Standing}
 use Rattle.block_coeffs.specs.declared.standing.Standing.TheVariants.{EndOfBlock, Pair}
 use Rattle.block_coeffs.specs.Private.ShortCodes.{words_of, run_of, length_of, level_of}
 use Rattle.block_coeffs.specs.Private.Standing.{coefficient_at, IsFound, IsPair, StandsNext}
 use Rattle.block_coeffs.proofs.Pairs.{spells-end, spells-pair}
-use Rattle.block_coeffs.proofs.Steps.{taken}
+use Rattle.block_coeffs.proofs.Steps.{taken, whole-shown}
 
 -- ---- the test
 
@@ -237,17 +236,11 @@ as-word table place window run len word level is run_is len_is level_is =
 pub word-parts : (n len run word : ℕ) → run < 2 ^ 8 → len < 2 ^ 8 → word ≡ n * 2 ^ 16 + len * 2 ^ 8 + run → (run_of word ≡ run) × (length_of word ≡ len) × (word / 2 ^ 16 ≡ n)
 word-parts n len run word run_few len_few is = (omega arith, omega arith, omega arith)
 
--- ---- first bits and a window, of which it isn't known that they are its own
+-- ---- what stands next, by its first bits
 
 -- a window that has these first bits
-abbrev pub window_of : (front : ℕ) → front < 2 ^ 9 → Window
+abbrev window_of : (front : ℕ) → front < 2 ^ 9 → Window
 window_of front few = record { bits = front * 2 ^ 15; known = 24; within = omega arith; below = omega arith; filled = omega arith }
-
-pub window_of-front : (table : TableName) (front word : ℕ) (few : front < 2 ^ 9) → word ≡ get_or (words_of table) front 0
-    → word ≡ get_or (words_of table) ((window_of front few).bits / 2 ^ 15) 0
-window_of-front table front word few is =
-    let back : front ≡ front * 2 ^ 15 / 2 ^ 15 = omega arith in
-    is ∙ ap (λ n. get_or (words_of table) n 0) back
 
 -- they are its own where both are those of the bits
 front-same : (bits : List ℕ) (front : ℕ) (window : Window) → window.known ≡ 24 → front < 2 ^ 9 → IsFirstNumber 9 bits front → ShowsFront window bits → front ≡ window.bits / 2 ^ 15
@@ -258,13 +251,27 @@ front-same bits front window whole few first shows =
     let same : front % 2 ^ 9 ≡ window.bits / 2 ^ 15 % 2 ^ 9 = bits_of-same 9 front (window.bits / 2 ^ 15) both in
     omega (arith, same, few, below)
 
-pub next-found : (table : TableName) (place : ℕ) (told : Option (List ℕ)) (standing : Standing) (front : ℕ) (window : Window) → window.known ≡ 24 → front < 2 ^ 9
-    → IfSome told (λ bits. IsFirstNumber 9 bits front) → IfSome told (ShowsFront window) → (front ≡ window.bits / 2 ^ 15 → IsFound table place window standing)
-    → ((other : Window) × (other.known ≡ 24) × IsFound table place other standing) → StandsNext table place told standing
-next-found table place None standing front window whole few first shows same some = record { window = some.0; whole = some.1; shows = tt; found = some.2 }
-next-found table place (Some bits) standing front window whole few first shows same some = record {
-  window = window;
-  whole = whole;
-  shows = shows;
-  found = same (front-same bits front window whole few first shows);
-}
+-- a whole window that shows the next bits and has these first ones
+pub window-next : (told : Option (List ℕ)) (front number : ℕ) → front < 2 ^ 9 → number < 2 ^ 24 → IfSome told (λ bits. IsFirstNumber 9 bits front)
+    → IfSome told (λ bits. IsFirstNumber 24 bits number) → (window : Window) × (window.known ≡ 24) × IfSome told (ShowsFront window) × (front ≡ window.bits / 2 ^ 15)
+window-next None front number few below first all = (window_of front few, refl, tt, omega arith)
+window-next (Some bits) front number few below first all =
+    let window : Window = record { bits = number; known = 24; within = omega arith; below = below; filled = omega arith } in
+    let shows : ShowsFront window bits = whole-shown (Some bits) number all in
+    (window, refl, shows, front-same bits front window refl few first shows)
+
+-- what a word tells stands next
+module _ (table : TableName) (place : ℕ) (told : Option (List ℕ)) (front number word : ℕ) (few : front < 2 ^ 9) (below : number < 2 ^ 24)
+    (first : IfSome told (λ bits. IsFirstNumber 9 bits front)) (all : IfSome told (λ bits. IsFirstNumber 24 bits number))
+    (is : word ≡ get_or (words_of table) front 0) where
+  pub pair-next : PAIR_WORDS ≤ word → word < 2 ^ 32 → place + run_of word < 64 → StandsNext table place told (Pair word)
+  pair-next above fits within =
+      let w = window-next told front number few below first all in
+      let same : word ≡ get_or (words_of table) (w.0.bits / 2 ^ 15) 0 = is ∙ ap (λ n. get_or (words_of table) n 0) w.3 in
+      record { window = w.0; whole = w.1; shows = w.2; found = short-pair table place w.0 word w.1 same above fits within }
+
+  pub end-next : 0 < word → word < PAIR_WORDS → (len : ℕ) → len ≡ length_of word → StandsNext table place told (EndOfBlock len)
+  end-next some less len len_is =
+      let w = window-next told front number few below first all in
+      let same : word ≡ get_or (words_of table) (w.0.bits / 2 ^ 15) 0 = is ∙ ap (λ n. get_or (words_of table) n 0) w.3 in
+      record { window = w.0; whole = w.1; shows = w.2; found = short-end table place w.0 word w.1 same some less len len_is }

@@ -15,7 +15,7 @@ ghost use Rattle.block_coeffs.specs.BlockFault.{refusal_told};
 use crate::coefficient_table::{size_table, table_at};
 use crate::dc_standing::{DcStanding, what_dc};
 use crate::fault::BlockFault;
-use crate::short_codes::{SHORT_BITS, length_in, level_in, run_in};
+use crate::short_codes::{PAIR_WORDS, SHORT_BITS, length_in, level_in, run_in, short_word};
 use crate::standing::{Standing, what_stands, what_stands_whole};
 use arrayvec::ArrayVec;
 use bit_cursor::BitReader;
@@ -261,7 +261,8 @@ fn read_last<S: Source>(
     }
 }
 
-/// What stands next, by a table of coefficients at a place, where a whole window is held.
+/// What stands next, by a table of coefficients at a place, where a whole window is held. The word of the first bits tells most
+/// coefficients and the end of block, and the table all others.
 #[inline(always)]
 fn stands_next<S: Source>(from: &BitReader<'_, S>, table: TableName, place: u32) -> Standing
     requires table { IsTrue (is_coefficients table) }
@@ -270,7 +271,17 @@ fn stands_next<S: Source>(from: &BitReader<'_, S>, table: TableName, place: u32)
     ensures { StandsNext table place (bits_left from.now) result }
 {
     let front = from.held_front(SHORT_BITS);
-    what_stands_whole(table, place, front, whole_window(from))
+    let word = short_word(table, front);
+    if word >= PAIR_WORDS {
+        if place + run_in(word) < BLOCK_PLACES as u32 {
+            return Standing::Pair { word };
+        }
+    } else if word > 0 {
+        return Standing::EndOfBlock {
+            len: length_in(word),
+        };
+    }
+    what_stands_whole(table, place, whole_window(from))
 }
 
 /// What is seen of the bits that are left by those that are held: all of them, or a whole window.

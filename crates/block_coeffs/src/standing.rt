@@ -1,4 +1,4 @@
-ghost use Rattle.std.specs.Prelude.{◌≡◌, ◌≢◌, ◌≤◌, ◌<◌, ◌^◌, ◌+◌, ◌-◌, ◌/◌, ℕ, [], ◌∷◌, ◌++◌, IsTrue};
+ghost use Rattle.std.specs.Prelude.{◌≡◌, ◌≢◌, ◌≤◌, ◌<◌, ◌^◌, ◌+◌, ℕ, [], ◌∷◌, ◌++◌, IsTrue};
 ghost use Rattle.bit_lists.specs.Fields.{flag};
 ghost use Rattle.prefix_codes.specs.TableName.{Begins, is_coefficients};
 ghost use Rattle.picture_grammar.specs.Block.{signed, escape_level};
@@ -6,7 +6,7 @@ ghost use Rattle.block_coeffs.specs.Private.Standing.{IsFound};
 ghost use Rattle.grammar_reading.specs.Window.{seen};
 
 use crate::cut::why_none;
-use crate::short_codes::{PAIR_WORDS, SHORT_BITS, length_in, run_in, short_word, word_of};
+use crate::short_codes::word_of;
 use crate::why::Why;
 use grammar_reading::Window;
 use picture_grammar::escape::{LEVEL_BITS, RUN_BITS};
@@ -50,33 +50,9 @@ pub fn what_stands(table: TableName, place: u32, window: Window) -> Standing
     }
 }
 
-/// The same where the window is whole, by its first bits and by all: the word of the first ones tells most coefficients and the
-/// end of block, and the table all others.
+/// The same where the window is whole: then a code of the table has its sign there.
 #[inline(always)]
-pub fn what_stands_whole(table: TableName, place: u32, front: u32, window: Window) -> Standing
-    requires table { IsTrue (is_coefficients table) }
-    requires place { place ≤ BLOCK_PLACES }
-    requires front { front < 2 ^ SHORT_BITS }
-    requires whole { window.known ≡ WINDOW_BITS }
-    ensures same { front ≡ window.bits / 2 ^ (WINDOW_BITS - SHORT_BITS) → IsFound table place window result }
-    ensures some { (other : Window) × (other.known ≡ WINDOW_BITS) × IsFound table place other result }
-{
-    let word = short_word(table, front);
-    if word >= PAIR_WORDS {
-        if place + run_in(word) < BLOCK_PLACES as u32 {
-            return Standing::Pair { word };
-        }
-    } else if word > 0 {
-        return Standing::EndOfBlock {
-            len: length_in(word),
-        };
-    }
-    what_else_stands(table, place, window)
-}
-
-/// The same by the table alone: as the window is whole, a code of it has its sign there.
-#[inline(always)]
-fn what_else_stands(table: TableName, place: u32, window: Window) -> Standing
+pub fn what_stands_whole(table: TableName, place: u32, window: Window) -> Standing
     requires table { IsTrue (is_coefficients table) }
     requires place { place ≤ BLOCK_PLACES }
     requires whole { window.known ≡ WINDOW_BITS }

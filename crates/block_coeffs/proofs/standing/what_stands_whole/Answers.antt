@@ -1,35 +1,50 @@
-use Rattle.std.proofs.Common.{◌≡◌, ◌+◌, ◌<◌, refl, ap, ◌∙◌, arith}
-use Rattle.std.proofs.Common.{get_or}
-use Rattle.block_coeffs.specs.Private.ShortCodes.{run_of, words_of}
-use Rattle.block_coeffs.proofs.ShortCodes.{short-pair, short-end, window_of, window_of-front}
+use Rattle.std.proofs.Common.{◌≡◌, ℕ, ◌<◌, ◌↔◌, Option, Some, refl, sym, ap, subst, ◌∙◌, arith, inl}
+use Rattle.std.proofs.lemmas.Option.{none-some}
+use Rattle.prefix_codes.specs.declared.symbol.TheConstants.{END_OF_BLOCK, ESCAPE}
+use Rattle.prefix_codes.specs.declared.table_name.TableName.{TableName}
+use Rattle.prefix_codes.specs.TableName.{Begins}
+use Rattle.grammar_reading.specs.declared.window.Window.{Window}
+use Rattle.grammar_reading.specs.Window.{seen}
+use Rattle.block_coeffs.proofs.Pairs.{end-found}
+use Rattle.block_coeffs.proofs.Symbols.{coefficients-is, past-end, shorter-code}
 use Rattle.block_coeffs.proofs.standing.what_stands_whole.Goals as goal
 
-pub returns-then-place-run_in-clause-same : goal.returns-then-place-run_in-clause-same
-returns-then-place-run_in-clause-same c = λ same.
-    let fits : c.args.place + run_of c.short_word-word.result < 64 = omega (arith, c.if-place-run_in.true, c.run_in.ensures.place) in
-    let found = short-pair c.args.table c.args.place c.args.window c.short_word-word.result c.requires.whole
-    (c.short_word-word.ensures ∙ ap (λ n. get_or (words_of c.args.table) n 0) same) (omega arith) (omega arith) fits in
-    (found.0, found.1, found.2)
+pub why_none-requires-clause-none : goal.why_none-requires-clause-none
+why_none-requires-clause-none c = λ s n b. none-some _ (sym c.in_default.is ∙ (c.find_whole.ensures.front s n).1 (subst (λ k. Begins c.args.table (seen c.args.window k) s n) c.requires.whole b))
 
-pub returns-then-place-run_in-clause-some : goal.returns-then-place-run_in-clause-some
-returns-then-place-run_in-clause-some c =
-    let fits : c.args.place + run_of c.short_word-word.result < 64 = omega (arith, c.if-place-run_in.true, c.run_in.ensures.place) in
-    let found = short-pair c.args.table c.args.place (window_of c.args.front c.requires.front) c.short_word-word.result refl
-    (window_of-front c.args.table c.args.front c.short_word-word.result c.requires.front c.short_word-word.ensures) (omega arith) (omega arith) fits in
-    (window_of c.args.front c.requires.front, refl, found)
+pub returns-in_default : goal.returns-in_default
+returns-in_default c = (omega arith, λ bits shows. inl (refl, c.why_none.ensures bits shows))
 
-pub returns-then-word-gt0-clause-same : goal.returns-then-word-gt0-clause-same
-returns-then-word-gt0-clause-same c = λ same.
-    let found = short-end c.args.table c.args.place c.args.window c.short_word-word.result c.requires.whole
-    (c.short_word-word.ensures ∙ ap (λ n. get_or (words_of c.args.table) n 0) same) (omega arith) (omega arith) c.length_in.result c.length_in.ensures in
+-- what begins a whole window, as a look-up found it
+begun : {found : Option (ℕ × ℕ)} (table : TableName) (window : Window) (symbol len n : ℕ) → window.known ≡ 24
+    → ((s k : ℕ) → (found ≡ Some (s, k)) ↔ Begins table (seen window 24) s k) → found ≡ Some (symbol, len) → n ≡ len → Begins table (seen window window.known) symbol n
+begun table window symbol len n whole front is same =
+    subst (λ k. Begins table (seen window k) symbol n) (sym whole) ((front symbol n).0 (is ∙ ap (λ k. Some (symbol, k)) (sym same)))
+
+pub with_sign_behind-requires-clause-sign : goal.with_sign_behind-requires-clause-sign
+with_sign_behind-requires-clause-sign c =
+    let b = begun c.args.table c.args.window c.in-Some.symbol c.in-Some.len c.from-len.result c.requires.whole c.find_whole.ensures.front c.in-Some.is c.from-len.ensures in
+    let short = shorter-code c.in-Some.symbol b.code (coefficients-is c.args.table c.requires.table) b.listed in
+    let counted = b.counted in
+    omega arith
+
+pub returns-then-symbol-lt-END_OF_BLOCK : goal.returns-then-symbol-lt-END_OF_BLOCK
+returns-then-symbol-lt-END_OF_BLOCK c =
+    let b = begun c.args.table c.args.window c.in-Some.symbol c.in-Some.len c.from-len.result c.requires.whole c.find_whole.ensures.front c.in-Some.is c.from-len.ensures in
+    c.with_sign_behind.ensures c.args.table c.requires.table (λ end. omega arith) (λ escape. omega arith) b
+
+pub returns-then-symbol-eq-END_OF_BLOCK : goal.returns-then-symbol-eq-END_OF_BLOCK
+returns-then-symbol-eq-END_OF_BLOCK c =
+    let b = begun c.args.table c.args.window c.in-Some.symbol c.in-Some.len c.from-len.result c.requires.whole c.find_whole.ensures.front c.in-Some.is c.from-len.ensures in
+    let found = end-found c.args.table c.args.place c.args.window c.args.window.within c.from-len.result
+    (subst (λ s. Begins c.args.table (seen c.args.window c.args.window.known) s c.from-len.result) c.if-symbol-eq-END_OF_BLOCK.true b) in
     (found.0, found.1)
 
-pub returns-then-word-gt0-clause-some : goal.returns-then-word-gt0-clause-some
-returns-then-word-gt0-clause-some c =
-    let found = short-end c.args.table c.args.place (window_of c.args.front c.requires.front) c.short_word-word.result refl
-    (window_of-front c.args.table c.args.front c.short_word-word.result c.requires.front c.short_word-word.ensures) (omega arith) (omega arith)
-    c.length_in.result c.length_in.ensures in
-    (window_of c.args.front c.requires.front, refl, found)
-
-pub returns-clause-some : goal.returns-clause-some
-returns-clause-some c = (c.args.window, c.requires.whole, c.what_else_stands.ensures)
+pub returns-else-symbol-eq-END_OF_BLOCK : goal.returns-else-symbol-eq-END_OF_BLOCK
+returns-else-symbol-eq-END_OF_BLOCK c =
+    let symbol = c.in-Some.symbol in
+    let len = c.from-len.result in
+    let b = begun c.args.table c.args.window symbol c.in-Some.len len c.requires.whole c.find_whole.ensures.front c.in-Some.is c.from-len.ensures in
+    let past : END_OF_BLOCK < symbol = let other = c.if-symbol-eq-END_OF_BLOCK.false in omega arith in
+    let is : symbol ≡ ESCAPE = past-end symbol b.code (coefficients-is c.args.table c.requires.table) b.listed past in
+    c.escaped.ensures c.args.table len c.requires.table (subst (λ s. Begins c.args.table (seen c.args.window c.args.window.known) s len) is b)
