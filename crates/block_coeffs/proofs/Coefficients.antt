@@ -43,7 +43,7 @@ use Rattle.picture_grammar.specs.Grammar.{many}
 use Rattle.picture_grammar.specs.Grammar.Next.{more, last}
 use Rattle.picture_grammar.specs.Block.{coefficient, coefficient_table, first_place, next_place}
 use Rattle.picture_grammar.proofs.WrittenBlock.{next_place-push}
-use Rattle.grammar_reading.specs.declared.window.Window.{Window}
+use Rattle.grammar_reading.specs.declared.window.BitWindow.{BitWindow}
 use Rattle.grammar_reading.specs.Window.{seen, ShowsFront}
 use Rattle.grammar_reading.specs.BitsRead.{AdvancesFrom, ReadsFrom, ExplainsFrom}
 use Rattle.grammar_reading.specs.Several.{several}
@@ -112,7 +112,7 @@ more-behind way before items pair index run next b within same next_is items_are
     }
 
 module _ (way : BlockWay) (before : List RunLevel) (table : TableName) (index : ℕ) (table_is : table ≡ coefficient_table way index) (index_is : index ≡ next_place way before)
-    (window : Window) (told after : Option (List ℕ)) (place place_after : ℕ) (shows : IfSome told (ShowsFront window)) where
+    (window : BitWindow) (told after : Option (List ℕ)) (place place_after : ℕ) (shows : IfSome told (ShowsFront window)) where
   -- a coefficient was found and its bits were passed
   pub pair-read : (bits : Option (List ℕ)) (at word run : ℕ) (held : ℤ) (len : ℕ) (items : List RunLevel)
       → IsFound table index window (Pair word) → run ≡ run_of word → held ≡ level_of word → len ≡ length_of word → after ≡ without_bits told len → place_after ≡ place + len

@@ -11,7 +11,7 @@ use Rattle.picture_grammar.specs.Element.{Rule, rule, MayStand, Stands}
 use Rattle.picture_grammar.specs.Block.{Coefficient, CoefficientCode, fits_in_block, is_level}
 use Rattle.picture_grammar.proofs.Codes.{symbol_of, fronts}
 use Rattle.block_coeffs.specs.declared.why.Why.TheVariants as why
-use Rattle.grammar_reading.specs.declared.window.Window.{Window}
+use Rattle.grammar_reading.specs.declared.window.BitWindow.{BitWindow}
 use Rattle.block_coeffs.specs.Private.Why.{rules_at, IsWhy}
 use Rattle.block_coeffs.specs.Private.Cut.{BeginAllowed}
 use Rattle.grammar_reading.specs.Cut.{BeginsCode}
@@ -21,7 +21,7 @@ use Rattle.block_coeffs.proofs.Symbols.{length-code, symbol_fits-of, is_within-f
 
 -- ---- why nothing stands where no code begins
 
-module _ {table : TableName} (is : IsCoefficients table) (place : ℕ) (window : Window) (within : window.known ≤ 24)
+module _ {table : TableName} (is : IsCoefficients table) (place : ℕ) (window : BitWindow) (within : window.known ≤ 24)
     (none : (symbol len : ℕ) → Begins table (seen window window.known) symbol len → ⊥) (bits : List ℕ) (shows : ShowsFront window bits) where
   none_stands : NoCodeStands table bits
   none_stands s f listed p = none s (length f) (record {

@@ -50,7 +50,7 @@ use Rattle.prefix_codes.proofs.Computing.{tables}
 use Rattle.prefix_codes.proofs.TableLemmas.{code_in-passes}
 use Rattle.picture_grammar.specs.Refusal.Refusal.{End}
 use Rattle.picture_grammar.specs.Element.{MayStand}
-use Rattle.grammar_reading.specs.declared.window.Window.{Window}
+use Rattle.grammar_reading.specs.declared.window.BitWindow.{BitWindow}
 use Rattle.block_coeffs.specs.declared.why.Why.TheVariants as why
 use Rattle.block_coeffs.specs.declared.dc_standing.DcStanding.TheVariants.{Coefficient, Refused}
 use Rattle.grammar_reading.specs.Cut.{BeginsCode}
@@ -89,7 +89,7 @@ begins-size table bits s len tests b = let small = small-size table s b.code tes
 abbrev Sizes : TableName → ℕ → List ℕ → Type 0
 Sizes table symbol code = code_in table symbol ≡ Some code
 
-module _ (table : TableName) (tests : is_sizes table ≡ true) (window : Window) where
+module _ (table : TableName) (tests : is_sizes table ≡ true) (window : BitWindow) where
   -- ---- no size
 
   module _ (none : (symbol len : ℕ) → Begins table (seen window window.known) symbol len → ⊥) (bits : List ℕ) (shows : ShowsFront window bits) where
@@ -209,7 +209,7 @@ module _ (table : TableName) (tests : is_sizes table ≡ true) (window : Window)
     dc-cut short = (code-at.0, λ bits shows. cut-size short bits shows)
 
 -- the same, by numbers that are those
-pub dc-found_at : (table : TableName) (window : Window) (size len total bits : ℕ) → is_sizes table ≡ true → Begins table (seen window window.known) size len → total ≡ len + size → total ≤ window.known
+pub dc-found_at : (table : TableName) (window : BitWindow) (size len total bits : ℕ) → is_sizes table ≡ true → Begins table (seen window window.known) size len → total ≡ len + size → total ≤ window.known
     → bits ≡ window.bits / 2 ^ (24 - total) % (1 * 2 ^ size % 2 ^ 32) → IsDcFound table window (Coefficient (record { size = size; bits = bits }) total)
 dc-found_at table window size len total bits tests b is le bits_are =
     let small = begins-size table (seen window window.known) size len tests b in

@@ -57,7 +57,7 @@ use Rattle.picture_grammar.specs.Block.{Coefficient, CoefficientCode, fits_in_bl
 use Rattle.picture_grammar.specs.Block.Coefficient.{end_of_block, run_size, escape}
 use Rattle.picture_grammar.proofs.Codes.{symbol_of, fronts, coefficient_code-listed, free-coefficient}
 use Rattle.picture_grammar.proofs.ElementLaws.{breaks}
-use Rattle.grammar_reading.specs.declared.window.Window.{Window}
+use Rattle.grammar_reading.specs.declared.window.BitWindow.{BitWindow}
 use Rattle.block_coeffs.specs.declared.standing.Standing.TheVariants.{Pair, Refused}
 use Rattle.block_coeffs.specs.declared.why.Why.TheVariants as why
 use Rattle.block_coeffs.specs.Private.Why.{rules_at}
@@ -155,7 +155,7 @@ is_level-forbidden run level (inr least_is) = and_right (not (nat_eq level 0)) (
 
 -- ---- an escape at the front of a window
 
-module _ {table : TableName} (is : IsCoefficients table) (place : ℕ) (window : Window) (len : ℕ) (b : Begins table (seen window window.known) ESCAPE len) where
+module _ {table : TableName} (is : IsCoefficients table) (place : ℕ) (window : BitWindow) (len : ℕ) (b : Begins table (seen window window.known) ESCAPE len) where
   abbrev run : ℕ
   run = window.bits / 2 ^ 12 % 2 ^ 6
 
@@ -227,7 +227,7 @@ escape-code {table} is (escape run level) c (front, listed, run_fits, level_fits
 
 -- ---- what is found at an escape
 
-module _ {table : TableName} (is : IsCoefficients table) (place : ℕ) (window : Window) (len : ℕ) (b : Begins table (seen window window.known) ESCAPE len) where
+module _ {table : TableName} (is : IsCoefficients table) (place : ℕ) (window : BitWindow) (len : ℕ) (b : Begins table (seen window window.known) ESCAPE len) where
   abbrev the_run : ℕ
   the_run = window.bits / 2 ^ 12 % 2 ^ 6
 

@@ -8,7 +8,7 @@ use Rattle.prefix_codes.proofs.Computing.{tables}
 use Rattle.picture_grammar.specs.Block.{block}
 use Rattle.picture_grammar.proofs.Examples.{non_intra, one_escape, bad_escape}
 use Rattle.block_coeffs.specs.declared.fault.BlockFault.TheVariants as fault
-use Rattle.grammar_reading.specs.declared.window.Window.{Window}
+use Rattle.grammar_reading.specs.declared.window.BitWindow.{BitWindow}
 use Rattle.block_coeffs.specs.Private.Cut.{symbol_fits, BeginAllowed}
 use Rattle.grammar_reading.specs.Window.{seen, ShowsFront}
 use Rattle.grammar_reading.specs.BitsRead.{ReadsFrom, ExplainsFrom}
@@ -32,7 +32,7 @@ refused_escape : ExplainsFrom (block non_intra) (refusal_told (fault.BadEscape 1
 refused_escape = record { front = []; left = printed_bits "000001 000000 100000000000 10"; split = refl; refused = bad_escape; moved = refl }
 
 -- two bits of a window
-two_bits : Window
+two_bits : BitWindow
 two_bits = record { bits = 0xC0_0000; known = 2; within = omega arith; below = omega arith; filled = refl }
 
 two_ones : seen two_bits 2 ≡ 1 ∷ 1 ∷ []

@@ -47,7 +47,7 @@ use Rattle.picture_grammar.specs.Block.{CoefficientCode, fits_in_block, is_level
 use Rattle.picture_grammar.specs.Block.Coefficient.{end_of_block, run_size}
 use Rattle.picture_grammar.proofs.Codes.{free-coefficient}
 use Rattle.picture_grammar.proofs.ElementLaws.{breaks}
-use Rattle.grammar_reading.specs.declared.window.Window.{Window}
+use Rattle.grammar_reading.specs.declared.window.BitWindow.{BitWindow}
 use Rattle.block_coeffs.specs.declared.standing.Standing.TheVariants.{EndOfBlock, Refused}
 use Rattle.block_coeffs.specs.declared.why.Why.TheVariants as why
 use Rattle.block_coeffs.specs.Private.Standing.{coefficient_at, IsFound, IsPair}
@@ -58,7 +58,7 @@ use Rattle.grammar_reading.proofs.Cuts.{shows-all, begins-seen}
 
 -- ---- what is seen of a window
 
-pub seen-one_more : (window : Window) (index : ℕ) → index < 24 → seen window (index + 1) ≡ seen window index ++ flag (nat_eq (window.bits / 2 ^ (23 - index) % 2) 1) ∷ []
+pub seen-one_more : (window : BitWindow) (index : ℕ) → index < 24 → seen window (index + 1) ≡ seen window index ++ flag (nat_eq (window.bits / 2 ^ (23 - index) % 2) 1) ∷ []
 unfolding bits_of
 seen-one_more window index lt =
     let places : 24 - (index + 1) ≡ 23 - index = omega arith in
@@ -73,7 +73,7 @@ seen-one_more window index lt =
     front_of-more 24 window.bits index 1 (omega arith) ∙ ap (λ b. seen window index ++ b) digit
 
 -- a code that begins what is seen is what is seen of its length
-pub seen-code : (window : Window) (code : List ℕ) (len : ℕ) → window.known ≤ 24 → length code ≡ len → IsPrefix code (seen window window.known) → (len ≤ window.known) × (seen window len ≡ code)
+pub seen-code : (window : BitWindow) (code : List ℕ) (len : ℕ) → window.known ≤ 24 → length code ≡ len → IsPrefix code (seen window window.known) → (len ≤ window.known) × (seen window len ≡ code)
 seen-code window code len within counted begins =
     let le : len ≤ window.known = omega (arith, ap length begins, length-take (length code) (seen window window.known), length-front_of 24 window.bits window.known within) in
     (le, sym (take-front_of 24 window.bits len window.known le) ∙ ap (λ n. take n (seen window window.known)) (sym counted) ∙ begins)
@@ -124,7 +124,7 @@ module _ (table : TableName) (place : ℕ) where
 
 -- ---- by a window
 
-module _ {table : TableName} (is : IsCoefficients table) (place : ℕ) (window : Window) (within : window.known ≤ 24) (symbol len run : ℕ)
+module _ {table : TableName} (is : IsCoefficients table) (place : ℕ) (window : BitWindow) (within : window.known ≤ 24) (symbol len run : ℕ)
     (no_end : symbol ≡ END_OF_BLOCK → ⊥) (no_escape : symbol ≡ ESCAPE → ⊥) (b : Begins table (seen window window.known) symbol len)
     (run_is : run ≡ symbol / LEVELS_PER_RUN) where
   listed : coefficient_code table run (symbol % LEVELS_PER_RUN) ≡ Some b.code
@@ -162,7 +162,7 @@ module _ {table : TableName} (is : IsCoefficients table) (place : ℕ) (window :
       )
 
 -- the end of block
-pub end-found : (table : TableName) (place : ℕ) (window : Window) (within : window.known ≤ 24) (len : ℕ)
+pub end-found : (table : TableName) (place : ℕ) (window : BitWindow) (within : window.known ≤ 24) (len : ℕ)
     → Begins table (seen window window.known) END_OF_BLOCK len → IsFound table place window (EndOfBlock len)
 end-found table place window within len b =
     let at = seen-code window b.code len within b.counted b.first in

@@ -65,7 +65,7 @@ use Rattle.prefix_codes.proofs.TableLemmas.{begins}
 use Rattle.prefix_codes.proofs.LevelLemmas.{IsPrefix_from_begins, not_zero}
 use Rattle.picture_grammar.specs.Grammar.Next.{more, last}
 use Rattle.picture_grammar.specs.Block.{signed}
-use Rattle.grammar_reading.specs.declared.window.Window.{Window}
+use Rattle.grammar_reading.specs.declared.window.BitWindow.{BitWindow}
 use Rattle.grammar_reading.specs.Window.{seen, ShowsFront}
 use Rattle.grammar_reading.proofs.Fronts.{take-front_of}
 use Rattle.block_coeffs.specs.declared.short_codes.TheConstants.{PAIR_WORDS, SHORT_BITS}
@@ -73,7 +73,8 @@ use Rattle.block_coeffs.specs.declared.standing.Standing.TheVariants.{EndOfBlock
 use Rattle.block_coeffs.specs.Private.ShortCodes.{words_of, run_of, length_of, level_of}
 use Rattle.block_coeffs.specs.Private.Standing.{coefficient_at, IsFound, IsPair, StandsNext}
 use Rattle.block_coeffs.proofs.Pairs.{spells-end, spells-pair}
-use Rattle.block_coeffs.proofs.Steps.{taken, whole-shown}
+use Rattle.block_coeffs.proofs.Steps.{taken}
+use Rattle.grammar_reading.proofs.Fronts.{whole-shown}
 
 -- ---- the test
 
@@ -152,7 +153,7 @@ there behind front len (Some code) test =
     (code, refl, same, le)
 
 -- the first bits of a window, by their number
-seen-front : (window : Window) (len : ℕ) → len ≤ 9 → seen window len ≡ take len (bits_of 9 (window.bits / 2 ^ 15))
+seen-front : (window : BitWindow) (len : ℕ) → len ≤ 9 → seen window len ≡ take len (bits_of 9 (window.bits / 2 ^ 15))
 seen-front window len le = sym (take-front_of 24 window.bits len 9 le) ∙ ap (take len) (take-bits_of 9 15 window.bits)
 
 -- the level of 16 bits
@@ -167,7 +168,7 @@ level-signed n lt = elim (cases_Bool (nat_lt n (2 ^ 15))) [
 
 -- ---- a word of a window's front
 
-module _ (table : TableName) (place : ℕ) (window : Window) (word : ℕ) (whole : window.known ≡ 24) (is : word ≡ get_or (words_of table) (window.bits / 2 ^ 15) 0) where
+module _ (table : TableName) (place : ℕ) (window : BitWindow) (word : ℕ) (whole : window.known ≡ 24) (is : word ≡ get_or (words_of table) (window.bits / 2 ^ 15) 0) where
   abbrev front : ℕ
   front = window.bits / 2 ^ 15
 
@@ -226,7 +227,7 @@ module _ (table : TableName) (place : ℕ) (window : Window) (word : ℕ) (whole
 
 -- ---- the word of a coefficient
 
-pub as-word : (table : TableName) (place : ℕ) (window : Window) (run len word : ℕ) (level : ℤ) → IsPair table place window run level len → run_of word ≡ run
+pub as-word : (table : TableName) (place : ℕ) (window : BitWindow) (run len word : ℕ) (level : ℤ) → IsPair table place window run level len → run_of word ≡ run
     → length_of word ≡ len → level_of word ≡ level → IsFound table place window (Pair word)
 as-word table place window run len word level is run_is len_is level_is =
     subst (λ n. IsPair table place window n (level_of word) (length_of word)) (sym run_is)
@@ -239,11 +240,11 @@ word-parts n len run word run_few len_few is = (omega arith, omega arith, omega 
 -- ---- what stands next, by its first bits
 
 -- a window that has these first bits
-abbrev window_of : (front : ℕ) → front < 2 ^ 9 → Window
+abbrev window_of : (front : ℕ) → front < 2 ^ 9 → BitWindow
 window_of front few = record { bits = front * 2 ^ 15; known = 24; within = omega arith; below = omega arith; filled = omega arith }
 
 -- they are its own where both are those of the bits
-front-same : (bits : List ℕ) (front : ℕ) (window : Window) → window.known ≡ 24 → front < 2 ^ 9 → IsFirstNumber 9 bits front → ShowsFront window bits → front ≡ window.bits / 2 ^ 15
+front-same : (bits : List ℕ) (front : ℕ) (window : BitWindow) → window.known ≡ 24 → front < 2 ^ 9 → IsFirstNumber 9 bits front → ShowsFront window bits → front ≡ window.bits / 2 ^ 15
 front-same bits front window whole few first shows =
     let below : window.bits < 2 ^ 24 = window.below in
     let both : bits_of 9 front ≡ bits_of 9 (window.bits / 2 ^ 15) =
@@ -253,10 +254,10 @@ front-same bits front window whole few first shows =
 
 -- a whole window that shows the next bits and has these first ones
 pub window-next : (told : Option (List ℕ)) (front number : ℕ) → front < 2 ^ 9 → number < 2 ^ 24 → IfSome told (λ bits. IsFirstNumber 9 bits front)
-    → IfSome told (λ bits. IsFirstNumber 24 bits number) → (window : Window) × (window.known ≡ 24) × IfSome told (ShowsFront window) × (front ≡ window.bits / 2 ^ 15)
+    → IfSome told (λ bits. IsFirstNumber 24 bits number) → (window : BitWindow) × (window.known ≡ 24) × IfSome told (ShowsFront window) × (front ≡ window.bits / 2 ^ 15)
 window-next None front number few below first all = (window_of front few, refl, tt, omega arith)
 window-next (Some bits) front number few below first all =
-    let window : Window = record { bits = number; known = 24; within = omega arith; below = below; filled = omega arith } in
+    let window : BitWindow = record { bits = number; known = 24; within = omega arith; below = below; filled = omega arith } in
     let shows : ShowsFront window bits = whole-shown (Some bits) number all in
     (window, refl, shows, front-same bits front window refl few first shows)
 

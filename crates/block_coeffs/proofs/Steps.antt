@@ -12,7 +12,7 @@ use Rattle.picture_grammar.specs.Exact.{IsLocal}
 use Rattle.bit_cursor.specs.BitReader.{without_bits}
 use Rattle.block_coeffs.specs.declared.why.Why.{Why}
 use Rattle.block_coeffs.specs.declared.why.Why.TheVariants as why
-use Rattle.grammar_reading.specs.declared.window.Window.{Window}
+use Rattle.grammar_reading.specs.declared.window.BitWindow.{BitWindow}
 use Rattle.block_coeffs.specs.Private.Why.{refusal_of, fault_at}
 use Rattle.grammar_reading.specs.Window.{seen, ShowsFront}
 use Rattle.grammar_reading.specs.BitsRead.{AdvancesFrom, IsSpelled, ReadsFrom, RefusedAt, ExplainsFrom}
@@ -21,30 +21,25 @@ use Rattle.block_coeffs.specs.BlockFault.{refusal_told}
 use Rattle.grammar_reading.proofs.Fronts.{length-front_of, take-front_of}
 
 -- a front of the bits, as far as the window knows them
-pub taken : (window : Window) (bits : List ℕ) (len : ℕ) → ShowsFront window bits → len ≤ window.known → take len bits ≡ seen window len
+pub taken : (window : BitWindow) (bits : List ℕ) (len : ℕ) → ShowsFront window bits → len ≤ window.known → take len bits ≡ seen window len
 taken window bits len shows le =
     let within = window.within in
     sym (take-take len 24 bits (omega arith)) ∙ ap (take len) shows ∙ take-front_of 24 window.bits len window.known le
 
-shown : (window : Window) (bits : List ℕ) (len : ℕ) → ShowsFront window bits → len ≤ window.known → len ≤ length bits
+shown : (window : BitWindow) (bits : List ℕ) (len : ℕ) → ShowsFront window bits → len ≤ window.known → len ≤ length bits
 shown window bits len shows le =
     let within = window.within in
     omega (arith, ap length (taken window bits len shows le), length-take len bits, length-front_of 24 window.bits len (omega arith))
 
-front-left : (told : Option (List ℕ)) (window : Window) (len : ℕ) → IfSome told (ShowsFront window) → len ≤ window.known → told ≡ option_map (λ rest. seen window len ++ rest) (without_bits told len)
+front-left : (told : Option (List ℕ)) (window : BitWindow) (len : ℕ) → IfSome told (ShowsFront window) → len ≤ window.known → told ≡ option_map (λ rest. seen window len ++ rest) (without_bits told len)
 front-left None window len shows le = refl
 front-left (Some bits) window len shows le = ap Some (sym (take-append-drop len bits) ∙ ap (λ f. f ++ drop len bits) (taken window bits len shows le))
 
 -- a window of held bits shows what is left, where all bits are held that are asked for or left
-pub held-shown : (told now : Option (List ℕ)) (held : ℕ) (window : Window) → now ≡ told → (held < 24 → IfSome told (λ bits. length bits ≡ held))
+pub held-shown : (told now : Option (List ℕ)) (held : ℕ) (window : BitWindow) → now ≡ told → (held < 24 → IfSome told (λ bits. length bits ≡ held))
     → IfSome now (λ bits. (held < 24 → length bits ≡ held) → ShowsFront window bits) → IfSome told (ShowsFront window)
 held-shown told now held window same few shows =
     told_both told (held < 24) (λ bits. length bits ≡ held) (ShowsFront window) (subst (λ t. IfSome t (λ bits. (held < 24 → length bits ≡ held) → ShowsFront window bits)) same shows) few
-
--- a whole window of held bits shows what is left
-pub whole-shown : (told : Option (List ℕ)) (number : ℕ) → IfSome told (λ bits. IsFirstNumber 24 bits number) → IfSome told (λ bits. take 24 bits ≡ front_of 24 number 24)
-whole-shown None number is = tt
-whole-shown (Some bits) number is = is.front ∙ sym (take_all 24 (bits_of 24 number) (omega (arith, length-bits_of 24 number)))
 
 -- a front that spells a value without looking ahead spells it before all that may follow
 local-spelled : {A : Type 0} {grammar : Grammar A} → IsLocal grammar → (value : A) (front : List ℕ) (after : Option (List ℕ)) → grammar.Spells value front [] → IsSpelled grammar value front after
@@ -52,7 +47,7 @@ local-spelled {grammar = grammar} local value front None s = ([], subst (λ f. g
 local-spelled {grammar = grammar} local value front (Some rest) s = anywhere local value front [] rest (subst (λ f. grammar.Spells value f []) (sym (append-nil front)) s)
 
 -- what the window shows of a value was read once it is taken
-pub reads-found : {A : Type 0} (grammar : Grammar A) → IsLocal grammar → (value : A) (told after : Option (List ℕ)) (window : Window) (len place place_after : ℕ)
+pub reads-found : {A : Type 0} (grammar : Grammar A) → IsLocal grammar → (value : A) (told after : Option (List ℕ)) (window : BitWindow) (len place place_after : ℕ)
     → IfSome told (ShowsFront window) → len ≤ window.known → grammar.Spells value (seen window len) [] → after ≡ without_bits told len
     → place_after ≡ place + len → ReadsFrom grammar value told after place place_after
 reads-found grammar local value told after window len place place_after shows le spelled left moved =
@@ -64,7 +59,7 @@ reads-found grammar local value told after window len place place_after shows le
     }
 
 -- bits that the window shows were passed
-pub advances-found : (told after : Option (List ℕ)) (window : Window) (len place place_after : ℕ) → IfSome told (ShowsFront window) → len ≤ window.known
+pub advances-found : (told after : Option (List ℕ)) (window : BitWindow) (len place place_after : ℕ) → IfSome told (ShowsFront window) → len ≤ window.known
     → after ≡ without_bits told len → place_after ≡ place + len → AdvancesFrom told after place place_after
 advances-found told after window len place place_after shows le left moved =
     let within = window.within in record {
@@ -74,7 +69,7 @@ advances-found told after window len place place_after shows le left moved =
     }
 
 -- a refusal of what the window shows is one of the bits
-refused-at : {A : Type 0} (grammar : Grammar A) (refusal : Refusal) (window : Window) (bits : List ℕ) (behind place at : ℕ)
+refused-at : {A : Type 0} (grammar : Grammar A) (refusal : Refusal) (window : BitWindow) (bits : List ℕ) (behind place at : ℕ)
     → ShowsFront window bits → behind ≤ window.known → grammar.Refuses bits refusal (drop behind bits) → at ≡ place + behind → RefusedAt grammar refusal bits place at
 refused-at grammar refusal window bits behind place at shows le refused moved =
     let enough = shown window bits behind shows le in record {
@@ -92,7 +87,7 @@ explains-why grammar why.TooMany bits place at r = r
 explains-why grammar why.BadEscape bits place at r = r
 explains-why grammar why.End bits place at r = r
 
-pub explains-found : {A : Type 0} (grammar : Grammar A) (reason : Why) (told : Option (List ℕ)) (window : Window) (behind place at : ℕ)
+pub explains-found : {A : Type 0} (grammar : Grammar A) (reason : Why) (told : Option (List ℕ)) (window : BitWindow) (behind place at : ℕ)
     → IfSome told (ShowsFront window) → behind ≤ window.known → ((bits : List ℕ) → ShowsFront window bits → grammar.Refuses bits (refusal_of reason) (drop behind bits)) → at ≡ place + behind
     → IfSome told (λ bits. ExplainsFrom grammar (refusal_told (fault_at reason at)) bits place)
 explains-found grammar reason None window behind place at shows le refused moved = tt

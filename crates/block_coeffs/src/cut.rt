@@ -5,7 +5,7 @@ ghost use Rattle.block_coeffs.specs.Private.Cut.{symbol_fits, BeginAllowed};
 ghost use Rattle.grammar_reading.specs.Window.{seen, ShowsFront};
 
 use crate::why::Why;
-use grammar_reading::{Window, begins_code};
+use grammar_reading::{BitWindow, begins_code};
 use prefix_codes::symbol::{END_OF_BLOCK, ESCAPE, LEVELS_PER_RUN};
 use prefix_codes::{TableName, WINDOW_BITS};
 use syntax_types::BLOCK_PLACES;
@@ -14,7 +14,7 @@ use syntax_types::BLOCK_PLACES;
 /// within one that leads past the block's last place alone, or no code stands there.
 #[cold]
 #[inline(never)]
-pub fn why_none(table: TableName, place: u32, window: Window) -> Why
+pub fn why_none(table: TableName, place: u32, window: BitWindow) -> Why
     requires table { IsTrue (is_coefficients table) }
     requires place { place ≤ BLOCK_PLACES }
     requires none { (symbol len : ℕ) → Begins table (seen window window.known) symbol len → ⊥ }
@@ -32,7 +32,7 @@ pub fn why_none(table: TableName, place: u32, window: Window) -> Why
 }
 
 /// Whether the known bits begin a code of the table that may stand at the place.
-fn may_begin(table: TableName, place: u32, window: Window) -> bool
+fn may_begin(table: TableName, place: u32, window: BitWindow) -> bool
     requires table { IsTrue (is_coefficients table) }
     requires place { place ≤ BLOCK_PLACES }
     ensures { IsTrue result ↔ BeginAllowed table place (seen window window.known) }

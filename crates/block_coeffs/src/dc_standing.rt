@@ -4,7 +4,7 @@ ghost use Rattle.grammar_reading.specs.Window.{seen, ShowsFront};
 ghost use Rattle.block_coeffs.specs.Private.DcStanding.{is_sizes, IsWhyNoSize, IsDcFound};
 
 use crate::why::Why;
-use grammar_reading::{Window, begins_code};
+use grammar_reading::{BitWindow, begins_code};
 use prefix_codes::{TableName, WINDOW_BITS, find};
 use syntax_types::Dc;
 
@@ -21,7 +21,7 @@ pub enum DcStanding {
 }
 
 /// What stands at the front of a window, by a table of sizes: one look-up.
-pub fn what_dc(table: TableName, window: Window) -> DcStanding
+pub fn what_dc(table: TableName, window: BitWindow) -> DcStanding
     requires { IsTrue (is_sizes table) }
     ensures { IsDcFound table window result }
 {
@@ -50,7 +50,7 @@ pub fn what_dc(table: TableName, window: Window) -> DcStanding
 }
 
 /// Why no size stands at bits that no code of the table begins: they end within one, or no code stands there.
-fn why_no_size(table: TableName, window: Window) -> Why
+fn why_no_size(table: TableName, window: BitWindow) -> Why
     requires table { IsTrue (is_sizes table) }
     requires none { (symbol len : ℕ) → Begins table (seen window window.known) symbol len → ⊥ }
     ensures { (bits : List ℕ) → ShowsFront window bits → IsWhyNoSize table result bits }

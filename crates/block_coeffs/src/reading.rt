@@ -19,7 +19,7 @@ use crate::short_codes::{PAIR_WORDS, SHORT_BITS, length_in, level_in, run_in, sh
 use crate::standing::{Standing, what_stands, what_stands_whole};
 use arrayvec::ArrayVec;
 use bit_cursor::BitReader;
-use grammar_reading::Window;
+use grammar_reading::{held_window, whole_window};
 use prefix_codes::{TableName, WINDOW_BITS};
 use shelf_io::{Fault, Source};
 use syntax_types::{BLOCK_PLACES, Block, BlockWay, Dc, RunLevel};
@@ -282,27 +282,4 @@ fn stands_next<S: Source>(from: &BitReader<'_, S>, table: TableName, place: u32)
         };
     }
     what_stands_whole(table, place, whole_window(from))
-}
-
-/// What is seen of the bits that are left by those that are held: all of them, or a whole window.
-#[inline]
-fn held_window<S: Source>(from: &BitReader<'_, S>) -> Window
-    ensures shows { IfSome (bits_left from.now) (λ bits. (bits_held from.now < WINDOW_BITS → length bits ≡ bits_held from.now) → ShowsFront result bits) }
-    ensures held { result.known ≤ bits_held from.now }
-{
-    let (bits, known) = from.held_window(WINDOW_BITS);
-    Window { bits, known }
-}
-
-/// The same where a whole window is held.
-#[inline]
-fn whole_window<S: Source>(from: &BitReader<'_, S>) -> Window
-    requires { WINDOW_BITS ≤ bits_held from.now }
-    ensures shows { IfSome (bits_left from.now) (ShowsFront result) }
-    ensures whole { result.known ≡ WINDOW_BITS }
-{
-    Window {
-        bits: from.held_front(WINDOW_BITS),
-        known: WINDOW_BITS,
-    }
 }

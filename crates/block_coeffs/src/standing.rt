@@ -8,7 +8,7 @@ ghost use Rattle.grammar_reading.specs.Window.{seen};
 use crate::cut::why_none;
 use crate::short_codes::word_of;
 use crate::why::Why;
-use grammar_reading::Window;
+use grammar_reading::BitWindow;
 use picture_grammar::escape::{LEVEL_BITS, RUN_BITS};
 use prefix_codes::symbol::{END_OF_BLOCK, ESCAPE, LEVELS_PER_RUN};
 use prefix_codes::{TableName, WINDOW_BITS, find, find_whole};
@@ -29,7 +29,7 @@ pub enum Standing {
 }
 
 /// What stands at the front of a window, by a table of coefficients, at a place of the block: one look-up.
-pub fn what_stands(table: TableName, place: u32, window: Window) -> Standing
+pub fn what_stands(table: TableName, place: u32, window: BitWindow) -> Standing
     requires table { IsTrue (is_coefficients table) }
     requires place { place ≤ BLOCK_PLACES }
     ensures { IsFound table place window result }
@@ -52,7 +52,7 @@ pub fn what_stands(table: TableName, place: u32, window: Window) -> Standing
 
 /// The same where the window is whole: then a code of the table has its sign there.
 #[inline(always)]
-pub fn what_stands_whole(table: TableName, place: u32, window: Window) -> Standing
+pub fn what_stands_whole(table: TableName, place: u32, window: BitWindow) -> Standing
     requires table { IsTrue (is_coefficients table) }
     requires place { place ≤ BLOCK_PLACES }
     requires whole { window.known ≡ WINDOW_BITS }
@@ -75,7 +75,7 @@ pub fn what_stands_whole(table: TableName, place: u32, window: Window) -> Standi
 }
 
 /// The coefficient whose code stands there, or its refusal where the bits end before its sign.
-fn by_table(place: u32, window: Window, symbol: u16, len: u32) -> Standing
+fn by_table(place: u32, window: BitWindow, symbol: u16, len: u32) -> Standing
     requires place { place ≤ BLOCK_PLACES }
     requires within { len ≤ window.known }
     ensures { (table : TableName) → IsTrue (is_coefficients table) → symbol ≢ END_OF_BLOCK → symbol ≢ ESCAPE →
@@ -99,7 +99,7 @@ fn by_table(place: u32, window: Window, symbol: u16, len: u32) -> Standing
 
 /// The coefficient whose code stands there: its run and the size of its level are the symbol's, and its sign follows.
 #[inline(always)]
-fn with_sign_behind(place: u32, window: Window, symbol: u16, len: u32) -> Standing
+fn with_sign_behind(place: u32, window: BitWindow, symbol: u16, len: u32) -> Standing
     requires place { place ≤ BLOCK_PLACES }
     requires sign { len < window.known }
     ensures { (table : TableName) → IsTrue (is_coefficients table) → symbol ≢ END_OF_BLOCK → symbol ≢ ESCAPE →
@@ -121,7 +121,7 @@ fn with_sign_behind(place: u32, window: Window, symbol: u16, len: u32) -> Standi
 /// The escape whose code stands there, with its run and its level (7.2.2.3). Where the bits end within it, the zeros
 /// past them make its run the least that it may have.
 #[cold]
-fn escaped(place: u32, window: Window) -> Standing
+fn escaped(place: u32, window: BitWindow) -> Standing
     requires { place ≤ BLOCK_PLACES }
     ensures { (table : TableName) (len : ℕ) → IsTrue (is_coefficients table) →
         Begins table (seen window window.known) ESCAPE len → IsFound table place window result }
@@ -144,7 +144,7 @@ fn escaped(place: u32, window: Window) -> Standing
 
 /// The bit behind so many bits of a window.
 #[inline]
-fn bit_at(window: Window, index: u32) -> bool
+fn bit_at(window: BitWindow, index: u32) -> bool
     requires { index < WINDOW_BITS }
     ensures { seen window (index + 1) ≡ seen window index ++ flag result ∷ [] }
 {

@@ -18,7 +18,7 @@ use Rattle.picture_grammar.specs.Refusal.{Refusal}
 use Rattle.picture_grammar.specs.Element.{Rule, rule, MayStand, passes}
 use Rattle.picture_grammar.proofs.Codes.{free-table}
 use Rattle.picture_grammar.proofs.ElementLaws.{breaks}
-use Rattle.grammar_reading.specs.declared.window.Window.{Window}
+use Rattle.grammar_reading.specs.declared.window.BitWindow.{BitWindow}
 use Rattle.grammar_reading.specs.declared.symbol.SymbolFound.TheVariants.{Symbol, NoCode, PastMost, Cut}
 use Rattle.grammar_reading.specs.Window.{seen, ShowsFront}
 use Rattle.grammar_reading.specs.Cut.{BeginsCode}
@@ -66,22 +66,22 @@ BeginsCode-code table symbol bits code listed b =
 -- ---- what a window shows
 
 -- a window that isn't filled shows all bits
-pub shows-all : (window : Window) (bits : List ℕ) → window.known ≤ 24 → (window.known ≡ 24 → ⊥) → ShowsFront window bits → bits ≡ seen window window.known
+pub shows-all : (window : BitWindow) (bits : List ℕ) → window.known ≤ 24 → (window.known ≡ 24 → ⊥) → ShowsFront window bits → bits ≡ seen window window.known
 shows-all window bits le short shows =
     let few : length (take 24 bits) ≡ window.known = ap length shows ∙ length-front_of 24 window.bits window.known le in
     sym (take_all 24 bits (omega (arith, length-take 24 bits))) ∙ shows
 
-pub shows-filled : (window : Window) (bits : List ℕ) → window.known ≡ 24 → ShowsFront window bits → 24 ≤ length bits
+pub shows-filled : (window : BitWindow) (bits : List ℕ) → window.known ≡ 24 → ShowsFront window bits → 24 ≤ length bits
 shows-filled window bits full shows =
     let many : length (take 24 bits) ≡ window.known = ap length shows ∙ length-front_of 24 window.bits window.known (omega arith) in
     omega (arith, length-take 24 bits)
 
 -- what begins the bits begins what is seen of them
-pub seen-begins : (window : Window) (bits code : List ℕ) → length code ≤ 24 → ShowsFront window bits → IsPrefix code bits → IsPrefix code (seen window window.known)
+pub seen-begins : (window : BitWindow) (bits code : List ℕ) → length code ≤ 24 → ShowsFront window bits → IsPrefix code bits → IsPrefix code (seen window window.known)
 seen-begins window bits code le shows begins = ap (take (length code)) (sym shows) ∙ take-take (length code) 24 bits le ∙ begins
 
 -- ... and the other way round
-pub begins-seen : (window : Window) (bits code : List ℕ) → length code ≤ 24 → ShowsFront window bits → IsPrefix code (seen window window.known) → IsPrefix code bits
+pub begins-seen : (window : BitWindow) (bits code : List ℕ) → length code ≤ 24 → ShowsFront window bits → IsPrefix code (seen window window.known) → IsPrefix code bits
 begins-seen window bits code le shows begins = sym (take-take (length code) 24 bits le) ∙ ap (take (length code)) shows ∙ begins
 
 -- ---- codes and symbols of all tables
@@ -111,7 +111,7 @@ small table symbol code listed =
 
 -- ---- a code that stands there
 
-module _ (table : TableName) (most : ℕ) (window : Window) (symbol len : ℕ) (b : Begins table (seen window window.known) symbol len) where
+module _ (table : TableName) (most : ℕ) (window : BitWindow) (symbol len : ℕ) (b : Begins table (seen window window.known) symbol len) where
   code-seen : (len ≤ window.known) × (seen window len ≡ b.code)
   code-seen =
       let counted = b.counted in
@@ -132,7 +132,7 @@ module _ (table : TableName) (most : ℕ) (window : Window) (symbol len : ℕ) (
 
 -- ---- why none stands where no code begins
 
-module _ (table : TableName) (most : ℕ) (window : Window)
+module _ (table : TableName) (most : ℕ) (window : BitWindow)
     (none : (symbol len : ℕ) → Begins table (seen window window.known) symbol len → ⊥) where
   abbrev Codes : ℕ → List ℕ → Type 0
   Codes symbol code = code_in table symbol ≡ Some code

@@ -1,9 +1,10 @@
 -- The front of a window, in the bits of its number.
-use Rattle.std.proofs.Common.{◌≡◌, ℕ, ◌+◌, ◌-◌, ◌/◌, ◌^◌, ◌≤◌, ◌++◌, length, take, sym, ap, subst, ◌∙◌, arith}
+use Rattle.std.proofs.Common.{◌≡◌, ℕ, ◌+◌, ◌-◌, ◌/◌, ◌^◌, ◌≤◌, ◌++◌, List, Option, Some, None, IfSome, length, take, sym, ap, subst, ◌∙◌, arith}
 use Rattle.std.proofs.Math.Nat.{div-div-eq-div-mul}
-use Rattle.std.proofs.lemmas.List.{take-take}
+use Rattle.std.proofs.lemmas.List.{take-take, take_all}
 use Rattle.std.proofs.lemmas.Nat.{pow-add}
 use Rattle.bit_lists.specs.Bits.{bits_of, front_of}
+use Rattle.bit_cursor.specs.Shown.{IsFirstNumber}
 use Rattle.bit_lists.proofs.BitLemmas.{length-bits_of, take-bits_of}
 use Rattle.bit_lists.proofs.JoinedLemmas.{bits_of-append}
 
@@ -28,3 +29,8 @@ front_of-more size w k m le =
 -- a shorter front begins a longer one
 pub take-front_of : (size w k known : ℕ) → k ≤ known → take k (front_of size w known) ≡ front_of size w k
 take-front_of size w k known le = take-take k known (bits_of size w) le
+
+-- a whole window of held bits shows what is left
+pub whole-shown : (told : Option (List ℕ)) (number : ℕ) → IfSome told (λ bits. IsFirstNumber 24 bits number) → IfSome told (λ bits. take 24 bits ≡ front_of 24 number 24)
+whole-shown None number is = tt
+whole-shown (Some bits) number is = is.front ∙ sym (take_all 24 (bits_of 24 number) (omega (arith, length-bits_of 24 number)))

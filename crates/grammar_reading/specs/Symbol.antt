@@ -5,7 +5,7 @@ use Rattle.picture_grammar.specs.Refusal.{Refusal}
 use Rattle.picture_grammar.specs.Refusal.Refusal.{End}
 use Rattle.picture_grammar.specs.Grammar.{Grammar}
 use Rattle.picture_grammar.specs.Element.{rule, vlclbf}
-use Rattle.grammar_reading.specs.declared.window.Window.{Window}
+use Rattle.grammar_reading.specs.declared.window.BitWindow.{BitWindow}
 use Rattle.grammar_reading.specs.declared.symbol.SymbolFound.{SymbolFound}
 use Rattle.grammar_reading.specs.declared.symbol.SymbolFound.TheVariants.{Symbol, NoCode, PastMost, Cut}
 use Rattle.grammar_reading.specs.Window.{seen, ShowsFront}
@@ -15,14 +15,14 @@ abbrev pub symbol_up_to : TableName → ℕ → Refusal → Refusal → Grammar 
 symbol_up_to table most no_code past_most = vlclbf table no_code (rule past_most (λ symbol. nat_le symbol most) ∷ [])
 
 -- all bits that the window shows are refused at the first one, and so by the kind that the grammar names for this
-abbrev pub IsNoneFound : TableName → ℕ → Window → SymbolFound → Type 0
+abbrev pub IsNoneFound : TableName → ℕ → BitWindow → SymbolFound → Type 0
 IsNoneFound table most window (Symbol symbol len) = ⊥
 IsNoneFound table most window NoCode = (no_code past_most : Refusal) (bits : List ℕ) → ShowsFront window bits → (symbol_up_to table most no_code past_most).Refuses bits no_code bits
 IsNoneFound table most window PastMost = (no_code past_most : Refusal) (bits : List ℕ) → ShowsFront window bits → (symbol_up_to table most no_code past_most).Refuses bits past_most bits
 IsNoneFound table most window Cut = (no_code past_most : Refusal) (bits : List ℕ) → ShowsFront window bits → (symbol_up_to table most no_code past_most).Refuses bits End bits
 
 -- the symbol that is found is spelled there, by so many bits; where none is, all bits that the window shows are refused
-abbrev pub IsSymbolFound : TableName → ℕ → Window → SymbolFound → Type 0
+abbrev pub IsSymbolFound : TableName → ℕ → BitWindow → SymbolFound → Type 0
 IsSymbolFound table most window (Symbol symbol len) =
     (len ≤ window.known) × ((no_code past_most : Refusal) → (symbol_up_to table most no_code past_most).Spells symbol (seen window len) [])
 IsSymbolFound table most window NoCode = IsNoneFound table most window NoCode

@@ -8,9 +8,11 @@
 #![tactic(auto)]
 
 mod elements;
+mod held;
 mod symbol;
 mod window;
 
 pub use elements::{read_flag, read_number};
+pub use held::{held_window, whole_window};
 pub use symbol::{SYMBOL_MOST, SymbolFound, begins_code, what_symbol};
-pub use window::Window;
+pub use window::BitWindow;

@@ -5,7 +5,7 @@ ghost use Rattle.grammar_reading.specs.Symbol.{IsSymbolFound, IsNoneFound};
 ghost use Rattle.grammar_reading.specs.Cut.{BeginsCode};
 ghost use Rattle.grammar_reading.specs.Private.Cut.{BeginsCodeUpTo};
 
-use crate::window::Window;
+use crate::window::BitWindow;
 use prefix_codes::symbol::ESCAPE;
 use prefix_codes::{TableName, WINDOW_BITS, code_of, find};
 
@@ -27,7 +27,7 @@ pub enum SymbolFound {
 
 /// What stands at the front of a window where a code of the table must stand, of a symbol up to this one: one look-up.
 #[inline]
-pub fn what_symbol(table: TableName, most: u16, window: Window) -> SymbolFound
+pub fn what_symbol(table: TableName, most: u16, window: BitWindow) -> SymbolFound
     ensures { IsSymbolFound table most window result }
 {
     let Some((symbol, len)) = find(table, window.bits, window.known) else {
@@ -45,7 +45,7 @@ pub fn what_symbol(table: TableName, most: u16, window: Window) -> SymbolFound
 /// Why no code stands there: the known bits end within codes, or no code begins as they do.
 #[cold]
 #[inline(never)]
-fn why_none(table: TableName, most: u16, window: Window) -> SymbolFound
+fn why_none(table: TableName, most: u16, window: BitWindow) -> SymbolFound
     requires { (symbol len : ℕ) → Begins table (seen window window.known) symbol len → ⊥ }
     ensures { IsNoneFound table most window result }
 {
@@ -61,7 +61,7 @@ fn why_none(table: TableName, most: u16, window: Window) -> SymbolFound
 }
 
 /// Whether the known bits begin the code of a symbol up to this one.
-fn begins_up_to(table: TableName, most: u16, window: Window) -> bool
+fn begins_up_to(table: TableName, most: u16, window: BitWindow) -> bool
     ensures { IsTrue result ↔ BeginsCodeUpTo table most (seen window window.known) }
 {
     for symbol in 0..=most {
@@ -73,7 +73,7 @@ fn begins_up_to(table: TableName, most: u16, window: Window) -> bool
 }
 
 /// Whether the known bits begin the code of a symbol.
-pub fn begins_code(table: TableName, symbol: u16, window: Window) -> bool
+pub fn begins_code(table: TableName, symbol: u16, window: BitWindow) -> bool
     ensures { IsTrue result ↔ BeginsCode table symbol (seen window window.known) }
 {
     let Some(code) = code_of(table, symbol) else {

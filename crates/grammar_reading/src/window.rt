@@ -3,7 +3,7 @@ ghost use Rattle.prefix_codes.specs.declared.lookup.TheConstants.{WINDOW_BITS};
 
 /// What is seen of the bits that are left: the first ones, at the top of a number of `WINDOW_BITS` bits.
 #[derive(Clone, Copy)]
-pub struct Window {
+pub struct BitWindow {
     pub bits: u32,
     /// How many bits are seen: fewer than `WINDOW_BITS` only where no more are left.
     pub known: u32,

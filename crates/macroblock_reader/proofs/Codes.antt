@@ -59,7 +59,7 @@ use Rattle.picture_grammar.specs.Refusal.{Refusal}
 use Rattle.picture_grammar.specs.Refusal.Refusal.{BadType, End}
 use Rattle.picture_grammar.specs.Grammar.{Grammar}
 use Rattle.picture_grammar.specs.Element.{Rule, rule, passes, MayStand, uimsbf, vlclbf}
-use Rattle.grammar_reading.specs.declared.window.Window.{Window}
+use Rattle.grammar_reading.specs.declared.window.BitWindow.{BitWindow}
 use Rattle.grammar_reading.specs.Window.{ShowsFront}
 use Rattle.grammar_reading.specs.Symbol.{symbol_up_to}
 use Rattle.grammar_reading.specs.BitsRead.{IsSpelled, ExplainsFrom, Explains, Advances}
@@ -160,7 +160,7 @@ module _ {S : Type 0} {g : Ghosts S} (n value : ℕ) (old new : BitReader S g)
 
 -- ---- codes of tables
 
-refused-here : {A : Type 0} (grammar : Grammar A) (refusal : Refusal) (told : Option (List ℕ)) (window : Window) (at : ℕ) → IfSome told (ShowsFront window)
+refused-here : {A : Type 0} (grammar : Grammar A) (refusal : Refusal) (told : Option (List ℕ)) (window : BitWindow) (at : ℕ) → IfSome told (ShowsFront window)
     → ((bits : List ℕ) → ShowsFront window bits → grammar.Refuses bits refusal bits) → IfSome told (λ bits. ExplainsFrom grammar (Some (record { refusal = refusal; at = at })) bits at)
 refused-here grammar refusal None window at shows refused = tt
 refused-here grammar refusal (Some bits) window at shows refused = record { front = []; left = bits; split = refl; refused = refused bits shows; moved = omega arith }
@@ -173,7 +173,7 @@ why-told why.BadPattern at = refl
 why-told why.End at = refl
 
 -- no code of the table at the front of a window
-pub answers-none : {A S : Type 0} {g : Ghosts S} (grammar : Grammar A) (reason : Why) (window : Window) (at : ℕ) (old new : BitReader S g) → IfSome (bits_left old) (ShowsFront window)
+pub answers-none : {A S : Type 0} {g : Ghosts S} (grammar : Grammar A) (reason : Why) (window : BitWindow) (at : ℕ) (old new : BitReader S g) → IfSome (bits_left old) (ShowsFront window)
     → ((bits : List ℕ) → ShowsFront window bits → grammar.Refuses bits (refusal_of reason) bits) → bits_left new ≡ bits_left old → place new ≡ place old → at ≡ place new → KeepsSource old new
     → Answers ⊥ grammar (Err (fault_at reason at)) old new
 answers-none grammar reason window at old new shows refused left moved is keeps =

@@ -54,7 +54,7 @@ use Rattle.picture_grammar.specs.Grammar.{◌>>=◌, when}
 use Rattle.picture_grammar.specs.Element.{uimsbf, one_flag}
 use Rattle.picture_grammar.specs.Block.{signed}
 use Rattle.picture_grammar.specs.Motion.{Part, has_residual}
-use Rattle.grammar_reading.specs.declared.window.Window.{Window}
+use Rattle.grammar_reading.specs.declared.window.BitWindow.{BitWindow}
 use Rattle.grammar_reading.specs.Window.{seen}
 use Rattle.grammar_reading.proofs.Fronts.{front_of-more}
 use Rattle.block_coeffs.proofs.Pairs.{seen-code, seen-one_more}
@@ -91,7 +91,7 @@ residual-spelled f_code size residual some below = elim (cases_eq f_code 1) [
       )
 ]
 
-module _ (f_code : ℕ) (window : Window) (size len : ℕ) (b : Begins Motion (seen window window.known) size len) where
+module _ (f_code : ℕ) (window : BitWindow) (size len : ℕ) (b : Begins Motion (seen window window.known) size len) where
   code-at : (len ≤ window.known) × (seen window len ≡ b.code)
   code-at = seen-code window b.code len window.within b.counted b.first
 
@@ -148,7 +148,7 @@ module _ (f_code : ℕ) (window : Window) (size len : ℕ) (b : Begins Motion (s
     )
 
 -- what begins a whole window, as a look-up found it
-pub begun-whole : {found : Option (ℕ × ℕ)} (table : TableName) (window : Window) (symbol len n : ℕ) → window.known ≡ 24
+pub begun-whole : {found : Option (ℕ × ℕ)} (table : TableName) (window : BitWindow) (symbol len n : ℕ) → window.known ≡ 24
     → ((s k : ℕ) → (found ≡ Some (s, k)) ↔ Begins table (seen window 24) s k) → found ≡ Some (symbol, len) → n ≡ len → Begins table (seen window window.known) symbol n
 begun-whole table window symbol len n whole front is same =
     subst (λ k. Begins table (seen window k) symbol n) (sym whole) ((front symbol n).0 (is ∙ ap (λ k. Some (symbol, k)) (sym same)))

@@ -14,7 +14,9 @@ ghost use Rattle.macroblock_reader.specs.Private.Why.{refusal_of, fault_of_bits}
 use crate::fault::SliceFault;
 use crate::why::Why;
 use bit_cursor::{BitFault, BitReader};
-use grammar_reading::{SymbolFound, Window, read_flag, read_number, what_symbol};
+use grammar_reading::{
+    BitWindow, SymbolFound, held_window, read_flag, read_number, what_symbol, whole_window,
+};
 use prefix_codes::{TableName, WINDOW_BITS, find_whole};
 use shelf_io::Source;
 
@@ -161,7 +163,7 @@ fn read_rare_symbol<S: Source>(
 /// The symbol of the code that stands at the front of a whole window, and its length in bits. None where none does, or the
 /// symbol is past the greatest one that may stand.
 #[inline(always)]
-fn whole_symbol(table: TableName, most: u16, window: Window) -> Option<(u16, u32)>
+fn whole_symbol(table: TableName, most: u16, window: BitWindow) -> Option<(u16, u32)>
     requires { window.known ≡ WINDOW_BITS }
     ensures { IfSome result (λ found. IsSymbolFound table most window (Symbol found.0 found.1)) }
 {
@@ -172,29 +174,6 @@ fn whole_symbol(table: TableName, most: u16, window: Window) -> Option<(u16, u32
         return None;
     }
     Some((symbol, u32::from(len)))
-}
-
-/// What is seen of the bits that are left where a whole window of them is held.
-#[inline]
-pub fn whole_window<S: Source>(from: &BitReader<'_, S>) -> Window
-    requires { WINDOW_BITS ≤ bits_held from.now }
-    ensures shows { IfSome (bits_left from.now) (ShowsFront result) }
-    ensures whole { result.known ≡ WINDOW_BITS }
-{
-    Window {
-        bits: from.held_front(WINDOW_BITS),
-        known: WINDOW_BITS,
-    }
-}
-
-/// What is seen of the bits that are left by those that are held: all of them, or a whole window.
-#[inline]
-fn held_window<S: Source>(from: &BitReader<'_, S>) -> Window
-    ensures shows { IfSome (bits_left from.now) (λ bits. (bits_held from.now < WINDOW_BITS → length bits ≡ bits_held from.now) → ShowsFront result bits) }
-    ensures held { result.known ≤ bits_held from.now }
-{
-    let (bits, known) = from.held_window(WINDOW_BITS);
-    Window { bits, known }
 }
 
 /// The fault of a reader of bits, with the place of the element that was asked for.

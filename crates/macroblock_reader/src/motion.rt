@@ -12,12 +12,12 @@ ghost use Rattle.macroblock_reader.specs.Private.Answers.{Answers, answer_as};
 ghost use Rattle.macroblock_reader.specs.Private.Parts.{part_of, format_of, differences_by};
 ghost use Rattle.macroblock_reader.specs.Private.WholeParts.{IsPartFound};
 
-use crate::elements::{read_bit, read_bit_where, read_bits, read_symbol, whole_window};
+use crate::elements::{read_bit, read_bit_where, read_bits, read_symbol};
 use crate::fault::SliceFault;
 use crate::why::Why;
 use arrayvec::ArrayVec;
 use bit_cursor::BitReader;
-use grammar_reading::Window;
+use grammar_reading::{BitWindow, whole_window};
 use picture_grammar::stands::is_frame;
 use prefix_codes::{TableName, WINDOW_BITS, find_whole};
 use shelf_io::Source;
@@ -216,7 +216,7 @@ fn read_part<S: Source>(
 /// The part without dmvector that stands at the front of a whole window, and its length in bits. None where none does, or it
 /// is longer than the window.
 #[inline(always)]
-fn whole_part(f_code: u8, window: Window) -> Option<(VectorPart, u32)>
+fn whole_part(f_code: u8, window: BitWindow) -> Option<(VectorPart, u32)>
     requires code { f_code < 2 ^ 4 }
     requires whole { window.known ≡ WINDOW_BITS }
     ensures { IfSome result (λ found. IsPartFound f_code window (part_of found.0) found.1) }

@@ -7,7 +7,7 @@ use Rattle.syntax_types.specs.declared.block.Dc.{Dc}
 use Rattle.picture_grammar.specs.Refusal.Refusal.{NoCode}
 use Rattle.picture_grammar.specs.Grammar.{Grammar, done, ◌>>=◌}
 use Rattle.picture_grammar.specs.Element.{IsRefused, vlclbf, uimsbf}
-use Rattle.grammar_reading.specs.declared.window.Window.{Window}
+use Rattle.grammar_reading.specs.declared.window.BitWindow.{BitWindow}
 use Rattle.block_coeffs.specs.declared.why.Why.{Why}
 use Rattle.block_coeffs.specs.declared.dc_standing.DcStanding.{DcStanding}
 use Rattle.block_coeffs.specs.declared.dc_standing.DcStanding.TheVariants.{Coefficient, Refused}
@@ -40,7 +40,7 @@ abbrev pub IsWhyNoSize : TableName → Why → List ℕ → Type 0
 IsWhyNoSize table reason bits = IsRefused (λ symbol code. code_in table symbol ≡ Some code) NoCode [] bits (refusal_of reason)
 
 -- what is found there stands there, and a refusal is that of all bits that the window shows
-abbrev pub IsDcFound : TableName → Window → DcStanding → Type 0
+abbrev pub IsDcFound : TableName → BitWindow → DcStanding → Type 0
 IsDcFound table window (Coefficient dc len) = (len ≤ window.known) × (dc_by table).Spells dc (seen window len) []
 IsDcFound table window (Refused why behind) =
     (behind ≤ window.known) × ((bits : List ℕ) → ShowsFront window bits → (dc_by table).Refuses bits (refusal_of why) (drop behind bits))

@@ -9,7 +9,7 @@ use Rattle.picture_grammar.specs.Grammar.{Grammar, ◌>>=◌, Next}
 use Rattle.picture_grammar.specs.Grammar.Next.{more, last}
 use Rattle.picture_grammar.specs.Element.{element}
 use Rattle.picture_grammar.specs.Block.{CoefficientCode, after_code}
-use Rattle.grammar_reading.specs.declared.window.Window.{Window}
+use Rattle.grammar_reading.specs.declared.window.BitWindow.{BitWindow}
 use Rattle.grammar_reading.specs.Window.{seen, ShowsFront}
 use Rattle.block_coeffs.specs.declared.standing.Standing.{Standing}
 use Rattle.block_coeffs.specs.declared.standing.Standing.TheVariants.{EndOfBlock, Pair, Refused}
@@ -21,12 +21,12 @@ abbrev pub coefficient_at : TableName → ℕ → Grammar (Next RunLevel (Unit {
 coefficient_at table place = element (CoefficientCode table) NoCode (rules_at place) >>= after_code
 
 -- a coefficient of this run and level stands at the front of a window, in so many bits
-abbrev pub IsPair : TableName → ℕ → Window → ℕ → ℤ → ℕ → Type 0
+abbrev pub IsPair : TableName → ℕ → BitWindow → ℕ → ℤ → ℕ → Type 0
 IsPair table place window run level len =
     (len ≤ window.known) × (place + run < BLOCK_PLACES) × (coefficient_at table place).Spells (more (record { run = run; level = level })) (seen window len) []
 
 -- what is found there stands there, and a refusal is that of all bits that the window shows
-abbrev pub IsFound : TableName → ℕ → Window → Standing → Type 0
+abbrev pub IsFound : TableName → ℕ → BitWindow → Standing → Type 0
 IsFound table place window (EndOfBlock len) =
     (len ≤ window.known) × (coefficient_at table place).Spells (last tt) (seen window len) []
 IsFound table place window (Pair word) = IsPair table place window (run_of word) (level_of word) (length_of word)
@@ -35,7 +35,7 @@ IsFound table place window (Refused why behind) =
 
 -- what is found at the next bits, by a whole window that shows them
 pub record StandsNext (table : TableName) (place : ℕ) (told : Option (List ℕ)) (standing : Standing) : Type 0 where
-  pub window : Window
+  pub window : BitWindow
   pub whole : window.known ≡ WINDOW_BITS
   pub shows : IfSome told (ShowsFront window)
   pub found : IsFound table place window standing

@@ -3,7 +3,7 @@ use Rattle.std.proofs.lemmas.Option.{none-some}
 use Rattle.prefix_codes.specs.declared.symbol.TheConstants.{END_OF_BLOCK, ESCAPE}
 use Rattle.prefix_codes.specs.declared.table_name.TableName.{TableName}
 use Rattle.prefix_codes.specs.TableName.{Begins}
-use Rattle.grammar_reading.specs.declared.window.Window.{Window}
+use Rattle.grammar_reading.specs.declared.window.BitWindow.{BitWindow}
 use Rattle.grammar_reading.specs.Window.{seen}
 use Rattle.block_coeffs.proofs.Pairs.{end-found}
 use Rattle.block_coeffs.proofs.Symbols.{coefficients-is, past-end, shorter-code}
@@ -16,7 +16,7 @@ pub returns-in_default : goal.returns-in_default
 returns-in_default c = (omega arith, λ bits shows. inl (refl, c.why_none.ensures bits shows))
 
 -- what begins a whole window, as a look-up found it
-begun : {found : Option (ℕ × ℕ)} (table : TableName) (window : Window) (symbol len n : ℕ) → window.known ≡ 24
+begun : {found : Option (ℕ × ℕ)} (table : TableName) (window : BitWindow) (symbol len n : ℕ) → window.known ≡ 24
     → ((s k : ℕ) → (found ≡ Some (s, k)) ↔ Begins table (seen window 24) s k) → found ≡ Some (symbol, len) → n ≡ len → Begins table (seen window window.known) symbol n
 begun table window symbol len n whole front is same =
     subst (λ k. Begins table (seen window k) symbol n) (sym whole) ((front symbol n).0 (is ∙ ap (λ k. Some (symbol, k)) (sym same)))

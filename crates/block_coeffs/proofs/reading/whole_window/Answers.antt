@@ -1,6 +1,0 @@
-use Rattle.bit_cursor.specs.BitReader.{bits_left}
-use Rattle.block_coeffs.proofs.Steps.{whole-shown}
-use Rattle.block_coeffs.proofs.reading.whole_window.Goals as goal
-
-pub returns-clause-shows : goal.returns-clause-shows
-returns-clause-shows g c = whole-shown (bits_left c.args.from.now) _ c.held_front.ensures.value
