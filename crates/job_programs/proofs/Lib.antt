@@ -7,3 +7,4 @@ mod LawLemmas
 mod FirstLemmas
 mod MissingLemmas
 mod ProbeLaws
+mod SizesLemmas

@@ -1,4 +1,5 @@
 pub mod Programs
 pub mod Probe
+pub mod Sizes
 pub mod Told
 pub mod Private

@@ -1,7 +1,8 @@
 //! The programs of a job are read from a shelf of files, or the first refusal among them is answered.
 //!
 //! `read_programs` reads each file, takes its program out of it and gives the file's bytes up, and tests the limits that the
-//! programs of a job share. `read_one` does the same with one file alone. Stands on `program_reader`, `job_report` and `shelf_io`.
+//! programs of a job share; `read_sized_programs` sizes all versions of their units on the way. `read_one` reads one file alone.
+//! Stands on `program_reader`, `job_report` and `shelf_io`.
 #![tactic(auto)]
 
 pub mod laws;
@@ -12,5 +13,5 @@ mod source_fault;
 mod times;
 
 pub use probe::read_one;
-pub use read::read_programs;
+pub use read::{SizedPrograms, read_programs, read_sized_programs};
 pub use source_fault::{ProgramsFault, SourceFault};

@@ -1,20 +1,25 @@
 //! One program behind others: its file is read, and its program taken out of it.
 
-ghost use Rattle.std.specs.Prelude.{◌≡◌, ◌+◌, ◌≤◌, length, IfOk, IfErr, MatchResult};
+ghost use Rattle.std.specs.Prelude.{◌≡◌, ◌+◌, ◌≤◌, ◌<◌, true, length, IfOk, IfErr, MatchResult};
 ghost use Rattle.job_report.specs.declared.limits.TheConstants.{START_MOST};
 ghost use Rattle.shelf_io.specs.Asked.{AsksUpTo};
 ghost use Rattle.version_table.specs.declared.limits.TheConstants.{SLOT_MOST};
+ghost use Rattle.program_reader.specs.Programs.{IsProgramOf, IsProgramRefused};
+ghost use Rattle.program_reader.specs.Sizes.{AreProgramSizes};
 ghost use Rattle.job_programs.specs.Told.{CountReads};
 ghost use Rattle.job_programs.specs.Private.Behind.{IsProgramBehind};
 ghost use Rattle.job_programs.specs.Private.Next.{IsContentFault, IsNextOn, HasNextCause, IsNextFault};
 
 use crate::source_fault::{ProgramsFault, SourceFault};
 use crate::times::is_within_time;
+use list_types::ListOf;
 use program_reader::limits::FILE_BYTES_MOST;
-use program_reader::{Program, ProgramFault, SourceKind, read_program};
+use program_reader::{
+    Program, ProgramFault, SizedProgram, SourceKind, UnitSizes, read_program, read_sized_program,
+};
 use shelf_io::{Fault, Shelf, read_file};
 use std::alloc::Global;
-use version_table::limits::UNITS_MOST;
+use version_table::limits::{UNITS_MOST, VERSIONS_MOST};
 
 /// A program that is wanted, and what stands before it in its job.
 #[derive(Clone, Copy)]
@@ -33,12 +38,17 @@ pub(crate) struct Wanted<'a> {
     pub bytes: usize,
     /// The units of the programs before it, together.
     pub units: usize,
+    /// True where the sizes of its units' versions are wanted, at these ratios in sixteenths.
+    pub is_sized: bool,
+    pub coarser: &'a [u16],
 }
 
 /// A program, and how many bytes its file has.
 #[derive(Drop)]
 pub(crate) struct NextProgram {
     pub program: Program,
+    /// Of each of its units, where they are wanted.
+    pub sizes: ListOf<UnitSizes>,
     pub size: usize,
 }
 
@@ -52,8 +62,10 @@ pub(crate) fn read_next<K: Shelf>(
     requires slot { wanted.now.slot ≤ SLOT_MOST }
     requires bytes { wanted.now.bytes ≤ FILE_BYTES_MOST }
     requires units { wanted.now.units ≤ UNITS_MOST }
+    requires coarser { length wanted.now.coarser.now < VERSIONS_MOST }
     ensures next { IfOk result (λ next. IsNextOn (K.files shelf.old) wanted.now.file.now wanted.now.slot wanted.now.start wanted.now.bytes wanted.now.units
         wanted.now.number wanted.now.drop.now next.size next.program) }
+    ensures sizes { IfOk result (λ next. wanted.now.is_sized ≡ true → AreProgramSizes next.program wanted.now.coarser.now next.sizes) }
     ensures cause { IfErr result (HasNextCause (K.files shelf.old) wanted.now.file.now wanted.now.slot wanted.now.start wanted.now.bytes wanted.now.units
         wanted.now.number wanted.now.drop.now wanted.now.place (K.counts shelf.old) (K.counts shelf.new) (K.since_fault shelf.new)) }
 
@@ -80,14 +92,17 @@ fn from_content(
     requires slot { wanted.now.slot ≤ SLOT_MOST }
     requires bytes { wanted.now.bytes ≤ FILE_BYTES_MOST }
     requires units { wanted.now.units ≤ UNITS_MOST }
+    requires coarser { length wanted.now.coarser.now < VERSIONS_MOST }
     ensures next { IfOk result (λ next. (next.size ≡ length content.now) × IsProgramBehind wanted.now.slot wanted.now.start wanted.now.bytes wanted.now.units
         wanted.now.number wanted.now.drop.now content.now next.program) }
+    ensures sizes { IfOk result (λ next. wanted.now.is_sized ≡ true → AreProgramSizes next.program wanted.now.coarser.now next.sizes) }
     ensures fault { IfErr result (IsContentFault wanted.now.slot wanted.now.start wanted.now.bytes wanted.now.units
         wanted.now.number wanted.now.drop.now wanted.now.place content.now) }
 {
     match next_program(alloc, content, wanted) {
-        Ok(program) => Ok(NextProgram {
-            program,
+        Ok(sized) => Ok(NextProgram {
+            program: sized.program,
+            sizes: sized.sizes,
             size: content.len(),
         }),
         Err(ProgramFault::Refused { kind, at }) => Err(ProgramsFault::Refused(SourceFault {
@@ -100,26 +115,66 @@ fn from_content(
 }
 
 /// The next program in the bytes of its file, or the first of what refuses it.
-fn next_program(alloc: Global, content: &[u8], wanted: &Wanted<'_>) -> Result<Program, ProgramFault>
+fn next_program(
+    alloc: Global,
+    content: &[u8],
+    wanted: &Wanted<'_>,
+) -> Result<SizedProgram, ProgramFault>
     requires start { wanted.now.start ≤ START_MOST }
     requires slot { wanted.now.slot ≤ SLOT_MOST }
     requires bytes { wanted.now.bytes ≤ FILE_BYTES_MOST }
     requires units { wanted.now.units ≤ UNITS_MOST }
-    ensures { MatchResult result
-        (IsProgramBehind wanted.now.slot wanted.now.start wanted.now.bytes wanted.now.units wanted.now.number wanted.now.drop.now content.now)
+    requires coarser { length wanted.now.coarser.now < VERSIONS_MOST }
+    ensures program { MatchResult result
+        (λ next. IsProgramBehind wanted.now.slot wanted.now.start wanted.now.bytes wanted.now.units wanted.now.number wanted.now.drop.now content.now next.program)
         (IsNextFault wanted.now.slot wanted.now.start wanted.now.bytes wanted.now.units wanted.now.number wanted.now.drop.now content.now) }
+    ensures sizes { IfOk result (λ next. wanted.now.is_sized ≡ true → AreProgramSizes next.program wanted.now.coarser.now next.sizes) }
 {
     if content.len() > FILE_BYTES_MOST - wanted.bytes {
         return Err(passes_limit());
     }
-    let program = read_program(alloc, content, wanted.number, wanted.drop, wanted.start)?;
-    if program.units.len() > UNITS_MOST - wanted.units {
+    let sized = wanted_program(alloc, content, wanted)?;
+    if sized.program.units.len() > UNITS_MOST - wanted.units {
         return Err(passes_limit());
     }
-    if !is_within_time(&program, wanted.slot) {
+    if !is_within_time(&sized.program, wanted.slot) {
         return Err(passes_limit());
     }
-    Ok(program)
+    Ok(sized)
+}
+
+/// The program in the bytes of its file by itself, with the sizes of its units' versions where they are wanted.
+fn wanted_program(
+    alloc: Global,
+    content: &[u8],
+    wanted: &Wanted<'_>,
+) -> Result<SizedProgram, ProgramFault>
+    requires start { wanted.now.start ≤ START_MOST }
+    requires coarser { length wanted.now.coarser.now < VERSIONS_MOST }
+    ensures program { MatchResult result (λ sized. IsProgramOf content.now wanted.now.number wanted.now.drop.now wanted.now.start sized.program)
+        (IsProgramRefused content.now wanted.now.number wanted.now.drop.now) }
+    ensures sizes { IfOk result (λ sized. wanted.now.is_sized ≡ true → AreProgramSizes sized.program wanted.now.coarser.now sized.sizes) }
+{
+    if wanted.is_sized {
+        return match read_sized_program(
+            alloc,
+            content,
+            wanted.number,
+            wanted.drop,
+            wanted.start,
+            wanted.coarser,
+        ) {
+            Ok(sized) => Ok(sized),
+            Err(fault) => Err(fault),
+        };
+    }
+    match read_program(alloc, content, wanted.number, wanted.drop, wanted.start) {
+        Ok(program) => Ok(SizedProgram {
+            program,
+            sizes: ListOf::new(alloc),
+        }),
+        Err(fault) => Err(fault),
+    }
 }
 
 /// A limit of this project is passed.

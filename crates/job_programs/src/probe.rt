@@ -46,6 +46,8 @@ pub fn read_one<K: Shelf>(
             slot,
             bytes: 0,
             units: 0,
+            is_sized: false,
+            coarser: &[],
         },
     )?;
     if !has_few_packets(next.program.audios.as_slice()) {

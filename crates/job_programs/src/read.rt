@@ -1,14 +1,23 @@
-ghost use Rattle.std.specs.Prelude.{◌≡◌, ◌+◌, ◌≤◌, IfOk, IfErr};
+ghost use Rattle.std.specs.Prelude.{◌≡◌, ◌+◌, ◌≤◌, true, IfOk, IfErr};
 ghost use Rattle.job_report.specs.ValidJob.{IsValidJob};
+ghost use Rattle.job_programs.specs.Sizes.{AreJobSizes};
 ghost use Rattle.job_programs.specs.Told.{AreProgramsOn, AsksForPrograms, CountReads, HasReadCause};
 
 use crate::next::{Wanted, read_next};
 use crate::source_fault::ProgramsFault;
 use job_report::Job;
 use list_types::ListOf;
-use program_reader::Program;
+use program_reader::{Program, UnitSizes};
 use shelf_io::Shelf;
 use std::alloc::Global;
+
+/// The programs of a job, and the sizes of all versions of their units.
+#[derive(Drop)]
+pub struct SizedPrograms {
+    pub programs: ListOf<Program>,
+    /// Of each program, one for each of its units.
+    pub sizes: ListOf<ListOf<UnitSizes>>,
+}
 
 /// The programs of a job, read from their files in order, or why they aren't: the first refusal, a file that can't be read or
 /// isn't there, or want of memory. No file is changed. Of a file no more is kept than its program.
@@ -25,7 +34,51 @@ pub fn read_programs<K: Shelf>(
     ensures asked { AsksForPrograms job.now.programs (K.asked shelf.old) (K.asked shelf.new) }
     ensures counts { CountReads (K.counts shelf.old) (K.counts shelf.new) }
 {
+    match read_each(alloc, shelf, job, false) {
+        Ok(read) => Ok(read.programs),
+        Err(fault) => Err(fault),
+    }
+}
+
+/// The same with the sizes of all versions of their units, at the ratios that the job gives each program. A unit is read once for both.
+pub fn read_sized_programs<K: Shelf>(
+    alloc: Global,
+    shelf: &mut K,
+    job: &Job,
+) -> Result<SizedPrograms, ProgramsFault>
+    requires { IsValidJob job.now }
+    ensures programs { IfOk result (λ read. AreProgramsOn (K.files shelf.old) job.now read.programs) }
+    ensures sizes { IfOk result (λ read. AreJobSizes job.now.programs read.programs read.sizes) }
+    ensures cause { IfErr result (HasReadCause (K.files shelf.old) job.now (K.counts shelf.old) (K.counts shelf.new) (K.since_fault shelf.new)) }
+
+    ensures files { K.files shelf.new ≡ K.files shelf.old }
+    ensures asked { AsksForPrograms job.now.programs (K.asked shelf.old) (K.asked shelf.new) }
+    ensures counts { CountReads (K.counts shelf.old) (K.counts shelf.new) }
+{
+    match read_each(alloc, shelf, job, true) {
+        Ok(read) => Ok(read),
+        Err(fault) => Err(fault),
+    }
+}
+
+/// The programs of a job in order, with the sizes of their units where these are wanted.
+fn read_each<K: Shelf>(
+    alloc: Global,
+    shelf: &mut K,
+    job: &Job,
+    are_sized: bool,
+) -> Result<SizedPrograms, ProgramsFault>
+    requires { IsValidJob job.now }
+    ensures programs { IfOk result (λ read. AreProgramsOn (K.files shelf.old) job.now read.programs) }
+    ensures sizes { IfOk result (λ read. are_sized ≡ true → AreJobSizes job.now.programs read.programs read.sizes) }
+    ensures cause { IfErr result (HasReadCause (K.files shelf.old) job.now (K.counts shelf.old) (K.counts shelf.new) (K.since_fault shelf.new)) }
+
+    ensures files { K.files shelf.new ≡ K.files shelf.old }
+    ensures asked { AsksForPrograms job.now.programs (K.asked shelf.old) (K.asked shelf.new) }
+    ensures counts { CountReads (K.counts shelf.old) (K.counts shelf.new) }
+{
     let mut programs = ListOf::new(alloc);
+    let mut sizes = ListOf::new(alloc);
     let mut place = 0u8;
     let mut bytes = 0;
     let mut units = 0;
@@ -43,12 +96,15 @@ pub fn read_programs<K: Shelf>(
                 slot: job.slot,
                 bytes,
                 units,
+                is_sized: are_sized,
+                coarser: wanted.coarser.as_slice(),
             },
         )?;
         bytes += next.size;
         units += next.program.units.len();
         programs.push(next.program)?;
+        sizes.push(next.sizes)?;
         place += 1;
     }
-    Ok(programs)
+    Ok(SizedPrograms { programs, sizes })
 }

@@ -1,5 +1,5 @@
 -- From a job's file to its table, in several calls.
-use Rattle.std.proofs.Common.{◌≡◌, ℕ, suc, ◌≤◌, List, [], ◌∷◌, ◌++◌, All, length, Option, Result, Ok, Err, IfOk, IfErr, refl, sym, subst, ap, inr, ◌∙◌, arith}
+use Rattle.std.proofs.Common.{◌≡◌, ℕ, ◌≤◌, List, [], ◌∷◌, ◌++◌, All, Option, Result, Ok, Err, IfOk, IfErr, sym, subst, inr, ◌∙◌, arith}
 use Rattle.std.proofs.lemmas.List.Elements.{All-cons, All-nil}
 use Rattle.bit_lists.specs.Fields.{AreBytes}
 use Rattle.shelf_io.specs.Causes.{ReadCauses}
@@ -26,17 +26,6 @@ use Rattle.job_run.specs.Stops.{IsNextFile, StopsFor}
 use Rattle.job_run.specs.Private.Steps.{IsMissing, IsProgramAt, IsTableOfJob, IsUnread, StopsJob}
 use Rattle.job_run.specs.Private.Texts.{IsTextStop}
 
--- programs of jobs are as many as these
-pub as_many : (slot start : ℕ) (contents : List (List ℕ)) (programs : List Program) (jobs : List ProgramJob) (further : List (List ℕ)) (more : List Program)
-    → AreNextPrograms slot start contents programs jobs further more → length more ≡ length jobs
-as_many slot start contents programs [] [] [] are = refl
-as_many slot start contents programs [] [] (program ∷ more) are = absurd are
-as_many slot start contents programs [] (content ∷ further) more are = absurd are
-as_many slot start contents programs (job ∷ jobs) [] more are = absurd are
-as_many slot start contents programs (job ∷ jobs) (content ∷ further) [] are = absurd are
-as_many slot start contents programs (job ∷ jobs) (content ∷ further) (program ∷ more) are =
-    ap suc (as_many slot start (contents ++ content ∷ []) (programs ++ program ∷ []) jobs further more are.1)
-
 -- a program that a file holds can be sent
 abbrev pub HeldIsSendable : Type 0
 HeldIsSendable = (file : List ℕ) (number : ℕ) (dropped : List ℕ) (start : ℕ) (program : Program) → IsProgramOf file number dropped start program → IsSendable program
@@ -52,11 +41,6 @@ can_be_sent law slot start contents programs (job ∷ jobs) (content ∷ further
 can_be_sent law slot start contents programs (job ∷ jobs) (content ∷ further) (program ∷ more) (next, rest) =
     All-cons IsSendable program more (law content job.program job.drop.items start program next.holds)
     (can_be_sent law slot start (contents ++ content ∷ []) (programs ++ program ∷ []) jobs further more rest)
-
--- the table of programs that are read has as many programs as the job
-pub programs_as_many : (job : Job) (programs sources : List Program) → sources ≡ programs → (contents : List (List ℕ)) × ArePrograms job contents programs
-    → length sources ≡ length job.programs
-programs_as_many job programs sources same (contents, are) = ap length same ∙ as_many job.slot job.start [] [] job.programs contents programs are
 
 -- each of them can be sent
 pub programs_can_go : HeldIsSendable → (job : Job) (programs sources : List Program) → sources ≡ programs → (contents : List (List ℕ)) × ArePrograms job contents programs

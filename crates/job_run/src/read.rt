@@ -2,6 +2,7 @@ ghost use Rattle.std.specs.Prelude.{◌≡◌, ◌∷◌, ◌++◌, ◌+◌, len
 ghost use Rattle.job_report.specs.declared.job.ProgramJob.{ProgramJob as AnyProgram};
 ghost use Rattle.job_report.specs.ValidJob.{IsValidJob};
 ghost use Rattle.job_programs.specs.Programs.{ArePrograms};
+ghost use Rattle.job_programs.specs.Sizes.{AreJobSizes};
 ghost use Rattle.job_programs.specs.Told.{AreProgramsOn, AsksForPrograms, CountReads, HasReadCause};
 ghost use Rattle.program_table.specs.Table.{IsTableOf};
 ghost use Rattle.version_table.specs.Table.{IsValidTable};
@@ -13,11 +14,10 @@ use crate::bytes::see_videos;
 use crate::job_stop::JobStop;
 use crate::job_table::JobTable;
 use crate::text::job_of_text;
-use job_programs::{ProgramsFault, read_programs};
+use job_programs::{ProgramsFault, SizedPrograms, read_sized_programs};
 use job_report::Job;
 use job_report::limits::JOB_TEXT_MOST;
-use list_types::{ListOf, OutOfMemory, Text};
-use program_reader::Program;
+use list_types::{OutOfMemory, Text};
 use program_table::laws::table_is_valid;
 use program_table::table_of;
 use shelf_io::{Fault, Shelf, read_file};
@@ -67,11 +67,11 @@ fn table_of_job<K: Shelf>(alloc: Global, shelf: &mut K, job: Job) -> Result<JobT
     ensures asked { AsksForPrograms job.programs (K.asked shelf.old) (K.asked shelf.new) }
     ensures counts { CountReads (K.counts shelf.old) (K.counts shelf.new) }
 {
-    match read_programs(alloc, shelf, &job) {
-        Ok(programs) => match table_of_programs(alloc, &job, &programs) {
+    match read_sized_programs(alloc, shelf, &job) {
+        Ok(read) => match table_of_programs(alloc, &job, &read) {
             Ok(table) => Ok(JobTable {
                 job,
-                programs,
+                programs: read.programs,
                 table,
             }),
             Err(OutOfMemory) => Err(JobStop::OutOfMemory),
@@ -83,22 +83,19 @@ fn table_of_job<K: Shelf>(alloc: Global, shelf: &mut K, job: Job) -> Result<JobT
     }
 }
 
-/// The table of a job's programs. Fails only for want of memory.
-fn table_of_programs(
-    alloc: Global,
-    job: &Job,
-    programs: &ListOf<Program>,
-) -> Result<Table, OutOfMemory>
+/// The table of a job's programs, of the sizes that were told when they were read. Fails only for want of memory.
+fn table_of_programs(alloc: Global, job: &Job, read: &SizedPrograms) -> Result<Table, OutOfMemory>
     requires job { IsValidJob job.now }
-    requires programs { (contents : List (List ℕ)) × ArePrograms job.now contents programs.now }
-    ensures table { IfOk result (IsTableOf job.now programs.now) }
+    requires programs { (contents : List (List ℕ)) × ArePrograms job.now contents read.now.programs }
+    requires sizes { AreJobSizes job.now.programs read.now.programs read.now.sizes }
+    ensures table { IfOk result (IsTableOf job.now read.now.programs) }
     ensures valid { IfOk result IsValidTable }
 {
     programs_can_be_sent();
     table_is_valid();
-    let sources = programs.as_slice();
+    let sources = read.programs.as_slice();
     see_videos(sources);
-    table_of(alloc, job, sources)
+    table_of(alloc, job, sources, read.sizes.as_slice())
 }
 
 /// The file of the program of this number in a job.

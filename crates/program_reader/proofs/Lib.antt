@@ -13,6 +13,7 @@ pub mod ProgramLemmas
 pub mod StartLemmas
 pub mod StreamLemmas
 pub mod StreamsLemmas
+pub mod SizedLemmas
 pub mod SizeLemmas
 pub mod SourceLemmas
 pub mod StampLemmas

@@ -4,4 +4,5 @@ pub mod PictureTimes
 pub mod Units
 pub mod Audio
 pub mod Programs
+pub mod Sizes
 pub mod Private

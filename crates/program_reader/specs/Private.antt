@@ -3,6 +3,7 @@ pub mod Dues
 pub mod FrameWalk
 pub mod KeptUnits
 pub mod Pieces
+pub mod SizedUnits
 pub mod Sources
 pub mod StampedPictures
 pub mod TakenPackets

@@ -1,9 +1,11 @@
 //! A program of streams that are read.
-ghost use Rattle.std.specs.Prelude.{◌≡◌, ◌≤◌, ◌<◌, ◌^◌, List, length, All, IfOk};
+ghost use Rattle.std.specs.Prelude.{◌≡◌, ◌≤◌, ◌<◌, ◌^◌, List, length, map, All, IfOk};
 ghost use Rattle.std.specs.List.{sum_by};
 ghost use Rattle.ts_demux.specs.declared.demuxed.PesUnit.{PesUnit};
 ghost use Rattle.program_reader.specs.Programs.{IsProgram};
+ghost use Rattle.program_reader.specs.Sizes.{stands_at};
 ghost use Rattle.program_reader.specs.Private.AudioStarts.{AreStreamsRead};
+ghost use Rattle.program_reader.specs.Private.SizedUnits.{kept_at};
 ghost use Rattle.program_reader.specs.Private.Sources.{IsVideoRead, with_video};
 
 use crate::audio_sources::audio_sources;
@@ -43,7 +45,9 @@ pub fn due_program(
     requires video { (packets : List PesUnit) × IsVideoRead (with_video beside packets) video }
     requires streams { AreStreamsRead video.first.stated beside.audios streams.now }
     requires few { length video.units.items ≤ UNITS_MOST }
-    ensures { (packets : List PesUnit) → IsVideoRead (with_video beside packets) video → IfOk result (IsProgram start (with_video beside packets)) }
+    ensures program { (packets : List PesUnit) → IsVideoRead (with_video beside packets) video → IfOk result (IsProgram start (with_video beside packets)) }
+    ensures bytes { IfOk result (λ program. program.video ≡ video.taken.payload.items) }
+    ensures places { IfOk result (λ program. map stands_at program.units ≡ map kept_at video.units.items) }
 {
     let first = video.first_ticks();
     let earliest = first.of_units(video.units.as_slice()).of_streams(streams);

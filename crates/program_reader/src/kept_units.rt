@@ -1,8 +1,10 @@
 //! The units of a video that are kept, with their times.
-ghost use Rattle.std.specs.Prelude.{◌≡◌, ◌⊎◌, ◌≤◌, ◌<◌, ◌^◌, ◌++◌, ◌∷◌, [], All, length, Some, None, MatchResult, OnOk, unwrap_or};
+ghost use Rattle.std.specs.Prelude.{◌≡◌, ◌⊎◌, ◌≤◌, ◌<◌, ◌^◌, ◌++◌, ◌∷◌, [], All, length, Some, None, true, map, IfOk, MatchResult, OnOk, unwrap_or};
 ghost use Rattle.program_reader.specs.declared.program_fault.ProgramFault.TheVariants.{OutOfMemory};
 ghost use Rattle.program_reader.specs.Units.{IsUnitsFault};
 ghost use Rattle.program_reader.specs.Private.KeptUnits.{IsVideo, Fits, row_of, AreUnitsKept};
+ghost use Rattle.program_reader.specs.Private.SizedUnits.{kept_at};
+ghost use Rattle.program_reader.specs.Sizes.{AreUnitSizes};
 
 use crate::pes_packets::TakenPackets;
 use crate::picture_times::stamped_pictures;
@@ -10,8 +12,10 @@ use crate::program_fault::ProgramFault;
 use crate::stamp_walk::unit_times;
 use crate::timed_picture::TimedPicture;
 use crate::unit_picture::{TimedUnit, unit_picture};
+use crate::unit_sizes::{SizesWanted, UnitSizes};
 use pes_units::Times;
 use std::alloc::{AllocError, Global};
+use version_table::limits::VERSIONS_MOST;
 
 /// A unit that is kept: where it stands in the video, the times of its PES header, and its decoding time in ticks.
 #[derive(Clone, Copy)]
@@ -34,17 +38,24 @@ pub struct KeptUnits {
 }
 
 /// Keeps the units of a video that stand at these places, in order: all, but a last one that breaks a rule of headers or
-/// pictures. An error is the first refusal of the first unit that is refused.
+/// pictures. Where the sizes of their versions are wanted, these are put into `sizes`. An error is the first refusal of the first unit
+/// that is refused.
 pub fn keep_units(
     alloc: Global,
     video: &TakenPackets,
     cuts: &[(u64, u64)],
+    wanted: &SizesWanted<'_>,
+    sizes: &mut Vec<UnitSizes>,
 ) -> Result<KeptUnits, ProgramFault>
     requires video { IsVideo video.now }
     requires few { length cuts.now ≤ 2 ^ 30 }
     requires fits { Fits (length video.now.payload.items) 0 cuts.now }
-    ensures { MatchResult result (AreUnitsKept video.now.payload.items video.now.packets.items cuts.now)
+    requires coarser { length wanted.now.coarser.now < VERSIONS_MOST }
+    requires none { sizes.old.items ≡ [] }
+    ensures kept { MatchResult result (AreUnitsKept video.now.payload.items video.now.packets.items cuts.now)
         (λ fault. (fault ≡ OutOfMemory) ⊎ IsUnitsFault video.now.payload.items video.now.packets.items cuts.now fault) }
+    ensures sizes { IfOk result (λ kept. wanted.now.are_wanted ≡ true →
+        AreUnitSizes video.now.payload.items wanted.now.coarser.now None (map kept_at kept.units.items) sizes.new.items) }
 {
     let es = video.payload.as_slice();
     let stamps = stamped_pictures(alloc, es, video.packets.as_slice())?;
@@ -60,7 +71,7 @@ pub fn keep_units(
             times: found.times,
             is_last: at + 1 == cuts.len(),
         };
-        match unit_picture(alloc, es, &unit, kept.last.as_ref()) {
+        match unit_picture(alloc, es, &unit, kept.last.as_ref(), wanted, sizes) {
             Ok(Some(picture)) => kept.add(&unit, &picture)?,
             Ok(None) => {
                 kept.dropped = 1;

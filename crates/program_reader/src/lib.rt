@@ -1,8 +1,10 @@
 //! A program of a transport stream is read: its video units and audio packets with the times at which a decoder wants them.
 //!
-//! `read_program` answers a program, or the first refusal of its file with its place: one answer alone, by `laws::one_answer`. Its
-//! steps stand in a file each.
-//! Stands on `ts_demux`, `pes_units`, `es_units`, `audio_frames`, `picture_reader`, `job_report` and those below them.
+//! `read_program` answers a program, or the first refusal of its file with its place: one answer alone, by `laws::one_answer`.
+//! `read_sized_program` answers the sizes of all versions of its units too, and reads each unit once for both. The steps stand in a
+//! file each.
+//! Stands on `ts_demux`, `pes_units`, `es_units`, `audio_frames`, `picture_reader`, `version_maker`, `job_report` and those below
+//! them.
 #![tactic(auto)]
 
 mod audio_sources;
@@ -27,10 +29,12 @@ mod stamp_walk;
 mod stream_sizes;
 mod timed_picture;
 mod unit_picture;
+mod unit_sizes;
 mod video_stream;
 
 pub use pes_packets::PlacedPacket;
 pub use program::{AudioPiece, AudioSource, Program, UnitSource};
 pub use program_fault::{ProgramFault, SourceKind};
-pub use reading::read_program;
+pub use reading::{SizedProgram, read_program, read_sized_program};
 pub use timed_picture::{Role, TimedPicture};
+pub use unit_sizes::UnitSizes;

@@ -1,8 +1,9 @@
 //! The program of a file.
-ghost use Rattle.std.specs.Prelude.{◌≡◌, ◌⊎◌, ◌≤◌, ◌<◌, ◌^◌, length, All, MatchResult};
+ghost use Rattle.std.specs.Prelude.{◌≡◌, ◌⊎◌, ◌≤◌, ◌<◌, ◌^◌, [], true, length, All, IfOk, MatchResult};
 ghost use Rattle.std.specs.List.{sum_by};
 ghost use Rattle.program_reader.specs.declared.program_fault.ProgramFault.TheVariants.{OutOfMemory};
 ghost use Rattle.program_reader.specs.Programs.{IsProgram, IsDemuxedRefused, IsProgramOf, IsProgramRefused};
+ghost use Rattle.program_reader.specs.Sizes.{AreProgramSizes};
 
 use crate::audio_stream::read_streams;
 use crate::due_program::{BesideVideo, due_program};
@@ -10,18 +11,28 @@ use crate::limits::{FILE_BYTES_MOST, PACKETS_MOST};
 use crate::program::Program;
 use crate::program_fault::{ProgramFault, SourceKind, demux_refused};
 use crate::stream_sizes::stream_sizes;
+use crate::unit_sizes::{SizesWanted, UnitSizes};
 use crate::video_stream::read_video;
 use job_report::limits::START_MOST;
+use list_types::ListOf;
 use std::alloc::Global;
 use stream_constants::limits::AUDIOS_MOST;
 use ts_demux::{Demuxed, demux};
-use version_table::limits::UNITS_MOST;
+use version_table::limits::{UNITS_MOST, VERSIONS_MOST};
 
 /// What is said of a limit that is passed.
 const PROGRAM_LIMIT: ProgramFault = ProgramFault::Refused {
     kind: SourceKind::ProgramLimit,
     at: 0,
 };
+
+/// A program, and the sizes of all versions of its units.
+#[derive(Drop)]
+pub struct SizedProgram {
+    pub program: Program,
+    /// One for each unit, in order.
+    pub sizes: ListOf<UnitSizes>,
+}
 
 /// Reads a program of a transport stream: its units and audio packets with the times at which a decoder wants them, the earliest
 /// one at `start`, without the audio streams whose PIDs are in `drop`. An error is the first refusal of the file in the order of
@@ -37,6 +48,61 @@ pub fn read_program(
     requires start { start ≤ START_MOST }
     ensures { MatchResult result (IsProgramOf file.now number drop.now start) (IsProgramRefused file.now number drop.now) }
 {
+    let wanted = SizesWanted {
+        are_wanted: false,
+        coarser: &[],
+    };
+    let mut sizes = Vec::new(alloc);
+    match program_in(alloc, file, number, drop, start, &wanted, &mut sizes) {
+        Ok(program) => Ok(program),
+        Err(fault) => Err(fault),
+    }
+}
+
+/// Reads a program as `read_program` does, and the sizes of all versions of its units at these ratios: each unit is read once for both.
+pub fn read_sized_program(
+    alloc: Global,
+    file: &[u8],
+    number: u16,
+    drop: &[u16],
+    start: u64,
+    coarser: &[u16],
+) -> Result<SizedProgram, ProgramFault>
+    requires start { start ≤ START_MOST }
+    requires coarser { length coarser.now < VERSIONS_MOST }
+    ensures program { MatchResult result (λ sized. IsProgramOf file.now number drop.now start sized.program) (IsProgramRefused file.now number drop.now) }
+    ensures sizes { IfOk result (λ sized. AreProgramSizes sized.program coarser.now sized.sizes) }
+{
+    let wanted = SizesWanted {
+        are_wanted: true,
+        coarser,
+    };
+    let mut sizes = Vec::new(alloc);
+    match program_in(alloc, file, number, drop, start, &wanted, &mut sizes) {
+        Ok(program) => Ok(SizedProgram {
+            program,
+            sizes: ListOf::from_vec(sizes),
+        }),
+        Err(fault) => Err(fault),
+    }
+}
+
+/// The program in a file. Where the sizes of its units' versions are wanted, these are put into `sizes`.
+fn program_in(
+    alloc: Global,
+    file: &[u8],
+    number: u16,
+    drop: &[u16],
+    start: u64,
+    wanted: &SizesWanted<'_>,
+    sizes: &mut Vec<UnitSizes>,
+) -> Result<Program, ProgramFault>
+    requires start { start ≤ START_MOST }
+    requires coarser { length wanted.now.coarser.now < VERSIONS_MOST }
+    requires none { sizes.old.items ≡ [] }
+    ensures program { MatchResult result (IsProgramOf file.now number drop.now start) (IsProgramRefused file.now number drop.now) }
+    ensures sizes { IfOk result (λ program. wanted.now.are_wanted ≡ true → AreProgramSizes program wanted.now.coarser.now sizes.new.items) }
+{
     if file.len() > FILE_BYTES_MOST {
         return Err(PROGRAM_LIMIT);
     }
@@ -45,7 +111,7 @@ pub fn read_program(
         Ok(demuxed) => demuxed,
         Err(fault) => return Err(demux_refused(fault)),
     };
-    match program_of(alloc, demuxed, start) {
+    match program_of(alloc, demuxed, start, wanted, sizes) {
         Ok(program) => Ok(program),
         Err(fault) => Err(fault),
     }
@@ -53,14 +119,23 @@ pub fn read_program(
 
 /// The program of what is taken out of a file. An error is the first refusal of its video, its audio streams and the number of its
 /// units, in this order.
-fn program_of(alloc: Global, demuxed: Demuxed, start: u64) -> Result<Program, ProgramFault>
+fn program_of(
+    alloc: Global,
+    demuxed: Demuxed,
+    start: u64,
+    wanted: &SizesWanted<'_>,
+    sizes: &mut Vec<UnitSizes>,
+) -> Result<Program, ProgramFault>
     requires start { start < 2 ^ 50 }
     requires video_few { length demuxed.video ≤ PACKETS_MOST }
     requires video_small { sum_by (λ packet. length packet.bytes) demuxed.video < 2 ^ 30 }
     requires audios_few { All (λ stream. length stream.units ≤ PACKETS_MOST) demuxed.audios }
     requires audios_small { All (λ stream. sum_by (λ packet. length packet.bytes) stream.units < 2 ^ 30) demuxed.audios }
     requires few_audios { length demuxed.audios ≤ AUDIOS_MOST }
-    ensures { MatchResult result (IsProgram start demuxed) (λ fault. (fault ≡ OutOfMemory) ⊎ IsDemuxedRefused demuxed fault) }
+    requires coarser { length wanted.now.coarser.now < VERSIONS_MOST }
+    requires none { sizes.old.items ≡ [] }
+    ensures program { MatchResult result (IsProgram start demuxed) (λ fault. (fault ≡ OutOfMemory) ⊎ IsDemuxedRefused demuxed fault) }
+    ensures sizes { IfOk result (λ program. wanted.now.are_wanted ≡ true → AreProgramSizes program wanted.now.coarser.now sizes.new.items) }
 {
     let Demuxed {
         map,
@@ -69,7 +144,7 @@ fn program_of(alloc: Global, demuxed: Demuxed, start: u64) -> Result<Program, Pr
         rest,
         not_carried,
     } = demuxed;
-    let video = match read_video(alloc, packets) {
+    let video = match read_video(alloc, packets, wanted, sizes) {
         Ok(video) => video,
         Err(fault) => return Err(fault),
     };

@@ -1,19 +1,22 @@
 //! A unit as a coded picture behind the one before.
-ghost use Rattle.std.specs.Prelude.{◌≡◌, ◌≤◌, ◌<◌, ◌^◌, List, length, IfSome, MatchResult};
+ghost use Rattle.std.specs.Prelude.{◌≡◌, ◌≤◌, ◌<◌, ◌^◌, List, length, IfSome, IfOk, MatchResult};
 ghost use Rattle.std.specs.Option.{option_copied};
 ghost use Rattle.program_reader.specs.declared.pes_packets.PlacedPacket.{PlacedPacket};
 ghost use Rattle.picture_reader.specs.PictureFault.{refusal_told};
 ghost use Rattle.program_reader.specs.Packets.{decoding_time};
 ghost use Rattle.program_reader.specs.PictureTimes.{times_of_unit};
-ghost use Rattle.program_reader.specs.Units.{state_behind};
+ghost use Rattle.program_reader.specs.Units.{state_behind, unit_bytes};
+ghost use Rattle.program_reader.specs.Private.SizedUnits.{IsSizedFound};
 ghost use Rattle.program_reader.specs.Private.TimedPictures.{IsPossible, IsFound, IsNotFound, broken_answer};
 
 use crate::program_fault::{ProgramFault, SourceKind};
 use crate::timed_picture::{TimedPicture, timed_picture};
+use crate::unit_sizes::{SizesWanted, UnitSizes, check_unit};
 use pes_units::Times;
-use picture_reader::{Headers, PictureFault, check_picture};
+use picture_reader::{Headers, PictureFault};
 use std::alloc::Global;
 use syntax_types::SeqState;
+use version_table::limits::VERSIONS_MOST;
 
 /// A unit of the video from a place up to another, with the times of its picture.
 #[derive(Clone, Copy)]
@@ -25,24 +28,29 @@ pub struct TimedUnit {
     pub is_last: bool,
 }
 
-/// The picture of a unit behind the one before. None is answered for a last unit that breaks a rule of headers or pictures.
-/// An error is the first of what refuses the unit.
+/// The picture of a unit behind the one before, whose sizes are put behind the others where they are wanted. None is answered for a
+/// last unit that breaks a rule of headers or pictures. An error is the first of what refuses the unit.
 pub fn unit_picture(
     alloc: Global,
     es: &[u8],
     unit: &TimedUnit,
     before: Option<&TimedPicture>,
+    wanted: &SizesWanted<'_>,
+    sizes: &mut Vec<UnitSizes>,
 ) -> Result<Option<TimedPicture>, ProgramFault>
     requires size { length es.now < 2 ^ 32 }
     requires order { unit.now.begin ≤ unit.now.end }
     requires within { unit.now.end ≤ length es.now }
     requires times { IfSome (decoding_time unit.now.times) (λ time. time < 2 ^ 33) }
     requires before { IfSome (option_copied before) IsPossible }
-    ensures { (packets : List PlacedPacket) → unit.now.times ≡ times_of_unit es.now packets (unit.now.begin, unit.now.end) →
+    requires coarser { length wanted.now.coarser.now < VERSIONS_MOST }
+    ensures found { (packets : List PlacedPacket) → unit.now.times ≡ times_of_unit es.now packets (unit.now.begin, unit.now.end) →
         MatchResult result (IsFound es.now packets (option_copied before.entry) unit.now) (IsNotFound es.now packets (option_copied before.entry) unit.now) }
+    ensures sizes { IfOk result (IsSizedFound (state_behind (option_copied before.entry)) (unit_bytes es.now (unit.now.begin, unit.now.end)) wanted.now.coarser.now
+        wanted.now.are_wanted sizes.old.items sizes.new.items) }
 {
     let bytes = &es[unit.begin as usize..unit.end as usize];
-    let headers = match check_picture(alloc, bytes, state_behind(before)) {
+    let headers = match check_unit(alloc, bytes, state_behind(before), wanted, sizes) {
         Ok(headers) => headers,
         Err(fault) => return broken(unit, fault),
     };

@@ -1,11 +1,13 @@
 //! The video of a program: its PES packets, and its units with their pictures and times.
-ghost use Rattle.std.specs.Prelude.{◌≡◌, ◌⊎◌, ◌≤◌, ◌<◌, ◌^◌, length, true, MatchResult, Some};
+ghost use Rattle.std.specs.Prelude.{◌≡◌, ◌⊎◌, ◌≤◌, ◌<◌, ◌^◌, [], None, length, map, true, IfOk, MatchResult, Some};
 ghost use Rattle.std.specs.List.{sum_by};
 ghost use Rattle.ts_demux.specs.declared.demuxed.Demuxed.{Demuxed};
 ghost use Rattle.es_units.specs.Units.{cut_units};
 ghost use Rattle.program_reader.specs.declared.program_fault.ProgramFault.TheVariants.{OutOfMemory};
 ghost use Rattle.program_reader.specs.Programs.{IsDemuxedRefused};
+ghost use Rattle.program_reader.specs.Sizes.{AreUnitSizes};
 ghost use Rattle.program_reader.specs.Private.KeptUnits.{AreUnitsKept};
+ghost use Rattle.program_reader.specs.Private.SizedUnits.{kept_at};
 ghost use Rattle.program_reader.specs.Private.Sources.{IsVideoRead};
 ghost use Rattle.program_reader.specs.Private.TakenPackets.{AreTaken};
 
@@ -17,10 +19,12 @@ use crate::limits::PACKETS_MOST;
 use crate::pes_packets::{TakenPackets, take_packets};
 use crate::program_fault::{ProgramFault, SourceKind};
 use crate::timed_picture::TimedPicture;
+use crate::unit_sizes::{SizesWanted, UnitSizes};
 use es_units::{UnitFault, Units, split_units};
 use list_types::ListOf;
 use std::alloc::Global;
 use ts_demux::PesUnit;
+use version_table::limits::VERSIONS_MOST;
 
 /// What is read of a video.
 #[derive(Drop)]
@@ -42,11 +46,21 @@ const NO_SEQUENCE: ProgramFault = ProgramFault::Refused {
 };
 
 /// Reads the video of what is taken out of a file, by its PES packets, which are let go. An error is the first fault of the packets,
-/// or that no unit is left, or else the first refusal of the first unit that is refused.
-pub fn read_video(alloc: Global, packets: ListOf<PesUnit>) -> Result<ReadVideo, ProgramFault>
+/// or that no unit is left, or else the first refusal of the first unit that is refused. Where the sizes of the units' versions are wanted,
+/// these are put into `sizes`.
+pub fn read_video(
+    alloc: Global,
+    packets: ListOf<PesUnit>,
+    wanted: &SizesWanted<'_>,
+    sizes: &mut Vec<UnitSizes>,
+) -> Result<ReadVideo, ProgramFault>
     requires few { length packets ≤ PACKETS_MOST }
     requires size { sum_by (λ packet. length packet.bytes) packets < 2 ^ 30 }
-    ensures { (demuxed : Demuxed) → demuxed.video ≡ packets → MatchResult result (IsVideoRead demuxed) (λ fault. (fault ≡ OutOfMemory) ⊎ IsDemuxedRefused demuxed fault) }
+    requires coarser { length wanted.now.coarser.now < VERSIONS_MOST }
+    requires none { sizes.old.items ≡ [] }
+    ensures video { (demuxed : Demuxed) → demuxed.video ≡ packets → MatchResult result (IsVideoRead demuxed) (λ fault. (fault ≡ OutOfMemory) ⊎ IsDemuxedRefused demuxed fault) }
+    ensures sizes { IfOk result (λ video. wanted.now.are_wanted ≡ true →
+        AreUnitSizes video.taken.payload.items wanted.now.coarser.now None (map kept_at video.units.items) sizes.new.items) }
 {
     cut_places();
     let taken = match take_packets(alloc, packets.as_slice(), true) {
@@ -58,7 +72,7 @@ pub fn read_video(alloc: Global, packets: ListOf<PesUnit>) -> Result<ReadVideo, 
         Err(UnitFault::NoSequence { at: _ }) => return Err(NO_SEQUENCE),
         Err(UnitFault::OutOfMemory) => return Err(ProgramFault::OutOfMemory),
     };
-    match keep_units(alloc, &taken, units.cuts.as_slice()) {
+    match keep_units(alloc, &taken, units.cuts.as_slice(), wanted, sizes) {
         Ok(kept) => read_units(taken, &units, kept),
         Err(fault) => Err(fault),
     }
@@ -72,7 +86,9 @@ fn read_units(
 ) -> Result<ReadVideo, ProgramFault>
     requires units { cut_units taken.payload.items ≡ Some units.now }
     requires kept { AreUnitsKept taken.payload.items taken.packets.items units.now.cuts kept }
-    ensures { (demuxed : Demuxed) → AreTaken true demuxed.video taken → MatchResult result (IsVideoRead demuxed) (IsDemuxedRefused demuxed) }
+    ensures video { (demuxed : Demuxed) → AreTaken true demuxed.video taken → MatchResult result (IsVideoRead demuxed) (IsDemuxedRefused demuxed) }
+    ensures bytes { IfOk result (λ video. video.taken.payload.items ≡ taken.payload.items) }
+    ensures rows { IfOk result (λ video. video.units.items ≡ kept.units.items) }
 {
     match kept.first {
         Some(first) => Ok(ReadVideo {

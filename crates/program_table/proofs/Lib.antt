@@ -5,3 +5,4 @@ mod Rows
 mod States
 mod TableLimits
 mod UnitLimits
+mod SizedRows

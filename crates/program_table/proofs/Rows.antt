@@ -48,12 +48,12 @@ use Rattle.program_table.specs.Private.Rows.{AreProgramRowsSoFar, AreUnitRows, A
 use Rattle.program_table.proofs.States.{one-state, state-left}
 
 -- what is left from a place on
-left-from : {X : Type 0} (xs : List X) (k : ℕ) (d : X) → k < length xs → drop k xs ≡ get_or xs k d ∷ drop (k + 1) xs
+pub left-from : {X : Type 0} (xs : List X) (k : ℕ) (d : X) → k < length xs → drop k xs ≡ get_or xs k d ∷ drop (k + 1) xs
 left-from xs k d within = rw (add-one, drop-cons xs k d) refl
 
 -- ---- one unit
 
-rows-of-sizes : (weight : ℕ) (unit : UnitSource) (versions : List UnitVersion)
+pub rows-of-sizes : (weight : ℕ) (unit : UnitSource) (versions : List UnitVersion)
     → map (with_header (length (written_header unit.times)) weight) (map size_of versions) ≡ map (row_version weight unit) versions
 rows-of-sizes weight unit [] = refl
 rows-of-sizes weight unit (v ∷ vs) = ap (λ (rows : List Version). row_version weight unit v ∷ rows) (rows-of-sizes weight unit vs)

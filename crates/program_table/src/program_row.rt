@@ -61,7 +61,7 @@ fn rows_of_units(
 }
 
 /// The packets of audio streams, stream by stream.
-fn rows_of_audios(
+pub fn rows_of_audios(
     alloc: Global,
     audios: &[AudioSource],
 ) -> Result<ListOf<ListOf<AudioPacket>>, OutOfMemory>

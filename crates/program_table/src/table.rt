@@ -1,30 +1,35 @@
 ghost use Rattle.std.specs.Prelude.{◌≡◌, length, All, IfOk};
 ghost use Rattle.job_report.specs.ValidJob.{IsValidJob};
+ghost use Rattle.job_programs.specs.Sizes.{AreJobSizes};
 ghost use Rattle.version_source.specs.Sendable.{IsSendable};
 ghost use Rattle.program_table.specs.Table.{IsTableOf};
 
-use crate::program_row::row_of_program;
+use crate::sized_row::row_of_sized_program;
 use job_report::Job;
 use list_types::{ListOf, OutOfMemory};
-use program_reader::Program;
+use program_reader::{Program, UnitSizes};
 use std::alloc::Global;
 use version_table::Table;
 
-/// The table of the programs of a job. Each unit is read once, behind the state that the unit before it leaves. The error is
-/// want of memory.
+/// The table of the programs of a job, of the sizes that were told when they were read. No unit is read. The error is want of memory.
 ///
 /// It needs a program for each of the job's, that can be sent.
-pub fn table_of(alloc: Global, job: &Job, programs: &[Program]) -> Result<Table, OutOfMemory>
+pub fn table_of(
+    alloc: Global,
+    job: &Job,
+    programs: &[Program],
+    sizes: &[ListOf<UnitSizes>],
+) -> Result<Table, OutOfMemory>
     requires job { IsValidJob job.now }
-    requires as_many { length programs.now ≡ length job.now.programs }
+    requires sizes { AreJobSizes job.now.programs programs.now sizes.now }
     requires sendable { All IsSendable programs.now }
     ensures { IfOk result (IsTableOf job.now programs.now) }
 {
     let jobs = job.programs.as_slice();
     let mut rows = ListOf::new(alloc);
     for i in 0..programs.len() {
-        let coarser = jobs[i].coarser.as_slice();
-        let row = row_of_program(alloc, &programs[i], coarser, jobs[i].weight)?;
+        let own = sizes[i].as_slice();
+        let row = row_of_sized_program(alloc, &programs[i], own, jobs[i].weight)?;
         rows.push(row)?;
     }
     Ok(Table {

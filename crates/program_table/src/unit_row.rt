@@ -49,7 +49,7 @@ pub fn row_of_unit(
 }
 
 /// Bytes of the header of a PES packet that says these times.
-fn header_bytes(times: &Times) -> u8
+pub fn header_bytes(times: &Times) -> u8
     requires in_range { AreInRange times.now }
     requires beside { IsBesidePts times.now }
     ensures value { result ≡ length (written_header times.now) }
@@ -60,7 +60,11 @@ fn header_bytes(times: &Times) -> u8
 }
 
 /// Versions of these sizes with a header before each, whose distortions count as much as the program weighs.
-fn with_headers(header: u8, weight: u8, sizes: &[VersionSize]) -> ArrayVec<Version, VERSIONS_MOST>
+pub fn with_headers(
+    header: u8,
+    weight: u8,
+    sizes: &[VersionSize],
+) -> ArrayVec<Version, VERSIONS_MOST>
     requires few { length sizes.now ≤ VERSIONS_MOST }
     requires bounded { All IsBounded sizes.now }
     ensures { result.items ≡ map (with_header header weight) sizes.now }

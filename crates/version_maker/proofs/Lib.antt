@@ -10,3 +10,4 @@ pub mod UnitSizes
 pub mod SpelledMade
 pub mod MadeSlices
 pub mod MadeUnits
+pub mod SizedPictures

@@ -1,2 +1,3 @@
 pub mod Private
+pub mod SizedPicture
 pub mod Versions

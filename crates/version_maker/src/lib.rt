@@ -2,9 +2,9 @@
 //!
 //! A unit's versions are the unit itself without its vbv_delay, and its picture requantised more coarsely by each of some
 //! ratios, in their order. `versions_of` gives them all with their distortions, `version_of` the bytes of one of them, and
-//! `sizes_of` how long each is and its distortion. Each refuses a unit as `read_picture` of `picture_reader` does.
-//! `first_version_of` gives the bytes of version 0 of a unit that is known to spell a picture. Stands on `picture_reader`,
-//! `requantiser`, `picture_heads` and `picture_writer`.
+//! `sizes_of` how long each is and its distortion, which `size_picture` says beside the headers. Each refuses a unit as
+//! `read_picture` of `picture_reader` does. `first_version_of` gives the bytes of version 0 of a unit that is known to spell
+//! a picture. Stands on `picture_reader`, `requantiser`, `picture_heads` and `picture_writer`.
 #![tactic(auto)]
 
 pub mod laws;
@@ -20,6 +20,6 @@ mod versions;
 
 pub use limits::UNIT_BYTES_MOST;
 pub use picture_reader::PictureFault;
-pub use sizes::sizes_of;
+pub use sizes::{SizedPicture, size_picture, sizes_of};
 pub use version::{UnitVersion, VersionSize};
 pub use versions::{first_version_of, version_of, versions_of};

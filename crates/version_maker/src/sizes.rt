@@ -2,6 +2,7 @@ ghost use Rattle.std.specs.Prelude.{◌≡◌, ◌≤◌, ◌<◌, ◌+◌, leng
 ghost use Rattle.std.specs.Option.{option_copied};
 ghost use Rattle.picture_grammar.specs.Picture.{MayPrecede};
 ghost use Rattle.picture_reader.specs.Picture.{IsRefusedAs};
+ghost use Rattle.version_maker.specs.SizedPicture.{IsSizedPicture};
 ghost use Rattle.version_maker.specs.Versions.{AreSizes};
 
 use crate::limits::UNIT_BYTES_MOST;
@@ -9,11 +10,19 @@ use crate::slice_read::read_and_count;
 use crate::unit_sizes::{all_sizes, no_sizes, with_slice};
 use crate::version::VersionSize;
 use arrayvec::ArrayVec;
-use picture_reader::{PictureFault, UnitCursor, UnitPart};
+use picture_reader::{Headers, PictureFault, UnitCursor, UnitPart};
 use requantiser::Ladder;
 use std::alloc::Global;
 use syntax_types::{Macroblock, SeqState};
 use version_table::limits::VERSIONS_MOST;
+
+/// The headers of the picture of a unit, and how long all versions of the unit are.
+#[derive(Drop)]
+pub struct SizedPicture {
+    pub headers: Headers,
+    /// With the distortions, in the order of `versions_of`.
+    pub sizes: ArrayVec<VersionSize, VERSIONS_MOST>,
+}
 
 /// How long all versions of a unit are, and their distortions, in the order of `versions_of`, which refuses the same units.
 /// It goes once through the unit, and keeps no macroblock.
@@ -28,6 +37,25 @@ pub fn sizes_of(
     requires coarser { length coarser.now < VERSIONS_MOST }
     ensures { MatchResult result (λ sizes. AreSizes (option_copied before.entry) unit.now coarser.now sizes.items)
         (IsRefusedAs (option_copied before.entry) unit.now) }
+{
+    match size_picture(alloc, unit, before, coarser) {
+        Ok(sized) => Ok(sized.sizes),
+        Err(fault) => Err(fault),
+    }
+}
+
+/// The same with the headers of the picture, for which `check_picture` of `picture_reader` need not be asked too: it answers the same
+/// headers and refuses the same units.
+pub fn size_picture(
+    alloc: Global,
+    unit: &[u8],
+    before: Option<&SeqState>,
+    coarser: &[u16],
+) -> Result<SizedPicture, PictureFault>
+    requires unit { length unit.now ≤ UNIT_BYTES_MOST }
+    requires before { MayPrecede (option_copied before) }
+    requires coarser { length coarser.now < VERSIONS_MOST }
+    ensures { MatchResult result (IsSizedPicture (option_copied before.entry) unit.now coarser.now) (IsRefusedAs (option_copied before.entry) unit.now) }
 {
     let mut cursor = match UnitCursor::new(unit, before) {
         Ok(cursor) => cursor,
@@ -45,7 +73,10 @@ pub fn sizes_of(
         match part {
             UnitPart::End { sequence_end } => {
                 let around = cursor.headers.slices_at + end_bytes(sequence_end);
-                return Ok(all_sizes(unit.len() as u64, around, sizes.as_slice()));
+                return Ok(SizedPicture {
+                    headers: cursor.headers,
+                    sizes: all_sizes(unit.len() as u64, around, sizes.as_slice()),
+                });
             }
             UnitPart::Slice { row, at } => {
                 let headers = cursor.headers;

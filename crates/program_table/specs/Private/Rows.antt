@@ -1,5 +1,5 @@
 -- The units of a program while its row is made.
-use Rattle.std.specs.Prelude.{◌≡◌, ℕ, ◌+◌, ◌*◌, ◌≤◌, List, ◌++◌, Option, None}
+use Rattle.std.specs.Prelude.{◌≡◌, ℕ, ◌+◌, ◌*◌, ◌≤◌, List, [], ◌∷◌, ◌++◌, length, map, All, Option, None}
 use Rattle.job_report.specs.declared.job.ProgramJob.{ProgramJob}
 use Rattle.syntax_types.specs.declared.picture.SeqState.{SeqState}
 use Rattle.version_table.specs.declared.table.Unit.{Unit as CodedUnit}
@@ -7,7 +7,9 @@ use Rattle.version_table.specs.declared.table.Version.{Version}
 use Rattle.version_table.specs.declared.table.ProgramRow.{ProgramRow}
 use Rattle.picture_grammar.specs.Picture.{MayPrecede}
 use Rattle.program_reader.specs.declared.program.Program.{Program}
+use Rattle.pes_units.specs.VideoHeader.{AreInRange, IsBesidePts, written_header}
 use Rattle.program_reader.specs.declared.program.UnitSource.{UnitSource}
+use Rattle.program_reader.specs.declared.unit_sizes.UnitSizes.{UnitSizes}
 use Rattle.version_bounds.specs.declared.limits.TheConstants.{UNIT_VERSION_BYTES_MOST, UNIT_VERSION_DISTORTION_MOST}
 use Rattle.version_maker.specs.declared.version.UnitVersion.{UnitVersion}
 use Rattle.version_maker.specs.declared.version.VersionSize.{VersionSize}
@@ -35,6 +37,25 @@ IsBounded size = (1 ≤ size.bytes) × (size.bytes ≤ UNIT_VERSION_BYTES_MOST) 
 -- a version of this size behind a header of so many bytes
 abbrev pub with_header : (header weight : ℕ) → VersionSize → Version
 with_header header weight size = record { bytes = header + size.bytes; distortion = size.distortion * weight }
+
+-- so are all sizes of a unit
+abbrev pub AreBounded : UnitSizes → Type 0
+AreBounded sizes = All IsBounded sizes.versions.items
+
+-- a PES header can say the times of a unit
+pub record CanBeSaid (unit : UnitSource) : Type 0 where
+  pub in_range : AreInRange unit.times
+  pub beside : IsBesidePts unit.times
+
+-- a unit with versions of these sizes
+abbrev pub sized_row : (weight : ℕ) → UnitSource → UnitSizes → CodedUnit
+sized_row weight unit sizes =
+    record { due = unit.due; versions = record { items = map (with_header (length (written_header unit.times)) weight) sizes.versions.items } }
+
+-- units with theirs, in order
+abbrev pub sized_rows : (weight : ℕ) → List UnitSource → List UnitSizes → List CodedUnit
+sized_rows weight (unit ∷ units) (sizes ∷ more) = sized_row weight unit sizes ∷ sized_rows weight units more
+sized_rows weight units sizes = []
 
 -- The rows of the units of a video before those that are left: with the versions of these behind the state, and their rows, they make all.
 pub record AreUnitRowsSoFar (es coarser : List ℕ) (weight : ℕ) (units left : List UnitSource) (before : Option SeqState) (rows : List CodedUnit) : Type 0 where

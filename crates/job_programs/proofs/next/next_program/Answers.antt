@@ -14,26 +14,26 @@ by-file : (slot start bytes units number : ℕ) (drop content : List ℕ) (fault
 by-file slot start bytes units number drop content (Refused kind at) few bad = file few bad
 by-file slot start bytes units number drop content OutOfMemory few bad = tt
 
-pub returns-in_err-program : goal.returns-in_err-program
-returns-in_err-program c =
+pub returns-in_err-sized-clause-program : goal.returns-in_err-sized-clause-program
+returns-in_err-sized-clause-program c =
     let p = err_from_is_err_and c.from_residual.result c.from_residual.ensures.1 in
     let w = c.args.wanted.now in
     let few : w.bytes + length c.args.content.now ≤ FILE_BYTES_MOST = omega (arith, c.if-content-wanted.false, c.requires.bytes) in
-    rw (p.1, p.2) (by-file w.slot w.start w.bytes w.units w.number w.drop.now c.args.content.now c.in_err-program.field-0.0 few c.in_err-program.ensures)
+    rw (p.1, p.2) (by-file w.slot w.start w.bytes w.units w.number w.drop.now c.args.content.now c.in_err-sized.field-0.0 few c.in_err-sized.ensures.program)
 
 is-not : (r : Bool) (P : Type 0) → (IsTrue r ↔ P) → r ≡ false → ¬ P
 is-not r P decides fails = λ holds. let yes : r ≡ true = decides.1 holds in cc
 
-pub returns-then-len-wanted : goal.returns-then-len-wanted
-returns-then-len-wanted c =
-    let program = c.in_ok-program.program in
+pub returns-then-len-wanted-clause-program : goal.returns-then-len-wanted-clause-program
+returns-then-len-wanted-clause-program c =
+    let program = c.in_ok-sized.sized.program in
     let few : c.args.wanted.now.bytes + length c.args.content.now ≤ FILE_BYTES_MOST = omega (arith, c.if-content-wanted.false, c.requires.bytes) in
     let many : UNITS_MOST < c.args.wanted.now.units + length program.units = omega (arith, c.if-len-wanted.true, c.len.ensures, c.requires.units) in
-    rw c.passes_limit-then-len-wanted.ensures (many_units program few c.in_ok-program.ensures many refl refl)
+    rw c.passes_limit-then-len-wanted.ensures (many_units program few c.in_ok-sized.ensures.program many refl refl)
 
-pub returns-then-not-is_within_time : goal.returns-then-not-is_within_time
-returns-then-not-is_within_time c =
-    let program = c.in_ok-program.program in
+pub returns-then-not-is_within_time-clause-program : goal.returns-then-not-is_within_time-clause-program
+returns-then-not-is_within_time-clause-program c =
+    let program = c.in_ok-sized.sized.program in
     let few : c.args.wanted.now.bytes + length c.args.content.now ≤ FILE_BYTES_MOST = omega (arith, c.if-content-wanted.false, c.requires.bytes) in
     let fails : c.is_within_time.result ≡ false = search rules in
-    rw c.passes_limit-then-not-is_within_time.ensures (late program few c.in_ok-program.ensures (is-not c.is_within_time.result _ c.is_within_time.ensures fails) refl refl)
+    rw c.passes_limit-then-not-is_within_time.ensures (late program few c.in_ok-sized.ensures.program (is-not c.is_within_time.result _ c.is_within_time.ensures fails) refl refl)

@@ -1,9 +1,11 @@
-use Rattle.std.proofs.Common.{List, All, sym, subst, arith}
+use Rattle.std.proofs.Common.{List, All, map, ap, ◌∙◌, sym, subst, arith}
 use Rattle.ts_demux.specs.declared.demuxed.AudioStream.{AudioStream}
 use Rattle.program_reader.specs.declared.kept_units.KeptUnit.{KeptUnit}
 use Rattle.program_reader.specs.Private.Dues.{IsTimeFrom}
 use Rattle.program_reader.specs.Private.Sources.{AreStreamsFrom, with_video}
 use Rattle.program_reader.proofs.ProgramLemmas.{IsClockOf, clock_of, program_is, streams_dropped, video_dropped}
+use Rattle.program_reader.specs.Private.SizedUnits.{kept_at}
+use Rattle.program_reader.proofs.SizedLemmas.{due_places}
 use Rattle.program_reader.proofs.due_program.due_program.Goals as goal
 
 pub due_units-requires-clause-earliest : goal.due_units-requires-clause-earliest
@@ -58,8 +60,8 @@ pub overflow_add-result : goal.overflow_add-result
 overflow_add-result c =
     omega (arith, video_dropped c.requires.video.0 c.args.video.taken c.requires.video.1.taken_are, c.audio_packets_dropped.ensures.most)
 
-pub returns : goal.returns
-returns c = λ packets read.
+pub returns-clause-program : goal.returns-clause-program
+returns-clause-program c = λ packets read.
     let clock : IsClockOf (with_video c.args.beside packets) c.args.video c.args.streams.now c.clock-clock.result.earliest =
     subst (IsClockOf (with_video c.args.beside packets) c.args.video c.args.streams.now) (sym c.clock-clock.ensures.earliest)
     (clock_of (with_video c.args.beside packets) c.args.video c.args.streams.now c.as_slice.result.now c.first_ticks-first.result.ticks c.of_units.result.ticks c.of_streams-earliest.result.ticks
@@ -67,3 +69,7 @@ returns c = λ packets read.
     program_is c.args.start (with_video c.args.beside packets) c.args.video c.args.streams.now c.clock-clock.result c.as_slice-2.result.now c.as_slice-3.result.now c.base.result c.into_bytes.result c.in_ok-units.units
     c.in_ok-audios.audios c.audio_packets_dropped.result read c.requires.streams clock c.clock-clock.ensures.start c.requires.few c.base.ensures c.into_bytes.ensures
     c.as_slice-2.ensures.value c.in_ok-units.ensures c.as_slice-3.ensures c.in_ok-audios.ensures c.audio_packets_dropped.ensures.sum
+
+pub returns-clause-places : goal.returns-clause-places
+returns-clause-places c =
+    due_places c.clock-clock.result.start c.clock-clock.result.earliest c.as_slice-2.result.now c.in_ok-units.units c.in_ok-units.ensures ∙ ap (map kept_at) c.as_slice-2.ensures.value

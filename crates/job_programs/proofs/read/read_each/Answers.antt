@@ -2,10 +2,12 @@ use Rattle.std.proofs.Common.{◌≡◌, ℕ, ◌+◌, ◌<◌, List, [], ◌∷
 use Rattle.std.proofs.lemmas.Result.{err_from_is_err_and}
 use Rattle.job_report.specs.declared.job.ProgramJob.{ProgramJob}
 use Rattle.program_reader.specs.declared.program.Program.{Program}
+use Rattle.job_programs.specs.Sizes.{AreJobSizes}
 use Rattle.job_programs.specs.Private.ReadSoFar.{ReadSoFar}
 use Rattle.job_programs.proofs.Asks.{asks-more, counts-more, file-stands}
 use Rattle.job_programs.proofs.ReadLemmas.{read-all, went-on, stopped}
-use Rattle.job_programs.proofs.read.read_programs.Goals as goal
+use Rattle.job_programs.proofs.SizesLemmas.{job_sizes_more}
+use Rattle.job_programs.proofs.read.read_each.Goals as goal
 
 pub returns-in_err-next-clause-cause : goal.returns-in_err-next-clause-cause
 returns-in_err-next-clause-cause g c =
@@ -47,6 +49,18 @@ returns-in_err-push-clause-asked g c =
     asks-more c.args.job.now.programs c.as_str.result.now (g.K.Shelf.asked c.args.shelf.now) (g.K.Shelf.asked l.shelf) (g.K.Shelf.asked c.read_next.new.shelf)
     stands l.invariant.asked c.read_next.ensures.asked
 
+pub returns-in_err-push-2-clause-asked : goal.returns-in_err-push-2-clause-asked
+returns-in_err-push-2-clause-asked g c =
+    let l = c.loop-wanted in
+    let wanted = c.wanted-item.result in
+    let same = c.as_slice-jobs.ensures in
+    let within = subst (λ (jobs : List ProgramJob). l.wanted-index < length jobs) same c.loop-wanted-test.true in
+    let is = subst (λ (jobs : List ProgramJob). wanted ≡ get_or jobs l.wanted-index wanted) same c.wanted-item.is in
+    let stands = subst (λ (name : List ℕ). Contains (map (λ (job : ProgramJob). job.file) c.args.job.now.programs) name) (sym c.as_str.ensures)
+    (file-stands c.args.job.now.programs l.wanted-index wanted within is) in
+    asks-more c.args.job.now.programs c.as_str.result.now (g.K.Shelf.asked c.args.shelf.now) (g.K.Shelf.asked l.shelf) (g.K.Shelf.asked c.read_next.new.shelf)
+    stands l.invariant.asked c.read_next.ensures.asked
+
 pub loop-wanted-preserved : goal.loop-wanted-preserved
 loop-wanted-preserved g c =
     let l = c.loop-wanted in
@@ -66,6 +80,8 @@ loop-wanted-preserved g c =
     let r1 = subst (λ (n : ℕ). ReadSoFar told job.slot job.start (take (i + 1) jobs) (l.programs ++ next.program ∷ []) (l.bytes + next.size) (l.units + n)) (sym c.len-units.ensures) r in
     record {
       read = subst (λ (ps : List Program). ReadSoFar told job.slot job.start (take (i + 1) jobs) ps (l.bytes + next.size) (l.units + c.len-units.result)) (sym c.in_ok-push.ensures.ok) r1;
+      sized = λ want. job_sizes_more jobs i wanted l.programs next.program c.push.new.self l.sizes next.sizes c.push-in-loop-wanted.new.self c.as_slice-in-loop-wanted.result.now c.loop-wanted-test.true c.wanted-item.is
+          c.as_slice-in-loop-wanted.ensures.value c.in_ok-push.ensures.ok c.in_ok-push-2.ensures.ok (l.invariant.sized want) (c.in_ok-next.ensures.sizes want);
       place = omega (arith, l.invariant.place);
       files = c.read_next.ensures.files ∙ l.invariant.files;
       asked = asks-more job.programs c.as_str.result.now (g.K.Shelf.asked c.args.shelf.now) (g.K.Shelf.asked l.shelf) (g.K.Shelf.asked c.read_next.new.shelf)
@@ -81,3 +97,9 @@ returns-clause-programs g c =
     let all = take_all l.wanted-index c.as_slice-jobs.result.now c.loop-wanted-test.false ∙ c.as_slice-jobs.ensures in
     read-all told job l.programs l.bytes l.units
     (subst (λ (done : List ProgramJob). ReadSoFar told job.slot job.start done l.programs l.bytes l.units) all l.invariant.read)
+
+pub returns-clause-sizes : goal.returns-clause-sizes
+returns-clause-sizes g c = λ want.
+    let l = c.loop-wanted in
+    let all = take_all l.wanted-index c.as_slice-jobs.result.now c.loop-wanted-test.false ∙ c.as_slice-jobs.ensures in
+    subst (λ (done : List ProgramJob). AreJobSizes done l.programs l.sizes) all (l.invariant.sized want)

@@ -13,9 +13,10 @@ use Rattle.version_maker.specs.declared.version.VersionSize.{VersionSize}
 use Rattle.version_maker.specs.Versions.{AreSizes}
 use Rattle.version_maker.specs.Private.Read.{IsSliceRead}
 use Rattle.version_maker.specs.Private.Sized.{AreSized, IsSized, first_size, with_bytes}
+use Rattle.version_maker.proofs.SizedPictures.{sized-headers}
 use Rattle.version_maker.proofs.SizedSlices.{all-zip-length}
 use Rattle.version_maker.proofs.UnitSizes.{unit-sizes}
-use Rattle.version_maker.proofs.sizes.sizes_of.Goals as goal
+use Rattle.version_maker.proofs.sizes.size_picture.Goals as goal
 
 pub read_and_count-requires-clause-coding : goal.read_and_count-requires-clause-coding
 read_and_count-requires-clause-coding c =
@@ -137,4 +138,9 @@ returns-in-End c =
     (omega (arith, length-take-le headers.slices_at unit inv.stands.headed.within, c.end_bytes.ensures.value))
     (omega (arith, inv.stands.headed.within, c.requires.unit, c.end_bytes.ensures.few))
     (omega (arith, inv.few, inv.stands.within, c.requires.unit)) inv.sized in
-    subst (AreSizes before unit coarser) (sym (c.all_sizes.ensures ∙ ap₂ (λ (n : ℕ) (xs : List VersionSize). first_size n ∷ map (with_bytes around) xs) refl c.as_slice.ensures.value)) sizes
+    let told : AreSizes before unit coarser c.all_sizes.result.items =
+    subst (AreSizes before unit coarser) (sym (c.all_sizes.ensures ∙ ap₂ (λ (n : ℕ) (xs : List VersionSize). first_size n ∷ map (with_bytes around) xs) refl c.as_slice.ensures.value)) sizes in
+    record {
+      sizes_are = told;
+      headed = sized-headers before unit coarser c.all_sizes.result.items headers inv.slices c.in-End.sequence_end told inv.stands.headed.within whole;
+    }

@@ -1,7 +1,7 @@
 use Rattle.std.specs.Prelude.{◌-◌, length}
 use Rattle.std.specs.Option.{option_copied}
 use Rattle.version_maker.specs.Private.Sized.{SlicesSized}
-use Rattle.version_maker.proofs.sizes.sizes_of.Given as goal
+use Rattle.version_maker.proofs.sizes.size_picture.Given as goal
 
 abbrev pub invariant-slices : goal.invariant-slices
 invariant-slices l = SlicesSized (option_copied l.before) l.unit l.coarser l.cursor l.sizes.items
