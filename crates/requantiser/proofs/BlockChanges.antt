@@ -25,26 +25,6 @@ use Rattle.requantiser.proofs.Scans.{AreOthers, are_others, index_of}
 use Rattle.requantiser.proofs.Sizes.{none_changed}
 use Rattle.requantiser.proofs.Sums.{block_difference, sum_from-suc, sum_from-same}
 
--- ---- over the coefficients
-
--- one more coefficient
-pub one_change : (change : ℕ → ℤ → ℕ) (place index sum x all : ℕ) (pairs : List RunLevel) (d : RunLevel) → index < length pairs
-    → (let pair : RunLevel = get_or pairs index d in x ≡ change (place + pair.run) pair.level)
-    → sum + pair_changes change place (drop index pairs) ≡ all
-    → let pair : RunLevel = get_or pairs index d in sum + x + pair_changes change (place + pair.run + 1) (drop (index + 1) pairs) ≡ all
-one_change change place index sum x all pairs d within is rest =
-    let pair : RunLevel = get_or pairs index d in
-    let cut : drop index pairs ≡ pair ∷ drop (index + 1) pairs = rw (add-one, drop-cons pairs index d) refl in
-    let both : pair_changes change place (drop index pairs) ≡ change (place + pair.run) pair.level + pair_changes change (place + pair.run + 1) (drop (index + 1) pairs) =
-    ap (pair_changes change place) cut in
-    omega (arith, rest, is, both)
-
-pub no_more_change : (change : ℕ → ℤ → ℕ) (place index sum all : ℕ) (pairs : List RunLevel) → length pairs ≤ index
-    → sum + pair_changes change place (drop index pairs) ≡ all → sum ≡ all
-no_more_change change place index sum all pairs past rest =
-    let none : pair_changes change place (drop index pairs) ≡ 0 = ap (pair_changes change place) (drop_all index pairs past) in
-    omega (arith, rest, none)
-
 -- ---- over the places
 
 -- a sum of two functions that differ at one number
