@@ -1,8 +1,7 @@
 -- Sums over the coefficients of a block that stand, and sums over all its places.
-use Rattle.std.proofs.Common.{◌≡◌, ℕ, zero, suc, ◌+◌, ◌<◌, ◌≤◌, ℤ, pos, List, [], ◌∷◌, Bool, refl, sym, ◌∙◌, ap, ap₂, ◌⊎◌, inl, inr, arith, length, drop, get_or, drop-cons, add-one}
+use Rattle.std.proofs.Common.{◌≡◌, ℕ, zero, suc, ◌+◌, ◌<◌, ◌≤◌, ℤ, pos, List, [], ◌∷◌, Bool, refl, sym, ◌∙◌, ap, ap₂, ◌⊎◌, inl, inr, arith}
 use Rattle.std.specs.Prelude.{slice_index_or, if◌then◌else◌}
 use Rattle.std.proofs.lemmas.Bool.{cases_eq}
-use Rattle.std.proofs.lemmas.List.{drop_all}
 use Rattle.quant_math.specs.Levels.{coarser_level, coefficient_of}
 use Rattle.syntax_types.specs.declared.block.Block.{Block}
 use Rattle.syntax_types.specs.declared.block.BlockWay.{BlockWay}
