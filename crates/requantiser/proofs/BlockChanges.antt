@@ -1,8 +1,7 @@
 -- Sums over the coefficients of a block that stand, and sums over all its places.
-use Rattle.std.proofs.Common.{◌≡◌, ℕ, zero, suc, ◌+◌, ◌<◌, ◌≤◌, ℤ, pos, List, [], ◌∷◌, Bool, refl, sym, ◌∙◌, ap, ap₂, ◌⊎◌, inl, inr, arith, length, drop, get_or, drop-cons, add-one}
+use Rattle.std.proofs.Common.{◌≡◌, ℕ, zero, suc, ◌+◌, ◌<◌, ◌≤◌, ℤ, pos, List, [], ◌∷◌, Bool, refl, sym, ◌∙◌, ap, ap₂, ◌⊎◌, inl, inr, arith}
 use Rattle.std.specs.Prelude.{slice_index_or, if◌then◌else◌}
 use Rattle.std.proofs.lemmas.Bool.{cases_eq}
-use Rattle.std.proofs.lemmas.List.{drop_all}
 use Rattle.quant_math.specs.Levels.{coarser_level, coefficient_of}
 use Rattle.syntax_types.specs.declared.block.Block.{Block}
 use Rattle.syntax_types.specs.declared.block.BlockWay.{BlockWay}
@@ -24,26 +23,6 @@ use Rattle.requantiser.proofs.Macroblocks.{get_or-coarsened}
 use Rattle.requantiser.proofs.Scans.{AreOthers, are_others, index_of}
 use Rattle.requantiser.proofs.Sizes.{none_changed}
 use Rattle.requantiser.proofs.Sums.{block_difference, sum_from-suc, sum_from-same}
-
--- ---- over the coefficients
-
--- one more coefficient
-pub one_change : (change : ℕ → ℤ → ℕ) (place index sum x all : ℕ) (pairs : List RunLevel) (d : RunLevel) → index < length pairs
-    → (let pair : RunLevel = get_or pairs index d in x ≡ change (place + pair.run) pair.level)
-    → sum + pair_changes change place (drop index pairs) ≡ all
-    → let pair : RunLevel = get_or pairs index d in sum + x + pair_changes change (place + pair.run + 1) (drop (index + 1) pairs) ≡ all
-one_change change place index sum x all pairs d within is rest =
-    let pair : RunLevel = get_or pairs index d in
-    let cut : drop index pairs ≡ pair ∷ drop (index + 1) pairs = rw (add-one, drop-cons pairs index d) refl in
-    let both : pair_changes change place (drop index pairs) ≡ change (place + pair.run) pair.level + pair_changes change (place + pair.run + 1) (drop (index + 1) pairs) =
-    ap (pair_changes change place) cut in
-    omega (arith, rest, is, both)
-
-pub no_more_change : (change : ℕ → ℤ → ℕ) (place index sum all : ℕ) (pairs : List RunLevel) → length pairs ≤ index
-    → sum + pair_changes change place (drop index pairs) ≡ all → sum ≡ all
-no_more_change change place index sum all pairs past rest =
-    let none : pair_changes change place (drop index pairs) ≡ 0 = ap (pair_changes change place) (drop_all index pairs past) in
-    omega (arith, rest, none)
 
 -- ---- over the places
 

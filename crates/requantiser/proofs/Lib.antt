@@ -22,6 +22,7 @@ pub mod ShapeTest
 pub mod Slices
 pub mod Spelled
 pub mod Steps
+pub mod StatesBehind
 pub mod StepSums
 pub mod Sums
 pub mod SpelledHeads
@@ -32,6 +33,7 @@ pub mod SpellableElements
 pub mod SpellableBlocks
 pub mod SpellableMacroblocks
 pub mod SpellableSlices
+pub mod KeptChanges
 pub mod LawfulVersions
 pub mod Tallies
 pub mod BlockTallies

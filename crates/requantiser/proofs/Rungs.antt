@@ -3,14 +3,14 @@ use Rattle.std.proofs.Common.{◌≡◌, ℕ, ◌<◌, ℤ, List, Bool, true, fa
 use Rattle.std.specs.Prelude.{if◌then◌else◌}
 use Rattle.requantiser.specs.Private.Rungs.{AreRescaled, AreRescaledBy, way_number}
 
-abbrev one : Bool → ℕ
+abbrev pub one : Bool → ℕ
 one b = if b then 1 else 0
 
-one-most : (b : Bool) → one b < 2
+pub one-most : (b : Bool) → one b < 2
 one-most true = omega arith
 one-most false = omega arith
 
-same_kind : (a b : Bool) → one a ≡ one b → a ≡ b
+pub same_kind : (a b : Bool) → one a ≡ one b → a ≡ b
 same_kind true true is = refl
 same_kind true false is = absurd (omega (arith, is))
 same_kind false true is = absurd (omega (arith, is))

@@ -8,3 +8,4 @@ pub mod Tallies
 pub mod Rungs
 pub mod Lengths
 pub mod Counts
+pub mod KeptChanges

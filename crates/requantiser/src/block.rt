@@ -1,43 +1,41 @@
 ghost use Rattle.std.specs.Prelude.{◌≡◌, ◌<◌, ◌≤◌, ◌++◌, ◌^◌, [], unsigned_abs, if◌then◌else◌};
 ghost use Rattle.arrayvec.specs.ArrayVec.{array_vec_len};
-ghost use Rattle.picture_grammar.specs.Block.{first_place};
 ghost use Rattle.picture_grammar.specs.Picture.{AreWeights};
 ghost use Rattle.requantiser.specs.Levels.{HasWeights, weight_at as weight_at_place};
-ghost use Rattle.requantiser.specs.Private.Changes.{block_change, change_in, new_level_in, pair_changes, weight_in};
+ghost use Rattle.requantiser.specs.Private.Changes.{new_level_in, rescaled_block, weight_in};
 ghost use Rattle.requantiser.specs.Private.Shapes.{FitBlock};
-ghost use Rattle.requantiser.specs.Private.Walk.{coarsened_pairs, coarsened_block, kept_pair, zeros_behind};
+ghost use Rattle.requantiser.specs.Private.Walk.{coarsened_pairs, kept_pair, zeros_behind};
 
-use crate::codes::Codes;
-use crate::level::{Rescaling, change_level};
+use crate::kept_levels::KeptLevels;
+use crate::level::{Coefficient, Rescaling};
 use arrayvec::ArrayVec;
-use quant_math::{scale, scan};
-use syntax_types::{BLOCK_PLACES, Block, BlockWay, PicCoding, RunLevel, SeqState};
+use quant_math::scan;
+use syntax_types::{BLOCK_PLACES, Block, PicCoding, RunLevel, SeqState};
 
-/// Writes a block under another code into one that is lent, and gives the sum of the squares of the differences of its
-/// coefficients.
+/// Writes a block under another scale into one that is lent.
 pub fn coarsen_block(
-    seq: &SeqState,
-    coding: &PicCoding,
-    way: BlockWay,
-    codes: Codes,
+    levels: &mut KeptLevels,
+    weights: &[u8; BLOCK_PLACES],
+    rescaling: Rescaling,
     from: &Block,
     to: &mut Block,
-) -> u64
-    requires weights { HasWeights seq.now }
-    requires places { FitBlock (first_place way) from.now.pairs.items }
-    ensures block { to.new ≡ coarsened_block seq.now coding.now way codes.in_force codes.mapped from.now }
-    ensures distortion { result ≡ pair_changes (block_change seq.now coding.now way codes.in_force codes.mapped) (first_place way) from.now.pairs.items }
-    ensures bound { result ≤ 2 ^ 38 }
+)
+    requires weights { AreWeights weights.now }
+    requires places { FitBlock (if rescaling.intra then 1 else 0) from.now.pairs.items }
+    ensures { to.new ≡ rescaled_block weights.now rescaling.alternate rescaling.intra rescaling.from rescaling.to from.now }
 {
     to.dc = from.dc;
-    let rescaling = Rescaling {
-        alternate: coding.alternate_scan,
-        intra: way.intra,
-        from: scale(coding.q_scale_type, codes.in_force),
-        to: scale(coding.q_scale_type, codes.mapped),
-    };
-    let weights = matrix(seq, way.intra);
-    coarsen_pairs(weights, rescaling, from.pairs.as_slice(), &mut to.pairs)
+    if from.pairs.is_empty() {
+        to.pairs.clear();
+        return;
+    }
+    coarsen_pairs(
+        levels,
+        weights,
+        rescaling,
+        from.pairs.as_slice(),
+        &mut to.pairs,
+    );
 }
 
 /// The matrix of intra or non-intra blocks.
@@ -49,35 +47,38 @@ pub fn matrix(seq: &SeqState, intra: bool) -> &[u8; BLOCK_PLACES]
     if intra { &seq.intra } else { &seq.non_intra }
 }
 
-/// Writes the coefficients of a block under another scale, and gives the sum of the squares of their differences.
+/// Writes the coefficients of a block under another scale. It isn't inlined, so that its loop has the registers.
+#[inline(never)]
 fn coarsen_pairs(
+    levels: &mut KeptLevels,
     weights: &[u8; BLOCK_PLACES],
     rescaling: Rescaling,
     pairs: &[RunLevel],
     to: &mut ArrayVec<RunLevel, BLOCK_PLACES>,
-) -> u64
+)
     requires weights { AreWeights weights.now }
     requires places { FitBlock (if rescaling.intra then 1 else 0) pairs.now }
-    ensures items { to.new.items ≡ coarsened_pairs (new_level_in weights.now rescaling.alternate rescaling.intra rescaling.from rescaling.to) (if rescaling.intra then 1 else 0) 0 pairs.now }
-    ensures distortion { result ≡ pair_changes (change_in weights.now rescaling.alternate rescaling.intra rescaling.from rescaling.to) (if rescaling.intra then 1 else 0) pairs.now }
-    ensures bound { result ≤ 2 ^ 38 }
+    ensures { to.new.items ≡ coarsened_pairs (new_level_in weights.now rescaling.alternate rescaling.intra rescaling.from rescaling.to) (if rescaling.intra then 1 else 0) 0 pairs.now }
 {
     to.clear();
     let mut place = u8::from(rescaling.intra);
     let mut waiting = 0;
-    let mut sum: u32 = 0;
     for pair in pairs {
         let at = place + pair.run;
         let weight = weight_in_scan(weights, rescaling.alternate, at);
-        let change = change_level(pair.level, weight, rescaling);
-        waiting = add_level(to, waiting + pair.run, change.level);
-        sum += change.squared;
+        let coefficient = Coefficient {
+            level: pair.level,
+            weight,
+            at,
+        };
+        let level = levels.coarser(coefficient, rescaling);
+        waiting = add_level(to, waiting + pair.run, level);
         place = at + 1;
     }
-    u64::from(sum)
 }
 
 /// Adds a coefficient behind so many zeros, unless it is 0, and gives the zeros that wait then.
+#[inline]
 fn add_level(to: &mut ArrayVec<RunLevel, BLOCK_PLACES>, zeros: u8, level: i16) -> u8
     requires zeros { zeros < BLOCK_PLACES }
     requires room { array_vec_len to.old < BLOCK_PLACES }

@@ -69,6 +69,7 @@ pub struct Change {
 }
 
 /// What a level becomes at a place of this weight.
+#[inline]
 pub fn change_level(level: i16, weight: u8, rescaling: Rescaling) -> Change
     requires weighted { 0 < weight }
     requires small { unsigned_abs level < 2 ^ (LEVEL_BITS - 1) }

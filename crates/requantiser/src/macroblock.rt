@@ -3,98 +3,76 @@ ghost use Rattle.quant_math.specs.Scales.{IsCode, IsMappedCode};
 ghost use Rattle.syntax_types.specs.declared.block.Block.{Block as BlockOf};
 ghost use Rattle.picture_grammar.specs.Macroblock.{no_block};
 ghost use Rattle.requantiser.specs.Blocks.{no_blocks};
-ghost use Rattle.requantiser.specs.Distortion.{difference_of};
 ghost use Rattle.requantiser.specs.Levels.{HasWeights};
 ghost use Rattle.requantiser.specs.Macroblocks.{pattern_of as pattern_of_blocks};
-ghost use Rattle.requantiser.specs.Private.Changes.{coefficient_of_blocks, coefficient_of_made};
 ghost use Rattle.requantiser.specs.Private.Shapes.{FitBlock, HasShape, IsMeasured};
 ghost use Rattle.requantiser.specs.Private.Walk.{coarsened_blocks, made_blocks, kept_blocks, first_of, first_coded as first_coded_block, are_empty as are_all_empty, is_coded_without_motion as stands_without_motion, with_blocks};
 
-use crate::block::coarsen_block;
+use crate::block::{coarsen_block, matrix};
 use crate::codes::Codes;
 use crate::head::Head;
+use crate::kept_levels::KeptLevels;
+use crate::level::Rescaling;
 use arrayvec::ArrayVec;
-use picture_grammar::stands::{block_way, has_dct_type, is_coded};
-use quant_math::map_code;
+use picture_grammar::stands::{has_dct_type, is_coded};
+use quant_math::scale;
 use syntax_types::{
     BLOCKS, Block, Kind, Macroblock, PicCoding, RunLevel, SeqState, VECTORS_MOST, Vector,
 };
 
-/// What the blocks of a macroblock became.
-#[derive(Clone, Copy)]
-pub struct Made {
-    /// They stand in the coarser picture, and the macroblock isn't skipped.
-    pub coded: bool,
-    /// All would be emptied, and one coefficient is kept.
-    pub kept: bool,
-    /// The sum of the squares of the differences of the coefficients, where none is kept.
-    pub distortion: u64,
-}
-
-/// Writes the blocks that stand in the coarser picture for those of a macroblock, and says whether it is coded there.
+/// Writes the blocks that stand in the coarser picture for those of a macroblock, and says whether it is coded there, and
+/// not skipped. Where all would be emptied in one that isn't skipped, one coefficient is kept.
 pub fn make_blocks(
+    levels: &mut KeptLevels,
     seq: &SeqState,
     coding: &PicCoding,
     codes: Codes,
     inner: bool,
     from: &Macroblock,
     to: &mut [Block; BLOCKS],
-) -> Made
+) -> bool
     requires weights { HasWeights seq.now }
     requires shape { HasShape from.now }
     requires measured { IsMeasured from.now }
-    ensures made { (if result.coded then Option.Some to.new else Option.None) ≡ made_blocks seq.now coding.now inner codes.in_force codes.mapped from.now }
-    ensures kept { result.coded ≡ false → result.kept ≡ false }
-    ensures distortion { result.kept ≡ false → result.distortion ≡ difference_of (coefficient_of_blocks seq.now coding.now from.now.kind codes.in_force from.now.blocks)
-        (coefficient_of_made seq.now coding.now from.now.kind codes.mapped (if result.coded then Option.Some to.new else Option.None)) }
-    ensures bound { result.distortion ≤ 2 ^ 41 }
+    ensures { (if result then Option.Some to.new else Option.None) ≡ made_blocks seq.now coding.now inner codes.in_force codes.mapped from.now }
 {
-    let distortion = coarsen_blocks(seq, coding, codes, from, to);
+    coarsen_blocks(levels, seq, coding, codes, from, to);
     if !is_emptied(from.kind, to) {
-        return Made {
-            coded: true,
-            kept: false,
-            distortion,
-        };
+        return true;
     }
     if inner {
-        return Made {
-            coded: false,
-            kept: false,
-            distortion,
-        };
+        return false;
     }
     keep_first(from, to);
-    Made {
-        coded: true,
-        kept: true,
-        distortion,
-    }
+    true
 }
 
-/// Writes the blocks of a macroblock under another code, and gives the sum of the squares of the differences of their
-/// coefficients.
+/// Writes the blocks of a macroblock under another code.
 fn coarsen_blocks(
+    levels: &mut KeptLevels,
     seq: &SeqState,
     coding: &PicCoding,
     codes: Codes,
     from: &Macroblock,
     to: &mut [Block; BLOCKS],
-) -> u64
+)
     requires weights { HasWeights seq.now }
     requires shape { HasShape from.now }
     requires measured { IsMeasured from.now }
-    ensures blocks { to.new ≡ coarsened_blocks seq.now coding.now from.now.kind codes.in_force codes.mapped from.now.blocks }
-    ensures distortion { result ≡ difference_of (coefficient_of_blocks seq.now coding.now from.now.kind codes.in_force from.now.blocks)
-        (coefficient_of_blocks seq.now coding.now from.now.kind codes.mapped (coarsened_blocks seq.now coding.now from.now.kind codes.in_force codes.mapped from.now.blocks)) }
-    ensures bound { result ≤ 2 ^ 41 }
+    ensures { to.new ≡ coarsened_blocks seq.now coding.now from.now.kind codes.in_force codes.mapped from.now.blocks }
 {
-    let mut sum = 0;
+    let in_force = scale(coding.q_scale_type, codes.in_force);
+    let mapped = scale(coding.q_scale_type, codes.mapped);
+    let rescaling = Rescaling {
+        alternate: coding.alternate_scan,
+        intra: from.kind.intra,
+        from: in_force,
+        to: mapped,
+    };
+    let weights = matrix(seq, from.kind.intra);
     for i in 0..BLOCKS {
-        let way = block_way(coding, from.kind, i);
-        sum += coarsen_block(seq, coding, way, codes, &from.blocks[i], &mut to[i]);
+        coarsen_block(levels, weights, rescaling, &from.blocks[i], &mut to[i]);
     }
-    sum
 }
 
 /// A macroblock without motion has no coefficients left in these blocks.

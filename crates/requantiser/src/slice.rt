@@ -8,6 +8,7 @@ ghost use Rattle.requantiser.specs.VersionState.{IsStateBehind};
 ghost use Rattle.requantiser.specs.Private.Shapes.{IsWalkable, AreWalkable};
 ghost use Rattle.requantiser.specs.Private.Walk.{coarsened_macroblock, coarsened_macroblocks, coarsened_slice};
 
+use crate::kept_levels::KeptLevels;
 use crate::step::step;
 use crate::version_state::VersionState;
 use arrayvec::ArrayVec;
@@ -57,9 +58,18 @@ fn coarsen_macroblocks(
 {
     let mut made = ListOf::new(alloc);
     let mut state = start;
+    let mut levels = KeptLevels::new();
     for i in 0..macroblocks.len() {
         let inner = is_inner(i, macroblocks.len());
-        add_macroblock(seq, coding, inner, &mut state, &macroblocks[i], &mut made)?;
+        add_macroblock(
+            &mut levels,
+            seq,
+            coding,
+            inner,
+            &mut state,
+            &macroblocks[i],
+            &mut made,
+        )?;
     }
     Ok(made)
 }
@@ -74,6 +84,7 @@ fn is_inner(i: usize, count: usize) -> bool
 
 /// Adds what becomes of a macroblock, if it isn't skipped.
 fn add_macroblock(
+    levels: &mut KeptLevels,
     seq: &SeqState,
     coding: &PicCoding,
     inner: bool,
@@ -90,8 +101,8 @@ fn add_macroblock(
         (unwrap_or from.now.code state.old.source_code) state.old.version_code (state.old.skipped + from.now.skipped_before) from.now) state.old state.new }
 {
     let mut to = Macroblock::empty();
-    let coarsened = step(seq, coding, inner, state, from, &mut to);
-    if coarsened.coded {
+    let coded = step(levels, seq, coding, inner, state, from, &mut to);
+    if coded {
         made.push(to)?;
     }
     Ok(())

@@ -8,7 +8,8 @@ ghost use Rattle.requantiser.specs.Private.Shapes.{HasShape, IsMeasured, IsSide}
 ghost use Rattle.requantiser.specs.Private.Walk.{mapped_code, coarsened_macroblock};
 
 use crate::codes::Codes;
-use crate::difference::{Side, difference_of_two};
+use crate::difference::{Side, difference_of_one, difference_of_two};
+use crate::kept_levels::KeptLevels;
 use crate::macroblock::{make_blocks, write_head};
 use crate::version_state::VersionState;
 use quant_math::{LAST_CODE, WHOLE_RATIO, map_code};
@@ -23,9 +24,9 @@ pub struct Coarsened {
     pub distortion: u64,
 }
 
-/// Writes what becomes of a macroblock that some bits spell into one that is lent; where it is skipped in the version,
-/// what was lent says nothing. An inner macroblock is neither the first nor the last one of its slice that isn't skipped.
-/// All skipped macroblocks of a row fit their number.
+/// Writes what becomes of a macroblock that some bits spell into one that is lent, with its distortion; where it is skipped
+/// in the version, what was lent says nothing. An inner macroblock is neither the first nor the last one of its slice that
+/// isn't skipped. All skipped macroblocks of a row fit their number.
 pub fn coarsen_macroblock(
     seq: &SeqState,
     coding: &PicCoding,
@@ -43,84 +44,86 @@ pub fn coarsen_macroblock(
         (coefficient_of_macroblock seq.now coding.now state.new.version_code (made_of result.coded to.new)) }
     ensures bound { result.distortion ≤ 2 ^ 41 }
 {
-    let made = step(seq, coding, inner, state, from, to);
-    if made.coded {
-        Coarsened {
-            coded: true,
-            distortion: made.distortion,
-        }
-    } else {
-        Coarsened {
-            coded: false,
-            distortion: made.distortion,
-        }
-    }
+    let mut levels = KeptLevels::new();
+    let coded = step(&mut levels, seq, coding, inner, state, from, to);
+    let distortion = distortion_of(seq, coding, *state, from, coded, to);
+    Coarsened { coded, distortion }
 }
 
-/// The same of a macroblock of the right shape, by the walk.
-pub fn step(
+/// Writes what becomes of a macroblock as `coarsen_macroblock` does, and says whether it is coded in the version, and not
+/// skipped. Its distortion isn't added up, and what levels become is looked up in those that are lent, as far as it was
+/// asked for.
+pub fn requantise_macroblock(
+    levels: &mut KeptLevels,
     seq: &SeqState,
     coding: &PicCoding,
     inner: bool,
     state: &mut VersionState,
     from: &Macroblock,
     to: &mut Macroblock,
-) -> Coarsened
+) -> bool
+    requires weights { HasWeights seq.now }
+    requires spelled { IsSpelledMacroblock coding.now from.now }
+    requires room { state.old.skipped + from.now.skipped_before < u16.MAX }
+    ensures at { IsCoarserAt seq.now coding.now state.old.m inner state.old.source_code state.old.version_code (Option.Some from.now) (made_of result to.new) }
+    ensures behind { IsStateBehind from.now (made_of result to.new) state.old state.new }
+{
+    step(levels, seq, coding, inner, state, from, to)
+}
+
+/// The same of a macroblock of the right shape, by the walk.
+pub fn step(
+    levels: &mut KeptLevels,
+    seq: &SeqState,
+    coding: &PicCoding,
+    inner: bool,
+    state: &mut VersionState,
+    from: &Macroblock,
+    to: &mut Macroblock,
+) -> bool
     requires weights { HasWeights seq.now }
     requires shape { HasShape from.now }
     requires measured { IsMeasured from.now }
     requires room { state.old.skipped + from.now.skipped_before < u16.MAX }
-    ensures made { (if result.coded then Option.Some to.new else Option.None) ≡ coarsened_macroblock seq.now coding.now state.old.m inner
+    ensures made { (if result then Option.Some to.new else Option.None) ≡ coarsened_macroblock seq.now coding.now state.old.m inner
         (unwrap_or from.now.code state.old.source_code) state.old.version_code (state.old.skipped + from.now.skipped_before) from.now }
     ensures ratio { state.new.m ≡ state.old.m }
     ensures source_code { state.new.source_code ≡ unwrap_or from.now.code state.old.source_code }
-    ensures version_code { state.new.version_code ≡ (if result.coded then unwrap_or to.new.code state.old.version_code else state.old.version_code) }
-    ensures skipped { state.new.skipped ≡ (if result.coded then 0 else state.old.skipped + from.now.skipped_before + 1) }
-    ensures distortion { result.distortion ≡ difference_of (coefficient_of_macroblock seq.now coding.now state.new.source_code (Option.Some from.now))
-        (coefficient_of_macroblock seq.now coding.now state.new.version_code (if result.coded then Option.Some to.new else Option.None)) }
-    ensures bound { result.distortion ≤ 2 ^ 41 }
+    ensures version_code { state.new.version_code ≡ (if result then unwrap_or to.new.code state.old.version_code else state.old.version_code) }
+    ensures skipped { state.new.skipped ≡ (if result then 0 else state.old.skipped + from.now.skipped_before + 1) }
+    ensures placed { result ≡ true → to.new.skipped_before ≡ state.old.skipped + from.now.skipped_before }
+    ensures source { IsSide seq.now state.new.source_code from.now }
+    ensures version { result ≡ true → IsSide seq.now state.new.version_code to.new }
 {
     let in_force = code_in_force(from.code, state.source_code);
     let mapped = mapped(coding.q_scale_type, state.m, in_force);
     let skipped = state.skipped + from.skipped_before;
     state.source_code = in_force;
     let codes = Codes { in_force, mapped };
-    let made = make_blocks(seq, coding, codes, inner, from, &mut to.blocks);
-    if !made.coded {
+    let coded = make_blocks(levels, seq, coding, codes, inner, from, &mut to.blocks);
+    if !coded {
         state.skipped = skipped + 1;
-        return Coarsened {
-            coded: false,
-            distortion: made.distortion,
-        };
+        return false;
     }
     write_head(coding, mapped, state.version_code, skipped, from, to);
     state.version_code = code_in_force(to.code, state.version_code);
     state.skipped = 0;
-    if made.kept {
-        let distortion = kept_distortion(seq, coding, *state, from, to);
-        return Coarsened {
-            coded: true,
-            distortion,
-        };
-    }
-    Coarsened {
-        coded: true,
-        distortion: made.distortion,
-    }
+    true
 }
 
-/// The distortion of a macroblock of which one coefficient is kept, which is rare: over all places.
-fn kept_distortion(
+/// The distortion of a macroblock in a version in which it is coded or skipped, by the codes in force, over all places.
+fn distortion_of(
     seq: &SeqState,
     coding: &PicCoding,
     state: VersionState,
     from: &Macroblock,
+    coded: bool,
     to: &Macroblock,
 ) -> u64
     requires source { IsSide seq.now state.source_code from.now }
-    requires version { IsSide seq.now state.version_code to.now }
+    requires version { coded ≡ true → IsSide seq.now state.version_code to.now }
     ensures value { result ≡ difference_of (coefficient_of_macroblock seq.now coding.now state.source_code (Option.Some from.now))
-        (coefficient_of_macroblock seq.now coding.now state.version_code (Option.Some to.now)) }
+        (coefficient_of_macroblock seq.now coding.now state.version_code (made_of coded to.now)) }
     ensures bound { result ≤ 2 ^ 41 }
 {
     let source = Side {
@@ -129,6 +132,9 @@ fn kept_distortion(
         code: state.source_code,
         macroblock: from,
     };
+    if !coded {
+        return difference_of_one(source);
+    }
     let version = Side {
         seq,
         coding,

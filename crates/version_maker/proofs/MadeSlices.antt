@@ -19,18 +19,15 @@ use Rattle.syntax_types.specs.declared.slice.SliceInfo.{SliceInfo}
 use Rattle.stream_constants.specs.declared.start_codes.TheConstants.{FIRST_SLICE}
 use Rattle.picture_grammar.specs.Grammar.{optional}
 use Rattle.picture_grammar.specs.Grammar.Next.{more, last}
-use Rattle.picture_grammar.specs.Slice.{ClosesSlice, columns, columns_left, next_macroblock, slice_extension}
+use Rattle.picture_grammar.specs.Slice.{ClosesSlice, next_macroblock, slice_extension}
 use Rattle.picture_grammar.specs.StartCode.{start_code_bits}
 use Rattle.picture_grammar.specs.Written.{written_macroblock, written_slice, written_slice_info}
-use Rattle.quant_math.specs.Scales.{IsCode}
 use Rattle.macroblock_reader.specs.declared.head.SliceHead.{SliceHead}
 use Rattle.macroblock_reader.specs.declared.cursor.SliceCursor.{SliceCursor}
 use Rattle.macroblock_reader.specs.SliceCursor.{StandsBehind}
 use Rattle.macroblock_reader.specs.SliceHead.{slice_head}
 use Rattle.requantiser.specs.declared.version_state.VersionState.{VersionState}
 use Rattle.requantiser.specs.Steps.{AreSteps, IsStep, Step, made_by, state_behind, taken_by}
-use Rattle.requantiser.specs.VersionState.{IsSpelledMacroblock}
-use Rattle.requantiser.proofs.Spelled.{is_code}
 use Rattle.requantiser.proofs.Steps.{one-more-step}
 use Rattle.version_maker.specs.Private.Counts.{written_whole}
 use Rattle.version_maker.specs.Private.Making.{AreInOrder, GoesOn}

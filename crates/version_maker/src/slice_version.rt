@@ -27,17 +27,18 @@ use macroblock_reader::{SliceCursor, SliceFault, SliceHead, read_slice_head};
 use macroblock_writer::{write_macroblock, write_slice_head};
 use picture_reader::{Span, columns};
 use picture_writer::write_start_code;
-use requantiser::{VersionState, coarsen_macroblock};
+use requantiser::{KeptLevels, VersionState, requantise_macroblock};
 use shelf_io::{Fault, Sink, SliceSource, Source};
 use std::alloc::Global;
 use stream_constants::start_codes::FIRST_SLICE;
 use syntax_types::{Macroblock, PicCoding, SeqState, SliceInfo};
 
-/// Macroblocks that are lent: one of the source, and what becomes of it.
+/// What is lent: a macroblock of the source, what becomes of it, and what levels become.
 #[derive(Drop)]
 pub struct Lent {
     pub from: Macroblock,
     pub made: Macroblock,
+    pub levels: KeptLevels,
 }
 
 impl Lent {
@@ -45,6 +46,7 @@ impl Lent {
         Lent {
             from: Macroblock::empty(),
             made: Macroblock::empty(),
+            levels: KeptLevels::new(),
         }
     }
 }
@@ -177,8 +179,16 @@ fn make_macroblock<K: Sink>(
     requires goes { is_stopped to.old ≡ false }
     ensures { OnOk result (IsWrittenStep K.written seq.now coding.now inner lent.old.from state.old state.new to.old to.new) }
 {
-    let made = coarsen_macroblock(seq, coding, inner, state, &lent.from, &mut lent.made);
-    write_where_coded(coding, made.coded, &lent.made, to)
+    let coded = requantise_macroblock(
+        &mut lent.levels,
+        seq,
+        coding,
+        inner,
+        state,
+        &lent.from,
+        &mut lent.made,
+    );
+    write_where_coded(coding, coded, &lent.made, to)
 }
 
 /// Writes a macroblock where it is coded, and nothing where it is skipped.

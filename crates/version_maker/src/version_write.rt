@@ -1,5 +1,5 @@
 //! The version of a unit, written while the unit is read: one slice after another, of which none is kept.
-ghost use Rattle.std.specs.Prelude.{◌≡◌, ◌≤◌, ◌^◌, ℕ, List, length, take, IfOk, MatchResult, OnOk};
+ghost use Rattle.std.specs.Prelude.{◌≡◌, ◌≤◌, ◌^◌, ℕ, List, length, take, MatchResult, OnOk};
 ghost use Rattle.std.specs.Option.{option_copied};
 ghost use Rattle.shelf_io.specs.Sink.{with_bytes};
 ghost use Rattle.bit_cursor.specs.BitWriter.{AddsBits};
@@ -18,7 +18,7 @@ use list_types::{ListOf, OutOfMemory};
 use picture_heads::without_delay;
 use picture_reader::{PictureFault, UnitCursor, UnitPart};
 use picture_writer::write_end;
-use shelf_io::{CalmSink, Sink, put_all};
+use shelf_io::{Sink, VecSink, put_all};
 use std::alloc::Global;
 use syntax_types::SeqState;
 
@@ -33,22 +33,11 @@ pub fn coarser_bytes(
     requires before { MayPrecede (option_copied before) }
     ensures { MatchResult result (AreCoarserBytesOf (option_copied before.entry) unit.now m) (IsRefusedAs (option_copied before.entry) unit.now) }
 {
-    let mut sink = CalmSink::new(alloc);
+    let mut sink = VecSink::new(alloc);
     match make_version(alloc, unit, before, m, &mut sink) {
-        Ok(()) => {
-            let bytes = bytes_of(alloc, &sink)?;
-            Ok(bytes)
-        }
+        Ok(()) => Ok(ListOf::from_vec(sink.into_bytes())),
         Err(fault) => Err(fault),
     }
-}
-
-/// What a sink holds.
-fn bytes_of(alloc: Global, sink: &CalmSink) -> Result<ListOf<u8>, OutOfMemory>
-    ensures { IfOk result (λ bytes. bytes ≡ sink.now) }
-{
-    let bytes = sink.bytes().to_vec(alloc)?;
-    Ok(ListOf::from_vec(bytes))
 }
 
 /// Writes the version at `m` sixteenths. A fault of the sink is answered as want of memory.

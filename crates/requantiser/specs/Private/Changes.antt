@@ -1,6 +1,5 @@
 -- How far the coefficients of blocks move when their levels become coarser, one coefficient after the other.
-use Rattle.std.specs.Prelude.{◌+◌, ℕ, ℤ, pos, slice_index, slice_index_or, Bool, Option, List, [], ◌∷◌}
-use Rattle.std.specs.Option.{option_map_or}
+use Rattle.std.specs.Prelude.{◌+◌, ℕ, ℤ, slice_index, slice_index_or, Bool, List, [], ◌∷◌, if◌then◌else◌}
 use Rattle.quant_math.specs.Levels.{coarser_level, coefficient_of}
 use Rattle.quant_math.specs.Scans.{scan_order}
 use Rattle.syntax_types.specs.declared.block.Block.{Block}
@@ -12,6 +11,7 @@ use Rattle.syntax_types.specs.declared.picture.SeqState.{SeqState}
 use Rattle.picture_grammar.specs.Macroblock.{block_way, no_block}
 use Rattle.requantiser.specs.Distortion.{squared_difference}
 use Rattle.requantiser.specs.Levels.{coefficient_at, place_of, scale_of, weight_at}
+use Rattle.requantiser.specs.Private.Walk.{coarsened_pairs}
 
 -- the weight of a place of the scan in a matrix
 abbrev pub weight_in : List ℕ → Bool → ℕ → ℕ
@@ -25,6 +25,13 @@ level_change level weight from to intra =
 -- the level that a level becomes at a place of the scan, under other scales
 abbrev pub new_level_in : List ℕ → Bool → Bool → ℕ → ℕ → ℕ → ℤ → ℤ
 new_level_in weights alternate intra from to place level = coarser_level level (weight_in weights alternate place) from to intra
+
+-- the block whose levels become these
+abbrev pub rescaled_block : List ℕ → Bool → Bool → ℕ → ℕ → Block → Block
+rescaled_block weights alternate intra from to block = record {
+  dc = block.dc;
+  pairs = record { items = coarsened_pairs (new_level_in weights alternate intra from to) (if intra then 1 else 0) 0 block.pairs.items };
+}
 
 -- how far its coefficient moves
 abbrev pub change_in : List ℕ → Bool → Bool → ℕ → ℕ → ℕ → ℤ → ℕ
@@ -44,7 +51,3 @@ pair_changes change place (pair ∷ pairs) = change (place + pair.run) pair.leve
 abbrev pub coefficient_of_blocks : SeqState → PicCoding → Kind → ℕ → List Block → ℕ → ℕ → ℤ
 coefficient_of_blocks seq coding kind code blocks i index =
     coefficient_at seq coding (block_way coding kind i) code (slice_index_or blocks i no_block) (place_of coding.alternate_scan index)
-
--- the same of the blocks of a coarser macroblock, and 0 where it is skipped
-abbrev pub coefficient_of_made : SeqState → PicCoding → Kind → ℕ → Option (List Block) → ℕ → ℕ → ℤ
-coefficient_of_made seq coding kind code made i index = option_map_or (λ blocks. coefficient_of_blocks seq coding kind code blocks i index) made (pos 0)
