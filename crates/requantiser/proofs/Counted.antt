@@ -1,13 +1,14 @@
 -- The counts of several versions at once, and the lengths of codes that they are made of.
 use Rattle.std.proofs.Common.{◌≡◌, ℕ, ◌+◌, ◌-◌, ◌*◌, ◌^◌, ◌<◌, ◌≤◌, ℤ, pos, unsigned_abs, int_lt, Option, Some, None, List, [], ◌∷◌, ◌++◌, Bool, true, false, refl, sym, ◌∙◌, ap, ap₂, subst, ◌⊎◌, inl, inr, arith, length, replicate, get_or, length-append}
-use Rattle.std.specs.Prelude.{◌==◌, ◌&&◌, ◌≢◌, slice_set, if◌then◌else◌}
+use Rattle.std.specs.Prelude.{◌==◌, ◌&&◌, ◌||◌, not, ◌≢◌, slice_set, if◌then◌else◌}
 use Rattle.std.specs.Option.{option_map_or}
 use Rattle.std.proofs.lemmas.Bool.{cases_lt, cases_order, ne_eqb}
 use Rattle.std.proofs.lemmas.List.{get_or-set_same, get_or-set_other, get_or-replicate, get_or_past, length-replicate}
+use mir.Val.{bool_byte}
 use Rattle.bit_lists.specs.Bits.{bits_of}
 use Rattle.bit_lists.specs.Fields.{flag}
 use Rattle.bit_lists.proofs.BitLemmas.{length-bits_of}
-use Rattle.prefix_codes.specs.declared.symbol.TheConstants.{ESCAPE}
+use Rattle.prefix_codes.specs.declared.symbol.TheConstants.{END_OF_BLOCK, ESCAPE}
 use Rattle.prefix_codes.specs.declared.table_name.TableName.{TableName}
 use Rattle.prefix_codes.specs.declared.table_name.TableName.TheVariants.{CoeffZero, CoeffFirst, CoeffOne}
 use Rattle.prefix_codes.specs.TableName.{coefficient_code}
@@ -30,9 +31,9 @@ use Rattle.requantiser.specs.declared.targets.Targets.{Targets}
 use Rattle.requantiser.specs.Private.Counts.{IsEndedBy, IsSized, IsTheTally, bits_by, next_by, tally_in}
 use Rattle.requantiser.specs.Private.Lengths.{AreLengths, length_by, table_number, table_numbered}
 use Rattle.requantiser.specs.Private.Changes.{pair_changes}
-use Rattle.requantiser.specs.Private.Tallies.{IsCounted, IsEnded, IsTallied, bits_at, has_none}
+use Rattle.requantiser.specs.Private.Tallies.{IsCounted, IsCountedBlock, IsEnded, IsTallied, bits_at, has_none}
 use Rattle.requantiser.specs.Private.Walk.{coarsened_pairs}
-use Rattle.requantiser.proofs.Tallies.{three_parts}
+use Rattle.requantiser.proofs.Tallies.{block_counted, three_parts}
 
 -- ---- the lengths of codes
 
@@ -178,14 +179,33 @@ ended_by way before behind target distortion is = record {
   few = is.few;
 }
 
--- the same end, by other numbers of the same value
-pub ended_as : (way : BlockWay) (next pattern bits n p b n' p' b' : ℕ) → n' ≡ n → p' ≡ p → b' ≡ b → IsEndedBy way next pattern bits n p b → IsEndedBy way next pattern bits n' p' b'
-ended_as way next pattern bits n p b n' p' b' x y z is = record {
-  next_is = x ∙ is.next_is;
-  pattern_is = y ∙ is.pattern_is;
-  bits_is = z ∙ is.bits_is;
-  few = omega (arith, z, is.few);
+-- a flag as a byte
+pub flag_byte : (is : Bool) → bool_byte is ≡ flag is
+flag_byte true = refl
+flag_byte false = refl
+
+-- a flag is 0 or 1
+pub flag_few : (coded : ℕ) (is : Bool) → coded ≡ flag is → coded ≤ 1
+flag_few coded true c = omega (arith, c)
+flag_few coded false c = omega (arith, c)
+
+-- the end of a block, by the parts that change
+pub ended_of : (way : BlockWay) (next pattern bits end coded next' pattern' bits' : ℕ) → next' ≡ first_place way → coded ≡ flag (not (next == first_place way))
+    → pattern' ≡ 2 * pattern + coded → end ≡ length (code_for CoeffZero END_OF_BLOCK) → bits' ≡ bits + (if way.intra then 0 else end) * coded → bits' ≤ bits + 24
+    → IsEndedBy way next pattern bits next' pattern' bits'
+ended_of way next pattern bits end coded next' pattern' bits' n flags p ends b few = record {
+  next_is = n;
+  pattern_is = p ∙ ap (λ c. 2 * pattern + c) flags;
+  bits_is = b ∙ ap (λ (c : ℕ). bits + (if way.intra then 0 else end) * c) flags ∙ ap (λ (e : ℕ). bits + (if way.intra then 0 else e) * flag (not (next == first_place way))) ends
+      ∙ ap (λ n. bits + n) (by_bools (next == first_place way) way.intra (length (code_for CoeffZero END_OF_BLOCK)));
+  few = few;
 }
+  where
+    by_bools : (none intra : Bool) (e : ℕ) → (if intra then 0 else e) * flag (not none) ≡ (if none || intra then 0 else e)
+    by_bools true true e = refl
+    by_bools true false e = omega arith
+    by_bools false true e = refl
+    by_bools false false e = omega arith
 
 -- a count that is told by a tally
 pub tally_as : (seq : SeqState) (coding : PicCoding) (code m : ℕ) (from : Macroblock) (targets : Targets) (counts : Counts) (k : ℕ) (below : k < 8) (tally : Tally)
@@ -230,3 +250,32 @@ module _ (new : ℕ → ℤ → ℤ) (change : ℕ → ℤ → ℕ) (all : List 
         few = omega arith;
         small = omega arith;
       }
+
+-- a block without coefficients was counted
+pub empty_counted : (way : BlockWay) (new : ℕ → ℤ → ℤ) (change : ℕ → ℤ → ℕ) (pairs : List RunLevel) (start : Tally) → length pairs ≤ 0 → start.next ≡ first_place way
+    → IsCountedBlock way new change pairs start start
+empty_counted way new change pairs start none next =
+    block_counted way new change (first_place way) 0 pairs start start none (few way.intra) (none_counted new change pairs start (first_place way) way refl next)
+  where
+    few : (intra : Bool) → (if intra then 1 else 0) ≤ 64
+    few true = omega arith
+    few false = omega arith
+
+-- its end was counted
+pub empty_ended : (way : BlockWay) (next pattern bits next' pattern' bits' : ℕ) → next ≡ first_place way → next' ≡ next → pattern' ≡ 2 * pattern → bits' ≡ bits
+    → IsEndedBy way next pattern bits next' pattern' bits'
+empty_ended way next pattern bits next' pattern' bits' first n p b =
+    let none : (next == first_place way) ≡ true = subst (λ (m : ℕ). (m == first_place way) ≡ true) (sym first) (itself way.intra) in
+    let blocks : flag (not (next == first_place way)) ≡ 0 = ap (λ (is : Bool). flag (not is)) none in
+    let ends : (if next == first_place way || way.intra then 0 else length (code_for CoeffZero END_OF_BLOCK)) ≡ 0 =
+    ap (λ (is : Bool). if is || way.intra then 0 else length (code_for CoeffZero END_OF_BLOCK)) none in
+    record {
+      next_is = n ∙ first;
+      pattern_is = omega (arith, p, blocks);
+      bits_is = omega (arith, b, ends);
+      few = omega (arith, b);
+    }
+  where
+    itself : (intra : Bool) → let first : ℕ = if intra then 1 else 0 in (first == first) ≡ true
+    itself true = refl
+    itself false = refl

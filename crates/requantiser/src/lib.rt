@@ -2,6 +2,7 @@
 #![tactic(auto)]
 
 mod block;
+mod block_ends;
 mod code_lengths;
 mod codes;
 mod comparison;

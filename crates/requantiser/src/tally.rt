@@ -65,6 +65,10 @@ pub fn add_block(
     ensures { EachWent (λ before behind. IsBlockTallied way (new_level_in weights.now rescaling.alternate rescaling.intra rescaling.from before.target.scale)
         (change_in weights.now rescaling.alternate rescaling.intra rescaling.from before.target.scale) pairs.now before behind) targets.now counts.old counts.new }
 {
+    if pairs.is_empty() {
+        counts.end_empty_block();
+        return;
+    }
     add_coefficients(counts, targets, way, rescaling, weights, pairs, ladder);
     counts.end_block(way);
 }
