@@ -29,7 +29,7 @@ pub use comparison::distortion;
 pub use head::Head;
 pub use ladder::Ladder;
 pub use macroblock_tally::tally_macroblock;
-pub use outline::{Outline, Outlined, outline_macroblock};
+pub use outline::{Outline, Outlined, coded_head, is_emptied, outline_macroblock};
 pub use picture::coarsen;
 pub use step::{Coarsened, coarsen_macroblock};
 pub use tally::{Tally, VERSIONS_AT_ONCE};

@@ -14,7 +14,7 @@ ghost use Rattle.version_maker.specs.Private.Counts.{CanCount, IsCountedMacroblo
 
 use macroblock_writer::{head_bits, macroblock_bits, motion_and_dc_bits};
 use quant_math::WHOLE_RATIO;
-use requantiser::{Head, Outline, Tally, VERSIONS_AT_ONCE, VersionState, outline_macroblock};
+use requantiser::{Head, Outline, Tally, VERSIONS_AT_ONCE, VersionState, coded_head, is_emptied, outline_macroblock};
 use syntax_types::{Kind, Macroblock, PicCoding, SeqState, SliceInfo};
 
 /// Where one version stands in a slice, and what was counted of it.
@@ -132,6 +132,35 @@ pub fn count_macroblock(
 /// Counts what becomes of one more macroblock in a version, through one that is lent. Its motion and its DC coefficients are
 /// the same in all versions, in so many bits.
 fn count_version(
+    seq: &SeqState,
+    coding: &PicCoding,
+    inner: bool,
+    from: &Macroblock,
+    shared: u32,
+    tally: Tally,
+    lent: &mut Macroblock,
+    count: &mut VersionCount,
+)
+    requires weights { HasWeights seq.now }
+    requires spelled { IsSpelledMacroblock coding.now from.now }
+    requires shared { shared ≡ motion_length coding.now from.now + dc_length coding.now from.now }
+    requires few { shared ≤ 2 ^ 15 }
+    requires can { CanCount seq.now coding.now from.now tally count.old }
+    ensures { IsCountedMacroblock seq.now coding.now inner from.now count.old count.new }
+{
+    if is_emptied(from.kind, tally) {
+        count_emptied(seq, coding, inner, from, shared, tally, lent, count);
+        return;
+    }
+    let head = coded_head(tally, &mut count.state, from);
+    let outline = head_in_version(coding, from.kind, head) + shared;
+    count.bits += u64::from(outline + tally.bits);
+    count.distortion += tally.distortion;
+}
+
+/// The same of a macroblock that has no coefficients left, which is rare.
+#[cold]
+fn count_emptied(
     seq: &SeqState,
     coding: &PicCoding,
     inner: bool,

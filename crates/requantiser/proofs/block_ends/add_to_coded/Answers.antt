@@ -1,4 +1,4 @@
-use Rattle.std.proofs.Common.{◌≡◌, ◌<◌, ◌+◌, ◌*◌, ◌∙◌, ℕ, length, get_or, ap, ap₂, arith}
+use Rattle.std.proofs.Common.{◌≡◌, ◌<◌, ◌+◌, ◌*◌, ◌∙◌, ℕ, length, get_or, ap₂, arith}
 use Rattle.std.proofs.lemmas.List.{length-set}
 use Rattle.requantiser.proofs.BlockTallies.{one_more_is}
 use Rattle.requantiser.proofs.Tallies.{others_stay}

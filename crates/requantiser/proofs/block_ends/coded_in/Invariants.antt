@@ -1,4 +1,4 @@
-use Rattle.std.proofs.Common.{◌≡◌, ◌<◌, ◌≤◌, ℕ, length, get_or}
+use Rattle.std.proofs.Common.{◌≡◌, ◌<◌, ℕ, length, get_or}
 use Rattle.std.specs.Prelude.{◌==◌, not}
 use Rattle.bit_lists.specs.Fields.{flag}
 use Rattle.requantiser.proofs.block_ends.coded_in.Given as goal
