@@ -1,9 +1,11 @@
 //! The counts of a macroblock in several versions at once, kept by what they count.
 ghost use Rattle.std.specs.Prelude.{◌≡◌, ◌≢◌, ◌<◌, ◌≤◌, ◌+◌, ◌*◌, ◌^◌, ℕ, slice_index, if◌then◌else◌};
+ghost use Rattle.syntax_types.specs.declared.block.BlockWay.{BlockWay as WayOf};
 ghost use Rattle.requantiser.specs.Private.Counts.{IsEndedBy, IsSized, IsTheTally};
+ghost use Rattle.requantiser.specs.Private.Lengths.{table_number as number_of};
 
 use crate::block_ends::{add_blocks, add_ends, coded_in};
-use crate::code_lengths::table_number;
+use crate::code_lengths::TABLES;
 use crate::codes::Target;
 use crate::ladder::Rung;
 use crate::lengths::Lengths;
@@ -69,29 +71,55 @@ impl Counts {
         }
     }
 
-    /// Adds the bits of a coefficient in each version in which it isn't 0.
+    /// Adds the bits of a coefficient in each version in which it isn't 0, by the table with this number, the one of its place.
     #[inline]
-    pub fn add_sizes(&mut self, way: BlockWay, at: u8, rung: &Rung, lengths: &mut Lengths)
+    pub fn add_sizes(&mut self, table: usize, at: u8, rung: &Rung, lengths: &mut Lengths)
+        requires table { table < TABLES }
         requires at { at < BLOCK_PLACES }
         requires next { (k : ℕ) → k < 8 → slice_index self.old.next k ≤ at }
         requires room { (k : ℕ) → k < 8 → slice_index self.old.bits k ≤ 2 ^ 20 }
-        ensures each { (k : ℕ) → k < 8 → IsSized way at (slice_index rung.now.sizes k) (slice_index self.old.next k) (slice_index self.old.bits k) (slice_index self.new.next k) (slice_index self.new.bits k) }
+        ensures each { (way : WayOf) (k : ℕ) → table ≡ number_of way at → k < 8
+            → IsSized way at (slice_index rung.now.sizes k) (slice_index self.old.next k) (slice_index self.old.bits k) (slice_index self.new.next k) (slice_index self.new.bits k) }
         ensures patterns { self.new.patterns ≡ self.old.patterns }
         ensures squares { self.new.squares ≡ self.old.squares }
     {
         for k in 0..usize::from(rung.living) {
-            self.add_size(k, way, at, rung.sizes[k], lengths);
+            self.add_size(k, table, at, rung.sizes[k], lengths);
         }
     }
 
-    /// Adds the bits of a coefficient in a version.
+    /// The same in one version.
     #[inline]
-    fn add_size(&mut self, k: usize, way: BlockWay, at: u8, size: u16, lengths: &mut Lengths)
+    fn add_size(&mut self, k: usize, table: usize, at: u8, size: u16, lengths: &mut Lengths)
         requires k { k < VERSIONS_AT_ONCE }
+        requires table { table < TABLES }
         requires at { at < BLOCK_PLACES }
         requires next { slice_index self.old.next k ≤ at }
         requires room { slice_index self.old.bits k ≤ 2 ^ 20 }
-        ensures here { IsSized way at size (slice_index self.old.next k) (slice_index self.old.bits k) (slice_index self.new.next k) (slice_index self.new.bits k) }
+        ensures here { (way : WayOf) → table ≡ number_of way at → IsSized way at size (slice_index self.old.next k) (slice_index self.old.bits k) (slice_index self.new.next k) (slice_index self.new.bits k) }
+        ensures others { (j : ℕ) → j ≢ k → (slice_index self.new.next j ≡ slice_index self.old.next j) × (slice_index self.new.bits j ≡ slice_index self.old.bits j) }
+        ensures patterns { self.new.patterns ≡ self.old.patterns }
+        ensures squares { self.new.squares ≡ self.old.squares }
+    {
+        let next = self.next[k];
+        let known = lengths.known(table, at - next, size);
+        if known == 0 {
+            self.add_rare_size(k, table, at, size, lengths);
+            return;
+        }
+        self.bits[k] += known;
+        self.next[k] = at + 1;
+    }
+
+    /// The same of one that is 0, or whose bits aren't known.
+    #[cold]
+    fn add_rare_size(&mut self, k: usize, table: usize, at: u8, size: u16, lengths: &mut Lengths)
+        requires k { k < VERSIONS_AT_ONCE }
+        requires table { table < TABLES }
+        requires at { at < BLOCK_PLACES }
+        requires next { slice_index self.old.next k ≤ at }
+        requires room { slice_index self.old.bits k ≤ 2 ^ 20 }
+        ensures here { (way : WayOf) → table ≡ number_of way at → IsSized way at size (slice_index self.old.next k) (slice_index self.old.bits k) (slice_index self.new.next k) (slice_index self.new.bits k) }
         ensures others { (j : ℕ) → j ≢ k → (slice_index self.new.next j ≡ slice_index self.old.next j) × (slice_index self.new.bits j ≡ slice_index self.old.bits j) }
         ensures patterns { self.new.patterns ≡ self.old.patterns }
         ensures squares { self.new.squares ≡ self.old.squares }
@@ -100,7 +128,7 @@ impl Counts {
             return;
         }
         let next = self.next[k];
-        self.bits[k] += lengths.of(table_number(way, next), at - next, size);
+        self.bits[k] += lengths.ask(table, at - next, size);
         self.next[k] = at + 1;
     }
 
