@@ -6,7 +6,7 @@ use crate::codes::Target;
 use crate::lengths::Lengths;
 use crate::level::{Coefficient, Rescaling, change_level};
 use crate::tally::VERSIONS_AT_ONCE;
-use crate::targets::Targets;
+use crate::targets::{KeptTargets, Targets};
 
 /// Levels that are kept at once.
 const RUNGS: usize = 1024;
@@ -120,11 +120,13 @@ fn living_behind(living: u16, k: u16, size: u16) -> u16
     if size == 0 { living } else { k + 1 }
 }
 
-/// What levels become in the versions of a picture, and how long their codes are, as far as they were asked for.
+/// What levels become in the versions of a picture, how long their codes are, and what the versions quantise by, as far as they
+/// were asked for.
 #[derive(Drop)]
 pub struct Ladder {
     pub(crate) rungs: Rungs,
     pub(crate) lengths: Lengths,
+    pub(crate) targets: KeptTargets,
 }
 
 impl Ladder {
@@ -133,6 +135,7 @@ impl Ladder {
         Ladder {
             rungs: Rungs::new(),
             lengths: Lengths::new(),
+            targets: KeptTargets::new(),
         }
     }
 }
