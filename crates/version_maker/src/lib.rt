@@ -6,6 +6,7 @@
 //! `picture_reader`, `requantiser`, `picture_heads` and `picture_writer`.
 #![tactic(auto)]
 
+mod kind_bits;
 pub mod laws;
 mod limits;
 mod sizes;
