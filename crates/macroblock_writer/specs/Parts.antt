@@ -14,6 +14,10 @@ use Rattle.syntax_types.specs.declared.picture.PicCoding.{PicCoding}
 use Rattle.picture_grammar.specs.Macroblock.{type_table, type_symbol, has_motion_type, has_dct_type, has_concealment, f_codes, block_way, no_block}
 use Rattle.picture_grammar.specs.Written.{code_for, if_any, written_block, written_increment, written_vector}
 
+-- macroblock_type, and dct_type where it stands (ISO/IEC 13818-2, 6.2.5 and 6.2.5.1)
+abbrev pub kind_length : PicCoding → Kind → ℕ
+kind_length coding kind = length (code_for (type_table coding) (type_symbol kind)) + (if has_dct_type coding kind then 1 else 0)
+
 -- The head behind so many skipped macroblocks: macroblock_address_increment, macroblock_type, dct_type, quantiser_scale_code
 -- and coded_block_pattern (ISO/IEC 13818-2, 6.2.5, 6.2.5.1 and 6.2.5.3). Motion_type and the vectors stand between these.
 abbrev pub head_length : PicCoding → ℕ → Kind → Option ℕ → ℕ → ℕ

@@ -4,7 +4,7 @@ ghost use Rattle.bit_lists.specs.Bits.{bits_of};
 ghost use Rattle.prefix_codes.specs.declared.table_name.TableName.TheVariants.{Pattern};
 ghost use Rattle.picture_grammar.specs.Macroblock.{type_symbol as symbol_of_kind, type_table as table_of_types};
 ghost use Rattle.picture_grammar.specs.Written.{code_for, if_any, written_increment};
-ghost use Rattle.macroblock_writer.specs.Parts.{head_length};
+ghost use Rattle.macroblock_writer.specs.Parts.{head_length, kind_length};
 
 use crate::block_counts::code_bits;
 use crate::increment::ESCAPE_INCREMENT;
@@ -26,15 +26,23 @@ pub fn head_bits(
     ensures few { result ≤ 2 ^ 16 + 54 }
 {
     increment_bits(u32::from(skipped_before) + 1)
-        + type_bits(coding, kind)
-        + bits_where(has_dct_type(coding, kind), 1)
+        + kind_bits(coding, kind)
         + quantiser_bits(code)
         + pattern_bits(kind.pattern, pattern)
 }
 
-// macroblock_escape as often as it goes, then a code from 1 to 33.
+/// The bits of macroblock_type, and of dct_type where it stands.
 #[inline]
-fn increment_bits(increment: u32) -> u32
+pub fn kind_bits(coding: &PicCoding, kind: Kind) -> u32
+    ensures value { result ≡ kind_length coding.now kind }
+    ensures few { result ≤ 25 }
+{
+    type_bits(coding, kind) + bits_where(has_dct_type(coding, kind), 1)
+}
+
+/// The bits of macroblock_address_increment: macroblock_escape as often as it goes, then a code from 1 to 33.
+#[inline]
+pub fn increment_bits(increment: u32) -> u32
     requires some { 1 ≤ increment }
     requires most { increment ≤ 2 ^ 16 }
     ensures value { result ≡ length (written_increment increment) }
@@ -70,9 +78,9 @@ fn quantiser_bits(code: Option<u8>) -> u32
     }
 }
 
-// coded_block_pattern where it stands.
+/// The bits of coded_block_pattern where it stands.
 #[inline]
-fn pattern_bits(stands: bool, pattern: u8) -> u32
+pub fn pattern_bits(stands: bool, pattern: u8) -> u32
     ensures value { result ≡ length (if stands then code_for Pattern pattern else []) }
     ensures few { result ≤ 24 }
 {

@@ -19,6 +19,6 @@ mod vector_counts;
 mod vectors;
 
 pub use bit_counts::{macroblock_bits, motion_and_dc_bits};
-pub use head_counts::head_bits;
+pub use head_counts::{head_bits, increment_bits, kind_bits, pattern_bits};
 pub use macroblock::write_macroblock;
 pub use slice::{write_slice, write_slice_head};

@@ -1,16 +1,20 @@
 -- The counts of several versions at once, and the lengths of codes that they are made of.
-use Rattle.std.proofs.Common.{◌≡◌, ℕ, ◌+◌, ◌-◌, ◌*◌, ◌^◌, ◌<◌, ◌≤◌, ℤ, pos, unsigned_abs, int_lt, Option, Some, None, List, [], ◌∷◌, ◌++◌, Bool, true, false, refl, sym, ◌∙◌, ap, ap₂, subst, ◌⊎◌, inl, inr, arith, length, replicate, get_or, length-append}
-use Rattle.std.specs.Prelude.{◌==◌, ◌&&◌, ◌≢◌, slice_set, if◌then◌else◌}
+use Rattle.std.proofs.Common.{◌≡◌, ℕ, zero, suc, cond, nat_eq, nat_lt, unwrap_or, ◌+◌, ◌-◌, ◌*◌, ◌^◌, ◌<◌, ◌≤◌, ℤ, pos, unsigned_abs, int_lt, Option, Some, None, List, [], ◌∷◌, ◌++◌, Bool, true, false, refl, sym, ◌∙◌, ap, ap₂, subst, ◌⊎◌, inl, inr, arith, length, replicate, get_or, length-append}
+use Rattle.std.specs.Prelude.{◌==◌, ◌&&◌, ◌||◌, not, ◌≢◌, slice_set, if◌then◌else◌}
+use Rattle.std.specs.Map.{lookup}
 use Rattle.std.specs.Option.{option_map_or}
-use Rattle.std.proofs.lemmas.Bool.{cases_lt, cases_order, ne_eqb}
+use Rattle.std.proofs.lemmas.Bool.{cases_lt, cases_order, ltb-true, ne_eqb}
 use Rattle.std.proofs.lemmas.List.{get_or-set_same, get_or-set_other, get_or-replicate, get_or_past, length-replicate}
+use mir.Val.{bool_byte}
 use Rattle.bit_lists.specs.Bits.{bits_of}
 use Rattle.bit_lists.specs.Fields.{flag}
 use Rattle.bit_lists.proofs.BitLemmas.{length-bits_of}
-use Rattle.prefix_codes.specs.declared.symbol.TheConstants.{ESCAPE}
+use Rattle.prefix_codes.specs.declared.symbol.TheConstants.{END_OF_BLOCK, ESCAPE, LEVELS_PER_RUN, RUNS}
 use Rattle.prefix_codes.specs.declared.table_name.TableName.{TableName}
 use Rattle.prefix_codes.specs.declared.table_name.TableName.TheVariants.{CoeffZero, CoeffFirst, CoeffOne}
-use Rattle.prefix_codes.specs.TableName.{coefficient_code}
+use Rattle.prefix_codes.specs.Entry.{Entry, coefficient_entry, coefficient_symbol, entry}
+use Rattle.prefix_codes.specs.CoefficientTables.{dct_coefficients_first, dct_coefficients_zero, shared_coefficients}
+use Rattle.prefix_codes.specs.TableName.{code_in, coefficient_code}
 use Rattle.syntax_types.specs.declared.block.BlockWay.{BlockWay}
 use Rattle.syntax_types.specs.declared.block.RunLevel.{RunLevel}
 use Rattle.picture_grammar.specs.Block.{coefficient_table, first_place}
@@ -30,9 +34,9 @@ use Rattle.requantiser.specs.declared.targets.Targets.{Targets}
 use Rattle.requantiser.specs.Private.Counts.{IsEndedBy, IsSized, IsTheTally, bits_by, next_by, tally_in}
 use Rattle.requantiser.specs.Private.Lengths.{AreLengths, length_by, table_number, table_numbered}
 use Rattle.requantiser.specs.Private.Changes.{pair_changes}
-use Rattle.requantiser.specs.Private.Tallies.{IsCounted, IsEnded, IsTallied, bits_at, has_none}
+use Rattle.requantiser.specs.Private.Tallies.{IsCounted, IsCountedBlock, IsEnded, IsTallied, bits_at, has_none}
 use Rattle.requantiser.specs.Private.Walk.{coarsened_pairs}
-use Rattle.requantiser.proofs.Tallies.{three_parts}
+use Rattle.requantiser.proofs.Tallies.{block_counted, three_parts}
 
 -- ---- the lengths of codes
 
@@ -70,23 +74,23 @@ none_known n number run size r s some = absurd (omega (arith, some, zero_at n (1
 
 -- one more is known
 pub one_more_length : (lengths : List ℕ) (number run size bits place : ℕ) → place ≡ 1024 * number + 16 * run + size → place < length lengths → run < 64 → size < 16
-    → bits ≡ length_by (table_numbered number) run size → bits ≤ 42 → AreLengths lengths → AreLengths (slice_set lengths place bits)
-one_more_length lengths number run size bits place at within r s value few was number' run' size' r' s' = by_place (cases_order (1024 * number' + 16 * run' + size') place)
+    → bits ≡ length_by (table_numbered number) run size → bits ≤ 42 → 0 < size → AreLengths lengths → AreLengths (slice_set lengths place bits)
+one_more_length lengths number run size bits place at within r s value few some_size was number' run' size' r' s' = by_place (cases_order (1024 * number' + 16 * run' + size') place)
   where
     by_place : (1024 * number' + 16 * run' + size' ≡ place) ⊎ ((1024 * number' + 16 * run' + size' < place) ⊎ (place < 1024 * number' + 16 * run' + size'))
         → 0 < get_or (slice_set lengths place bits) (1024 * number' + 16 * run' + size') 0
         → (get_or (slice_set lengths place bits) (1024 * number' + 16 * run' + size') 0 ≡ length_by (table_numbered number') run' size')
-        × (get_or (slice_set lengths place bits) (1024 * number' + 16 * run' + size') 0 ≤ 42)
+        × (get_or (slice_set lengths place bits) (1024 * number' + 16 * run' + size') 0 ≤ 42) × (0 < size')
     by_place (inl here) some =
         let same_number : number ≡ number' = omega (arith, here, at, r, s, r', s') in
         let same_run : run ≡ run' = omega (arith, here, at, r, s, r', s', same_number) in
         let same_size : size ≡ size' = omega (arith, here, at, same_number, same_run) in
         let found : get_or (slice_set lengths place bits) (1024 * number' + 16 * run' + size') 0 ≡ bits =
         ap (λ n. get_or (slice_set lengths place bits) n 0) here ∙ get_or-set_same lengths place bits 0 within in
-        (found ∙ value ∙ ap (λ n. length_by (table_numbered n) run size) same_number ∙ ap₂ (λ a b. length_by (table_numbered number') a b) same_run same_size, omega (arith, found, few))
-    by_place (inr (inl there)) some = subst (λ (v : ℕ). 0 < v → (v ≡ length_by (table_numbered number') run' size') × (v ≤ 42))
+        (found ∙ value ∙ ap (λ n. length_by (table_numbered n) run size) same_number ∙ ap₂ (λ a b. length_by (table_numbered number') a b) same_run same_size, omega (arith, found, few), omega (arith, same_size, some_size))
+    by_place (inr (inl there)) some = subst (λ (v : ℕ). 0 < v → (v ≡ length_by (table_numbered number') run' size') × (v ≤ 42) × (0 < size'))
         (sym (get_or-set_other lengths place (1024 * number' + 16 * run' + size') bits 0 (λ e. absurd (omega (arith, e, there))))) (was number' run' size' r' s') some
-    by_place (inr (inr past)) some = subst (λ (v : ℕ). 0 < v → (v ≡ length_by (table_numbered number') run' size') × (v ≤ 42))
+    by_place (inr (inr past)) some = subst (λ (v : ℕ). 0 < v → (v ≡ length_by (table_numbered number') run' size') × (v ≤ 42) × (0 < size'))
         (sym (get_or-set_other lengths place (1024 * number' + 16 * run' + size') bits 0 (λ e. absurd (omega (arith, e, past))))) (was number' run' size' r' s') some
 
 -- ---- one coefficient
@@ -154,14 +158,75 @@ none_sized way at size next bits next' bits' gone n b = record {
   few = omega (arith, b);
 }
 
+by_misses : (test : ℕ → Bool) (x y z : Entry) (rest : List Entry) → test x.0 ≡ false → test y.0 ≡ false → test z.0 ≡ false → lookup test (x ∷ rest) ≡ lookup test (y ∷ z ∷ rest)
+by_misses test x y z rest ex ey ez =
+    let left : lookup test (x ∷ rest) ≡ lookup test rest = ap (λ (b : Bool). cond b (Some x.1) (lookup test rest)) ex in
+    let right : lookup test (z ∷ rest) ≡ lookup test rest = ap (λ (b : Bool). cond b (Some z.1) (lookup test rest)) ez in
+    left ∙ sym right ∙ sym (ap (λ (b : Bool). cond b (Some y.1) (lookup test (z ∷ rest))) ey)
+
+alike_but : (symbol : ℕ) → nat_eq symbol 1 ≡ false → nat_eq symbol END_OF_BLOCK ≡ false → code_in CoeffFirst symbol ≡ code_in CoeffZero symbol
+unfolding code_in dct_coefficients_zero dct_coefficients_first
+alike_but symbol one end = by_misses (nat_eq symbol) (coefficient_entry 0 1 "1") (entry END_OF_BLOCK "10") (coefficient_entry 0 1 "11") shared_coefficients one end one
+
+first_and_last : (a b c : Bool) → (a && b && c) ≡ true → (a ≡ true) × (c ≡ true)
+first_and_last true true true e = (refl, refl)
+first_and_last true true false e = absurd (cc)
+first_and_last true false c e = absurd (cc)
+first_and_last false b c e = absurd (cc)
+
+same_where : (c : Bool) (x y : Option (List ℕ)) → (c ≡ true → x ≡ y) → (if c then x else None) ≡ (if c then y else None)
+same_where true x y same = same refl
+same_where false x y same = refl
+
+-- the tables of first coefficients and of others are alike behind a run of zeros
+first_like_others : (run size : ℕ) → 0 < run → coefficient_code CoeffFirst run size ≡ coefficient_code CoeffZero run size
+unfolding coefficient_code
+first_like_others run size some =
+    same_where (nat_lt run RUNS && nat_lt 0 size && nat_lt size LEVELS_PER_RUN) (code_in CoeffFirst (coefficient_symbol run size)) (code_in CoeffZero (coefficient_symbol run size)) (λ fits.
+    let both = first_and_last (nat_lt run RUNS) (nat_lt 0 size) (nat_lt size LEVELS_PER_RUN) fits in
+    let small_run : run < 32 = ltb-true run RUNS both.0 in
+    let small_size : size < 64 = ltb-true size LEVELS_PER_RUN both.1 in
+    alike_but (coefficient_symbol run size) (ne_eqb (64 * run + size) 1 (λ e. absurd (omega (arith, e, some)))) (ne_eqb (64 * run + size) END_OF_BLOCK (λ e. absurd (omega (arith, e, small_run, small_size)))))
+
+first_length : (run size : ℕ) → 0 < run → length_by CoeffZero run size ≡ length_by CoeffFirst run size
+unfolding code_in dct_coefficients_zero dct_coefficients_first
+first_length run size some = ap (λ (found : Option (List ℕ)). option_map_or (λ code. length code + 1) found (length (code_for CoeffZero ESCAPE) + 18)) (sym (first_like_others run size some))
+    ∙ ap (λ (n : ℕ). option_map_or (λ code. length code + 1) (coefficient_code CoeffFirst run size) (n + 18)) (ap (λ (found : Option (List ℕ)). length (unwrap_or found [])) (sym (alike_but ESCAPE refl refl)))
+
+-- the length of a coefficient by the table of its place is that by the table of the place behind the one before
+pub length_at : (way : BlockWay) (next at size : ℕ) → next ≤ at → length_by (table_numbered (table_number way at)) (at - next) size ≡ length_by (table_numbered (table_number way next)) (at - next) size
+length_at way next at size within = by_place way.intra way.vlc_one (cases_zero next) (cases_zero at)
+  where
+    by_place : (intra one : Bool) → (next ≡ 0) ⊎ (0 < next) → (at ≡ 0) ⊎ (0 < at)
+        → length_by (table_numbered (if intra then (if one then 2 else 0) else (if at == 0 then 1 else 0))) (at - next) size
+        ≡ length_by (table_numbered (if intra then (if one then 2 else 0) else (if next == 0 then 1 else 0))) (at - next) size
+    by_place true one n a = refl
+    by_place false one (inl n) (inl a) = ap (λ (m : ℕ). length_by (table_numbered (if m == 0 then 1 else 0)) (at - next) size) (a ∙ sym n)
+    by_place false one (inl n) (inr a) =
+        ap (λ (b : Bool). length_by (table_numbered (if b then 1 else 0)) (at - next) size) (ne_eqb at 0 (λ e. absurd (omega (arith, e, a))))
+        ∙ first_length (at - next) size (omega (arith, n, a)) ∙ sym (ap (λ (m : ℕ). length_by (table_numbered (if m == 0 then 1 else 0)) (at - next) size) n)
+    by_place false one (inr n) (inl a) = absurd (omega (arith, n, a, within))
+    by_place false one (inr n) (inr a) =
+        ap (λ (b : Bool). length_by (table_numbered (if b then 1 else 0)) (at - next) size) (ne_eqb at 0 (λ e. absurd (omega (arith, e, a))))
+        ∙ sym (ap (λ (b : Bool). length_by (table_numbered (if b then 1 else 0)) (at - next) size) (ne_eqb next 0 (λ e. absurd (omega (arith, e, n)))))
+
+    cases_zero : (m : ℕ) → (m ≡ 0) ⊎ (0 < m)
+    cases_zero zero = inl refl
+    cases_zero (suc m) = inr (omega arith)
+
+-- the number of the table of a place behind the first one
+pub later_number : (way : BlockWay) (place : ℕ) → 0 < place → table_number way 1 ≡ table_number way place
+later_number way place some =
+    sym (ap (λ (b : Bool). if way.intra then (if way.vlc_one then 2 else 0) else (if b then 1 else 0)) (ne_eqb place 0 (λ e. absurd (omega (arith, e, some)))))
+
 -- a coefficient that stays
-pub some_sized : (way : BlockWay) (at size next bits more next' bits' : ℕ) → 0 < size → more ≡ length_by (table_numbered (table_number way next)) (at - next) size → more ≤ 42
+pub some_sized : (way : BlockWay) (at size next bits more next' bits' : ℕ) → 0 < size → next ≤ at → more ≡ length_by (table_numbered (table_number way at)) (at - next) size → more ≤ 42
     → next' ≡ at + 1 → bits' ≡ bits + more → IsSized way at size next bits next' bits'
-some_sized way at size next bits more next' bits' some value few n b =
+some_sized way at size next bits more next' bits' some within value few n b =
     let stays : (size == 0) ≡ false = ne_eqb size 0 (λ e. absurd (omega (arith, e, some))) in
     record {
       next_is = n ∙ sym (ap (λ (gone : Bool). elim gone [ true ↦ next | false ↦ at + 1 ]) stays);
-      bits_is = b ∙ ap (λ n. bits + n) (value ∙ ap (λ table. length_by table (at - next) size) (sym (table_is way next))
+      bits_is = b ∙ ap (λ n. bits + n) (value ∙ length_at way next at size within ∙ ap (λ table. length_by table (at - next) size) (sym (table_is way next))
           ∙ sym (ap (λ (gone : Bool). elim gone [ true ↦ 0 | false ↦ length_by (coefficient_table way next) (at - next) size ]) stays));
       few = omega (arith, b, few);
     }
@@ -178,14 +243,33 @@ ended_by way before behind target distortion is = record {
   few = is.few;
 }
 
--- the same end, by other numbers of the same value
-pub ended_as : (way : BlockWay) (next pattern bits n p b n' p' b' : ℕ) → n' ≡ n → p' ≡ p → b' ≡ b → IsEndedBy way next pattern bits n p b → IsEndedBy way next pattern bits n' p' b'
-ended_as way next pattern bits n p b n' p' b' x y z is = record {
-  next_is = x ∙ is.next_is;
-  pattern_is = y ∙ is.pattern_is;
-  bits_is = z ∙ is.bits_is;
-  few = omega (arith, z, is.few);
+-- a flag as a byte
+pub flag_byte : (is : Bool) → bool_byte is ≡ flag is
+flag_byte true = refl
+flag_byte false = refl
+
+-- a flag is 0 or 1
+pub flag_few : (coded : ℕ) (is : Bool) → coded ≡ flag is → coded ≤ 1
+flag_few coded true c = omega (arith, c)
+flag_few coded false c = omega (arith, c)
+
+-- the end of a block, by the parts that change
+pub ended_of : (way : BlockWay) (next pattern bits end coded next' pattern' bits' : ℕ) → next' ≡ first_place way → coded ≡ flag (not (next == first_place way))
+    → pattern' ≡ 2 * pattern + coded → end ≡ length (code_for CoeffZero END_OF_BLOCK) → bits' ≡ bits + (if way.intra then 0 else end) * coded → bits' ≤ bits + 24
+    → IsEndedBy way next pattern bits next' pattern' bits'
+ended_of way next pattern bits end coded next' pattern' bits' n flags p ends b few = record {
+  next_is = n;
+  pattern_is = p ∙ ap (λ c. 2 * pattern + c) flags;
+  bits_is = b ∙ ap (λ (c : ℕ). bits + (if way.intra then 0 else end) * c) flags ∙ ap (λ (e : ℕ). bits + (if way.intra then 0 else e) * flag (not (next == first_place way))) ends
+      ∙ ap (λ n. bits + n) (by_bools (next == first_place way) way.intra (length (code_for CoeffZero END_OF_BLOCK)));
+  few = few;
 }
+  where
+    by_bools : (none intra : Bool) (e : ℕ) → (if intra then 0 else e) * flag (not none) ≡ (if none || intra then 0 else e)
+    by_bools true true e = refl
+    by_bools true false e = omega arith
+    by_bools false true e = refl
+    by_bools false false e = omega arith
 
 -- a count that is told by a tally
 pub tally_as : (seq : SeqState) (coding : PicCoding) (code m : ℕ) (from : Macroblock) (targets : Targets) (counts : Counts) (k : ℕ) (below : k < 8) (tally : Tally)
@@ -230,3 +314,32 @@ module _ (new : ℕ → ℤ → ℤ) (change : ℕ → ℤ → ℕ) (all : List 
         few = omega arith;
         small = omega arith;
       }
+
+-- a block without coefficients was counted
+pub empty_counted : (way : BlockWay) (new : ℕ → ℤ → ℤ) (change : ℕ → ℤ → ℕ) (pairs : List RunLevel) (start : Tally) → length pairs ≤ 0 → start.next ≡ first_place way
+    → IsCountedBlock way new change pairs start start
+empty_counted way new change pairs start none next =
+    block_counted way new change (first_place way) 0 pairs start start none (few way.intra) (none_counted new change pairs start (first_place way) way refl next)
+  where
+    few : (intra : Bool) → (if intra then 1 else 0) ≤ 64
+    few true = omega arith
+    few false = omega arith
+
+-- its end was counted
+pub empty_ended : (way : BlockWay) (next pattern bits next' pattern' bits' : ℕ) → next ≡ first_place way → next' ≡ next → pattern' ≡ 2 * pattern → bits' ≡ bits
+    → IsEndedBy way next pattern bits next' pattern' bits'
+empty_ended way next pattern bits next' pattern' bits' first n p b =
+    let none : (next == first_place way) ≡ true = subst (λ (m : ℕ). (m == first_place way) ≡ true) (sym first) (itself way.intra) in
+    let blocks : flag (not (next == first_place way)) ≡ 0 = ap (λ (is : Bool). flag (not is)) none in
+    let ends : (if next == first_place way || way.intra then 0 else length (code_for CoeffZero END_OF_BLOCK)) ≡ 0 =
+    ap (λ (is : Bool). if is || way.intra then 0 else length (code_for CoeffZero END_OF_BLOCK)) none in
+    record {
+      next_is = n ∙ first;
+      pattern_is = omega (arith, p, blocks);
+      bits_is = omega (arith, b, ends);
+      few = omega (arith, b);
+    }
+  where
+    itself : (intra : Bool) → let first : ℕ = if intra then 1 else 0 in (first == first) ≡ true
+    itself true = refl
+    itself false = refl

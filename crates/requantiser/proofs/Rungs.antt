@@ -17,7 +17,7 @@ same_kind false true is = absurd (omega (arith, is))
 same_kind false false is = refl
 
 -- no other weight, scale and kind of block have the number
-pub by_number : (level : ℤ) (weight from number : ℕ) (intra : Bool) (scales sizes squares : List ℕ) → weight < 256 → from < 256 → number ≡ way_number weight from intra
+pub by_number : (level : ℤ) (weight from number : ℕ) (intra : Bool) (scales sizes squares : List ℕ) → weight < 256 → from < 128 → number ≡ way_number weight from intra
     → AreRescaled level weight from intra scales sizes squares → AreRescaledBy level number scales sizes squares
 by_number level weight from number intra scales sizes squares w f is are weight' from' intra' w' f' is' =
     let kind : one intra ≡ one intra' = omega (arith, is, is', w, f, w', f', one-most intra, one-most intra') in

@@ -4,6 +4,7 @@ ghost use Rattle.prefix_codes.specs.TableName.{is_coefficients};
 ghost use Rattle.prefix_codes.specs.declared.symbol.TheConstants.{END_OF_BLOCK};
 ghost use Rattle.prefix_codes.specs.declared.table_name.TableName.TheVariants.{CoeffZero};
 ghost use Rattle.picture_grammar.specs.Written.{code_for};
+ghost use Rattle.syntax_types.specs.declared.block.BlockWay.{BlockWay as WayOf};
 ghost use Rattle.requantiser.specs.Private.Lengths.{length_by, table_number as number_of, table_numbered};
 
 use picture_grammar::escape::{LEVEL_BITS, RUN_BITS};
@@ -64,6 +65,20 @@ pub fn table_number(way: BlockWay, place: u8) -> usize
     } else {
         0
     }
+}
+
+/// The same by the numbers of a first place and of all others.
+#[inline]
+pub fn table_at(first: usize, later: usize, place: u8) -> usize
+    requires first { first < TABLES }
+    requires later { later < TABLES }
+    ensures value { (way : WayOf) → first ≡ number_of way 0 → later ≡ number_of way 1 → result ≡ number_of way place }
+    ensures bound { result < TABLES }
+{
+    if place == 0 {
+        return first;
+    }
+    later
 }
 
 /// The table with this number.

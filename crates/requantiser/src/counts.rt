@@ -1,11 +1,11 @@
 //! The counts of a macroblock in several versions at once, kept by what they count.
-ghost use Rattle.std.specs.Prelude.{◌≡◌, ◌≢◌, ◌<◌, ◌≤◌, ◌+◌, ◌^◌, ℕ, length, slice_index, if◌then◌else◌};
-ghost use Rattle.prefix_codes.specs.declared.symbol.TheConstants.{END_OF_BLOCK};
-ghost use Rattle.prefix_codes.specs.declared.table_name.TableName.TheVariants.{CoeffZero};
-ghost use Rattle.picture_grammar.specs.Written.{code_for};
+ghost use Rattle.std.specs.Prelude.{◌≡◌, ◌≢◌, ◌<◌, ◌≤◌, ◌+◌, ◌*◌, ◌^◌, ℕ, slice_index, if◌then◌else◌};
+ghost use Rattle.syntax_types.specs.declared.block.BlockWay.{BlockWay as WayOf};
 ghost use Rattle.requantiser.specs.Private.Counts.{IsEndedBy, IsSized, IsTheTally};
+ghost use Rattle.requantiser.specs.Private.Lengths.{table_number as number_of};
 
-use crate::code_lengths::{end_bits, table_number};
+use crate::block_ends::{add_blocks, add_ends, coded_in};
+use crate::code_lengths::TABLES;
 use crate::codes::Target;
 use crate::ladder::Rung;
 use crate::lengths::Lengths;
@@ -71,29 +71,55 @@ impl Counts {
         }
     }
 
-    /// Adds the bits of a coefficient in each version in which it isn't 0.
+    /// Adds the bits of a coefficient in each version in which it isn't 0, by the table with this number, the one of its place.
     #[inline]
-    pub fn add_sizes(&mut self, way: BlockWay, at: u8, rung: &Rung, lengths: &mut Lengths)
+    pub fn add_sizes(&mut self, table: usize, at: u8, rung: &Rung, lengths: &mut Lengths)
+        requires table { table < TABLES }
         requires at { at < BLOCK_PLACES }
         requires next { (k : ℕ) → k < 8 → slice_index self.old.next k ≤ at }
         requires room { (k : ℕ) → k < 8 → slice_index self.old.bits k ≤ 2 ^ 20 }
-        ensures each { (k : ℕ) → k < 8 → IsSized way at (slice_index rung.now.sizes k) (slice_index self.old.next k) (slice_index self.old.bits k) (slice_index self.new.next k) (slice_index self.new.bits k) }
+        ensures each { (way : WayOf) (k : ℕ) → table ≡ number_of way at → k < 8
+            → IsSized way at (slice_index rung.now.sizes k) (slice_index self.old.next k) (slice_index self.old.bits k) (slice_index self.new.next k) (slice_index self.new.bits k) }
         ensures patterns { self.new.patterns ≡ self.old.patterns }
         ensures squares { self.new.squares ≡ self.old.squares }
     {
         for k in 0..usize::from(rung.living) {
-            self.add_size(k, way, at, rung.sizes[k], lengths);
+            self.add_size(k, table, at, rung.sizes[k], lengths);
         }
     }
 
-    /// Adds the bits of a coefficient in a version.
+    /// The same in one version.
     #[inline]
-    fn add_size(&mut self, k: usize, way: BlockWay, at: u8, size: u16, lengths: &mut Lengths)
+    fn add_size(&mut self, k: usize, table: usize, at: u8, size: u16, lengths: &mut Lengths)
         requires k { k < VERSIONS_AT_ONCE }
+        requires table { table < TABLES }
         requires at { at < BLOCK_PLACES }
         requires next { slice_index self.old.next k ≤ at }
         requires room { slice_index self.old.bits k ≤ 2 ^ 20 }
-        ensures here { IsSized way at size (slice_index self.old.next k) (slice_index self.old.bits k) (slice_index self.new.next k) (slice_index self.new.bits k) }
+        ensures here { (way : WayOf) → table ≡ number_of way at → IsSized way at size (slice_index self.old.next k) (slice_index self.old.bits k) (slice_index self.new.next k) (slice_index self.new.bits k) }
+        ensures others { (j : ℕ) → j ≢ k → (slice_index self.new.next j ≡ slice_index self.old.next j) × (slice_index self.new.bits j ≡ slice_index self.old.bits j) }
+        ensures patterns { self.new.patterns ≡ self.old.patterns }
+        ensures squares { self.new.squares ≡ self.old.squares }
+    {
+        let next = self.next[k];
+        let known = lengths.known(table, at - next, size);
+        if known == 0 {
+            self.add_rare_size(k, table, at, size, lengths);
+            return;
+        }
+        self.bits[k] += known;
+        self.next[k] = at + 1;
+    }
+
+    /// The same of one that is 0, or whose bits aren't known.
+    #[cold]
+    fn add_rare_size(&mut self, k: usize, table: usize, at: u8, size: u16, lengths: &mut Lengths)
+        requires k { k < VERSIONS_AT_ONCE }
+        requires table { table < TABLES }
+        requires at { at < BLOCK_PLACES }
+        requires next { slice_index self.old.next k ≤ at }
+        requires room { slice_index self.old.bits k ≤ 2 ^ 20 }
+        ensures here { (way : WayOf) → table ≡ number_of way at → IsSized way at size (slice_index self.old.next k) (slice_index self.old.bits k) (slice_index self.new.next k) (slice_index self.new.bits k) }
         ensures others { (j : ℕ) → j ≢ k → (slice_index self.new.next j ≡ slice_index self.old.next j) × (slice_index self.new.bits j ≡ slice_index self.old.bits j) }
         ensures patterns { self.new.patterns ≡ self.old.patterns }
         ensures squares { self.new.squares ≡ self.old.squares }
@@ -102,11 +128,12 @@ impl Counts {
             return;
         }
         let next = self.next[k];
-        self.bits[k] += lengths.of(table_number(way, next), at - next, size);
+        self.bits[k] += lengths.ask(table, at - next, size);
         self.next[k] = at + 1;
     }
 
     /// Ends a block in all versions.
+    #[inline]
     pub fn end_block(&mut self, way: BlockWay)
         requires patterns { (k : ℕ) → k < 8 → slice_index self.old.patterns k < 2 ^ 6 }
         requires room { (k : ℕ) → k < 8 → slice_index self.old.bits k ≤ 2 ^ 20 }
@@ -114,61 +141,22 @@ impl Counts {
             (slice_index self.new.next k) (slice_index self.new.patterns k) (slice_index self.new.bits k) }
         ensures squares { self.new.squares ≡ self.old.squares }
     {
-        let end = end_bits(way.intra);
-        for k in 0..VERSIONS_AT_ONCE {
-            self.end(k, way, end);
-        }
+        let first = u8::from(way.intra);
+        let coded = coded_in(&self.next, first);
+        add_ends(&mut self.bits, &coded, way.intra);
+        add_blocks(&mut self.patterns, &coded);
+        self.next = [first; VERSIONS_AT_ONCE];
     }
 
-    /// Ends a block in a version.
+    /// Ends a block without coefficients in all versions.
     #[inline]
-    fn end(&mut self, k: usize, way: BlockWay, end: u32)
-        requires k { k < VERSIONS_AT_ONCE }
-        requires end { end ≡ (if way.intra then 0 else length (code_for CoeffZero END_OF_BLOCK)) }
-        requires few { end ≤ 24 }
-        requires pattern { slice_index self.old.patterns k < 2 ^ 6 }
-        requires room { slice_index self.old.bits k ≤ 2 ^ 20 }
-        ensures here { IsEndedBy way (slice_index self.old.next k) (slice_index self.old.patterns k) (slice_index self.old.bits k)
-            (slice_index self.new.next k) (slice_index self.new.patterns k) (slice_index self.new.bits k) }
-        ensures others { (j : ℕ) → j ≢ k → (slice_index self.new.next j ≡ slice_index self.old.next j) × (slice_index self.new.patterns j ≡ slice_index self.old.patterns j)
-            × (slice_index self.new.bits j ≡ slice_index self.old.bits j) }
+    pub fn end_empty_block(&mut self)
+        requires { (k : ℕ) → k < 8 → slice_index self.old.patterns k < 2 ^ 6 }
+        ensures patterns { (k : ℕ) → k < 8 → slice_index self.new.patterns k ≡ 2 * slice_index self.old.patterns k }
+        ensures next { self.new.next ≡ self.old.next }
+        ensures bits { self.new.bits ≡ self.old.bits }
         ensures squares { self.new.squares ≡ self.old.squares }
     {
-        let ended = behind_end(way, self.next[k], self.patterns[k], self.bits[k], end);
-        self.next[k] = ended.next;
-        self.patterns[k] = ended.pattern;
-        self.bits[k] = ended.bits;
-    }
-}
-
-/// A version behind the end of a block.
-#[derive(Clone, Copy)]
-struct Ended {
-    next: u8,
-    pattern: u8,
-    bits: u32,
-}
-
-/// A version behind the end of a block, which has so many bits.
-#[inline]
-fn behind_end(way: BlockWay, next: u8, pattern: u8, bits: u32, end: u32) -> Ended
-    requires end { end ≡ (if way.intra then 0 else length (code_for CoeffZero END_OF_BLOCK)) }
-    requires few { end ≤ 24 }
-    requires pattern { pattern < 2 ^ 6 }
-    requires room { bits ≤ 2 ^ 20 }
-    ensures { IsEndedBy way next pattern bits result.next result.pattern result.bits }
-{
-    let first = u8::from(way.intra);
-    if next == first {
-        return Ended {
-            next: first,
-            pattern: 2 * pattern,
-            bits,
-        };
-    }
-    Ended {
-        next: first,
-        pattern: 2 * pattern + 1,
-        bits: bits + end,
+        add_blocks(&mut self.patterns, &[0; VERSIONS_AT_ONCE]);
     }
 }

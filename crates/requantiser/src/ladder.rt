@@ -1,12 +1,12 @@
 //! What levels become in several versions, kept for those that come again.
-ghost use Rattle.std.specs.Prelude.{◌≡◌, ◌<◌, ◌≤◌, ◌+◌, IsTrue};
+ghost use Rattle.std.specs.Prelude.{◌≡◌, ◌<◌, ◌≤◌, ◌+◌, ◌/◌, ◌%◌, ◌+ℤ◌, pos, IsTrue};
 ghost use Rattle.requantiser.specs.Private.Rungs.{AreRescaled, AreRescaledBy, IsGoneFrom, way_number};
 
 use crate::codes::Target;
 use crate::lengths::Lengths;
 use crate::level::{Coefficient, Rescaling, change_level};
 use crate::tally::VERSIONS_AT_ONCE;
-use crate::targets::Targets;
+use crate::targets::{KeptTargets, Targets};
 
 /// Levels that are kept at once.
 const RUNGS: usize = 1024;
@@ -14,8 +14,8 @@ const RUNGS: usize = 1024;
 /// What a coefficient of the source becomes in each version.
 #[derive(Clone, Copy)]
 pub struct Rung {
-    /// Its weight, its scale and whether its block is intra, as one number.
-    number: u32,
+    /// Its level, and its weight, its scale and whether its block is intra, as one number.
+    key: u32,
     level: i16,
     /// From this version on it becomes 0.
     pub living: u16,
@@ -25,7 +25,8 @@ pub struct Rung {
     pub sizes: [u16; VERSIONS_AT_ONCE],
     /// The squares of the differences of the coefficients.
     pub squares: [u32; VERSIONS_AT_ONCE],
-    ghost right: { AreRescaledBy level number scales sizes squares },
+    ghost right: { AreRescaledBy level (key % 65536) scales sizes squares },
+    ghost keyed: { pos (key / 65536) ≡ level +ℤ pos 2048 },
     ghost few: { living ≤ 8 },
     ghost gone: { IsGoneFrom living sizes },
 }
@@ -43,7 +44,7 @@ impl Rung {
     #[cold]
     fn new(coefficient: Coefficient, rescaling: Rescaling, targets: &Targets) -> Rung
         ensures level { result.level ≡ coefficient.level }
-        ensures number { result.number ≡ way_number coefficient.weight rescaling.from rescaling.intra }
+        ensures number { result.key % 65536 ≡ way_number coefficient.weight rescaling.from rescaling.intra }
         ensures scales { result.scales ≡ targets.now.scales }
     {
         let Rescaled {
@@ -52,7 +53,7 @@ impl Rung {
             living,
         } = rescale(coefficient, rescaling, targets);
         Rung {
-            number: number_of(coefficient, rescaling),
+            key: key_of(coefficient, rescaling),
             level: coefficient.level,
             living,
             scales: targets.scales,
@@ -65,23 +66,23 @@ impl Rung {
     #[inline]
     fn is_of(&self, coefficient: Coefficient, rescaling: Rescaling, targets: &Targets) -> bool
         ensures level { IsTrue result → self.now.level ≡ coefficient.level }
-        ensures number { IsTrue result → self.now.number ≡ way_number coefficient.weight rescaling.from rescaling.intra }
+        ensures number { IsTrue result → self.now.key % 65536 ≡ way_number coefficient.weight rescaling.from rescaling.intra }
         ensures scales { IsTrue result → self.now.scales ≡ targets.now.scales }
     {
-        self.level == coefficient.level
-            && self.number == number_of(coefficient, rescaling)
-            && self.scales == targets.scales
+        self.key == key_of(coefficient, rescaling) && self.scales == targets.scales
     }
 }
 
-/// A coefficient's weight, its scale and whether its block is intra, as one number.
+/// A coefficient's level, and its weight, its scale and whether its block is intra, as one number.
 #[inline]
-fn number_of(coefficient: Coefficient, rescaling: Rescaling) -> u32
-    ensures { result ≡ way_number coefficient.weight rescaling.from rescaling.intra }
+fn key_of(coefficient: Coefficient, rescaling: Rescaling) -> u32
+    ensures way { result % 65536 ≡ way_number coefficient.weight rescaling.from rescaling.intra }
+    ensures level { pos (result / 65536) ≡ coefficient.level +ℤ pos 2048 }
 {
-    u32::from(coefficient.weight)
+    let way = u32::from(coefficient.weight)
         + 256 * u32::from(rescaling.from)
-        + 65_536 * u32::from(rescaling.intra)
+        + 32_768 * u32::from(rescaling.intra);
+    65_536 * (coefficient.level + 2048) as u32 + way
 }
 
 /// What a coefficient becomes in each version.
@@ -120,11 +121,13 @@ fn living_behind(living: u16, k: u16, size: u16) -> u16
     if size == 0 { living } else { k + 1 }
 }
 
-/// What levels become in the versions of a picture, and how long their codes are, as far as they were asked for.
+/// What levels become in the versions of a picture, how long their codes are, and what the versions quantise by, as far as they
+/// were asked for.
 #[derive(Drop)]
 pub struct Ladder {
     pub(crate) rungs: Rungs,
     pub(crate) lengths: Lengths,
+    pub(crate) targets: KeptTargets,
 }
 
 impl Ladder {
@@ -133,6 +136,7 @@ impl Ladder {
         Ladder {
             rungs: Rungs::new(),
             lengths: Lengths::new(),
+            targets: KeptTargets::new(),
         }
     }
 }
@@ -172,7 +176,7 @@ impl Rungs {
         targets: &Targets,
     ) -> &Rung
         ensures level { result.now.level ≡ coefficient.level }
-        ensures number { result.now.number ≡ way_number coefficient.weight rescaling.from rescaling.intra }
+        ensures number { result.now.key % 65536 ≡ way_number coefficient.weight rescaling.from rescaling.intra }
         ensures scales { result.now.scales ≡ targets.now.scales }
     {
         let place = place_of(coefficient, rescaling);
@@ -188,7 +192,5 @@ impl Rungs {
 fn place_of(coefficient: Coefficient, rescaling: Rescaling) -> usize
     ensures { result < RUNGS }
 {
-    let level = (coefficient.level + 2048) as u32;
-    let row = number_of(coefficient, rescaling).wrapping_mul(0x9E37_79B1) >> 20;
-    (level + row) as usize % RUNGS
+    (key_of(coefficient, rescaling).wrapping_mul(0x9E37_79B1) >> 22) as usize % RUNGS
 }

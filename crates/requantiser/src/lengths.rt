@@ -25,31 +25,41 @@ impl Lengths {
         }
     }
 
-    /// The bits of a coefficient by the table with this number.
+    /// The bits of a coefficient by the table with this number, where they are known, else 0.
     #[inline]
-    pub fn of(&mut self, number: usize, run: u8, size: u16) -> u32
+    pub fn known(&self, number: usize, run: u8, size: u16) -> u32
         requires number { number < TABLES }
         requires run { run < RUNS }
+        ensures value { 0 < result → (result ≡ length_by (table_numbered number) run size) × (0 < size) }
+        ensures few { result ≤ 42 }
+    {
+        if usize::from(size) >= SIZES {
+            return 0;
+        }
+        let place = RUNS * SIZES * number + SIZES * usize::from(run) + usize::from(size);
+        u32::from(self.bits[place])
+    }
+
+    /// The bits of a coefficient by the table with this number, which are kept from now on.
+    pub fn ask(&mut self, number: usize, run: u8, size: u16) -> u32
+        requires number { number < TABLES }
+        requires run { run < RUNS }
+        requires some { 0 < size }
         ensures value { result ≡ length_by (table_numbered number) run size }
         ensures few { result ≤ 42 }
     {
         if usize::from(size) >= SIZES {
             return coefficient_bits(numbered(number), run, size);
         }
-        let place = RUNS * SIZES * number + SIZES * usize::from(run) + usize::from(size);
-        let kept = self.bits[place];
-        if kept == 0 {
-            return self.ask(number, run, size);
-        }
-        u32::from(kept)
+        self.keep(number, run, size)
     }
 
-    /// The same of one that is kept from now on.
-    #[cold]
-    fn ask(&mut self, number: usize, run: u8, size: u16) -> u32
+    /// The same of one that has room.
+    fn keep(&mut self, number: usize, run: u8, size: u16) -> u32
         requires number { number < TABLES }
         requires run { run < RUNS }
         requires size { size < SIZES }
+        requires some { 0 < size }
         ensures value { result ≡ length_by (table_numbered number) run size }
         ensures few { result ≤ 42 }
     {

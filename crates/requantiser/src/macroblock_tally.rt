@@ -18,7 +18,7 @@ use crate::ladder::Ladder;
 use crate::level::Rescaling;
 use crate::step::code_in_force;
 use crate::tally::{Tally, VERSIONS_AT_ONCE, add_block};
-use crate::targets::{Targets, targets_of};
+use crate::targets::Targets;
 use picture_grammar::stands::block_way;
 use quant_math::scale;
 use syntax_types::{BLOCKS, Block, BlockWay, Macroblock, PicCoding, SeqState};
@@ -43,7 +43,7 @@ pub fn tally_macroblock(
     ensures tallies { (k : ℕ) (d : TallyOf) → k < length ratios.now → IsTallyOf seq.now coding.now (unwrap_or from.now.code before) (slice_index ratios.now k) from.now (slice_index_or tallies.new k d) }
 {
     let code = code_in_force(from.code, before);
-    let targets = targets_of(coding, code, ratios);
+    let targets = ladder.targets.of(coding.q_scale_type, code, ratios);
     let mut counts = Counts::new(from.kind.intra);
     add_blocks(seq, coding, code, from, &targets, &mut counts, ladder);
     write_tallies(&targets, &counts, ratios.len(), tallies);

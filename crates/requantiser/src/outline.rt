@@ -1,8 +1,10 @@
 //! What becomes of a macroblock in a version in which its coefficients were counted, told by its head there.
-ghost use Rattle.std.specs.Prelude.{◌≡◌, ◌<◌, ◌≤◌, ◌+◌, ◌^◌, ◌==◌, ◌&&◌, unwrap_or};
+ghost use Rattle.std.specs.Prelude.{◌≡◌, ◌<◌, ◌≤◌, ◌+◌, ◌^◌, ◌==◌, ◌&&◌, Bool, false, unwrap_or};
 ghost use Rattle.requantiser.specs.Levels.{HasWeights};
 ghost use Rattle.syntax_types.specs.declared.macroblock.Macroblock.{Macroblock as MacroblockOf};
 ghost use Rattle.syntax_types.specs.declared.picture.PicCoding.{PicCoding as CodingOf};
+ghost use Rattle.syntax_types.specs.declared.picture.SeqState.{SeqState as SeqOf};
+ghost use Rattle.requantiser.specs.declared.outline.Outline.TheVariants.{Coded};
 ghost use Rattle.requantiser.specs.Tallies.{IsOutlined, IsTallyOf, told_by};
 ghost use Rattle.requantiser.specs.VersionState.{IsSpelledMacroblock, made_of};
 ghost use Rattle.requantiser.specs.Private.Walk.{is_coded_without_motion as stands_without_motion};
@@ -56,7 +58,7 @@ pub fn outline_macroblock(
     ensures few { result.bits ≤ 2 ^ 15 }
     ensures small { result.distortion ≤ 2 ^ 41 }
 {
-    if would_be_emptied(from.kind, tally.pattern) {
+    if is_emptied(from.kind, tally) {
         if inner {
             state.source_code = code_in_force(from.code, state.source_code);
             state.skipped = state.skipped + from.skipped_before + 1;
@@ -73,6 +75,24 @@ pub fn outline_macroblock(
             distortion: made.distortion,
         };
     }
+    Outlined {
+        outline: Outline::Coded(coded_head(tally, state, from)),
+        bits: tally.bits,
+        distortion: tally.distortion,
+    }
+}
+
+/// The head of a macroblock that some bits spell in a version in which its coefficients were counted and it isn't emptied.
+/// The state goes on as with `outline_macroblock`.
+#[inline]
+pub fn coded_head(tally: Tally, state: &mut VersionState, from: &Macroblock) -> Head
+    requires spelled { (coding : CodingOf) × IsSpelledMacroblock coding from.now }
+    requires room { state.old.skipped + from.now.skipped_before < u16.MAX }
+    requires stays { (stands_without_motion from.now.kind && (tally.pattern == 0)) ≡ false }
+    ensures { (seq : SeqOf) (coding : CodingOf) (inner : Bool) (lent : MacroblockOf) → IsSpelledMacroblock coding from.now
+        → IsTallyOf seq coding (unwrap_or from.now.code state.old.source_code) state.old.m from.now tally
+        → IsOutlined seq coding inner from.now state.old state.new (record { outline = Coded result; bits = tally.bits; distortion = tally.distortion }) lent }
+{
     let skipped = state.skipped + from.skipped_before;
     let pattern = written_pattern(from.kind.intra, tally.pattern);
     let mapped = tally.target.code;
@@ -86,19 +106,15 @@ pub fn outline_macroblock(
     state.source_code = code_in_force(from.code, state.source_code);
     state.version_code = code_in_force(head.code, state.version_code);
     state.skipped = 0;
-    Outlined {
-        outline: Outline::Coded(head),
-        bits: tally.bits,
-        distortion: tally.distortion,
-    }
+    head
 }
 
-/// A macroblock without motion has no coefficients left, if this is the pattern of its blocks.
+/// A macroblock of this type without motion has no coefficients left in a version in which they were counted.
 #[inline]
-fn would_be_emptied(kind: Kind, pattern: u8) -> bool
-    ensures { result ≡ (stands_without_motion kind && (pattern == 0)) }
+pub fn is_emptied(kind: Kind, tally: Tally) -> bool
+    ensures { result ≡ (stands_without_motion kind && (tally.pattern == 0)) }
 {
-    is_coded_without_motion(kind) && pattern == 0
+    is_coded_without_motion(kind) && tally.pattern == 0
 }
 
 /// What became of a macroblock that was coarsened, if it is coded.

@@ -1,14 +1,17 @@
 //! What becomes of the coefficients of a macroblock in several versions at once, counted and not made.
-ghost use Rattle.std.specs.Prelude.{◌≡◌};
+ghost use Rattle.std.specs.Prelude.{◌≡◌, ◌<◌};
 ghost use Rattle.quant_math.specs.Levels.{coarser_level};
 ghost use Rattle.picture_grammar.specs.Block.{first_place};
 ghost use Rattle.picture_grammar.specs.Picture.{AreWeights};
 ghost use Rattle.requantiser.specs.Private.Changes.{change_in, level_change, new_level_in};
+ghost use Rattle.syntax_types.specs.declared.block.BlockWay.{BlockWay as WayOf};
 ghost use Rattle.requantiser.specs.Private.Counts.{EachIs, EachWent};
+ghost use Rattle.requantiser.specs.Private.Lengths.{table_number as number_of};
 ghost use Rattle.requantiser.specs.Private.Shapes.{FitBlock};
 ghost use Rattle.requantiser.specs.Private.Tallies.{HasRoom, IsBlockTallied, IsCounted, IsCountedBlock, StartsBlock};
 
 use crate::block::weight_in_scan;
+use crate::code_lengths::{TABLES, table_at, table_number};
 use crate::codes::Target;
 use crate::counts::Counts;
 use crate::ladder::Ladder;
@@ -65,27 +68,32 @@ pub fn add_block(
     ensures { EachWent (λ before behind. IsBlockTallied way (new_level_in weights.now rescaling.alternate rescaling.intra rescaling.from before.target.scale)
         (change_in weights.now rescaling.alternate rescaling.intra rescaling.from before.target.scale) pairs.now before behind) targets.now counts.old counts.new }
 {
+    if pairs.is_empty() {
+        counts.end_empty_block();
+        return;
+    }
     add_coefficients(counts, targets, way, rescaling, weights, pairs, ladder);
     counts.end_block(way);
 }
 
-/// Counts a coefficient in all versions.
+/// Counts a coefficient in all versions, whose bits are those of the table with this number, the one of its place.
 #[inline]
 fn add_coefficient(
     counts: &mut Counts,
     targets: &Targets,
-    way: BlockWay,
+    table: usize,
     rescaling: Rescaling,
     coefficient: Coefficient,
     ladder: &mut Ladder,
 )
-    requires { EachIs (HasRoom coefficient.at) targets.now counts.old }
-    ensures { EachWent (λ before behind. IsCounted way coefficient.at (coarser_level coefficient.level coefficient.weight rescaling.from before.target.scale rescaling.intra)
+    requires table { table < TABLES }
+    requires room { EachIs (HasRoom coefficient.at) targets.now counts.old }
+    ensures { (way : WayOf) → table ≡ number_of way coefficient.at → EachWent (λ before behind. IsCounted way coefficient.at (coarser_level coefficient.level coefficient.weight rescaling.from before.target.scale rescaling.intra)
         (level_change coefficient.level coefficient.weight rescaling.from before.target.scale rescaling.intra) before behind) targets.now counts.old counts.new }
 {
     let rung = ladder.rungs.rung_of(coefficient, rescaling, targets);
     counts.add_squares(&rung.squares);
-    counts.add_sizes(way, coefficient.at, rung, &mut ladder.lengths);
+    counts.add_sizes(table, coefficient.at, rung, &mut ladder.lengths);
 }
 
 /// Counts the coefficients of a block in all versions.
@@ -105,6 +113,8 @@ fn add_coefficients(
     ensures { EachWent (λ before behind. IsCountedBlock way (new_level_in weights.now rescaling.alternate rescaling.intra rescaling.from before.target.scale)
         (change_in weights.now rescaling.alternate rescaling.intra rescaling.from before.target.scale) pairs.now before behind) targets.now counts.old counts.new }
 {
+    let first = table_number(way, 0);
+    let later = table_number(way, 1);
     let mut place = u8::from(way.intra);
     for pair in pairs {
         let at = place + pair.run;
@@ -114,7 +124,8 @@ fn add_coefficients(
             weight,
             at,
         };
-        add_coefficient(counts, targets, way, rescaling, coefficient, ladder);
+        let table = table_at(first, later, at);
+        add_coefficient(counts, targets, table, rescaling, coefficient, ladder);
         place = at + 1;
     }
 }

@@ -1,19 +1,23 @@
 -- A macroblock's outline is as long as its head in the version, and its motion and DC coefficients in the source.
-use Rattle.std.proofs.Common.{◌≡◌, ℕ, zero, suc, ◌+◌, Some, List, [], ◌++◌, if◌then◌else◌, refl, ap, ap₂, ◌∙◌, length, get_or, length-append, arith}
-use Rattle.std.specs.Prelude.{map}
+use Rattle.std.proofs.Common.{◌≡◌, ℕ, zero, suc, ◌+◌, Bool, true, false, Option, None, Some, List, [], ◌++◌, if◌then◌else◌, refl, ap, ap₂, ◌∙◌, length, get_or, length-append, arith}
+use Rattle.std.specs.Prelude.{◌==◌, is_some, map, not}
 use Rattle.std.specs.List.{flat_map, range_with_len}
 use Rattle.std.specs.Option.{option_to_list}
+use Rattle.bit_lists.specs.Bits.{bits_of}
+use Rattle.bit_lists.proofs.BitLemmas.{length-bits_of}
 use Rattle.syntax_types.specs.declared.block.Block.{Block}
+use Rattle.syntax_types.specs.declared.macroblock.Kind.{Kind}
 use Rattle.syntax_types.specs.declared.macroblock.Macroblock.{Macroblock}
 use Rattle.syntax_types.specs.declared.picture.PicCoding.{PicCoding}
 use Rattle.picture_grammar.specs.Macroblock.{block_way, no_block}
-use Rattle.picture_grammar.specs.Written.{written_macroblock}
-use Rattle.macroblock_writer.specs.Parts.{HasDcAlone, dc_length, head_length, motion_length, written_dc_block}
+use Rattle.picture_grammar.specs.Written.{if_any, written_macroblock}
+use Rattle.macroblock_writer.specs.Parts.{HasDcAlone, dc_length, head_length, kind_length, motion_length, written_dc_block}
 use Rattle.macroblock_writer.proofs.Parts.{alone-length}
 use Rattle.requantiser.specs.declared.head.Head.{Head}
 use Rattle.requantiser.specs.Tallies.{kind_under, outline_of, outline_under}
 use Rattle.requantiser.specs.VersionState.{IsSpelledMacroblock}
 use Rattle.requantiser.specs.Private.Shapes.{HasShape}
+use Rattle.version_maker.specs.Private.Kinds.{AreKindBits}
 use Rattle.requantiser.proofs.Outlines.{get_or-outlines}
 use Rattle.requantiser.proofs.Spelled.{walkable}
 
@@ -48,3 +52,21 @@ outline-counted coding from head shared spelled is =
       alone-length coding outline (outline-alone coding from head (walkable coding from spelled).shape),
       length-append (written_macroblock coding outline) [],
     )
+
+-- the bits of quantiser_scale_code
+pub code-length : (code : Option ℕ) → length (if_any (bits_of 5) code) ≡ (if is_some code then 5 else 0)
+code-length None = refl
+code-length (Some code) = length-bits_of 5 code
+
+-- the bits of the types by the flags of a head
+pub kinds-at : (coding : PicCoding) (source : Kind) (n p c b : ℕ) (head : Head) → AreKindBits coding source n p c b
+    → (if is_some head.code then (if not (head.pattern == 0) then b else c) else (if not (head.pattern == 0) then p else n))
+    ≡ kind_length coding (kind_under source head) + (if is_some head.code then 5 else 0)
+kinds-at coding source n p c b head are = by_flags (is_some head.code) (not (head.pattern == 0))
+  where
+    by_flags : (quant pattern : Bool) → (if quant then (if pattern then b else c) else (if pattern then p else n))
+        ≡ kind_length coding (record source { quant = quant; pattern = pattern }) + (if quant then 5 else 0)
+    by_flags true true = are.both
+    by_flags true false = are.code
+    by_flags false true = omega (arith, are.pattern)
+    by_flags false false = omega (arith, are.neither)

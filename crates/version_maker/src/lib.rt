@@ -7,6 +7,7 @@
 //! a picture. Stands on `picture_reader`, `requantiser`, `picture_heads` and `picture_writer`.
 #![tactic(auto)]
 
+mod kind_bits;
 pub mod laws;
 mod limits;
 mod sizes;

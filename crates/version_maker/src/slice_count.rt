@@ -10,12 +10,19 @@ ghost use Rattle.requantiser.specs.declared.tally.Tally.{Tally as TallyOf};
 ghost use Rattle.requantiser.specs.Tallies.{kind_under, told_by};
 ghost use Rattle.requantiser.specs.VersionState.{IsSpelledMacroblock};
 ghost use Rattle.version_maker.specs.declared.slice_count.VersionCount.{VersionCount as CountOf};
+ghost use Rattle.syntax_types.specs.declared.macroblock.Kind.{Kind as KindOf};
+ghost use Rattle.syntax_types.specs.declared.picture.PicCoding.{PicCoding as CodingOf};
+ghost use Rattle.version_maker.specs.Private.Kinds.{AreKindBits};
 ghost use Rattle.version_maker.specs.Private.Counts.{CanCount, IsCountedMacroblock, IsStartCount};
 
-use macroblock_writer::{head_bits, macroblock_bits, motion_and_dc_bits};
+use crate::kind_bits::KindBits;
+use macroblock_writer::{increment_bits, macroblock_bits, motion_and_dc_bits, pattern_bits};
 use quant_math::WHOLE_RATIO;
-use requantiser::{Head, Outline, Tally, VERSIONS_AT_ONCE, VersionState, outline_macroblock};
-use syntax_types::{Kind, Macroblock, PicCoding, SeqState, SliceInfo};
+use requantiser::{
+    Head, Outline, Tally, VERSIONS_AT_ONCE, VersionState, coded_head, is_emptied,
+    outline_macroblock,
+};
+use syntax_types::{Macroblock, PicCoding, SeqState, SliceInfo};
 
 /// Where one version stands in a slice, and what was counted of it.
 #[derive(Clone, Copy)]
@@ -115,6 +122,7 @@ pub fn count_macroblock(
     ensures { (k : ℕ) (d : CountOf) → k < count → IsCountedMacroblock seq.now coding.now inner from.now (slice_index_or counts.old k d) (slice_index_or counts.new k d) }
 {
     let shared = motion_and_dc_bits(coding, from);
+    let kinds = KindBits::of(coding, from.kind);
     for k in 0..count {
         count_version(
             seq,
@@ -122,6 +130,7 @@ pub fn count_macroblock(
             inner,
             from,
             shared,
+            kinds,
             tallies[k],
             lent,
             &mut counts[k],
@@ -137,6 +146,7 @@ fn count_version(
     inner: bool,
     from: &Macroblock,
     shared: u32,
+    kinds: KindBits,
     tally: Tally,
     lent: &mut Macroblock,
     count: &mut VersionCount,
@@ -145,11 +155,43 @@ fn count_version(
     requires spelled { IsSpelledMacroblock coding.now from.now }
     requires shared { shared ≡ motion_length coding.now from.now + dc_length coding.now from.now }
     requires few { shared ≤ 2 ^ 15 }
+    requires kinds { AreKindBits coding.now from.now.kind kinds.neither kinds.pattern kinds.code kinds.both }
+    requires can { CanCount seq.now coding.now from.now tally count.old }
+    ensures { IsCountedMacroblock seq.now coding.now inner from.now count.old count.new }
+{
+    if is_emptied(from.kind, tally) {
+        count_emptied(seq, coding, inner, from, shared, kinds, tally, lent, count);
+        return;
+    }
+    let head = coded_head(tally, &mut count.state, from);
+    let outline = head_in_version(kinds, head) + shared;
+    count.bits += u64::from(outline + tally.bits);
+    count.distortion += tally.distortion;
+}
+
+/// The same of a macroblock that has no coefficients left, which is rare.
+#[cold]
+fn count_emptied(
+    seq: &SeqState,
+    coding: &PicCoding,
+    inner: bool,
+    from: &Macroblock,
+    shared: u32,
+    kinds: KindBits,
+    tally: Tally,
+    lent: &mut Macroblock,
+    count: &mut VersionCount,
+)
+    requires weights { HasWeights seq.now }
+    requires spelled { IsSpelledMacroblock coding.now from.now }
+    requires shared { shared ≡ motion_length coding.now from.now + dc_length coding.now from.now }
+    requires few { shared ≤ 2 ^ 15 }
+    requires kinds { AreKindBits coding.now from.now.kind kinds.neither kinds.pattern kinds.code kinds.both }
     requires can { CanCount seq.now coding.now from.now tally count.old }
     ensures { IsCountedMacroblock seq.now coding.now inner from.now count.old count.new }
 {
     let made = outline_macroblock(seq, coding, inner, tally, &mut count.state, from, lent);
-    let outline = outline_bits(coding, from, shared, made.outline, lent);
+    let outline = outline_bits(coding, from, shared, kinds, made.outline, lent);
     count.bits += u64::from(outline + made.bits);
     count.distortion += made.distortion;
 }
@@ -159,35 +201,34 @@ fn outline_bits(
     coding: &PicCoding,
     from: &Macroblock,
     shared: u32,
+    kinds: KindBits,
     outline: Outline,
     lent: &Macroblock,
 ) -> u32
     requires spelled { IsSpelledMacroblock coding.now from.now }
     requires shared { shared ≡ motion_length coding.now from.now + dc_length coding.now from.now }
     requires few { shared ≤ 2 ^ 15 }
+    requires kinds { AreKindBits coding.now from.now.kind kinds.neither kinds.pattern kinds.code kinds.both }
     ensures value { result ≡ length (flat_map (written_macroblock coding.now) (option_to_list (told_by coding.now from.now lent.now outline))) }
     ensures few { result < 2 ^ 17 }
 {
     match outline {
-        Outline::Coded(head) => head_in_version(coding, from.kind, head) + shared,
+        Outline::Coded(head) => head_in_version(kinds, head) + shared,
         Outline::Kept => macroblock_bits(coding, lent),
         Outline::Skipped => 0,
     }
 }
 
-/// The bits of a macroblock's head in a version, where it is of this kind in the source.
+/// The bits of a macroblock's head in a version, where it has these of its types.
 #[inline]
-fn head_in_version(coding: &PicCoding, source: Kind, head: Head) -> u32
-    ensures value { result ≡ head_length coding.now head.skipped_before (kind_under source head) head.code head.pattern }
+fn head_in_version(kinds: KindBits, head: Head) -> u32
+    ensures value { (coding : CodingOf) (source : KindOf) → AreKindBits coding source kinds.neither kinds.pattern kinds.code kinds.both → result ≡ head_length coding head.skipped_before (kind_under source head) head.code head.pattern }
     ensures few { result ≤ 2 ^ 16 + 54 }
 {
-    head_bits(
-        coding,
-        head.skipped_before,
-        head.kind(source),
-        head.code,
-        head.pattern,
-    )
+    let has_pattern = head.pattern != 0;
+    increment_bits(u32::from(head.skipped_before) + 1)
+        + kinds.at(head.code.is_some(), has_pattern)
+        + pattern_bits(has_pattern, head.pattern)
 }
 
 /// The bits of slice_extension_flag and of what it calls for.

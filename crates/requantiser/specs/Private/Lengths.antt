@@ -27,4 +27,4 @@ table_number way place = if way.intra then (if way.vlc_one then 2 else 0) else (
 -- the lengths of coefficients by table, run and size, those that are known
 abbrev pub AreLengths : List ℕ → Type 0
 AreLengths lengths = (number run size : ℕ) → run < 64 → size < 16 → 0 < slice_index lengths (1024 * number + 16 * run + size) →
-    (slice_index lengths (1024 * number + 16 * run + size) ≡ length_by (table_numbered number) run size) × (slice_index lengths (1024 * number + 16 * run + size) ≤ 42)
+    (slice_index lengths (1024 * number + 16 * run + size) ≡ length_by (table_numbered number) run size) × (slice_index lengths (1024 * number + 16 * run + size) ≤ 42) × (0 < size)

@@ -15,12 +15,12 @@ AreRescaled level weight from intra scales sizes squares =
 
 -- a weight, a scale of the source and the kind of block as one number
 abbrev pub way_number : ℕ → ℕ → Bool → ℕ
-way_number weight from intra = weight + 256 * from + 65536 * (if intra then 1 else 0)
+way_number weight from intra = weight + 256 * from + 32768 * (if intra then 1 else 0)
 
 -- the same of each weight and scale that have this number
 abbrev pub AreRescaledBy : ℤ → ℕ → List ℕ → List ℕ → List ℕ → Type 0
 AreRescaledBy level number scales sizes squares =
-    (weight from : ℕ) (intra : Bool) → weight < 256 → from < 256 → number ≡ way_number weight from intra → AreRescaled level weight from intra scales sizes squares
+    (weight from : ℕ) (intra : Bool) → weight < 256 → from < 128 → number ≡ way_number weight from intra → AreRescaled level weight from intra scales sizes squares
 
 -- from this version on it becomes 0
 abbrev pub IsGoneFrom : ℕ → List ℕ → Type 0

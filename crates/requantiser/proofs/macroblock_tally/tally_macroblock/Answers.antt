@@ -15,7 +15,7 @@ add_blocks-requires-clause-measured c = (walkable c.args.coding.now c.args.from.
 
 pub add_blocks-requires-clause-start : goal.add_blocks-requires-clause-start
 add_blocks-requires-clause-start c = λ k below. record {
-  scale = c.targets_of-targets.ensures.scales k below;
+  scale = c.of-targets.ensures.scales k below;
   next = c.new-counts.ensures.next k below;
   pattern = c.new-counts.ensures.patterns k below;
   bits = c.new-counts.ensures.bits k below;
@@ -29,8 +29,8 @@ pub returns-clause-tallies : goal.returns-clause-tallies
 returns-clause-tallies c = λ k d below.
     let within : k < 8 = omega (arith, below, c.requires.few) in
     let m : ℕ = slice_index c.args.ratios.now k in
-    let last = tally_in c.targets_of-targets.result c.add_blocks.new.counts k within in
-    tally_as c.args.seq.now c.args.coding.now _ m c.args.from.now c.targets_of-targets.result c.add_blocks.new.counts k within (get_or c.write_tallies.new.tallies k d) (c.write_tallies.ensures k d below)
+    let last = tally_in c.of-targets.result c.add_blocks.new.counts k within in
+    tally_as c.args.seq.now c.args.coding.now _ m c.args.from.now c.of-targets.result c.add_blocks.new.counts k within (get_or c.write_tallies.new.tallies k d) (c.write_tallies.ensures k d below)
     (subst (λ code. IsTallyOf c.args.seq.now c.args.coding.now code m c.args.from.now last) c.code_in_force-code.ensures.value
-    (all_tallied c.args.seq.now c.args.coding.now m c.code_in_force-code.result c.args.from.now (tally_in c.targets_of-targets.result c.new-counts.result k within) last
-    (walkable c.args.coding.now c.args.from.now c.requires.spelled).shape.six (c.targets_of-targets.ensures.codes k below) (c.add_blocks.ensures k within)))
+    (all_tallied c.args.seq.now c.args.coding.now m c.code_in_force-code.result c.args.from.now (tally_in c.of-targets.result c.new-counts.result k within) last
+    (walkable c.args.coding.now c.args.from.now c.requires.spelled).shape.six (c.of-targets.ensures.codes k below) (c.add_blocks.ensures k within)))

@@ -6,7 +6,7 @@ use Rattle.requantiser.proofs.Counted.{counted_by}
 use Rattle.requantiser.proofs.tally.add_coefficient.Goals as goal
 
 pub add_squares-requires-clause-room : goal.add_squares-requires-clause-room
-add_squares-requires-clause-room c = λ k below. (c.requires k below).distortion
+add_squares-requires-clause-room c = λ k below. (c.requires.room k below).distortion
 
 pub add_squares-requires-clause-small : goal.add_squares-requires-clause-small
 add_squares-requires-clause-small c = λ k below.
@@ -15,15 +15,15 @@ add_squares-requires-clause-small c = λ k below.
 pub add_sizes-requires-clause-next : goal.add_sizes-requires-clause-next
 add_sizes-requires-clause-next c = λ k below.
     let same : get_or c.add_squares.new.self.next k 0 ≡ get_or c.args.counts.now.next k 0 = ap (λ xs. get_or xs k 0) c.add_squares.ensures.next in
-    omega (arith, same, (c.requires k below).next)
+    omega (arith, same, (c.requires.room k below).next)
 
 pub add_sizes-requires-clause-room : goal.add_sizes-requires-clause-room
 add_sizes-requires-clause-room c = λ k below.
     let same : get_or c.add_squares.new.self.bits k 0 ≡ get_or c.args.counts.now.bits k 0 = ap (λ xs. get_or xs k 0) c.add_squares.ensures.bits in
-    omega (arith, same, (c.requires k below).bits)
+    omega (arith, same, (c.requires.room k below).bits)
 
 pub returns : goal.returns
-returns c = λ k below.
+returns c = λ way table k below.
     let level : ℤ = c.args.coefficient.level in
     let weight : ℕ = c.args.coefficient.weight in
     let from : ℕ = c.args.rescaling.from in
@@ -41,10 +41,10 @@ returns c = λ k below.
     let squared_is : squared ≡ level_change level weight from (get_or scales k 0) intra =
     is.1 ∙ ap (λ (l : ℤ). level_change l weight from (get_or rung.scales k 0) intra) c.rung_of-rung.ensures.level
     ∙ ap (λ (xs : List ℕ). level_change level weight from (get_or xs k 0) intra) c.rung_of-rung.ensures.scales in
-    counted_by c.args.way c.args.coefficient.at size squared (coarser_level level weight from (get_or scales k 0) intra) (level_change level weight from (get_or scales k 0) intra)
+    counted_by way c.args.coefficient.at size squared (coarser_level level weight from (get_or scales k 0) intra) (level_change level weight from (get_or scales k 0) intra)
     (tally_in c.args.targets.now c.args.counts.now k below) (tally_in c.args.targets.now c.add_sizes.new.self k below) refl
     (ap (λ (xs : List ℕ). get_or xs k 0) (c.add_sizes.ensures.patterns ∙ c.add_squares.ensures.patterns)) size_is squared_is is.2
-    (subst (λ (xs : List ℕ). IsSized c.args.way c.args.coefficient.at size (get_or xs k 0) (get_or c.args.counts.now.bits k 0) next' bits') c.add_squares.ensures.next
-    (subst (λ (xs : List ℕ). IsSized c.args.way c.args.coefficient.at size (get_or c.add_squares.new.self.next k 0) (get_or xs k 0) next' bits') c.add_squares.ensures.bits
-    (c.add_sizes.ensures.each k below)))
+    (subst (λ (xs : List ℕ). IsSized way c.args.coefficient.at size (get_or xs k 0) (get_or c.args.counts.now.bits k 0) next' bits') c.add_squares.ensures.next
+    (subst (λ (xs : List ℕ). IsSized way c.args.coefficient.at size (get_or c.add_squares.new.self.next k 0) (get_or xs k 0) next' bits') c.add_squares.ensures.bits
+    (c.add_sizes.ensures.each way k table below)))
     (ap (λ (xs : List ℕ). get_or xs k 0) c.add_sizes.ensures.squares ∙ c.add_squares.ensures.each k below)

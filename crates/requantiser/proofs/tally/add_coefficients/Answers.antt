@@ -22,8 +22,8 @@ loop-pair-init c =
       within = search rules;
     }
 
-pub add_coefficient-requires : goal.add_coefficient-requires
-add_coefficient-requires c = λ k below.
+pub add_coefficient-requires-clause-room : goal.add_coefficient-requires-clause-room
+add_coefficient-requires-clause-room c = λ k below.
     let within : c.loop-pair.pair-index < length c.args.pairs.now = omega (arith, c.loop-pair-test.true) in
     let here = one_fits c.loop-pair.place c.loop-pair.pair-index c.args.pairs.now no_pair within c.loop-pair.invariant.fit in
     let was = c.loop-pair.invariant.each k below in
@@ -52,7 +52,7 @@ loop-pair-preserved c =
           (tally_in c.args.targets.now c.add_coefficient.new.counts k below) _ _ within
           (ap (λ (l : ℤ). coarser_level l c.weight_in_scan-weight.result from scale intra) held ∙ ap (λ (w : ℕ). coarser_level pair.level w from scale intra) weight)
           (ap (λ (l : ℤ). level_change l c.weight_in_scan-weight.result from scale intra) held ∙ ap (λ (w : ℕ). level_change pair.level w from scale intra) weight)
-          (c.add_coefficient.ensures k below) (c.loop-pair.invariant.each k below);
+          (c.add_coefficient.ensures c.args.way (c.table_at-table.ensures.value c.args.way c.table_number-first.ensures.value c.table_number-later.ensures.value) k below) (c.loop-pair.invariant.each k below);
       fit = here.2;
       within = omega (arith, here.0);
     }

@@ -8,7 +8,7 @@ use Rattle.requantiser.proofs.tally.add_coefficients.Given as goal
 -- in each version the coefficients so far are counted
 abbrev pub invariant-loop-pair : goal.invariant-loop-pair
 invariant-loop-pair l = record {
-  each : (k : ℕ) (below : k < 8) → IsTallied l.way
+  each : (k : ℕ) (below : k < 8) → IsTallied l.fn.way
       (new_level_in l.weights l.rescaling.alternate l.rescaling.intra l.rescaling.from (get_or l.targets.scales k 0))
       (change_in l.weights l.rescaling.alternate l.rescaling.intra l.rescaling.from (get_or l.targets.scales k 0))
       l.place (drop l.pair-index l.pairs) l.pairs (tally_in l.targets l.initial.counts k below) (tally_in l.targets l.counts k below);

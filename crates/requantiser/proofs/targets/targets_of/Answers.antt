@@ -1,8 +1,7 @@
 use Rattle.std.proofs.Common.{◌≡◌, ◌<◌, ◌≤◌, ◌∙◌, ℕ, length, sym, ap, arith}
 use Rattle.std.specs.Prelude.{slice_index}
 use Rattle.std.proofs.lemmas.List.{length-set, length-replicate}
-use Rattle.quant_math.specs.Scales.{IsCode}
-use Rattle.requantiser.specs.Levels.{scale_of}
+use Rattle.quant_math.specs.Scales.{IsCode, quantiser_scale}
 use Rattle.requantiser.specs.Private.Walk.{mapped_code}
 use Rattle.requantiser.proofs.BlockTallies.{one_more_is}
 use Rattle.requantiser.proofs.Counted.{all_alike, set_two}
@@ -14,8 +13,8 @@ loop-k-init c =
     record {
       codes = length-replicate 8 coarsest.code;
       scales = length-replicate 8 coarsest.scale;
-      all = all_alike (λ (code scale : ℕ). IsCode code × (scale ≡ scale_of c.args.coding.now code) × (1 ≤ scale) × (scale ≤ 112)) 8 coarsest.code coarsest.scale
-          (coarsest.is_code, c.target_of-coarsest.ensures.scale ∙ ap (scale_of c.args.coding.now) (sym c.target_of-coarsest.ensures.code), coarsest.range.0, coarsest.range.1);
+      all = all_alike (λ (code scale : ℕ). IsCode code × (scale ≡ quantiser_scale c.args.q_scale_type code) × (1 ≤ scale) × (scale ≤ 112)) 8 coarsest.code coarsest.scale
+          (coarsest.is_code, c.target_of-coarsest.ensures.scale ∙ ap (quantiser_scale c.args.q_scale_type) (sym c.target_of-coarsest.ensures.code), coarsest.range.0, coarsest.range.1);
       each = λ j d below. absurd (omega (arith, below));
     }
 
@@ -28,11 +27,11 @@ loop-k-preserved c =
     record {
       codes = length-set c.loop-k.codes k target.code ∙ c.loop-k.invariant.codes;
       scales = length-set c.loop-k.scales k target.scale ∙ c.loop-k.invariant.scales;
-      all = set_two (λ j (code scale : ℕ). IsCode code × (scale ≡ scale_of c.args.coding.now code) × (1 ≤ scale) × (scale ≤ 112)) (λ j. j < 8) (λ j. j < 8)
+      all = set_two (λ j (code scale : ℕ). IsCode code × (scale ≡ quantiser_scale c.args.q_scale_type code) × (1 ≤ scale) × (scale ≤ 112)) (λ j. j < 8) (λ j. j < 8)
           c.loop-k.codes c.loop-k.scales k target.code target.scale in_codes in_scales
-          (target.is_code, c.target_of-target.ensures.scale ∙ ap (scale_of c.args.coding.now) (sym c.target_of-target.ensures.code), target.range.0, target.range.1)
+          (target.is_code, c.target_of-target.ensures.scale ∙ ap (quantiser_scale c.args.q_scale_type) (sym c.target_of-target.ensures.code), target.range.0, target.range.1)
           c.loop-k.invariant.all (λ j below other. below);
-      each = one_more_is (λ j (code : ℕ). code ≡ mapped_code c.args.coding.now.q_scale_type (slice_index c.args.ratios.now j) c.args.code) c.loop-k.codes k target.code in_codes
+      each = one_more_is (λ j (code : ℕ). code ≡ mapped_code c.args.q_scale_type (slice_index c.args.ratios.now j) c.args.code) c.loop-k.codes k target.code in_codes
           (c.target_of-target.ensures.code ∙ c.mapped.ensures.value) c.loop-k.invariant.each;
     }
 

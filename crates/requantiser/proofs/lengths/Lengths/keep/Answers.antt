@@ -1,7 +1,7 @@
 use Rattle.std.proofs.Common.{◌≡◌, ◌<◌, ◌+◌, ◌*◌, ◌∙◌, ℕ, length, rules, ap, arith}
 use Rattle.requantiser.specs.Private.Lengths.{length_by}
 use Rattle.requantiser.proofs.Counted.{one_more_length}
-use Rattle.requantiser.proofs.lengths.Lengths.ask.Goals as goal
+use Rattle.requantiser.proofs.lengths.Lengths.keep.Goals as goal
 
 pub invariant_of-self : goal.invariant_of-self
 invariant_of-self c =
@@ -12,5 +12,5 @@ invariant_of-self c =
     record {
       right = one_more_length c.args.self.now.bits c.args.number c.args.run c.args.size c.coefficient_bits-bits.result (1024 * c.args.number + 16 * c.from.result + c.from-2.result) at within
           c.requires.run c.requires.size (c.coefficient_bits-bits.ensures.value ∙ ap (λ table. length_by table c.args.run c.args.size) c.numbered.ensures.table)
-          c.coefficient_bits-bits.ensures.few c.args.self.now.right;
+          c.coefficient_bits-bits.ensures.few c.requires.some c.args.self.now.right;
     }

@@ -1,0 +1,21 @@
+use Rattle.std.proofs.Common.{◌<◌, ◌+◌, ◌-◌, ◌∙◌, ℕ, length, get_or, refl, rules, ap, arith}
+use Rattle.std.proofs.lemmas.List.{get_or-set_same, get_or-set_other}
+use Rattle.requantiser.specs.Private.Lengths.{length_by, table_numbered}
+use Rattle.requantiser.proofs.Counted.{none_sized, some_sized}
+use Rattle.requantiser.proofs.counts.Counts.add_rare_size.Goals as goal
+
+pub returns-then-size-eq0-clause-here : goal.returns-then-size-eq0-clause-here
+returns-then-size-eq0-clause-here c = λ way table. none_sized way c.args.at c.args.size _ _ _ _ (omega (arith, c.if-size-eq0.true)) refl refl
+
+pub returns-clause-here : goal.returns-clause-here
+returns-clause-here c = λ way table.
+    let k : ℕ = c.args.k in
+    let in_next : k < length c.args.self.now.next = first_of (omega arith, search rules) in
+    let in_bits : k < length c.args.self.now.bits = first_of (omega arith, search rules) in
+    let some : 0 < c.args.size = omega (arith, c.if-size-eq0.false) in
+    some_sized way c.args.at c.args.size (get_or c.args.self.now.next k 0) (get_or c.args.self.now.bits k 0) c.ask.result _ _ some c.requires.next
+    (c.ask.ensures.value ∙ ap (λ n. length_by (table_numbered n) (c.args.at - get_or c.args.self.now.next k 0) c.args.size) table) c.ask.ensures.few
+    (get_or-set_same c.args.self.now.next k (c.args.at + 1) 0 in_next) (get_or-set_same c.args.self.now.bits k (get_or c.args.self.now.bits k 0 + c.ask.result) 0 in_bits)
+
+pub returns-clause-others : goal.returns-clause-others
+returns-clause-others c = λ j other. (get_or-set_other _ c.args.k j _ 0 other, get_or-set_other _ c.args.k j _ 0 other)
