@@ -1,4 +1,4 @@
-use Rattle.std.proofs.Common.{ap, subst, sym}
+use Rattle.std.proofs.Common.{◌≡◌, ap, arith, subst, sym}
 use Rattle.std.specs.Option.{option_copied}
 use Rattle.picture_reader.specs.PictureFault.{refusal_told}
 use Rattle.version_maker.specs.Versions.{IsVersionAt}
@@ -16,4 +16,5 @@ want_of_memory-requires-in-Err-version_of c = not-refused (option_copied c.args.
 
 pub returns-in-Ok : goal.returns-in-Ok
 returns-in-Ok c =
-    subst (λ index. IsVersionAt (option_copied c.args.before) c.args.unit.now c.args.coarser.now index c.in-Ok.version) (sym c.if-index-eq0.true) (c.in-Ok.ensures c.args.coarser.now)
+    let first : c.args.index ≡ 0 = omega arith in
+    subst (λ index. IsVersionAt (option_copied c.args.before) c.args.unit.now c.args.coarser.now index c.in-Ok.version) (sym first) (c.in-Ok.ensures c.args.coarser.now)
