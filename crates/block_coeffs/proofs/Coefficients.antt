@@ -44,7 +44,7 @@ use Rattle.picture_grammar.specs.Grammar.Next.{more, last}
 use Rattle.picture_grammar.specs.Block.{coefficient, coefficient_table, first_place, next_place}
 use Rattle.picture_grammar.proofs.WrittenBlock.{next_place-push}
 use Rattle.grammar_reading.specs.declared.window.BitWindow.{BitWindow}
-use Rattle.grammar_reading.specs.Window.{seen, ShowsFront}
+use Rattle.grammar_reading.specs.Window.{ShowsFront}
 use Rattle.grammar_reading.specs.BitsRead.{AdvancesFrom, ReadsFrom, ExplainsFrom}
 use Rattle.grammar_reading.specs.Several.{several}
 use Rattle.grammar_reading.proofs.BitsRead.{advances-on, stands-before}
@@ -54,11 +54,11 @@ use Rattle.block_coeffs.specs.declared.why.Why.{Why}
 use Rattle.block_coeffs.specs.declared.standing.Standing.TheVariants.{EndOfBlock, Pair, Refused}
 use Rattle.block_coeffs.specs.BlockFault.{refusal_told}
 use Rattle.block_coeffs.specs.Private.Why.{fault_at}
-use Rattle.block_coeffs.specs.Private.Standing.{coefficient_at, IsFound, IsPair}
+use Rattle.block_coeffs.specs.Private.Standing.{coefficient_at, IsFound, IsPair, ShowsKnown}
 use Rattle.block_coeffs.specs.Private.Pairs.{IsBehind}
 use Rattle.block_coeffs.specs.Private.ShortCodes.{run_of, level_of, length_of}
 use Rattle.block_coeffs.proofs.Blocks.{local-at, local-coefficients, reads-coefficient, explains-coefficient}
-use Rattle.block_coeffs.proofs.Steps.{reads-found, explains-found}
+use Rattle.block_coeffs.proofs.Steps.{reads-known, explains-found}
 
 -- ---- none yet
 
@@ -112,35 +112,35 @@ more-behind way before items pair index run next b within same next_is items_are
     }
 
 module _ (way : BlockWay) (before : List RunLevel) (table : TableName) (index : ℕ) (table_is : table ≡ coefficient_table way index) (index_is : index ≡ next_place way before)
-    (window : BitWindow) (told after : Option (List ℕ)) (place place_after : ℕ) (shows : IfSome told (ShowsFront window)) where
+    (window : BitWindow) (told after : Option (List ℕ)) (place place_after : ℕ) where
   -- a coefficient was found and its bits were passed
-  pub pair-read : (bits : Option (List ℕ)) (at word run : ℕ) (held : ℤ) (len : ℕ) (items : List RunLevel)
+  pub pair-read : IfSome told (ShowsKnown window) → (bits : Option (List ℕ)) (at word run : ℕ) (held : ℤ) (len : ℕ) (items : List RunLevel)
       → IsFound table index window (Pair word) → run ≡ run_of word → held ≡ level_of word → len ≡ length_of word → after ≡ without_bits told len → place_after ≡ place + len
       → items ≡ before ++ record { run = run; level = held } ∷ [] → ReadsFrom (several (coefficient way)) before bits told at place
       → ReadsFrom (several (coefficient way)) items bits after at place_after
-  pair-read bits at word run held len items is run_is held_is len_is left moved items_are r =
+  pair-read shows bits at word run held len items is run_is held_is len_is left moved items_are r =
       let pair : RunLevel = record { run = run; level = held } in
       let p : IsPair table index window run held len =
       subst (λ n. IsPair table index window n held len) (sym run_is)
       (subst (λ (l : ℤ). IsPair table index window (run_of word) l len) (sym held_is) (subst (λ n. IsPair table index window (run_of word) (level_of word) n) (sym len_is) is)) in
-      let found = reads-found (coefficient_at table index) (local-at way before table index table_is index_is) (more pair) told after window len place place_after shows p.0 p.2 left moved in
+      let found = reads-known (coefficient_at table index) (local-at way before table index table_is index_is) (more pair) told after window len place place_after shows p.0 p.2 left moved in
       let read = reads-coefficient way before table index table_is index_is (Some pair) (Some pair) refl told after place place_after found in
       subst (λ pairs. ReadsFrom (several (coefficient way)) pairs bits after at place_after) (sym items_are)
       (reads-more (coefficient way) (stands-before (coefficient way before) before (more pair) (local-coefficients way)) r read)
 
   -- the end of block was found and passed
-  pub end-read : (bits : Option (List ℕ)) (at len : ℕ) → IsFound table index window (EndOfBlock len) → after ≡ without_bits told len → place_after ≡ place + len
+  pub end-read : IfSome told (ShowsKnown window) → (bits : Option (List ℕ)) (at len : ℕ) → IsFound table index window (EndOfBlock len) → after ≡ without_bits told len → place_after ≡ place + len
       → ReadsFrom (several (coefficient way)) before bits told at place → ReadsFrom (many (coefficient way)) (before, tt) bits after at place_after
-  end-read bits at len is left moved r =
-      let found = reads-found (coefficient_at table index) (local-at way before table index table_is index_is) (last tt) told after window len place place_after shows is.0 is.1 left moved in
+  end-read shows bits at len is left moved r =
+      let found = reads-known (coefficient_at table index) (local-at way before table index table_is index_is) (last tt) told after window len place place_after shows is.0 is.1 left moved in
       let read = reads-coefficient way before table index table_is index_is None None refl told after place place_after found in
       reads-end (coefficient way) (stands-before (coefficient way before) before (last tt) (local-coefficients way)) r read
 
   -- neither was found
-  pub refused-read : (bits : Option (List ℕ)) (at : ℕ) (why : Why) (behind place_refused : ℕ) (fault : BlockFault)
+  pub refused-read : IfSome told (ShowsFront window) → (bits : Option (List ℕ)) (at : ℕ) (why : Why) (behind place_refused : ℕ) (fault : BlockFault)
       → IsFound table index window (Refused why behind) → fault ≡ fault_at why place_refused → place_refused ≡ place + behind
       → ReadsFrom (several (coefficient way)) before bits told at place → IfSome bits (λ b. ExplainsFrom (many (coefficient way)) (refusal_told fault) b at)
-  refused-read bits at why behind place_refused fault is fault_is placed r =
+  refused-read shows bits at why behind place_refused fault is fault_is placed r =
       let here = explains-found (coefficient_at table index) why told window behind place place_refused shows is.0 is.1 placed in
       let named = subst (λ f. IfSome told (λ b. ExplainsFrom (coefficient_at table index) (refusal_told f) b place)) (sym fault_is) here in
       explains-list (coefficient way) (refusal_told fault) r (explains-coefficient way before table index table_is index_is (refusal_told fault) told place named)

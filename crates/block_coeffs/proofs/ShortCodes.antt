@@ -1,60 +1,12 @@
 -- The words of short codes: each is right for its bits, by a test that is computed for each, and what that says of windows.
-use Rattle.std.proofs.Common.{
-  ◌≡◌,
-  ℕ,
-  ℤ,
-  pos,
-  zero,
-  suc,
-  ◌+◌,
-  ◌-◌,
-  ◌*◌,
-  ◌/◌,
-  ◌%◌,
-  ◌^◌,
-  ◌<◌,
-  ◌≤◌,
-  Bool,
-  true,
-  false,
-  not,
-  ◌&&◌,
-  ◌||◌,
-  nat_eq,
-  nat_lt,
-  if◌then◌else◌,
-  List,
-  [],
-  ◌∷◌,
-  ◌++◌,
-  length,
-  take,
-  get_or,
-  Option,
-  Some,
-  None,
-  IfSome,
-  refl,
-  sym,
-  ap,
-  subst,
-  ◌∙◌,
-  inl,
-  inr,
-  arith,
-  w16,
-  to_z,
-  zero-add,
-  add-zero,
-  append-nil,
-}
+use Rattle.std.proofs.Common.{◌≡◌, ℕ, ℤ, zero, suc, ◌+◌, ◌-◌, ◌*◌, ◌/◌, ◌^◌, ◌<◌, ◌≤◌, Bool, true, false, not, ◌&&◌, ◌||◌, nat_eq, nat_lt, if◌then◌else◌, List, [], ◌∷◌, ◌++◌, length, take, get_or, Option, Some, None, IfSome, refl, sym, ap, subst, ◌∙◌, inl, inr, arith, w16, zero-add, add-zero, append-nil}
 use Rattle.std.specs.Int.{cast_signed}
-use Rattle.std.proofs.lemmas.Bool.{and_parts, or_cases, eqb-true, ltb-true, cases_Bool, not-true, both_ways, lt-ltb, le-ltb}
+use Rattle.std.proofs.lemmas.Bool.{and_parts, or_cases, eqb-true, ltb-true, cases_Bool, not-true, both_ways, lt-ltb}
 use Rattle.std.proofs.lemmas.Int.{to_z_pos}
 use Rattle.std.proofs.lemmas.List.{length-take}
-use Rattle.bit_lists.specs.Bits.{IsPrefix, bits_of, front_of}
+use Rattle.bit_lists.specs.Bits.{IsPrefix, bits_of}
 use Rattle.bit_lists.specs.Fields.{flag}
-use Rattle.bit_lists.proofs.BitLemmas.{length-bits_of, take-bits_of, bits_of-same}
+use Rattle.bit_lists.proofs.BitLemmas.{length-bits_of, take-bits_of}
 use Rattle.bit_cursor.specs.Shown.{IsFirstNumber}
 use Rattle.prefix_codes.specs.declared.symbol.TheConstants.{END_OF_BLOCK}
 use Rattle.prefix_codes.specs.declared.table_name.TableName.{TableName}
@@ -62,19 +14,19 @@ use Rattle.prefix_codes.specs.declared.table_name.TableName.TheVariants.{Address
 use Rattle.prefix_codes.specs.TableName.{code_in, coefficient_code}
 use Rattle.prefix_codes.proofs.Computing.{tables}
 use Rattle.prefix_codes.proofs.TableLemmas.{begins}
-use Rattle.prefix_codes.proofs.LevelLemmas.{IsPrefix_from_begins, not_zero}
+use Rattle.prefix_codes.proofs.LevelLemmas.{IsPrefix_from_begins}
 use Rattle.picture_grammar.specs.Grammar.Next.{more, last}
 use Rattle.picture_grammar.specs.Block.{signed}
 use Rattle.grammar_reading.specs.declared.window.BitWindow.{BitWindow}
 use Rattle.grammar_reading.specs.Window.{seen, ShowsFront}
 use Rattle.grammar_reading.proofs.Fronts.{take-front_of}
 use Rattle.block_coeffs.specs.declared.short_codes.TheConstants.{PAIR_WORDS, SHORT_BITS}
-use Rattle.block_coeffs.specs.declared.standing.Standing.TheVariants.{EndOfBlock, Pair}
+use Rattle.block_coeffs.specs.declared.standing.Standing.TheVariants.{EndOfBlock, Pair, Refused}
+use Rattle.block_coeffs.specs.declared.standing.Standing.{Standing}
 use Rattle.block_coeffs.specs.Private.ShortCodes.{words_of, run_of, length_of, level_of}
-use Rattle.block_coeffs.specs.Private.Standing.{coefficient_at, IsFound, IsPair, StandsNext}
+use Rattle.block_coeffs.specs.Private.Standing.{coefficient_at, IsFound, IsPair, ShowsKnown, StandsNext}
 use Rattle.block_coeffs.proofs.Pairs.{spells-end, spells-pair}
-use Rattle.block_coeffs.proofs.Steps.{taken}
-use Rattle.grammar_reading.proofs.Fronts.{whole-shown}
+use Rattle.block_coeffs.proofs.Steps.{front-known}
 
 -- ---- the test
 
@@ -168,7 +120,7 @@ level-signed n lt = elim (cases_Bool (nat_lt n (2 ^ 15))) [
 
 -- ---- a word of a window's front
 
-module _ (table : TableName) (place : ℕ) (window : BitWindow) (word : ℕ) (whole : window.known ≡ 24) (is : word ≡ get_or (words_of table) (window.bits / 2 ^ 15) 0) where
+module _ (table : TableName) (place : ℕ) (window : BitWindow) (word : ℕ) (known : 9 ≤ window.known) (is : word ≡ get_or (words_of table) (window.bits / 2 ^ 15) 0) where
   abbrev front : ℕ
   front = window.bits / 2 ^ 15
 
@@ -209,7 +161,7 @@ module _ (table : TableName) (place : ℕ) (window : BitWindow) (word : ℕ) (wh
       let t = there (flag negative ∷ []) front (length_of word) (coefficient_code table (run_of word) size) (pair-there above) in
       let split : seen window (length_of word) ≡ t.0 ++ flag negative ∷ [] = seen-front window (length_of word) t.3 ∙ t.2 in
       let high : word / 2 ^ 16 < 2 ^ 16 = omega (arith, below) in (
-        omega (arith, t.3, whole),
+        omega (arith, t.3, known),
         fits,
         subst (λ (l : ℤ). (coefficient_at table place).Spells (more (record { run = run_of word; level = l })) (seen window (length_of word)) [])
             (sym (level-signed (word / 2 ^ 16) high))
@@ -221,7 +173,7 @@ module _ (table : TableName) (place : ℕ) (window : BitWindow) (word : ℕ) (wh
       let t = there [] front (length_of word) (code_in table END_OF_BLOCK) (end-there some below) in
       let few : len ≤ 9 = subst (λ n. n ≤ 9) (sym len_is) t.3 in
       let all : seen window len ≡ t.0 = seen-front window len few ∙ ap (λ n. take n (bits_of 9 front)) len_is ∙ t.2 ∙ append-nil t.0 in (
-        omega (arith, few, whole),
+        omega (arith, few, known),
         subst (λ x. (coefficient_at table place).Spells (last tt) x []) (sym all) (spells-end table place t.0 t.1),
       )
 
@@ -239,40 +191,44 @@ word-parts n len run word run_few len_few is = (omega arith, omega arith, omega 
 
 -- ---- what stands next, by its first bits
 
--- a window that has these first bits
+-- a window that knows these first bits alone
 abbrev window_of : (front : ℕ) → front < 2 ^ 9 → BitWindow
-window_of front few = record { bits = front * 2 ^ 15; known = 24; within = omega arith; below = omega arith; filled = omega arith }
+window_of front few = record { bits = front * 2 ^ 15; known = 9; within = omega arith; below = omega arith; filled = omega arith }
 
--- they are its own where both are those of the bits
-front-same : (bits : List ℕ) (front : ℕ) (window : BitWindow) → window.known ≡ 24 → front < 2 ^ 9 → IsFirstNumber 9 bits front → ShowsFront window bits → front ≡ window.bits / 2 ^ 15
-front-same bits front window whole few first shows =
-    let below : window.bits < 2 ^ 24 = window.below in
-    let both : bits_of 9 front ≡ bits_of 9 (window.bits / 2 ^ 15) =
-    sym first.front ∙ taken window bits 9 shows (omega (arith, whole)) ∙ take-bits_of 9 15 window.bits in
-    let same : front % 2 ^ 9 ≡ window.bits / 2 ^ 15 % 2 ^ 9 = bits_of-same 9 front (window.bits / 2 ^ 15) both in
-    omega (arith, same, few, below)
-
--- a whole window that shows the next bits and has these first ones
-pub window-next : (told : Option (List ℕ)) (front number : ℕ) → front < 2 ^ 9 → number < 2 ^ 24 → IfSome told (λ bits. IsFirstNumber 9 bits front)
-    → IfSome told (λ bits. IsFirstNumber 24 bits number) → (window : BitWindow) × (window.known ≡ 24) × IfSome told (ShowsFront window) × (front ≡ window.bits / 2 ^ 15)
-window-next None front number few below first all = (window_of front few, refl, tt, omega arith)
-window-next (Some bits) front number few below first all =
-    let window : BitWindow = record { bits = number; known = 24; within = omega arith; below = below; filled = omega arith } in
-    let shows : ShowsFront window bits = whole-shown (Some bits) number all in
-    (window, refl, shows, front-same bits front window refl few first shows)
+known-of : (told : Option (List ℕ)) (front : ℕ) (few : front < 2 ^ 9) → IfSome told (λ bits. IsFirstNumber 9 bits front) → IfSome told (ShowsKnown (window_of front few))
+known-of None front few first = tt
+known-of (Some bits) front few first =
+    let same : front ≡ front * 2 ^ 15 / 2 ^ 15 = omega arith in
+    first.front ∙ ap (bits_of 9) same ∙ sym (take-bits_of 9 15 (front * 2 ^ 15))
 
 -- what a word tells stands next
-module _ (table : TableName) (place : ℕ) (told : Option (List ℕ)) (front number word : ℕ) (few : front < 2 ^ 9) (below : number < 2 ^ 24)
-    (first : IfSome told (λ bits. IsFirstNumber 9 bits front)) (all : IfSome told (λ bits. IsFirstNumber 24 bits number))
-    (is : word ≡ get_or (words_of table) front 0) where
-  pub pair-next : PAIR_WORDS ≤ word → word < 2 ^ 32 → place + run_of word < 64 → StandsNext table place told (Pair word)
-  pair-next above fits within =
-      let w = window-next told front number few below first all in
-      let same : word ≡ get_or (words_of table) (w.0.bits / 2 ^ 15) 0 = is ∙ ap (λ n. get_or (words_of table) n 0) w.3 in
-      record { window = w.0; whole = w.1; shows = w.2; found = short-pair table place w.0 word w.1 same above fits within }
+module _ (table : TableName) (place : ℕ) (told : Option (List ℕ)) (held front word : ℕ) (enough : 9 ≤ held) (few : front < 2 ^ 9)
+    (first : IfSome told (λ bits. IsFirstNumber 9 bits front)) (is : word ≡ get_or (words_of table) front 0) where
+  same-word : word ≡ get_or (words_of table) (front * 2 ^ 15 / 2 ^ 15) 0
+  same-word =
+      let same : front ≡ front * 2 ^ 15 / 2 ^ 15 = omega arith in
+      is ∙ ap (λ n. get_or (words_of table) n 0) same
 
-  pub end-next : 0 < word → word < PAIR_WORDS → (len : ℕ) → len ≡ length_of word → StandsNext table place told (EndOfBlock len)
-  end-next some less len len_is =
-      let w = window-next told front number few below first all in
-      let same : word ≡ get_or (words_of table) (w.0.bits / 2 ^ 15) 0 = is ∙ ap (λ n. get_or (words_of table) n 0) w.3 in
-      record { window = w.0; whole = w.1; shows = w.2; found = short-end table place w.0 word w.1 same some less len len_is }
+  pub pair-next : PAIR_WORDS ≤ word → word < 2 ^ 32 → place + run_of word < 64 → StandsNext table place told held (Pair word)
+  pair-next above fits within = record {
+    window = window_of front few;
+    known = enough;
+    shows = known-of told front few first;
+    found = short-pair table place (window_of front few) word (omega arith) same-word above fits within;
+  }
+
+  pub end-next : 0 < word → word < PAIR_WORDS → (len : ℕ) → len ≡ length_of word → StandsNext table place told held (EndOfBlock len)
+  end-next some less len len_is = record {
+    window = window_of front few;
+    known = enough;
+    shows = known-of told front few first;
+    found = short-end table place (window_of front few) word (omega arith) same-word some less len len_is;
+  }
+
+-- ---- what stands next, by a window that shows it
+
+pub shown-next : (table : TableName) (place : ℕ) (told : Option (List ℕ)) (held : ℕ) (window : BitWindow) (standing : Standing) → window.known ≤ held
+    → IfSome told (ShowsFront window) → IsFound table place window standing → StandsNext table place told held standing
+shown-next table place told held window (EndOfBlock len) within shows found = record { window = window; known = within; shows = front-known told window shows; found = found }
+shown-next table place told held window (Pair word) within shows found = record { window = window; known = within; shows = front-known told window shows; found = found }
+shown-next table place told held window (Refused why behind) within shows found = record { window = window; known = within; shows = shows; found = found }

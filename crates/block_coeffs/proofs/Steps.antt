@@ -1,10 +1,7 @@
 -- From what a window shows to what a reader took.
 use Rattle.std.proofs.Common.{◌≡◌, ℕ, ◌+◌, ◌<◌, ◌≤◌, List, [], ◌++◌, length, take, drop, append-nil, Option, Some, None, IfSome, refl, sym, ap, subst, ◌∙◌, arith}
 use Rattle.std.specs.Option.{option_map}
-use Rattle.std.proofs.lemmas.List.{length-take, take-take, take_all, take-append-drop}
-use Rattle.bit_lists.specs.Bits.{bits_of, front_of}
-use Rattle.bit_lists.proofs.BitLemmas.{length-bits_of}
-use Rattle.bit_cursor.specs.Shown.{IsFirstNumber}
+use Rattle.std.proofs.lemmas.List.{length-take, take-take, take-append-drop}
 use Rattle.bit_cursor.proofs.Fronts.{told_both}
 use Rattle.picture_grammar.specs.Refusal.{Refusal}
 use Rattle.picture_grammar.specs.Grammar.{Grammar}
@@ -14,6 +11,7 @@ use Rattle.block_coeffs.specs.declared.why.Why.{Why}
 use Rattle.block_coeffs.specs.declared.why.Why.TheVariants as why
 use Rattle.grammar_reading.specs.declared.window.BitWindow.{BitWindow}
 use Rattle.block_coeffs.specs.Private.Why.{refusal_of, fault_at}
+use Rattle.block_coeffs.specs.Private.Standing.{ShowsKnown}
 use Rattle.grammar_reading.specs.Window.{seen, ShowsFront}
 use Rattle.grammar_reading.specs.BitsRead.{AdvancesFrom, IsSpelled, ReadsFrom, RefusedAt, ExplainsFrom}
 use Rattle.grammar_reading.proofs.BitsRead.{anywhere}
@@ -31,9 +29,17 @@ shown window bits len shows le =
     let within = window.within in
     omega (arith, ap length (taken window bits len shows le), length-take len bits, length-front_of 24 window.bits len (omega arith))
 
-front-left : (told : Option (List ℕ)) (window : BitWindow) (len : ℕ) → IfSome told (ShowsFront window) → len ≤ window.known → told ≡ option_map (λ rest. seen window len ++ rest) (without_bits told len)
+-- a window that shows the bits knows how they begin
+pub front-known : (told : Option (List ℕ)) (window : BitWindow) → IfSome told (ShowsFront window) → IfSome told (ShowsKnown window)
+front-known None window shows = tt
+front-known (Some bits) window shows = taken window bits window.known shows (omega arith)
+
+taken-known : (window : BitWindow) (bits : List ℕ) (len : ℕ) → ShowsKnown window bits → len ≤ window.known → take len bits ≡ seen window len
+taken-known window bits len shows le = sym (take-take len window.known bits le) ∙ ap (take len) shows ∙ take-front_of 24 window.bits len window.known le
+
+front-left : (told : Option (List ℕ)) (window : BitWindow) (len : ℕ) → IfSome told (ShowsKnown window) → len ≤ window.known → told ≡ option_map (λ rest. seen window len ++ rest) (without_bits told len)
 front-left None window len shows le = refl
-front-left (Some bits) window len shows le = ap Some (sym (take-append-drop len bits) ∙ ap (λ f. f ++ drop len bits) (taken window bits len shows le))
+front-left (Some bits) window len shows le = ap Some (sym (take-append-drop len bits) ∙ ap (λ f. f ++ drop len bits) (taken-known window bits len shows le))
 
 -- a window of held bits shows what is left, where all bits are held that are asked for or left
 pub held-shown : (told now : Option (List ℕ)) (held : ℕ) (window : BitWindow) → now ≡ told → (held < 24 → IfSome told (λ bits. length bits ≡ held))
@@ -46,11 +52,11 @@ local-spelled : {A : Type 0} {grammar : Grammar A} → IsLocal grammar → (valu
 local-spelled {grammar = grammar} local value front None s = ([], subst (λ f. grammar.Spells value f []) (sym (append-nil front)) s)
 local-spelled {grammar = grammar} local value front (Some rest) s = anywhere local value front [] rest (subst (λ f. grammar.Spells value f []) (sym (append-nil front)) s)
 
--- what the window shows of a value was read once it is taken
-pub reads-found : {A : Type 0} (grammar : Grammar A) → IsLocal grammar → (value : A) (told after : Option (List ℕ)) (window : BitWindow) (len place place_after : ℕ)
-    → IfSome told (ShowsFront window) → len ≤ window.known → grammar.Spells value (seen window len) [] → after ≡ without_bits told len
+-- what the window knows of a value was read once it is taken
+pub reads-known : {A : Type 0} (grammar : Grammar A) → IsLocal grammar → (value : A) (told after : Option (List ℕ)) (window : BitWindow) (len place place_after : ℕ)
+    → IfSome told (ShowsKnown window) → len ≤ window.known → grammar.Spells value (seen window len) [] → after ≡ without_bits told len
     → place_after ≡ place + len → ReadsFrom grammar value told after place place_after
-reads-found grammar local value told after window len place place_after shows le spelled left moved =
+reads-known grammar local value told after window len place place_after shows le spelled left moved =
     let within = window.within in record {
       front = seen window len;
       spelled = local-spelled local value (seen window len) after spelled;
@@ -58,10 +64,15 @@ reads-found grammar local value told after window len place place_after shows le
       moved = moved ∙ ap (λ n. place + n) (sym (length-front_of 24 window.bits len (omega arith)));
     }
 
--- bits that the window shows were passed
-pub advances-found : (told after : Option (List ℕ)) (window : BitWindow) (len place place_after : ℕ) → IfSome told (ShowsFront window) → len ≤ window.known
+pub reads-found : {A : Type 0} (grammar : Grammar A) → IsLocal grammar → (value : A) (told after : Option (List ℕ)) (window : BitWindow) (len place place_after : ℕ)
+    → IfSome told (ShowsFront window) → len ≤ window.known → grammar.Spells value (seen window len) [] → after ≡ without_bits told len
+    → place_after ≡ place + len → ReadsFrom grammar value told after place place_after
+reads-found grammar local value told after window len place place_after shows = reads-known grammar local value told after window len place place_after (front-known told window shows)
+
+-- bits that the window knows were passed
+pub advances-known : (told after : Option (List ℕ)) (window : BitWindow) (len place place_after : ℕ) → IfSome told (ShowsKnown window) → len ≤ window.known
     → after ≡ without_bits told len → place_after ≡ place + len → AdvancesFrom told after place place_after
-advances-found told after window len place place_after shows le left moved =
+advances-known told after window len place place_after shows le left moved =
     let within = window.within in record {
       front = seen window len;
       left = front-left told window len shows le ∙ ap (option_map (λ rest. seen window len ++ rest)) (sym left);

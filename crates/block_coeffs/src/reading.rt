@@ -12,7 +12,7 @@ ghost use Rattle.grammar_reading.specs.Window.{ShowsFront};
 ghost use Rattle.grammar_reading.specs.BitsRead.{Advances, AnswersSpelling, BeginsWith, Explains, Reads};
 ghost use Rattle.block_coeffs.specs.BlockFault.{refusal_told};
 
-use crate::coefficient_table::{size_table, table_at};
+use crate::coefficient_table::size_table;
 use crate::dc_standing::{DcStanding, what_dc};
 use crate::fault::BlockFault;
 use crate::short_codes::{PAIR_WORDS, SHORT_BITS, length_in, level_in, run_in, short_word};
@@ -153,10 +153,8 @@ fn read_from_first<S: Source>(
     ensures missing { IsErrOf result (BlockFault.Outside Fault.Missing) → Rose (absences_of from.old) (absences_of from.new) }
     ensures keeps { KeepsSource from.old from.new }
 {
-    if !from.hold_ahead(WINDOW_BITS)? {
-        return read_last(from, way, 0, into);
-    }
-    match stands_next(from, TableName::CoeffFirst, 0) {
+    let standing = stands_next(from, TableName::CoeffFirst, 0)?;
+    match standing {
         Standing::EndOfBlock { len } => {
             from.skip(len);
             Ok(())
@@ -196,8 +194,9 @@ fn read_others<S: Source>(
     ensures keeps { KeepsSource from.old from.new }
 {
     let mut index = first;
-    'coefficients: while from.hold_ahead(WINDOW_BITS)? {
-        match stands_next(from, table, index) {
+    'coefficients: loop {
+        let standing = stands_next(from, table, index)?;
+        match standing {
             Standing::EndOfBlock { len } => {
                 from.skip(len);
                 return Ok(());
@@ -216,70 +215,60 @@ fn read_others<S: Source>(
             }
         }
     }
-    read_last(from, way, index, into)
 }
 
-/// The coefficients from a place up to the end of block, where fewer bits are left than a window has.
-#[cold]
-#[inline(never)]
-fn read_last<S: Source>(
+/// What stands next, by a table of coefficients at an index of the block, and held with it. The word of the first bits tells most coefficients
+/// and the end of block, so that no more bits are asked for; the table tells all others.
+#[inline(always)]
+fn stands_next<S: Source>(
     from: &mut BitReader<'_, S>,
-    way: BlockWay,
-    first: u32,
-    into: &mut ArrayVec<RunLevel, BLOCK_PLACES>,
-) -> Result<(), BlockFault>
-    requires { IsBehind way first into.old.items }
-    ensures ok { ReadsOn way into.old.items into.new.items result from.old from.new }
-    ensures refused { RefusesOn way into.old.items result from.old }
-    ensures advances { OnErr result (Advances from.old from.new) }
+    table: TableName,
+    index: u32,
+) -> Result<Standing, Fault>
+    requires table { IsTrue (is_coefficients table) }
+    requires index { index ≤ BLOCK_PLACES }
+    ensures found { IfOk result (StandsNext table index (bits_left from.new) (bits_held from.new)) }
+    ensures left { bits_left from.new ≡ bits_left from.old }
+    ensures stays { place from.new ≡ place from.old }
 
-    ensures failed { IsErrOf result (BlockFault.Outside Fault.Failed) → Rose (faults_of from.old) (faults_of from.new) }
-    ensures missing { IsErrOf result (BlockFault.Outside Fault.Missing) → Rose (absences_of from.old) (absences_of from.new) }
+    ensures failed { IsErrOf result Fault.Failed → Rose (faults_of from.old) (faults_of from.new) }
+    ensures missing { IsErrOf result Fault.Missing → Rose (absences_of from.old) (absences_of from.new) }
     ensures keeps { KeepsSource from.old from.new }
 {
-    let mut index = first;
-    'coefficients: loop {
-        from.hold_ahead(WINDOW_BITS)?;
-        match what_stands(table_at(way, index), index, held_window(from)) {
-            Standing::EndOfBlock { len } => {
-                from.skip(len);
-                return Ok(());
+    if from.hold_ahead(SHORT_BITS)? {
+        let word = short_word(table, from.held_front(SHORT_BITS));
+        if word >= PAIR_WORDS {
+            if index + run_in(word) < BLOCK_PLACES as u32 {
+                return Ok(Standing::Pair { word });
             }
-            Standing::Pair { word } => {
-                let run = run_in(word);
-                from.skip(length_in(word));
-                into.push(RunLevel {
-                    run: run as u8,
-                    level: level_in(word),
-                });
-                index += run + 1;
-            }
-            Standing::Refused { why, behind } => {
-                return Err(why.at(from.place() + u64::from(behind)));
-            }
+        } else if word > 0 {
+            return Ok(Standing::EndOfBlock {
+                len: length_in(word),
+            });
         }
     }
+    stands_by_table(from, table, index)
 }
 
-/// What stands next, by a table of coefficients at a place, where a whole window is held. The word of the first bits tells most
-/// coefficients and the end of block, and the table all others.
+/// The same by the table itself: by a whole window, or by all bits that are left.
 #[inline(always)]
-fn stands_next<S: Source>(from: &BitReader<'_, S>, table: TableName, place: u32) -> Standing
+fn stands_by_table<S: Source>(
+    from: &mut BitReader<'_, S>,
+    table: TableName,
+    index: u32,
+) -> Result<Standing, Fault>
     requires table { IsTrue (is_coefficients table) }
-    requires place { place ≤ BLOCK_PLACES }
-    requires held { WINDOW_BITS ≤ bits_held from.now }
-    ensures { StandsNext table place (bits_left from.now) result }
+    requires index { index ≤ BLOCK_PLACES }
+    ensures found { IfOk result (StandsNext table index (bits_left from.new) (bits_held from.new)) }
+    ensures left { bits_left from.new ≡ bits_left from.old }
+    ensures stays { place from.new ≡ place from.old }
+
+    ensures failed { IsErrOf result Fault.Failed → Rose (faults_of from.old) (faults_of from.new) }
+    ensures missing { IsErrOf result Fault.Missing → Rose (absences_of from.old) (absences_of from.new) }
+    ensures keeps { KeepsSource from.old from.new }
 {
-    let front = from.held_front(SHORT_BITS);
-    let word = short_word(table, front);
-    if word >= PAIR_WORDS {
-        if place + run_in(word) < BLOCK_PLACES as u32 {
-            return Standing::Pair { word };
-        }
-    } else if word > 0 {
-        return Standing::EndOfBlock {
-            len: length_in(word),
-        };
+    if from.hold_ahead(WINDOW_BITS)? {
+        return Ok(what_stands_whole(table, index, whole_window(from)));
     }
-    what_stands_whole(table, place, whole_window(from))
+    Ok(what_stands(table, index, held_window(from)))
 }

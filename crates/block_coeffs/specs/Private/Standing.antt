@@ -1,6 +1,5 @@
 -- What is found at the front of a window, where a coefficient or the end of block must stand (ISO/IEC 13818-2, 6.2.6).
-use Rattle.std.specs.Prelude.{◌≡◌, Option, IfSome, ◌≤◌, ◌+◌, ◌<◌, ℕ, ℤ, List, [], drop}
-use Rattle.prefix_codes.specs.declared.lookup.TheConstants.{WINDOW_BITS}
+use Rattle.std.specs.Prelude.{◌≡◌, Option, IfSome, ◌≤◌, ◌+◌, ◌<◌, ℕ, ℤ, List, [], take, drop}
 use Rattle.prefix_codes.specs.declared.table_name.TableName.{TableName}
 use Rattle.syntax_types.specs.declared.block.TheConstants.{BLOCK_PLACES}
 use Rattle.syntax_types.specs.declared.block.RunLevel.{RunLevel}
@@ -33,9 +32,19 @@ IsFound table place window (Pair word) = IsPair table place window (run_of word)
 IsFound table place window (Refused why behind) =
     (behind ≤ window.known) × ((bits : List ℕ) → ShowsFront window bits → (coefficient_at table place).Refuses bits (refusal_of why) (drop behind bits))
 
--- what is found at the next bits, by a whole window that shows them
-pub record StandsNext (table : TableName) (place : ℕ) (told : Option (List ℕ)) (standing : Standing) : Type 0 where
+-- the bits begin with those that the window knows
+abbrev pub ShowsKnown : BitWindow → List ℕ → Type 0
+ShowsKnown window bits = take window.known bits ≡ seen window window.known
+
+-- they show what stands there: a refusal is seen only in a whole window or in all bits
+abbrev pub ShowsFor : Standing → BitWindow → List ℕ → Type 0
+ShowsFor (EndOfBlock len) window = ShowsKnown window
+ShowsFor (Pair word) window = ShowsKnown window
+ShowsFor (Refused why behind) window = ShowsFront window
+
+-- what is found at the next bits, of which so many are held, by a window of held ones that shows it
+pub record StandsNext (table : TableName) (place : ℕ) (told : Option (List ℕ)) (held : ℕ) (standing : Standing) : Type 0 where
   pub window : BitWindow
-  pub whole : window.known ≡ WINDOW_BITS
-  pub shows : IfSome told (ShowsFront window)
+  pub known : window.known ≤ held
+  pub shows : IfSome told (ShowsFor standing window)
   pub found : IsFound table place window standing

@@ -1,15 +1,17 @@
 use Rattle.std.specs.Option.{option_map}
 use Rattle.std.proofs.Common.{rules, ℤ, w16, SFits, to_z, of_z, ◌≡◌, ◌+◌, drop, IfSome, sym, ap, subst, ◌∙◌, refl, arith}
 use Rattle.std.proofs.lemmas.Int.{to_z-of_z}
-use Rattle.bit_cursor.specs.BitReader.{bits_left, without_bits, place}
+use Rattle.bit_cursor.specs.BitReader.{bits_left, bits_held, without_bits, place}
 use Rattle.bit_cursor.proofs.Source.{keeps_then}
 use Rattle.picture_grammar.specs.Block.{coefficient_table}
 use Rattle.grammar_reading.specs.Window.{ShowsFront}
 use Rattle.grammar_reading.proofs.BitsRead.{advances-on, advances-none}
 use Rattle.block_coeffs.proofs.Blocks.{later-table}
 use Rattle.block_coeffs.specs.Private.ShortCodes.{level_of}
-use Rattle.block_coeffs.proofs.Coefficients.{more-behind, pair-read, end-read, refused-read, advances-result, stays-advanced}
-use Rattle.block_coeffs.proofs.Steps.{advances-found}
+use Rattle.block_coeffs.specs.Private.Standing.{ShowsKnown, StandsNext}
+use Rattle.block_coeffs.specs.declared.standing.Standing.TheVariants.{EndOfBlock, Pair, Refused}
+use Rattle.block_coeffs.proofs.Coefficients.{more-behind, pair-read, end-read, refused-read}
+use Rattle.block_coeffs.proofs.Steps.{advances-known}
 use Rattle.block_coeffs.proofs.reading.read_others.Goals as goal
 
 pub coefficients-init : goal.coefficients-init
@@ -28,25 +30,27 @@ coefficients-preserved g c =
     let table = c.args.table in
     let index = c.coefficients.index in
     let here = c.coefficients.from in
-    let window = c.in-Pair.ensures.window in
-    let shows : IfSome (bits_left here) (ShowsFront window) = subst (λ told. IfSome told (ShowsFront window)) c.in_ok-hold_ahead.ensures.left c.in-Pair.ensures.shows in
+    let next : StandsNext table index (bits_left c.stands_next.new.from) (bits_held c.stands_next.new.from) (Pair c.in-Pair.word) =
+    subst (λ standing. StandsNext table index (bits_left c.stands_next.new.from) (bits_held c.stands_next.new.from) standing) c.in-Pair.is c.in_ok-standing.ensures.found in
+    let window = next.window in
+    let shows : IfSome (bits_left here) (ShowsKnown window) = subst (λ told. IfSome told (ShowsKnown window)) c.in_ok-standing.ensures.left next.shows in
     let table_is : table ≡ coefficient_table way index = c.requires.table ∙ sym (later-table way index c.coefficients.invariant.behind) in
     let after = c.skip-in-Pair.new.self in
     let len = c.length_in.result in
     let fits : SFits w16 c.level_in.result = search rules in
     let held : ℤ = to_z w16 (of_z w16 c.level_in.result) in
     let level : held ≡ level_of c.in-Pair.word = to_z-of_z w16 c.level_in.result fits ∙ c.level_in.ensures in
-    let left : bits_left after ≡ without_bits (bits_left here) len = c.skip-in-Pair.ensures.left ∙ ap (λ told. option_map (drop len) told) c.in_ok-hold_ahead.ensures.left in
-    let moved : place after ≡ place here + len = c.skip-in-Pair.ensures.place ∙ ap (λ n. n + len) c.in_ok-hold_ahead.ensures.place in
-    let kept = keeps_then g.met.S.Source.keeps_on c.coefficients.invariant.keeps c.in_ok-hold_ahead.ensures.keeps in
+    let left : bits_left after ≡ without_bits (bits_left here) len = c.skip-in-Pair.ensures.left ∙ ap (λ told. option_map (drop len) told) c.in_ok-standing.ensures.left in
+    let moved : place after ≡ place here + len = c.skip-in-Pair.ensures.place ∙ ap (λ n. n + len) c.in_ok-standing.ensures.stays in
+    let kept = keeps_then g.met.S.Source.keeps_on c.coefficients.invariant.keeps c.in_ok-standing.ensures.keeps in
     record {
       so_far = λ bits at r. pair-read way before table index table_is c.coefficients.invariant.place.is window (bits_left here) (bits_left after)
           (place here) (place after) shows bits at c.in-Pair.word c.run_in-run.result held len c.push.new.self.items
-          (c.in-Pair.ensures.found.0, c.in-Pair.ensures.found.1, c.in-Pair.ensures.found.2) c.run_in-run.ensures.place level c.length_in.ensures left moved c.push.ensures.items (c.coefficients.invariant.so_far bits at r);
-      advanced = advances-on c.coefficients.invariant.advanced (advances-found (bits_left here) (bits_left after) window len (place here) (place after) shows (omega (arith, c.in-Pair.ensures.found.0, c.length_in.ensures)) left moved);
+          (next.found.0, next.found.1, next.found.2) c.run_in-run.ensures.place level c.length_in.ensures left moved c.push.ensures.items (c.coefficients.invariant.so_far bits at r);
+      advanced = advances-on c.coefficients.invariant.advanced (advances-known (bits_left here) (bits_left after) window len (place here) (place after) shows (omega (arith, next.found.0, c.length_in.ensures)) left moved);
       behind = omega arith;
       place = more-behind way before c.push.new.self.items (record { run = c.run_in-run.result; level = held }) index c.run_in-run.result
-          (index + (c.run_in-run.result + 1)) c.coefficients.invariant.place (omega (arith, c.in-Pair.ensures.found.1, c.run_in-run.ensures.place)) refl refl c.push.ensures.items;
+          (index + (c.run_in-run.result + 1)) c.coefficients.invariant.place (omega (arith, next.found.1, c.run_in-run.ensures.place)) refl refl c.push.ensures.items;
       keeps = search rules;
     }
 
@@ -57,15 +61,17 @@ returns-in-EndOfBlock-clause-ok g c = λ bits at r.
     let table = c.args.table in
     let index = c.coefficients.index in
     let here = c.coefficients.from in
-    let window = c.in-EndOfBlock.ensures.window in
-    let shows : IfSome (bits_left here) (ShowsFront window) = subst (λ told. IfSome told (ShowsFront window)) c.in_ok-hold_ahead.ensures.left c.in-EndOfBlock.ensures.shows in
+    let next : StandsNext table index (bits_left c.stands_next.new.from) (bits_held c.stands_next.new.from) (EndOfBlock c.in-EndOfBlock.len) =
+    subst (λ standing. StandsNext table index (bits_left c.stands_next.new.from) (bits_held c.stands_next.new.from) standing) c.in-EndOfBlock.is c.in_ok-standing.ensures.found in
+    let window = next.window in
+    let shows : IfSome (bits_left here) (ShowsKnown window) = subst (λ told. IfSome told (ShowsKnown window)) c.in_ok-standing.ensures.left next.shows in
     let table_is : table ≡ coefficient_table way index = c.requires.table ∙ sym (later-table way index c.coefficients.invariant.behind) in
     let after = c.skip.new.self in
     let len = c.in-EndOfBlock.len in
     end-read way before table index table_is c.coefficients.invariant.place.is window (bits_left here) (bits_left after) (place here)
-    (place after) shows bits at len (c.in-EndOfBlock.ensures.found.0, c.in-EndOfBlock.ensures.found.1)
-    (c.skip.ensures.left ∙ ap (λ told. option_map (drop len) told) c.in_ok-hold_ahead.ensures.left)
-    (c.skip.ensures.place ∙ ap (λ n. n + len) c.in_ok-hold_ahead.ensures.place) (c.coefficients.invariant.so_far bits at r)
+    (place after) shows bits at len (next.found.0, next.found.1)
+    (c.skip.ensures.left ∙ ap (λ told. option_map (drop len) told) c.in_ok-standing.ensures.left)
+    (c.skip.ensures.place ∙ ap (λ n. n + len) c.in_ok-standing.ensures.stays) (c.coefficients.invariant.so_far bits at r)
 
 pub returns-in-Refused-clause-refused : goal.returns-in-Refused-clause-refused
 returns-in-Refused-clause-refused g c = λ bits at r.
@@ -74,15 +80,11 @@ returns-in-Refused-clause-refused g c = λ bits at r.
     let table = c.args.table in
     let index = c.coefficients.index in
     let here = c.coefficients.from in
-    let window = c.in-Refused.ensures.window in
-    let shows : IfSome (bits_left here) (ShowsFront window) = subst (λ told. IfSome told (ShowsFront window)) c.in_ok-hold_ahead.ensures.left c.in-Refused.ensures.shows in
+    let next : StandsNext table index (bits_left c.stands_next.new.from) (bits_held c.stands_next.new.from) (Refused c.in-Refused.why c.in-Refused.behind) =
+    subst (λ standing. StandsNext table index (bits_left c.stands_next.new.from) (bits_held c.stands_next.new.from) standing) c.in-Refused.is c.in_ok-standing.ensures.found in
+    let window = next.window in
+    let shows : IfSome (bits_left here) (ShowsFront window) = subst (λ told. IfSome told (ShowsFront window)) c.in_ok-standing.ensures.left next.shows in
     let table_is : table ≡ coefficient_table way index = c.requires.table ∙ sym (later-table way index c.coefficients.invariant.behind) in
     refused-read way before table index table_is c.coefficients.invariant.place.is window (bits_left here) (bits_left here) (place here)
     (place here) shows bits at c.in-Refused.why c.in-Refused.behind _ c.at.result
-    (c.in-Refused.ensures.found.0, c.in-Refused.ensures.found.1) c.at.ensures (omega arith) (c.coefficients.invariant.so_far bits at r)
-
-pub returns-clause-advances : goal.returns-clause-advances
-returns-clause-advances g c =
-    advances-result (bits_left c.args.from.now) (bits_left c.hold_ahead.new.self) (bits_left c.read_last.new.from) (place c.args.from.now)
-    (place c.hold_ahead.new.self) (place c.read_last.new.from) c.read_last.result
-    (stays-advanced c.coefficients.invariant.advanced c.in_ok-hold_ahead.ensures.left c.in_ok-hold_ahead.ensures.place) c.read_last.ensures.advances
+    (next.found.0, next.found.1) c.at.ensures (omega arith) (c.coefficients.invariant.so_far bits at r)
