@@ -73,8 +73,14 @@ fn a_generated_program(rt: HostRuntime) -> Result<(), Fail> {
 #[test]
 fn a_program_that_was_sized_as_it_was_read(rt: HostRuntime) -> Result<(), Fail> {
     let file = make_program(rt.alloc(), 1, 12)?;
-    let SizedProgram { program, sizes } =
-        read_sized_program(rt.alloc(), file.as_slice(), 1, &[], START, &RATIOS)?;
+    let SizedProgram { program, sizes } = read_sized_program(
+        rt.alloc(),
+        file.as_slice(),
+        1,
+        &[],
+        START,
+        &RATIOS,
+    )?;
     programs_can_be_sent();
     let row = row_of_sized_program(rt.alloc(), &program, sizes.as_slice(), 3)?;
     assert_eq!(rt; (row.units.len(), row.audios.len()), (12, 1));
