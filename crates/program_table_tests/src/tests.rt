@@ -1,6 +1,6 @@
 use program_maker::make_program;
-use program_reader::{Program, read_program};
-use program_table::row_of_program;
+use program_reader::{Program, SizedProgram, read_program, read_sized_program};
+use program_table::{row_of_program, row_of_sized_program};
 use std::test::Fail;
 use version_source::laws::programs_can_be_sent;
 use version_table::ProgramRow;
@@ -67,5 +67,19 @@ fn a_generated_program(rt: HostRuntime) -> Result<(), Fail> {
     assert!(rt; begins_with_sources(&row, &program));
     let once = row_of_program(rt.alloc(), &program, &RATIOS, 1)?;
     assert!(rt; counts(&row, &once, 3));
+    Ok(())
+}
+
+#[test]
+fn a_program_that_was_sized_as_it_was_read(rt: HostRuntime) -> Result<(), Fail> {
+    let file = make_program(rt.alloc(), 1, 12)?;
+    let SizedProgram { program, sizes } =
+        read_sized_program(rt.alloc(), file.as_slice(), 1, &[], START, &RATIOS)?;
+    programs_can_be_sent();
+    let row = row_of_sized_program(rt.alloc(), &program, sizes.as_slice(), 3)?;
+    assert_eq!(rt; (row.units.len(), row.audios.len()), (12, 1));
+    assert!(rt; begins_with_sources(&row, &program));
+    let other = row_of_program(rt.alloc(), &program, &RATIOS, 3)?;
+    assert!(rt; counts(&row, &other, 1));
     Ok(())
 }
