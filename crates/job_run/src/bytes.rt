@@ -2,6 +2,7 @@ ghost use Rattle.std.specs.Prelude.{All};
 ghost use Rattle.bit_lists.specs.Fields.{AreBytes};
 
 use program_reader::Program;
+use version_source::laws::see_bytes;
 
 /// The videos of programs are bytes.
 pub(crate) fn see_videos(programs: &[Program])
@@ -10,11 +11,4 @@ pub(crate) fn see_videos(programs: &[Program])
     for program in programs {
         see_bytes(program.video.as_slice());
     }
-}
-
-/// The items of a slice of bytes are bytes.
-fn see_bytes(bytes: &[u8])
-    ensures { AreBytes bytes.now }
-{
-    let _ = bytes;
 }

@@ -1,6 +1,5 @@
 //! One program of a table, of which the sizes of its units' versions are told.
 ghost use Rattle.std.specs.Prelude.{◌≡◌, ◌≤◌, ℕ, List, None, length, map, All, IfOk};
-ghost use Rattle.bit_lists.specs.Fields.{AreBytes};
 ghost use Rattle.pes_units.specs.VideoHeader.{AreInRange, IsBesidePts};
 ghost use Rattle.program_reader.specs.Sizes.{AreProgramSizes};
 ghost use Rattle.version_source.specs.Sendable.{IsSendable};
@@ -13,6 +12,7 @@ use list_types::{ListOf, OutOfMemory};
 use program_reader::{Program, UnitSizes, UnitSource};
 use std::alloc::Global;
 use version_bounds::laws::sizes_are_bounded;
+use version_source::laws::see_bytes;
 use version_table::{ProgramRow, Unit};
 
 /// The row of a program in a table, of the sizes that were told when it was read: each unit with all its versions, whose distortions
@@ -37,13 +37,6 @@ pub fn row_of_sized_program(
         units,
         audios,
     })
-}
-
-/// The items of a slice of bytes are bytes.
-fn see_bytes(bytes: &[u8])
-    ensures { AreBytes bytes.now }
-{
-    let _ = bytes;
 }
 
 /// The rows of units with these sizes.

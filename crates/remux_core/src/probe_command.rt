@@ -1,7 +1,6 @@
 //! The command `probe FILE PROGRAM TABLE`: from a file to the text of the table of one of its programs.
 
 ghost use Rattle.std.specs.Prelude.{◌≡◌, ◌+◌, ◌∷◌, ℕ, List, [], IfOk, IfSome};
-ghost use Rattle.bit_lists.specs.Fields.{AreBytes};
 ghost use Rattle.job_programs.specs.Probe.{IsProbed};
 ghost use Rattle.job_report.specs.declared.limits.TheConstants.{PROBE_SLOT, START_DEFAULT};
 ghost use Rattle.program_reader.specs.declared.limits.TheConstants.{FILE_BYTES_MOST};
@@ -30,7 +29,7 @@ use program_table::laws::row_is_valid;
 use program_table::row_of_program;
 use shelf_io::{Fault, Shelf, write_file};
 use std::alloc::Global;
-use version_source::laws::programs_can_be_sent;
+use version_source::laws::{programs_can_be_sent, see_bytes};
 use version_table::{ProgramRow, Table, write_table};
 
 /// Does the work of `probe FILE PROGRAM TABLE`; none for want of memory. TABLE is started once its text and the report stand.
@@ -139,11 +138,4 @@ fn only_program(alloc: Global, row: ProgramRow) -> Result<ListOf<ProgramRow>, Ou
     let mut programs = ListOf::new(alloc);
     programs.push(row)?;
     Ok(programs)
-}
-
-/// The items of a slice of bytes are bytes.
-fn see_bytes(bytes: &[u8])
-    ensures { AreBytes bytes.now }
-{
-    let _ = bytes;
 }

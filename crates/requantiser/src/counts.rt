@@ -113,6 +113,7 @@ impl Counts {
 
     /// The same of one that is 0, or whose bits aren't known.
     #[cold]
+    #[inline(never)]
     fn add_rare_size(&mut self, k: usize, table: usize, at: u8, size: u16, lengths: &mut Lengths)
         requires k { k < VERSIONS_AT_ONCE }
         requires table { table < TABLES }

@@ -1,5 +1,5 @@
 //! What levels become in several versions, kept for those that come again.
-ghost use Rattle.std.specs.Prelude.{◌≡◌, ◌<◌, ◌≤◌, ◌+◌, ◌/◌, ◌%◌, ◌+ℤ◌, pos, IsTrue};
+ghost use Rattle.std.specs.Prelude.{◌≡◌, ◌<◌, ◌≤◌, ◌+◌, ◌/◌, ◌%◌, ◌+ℤ◌, pos, slice_index_or, IsTrue};
 ghost use Rattle.requantiser.specs.Private.Rungs.{AreRescaled, AreRescaledBy, IsGoneFrom, way_number};
 
 use crate::codes::Target;
@@ -148,6 +148,8 @@ pub struct Rungs {
 }
 
 impl Rungs {
+    ghost use Rattle.requantiser.specs.declared.ladder.Rung.{Rung as RungOf};
+
     /// Nothing but a level of 0.
     fn new() -> Rungs {
         let none = Coefficient {
@@ -181,9 +183,26 @@ impl Rungs {
     {
         let place = place_of(coefficient, rescaling);
         if !self.rungs[place].is_of(coefficient, rescaling, targets) {
-            self.rungs[place] = Rung::new(coefficient, rescaling, targets);
+            self.make(place, coefficient, rescaling, targets);
         }
         &self.rungs[place]
+    }
+
+    /// Makes the rung of a coefficient at its place.
+    #[cold]
+    #[inline(never)]
+    fn make(
+        &mut self,
+        place: usize,
+        coefficient: Coefficient,
+        rescaling: Rescaling,
+        targets: &Targets,
+    )
+        requires { place < RUNGS }
+        ensures { (d : RungOf) → let rung : RungOf = slice_index_or self.new.rungs place d in
+            (rung.level ≡ coefficient.level) × (rung.key % 65536 ≡ way_number coefficient.weight rescaling.from rescaling.intra) × (rung.scales ≡ targets.now.scales) }
+    {
+        self.rungs[place] = Rung::new(coefficient, rescaling, targets);
     }
 }
 

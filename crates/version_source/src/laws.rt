@@ -40,3 +40,10 @@ pub fn programs_can_be_sent()
     ensures taken_out { (start : ℕ) (demuxed : Demuxed) (program : Program) → IsProgram start demuxed program → IsSendable program }
     ensures of_file { (file : List ℕ) (number : ℕ) (drop : List ℕ) (start : ℕ) (program : Program) → IsProgramOf file number drop start program → IsSendable program }
 {}
+
+/// The items of a slice of bytes are bytes.
+pub fn see_bytes(bytes: &[u8])
+    ensures { AreBytes bytes.now }
+{
+    let _ = bytes;
+}

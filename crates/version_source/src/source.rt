@@ -9,6 +9,7 @@ ghost use Rattle.version_source.specs.Private.Kept.{AreKept, nothing};
 ghost use Rattle.version_source.specs.Private.Made.{HaveVersions, one-made};
 ghost use Rattle.version_source.specs.Source.{told_of, HasIt};
 
+use crate::laws::see_bytes;
 use crate::packet::audio_piece;
 use crate::place::{Place, place_of};
 use crate::sent_video::{SentVideo, Video};
@@ -197,11 +198,4 @@ fn nothing_sent(alloc: Global, programs: &[Program]) -> Result<Vec<SentVideo>, O
         sent.push(SentVideo::new())?;
     }
     Ok(sent)
-}
-
-/// The items of a slice of bytes are bytes.
-fn see_bytes(bytes: &[u8])
-    ensures { AreBytes bytes.now }
-{
-    let _ = bytes;
 }

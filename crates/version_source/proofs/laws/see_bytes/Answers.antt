@@ -1,6 +1,6 @@
 use Rattle.std.proofs.Common.{◌<◌, ◌^◌, ℕ, arith}
 use Rattle.std.proofs.lemmas.List.Elements.{All-from_get_or, recursion_from_All}
-use Rattle.version_source.proofs.source.see_bytes.Goals as goal
+use Rattle.version_source.proofs.laws.see_bytes.Goals as goal
 
 pub returns : goal.returns
 returns c =
