@@ -49,9 +49,9 @@ use Rattle.syntax_types.specs.declared.picture.SeqState.{SeqState}
 use Rattle.picture_grammar.specs.Macroblock.{block_way, has_dct_type, is_coded, no_block}
 use Rattle.requantiser.specs.Blocks.{IsCoarserBlock, AreCoarserBlocks, KeepsFirstLevel, no_blocks, block_of_one}
 use Rattle.requantiser.specs.Levels.{level_at}
-use Rattle.requantiser.specs.Macroblocks.{has_coefficients, is_empty_block, pattern_of, IsEmptiedWithoutMotion, HasBlocks, IsCoarserMacroblock, IsCoarserAt}
+use Rattle.requantiser.specs.Macroblocks.{has_coefficients, is_empty_block, pattern_of, IsEmptiedWithoutMotion, HasBlocks, IsCoarserMacroblock, IsCoarserAt, is_coded_without_motion}
 use Rattle.requantiser.specs.Private.Shapes.{BeginsWithLevel, HasShape}
-use Rattle.requantiser.specs.Private.Walk.{mapped_code, coarsened_block, coarsened_blocks, first_of, kept_blocks, is_coded_without_motion, are_empty, with_blocks, made_blocks, coarsened_macroblock}
+use Rattle.requantiser.specs.Private.Walk.{mapped_code, coarsened_block, coarsened_blocks, first_of, kept_blocks, are_empty, with_blocks, made_blocks, coarsened_macroblock}
 use Rattle.requantiser.proofs.Blocks.{level_from, level_here, level_there, level_before, coarsened_block-is, one_coarser_block}
 use Rattle.requantiser.proofs.MappedCodes.{mapped_code-is, one_mapped}
 use Rattle.requantiser.proofs.Places.{BothOrNone}

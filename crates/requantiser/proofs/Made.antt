@@ -51,6 +51,7 @@ use Rattle.syntax_types.specs.declared.picture.SeqState.{SeqState}
 use Rattle.picture_grammar.specs.Macroblock.{block_way, no_block}
 use Rattle.requantiser.specs.Blocks.{no_blocks}
 use Rattle.requantiser.specs.Private.Shapes.{FitBlock, IsMeasured}
+use Rattle.requantiser.specs.Macroblocks.{is_coded_without_motion}
 use Rattle.requantiser.specs.Private.Walk.{
   mapped_code,
   new_level,
@@ -60,7 +61,6 @@ use Rattle.requantiser.specs.Private.Walk.{
   first_of,
   first_coded,
   kept_blocks,
-  is_coded_without_motion,
   are_empty,
   with_blocks,
   made_blocks,

@@ -27,13 +27,13 @@ use Rattle.requantiser.specs.declared.outline.Outlined.{Outlined}
 use Rattle.requantiser.specs.declared.tally.Tally.{Tally}
 use Rattle.requantiser.specs.declared.version_state.VersionState.{VersionState}
 use Rattle.requantiser.specs.Distortion.{coefficient_of_macroblock, difference_of}
-use Rattle.requantiser.specs.Macroblocks.{IsCoarserAt, is_empty_block, pattern_of}
+use Rattle.requantiser.specs.Macroblocks.{IsCoarserAt, is_empty_block, pattern_of, is_coded_without_motion}
 use Rattle.requantiser.specs.Tallies.{IsOutlined, IsTallyOf, bits_beyond, outline_of, outline_under, told_by}
 use Rattle.requantiser.specs.Private.Changes.{coefficient_of_blocks}
 use Rattle.requantiser.specs.Private.Shapes.{HasShape}
 use Rattle.requantiser.specs.Private.Sums.{sum_from}
 use Rattle.requantiser.specs.Private.Tallies.{bits_of_block}
-use Rattle.requantiser.specs.Private.Walk.{are_empty, coarsened_block, coarsened_blocks, coarsened_macroblock, head_with, is_coded_without_motion, kept_blocks, made_blocks, mapped_code, with_blocks, with_pattern}
+use Rattle.requantiser.specs.Private.Walk.{are_empty, coarsened_block, coarsened_blocks, coarsened_macroblock, head_with, kept_blocks, made_blocks, mapped_code, with_blocks, with_pattern}
 use Rattle.requantiser.proofs.MadeChanges.{emptied_changes, made_changes, not_failed}
 use Rattle.requantiser.proofs.Macroblocks.{coarsened_blocks-are, coarsened_macroblock-is, coarsened_macroblock-made, empty_items, get_or-coarsened, same_blocks}
 use Rattle.requantiser.proofs.MappedCodes.{mapped_code-is, one_mapped}

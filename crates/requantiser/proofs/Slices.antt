@@ -10,14 +10,13 @@ use Rattle.syntax_types.specs.declared.picture.PicCoding.{PicCoding}
 use Rattle.syntax_types.specs.declared.picture.SeqState.{SeqState}
 use Rattle.syntax_types.specs.declared.slice.Slice.{Slice}
 use Rattle.picture_grammar.specs.Picture.{first_column}
-use Rattle.requantiser.specs.Macroblocks.{IsCoarserAt}
+use Rattle.requantiser.specs.Macroblocks.{IsCoarserAt, is_coded_without_motion}
 use Rattle.requantiser.specs.Places.{item_at}
 use Rattle.requantiser.specs.Slices.{macroblock_at, end_column, is_inner, code_before, IsCoarserSlice}
 use Rattle.requantiser.specs.Private.Shapes.{HasShape}
 use Rattle.requantiser.specs.Private.Walk.{
   mapped_code,
   is_none,
-  is_coded_without_motion,
   are_empty,
   with_blocks,
   kept_blocks,

@@ -15,6 +15,10 @@ use Rattle.requantiser.specs.Blocks.{AreCoarserBlocks, KeepsFirstLevel, no_block
 abbrev pub has_coefficients : Kind → Bool
 has_coefficients kind = kind.intra || kind.pattern
 
+-- a macroblock is coded with a pattern and without motion, as P-pictures have them (ISO/IEC 13818-2, 6.3.17.1)
+abbrev pub is_coded_without_motion : Kind → Bool
+is_coded_without_motion kind = kind.pattern && not kind.intra && not kind.forward && not kind.backward
+
 -- no coefficient stands in the block
 abbrev pub is_empty_block : Block → Bool
 is_empty_block block = elim block.pairs.items [ [] ↦ true | pair ∷ pairs ↦ false ]

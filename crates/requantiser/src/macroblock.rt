@@ -4,9 +4,9 @@ ghost use Rattle.syntax_types.specs.declared.block.Block.{Block as BlockOf};
 ghost use Rattle.picture_grammar.specs.Macroblock.{no_block};
 ghost use Rattle.requantiser.specs.Blocks.{no_blocks};
 ghost use Rattle.requantiser.specs.Levels.{HasWeights};
-ghost use Rattle.requantiser.specs.Macroblocks.{pattern_of as pattern_of_blocks};
+ghost use Rattle.requantiser.specs.Macroblocks.{pattern_of as pattern_of_blocks, is_coded_without_motion as stands_without_motion};
 ghost use Rattle.requantiser.specs.Private.Shapes.{FitBlock, HasShape, IsMeasured};
-ghost use Rattle.requantiser.specs.Private.Walk.{coarsened_blocks, made_blocks, kept_blocks, first_of, first_coded as first_coded_block, are_empty as are_all_empty, is_coded_without_motion as stands_without_motion, with_blocks};
+ghost use Rattle.requantiser.specs.Private.Walk.{coarsened_blocks, made_blocks, kept_blocks, first_of, first_coded as first_coded_block, are_empty as are_all_empty, with_blocks};
 
 use crate::block::{coarsen_block, matrix};
 use crate::codes::Codes;

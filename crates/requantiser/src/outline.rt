@@ -1,5 +1,6 @@
 //! What becomes of a macroblock in a version in which its coefficients were counted, told by its head there.
 ghost use Rattle.std.specs.Prelude.{◌≡◌, ◌<◌, ◌≤◌, ◌+◌, ◌^◌, ◌==◌, ◌&&◌, Bool, false, unwrap_or};
+ghost use Rattle.requantiser.specs.Macroblocks.{is_coded_without_motion as stands_without_motion};
 ghost use Rattle.requantiser.specs.Levels.{HasWeights};
 ghost use Rattle.syntax_types.specs.declared.macroblock.Macroblock.{Macroblock as MacroblockOf};
 ghost use Rattle.syntax_types.specs.declared.picture.PicCoding.{PicCoding as CodingOf};
@@ -7,7 +8,6 @@ ghost use Rattle.syntax_types.specs.declared.picture.SeqState.{SeqState as SeqOf
 ghost use Rattle.requantiser.specs.declared.outline.Outline.TheVariants.{Coded};
 ghost use Rattle.requantiser.specs.Tallies.{IsOutlined, IsTallyOf, told_by};
 ghost use Rattle.requantiser.specs.VersionState.{IsSpelledMacroblock, made_of};
-ghost use Rattle.requantiser.specs.Private.Walk.{is_coded_without_motion as stands_without_motion};
 
 use crate::head::Head;
 use crate::macroblock::{is_coded_without_motion, written_pattern};

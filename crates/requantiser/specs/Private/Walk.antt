@@ -47,7 +47,7 @@ use Rattle.picture_grammar.specs.Macroblock.{block_way, has_dct_type, is_coded, 
 use Rattle.requantiser.specs.declared.head.Head.{Head}
 use Rattle.requantiser.specs.Blocks.{no_blocks, block_of_one}
 use Rattle.requantiser.specs.Levels.{weight_at, scale_of}
-use Rattle.requantiser.specs.Macroblocks.{is_empty_block, pattern_of}
+use Rattle.requantiser.specs.Macroblocks.{is_empty_block, pattern_of, is_coded_without_motion}
 
 -- the mapped code
 abbrev pub mapped_code : Bool → ℕ → ℕ → ℕ
@@ -96,10 +96,6 @@ first_coded m = unwrap_or (find (λ i. is_coded m.kind m.pattern i) (range_with_
 
 abbrev pub kept_blocks : Macroblock → List Block
 kept_blocks m = slice_set no_blocks (first_coded m) (first_of (slice_index_or m.blocks (first_coded m) no_block))
-
--- a macroblock is coded with a pattern and without motion
-abbrev pub is_coded_without_motion : Kind → Bool
-is_coded_without_motion kind = kind.pattern && not kind.intra && not kind.forward && not kind.backward
 
 abbrev pub are_empty : List Block → Bool
 are_empty blocks = list_all is_empty_block blocks
