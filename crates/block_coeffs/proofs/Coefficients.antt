@@ -114,15 +114,15 @@ more-behind way before items pair index run next b within same next_is items_are
 module _ (way : BlockWay) (before : List RunLevel) (table : TableName) (index : ℕ) (table_is : table ≡ coefficient_table way index) (index_is : index ≡ next_place way before)
     (window : BitWindow) (told after : Option (List ℕ)) (place place_after : ℕ) where
   -- a coefficient was found and its bits were passed
-  pub pair-read : IfSome told (ShowsKnown window) → (bits : Option (List ℕ)) (at word run : ℕ) (held : ℤ) (len : ℕ) (items : List RunLevel)
-      → IsFound table index window (Pair word) → run ≡ run_of word → held ≡ level_of word → len ≡ length_of word → after ≡ without_bits told len → place_after ≡ place + len
+  pub pair-read : IfSome told (ShowsKnown window) → (bits : Option (List ℕ)) (at word next run : ℕ) (held : ℤ) (len : ℕ) (items : List RunLevel)
+      → IsFound table index window (Pair word next) → run ≡ run_of word → held ≡ level_of word → len ≡ length_of word → after ≡ without_bits told len → place_after ≡ place + len
       → items ≡ before ++ record { run = run; level = held } ∷ [] → ReadsFrom (several (coefficient way)) before bits told at place
       → ReadsFrom (several (coefficient way)) items bits after at place_after
-  pair-read shows bits at word run held len items is run_is held_is len_is left moved items_are r =
+  pair-read shows bits at word next run held len items is run_is held_is len_is left moved items_are r =
       let pair : RunLevel = record { run = run; level = held } in
       let p : IsPair table index window run held len =
       subst (λ n. IsPair table index window n held len) (sym run_is)
-      (subst (λ (l : ℤ). IsPair table index window (run_of word) l len) (sym held_is) (subst (λ n. IsPair table index window (run_of word) (level_of word) n) (sym len_is) is)) in
+      (subst (λ (l : ℤ). IsPair table index window (run_of word) l len) (sym held_is) (subst (λ n. IsPair table index window (run_of word) (level_of word) n) (sym len_is) is.1)) in
       let found = reads-known (coefficient_at table index) (local-at way before table index table_is index_is) (more pair) told after window len place place_after shows p.0 p.2 left moved in
       let read = reads-coefficient way before table index table_is index_is (Some pair) (Some pair) refl told after place place_after found in
       subst (λ pairs. ReadsFrom (several (coefficient way)) pairs bits after at place_after) (sym items_are)

@@ -156,16 +156,19 @@ module _ (table : TableName) (place : ℕ) (window : BitWindow) (word : ℕ) (kn
         absurd (both_ways (nat_lt word PAIR_WORDS) (not-true (nat_lt word PAIR_WORDS) parts.0) (lt-ltb word PAIR_WORDS below))
   ]
 
-  pub short-pair : PAIR_WORDS ≤ word → word < 2 ^ 32 → place + run_of word < 64 → IsFound table place window (Pair word)
-  short-pair above below fits =
+  pub short-pair : PAIR_WORDS ≤ word → word < 2 ^ 32 → (next : ℕ) → next ≡ place + run_of word + 1 → place + run_of word < 64 → IsFound table place window (Pair word next)
+  short-pair above below next next_is fits =
       let t = there (flag negative ∷ []) front (length_of word) (coefficient_code table (run_of word) size) (pair-there above) in
       let split : seen window (length_of word) ≡ t.0 ++ flag negative ∷ [] = seen-front window (length_of word) t.3 ∙ t.2 in
       let high : word / 2 ^ 16 < 2 ^ 16 = omega (arith, below) in (
-        omega (arith, t.3, known),
-        fits,
-        subst (λ (l : ℤ). (coefficient_at table place).Spells (more (record { run = run_of word; level = l })) (seen window (length_of word)) [])
-            (sym (level-signed (word / 2 ^ 16) high))
-            (spells-pair table place (run_of word) size t.0 t.1 negative (seen window (length_of word)) fits split),
+        next_is,
+        (
+          omega (arith, t.3, known),
+          fits,
+          subst (λ (l : ℤ). (coefficient_at table place).Spells (more (record { run = run_of word; level = l })) (seen window (length_of word)) [])
+              (sym (level-signed (word / 2 ^ 16) high))
+              (spells-pair table place (run_of word) size t.0 t.1 negative (seen window (length_of word)) fits split),
+        ),
       )
 
   pub short-end : 0 < word → word < PAIR_WORDS → (len : ℕ) → len ≡ length_of word → IsFound table place window (EndOfBlock len)
@@ -180,10 +183,12 @@ module _ (table : TableName) (place : ℕ) (window : BitWindow) (word : ℕ) (kn
 -- ---- the word of a coefficient
 
 pub as-word : (table : TableName) (place : ℕ) (window : BitWindow) (run len word : ℕ) (level : ℤ) → IsPair table place window run level len → run_of word ≡ run
-    → length_of word ≡ len → level_of word ≡ level → IsFound table place window (Pair word)
-as-word table place window run len word level is run_is len_is level_is =
+    → length_of word ≡ len → level_of word ≡ level → (next : ℕ) → next ≡ place + run + 1 → IsFound table place window (Pair word next)
+as-word table place window run len word level is run_is len_is level_is next next_is =
+    let pair : IsPair table place window (run_of word) (level_of word) (length_of word) =
     subst (λ n. IsPair table place window n (level_of word) (length_of word)) (sym run_is)
-    (subst (λ (l : ℤ). IsPair table place window run l (length_of word)) (sym level_is) (subst (λ n. IsPair table place window run level n) (sym len_is) is))
+    (subst (λ (l : ℤ). IsPair table place window run l (length_of word)) (sym level_is) (subst (λ n. IsPair table place window run level n) (sym len_is) is)) in
+    (next_is ∙ ap (λ r. place + r + 1) (sym run_is), pair)
 
 -- the number of a run, a length and 16 bits of a level
 pub word-parts : (n len run word : ℕ) → run < 2 ^ 8 → len < 2 ^ 8 → word ≡ n * 2 ^ 16 + len * 2 ^ 8 + run → (run_of word ≡ run) × (length_of word ≡ len) × (word / 2 ^ 16 ≡ n)
@@ -209,12 +214,12 @@ module _ (table : TableName) (place : ℕ) (told : Option (List ℕ)) (held fron
       let same : front ≡ front * 2 ^ 15 / 2 ^ 15 = omega arith in
       is ∙ ap (λ n. get_or (words_of table) n 0) same
 
-  pub pair-next : PAIR_WORDS ≤ word → word < 2 ^ 32 → place + run_of word < 64 → StandsNext table place told held (Pair word)
-  pair-next above fits within = record {
+  pub pair-next : PAIR_WORDS ≤ word → word < 2 ^ 32 → (next : ℕ) → next ≡ place + run_of word + 1 → place + run_of word < 64 → StandsNext table place told held (Pair word next)
+  pair-next above fits next next_is within = record {
     window = window_of front few;
     known = enough;
     shows = known-of told front few first;
-    found = short-pair table place (window_of front few) word (omega arith) same-word above fits within;
+    found = short-pair table place (window_of front few) word (omega arith) same-word above fits next next_is within;
   }
 
   pub end-next : 0 < word → word < PAIR_WORDS → (len : ℕ) → len ≡ length_of word → StandsNext table place told held (EndOfBlock len)
@@ -230,5 +235,5 @@ module _ (table : TableName) (place : ℕ) (told : Option (List ℕ)) (held fron
 pub shown-next : (table : TableName) (place : ℕ) (told : Option (List ℕ)) (held : ℕ) (window : BitWindow) (standing : Standing) → window.known ≤ held
     → IfSome told (ShowsFront window) → IsFound table place window standing → StandsNext table place told held standing
 shown-next table place told held window (EndOfBlock len) within shows found = record { window = window; known = within; shows = front-known told window shows; found = found }
-shown-next table place told held window (Pair word) within shows found = record { window = window; known = within; shows = front-known told window shows; found = found }
+shown-next table place told held window (Pair word next) within shows found = record { window = window; known = within; shows = front-known told window shows; found = found }
 shown-next table place told held window (Refused why behind) within shows found = record { window = window; known = within; shows = shows; found = found }

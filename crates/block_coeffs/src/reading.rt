@@ -46,6 +46,7 @@ pub fn read_block<S: Source>(
 }
 
 /// The same into a block that is lent, whatever it holds. After an answer that isn't Ok it may hold anything.
+#[inline(always)]
 pub fn read_block_into<S: Source>(
     from: &mut BitReader<'_, S>,
     way: BlockWay,
@@ -67,6 +68,7 @@ pub fn read_block_into<S: Source>(
 }
 
 /// The DC coefficient of an intra block, and None of another one.
+#[inline(always)]
 fn read_first<S: Source>(
     from: &mut BitReader<'_, S>,
     way: BlockWay,
@@ -112,6 +114,7 @@ fn read_dc<S: Source>(from: &mut BitReader<'_, S>, table: TableName) -> Result<D
 
 /// The coefficients up to the end of block, behind none. The table of all but the first one is a constant in each of the
 /// loops that come of this.
+#[inline(always)]
 fn read_pairs<S: Source>(
     from: &mut BitReader<'_, S>,
     way: BlockWay,
@@ -159,14 +162,13 @@ fn read_from_first<S: Source>(
             from.skip(len);
             Ok(())
         }
-        Standing::Pair { word } => {
-            let run = run_in(word);
+        Standing::Pair { word, next } => {
             from.skip(length_in(word));
             into.push(RunLevel {
-                run: run as u8,
+                run: run_in(word) as u8,
                 level: level_in(word),
             });
-            read_others(from, way, TableName::CoeffZero, run + 1, into)
+            read_others(from, way, TableName::CoeffZero, next, into)
         }
         Standing::Refused { why, behind } => Err(why.at(from.place() + u64::from(behind))),
     }
@@ -201,14 +203,13 @@ fn read_others<S: Source>(
                 from.skip(len);
                 return Ok(());
             }
-            Standing::Pair { word } => {
-                let run = run_in(word);
+            Standing::Pair { word, next } => {
                 from.skip(length_in(word));
                 into.push(RunLevel {
-                    run: run as u8,
+                    run: run_in(word) as u8,
                     level: level_in(word),
                 });
-                index += run + 1;
+                index = next;
             }
             Standing::Refused { why, behind } => {
                 return Err(why.at(from.place() + u64::from(behind)));
@@ -238,8 +239,9 @@ fn stands_next<S: Source>(
     if from.hold_ahead(SHORT_BITS)? {
         let word = short_word(table, from.held_front(SHORT_BITS));
         if word >= PAIR_WORDS {
-            if index + run_in(word) < BLOCK_PLACES as u32 {
-                return Ok(Standing::Pair { word });
+            let next = index + run_in(word) + 1;
+            if next <= BLOCK_PLACES as u32 {
+                return Ok(Standing::Pair { word, next });
             }
         } else if word > 0 {
             return Ok(Standing::EndOfBlock {

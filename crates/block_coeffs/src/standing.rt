@@ -22,8 +22,8 @@ const FORBIDDEN_LEVEL: u32 = 1 << (LEVEL_BITS - 1);
 pub enum Standing {
     /// The end of block, in so many bits.
     EndOfBlock { len: u32 },
-    /// A coefficient, by a word of `short_codes`.
-    Pair { word: u32 },
+    /// A coefficient, by a word of `short_codes`, and the place behind it.
+    Pair { word: u32, next: u32 },
     /// Neither, for this reason, behind so many bits.
     Refused { why: Why, behind: u32 },
 }
@@ -115,6 +115,7 @@ fn with_sign_behind(place: u32, window: BitWindow, symbol: u16, len: u32) -> Sta
     let level = with_sign(symbol % LEVELS_PER_RUN, bit_at(window, len));
     Standing::Pair {
         word: word_of(run, level, len + 1),
+        next: place + run + 1,
     }
 }
 
@@ -137,6 +138,7 @@ fn escaped(place: u32, window: BitWindow) -> Standing
     } else {
         return Standing::Pair {
             word: word_of(run, in_twos_complement(level), WINDOW_BITS),
+            next: place + run + 1,
         };
     };
     Standing::Refused { why, behind: 0 }

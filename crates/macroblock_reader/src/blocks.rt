@@ -11,8 +11,33 @@ use picture_grammar::stands::{block_way, is_coded};
 use shelf_io::Source;
 use syntax_types::{BLOCKS, Block, BlockWay, Kind, PicCoding};
 
-/// The blocks in their order, each where it is coded, into those that are lent.
+/// The blocks in their order, each where it is coded, into those that are lent. Two loops come of this: one of them has
+/// intra blocks alone, the other one none.
 pub fn read_blocks<S: Source>(
+    from: &mut BitReader<'_, S>,
+    coding: &PicCoding,
+    kind: Kind,
+    pattern: u8,
+    into: &mut [Block; BLOCKS],
+) -> Result<(), SliceFault>
+    ensures { Answers ⊥ (blocks coding.now kind pattern) (answer_as (λ _. into.new) result) from.old from.new }
+{
+    if kind.intra {
+        read_each(from, coding, kind, pattern, into)
+    } else {
+        let other = Kind {
+            quant: kind.quant,
+            forward: kind.forward,
+            backward: kind.backward,
+            pattern: kind.pattern,
+            intra: false,
+        };
+        read_each(from, coding, other, pattern, into)
+    }
+}
+
+#[inline(always)]
+fn read_each<S: Source>(
     from: &mut BitReader<'_, S>,
     coding: &PicCoding,
     kind: Kind,
@@ -29,6 +54,7 @@ pub fn read_blocks<S: Source>(
 }
 
 /// A block, where it is coded, and an empty one elsewhere.
+#[inline(always)]
 fn read_block_where<S: Source>(
     from: &mut BitReader<'_, S>,
     stands: bool,

@@ -137,10 +137,26 @@ pub fn read_symbol<S: Source>(
     Ok(symbol)
 }
 
-/// The same where no such code stands at the front of a whole window, or fewer bits than that are left.
+/// The same where no such code stands at the front of a whole window, or fewer bits than that are left. The call's answer
+/// has a place of its own in this rare branch, which the caller needn't clear beforehand.
+#[inline(always)]
+fn read_rare_symbol<S: Source>(
+    from: &mut BitReader<'_, S>,
+    table: TableName,
+    most: u16,
+    why: Why,
+) -> Result<u16, SliceFault>
+    ensures { Answers ⊥ (symbol_up_to table most (refusal_of why) (refusal_of why)) result from.old from.new }
+{
+    match find_rare_symbol(from, table, most, why) {
+        Ok(symbol) => Ok(symbol),
+        Err(fault) => Err(fault),
+    }
+}
+
 #[cold]
 #[inline(never)]
-fn read_rare_symbol<S: Source>(
+fn find_rare_symbol<S: Source>(
     from: &mut BitReader<'_, S>,
     table: TableName,
     most: u16,

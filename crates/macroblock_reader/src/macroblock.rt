@@ -82,10 +82,15 @@ fn read_parts<S: Source>(
     ensures within { OnOk result (into.new.skipped_before < columns_left) }
 {
     let increment = read_increment(from, most_increment(coding, first, columns_left))?;
+    into.skipped_before = increment - 1;
     let kind = read_kind(from, coding)?;
+    into.kind = kind;
     let motion_type = read_motion_type(from, coding, kind)?;
+    into.motion_type = motion_type;
     let field_dct = read_bit_where(from, has_dct_type(coding, kind))?;
+    into.field_dct = field_dct;
     let code = read_code_where(from, kind.quant)?;
+    into.code = code;
     let format = vector_format(coding, motion_type);
     let concealed = has_concealment(coding, kind);
     let forward = has_forward(coding, kind);
@@ -101,12 +106,7 @@ fn read_parts<S: Source>(
     )?;
     read_marker_where(from, concealed)?;
     let pattern = read_pattern_where(from, kind.pattern)?;
-    read_blocks(from, coding, kind, pattern, &mut into.blocks)?;
-    into.skipped_before = increment - 1;
-    into.kind = kind;
-    into.motion_type = motion_type;
-    into.field_dct = field_dct;
-    into.code = code;
     into.pattern = pattern;
+    read_blocks(from, coding, kind, pattern, &mut into.blocks)?;
     Ok(())
 }

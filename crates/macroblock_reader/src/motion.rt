@@ -93,7 +93,10 @@ pub fn read_vectors_where<S: Source>(
 {
     empty(into);
     if stands {
-        read_vectors(from, codes, format, into)
+        match read_vectors(from, codes, format, into) {
+            Ok(()) => Ok(()),
+            Err(fault) => Err(fault),
+        }
     } else {
         Ok(())
     }
@@ -112,8 +115,33 @@ fn empty(list: &mut ArrayVec<Vector, VECTORS_MOST>)
     list.pop();
 }
 
+/// motion_vectors(s) into an empty list. Two ways come of this: one of them knows that no dmvector stands.
 #[inline(never)]
 fn read_vectors<S: Source>(
+    from: &mut BitReader<'_, S>,
+    codes: [u8; 2],
+    format: VectorFormat,
+    into: &mut ArrayVec<Vector, VECTORS_MOST>,
+) -> Result<(), SliceFault>
+    requires horizontal { slice_index codes 0 < 2 ^ 4 }
+    requires vertical { slice_index codes 1 < 2 ^ 4 }
+    requires empty { into.old.items ≡ [] }
+    ensures { Answers ⊥ (motion_vectors codes (format_of format)) (answer_as (λ _. into.new.items) result) from.old from.new }
+{
+    if format.dual {
+        read_list(from, codes, format, into)
+    } else {
+        let plain = VectorFormat {
+            two: format.two,
+            select: format.select,
+            dual: false,
+        };
+        read_list(from, codes, plain, into)
+    }
+}
+
+#[inline(always)]
+fn read_list<S: Source>(
     from: &mut BitReader<'_, S>,
     codes: [u8; 2],
     format: VectorFormat,
@@ -252,10 +280,26 @@ fn whole_part(f_code: u8, window: BitWindow) -> Option<(VectorPart, u32)>
     ))
 }
 
-/// The same element by element.
+/// The same element by element. The call's answer has a place of its own in this rare branch, which the caller needn't
+/// clear beforehand.
+#[inline(always)]
+fn read_part_by_elements<S: Source>(
+    from: &mut BitReader<'_, S>,
+    f_code: u8,
+    dual: bool,
+) -> Result<VectorPart, SliceFault>
+    requires { f_code < 2 ^ 4 }
+    ensures { Answers ⊥ (vector_part f_code dual) (answer_as part_of result) from.old from.new }
+{
+    match read_elements(from, f_code, dual) {
+        Ok(part) => Ok(part),
+        Err(fault) => Err(fault),
+    }
+}
+
 #[cold]
 #[inline(never)]
-fn read_part_by_elements<S: Source>(
+fn read_elements<S: Source>(
     from: &mut BitReader<'_, S>,
     f_code: u8,
     dual: bool,

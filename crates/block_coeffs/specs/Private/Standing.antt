@@ -28,7 +28,8 @@ IsPair table place window run level len =
 abbrev pub IsFound : TableName → ℕ → BitWindow → Standing → Type 0
 IsFound table place window (EndOfBlock len) =
     (len ≤ window.known) × (coefficient_at table place).Spells (last tt) (seen window len) []
-IsFound table place window (Pair word) = IsPair table place window (run_of word) (level_of word) (length_of word)
+IsFound table place window (Pair word next) =
+    (next ≡ place + run_of word + 1) × IsPair table place window (run_of word) (level_of word) (length_of word)
 IsFound table place window (Refused why behind) =
     (behind ≤ window.known) × ((bits : List ℕ) → ShowsFront window bits → (coefficient_at table place).Refuses bits (refusal_of why) (drop behind bits))
 
@@ -39,7 +40,7 @@ ShowsKnown window bits = take window.known bits ≡ seen window window.known
 -- they show what stands there: a refusal is seen only in a whole window or in all bits
 abbrev pub ShowsFor : Standing → BitWindow → List ℕ → Type 0
 ShowsFor (EndOfBlock len) window = ShowsKnown window
-ShowsFor (Pair word) window = ShowsKnown window
+ShowsFor (Pair word next) window = ShowsKnown window
 ShowsFor (Refused why behind) window = ShowsFront window
 
 -- what is found at the next bits, of which so many are held, by a window of held ones that shows it

@@ -17,14 +17,14 @@ returns-in-EndOfBlock-clause-ok g c =
     let way = c.args.way in
     let items = c.args.into.now.items in
     let here = c.args.from.now in
-    let next : StandsNext CoeffFirst 0 (bits_left c.stands_next.new.from) (bits_held c.stands_next.new.from) (EndOfBlock c.in-EndOfBlock.len) =
+    let stands : StandsNext CoeffFirst 0 (bits_left c.stands_next.new.from) (bits_held c.stands_next.new.from) (EndOfBlock c.in-EndOfBlock.len) =
     subst (λ standing. StandsNext CoeffFirst 0 (bits_left c.stands_next.new.from) (bits_held c.stands_next.new.from) standing) c.in-EndOfBlock.is c.in_ok-standing.ensures.found in
-    let window = next.window in
-    let shows : IfSome (bits_left here) (ShowsKnown window) = subst (λ told. IfSome told (ShowsKnown window)) c.in_ok-standing.ensures.left next.shows in
+    let window = stands.window in
+    let shows : IfSome (bits_left here) (ShowsKnown window) = subst (λ told. IfSome told (ShowsKnown window)) c.in_ok-standing.ensures.left stands.shows in
     let behind : IsBehind way 0 items = none-behind way items 0 (inter-place way c.requires.way) (omega arith) c.requires.none in
     let len = c.in-EndOfBlock.len in
     end-read way items CoeffFirst 0 (inter-first way c.requires.way) behind.is window (bits_left here) (bits_left c.skip.new.self) (place here)
-    (place c.skip.new.self) shows (bits_left here) (place here) len (next.found.0, next.found.1)
+    (place c.skip.new.self) shows (bits_left here) (place here) len (stands.found.0, stands.found.1)
     (c.skip.ensures.left ∙ ap (λ told. option_map (drop len) told) c.in_ok-standing.ensures.left)
     (c.skip.ensures.place ∙ ap (λ n. n + len) c.in_ok-standing.ensures.stays) (none-read way items (bits_left here) (place here) c.requires.none)
 
@@ -33,14 +33,14 @@ returns-in-Refused-clause-refused g c =
     let way = c.args.way in
     let items = c.args.into.now.items in
     let here = c.args.from.now in
-    let next : StandsNext CoeffFirst 0 (bits_left c.stands_next.new.from) (bits_held c.stands_next.new.from) (Refused c.in-Refused.why c.in-Refused.behind) =
+    let stands : StandsNext CoeffFirst 0 (bits_left c.stands_next.new.from) (bits_held c.stands_next.new.from) (Refused c.in-Refused.why c.in-Refused.behind) =
     subst (λ standing. StandsNext CoeffFirst 0 (bits_left c.stands_next.new.from) (bits_held c.stands_next.new.from) standing) c.in-Refused.is c.in_ok-standing.ensures.found in
-    let window = next.window in
-    let shows : IfSome (bits_left here) (ShowsFront window) = subst (λ told. IfSome told (ShowsFront window)) c.in_ok-standing.ensures.left next.shows in
+    let window = stands.window in
+    let shows : IfSome (bits_left here) (ShowsFront window) = subst (λ told. IfSome told (ShowsFront window)) c.in_ok-standing.ensures.left stands.shows in
     let behind : IsBehind way 0 items = none-behind way items 0 (inter-place way c.requires.way) (omega arith) c.requires.none in
     refused-read way items CoeffFirst 0 (inter-first way c.requires.way) behind.is window (bits_left here) (bits_left here) (place here)
     (place here) shows (bits_left here) (place here) c.in-Refused.why c.in-Refused.behind _ c.at.result
-    (next.found.0, next.found.1) c.at.ensures (omega arith) (none-read way items (bits_left here) (place here) c.requires.none)
+    (stands.found.0, stands.found.1) c.at.ensures (omega arith) (none-read way items (bits_left here) (place here) c.requires.none)
 
 pub returns-in-Pair-clause-ok : goal.returns-in-Pair-clause-ok
 returns-in-Pair-clause-ok g c =
@@ -48,10 +48,10 @@ returns-in-Pair-clause-ok g c =
     let items = c.args.into.now.items in
     let here = c.args.from.now in
     let after = c.skip-in-Pair.new.self in
-    let next : StandsNext CoeffFirst 0 (bits_left c.stands_next.new.from) (bits_held c.stands_next.new.from) (Pair c.in-Pair.word) =
+    let stands : StandsNext CoeffFirst 0 (bits_left c.stands_next.new.from) (bits_held c.stands_next.new.from) (Pair c.in-Pair.word c.in-Pair.next) =
     subst (λ standing. StandsNext CoeffFirst 0 (bits_left c.stands_next.new.from) (bits_held c.stands_next.new.from) standing) c.in-Pair.is c.in_ok-standing.ensures.found in
-    let window = next.window in
-    let shows : IfSome (bits_left here) (ShowsKnown window) = subst (λ told. IfSome told (ShowsKnown window)) c.in_ok-standing.ensures.left next.shows in
+    let window = stands.window in
+    let shows : IfSome (bits_left here) (ShowsKnown window) = subst (λ told. IfSome told (ShowsKnown window)) c.in_ok-standing.ensures.left stands.shows in
     let behind : IsBehind way 0 items = none-behind way items 0 (inter-place way c.requires.way) (omega arith) c.requires.none in
     let len = c.length_in.result in
     let fits : SFits w16 c.level_in.result = search rules in
@@ -61,8 +61,8 @@ returns-in-Pair-clause-ok g c =
     let moved : place after ≡ place here + len = c.skip-in-Pair.ensures.place ∙ ap (λ n. n + len) c.in_ok-standing.ensures.stays in
     c.read_others.ensures.ok (bits_left here) (place here)
     (pair-read way items CoeffFirst 0 (inter-first way c.requires.way) behind.is window (bits_left here) (bits_left after) (place here)
-    (place after) shows (bits_left here) (place here) c.in-Pair.word c.run_in-run.result held len c.push.new.self.items
-    (next.found.0, next.found.1, next.found.2) c.run_in-run.ensures.place level c.length_in.ensures left moved c.push.ensures.items (none-read way items (bits_left here) (place here) c.requires.none))
+    (place after) shows (bits_left here) (place here) c.in-Pair.word c.in-Pair.next c.run_in.result held len c.push.new.self.items
+    (stands.found.0, stands.found.1) c.run_in.ensures.place level c.length_in.ensures left moved c.push.ensures.items (none-read way items (bits_left here) (place here) c.requires.none))
 
 pub returns-in-Pair-clause-refused : goal.returns-in-Pair-clause-refused
 returns-in-Pair-clause-refused g c =
@@ -70,10 +70,10 @@ returns-in-Pair-clause-refused g c =
     let items = c.args.into.now.items in
     let here = c.args.from.now in
     let after = c.skip-in-Pair.new.self in
-    let next : StandsNext CoeffFirst 0 (bits_left c.stands_next.new.from) (bits_held c.stands_next.new.from) (Pair c.in-Pair.word) =
+    let stands : StandsNext CoeffFirst 0 (bits_left c.stands_next.new.from) (bits_held c.stands_next.new.from) (Pair c.in-Pair.word c.in-Pair.next) =
     subst (λ standing. StandsNext CoeffFirst 0 (bits_left c.stands_next.new.from) (bits_held c.stands_next.new.from) standing) c.in-Pair.is c.in_ok-standing.ensures.found in
-    let window = next.window in
-    let shows : IfSome (bits_left here) (ShowsKnown window) = subst (λ told. IfSome told (ShowsKnown window)) c.in_ok-standing.ensures.left next.shows in
+    let window = stands.window in
+    let shows : IfSome (bits_left here) (ShowsKnown window) = subst (λ told. IfSome told (ShowsKnown window)) c.in_ok-standing.ensures.left stands.shows in
     let behind : IsBehind way 0 items = none-behind way items 0 (inter-place way c.requires.way) (omega arith) c.requires.none in
     let len = c.length_in.result in
     let fits : SFits w16 c.level_in.result = search rules in
@@ -83,8 +83,8 @@ returns-in-Pair-clause-refused g c =
     let moved : place after ≡ place here + len = c.skip-in-Pair.ensures.place ∙ ap (λ n. n + len) c.in_ok-standing.ensures.stays in
     c.read_others.ensures.refused (bits_left here) (place here)
     (pair-read way items CoeffFirst 0 (inter-first way c.requires.way) behind.is window (bits_left here) (bits_left after) (place here)
-    (place after) shows (bits_left here) (place here) c.in-Pair.word c.run_in-run.result held len c.push.new.self.items
-    (next.found.0, next.found.1, next.found.2) c.run_in-run.ensures.place level c.length_in.ensures left moved c.push.ensures.items (none-read way items (bits_left here) (place here) c.requires.none))
+    (place after) shows (bits_left here) (place here) c.in-Pair.word c.in-Pair.next c.run_in.result held len c.push.new.self.items
+    (stands.found.0, stands.found.1) c.run_in.ensures.place level c.length_in.ensures left moved c.push.ensures.items (none-read way items (bits_left here) (place here) c.requires.none))
 
 pub returns-in-Pair-clause-advances : goal.returns-in-Pair-clause-advances
 returns-in-Pair-clause-advances g c =
@@ -92,14 +92,14 @@ returns-in-Pair-clause-advances g c =
     let items = c.args.into.now.items in
     let here = c.args.from.now in
     let after = c.skip-in-Pair.new.self in
-    let next : StandsNext CoeffFirst 0 (bits_left c.stands_next.new.from) (bits_held c.stands_next.new.from) (Pair c.in-Pair.word) =
+    let stands : StandsNext CoeffFirst 0 (bits_left c.stands_next.new.from) (bits_held c.stands_next.new.from) (Pair c.in-Pair.word c.in-Pair.next) =
     subst (λ standing. StandsNext CoeffFirst 0 (bits_left c.stands_next.new.from) (bits_held c.stands_next.new.from) standing) c.in-Pair.is c.in_ok-standing.ensures.found in
-    let window = next.window in
-    let shows : IfSome (bits_left here) (ShowsKnown window) = subst (λ told. IfSome told (ShowsKnown window)) c.in_ok-standing.ensures.left next.shows in
+    let window = stands.window in
+    let shows : IfSome (bits_left here) (ShowsKnown window) = subst (λ told. IfSome told (ShowsKnown window)) c.in_ok-standing.ensures.left stands.shows in
     let behind : IsBehind way 0 items = none-behind way items 0 (inter-place way c.requires.way) (omega arith) c.requires.none in
     let len = c.length_in.result in
     let left : bits_left after ≡ without_bits (bits_left here) len = c.skip-in-Pair.ensures.left ∙ ap (λ told. option_map (drop len) told) c.in_ok-standing.ensures.left in
     let moved : place after ≡ place here + len = c.skip-in-Pair.ensures.place ∙ ap (λ n. n + len) c.in_ok-standing.ensures.stays in
     advances-result (bits_left here) (bits_left after) (bits_left c.read_others.new.from) (place here) (place after)
     (place c.read_others.new.from) c.read_others.result (advances-known (bits_left here) (bits_left after) window len (place here)
-    (place after) shows (omega (arith, next.found.0, c.length_in.ensures)) left moved) c.read_others.ensures.advances
+    (place after) shows (omega (arith, stands.found.1.0, c.length_in.ensures)) left moved) c.read_others.ensures.advances

@@ -30,10 +30,10 @@ coefficients-preserved g c =
     let table = c.args.table in
     let index = c.coefficients.index in
     let here = c.coefficients.from in
-    let next : StandsNext table index (bits_left c.stands_next.new.from) (bits_held c.stands_next.new.from) (Pair c.in-Pair.word) =
+    let stands : StandsNext table index (bits_left c.stands_next.new.from) (bits_held c.stands_next.new.from) (Pair c.in-Pair.word c.in-Pair.next) =
     subst (λ standing. StandsNext table index (bits_left c.stands_next.new.from) (bits_held c.stands_next.new.from) standing) c.in-Pair.is c.in_ok-standing.ensures.found in
-    let window = next.window in
-    let shows : IfSome (bits_left here) (ShowsKnown window) = subst (λ told. IfSome told (ShowsKnown window)) c.in_ok-standing.ensures.left next.shows in
+    let window = stands.window in
+    let shows : IfSome (bits_left here) (ShowsKnown window) = subst (λ told. IfSome told (ShowsKnown window)) c.in_ok-standing.ensures.left stands.shows in
     let table_is : table ≡ coefficient_table way index = c.requires.table ∙ sym (later-table way index c.coefficients.invariant.behind) in
     let after = c.skip-in-Pair.new.self in
     let len = c.length_in.result in
@@ -45,12 +45,12 @@ coefficients-preserved g c =
     let kept = keeps_then g.met.S.Source.keeps_on c.coefficients.invariant.keeps c.in_ok-standing.ensures.keeps in
     record {
       so_far = λ bits at r. pair-read way before table index table_is c.coefficients.invariant.place.is window (bits_left here) (bits_left after)
-          (place here) (place after) shows bits at c.in-Pair.word c.run_in-run.result held len c.push.new.self.items
-          (next.found.0, next.found.1, next.found.2) c.run_in-run.ensures.place level c.length_in.ensures left moved c.push.ensures.items (c.coefficients.invariant.so_far bits at r);
-      advanced = advances-on c.coefficients.invariant.advanced (advances-known (bits_left here) (bits_left after) window len (place here) (place after) shows (omega (arith, next.found.0, c.length_in.ensures)) left moved);
-      behind = omega arith;
-      place = more-behind way before c.push.new.self.items (record { run = c.run_in-run.result; level = held }) index c.run_in-run.result
-          (index + (c.run_in-run.result + 1)) c.coefficients.invariant.place (omega (arith, next.found.1, c.run_in-run.ensures.place)) refl refl c.push.ensures.items;
+          (place here) (place after) shows bits at c.in-Pair.word c.in-Pair.next c.run_in.result held len c.push.new.self.items
+          (stands.found.0, stands.found.1) c.run_in.ensures.place level c.length_in.ensures left moved c.push.ensures.items (c.coefficients.invariant.so_far bits at r);
+      advanced = advances-on c.coefficients.invariant.advanced (advances-known (bits_left here) (bits_left after) window len (place here) (place after) shows (omega (arith, stands.found.1.0, c.length_in.ensures)) left moved);
+      behind = omega (arith, stands.found.0);
+      place = more-behind way before c.push.new.self.items (record { run = c.run_in.result; level = held }) index c.run_in.result
+          c.in-Pair.next c.coefficients.invariant.place (omega (arith, stands.found.1.1, c.run_in.ensures.place)) refl (omega (arith, stands.found.0, c.run_in.ensures.place)) c.push.ensures.items;
       keeps = search rules;
     }
 
@@ -61,15 +61,15 @@ returns-in-EndOfBlock-clause-ok g c = λ bits at r.
     let table = c.args.table in
     let index = c.coefficients.index in
     let here = c.coefficients.from in
-    let next : StandsNext table index (bits_left c.stands_next.new.from) (bits_held c.stands_next.new.from) (EndOfBlock c.in-EndOfBlock.len) =
+    let stands : StandsNext table index (bits_left c.stands_next.new.from) (bits_held c.stands_next.new.from) (EndOfBlock c.in-EndOfBlock.len) =
     subst (λ standing. StandsNext table index (bits_left c.stands_next.new.from) (bits_held c.stands_next.new.from) standing) c.in-EndOfBlock.is c.in_ok-standing.ensures.found in
-    let window = next.window in
-    let shows : IfSome (bits_left here) (ShowsKnown window) = subst (λ told. IfSome told (ShowsKnown window)) c.in_ok-standing.ensures.left next.shows in
+    let window = stands.window in
+    let shows : IfSome (bits_left here) (ShowsKnown window) = subst (λ told. IfSome told (ShowsKnown window)) c.in_ok-standing.ensures.left stands.shows in
     let table_is : table ≡ coefficient_table way index = c.requires.table ∙ sym (later-table way index c.coefficients.invariant.behind) in
     let after = c.skip.new.self in
     let len = c.in-EndOfBlock.len in
     end-read way before table index table_is c.coefficients.invariant.place.is window (bits_left here) (bits_left after) (place here)
-    (place after) shows bits at len (next.found.0, next.found.1)
+    (place after) shows bits at len (stands.found.0, stands.found.1)
     (c.skip.ensures.left ∙ ap (λ told. option_map (drop len) told) c.in_ok-standing.ensures.left)
     (c.skip.ensures.place ∙ ap (λ n. n + len) c.in_ok-standing.ensures.stays) (c.coefficients.invariant.so_far bits at r)
 
@@ -80,11 +80,11 @@ returns-in-Refused-clause-refused g c = λ bits at r.
     let table = c.args.table in
     let index = c.coefficients.index in
     let here = c.coefficients.from in
-    let next : StandsNext table index (bits_left c.stands_next.new.from) (bits_held c.stands_next.new.from) (Refused c.in-Refused.why c.in-Refused.behind) =
+    let stands : StandsNext table index (bits_left c.stands_next.new.from) (bits_held c.stands_next.new.from) (Refused c.in-Refused.why c.in-Refused.behind) =
     subst (λ standing. StandsNext table index (bits_left c.stands_next.new.from) (bits_held c.stands_next.new.from) standing) c.in-Refused.is c.in_ok-standing.ensures.found in
-    let window = next.window in
-    let shows : IfSome (bits_left here) (ShowsFront window) = subst (λ told. IfSome told (ShowsFront window)) c.in_ok-standing.ensures.left next.shows in
+    let window = stands.window in
+    let shows : IfSome (bits_left here) (ShowsFront window) = subst (λ told. IfSome told (ShowsFront window)) c.in_ok-standing.ensures.left stands.shows in
     let table_is : table ≡ coefficient_table way index = c.requires.table ∙ sym (later-table way index c.coefficients.invariant.behind) in
     refused-read way before table index table_is c.coefficients.invariant.place.is window (bits_left here) (bits_left here) (place here)
     (place here) shows bits at c.in-Refused.why c.in-Refused.behind _ c.at.result
-    (next.found.0, next.found.1) c.at.ensures (omega arith) (c.coefficients.invariant.so_far bits at r)
+    (stands.found.0, stands.found.1) c.at.ensures (omega arith) (c.coefficients.invariant.so_far bits at r)

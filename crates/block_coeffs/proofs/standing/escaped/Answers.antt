@@ -1,4 +1,4 @@
-use Rattle.std.proofs.Common.{◌≡◌, rules, w16, SFits, to_z, of_z, inl, inr, ◌∙◌, arith}
+use Rattle.std.proofs.Common.{refl, ◌≡◌, rules, w16, SFits, to_z, of_z, inl, inr, ◌∙◌, arith}
 use Rattle.std.proofs.lemmas.Int.{to_z-of_z}
 use Rattle.block_coeffs.proofs.Symbols.{coefficients-is}
 use Rattle.block_coeffs.proofs.Escapes.{past-found, end-found, forbidden-whole, pair-whole}
@@ -26,5 +26,5 @@ returns-else-level-eq-FORBIDDEN_LEVEL c = λ table len tests b.
     let level_is = to_z-of_z w16 level fits ∙ c.in_twos_complement.ensures in
     let found = pair-whole (coefficients-is table tests) c.args.place c.args.window len b full
     (to_z w16 (of_z w16 level)) c.if-place-run.false c.if-level-eq-FORBIDDEN_LEVEL.false.0 c.if-level-eq-FORBIDDEN_LEVEL.false.1 level_is in
-    let word = as-word table c.args.place c.args.window _ 24 c.word_of.result (to_z w16 (of_z w16 level)) found c.word_of.ensures.run c.word_of.ensures.len c.word_of.ensures.level in
-    (word.0, word.1, word.2)
+    let word = as-word table c.args.place c.args.window _ 24 c.word_of.result (to_z w16 (of_z w16 level)) found c.word_of.ensures.run c.word_of.ensures.len c.word_of.ensures.level _ refl in
+    (word.0, word.1)

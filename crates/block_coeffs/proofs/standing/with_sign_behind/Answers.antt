@@ -1,4 +1,4 @@
-use Rattle.std.proofs.Common.{◌+◌, rules, w16, SFits, to_z, of_z, ◌∙◌, arith}
+use Rattle.std.proofs.Common.{refl, ◌+◌, rules, w16, SFits, to_z, of_z, ◌∙◌, arith}
 use Rattle.std.proofs.lemmas.Int.{to_z-of_z}
 use Rattle.block_coeffs.proofs.Symbols.{coefficients-is}
 use Rattle.block_coeffs.proofs.Pairs.{past-found, pair-found}
@@ -15,5 +15,5 @@ returns c = λ table tests no_end no_escape b.
     let fits : SFits w16 level = search rules in
     let found = pair-found (coefficients-is table tests) c.args.place c.args.window c.args.window.within c.args.symbol c.args.len c.from-run.result no_end no_escape b c.from-run.ensures
     c.bit_at.result (to_z w16 (of_z w16 level)) c.if-place-run.false (λ same. omega arith) (to_z-of_z w16 level fits ∙ c.with_sign-level.ensures) c.bit_at.ensures in
-    let word = as-word table c.args.place c.args.window c.from-run.result (c.args.len + 1) c.word_of.result (to_z w16 (of_z w16 level)) found c.word_of.ensures.run c.word_of.ensures.len c.word_of.ensures.level in
-    (word.0, word.1, word.2)
+    let word = as-word table c.args.place c.args.window c.from-run.result (c.args.len + 1) c.word_of.result (to_z w16 (of_z w16 level)) found c.word_of.ensures.run c.word_of.ensures.len c.word_of.ensures.level _ refl in
+    (word.0, word.1)

@@ -10,7 +10,7 @@ use Rattle.macroblock_reader.specs.Private.Answers.{Answers}
 use Rattle.macroblock_reader.specs.Private.Why.{refusal_of}
 use Rattle.macroblock_reader.proofs.Courses.{answers-read}
 use Rattle.macroblock_reader.proofs.Codes.{answers-none}
-use Rattle.macroblock_reader.proofs.elements.read_rare_symbol.Goals as goal
+use Rattle.macroblock_reader.proofs.elements.find_rare_symbol.Goals as goal
 
 pub returns-in-Symbol : goal.returns-in-Symbol
 returns-in-Symbol g c =

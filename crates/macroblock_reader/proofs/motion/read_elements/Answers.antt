@@ -10,7 +10,7 @@ use Rattle.picture_grammar.specs.Block.{signed}
 use Rattle.picture_grammar.specs.Motion.{dmvector, has_residual, vector_part}
 use Rattle.macroblock_reader.proofs.Courses.{course-start, course-on, course-err, course-end}
 use Rattle.macroblock_reader.proofs.Vectors.{part_1, part_2, part_3, part_4, local-size, local-sign, local-residual, local-difference}
-use Rattle.macroblock_reader.proofs.motion.read_part_by_elements.Goals as goal
+use Rattle.macroblock_reader.proofs.motion.read_elements.Goals as goal
 
 pub returns-in_err-size : goal.returns-in_err-size
 returns-in_err-size g c =
