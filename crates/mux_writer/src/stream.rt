@@ -10,22 +10,24 @@ ghost use Rattle.mux_writer.specs.Private.Writer.{IsPrepared, counted, one_more}
 ghost use Rattle.mux_writer.specs.Causes.{StreamCauses};
 
 use crate::counters::{Counters, PIDS};
+use crate::gathered::Gathered;
 use crate::layout::{Layout, map_pid, video_pid};
 use crate::packets::{PAT_PID, full_packet, null_packet, piece_packet};
 use crate::piece_source::PieceSource;
 use crate::prepared::Prepared;
 use pcr_writer::pcr_packet;
-use shelf_io::{Fault, Sink, put_all};
+use shelf_io::{Fault, Sink};
 use slot_rule::{Sent, SlotList};
 use stream_constants::packets::{PACKET_BYTES, PAYLOAD_BYTES};
 use version_table::limits::{PROGRAMS_MOST, SLOT_LEAST, SLOT_MOST};
 
-/// Writes the transport stream of a schedule: for each of its slots, in order, the packet of what stands there, each in one
-/// call of the sink or in the few that it takes of it. PAT and PMT packets have the sections of the layout, packets with a
-/// PCR the time of their slot (slots have `slot` ticks of 1/27,000,000 s), and packets of streams the pieces of `pieces`.
-/// It takes no memory.
+/// Writes the transport stream of a schedule: for each of its slots, in order, the packet of what stands there. Packets are
+/// gathered, and go into the sink 64 at a time, those that are left at the end. PAT and PMT packets have the sections of the
+/// layout, packets with a PCR the time of their slot (slots have `slot` ticks of 1/27,000,000 s), and packets of streams the
+/// pieces of `pieces`. It takes no memory.
 ///
-/// A fault is the sink's or the piece source's own, and then a front of the stream was written. Missing never comes.
+/// A fault is the sink's or the piece source's own, and then a front of the stream was written: packets that were gathered
+/// before a fault of the piece source aren't. Missing never comes.
 ///
 /// It needs a layout whose maps have the output's PIDs and fit their packets, a slot within the limits, as many rows as
 /// `slots` says, and rows that name programs and streams of the layout and pieces that the source has.
@@ -52,13 +54,15 @@ pub fn write_stream<K: Sink, P: PieceSource>(
 {
     let prepared = Prepared::of(layout);
     let mut counters = Counters::new();
+    let mut gathered = Gathered::new();
     let rows = schedule.rows.as_slice();
     for n in 0..schedule.slots {
         let sent = rows[n as usize];
         let packet = slot_packet(layout, slot, &prepared, &mut counters, n, sent, pieces)?;
-        put_all(to, &packet)?;
+        gathered.make_room(to)?;
+        gathered.push(&packet);
     }
-    Ok(())
+    gathered.put(to)
 }
 
 /// The packet of slot `n`, in which `sent` stands, and what it takes of the counters. A fault is the piece source's own.
