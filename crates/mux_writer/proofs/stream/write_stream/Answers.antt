@@ -30,8 +30,8 @@ loop-n-init g c = record {
       (holds-none (g.K.Sink.written c.args.to.now)));
 }
 
-pub returns-in_err-packet-clause-err : goal.returns-in_err-packet-clause-err
-returns-in_err-packet-clause-err g c =
+pub returns-in_err-slot_packet-clause-err : goal.returns-in_err-slot_packet-clause-err
+returns-in_err-slot_packet-clause-err g c =
     let within : c.loop-n.n ≤ length c.as_slice-rows.result.now = omega (arith, c.loop-n-test.true, c.requires.slots, ap length c.as_slice-rows.ensures) in
     on_err c.from_residual.result
     (IfSome_then (g.P.PieceSource.told c.args.pieces.now) c.loop-n.invariant.written
@@ -77,13 +77,13 @@ loop-n-preserved g c =
     let sent : Sent = get_or rows n Null in
     let within : n < length rows = omega (arith, c.loop-n-test.true, c.requires.slots, ap length c.as_slice-rows.ensures) in
     let rows-more : take (n + 1) rows ≡ take n rows ++ sent ∷ [] = take_more rows n Null within in
-    let counters : c.slot_packet.new.counters ≡ counted c.args.layout.now sent c.loop-n.counters = c.in_ok-packet.ensures.counters in
+    let counters : c.slot_packet.new.counters ≡ counted c.args.layout.now sent c.loop-n.counters = c.in_ok-slot_packet.ensures.counters in
     let all : All (IsOfLayout c.args.layout.now (g.P.PieceSource.has c.args.pieces.now)) rows =
     All-same (IsOfLayout c.args.layout.now (g.P.PieceSource.has c.args.pieces.now)) rows c.args.schedule.now.rows c.as_slice-rows.ensures c.requires.rows in
-    let made : IfSome (g.P.PieceSource.told c.args.pieces.now) (λ (pieces : Pieces). c.in_ok-packet.packet ≡ written (packet_in c.args.layout.now c.args.slot pieces rows n)) =
-    told-packet c.args.layout.now (g.P.PieceSource.has c.args.pieces.now) c.args.slot (g.P.PieceSource.told c.args.pieces.now) rows n c.loop-n.counters c.in_ok-packet.packet
+    let made : IfSome (g.P.PieceSource.told c.args.pieces.now) (λ (pieces : Pieces). c.slot_packet.new.into ≡ written (packet_in c.args.layout.now c.args.slot pieces rows n)) =
+    told-packet c.args.layout.now (g.P.PieceSource.has c.args.pieces.now) c.args.slot (g.P.PieceSource.told c.args.pieces.now) rows n c.loop-n.counters c.slot_packet.new.into
     c.of-prepared.ensures.few c.of-prepared.ensures.counted all within c.loop-n.invariant.counters
-    (rw (sym c.loop-n.invariant.told) c.in_ok-packet.ensures.packet) in
+    (rw (sym c.loop-n.invariant.told) c.in_ok-slot_packet.ensures.packet) in
     record {
       counters = subst (λ (front : List Sent). CountersAre c.args.layout.now front c.slot_packet.new.counters) (sym rows-more)
           (subst (CountersAre c.args.layout.now (take n rows ++ sent ∷ [])) (sym counters)
@@ -96,5 +96,5 @@ loop-n-preserved g c =
       source_faults = omega (arith, c.loop-n.invariant.source_faults, c.slot_packet.ensures.causes.faults_grow);
       written = told-both (g.P.PieceSource.told c.args.pieces.now) c.loop-n.invariant.written made
           (λ (told : Pieces) is packet. slot-more c.args.layout.now c.args.slot told rows n (g.K.Sink.written c.args.to.now) (g.K.Sink.written c.loop-n.to)
-          (g.K.Sink.written c.make_room.new.to) c.loop-n.gathered c.make_room.new.self c.push.new.self c.in_ok-packet.packet is c.in_ok-make_room.ensures.ok packet c.push.ensures);
+          (g.K.Sink.written c.make_room.new.to) c.loop-n.gathered c.make_room.new.self c.push.new.self c.slot_packet.new.into is c.in_ok-make_room.ensures.ok packet c.push.ensures);
     }
