@@ -227,8 +227,16 @@ fn calls_behind_the_stream_of_run(rt: HostRuntime) -> Result<(), Fail> {
         let status = run(rt.alloc(), words.as_slice(), &mut shelf, &mut out);
         assert_eq!(rt; status.code(), code, "{call}");
         assert!(rt; out.bytes().starts_with(line.as_bytes()), "{call}");
-        assert_eq!(rt; shelf.file("o").map(|bytes| bytes.len()), Some(1_065_960), "{call}");
-        assert_eq!(rt; shelf.file("c").map(|bytes| bytes.is_empty()), certificate, "{call}");
+        assert_eq!(rt;
+            shelf.file("o").map(|bytes| bytes.len()),
+            Some(1_065_960),
+            "{call}"
+        );
+        assert_eq!(rt;
+            shelf.file("c").map(|bytes| bytes.is_empty()),
+            certificate,
+            "{call}"
+        );
     }
     Ok(())
 }
