@@ -2,7 +2,7 @@
 //! another program's (bench/README.md).
 //!
 //! The words are how many slots the stream has, and for `write` the file that it goes to: `rows` makes the schedule alone,
-//! `count` gives its packets to a sink that counts them, `write` keeps them and writes the file.
+//! `count` gives its packets to a sink that counts them, `write` to the end of the file.
 #![tactic(auto)]
 
 mod made_layout;
@@ -13,9 +13,8 @@ use crate::made_layout::made_layout;
 use crate::made_pieces::MadePieces;
 use crate::made_rows::made_rows;
 use mux_writer::write_stream;
-use shelf_io::{CountSink, VecSink};
-use std::rt::Files;
-use std::{env, fs, io};
+use shelf_io::{CountSink, FileShelf, Shelf, Writing};
+use std::{env, io};
 
 /// Ticks of a slot, for a stream of 37.6 Mbit/s.
 const SLOT: u32 = 1_080;
@@ -47,9 +46,13 @@ fn main(rt: HostRuntime) -> io::Result<()> {
             Err(fault) => println!(rt; "{fault}"),
         };
     };
-    let mut kept = VecSink::new(rt.alloc());
-    match write_stream(&mut kept, &layout, SLOT, &schedule, &mut pieces) {
-        Ok(()) => fs::write(&rt, to.as_str(), kept.bytes()),
+    let mut shelf = FileShelf::new(&rt);
+    if let Err(fault) = shelf.start(to.as_str()) {
+        return println!(rt; "{fault}");
+    }
+    let mut file = Writing::new(&mut shelf, to.as_str());
+    match write_stream(&mut file, &layout, SLOT, &schedule, &mut pieces) {
+        Ok(()) => println!(rt; "{} slots", schedule.slots),
         Err(fault) => println!(rt; "{fault}"),
     }
 }

@@ -17,25 +17,25 @@ pub const NULL_PID: u16 = 0x1FFF;
 /// What the payload of null packets is filled with.
 const NULL_BYTE: u8 = 0xFF;
 
-/// A null packet.
-pub(crate) fn null_packet() -> [u8; PACKET_BYTES]
-    ensures { result ≡ written null_record }
+/// Writes a null packet.
+pub(crate) fn null_packet(into: &mut [u8; PACKET_BYTES])
+    ensures { into.new ≡ written null_record }
 {
-    full_packet(NULL_PID, false, 0, &[NULL_BYTE; PAYLOAD_BYTES])
+    full_packet(NULL_PID, false, 0, &[NULL_BYTE; PAYLOAD_BYTES], into);
 }
 
-/// A packet with nothing but payload behind its header.
+/// Writes a packet with nothing but payload behind its header.
 pub(crate) fn full_packet(
     pid: u16,
     start: bool,
     counter: u8,
     payload: &[u8; PAYLOAD_BYTES],
-) -> [u8; PACKET_BYTES]
+    into: &mut [u8; PACKET_BYTES],
+)
     requires pid { pid < 2 ^ 13 }
     requires counter { counter < 2 ^ 4 }
-    ensures { result ≡ written (full_record pid start counter payload.now) }
+    ensures { into.new ≡ written (full_record pid start counter payload.now) }
 {
-    let mut bytes = [0; PACKET_BYTES];
     let packet = Packet {
         pid,
         start,
@@ -43,21 +43,21 @@ pub(crate) fn full_packet(
         field: None,
         payload,
     };
-    packet.write(&mut bytes);
-    bytes
+    packet.write(into);
 }
 
-/// A packet of a stream with the piece in the front of the buffer, stuffed where that doesn't fill it.
+/// Writes a packet of a stream with the piece in the front of the buffer, stuffed where that doesn't fill it.
 pub(crate) fn piece_packet(
     pid: u16,
     counter: u8,
     filled: Filled,
     buffer: &[u8; PAYLOAD_BYTES],
-) -> [u8; PACKET_BYTES]
+    into: &mut [u8; PACKET_BYTES],
+)
     requires pid { pid < 2 ^ 13 }
     requires counter { counter < 2 ^ 4 }
     requires size { HasPayloadSize filled.bytes }
-    ensures { result ≡ written (piece_record pid counter (record { start = filled.start; bytes = take filled.bytes buffer.now })) }
+    ensures { into.new ≡ written (piece_record pid counter (record { start = filled.start; bytes = take filled.bytes buffer.now })) }
 {
     let payload = &buffer[..usize::from(filled.bytes)];
     let field = if payload.len() == PAYLOAD_BYTES {
@@ -68,7 +68,6 @@ pub(crate) fn piece_packet(
             pcr: None,
         })
     };
-    let mut bytes = [0; PACKET_BYTES];
     let packet = Packet {
         pid,
         start: filled.start,
@@ -76,6 +75,5 @@ pub(crate) fn piece_packet(
         field,
         payload,
     };
-    packet.write(&mut bytes);
-    bytes
+    packet.write(into);
 }

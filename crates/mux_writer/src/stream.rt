@@ -1,4 +1,4 @@
-ghost use Rattle.std.specs.Prelude.{◌≡◌, ℕ, ◌+◌, ◌%◌, ◌<◌, ◌≤◌, true, [], All, length, slice_index, slice_index_or, IfOk, IfSome, OnOk, OnErr, IsErrOf};
+ghost use Rattle.std.specs.Prelude.{◌≡◌, ℕ, ◌+◌, ◌%◌, ◌<◌, ◌≤◌, true, [], All, length, slice_index, slice_index_or, IfSome, OnOk, OnErr, IsErrOf};
 ghost use Rattle.version_table.specs.declared.limits.TheConstants.{PROGRAMS_MOST, SLOT_LEAST, SLOT_MOST};
 ghost use Rattle.shelf_io.specs.Causes.{SinkCauses};
 ghost use Rattle.shelf_io.specs.Sink.{with_bytes, AddsPrefix};
@@ -10,22 +10,24 @@ ghost use Rattle.mux_writer.specs.Private.Writer.{IsPrepared, counted, one_more}
 ghost use Rattle.mux_writer.specs.Causes.{StreamCauses};
 
 use crate::counters::{Counters, PIDS};
+use crate::gathered::Gathered;
 use crate::layout::{Layout, map_pid, video_pid};
 use crate::packets::{PAT_PID, full_packet, null_packet, piece_packet};
 use crate::piece_source::PieceSource;
 use crate::prepared::Prepared;
 use pcr_writer::pcr_packet;
-use shelf_io::{Fault, Sink, put_all};
+use shelf_io::{Fault, Sink};
 use slot_rule::{Sent, SlotList};
 use stream_constants::packets::{PACKET_BYTES, PAYLOAD_BYTES};
 use version_table::limits::{PROGRAMS_MOST, SLOT_LEAST, SLOT_MOST};
 
-/// Writes the transport stream of a schedule: for each of its slots, in order, the packet of what stands there, each in one
-/// call of the sink or in the few that it takes of it. PAT and PMT packets have the sections of the layout, packets with a
-/// PCR the time of their slot (slots have `slot` ticks of 1/27,000,000 s), and packets of streams the pieces of `pieces`.
-/// It takes no memory.
+/// Writes the transport stream of a schedule: for each of its slots, in order, the packet of what stands there. Packets are
+/// gathered, and go into the sink 64 at a time, those that are left at the end. PAT and PMT packets have the sections of the
+/// layout, packets with a PCR the time of their slot (slots have `slot` ticks of 1/27,000,000 s), and packets of streams the
+/// pieces of `pieces`. It takes no memory.
 ///
-/// A fault is the sink's or the piece source's own, and then a front of the stream was written. Missing never comes.
+/// A fault is the sink's or the piece source's own, and then a front of the stream was written: packets that were gathered
+/// before a fault of the piece source aren't. Missing never comes.
 ///
 /// It needs a layout whose maps have the output's PIDs and fit their packets, a slot within the limits, as many rows as
 /// `slots` says, and rows that name programs and streams of the layout and pieces that the source has.
@@ -52,16 +54,28 @@ pub fn write_stream<K: Sink, P: PieceSource>(
 {
     let prepared = Prepared::of(layout);
     let mut counters = Counters::new();
+    let mut gathered = Gathered::new();
+    let mut packet = [0; PACKET_BYTES];
     let rows = schedule.rows.as_slice();
     for n in 0..schedule.slots {
         let sent = rows[n as usize];
-        let packet = slot_packet(layout, slot, &prepared, &mut counters, n, sent, pieces)?;
-        put_all(to, &packet)?;
+        slot_packet(
+            layout,
+            slot,
+            &prepared,
+            &mut counters,
+            n,
+            sent,
+            pieces,
+            &mut packet,
+        )?;
+        gathered.make_room(to)?;
+        gathered.push(&packet);
     }
-    Ok(())
+    gathered.put(to)
 }
 
-/// The packet of slot `n`, in which `sent` stands, and what it takes of the counters. A fault is the piece source's own.
+/// Writes the packet of slot `n`, in which `sent` stands, and counts it. A fault is the piece source's own.
 fn slot_packet<P: PieceSource>(
     layout: &Layout,
     slot: u32,
@@ -70,14 +84,15 @@ fn slot_packet<P: PieceSource>(
     n: u32,
     sent: Sent,
     pieces: &mut P,
-) -> Result<[u8; PACKET_BYTES], Fault>
+    into: &mut [u8; PACKET_BYTES],
+) -> Result<(), Fault>
     requires layout { IsLayout layout.now }
     requires prepared { IsPrepared layout.now prepared.now }
     requires counters { length counters.old ≡ PIDS }
     requires slot { slot ≤ SLOT_MOST }
     requires sent { IsOfLayout layout.now (P.has pieces.old) sent }
-    ensures packet { IfOk result (λ bytes. IfSome (P.told pieces.old) (λ told. (count : ℕ) →
-        slice_index counters.old (pid_of layout.now sent) ≡ count % 256 → bytes ≡ written (packet_of layout.now slot told count n sent))) }
+    ensures packet { OnOk result (IfSome (P.told pieces.old) (λ told. (count : ℕ) →
+        slice_index counters.old (pid_of layout.now sent) ≡ count % 256 → into.new ≡ written (packet_of layout.now slot told count n sent))) }
     ensures counters { OnOk result (counters.new ≡ counted layout.now sent counters.old) }
 
     ensures causes { SinkCauses P.faults (IsErrOf result Fault.Failed) (IsErrOf result Fault.Missing) pieces.old pieces.new }
@@ -86,27 +101,44 @@ fn slot_packet<P: PieceSource>(
     ensures still { (stream item piece : ℕ) → P.has pieces.old stream item piece → P.has pieces.new stream item piece }
 {
     match sent {
-        Sent::Null => Ok(null_packet()),
-        Sent::Pat => Ok(full_packet(PAT_PID, true, counters.take(PAT_PID), &prepared.pat)),
-        Sent::Pmt(program) => Ok(map_packet(prepared, counters, program)),
-        Sent::Pcr(program) => Ok(clock_packet(layout, slot, counters, n, program)),
+        Sent::Null => {
+            null_packet(into);
+            Ok(())
+        }
+        Sent::Pat => {
+            full_packet(PAT_PID, true, counters.take(PAT_PID), &prepared.pat, into);
+            Ok(())
+        }
+        Sent::Pmt(program) => {
+            map_packet(prepared, counters, program, into);
+            Ok(())
+        }
+        Sent::Pcr(program) => {
+            clock_packet(layout, slot, counters, n, program, into);
+            Ok(())
+        }
         Sent::Video {
             stream,
             unit,
             piece,
-        } => { stream_packet(prepared, counters, stream, unit, piece, pieces) }
+        } => { stream_packet(prepared, counters, stream, unit, piece, pieces, into) }
         Sent::Audio { stream, packet } => {
-            stream_packet(prepared, counters, stream, packet, 0, pieces)
+            stream_packet(prepared, counters, stream, packet, 0, pieces, into)
         }
     }
 }
 
-/// The packet of a program's PMT.
-fn map_packet(prepared: &Prepared, counters: &mut Counters, program: u8) -> [u8; PACKET_BYTES]
+/// Writes the packet of a program's PMT.
+fn map_packet(
+    prepared: &Prepared,
+    counters: &mut Counters,
+    program: u8,
+    into: &mut [u8; PACKET_BYTES],
+)
     requires counters { length counters.old ≡ PIDS }
     requires few { program < PROGRAMS_MOST }
     requires program { program < length prepared.now.pmts.items }
-    ensures packet { result ≡ written (full_record (map_pid program) true (slice_index counters.old (map_pid program) % 16) (slice_index_or prepared.now.pmts.items program [])) }
+    ensures packet { into.new ≡ written (full_record (map_pid program) true (slice_index counters.old (map_pid program) % 16) (slice_index_or prepared.now.pmts.items program [])) }
     ensures counters { counters.new ≡ one_more (map_pid program) counters.old }
 {
     let pid = map_pid(program);
@@ -115,31 +147,33 @@ fn map_packet(prepared: &Prepared, counters: &mut Counters, program: u8) -> [u8;
         true,
         counters.take(pid),
         &prepared.pmts[usize::from(program)],
-    )
+        into,
+    );
 }
 
-/// The packet of a program's PCR in slot `n`.
+/// Writes the packet of a program's PCR in slot `n`.
 fn clock_packet(
     layout: &Layout,
     slot: u32,
     counters: &Counters,
     n: u32,
     program: u8,
-) -> [u8; PACKET_BYTES]
+    into: &mut [u8; PACKET_BYTES],
+)
     requires layout { IsLayout layout.now }
     requires counters { length counters.now ≡ PIDS }
     requires slot { slot ≤ SLOT_MOST }
     requires few { program < PROGRAMS_MOST }
     requires program { program < length layout.now.maps.items }
-    ensures packet { result ≡ written (pcr_record (video_pid program) ((slice_index counters.now (video_pid program) + 15) % 16)
+    ensures packet { into.new ≡ written (pcr_record (video_pid program) ((slice_index counters.now (video_pid program) + 15) % 16)
         (pcr_at (slice_index layout.now.bases.items program) n slot)) }
 {
     let pid = video_pid(program);
     let base = layout.bases[usize::from(program)];
-    pcr_packet(pid, counters.last(pid), base, n, slot)
+    *into = pcr_packet(pid, counters.last(pid), base, n, slot);
 }
 
-/// The packet of a piece. A fault is the piece source's own.
+/// Writes the packet of a piece. A fault is the piece source's own.
 fn stream_packet<P: PieceSource>(
     prepared: &Prepared,
     counters: &mut Counters,
@@ -147,13 +181,14 @@ fn stream_packet<P: PieceSource>(
     item: u32,
     piece: u32,
     pieces: &mut P,
-) -> Result<[u8; PACKET_BYTES], Fault>
+    into: &mut [u8; PACKET_BYTES],
+) -> Result<(), Fault>
     requires counters { length counters.old ≡ PIDS }
     requires stream { stream < length prepared.now.pids.items }
     requires pids { All (λ pid. pid < PIDS) prepared.now.pids.items }
     requires piece { P.has pieces.old stream item piece }
-    ensures packet { IfOk result (λ bytes. IfSome (P.told pieces.old) (λ told.
-        bytes ≡ written (piece_record (slice_index prepared.now.pids.items stream) (slice_index counters.old (slice_index prepared.now.pids.items stream) % 16) (told stream item piece)))) }
+    ensures packet { OnOk result (IfSome (P.told pieces.old) (λ told.
+        into.new ≡ written (piece_record (slice_index prepared.now.pids.items stream) (slice_index counters.old (slice_index prepared.now.pids.items stream) % 16) (told stream item piece)))) }
     ensures counters { OnOk result (counters.new ≡ one_more (slice_index prepared.now.pids.items stream) counters.old) }
 
     ensures causes { SinkCauses P.faults (IsErrOf result Fault.Failed) (IsErrOf result Fault.Missing) pieces.old pieces.new }
@@ -164,5 +199,6 @@ fn stream_packet<P: PieceSource>(
     let mut buffer = [0; PAYLOAD_BYTES];
     let filled = pieces.piece(stream, item, piece, &mut buffer)?;
     let pid = prepared.pids[stream as usize];
-    Ok(piece_packet(pid, counters.take(pid), filled, &buffer))
+    piece_packet(pid, counters.take(pid), filled, &buffer, into);
+    Ok(())
 }

@@ -31,6 +31,8 @@ const UNREAD_CERTIFICATE: &str = "{\"name\":\"c\",\"reason\":\"read\",\"status\"
 
 const UNWRITTEN: &str = "{\"name\":\"o\",\"reason\":\"write\",\"status\":7}\n";
 
+const UNWRITTEN_CERTIFICATE: &str = "{\"name\":\"c\",\"reason\":\"write\",\"status\":7}\n";
+
 /// An ending whose file is as it was, or isn't asked for.
 fn ended<'a>(last: u64, code: u8, line: &'a str, left: Option<usize>) -> Ending<'a> {
     Ending {
@@ -151,20 +153,20 @@ fn calls_of_probe(rt: HostRuntime) -> Result<(), Fail> {
     Ok(())
 }
 
-/// Bytes of the stream that are written before the append of this number, of which call 7 is the first.
+/// Bytes of the stream that are written before the append of this number, of which call 7 is the first: 64 packets each.
 fn bytes_before(call: u64) -> usize {
-    call.saturating_sub(7).saturating_mul(188) as usize
+    call.saturating_sub(7).saturating_mul(12_032) as usize
 }
 
 /// The first of these calls that ends `run` otherwise than wanted: two reads of the job, three of the program, the start of the stream,
-/// and appends of one packet each.
+/// and 89 appends of its 5,670 packets, 64 each and at last 38.
 fn first_wrong_of_run(alloc: Global, first: u64, last: u64) -> Result<Option<u64>, Fail> {
     for call in first..=last {
         let wanted = match call {
             0..=2 => ended(2, 6, UNREAD_JOB, Some(4)),
             3..=5 => ended(5, 6, UNREAD_PROGRAM, Some(4)),
             6 => ended(6, 7, UNWRITTEN, Some(4)),
-            _ => ended(60, 7, UNWRITTEN, Some(bytes_before(call))),
+            _ => ended(95, 7, UNWRITTEN, Some(bytes_before(call))),
         };
         let mut shelf = shelf_of(alloc, call)?;
         let so = ends_so(alloc, &["run", "j", "o", "c"], &mut shelf, &wanted)?;
@@ -202,6 +204,40 @@ fn appends_of_run_behind_them(rt: HostRuntime) -> Result<(), Fail> {
 #[test]
 fn last_of_sixty_calls_of_run(rt: HostRuntime) -> Result<(), Fail> {
     assert_eq!(rt; first_wrong_of_run(rt.alloc(), 47, 60)?, None);
+    Ok(())
+}
+
+#[test]
+fn last_appends_of_run(rt: HostRuntime) -> Result<(), Fail> {
+    assert_eq!(rt; first_wrong_of_run(rt.alloc(), 93, 95)?, None);
+    Ok(())
+}
+
+/// Behind the last append: the start and one append of the certificate, and no other call.
+#[test]
+fn calls_behind_the_stream_of_run(rt: HostRuntime) -> Result<(), Fail> {
+    for (call, code, line, certificate) in [
+        (96, 7, UNWRITTEN_CERTIFICATE, None),
+        (97, 7, UNWRITTEN_CERTIFICATE, Some(true)),
+        (98, 0, "{\"bound\":0,", Some(false)),
+    ] {
+        let words = words_of(rt.alloc(), &["run", "j", "o", "c"])?;
+        let mut shelf = shelf_of(rt.alloc(), call)?;
+        let mut out = MemSink::new(rt.alloc(), Vec::new(rt.alloc()));
+        let status = run(rt.alloc(), words.as_slice(), &mut shelf, &mut out);
+        assert_eq!(rt; status.code(), code, "{call}");
+        assert!(rt; out.bytes().starts_with(line.as_bytes()), "{call}");
+        assert_eq!(rt;
+            shelf.file("o").map(|bytes| bytes.len()),
+            Some(1_065_960),
+            "{call}"
+        );
+        assert_eq!(rt;
+            shelf.file("c").map(|bytes| bytes.is_empty()),
+            certificate,
+            "{call}"
+        );
+    }
     Ok(())
 }
 

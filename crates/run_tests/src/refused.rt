@@ -7,6 +7,9 @@ use std::test::Fail;
 /// Bytes of a transport packet.
 const PACKET: usize = 188;
 
+/// Bytes of the 64 packets that each append has.
+const GATHERED: usize = 64 * PACKET;
+
 /// The last byte of the CRC of the PAT in a file's first packet: four bytes of packet header, a pointer, and a section of 16.
 const PAT_CRC_END: usize = 20;
 
@@ -74,7 +77,7 @@ fn a_write_that_fails_leaves_a_front_and_no_certificate(rt: HostRuntime) -> Resu
     for (call, length) in [
         (READS + 1, None),
         (READS + 2, Some(0)),
-        (READS + 4, Some(2 * PACKET)),
+        (READS + 4, Some(2 * GATHERED)),
     ] {
         let mut shelf = failing_shelf(rt.alloc(), ROOMY, call)?;
         assert_eq!(rt; code_over(rt.alloc(), &mut shelf)?, 7, "{call}");

@@ -1,5 +1,6 @@
 -- What the writer of a stream keeps.
-use Rattle.std.specs.Prelude.{◌≡◌, ℕ, ◌+◌, ◌%◌, ◌<◌, ◌≤◌, List, length, All, slice_index, slice_set}
+use Rattle.std.specs.Prelude.{◌≡◌, ℕ, ◌+◌, ◌%◌, ◌<◌, ◌≤◌, List, ◌++◌, length, All, slice_index, slice_set}
+use Rattle.shelf_io.specs.Sink.{Told, with_bytes}
 use Rattle.version_table.specs.declared.limits.TheConstants.{PROGRAMS_MOST}
 use Rattle.slot_rule.specs.declared.sent.Sent.{Sent}
 use Rattle.slot_rule.specs.declared.sent.Sent.TheVariants.{Null, Pat, Pmt, Pcr, Video, Audio}
@@ -35,3 +36,9 @@ counted layout (Pmt program) counters = one_more (map_pid program) counters
 counted layout (Pcr program) counters = counters
 counted layout (Video stream unit piece) counters = one_more (stream_pid layout stream) counters
 counted layout (Audio stream packet) counters = one_more (stream_pid layout stream) counters
+
+-- of some bytes those in front were added to a sink, and the rest of them is held
+pub record HoldsRest (old new : Told) (held bytes : List ℕ) : Type 0 where
+  pub front : List ℕ
+  pub added : new ≡ with_bytes old front
+  pub whole : front ++ held ≡ bytes
