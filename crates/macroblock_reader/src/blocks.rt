@@ -36,6 +36,7 @@ pub fn read_blocks<S: Source>(
     }
 }
 
+/// The same by one loop.
 #[inline(always)]
 fn read_each<S: Source>(
     from: &mut BitReader<'_, S>,

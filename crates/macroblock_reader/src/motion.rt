@@ -140,6 +140,7 @@ fn read_vectors<S: Source>(
     }
 }
 
+/// One vector or two, into an empty list.
 #[inline(always)]
 fn read_list<S: Source>(
     from: &mut BitReader<'_, S>,
