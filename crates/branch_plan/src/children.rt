@@ -86,7 +86,9 @@ pub(crate) fn with_branch(
         nodes: mut made,
         leaves,
         known,
-    } = children_of(alloc, table, relaxation, run, start, &windows, place, first, nodes)?;
+    } = children_of(
+        alloc, table, relaxation, run, start, &windows, place, first, nodes,
+    )?;
     link_children(&mut arena.links, number, unit, made.len() as u32)?;
     arena.nodes[number as usize] = Node::Branch { unit };
     arena.nodes.append(&mut made)?;

@@ -26,7 +26,12 @@ pub fn windows(
     fix(&mut slack, free.as_mut_slice(), mixed, fixed.as_slice());
     let intervals = match overfull(&slack, units.len()) {
         Some(interval) => vec![in alloc; interval; 1]?,
-        None => priced(alloc, &mut slack, free.as_mut_slice(), mixed.steps.as_slice())?,
+        None => priced(
+            alloc,
+            &mut slack,
+            free.as_mut_slice(),
+            mixed.steps.as_slice(),
+        )?,
     };
     Ok(windows_of_intervals(&slack, units, intervals.as_slice()))
 }

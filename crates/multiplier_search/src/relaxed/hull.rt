@@ -84,7 +84,10 @@ impl MixedTable {
 
     /// How many packets a version of a unit has beyond its smallest one.
     pub fn packets_more(&self, unit: MixedUnit, k: u8) -> i64 {
-        match self.packets.get(unit.versions.saturating_add(usize::from(k))) {
+        match self
+            .packets
+            .get(unit.versions.saturating_add(usize::from(k)))
+        {
             Some(packets) => i64::from(*packets).saturating_sub(i64::from(unit.packets)),
             None => 0,
         }
