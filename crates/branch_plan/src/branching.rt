@@ -22,6 +22,7 @@ use crate::open::{OpenLeaves, add_leaf, no_leaves, take_least};
 use crate::root::root_bound;
 use dual_bounds::{Windows, nothing_fixed};
 use list_types::OutOfMemory;
+use multiplier_search::LinearRelaxation;
 use slot_rule::SlotRun;
 use std::alloc::Global;
 use std::cmp::Reverse;
@@ -65,6 +66,7 @@ pub(crate) enum Step {
 pub(crate) fn branched(
     alloc: Global,
     table: &Table,
+    relaxation: Option<&LinearRelaxation>,
     run: &mut SlotRun<'_>,
     known: Known,
     windows: Windows,
@@ -83,7 +85,7 @@ pub(crate) fn branched(
 {
     let mut growth = rooted(alloc, table, run, known, windows, nodes)?;
     for _branches in 0..nodes {
-        match branch_least(alloc, table, run, growth, nodes)? {
+        match branch_least(alloc, table, relaxation, run, growth, nodes)? {
             Step::Grown(grown) => growth = grown,
             Step::Ended(ended) => return Ok(ended),
         }
@@ -159,6 +161,7 @@ pub(crate) fn add_if_open(
 fn branch_least(
     alloc: Global,
     table: &Table,
+    relaxation: Option<&LinearRelaxation>,
     run: &mut SlotRun<'_>,
     growth: Growth,
     nodes: u32,
@@ -174,7 +177,7 @@ fn branch_least(
     match take_least(&mut growth.leaves) {
         Some(Reverse((bound, number))) => {
             if bound < growth.known.distortion {
-                branch_at(alloc, table, run, growth, bound, number, nodes)
+                branch_at(alloc, table, relaxation, run, growth, bound, number, nodes)
             } else {
                 Ok(Step::Ended(as_best(growth)))
             }
@@ -204,6 +207,7 @@ fn as_best(growth: Growth) -> Ended
 fn branch_at(
     alloc: Global,
     table: &Table,
+    relaxation: Option<&LinearRelaxation>,
     run: &mut SlotRun<'_>,
     growth: Growth,
     bound: u64,
@@ -240,6 +244,6 @@ fn branch_at(
             unit,
             fixed,
         };
-        Ok(Step::Grown(with_branch(alloc, table, run, growth, place, nodes)?))
+        Ok(Step::Grown(with_branch(alloc, table, relaxation, run, growth, place, nodes)?))
     }
 }

@@ -23,7 +23,7 @@ use crate::open::OpenLeaves;
 use bound_certificate::Node;
 use dual_bounds::{Fixed, Windows};
 use list_types::{ListOf, OutOfMemory};
-use multiplier_search::relaxation;
+use multiplier_search::LinearRelaxation;
 use slot_rule::SlotRun;
 use std::alloc::Global;
 use version_table::Table;
@@ -54,6 +54,7 @@ pub(crate) struct Children {
 pub(crate) fn with_branch(
     alloc: Global,
     table: &Table,
+    relaxation: Option<&LinearRelaxation>,
     run: &mut SlotRun<'_>,
     growth: Growth,
     place: Place,
@@ -85,7 +86,9 @@ pub(crate) fn with_branch(
         nodes: mut made,
         leaves,
         known,
-    } = children_of(alloc, table, run, start, &windows, place, first, nodes)?;
+    } = children_of(
+        alloc, table, relaxation, run, start, &windows, place, first, nodes,
+    )?;
     link_children(&mut arena.links, number, unit, made.len() as u32)?;
     arena.nodes[number as usize] = Node::Branch { unit };
     arena.nodes.append(&mut made)?;
@@ -142,6 +145,7 @@ fn next_behind(first: u32, k: u32, count: u32, behind: u32) -> u32
 fn children_of(
     alloc: Global,
     table: &Table,
+    relaxation: Option<&LinearRelaxation>,
     run: &mut SlotRun<'_>,
     start: Children,
     windows: &Windows,
@@ -175,7 +179,7 @@ fn children_of(
     let mut children = start;
     for k in 0..unit_at(table, unit as usize).versions.len() {
         fixed = with_version(fixed, unit as usize, k as u8);
-        let own = windows_for(alloc, table, &fixed, windows, relaxed)?;
+        let own = windows_for(alloc, table, relaxation, &fixed, windows, relaxed)?;
         children = with_child(alloc, table, run, children, &fixed, own, first + k as u32)?;
     }
     Ok(children)
@@ -200,10 +204,11 @@ fn with_version(fixed: Fixed, unit: usize, k: u8) -> Fixed
     ListOf::from_vec(entries)
 }
 
-/// The windows of a child: a relaxation of its own from these on, or these.
+/// The windows of a child: those of a relaxation of its own from these on, or these.
 fn windows_for(
     alloc: Global,
     table: &Table,
+    relaxation: Option<&LinearRelaxation>,
     fixed: &Fixed,
     windows: &Windows,
     relaxed: bool,
@@ -215,9 +220,12 @@ fn windows_for(
     ensures value { IfOk result (λ own. value_of_windows table.now fixed.now windows.now.items ≤ℤ value_of_windows table.now fixed.now own.items) }
     ensures few { relaxed ≡ false → IfOk result (λ own. own.items ≡ windows.now.items) }
 {
-    match relaxed {
-        true => relaxation(alloc, table, fixed, windows),
-        false => Ok(copied(windows)),
+    if !relaxed {
+        return Ok(copied(windows));
+    }
+    match relaxation {
+        Some(relaxation) => relaxation.windows(alloc, table, fixed, windows),
+        None => Ok(copied(windows)),
     }
 }
 

@@ -6,7 +6,8 @@ mod rooms;
 use crate::corners::{Corner, add_corners, corner_at, ratio};
 use cuts::cut_before;
 use list_types::OutOfMemory;
-use rooms::{Room, are_open, lower, note_in_time, set_rooms};
+use multiplier_search::SlackTree;
+use rooms::{are_open, lower, note_in_time, room_beside, set_rooms};
 use std::alloc::Global;
 use std::cmp::Reverse;
 use stream_constants::decoder::EB_UNIT_BYTES;
@@ -87,7 +88,7 @@ impl Filling {
     /// Fills the room anew. Fails only for want of memory.
     pub fn fill(&mut self, alloc: Global) -> Result<(), OutOfMemory> {
         empty(self.units.as_mut_slice());
-        let mut room = Room::new(alloc, self.units.as_slice(), self.corners.as_slice())?;
+        let mut room = room_beside(alloc, self.units.as_slice(), self.corners.as_slice())?;
         fill_units(self.units.as_mut_slice(), self.steps.as_slice(), &mut room);
         Ok(())
     }
@@ -188,7 +189,7 @@ fn empty(units: &mut [FilledUnit]) {
 }
 
 /// Takes the steps in order, each where the unit has come to it and there is room.
-fn fill_units(units: &mut [FilledUnit], steps: &[Step], room: &mut Room) {
+fn fill_units(units: &mut [FilledUnit], steps: &[Step], room: &mut SlackTree) {
     for step in steps {
         if step.unit < units.len() && units[step.unit].at.saturating_add(1) == step.corner {
             let packets = i64::from(step.packets);

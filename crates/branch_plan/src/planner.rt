@@ -16,7 +16,7 @@ use crate::filled::by_filling;
 use crate::free::free_runs;
 use crate::known::best_premise;
 use crate::owed::after_owed;
-use crate::root::root_windows;
+use crate::root::{relaxation_for, root_windows};
 use bound_certificate::Cert;
 use dual_bounds::nothing_fixed;
 use list_types::OutOfMemory;
@@ -107,8 +107,10 @@ pub fn plan(
     let mut run = SlotRun::new(alloc, table)?;
     let premise = best_premise(alloc, table, &mut run)?;
     let fixed = nothing_fixed(alloc, table)?;
-    let windows = root_windows(alloc, table, &fixed, nodes)?;
-    let ended = branched(alloc, table, &mut run, premise, windows, nodes)?;
+    let relaxation = relaxation_for(alloc, table, nodes)?;
+    let relaxed = relaxation.as_ref();
+    let windows = root_windows(alloc, table, relaxed, &fixed, nodes)?;
+    let ended = branched(alloc, table, relaxed, &mut run, premise, windows, nodes)?;
     let tree = in_order(alloc, &ended.arena)?;
     let Ended {
         arena: _,

@@ -15,9 +15,23 @@ use crate::known::Known;
 use crate::limits::NODES_WITH_MANY_WINDOWS_MOST;
 use dual_bounds::{Fixed, Windows, bound_of, window_value, windows_of};
 use list_types::OutOfMemory;
-use multiplier_search::{best_single, best_window, improve, relaxation};
+use multiplier_search::{LinearRelaxation, best_single, best_window, improve};
 use std::alloc::Global;
 use version_table::Table;
+
+/// The relaxation of a table, where a search of so many nodes asks it. Fails only for want of memory.
+pub(crate) fn relaxation_for(
+    alloc: Global,
+    table: &Table,
+    nodes: u32,
+) -> Result<Option<LinearRelaxation>, OutOfMemory>
+    requires valid { IsValidTable table.now }
+{
+    if nodes > NODES_WITH_MANY_WINDOWS_MOST {
+        return Ok(None);
+    }
+    Ok(Some(LinearRelaxation::new(alloc, table)?))
+}
 
 /// The windows of a tree's root, in a search of so many nodes. Their value is at least that of each window that is tried
 /// alone, and of the first best multiplier with any other one. Where many nodes are allowed they are two at most. Fails only
@@ -25,6 +39,7 @@ use version_table::Table;
 pub(crate) fn root_windows(
     alloc: Global,
     table: &Table,
+    relaxation: Option<&LinearRelaxation>,
     fixed: &Fixed,
     nodes: u32,
 ) -> Result<Windows, OutOfMemory>
@@ -41,7 +56,10 @@ pub(crate) fn root_windows(
     if nodes > NODES_WITH_MANY_WINDOWS_MOST {
         return Ok(start);
     }
-    relaxation(alloc, table, fixed, &start)
+    match relaxation {
+        Some(relaxation) => relaxation.windows(alloc, table, fixed, &start),
+        None => Ok(start),
+    }
 }
 
 /// The first best multiplier after one turn of the search, as windows.

@@ -16,7 +16,7 @@ mod single;
 mod turns;
 mod window;
 
-pub use relaxed::{SlackTree, relaxation};
+pub use relaxed::{LinearRelaxation, SlackPlace, SlackTree, relaxation};
 pub use single::best_single;
 pub use turns::{improve, improve_windows};
 pub use window::best_window;

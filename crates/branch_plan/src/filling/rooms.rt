@@ -4,7 +4,7 @@ use super::FilledUnit;
 use crate::corners::{Corner, corner_at};
 use dual_bounds::{capacity, window_capacity};
 use list_types::OutOfMemory;
-use multiplier_search::SlackTree;
+use multiplier_search::{SlackPlace, SlackTree};
 use std::alloc::Global;
 use stream_constants::decoder::EB_UNIT_BYTES;
 use stream_constants::packets::PAYLOAD_BYTES;
@@ -13,48 +13,21 @@ use version_table::Table;
 /// Packets that are taken off before a miss, at most.
 const CUT_MOST: u32 = 4_096;
 
-/// How many packets more each unit may have beside what is taken.
-#[derive(Drop)]
-pub(super) struct Room {
-    /// By unit: what may be sent by its due time less what is.
-    above: SlackTree,
-    /// By unit: what is sent of those before it less the slots before its own.
-    below: SlackTree,
-}
-
-impl Room {
-    /// The room beside what the units have now. Fails only for want of memory.
-    pub fn new(
-        alloc: Global,
-        units: &[FilledUnit],
-        corners: &[Corner],
-    ) -> Result<Room, OutOfMemory> {
-        let mut above = Vec::new(alloc);
-        let mut below = Vec::new(alloc);
-        let mut sent: i64 = 0;
-        for unit in units {
-            below.push(sent.saturating_sub(unit.below))?;
-            sent = sent.saturating_add(packets_of(corners, *unit));
-            above.push(unit.above.saturating_sub(sent))?;
-        }
-        Ok(Room {
-            above: SlackTree::new(alloc, above.as_slice())?,
-            below: SlackTree::new(alloc, below.as_slice())?,
-        })
+/// How many packets more each unit may have beside what the units have now. Fails only for want of memory.
+pub(super) fn room_beside(
+    alloc: Global,
+    units: &[FilledUnit],
+    corners: &[Corner],
+) -> Result<SlackTree, OutOfMemory> {
+    let mut places = Vec::new(alloc);
+    for unit in units {
+        places.push(SlackPlace {
+            above: unit.above,
+            below: unit.below,
+            packets: packets_of(corners, *unit),
+        })?;
     }
-
-    /// How many packets more a unit may have.
-    pub fn of(&self, unit: usize) -> i64 {
-        self.above
-            .least_from(unit)
-            .saturating_add(self.below.least_upto(unit))
-    }
-
-    /// Takes packets for a unit.
-    pub fn take(&mut self, unit: usize, packets: i64) {
-        self.above.add_from(unit, 0i64.saturating_sub(packets));
-        self.below.add_from(unit.saturating_add(1), packets);
-    }
+    SlackTree::new(alloc, places.as_slice())
 }
 
 /// Sets what may be sent by each unit's due time, and the slots that stand before those of each, where so many parts of 100 of

@@ -1,5 +1,4 @@
 ghost use Rattle.std.specs.Prelude.{IfOk};
-ghost use Rattle.version_table.specs.Table.{IsValidTable};
 ghost use Rattle.multiplier_search.specs.Windows.{AreSearched, IsSound};
 
 use super::hull::{HullStep, MixedTable, MixedUnit};
@@ -9,22 +8,42 @@ use dual_bounds::constants::{DISTORTION_PARTS, LAMBDA_MOST, WINDOWS_MOST};
 use dual_bounds::{Fixed, Window, Windows};
 use list_types::OutOfMemory;
 use std::alloc::Global;
-use version_table::Table;
 
-/// The windows of the relaxation: in the order of what they save for a packet, steps are taken as far as there is room. Where
-/// none is left, the units round the step's fill their room, and a packet of it is worth what the step saves.
-pub fn windows(alloc: Global, table: &Table, fixed: &Fixed) -> Result<Windows, OutOfMemory>
-    requires { IsValidTable table.now }
+/// The windows of the relaxation where these versions are fixed, from the slack beside the smallest ones: in the order of what they
+/// save for a packet, steps are taken as far as there is room. Where none is left, the units round the step's fill their room, and
+/// a packet of it is worth what the step saves.
+pub fn windows(
+    alloc: Global,
+    mixed: &MixedTable,
+    smallest: &Slack,
+    fixed: &Fixed,
+) -> Result<Windows, OutOfMemory>
     ensures { IfOk result (λ found. AreSearched found.items) }
 {
-    let mixed = MixedTable::new(alloc, table, fixed)?;
     let units = mixed.units.as_slice();
-    let mut slack = Slack::new(alloc, table, units)?;
+    let mut slack = smallest.copied(alloc)?;
+    let mut free = vec![in alloc; true; units.len()]?;
+    fix(&mut slack, free.as_mut_slice(), mixed, fixed.as_slice());
     let intervals = match overfull(&slack, units.len()) {
         Some(interval) => vec![in alloc; interval; 1]?,
-        None => priced(alloc, &mut slack, mixed.steps.as_slice())?,
+        None => priced(
+            alloc,
+            &mut slack,
+            free.as_mut_slice(),
+            mixed.steps.as_slice(),
+        )?,
     };
     Ok(windows_of_intervals(&slack, units, intervals.as_slice()))
+}
+
+/// Gives the units of which a version is fixed the packets of that version, and no steps.
+fn fix(slack: &mut Slack, free: &mut [bool], mixed: &MixedTable, fixed: &[Option<u8>]) {
+    for (place, unit) in mixed.units.iter().enumerate() {
+        if let Some(Some(k)) = fixed.get(unit.number) {
+            slack.take(place, mixed.packets_more(*unit, *k));
+            close(free, place);
+        }
+    }
 }
 
 /// The first interval whose room is too small for the smallest versions.
@@ -37,17 +56,22 @@ fn overfull(slack: &Slack, units: usize) -> Option<Interval> {
     None
 }
 
-/// The intervals that are filled by taking these steps, with their prices beside those round them.
+/// The intervals that are filled by taking these steps, with their prices beside those round them. Only units that are free take
+/// steps: no version of theirs is fixed, and they aren't in a filled interval.
 fn priced(
     alloc: Global,
     slack: &mut Slack,
+    free: &mut [bool],
     steps: &[HullStep],
 ) -> Result<Vec<Interval>, OutOfMemory> {
     let mut filled = Vec::new(alloc);
     let mut priced = Vec::new(alloc);
     for step in steps {
-        if !is_filled(filled.as_slice(), step.unit) && take(slack, *step) {
+        if is_free(free, step.unit) && take(slack, *step) {
             let own = slack.interval(step.unit, price_of(*step));
+            for unit in own.first..=own.last {
+                close(free, unit);
+            }
             let grown = grown(filled.as_slice(), own);
             filled = fill(alloc, filled.as_slice(), grown, &mut priced)?;
         }
@@ -56,6 +80,18 @@ fn priced(
         priced.push(*interval)?;
     }
     Ok(priced)
+}
+
+/// Whether a unit takes steps.
+fn is_free(free: &[bool], unit: usize) -> bool {
+    unit < free.len() && free[unit]
+}
+
+/// Gives a unit no steps from now on.
+fn close(free: &mut [bool], unit: usize) {
+    if unit < free.len() {
+        free[unit] = false;
+    }
 }
 
 /// Takes a step as far as there is room, and says whether it fills it.
@@ -73,13 +109,6 @@ fn price_of(step: HullStep) -> u64 {
         .saturating_mul(DISTORTION_PARTS)
         .saturating_add(packets / 2)
         / packets
-}
-
-/// Whether a unit stands in a filled interval.
-fn is_filled(filled: &[Interval], unit: usize) -> bool {
-    filled
-        .iter()
-        .any(|interval| interval.first <= unit && unit <= interval.last)
 }
 
 /// An interval with those that it meets.

@@ -1,4 +1,3 @@
-use dual_bounds::Fixed;
 use list_types::OutOfMemory;
 use std::alloc::Global;
 use std::cmp::Reverse;
@@ -25,6 +24,10 @@ pub struct MixedUnit {
     pub due: u64,
     /// The packets of its smallest version.
     pub packets: u32,
+    /// Its number over all programs in order.
+    pub number: usize,
+    /// Its first version, counted over all units.
+    versions: usize,
     /// Its first corner, counted over all units.
     first: usize,
     /// The corner behind its last.
@@ -49,92 +52,75 @@ pub struct HullStep {
 pub struct MixedTable {
     /// The units.
     pub units: Vec<MixedUnit>,
-    /// The steps.
+    /// The steps of all units.
     pub steps: Vec<HullStep>,
+    /// The packets of all versions, unit by unit over all programs.
+    packets: Vec<u32>,
 }
 
 impl MixedTable {
-    /// The units and steps of a table where these versions are fixed. Fails only for want of memory.
-    pub fn new(alloc: Global, table: &Table, fixed: &Fixed) -> Result<MixedTable, OutOfMemory> {
+    /// The units and steps of a table. Fails only for want of memory.
+    pub fn new(alloc: Global, table: &Table) -> Result<MixedTable, OutOfMemory> {
         let mut units = Vec::new(alloc);
+        let mut packets = Vec::new(alloc);
         let mut corners = Vec::new(alloc);
-        let mut place = 0;
         for program in table.programs.as_slice() {
-            place = add_units(
-                &mut units,
-                &mut corners,
-                program.units.as_slice(),
-                fixed.as_slice(),
-                place,
-            )?;
+            for unit in program.units.as_slice() {
+                add_unit(&mut units, &mut packets, &mut corners, unit)?;
+            }
         }
         units.sort_by_key(|unit| unit.due)?;
         let mut steps = Vec::new(alloc);
-        for (number, unit) in units.iter().enumerate() {
-            add_steps(&mut steps, corners.as_slice(), number, *unit)?;
+        for (place, unit) in units.iter().enumerate() {
+            add_steps(&mut steps, corners.as_slice(), place, *unit)?;
         }
         steps.sort_by_key(|step| Reverse(step.ratio))?;
-        Ok(MixedTable { units, steps })
+        Ok(MixedTable {
+            units,
+            steps,
+            packets,
+        })
+    }
+
+    /// How many packets a version of a unit has beyond its smallest one.
+    pub fn packets_more(&self, unit: MixedUnit, k: u8) -> i64 {
+        match self
+            .packets
+            .get(unit.versions.saturating_add(usize::from(k)))
+        {
+            Some(packets) => i64::from(*packets).saturating_sub(i64::from(unit.packets)),
+            None => 0,
+        }
     }
 }
 
-/// Adds the units of a program with their corners, and gives how many entries of what is fixed are then used.
-fn add_units(
-    mixed: &mut Vec<MixedUnit>,
+/// Adds a unit with its versions' packets and its corners.
+fn add_unit(
+    units: &mut Vec<MixedUnit>,
+    packets: &mut Vec<u32>,
     corners: &mut Vec<Corner>,
-    units: &[Unit],
-    fixed: &[Option<u8>],
-    place: usize,
-) -> Result<usize, OutOfMemory> {
-    let mut next = place;
-    for unit in units {
-        let first = corners.len();
-        let smallest = add_corners(corners, unit.versions.as_slice(), entry_at(fixed, next))?;
-        mixed.push(MixedUnit {
-            due: unit.due,
-            packets: smallest.packets,
-            first,
-            until: corners.len(),
-        })?;
-        next = next.saturating_add(1);
+    unit: &Unit,
+) -> Result<(), OutOfMemory> {
+    let versions = packets.len();
+    for version in unit.versions.as_slice() {
+        packets.push(corner_of(*version).packets)?;
     }
-    Ok(next)
-}
-
-/// What is fixed at a place.
-fn entry_at(fixed: &[Option<u8>], place: usize) -> Option<u8> {
-    match fixed.get(place) {
-        Some(entry) => *entry,
-        None => None,
-    }
-}
-
-/// Adds the corners of a unit's lower hull, from its smallest version on, which is given; or the version that is fixed.
-fn add_corners(
-    corners: &mut Vec<Corner>,
-    versions: &[Version],
-    fixed: Option<u8>,
-) -> Result<Corner, OutOfMemory> {
-    let smallest = match fixed {
-        Some(k) => fixed_corner(versions, usize::from(k)),
-        None => smallest_corner(versions),
-    };
+    let first = corners.len();
+    let smallest = smallest_corner(unit.versions.as_slice());
     corners.push(smallest)?;
-    if fixed.is_none() {
-        add_corners_from(corners, versions, smallest)?;
-    }
-    Ok(smallest)
+    add_corners_from(corners, unit.versions.as_slice(), smallest)?;
+    units.push(MixedUnit {
+        due: unit.due,
+        packets: smallest.packets,
+        number: units.len(),
+        versions,
+        first,
+        until: corners.len(),
+    })?;
+    Ok(())
 }
 
-/// The corner of a version that is fixed.
-fn fixed_corner(versions: &[Version], k: usize) -> Corner {
-    match versions.get(k) {
-        Some(version) => corner_of(*version),
-        None => Corner::default(),
-    }
-}
-
-/// Adds the corners behind the smallest.
+/// Adds the corners of a unit's lower hull behind the smallest.
 fn add_corners_from(
     corners: &mut Vec<Corner>,
     versions: &[Version],
@@ -153,7 +139,10 @@ fn add_corners_from(
 
 /// The version of fewest packets, and of those the one with the least distortion.
 fn smallest_corner(versions: &[Version]) -> Corner {
-    let mut smallest = fixed_corner(versions, 0);
+    let mut smallest = match versions.first() {
+        Some(version) => corner_of(*version),
+        None => Corner::default(),
+    };
     for version in versions {
         let corner = corner_of(*version);
         if corner.packets < smallest.packets

@@ -1,7 +1,7 @@
 ghost use Rattle.version_table.specs.Table.{IsValidTable};
 
 use super::hull::MixedUnit;
-use super::slack_tree::SlackTree;
+use super::slack_tree::{SlackPlace, SlackTree};
 use dual_bounds::{capacity, window_capacity};
 use list_types::OutOfMemory;
 use std::alloc::Global;
@@ -11,10 +11,8 @@ use version_table::Table;
 /// the first slot that each unit may use.
 #[derive(Drop)]
 pub struct Slack {
-    /// By unit: the free slots up to its due time less what must be sent by it.
-    above: SlackTree,
-    /// By unit: what must be sent before it less the free slots before its own.
-    below: SlackTree,
+    /// By unit: the free slots up to its due time, and those before its own.
+    tree: SlackTree,
     /// Whether the first unit may use all slots.
     from_start: bool,
 }
@@ -37,41 +35,42 @@ impl Slack {
     {
         let end = last_due(units);
         let whole = capacity(table, end);
-        let mut above = Vec::new(alloc);
-        let mut below = Vec::new(alloc);
-        let mut sent: i64 = 0;
+        let mut places = Vec::new(alloc);
         for unit in units {
-            let before = whole.saturating_sub(window_capacity(table, unit.due, end));
-            below.push(sent.saturating_sub(before))?;
-            sent = sent.saturating_add(i64::from(unit.packets));
-            above.push(capacity(table, unit.due).saturating_sub(sent))?;
+            places.push(SlackPlace {
+                above: capacity(table, unit.due),
+                below: whole.saturating_sub(window_capacity(table, unit.due, end)),
+                packets: i64::from(unit.packets),
+            })?;
         }
-        let from_start = starts_at_0(below.as_mut_slice());
+        let from_start = starts_at_0(places.as_mut_slice());
+        let tree = SlackTree::new(alloc, places.as_slice())?;
+        Ok(Slack { tree, from_start })
+    }
+
+    /// The same slack. Fails only for want of memory.
+    pub fn copied(&self, alloc: Global) -> Result<Slack, OutOfMemory> {
         Ok(Slack {
-            above: SlackTree::new(alloc, above.as_slice())?,
-            below: SlackTree::new(alloc, below.as_slice())?,
-            from_start,
+            tree: self.tree.copied(alloc)?,
+            from_start: self.from_start,
         })
     }
 
     /// How many packets more a unit may have; negative where there is no room for what is taken.
     pub fn of(&self, unit: usize) -> i64 {
-        self.above
-            .least_from(unit)
-            .saturating_add(self.below.least_upto(unit))
+        self.tree.of(unit)
     }
 
     /// Takes packets for a unit.
     pub fn take(&mut self, unit: usize, packets: i64) {
-        self.above.add_from(unit, 0i64.saturating_sub(packets));
-        self.below.add_from(unit.saturating_add(1), packets);
+        self.tree.take(unit, packets);
     }
 
     /// The greatest interval round a unit that has the unit's slack.
     pub fn interval(&self, unit: usize, price: u64) -> Interval {
         Interval {
-            first: self.below.first_at_most(self.below.least_upto(unit)),
-            last: self.above.last_at_most(self.above.least_from(unit)),
+            first: self.tree.first_beside(unit),
+            last: self.tree.last_beside(unit),
             price,
         }
     }
@@ -100,11 +99,11 @@ fn last_due(units: &[MixedUnit]) -> u64 {
 }
 
 /// Whether no slot stands before those of the first unit; from the start on none is free before slot 0.
-fn starts_at_0(below: &mut [i64]) -> bool {
-    if below.len() == 0 {
+fn starts_at_0(places: &mut [SlackPlace]) -> bool {
+    if places.len() == 0 {
         return true;
     }
-    let starts = below[0] >= 0;
-    below[0] = below[0].min(0);
-    starts
+    let below = places[0].below;
+    places[0].below = below.max(0);
+    below <= 0
 }

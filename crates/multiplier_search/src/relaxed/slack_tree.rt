@@ -4,8 +4,20 @@ use std::alloc::Global;
 /// Above every number that a tree is asked for.
 const FAR: i64 = i64::MAX / 4;
 
-/// Numbers at places, kept so that adding to all from a place on, and the least of those on either side of a place, take
-/// a logarithm of their count. Sums saturate, so that no number needs a limit.
+/// A place whose packets share their room with those of the places round it.
+#[derive(Clone, Copy, Debug, Default, PartialEq)]
+pub struct SlackPlace {
+    /// How many packets the places up to it may have.
+    pub above: i64,
+    /// How many of these no place from it on may have.
+    pub below: i64,
+    /// The packets that it has.
+    pub packets: i64,
+}
+
+/// How many packets more each place may have: the places from one to another have at most what may be had up to the last one,
+/// less what none from the first one on may have. To ask and to take packets takes a logarithm of the count of places. Sums wrap, so
+/// that no number needs a limit.
 #[derive(Drop)]
 pub struct SlackTree {
     /// Levels above the places.
@@ -16,28 +28,31 @@ pub struct SlackTree {
     nodes: Vec<SlackNode>,
 }
 
-/// What is known of the numbers below a node.
+/// What is known of the places below a node, where those outside of it have no packets.
 #[derive(Clone, Copy, Debug, Default, PartialEq)]
 struct SlackNode {
-    /// The least of them, without what is added above it.
-    least: i64,
-    /// What is added to all of them.
-    added: i64,
+    /// Their packets.
+    packets: i64,
+    /// The least of what may be had up to one of them less the packets up to it.
+    above: i64,
+    /// The least of the packets before one of them less what it and those behind it may not have.
+    below: i64,
 }
 
-/// A node behind the end: its number is above all that are asked for.
+/// A node behind the end: its numbers are above all that are asked for.
 const FAR_NODE: SlackNode = SlackNode {
-    least: FAR,
-    added: 0,
+    packets: 0,
+    above: FAR,
+    below: FAR,
 };
 
 impl SlackTree {
-    /// A tree of these numbers.
-    pub fn new(alloc: Global, numbers: &[i64]) -> Result<SlackTree, OutOfMemory> {
+    /// A tree of these places. Fails only for want of memory.
+    pub fn new(alloc: Global, places: &[SlackPlace]) -> Result<SlackTree, OutOfMemory> {
         let mut height = 0;
         let mut first: usize = 1;
         for _level in 0..62 {
-            if first < numbers.len() {
+            if first < places.len() {
                 first = first.saturating_mul(2);
                 height = level_above(height);
             }
@@ -48,120 +63,143 @@ impl SlackTree {
             first,
             nodes,
         };
-        tree.fill(numbers);
+        tree.fill(places);
         Ok(tree)
     }
 
-    /// Puts the numbers at their places.
-    fn fill(&mut self, numbers: &[i64]) {
+    /// The same tree. Fails only for want of memory.
+    pub fn copied(&self, alloc: Global) -> Result<SlackTree, OutOfMemory> {
+        Ok(SlackTree {
+            height: self.height,
+            first: self.first,
+            nodes: self.nodes.as_slice().to_vec(alloc)?,
+        })
+    }
+
+    /// Puts the places into the tree.
+    fn fill(&mut self, places: &[SlackPlace]) {
         let nodes = self.nodes.as_mut_slice();
-        for (place, number) in numbers.iter().enumerate() {
-            raise(
-                nodes,
-                self.first.saturating_add(place),
-                number.saturating_sub(FAR),
-            );
+        for (place, limits) in places.iter().enumerate() {
+            put(nodes, self.first.saturating_add(place), leaf_of(*limits));
         }
         for node in (1..self.first).rev() {
-            mend(nodes, node);
+            let left = node.saturating_mul(2);
+            put(nodes, node, joined(at(nodes, left), at(nodes, left | 1)));
         }
     }
 
-    /// Adds to all numbers from a place on.
-    pub fn add_from(&mut self, place: usize, amount: i64) {
+    /// How many packets more a place may have; negative where there is no room for what is taken.
+    pub fn of(&self, place: usize) -> i64 {
+        let around = self.around(place);
+        around.above.wrapping_add(around.below)
+    }
+
+    /// Takes packets for a place.
+    pub fn take(&mut self, place: usize, packets: i64) {
         if place >= self.first {
             return;
         }
         let nodes = self.nodes.as_mut_slice();
         let mut node = self.first.saturating_add(place);
-        raise(nodes, node, amount);
+        let mut known = with_packets(at(nodes, node), packets);
+        put(nodes, node, known);
         for _level in 0..self.height {
-            if node % 2 == 0 {
-                raise(nodes, node | 1, amount);
-            }
+            let beside = at(nodes, node ^ 1);
+            known = if node % 2 == 0 {
+                joined(known, beside)
+            } else {
+                joined(beside, known)
+            };
             node /= 2;
-            mend(nodes, node);
+            put(nodes, node, known);
         }
     }
 
-    /// The least number from a place on.
-    pub fn least_from(&self, place: usize) -> i64 {
+    /// The first place of the longest row of places round one that share what it may have.
+    pub fn first_beside(&self, place: usize) -> usize {
         let nodes = self.nodes.as_slice();
-        let mut node = self.first.saturating_add(place);
-        let mut least = at(nodes, node).least;
-        for _level in 0..self.height {
-            if node % 2 == 0 {
-                least = least.min(at(nodes, node | 1).least);
-            }
-            node /= 2;
-            least = least.saturating_add(at(nodes, node).added);
-        }
-        least
-    }
-
-    /// The least number up to a place.
-    pub fn least_upto(&self, place: usize) -> i64 {
-        let nodes = self.nodes.as_slice();
-        let mut node = self.first.saturating_add(place);
-        let mut least = at(nodes, node).least;
-        for _level in 0..self.height {
-            if node % 2 == 1 {
-                least = least.min(at(nodes, node.saturating_sub(1)).least);
-            }
-            node /= 2;
-            least = least.saturating_add(at(nodes, node).added);
-        }
-        least
-    }
-
-    /// The last place whose number is at most this one, where there is one.
-    pub fn last_at_most(&self, number: i64) -> usize {
-        let nodes = self.nodes.as_slice();
+        let mut left = self.around(place).below;
         let mut node: usize = 1;
-        let mut left = number;
         for _level in 0..self.height {
-            left = left.saturating_sub(at(nodes, node).added);
             node = node.saturating_mul(2);
-            if at(nodes, node | 1).least <= left {
+            let nearer = at(nodes, node);
+            if nearer.below > left {
+                left = left.wrapping_sub(nearer.packets);
                 node |= 1;
             }
         }
         node.saturating_sub(self.first)
     }
 
-    /// The first place whose number is at most this one, where there is one.
-    pub fn first_at_most(&self, number: i64) -> usize {
+    /// The last place of this row.
+    pub fn last_beside(&self, place: usize) -> usize {
         let nodes = self.nodes.as_slice();
+        let mut left = self.around(place).above;
         let mut node: usize = 1;
-        let mut left = number;
         for _level in 0..self.height {
-            left = left.saturating_sub(at(nodes, node).added);
             node = node.saturating_mul(2);
-            if at(nodes, node).least > left {
+            let behind = left.wrapping_add(at(nodes, node).packets);
+            if at(nodes, node | 1).above <= behind {
+                left = behind;
                 node |= 1;
             }
         }
         node.saturating_sub(self.first)
     }
-}
 
-/// Adds to all numbers below a node.
-fn raise(nodes: &mut [SlackNode], node: usize, amount: i64) {
-    if node < nodes.len() {
-        let known = nodes[node];
-        nodes[node] = SlackNode {
-            least: known.least.saturating_add(amount),
-            added: known.added.saturating_add(amount),
-        };
+    /// Of a place: the packets before it, the least of what is left up to it or up to a place behind it, and the least of what is
+    /// sent before it or before a place in front of it beyond what may not be had.
+    fn around(&self, place: usize) -> SlackNode {
+        let nodes = self.nodes.as_slice();
+        let mut node = self.first.saturating_add(place);
+        let own = at(nodes, node);
+        let mut above = own.above;
+        let mut below = own.below;
+        let mut behind = own.packets;
+        let mut before: i64 = 0;
+        for _level in 0..self.height {
+            let beside = at(nodes, node ^ 1);
+            if node % 2 == 0 {
+                above = above.min(beside.above.wrapping_sub(behind));
+                behind = behind.wrapping_add(beside.packets);
+            } else {
+                before = before.wrapping_add(beside.packets);
+                below = below.min(beside.below.wrapping_sub(before));
+            }
+            node /= 2;
+        }
+        SlackNode {
+            packets: before,
+            above: above.wrapping_sub(before),
+            below: below.wrapping_add(before),
+        }
     }
 }
 
-/// Sets a node's least number from those of the two below it.
-fn mend(nodes: &mut [SlackNode], node: usize) {
-    let left = node.saturating_mul(2);
-    let below = at(nodes, left).least.min(at(nodes, left | 1).least);
-    if node < nodes.len() {
-        nodes[node].least = below.saturating_add(nodes[node].added);
+/// What is known of a place.
+fn leaf_of(place: SlackPlace) -> SlackNode {
+    SlackNode {
+        packets: place.packets,
+        above: place.above.wrapping_sub(place.packets),
+        below: 0i64.wrapping_sub(place.below),
+    }
+}
+
+/// What is known of a place with more packets.
+fn with_packets(known: SlackNode, packets: i64) -> SlackNode {
+    SlackNode {
+        packets: known.packets.wrapping_add(packets),
+        above: known.above.wrapping_sub(packets),
+        ..known
+    }
+}
+
+/// What is known of a node from the two below it.
+fn joined(left: SlackNode, right: SlackNode) -> SlackNode {
+    SlackNode {
+        packets: left.packets.wrapping_add(right.packets),
+        above: left.above.min(right.above.wrapping_sub(left.packets)),
+        below: left.below.min(right.below.wrapping_add(left.packets)),
     }
 }
 
@@ -171,6 +209,13 @@ fn at(nodes: &[SlackNode], node: usize) -> SlackNode {
         nodes[node]
     } else {
         FAR_NODE
+    }
+}
+
+/// Sets what is known of a node.
+fn put(nodes: &mut [SlackNode], node: usize, known: SlackNode) {
+    if node < nodes.len() {
+        nodes[node] = known;
     }
 }
 
