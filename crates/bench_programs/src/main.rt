@@ -2,14 +2,17 @@
 //!
 //! The words are what is done, the stream's file and the program's number: `read` reads the file alone, `parts` takes the
 //! program out with `demux` and goes through each unit of its video with `check_picture`, `program` calls `read_program`, and
-//! `times` prints the times of each unit of its answer too: PTS and DTS as they stand, and when it is due.
-//! It prints how many units, audio streams and audio packets there are, and the first refusal.
+//! `times` prints the times of each unit of its answer too: PTS and DTS as they stand, and when it is due. `sized` calls
+//! `read_sized_program` at the ratios that follow, in sixteenths, at most seven.
+//! It prints how many units, audio streams and audio packets there are, and the first refusal; for `sized` the bytes of all
+//! versions together too.
 #![tactic(auto)]
 
+use arrayvec::ArrayVec;
 use es_units::split_units;
 use pes_units::PesHeader;
 use picture_reader::{Headers, PictureFault, check_picture};
-use program_reader::{Program, UnitSource, read_program};
+use program_reader::{Program, UnitSizes, UnitSource, read_program, read_sized_program};
 use std::alloc::{AllocError, Global};
 use std::rt::Files;
 use std::{env, fs, io};
@@ -19,6 +22,9 @@ use ts_demux::{PesUnit, demux};
 /// When the earliest time is due, in ticks.
 const START: u64 = 2_700_000;
 
+/// The most ratios.
+const RATIOS_MOST: usize = 7;
+
 /// A unit is at most this long.
 const UNIT_MOST: usize = 1 << 30;
 
@@ -27,8 +33,10 @@ fn main(rt: HostRuntime) -> io::Result<()> {
     for word in env::args(&rt)?.skip(1) {
         words.push(word)?;
     }
-    let [what, from, number] = words.as_slice() else {
-        return println!(rt; "bench_programs read|parts|program|times STREAM PROGRAM");
+    let [what, from, number, rest @ ..] = words.as_slice() else {
+        return println!(rt;
+            "bench_programs read|parts|program|times STREAM PROGRAM, or sized STREAM PROGRAM [RATIO ..]"
+        );
     };
     let Ok(number) = number.as_str().parse::<u16>() else {
         return println!(rt; "no number of a program");
@@ -48,6 +56,22 @@ fn main(rt: HostRuntime) -> io::Result<()> {
                 None => println!(rt; "{checked} units"),
             }
         }
+        "sized" => {
+            let ratios = ratios_of(rest);
+            let sized = match read_sized_program(
+                rt.alloc(),
+                file.as_slice(),
+                number,
+                &[],
+                START,
+                ratios.as_slice(),
+            ) {
+                Ok(sized) => sized,
+                Err(fault) => return println!(rt; "{fault}"),
+            };
+            print_program(&rt, &sized.program)?;
+            println!(rt; "{} bytes in all versions", bytes_of(sized.sizes.as_slice()))
+        }
         _ => {
             let program = match read_program(rt.alloc(), file.as_slice(), number, &[], START) {
                 Ok(program) => program,
@@ -61,6 +85,30 @@ fn main(rt: HostRuntime) -> io::Result<()> {
             print_program(&rt, &program)
         }
     }
+}
+
+/// The ratios among the words, as many as there may be.
+fn ratios_of(words: &[String]) -> ArrayVec<u16, RATIOS_MOST> {
+    let mut ratios = ArrayVec::new();
+    for word in words {
+        if let Ok(ratio) = word.as_str().parse::<u16>() {
+            if ratios.len() < RATIOS_MOST {
+                ratios.push(ratio);
+            }
+        }
+    }
+    ratios
+}
+
+/// The bytes of all versions of units.
+fn bytes_of(units: &[UnitSizes]) -> u64 {
+    let mut bytes = 0u64;
+    for unit in units {
+        for size in unit.versions.as_slice() {
+            bytes = bytes.wrapping_add(size.bytes);
+        }
+    }
+    bytes
 }
 
 /// The bytes of PES packets of a video behind their headers, up to the first one that is refused.

@@ -9,7 +9,9 @@ use list_types::ListOf;
 use picture_reader::PictureFault;
 use std::alloc::Global;
 use syntax_types::SeqState;
-use version_maker::{UNIT_BYTES_MOST, VersionSize, sizes_of, version_of, versions_of};
+use version_maker::{
+    Ladder, UNIT_BYTES_MOST, VersionSize, size_picture, sizes_of, version_of, versions_of,
+};
 use version_table::limits::VERSIONS_MOST;
 
 /// The most ratios.
@@ -55,6 +57,7 @@ pub fn made_of(
     unit: &[u8],
     before: Option<&SeqState>,
     ratios: &ArrayVec<u16, RATIOS_MOST>,
+    ladder: &mut Ladder,
 ) -> Result<Made, PictureFault>
     requires unit { length unit.now ≤ UNIT_BYTES_MOST }
     requires before { MayPrecede (option_copied before) }
@@ -62,8 +65,8 @@ pub fn made_of(
     match task {
         Task::Read => Ok(of_sizes(alloc, ArrayVec::new(), false)),
         Task::Sizes => {
-            let sizes = sizes_of(alloc, unit, before, ratios.as_slice())?;
-            Ok(of_sizes(alloc, sizes, false))
+            let sized = size_picture(alloc, unit, before, ratios.as_slice(), ladder)?;
+            Ok(of_sizes(alloc, sized.sizes, false))
         }
         Task::Compare => compared(alloc, unit, before, ratios),
         Task::Rewrite => written_again(alloc, unit, before),

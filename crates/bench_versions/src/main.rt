@@ -2,7 +2,7 @@
 //! (bench/README.md).
 //!
 //! The words are what is done, the stream's file, for `write` the file that is written, and ratios in sixteenths, at most
-//! seven. `read` goes through each unit with `check_picture` alone; `sizes` asks `sizes_of` too; `last` makes the version at
+//! seven. `read` goes through each unit with `check_picture` alone; `sizes` asks `size_picture` too, with one ladder; `last` makes the version at
 //! the last ratio by `version_of`, or version 0 where there is no ratio; `write` writes that; `compare` makes all versions
 //! and compares them with what `sizes_of` says; `rewrite` reads each picture, writes it with `write_picture` and reads that
 //! again. It prints how many units were taken, the first refusal, how many differ and the first of them, and the bytes and

@@ -9,7 +9,7 @@ use es_units::{UnitFault, split_units};
 use picture_reader::{PictureFault, check_picture};
 use std::alloc::Global;
 use syntax_types::SeqState;
-use version_maker::UNIT_BYTES_MOST;
+use version_maker::{Ladder, UNIT_BYTES_MOST};
 
 /// What was made of a stream.
 #[derive(Drop)]
@@ -41,10 +41,19 @@ pub fn stream_of(
         totals: Totals::new(),
         bytes: Vec::new(alloc),
     };
+    let mut ladder = Ladder::new();
     let mut before: Option<SeqState> = None;
     'units: for (begin, end) in units.cuts.as_slice() {
         let unit = unit_at(stream, *begin as usize, *end as usize);
-        match one_more(alloc, task, unit, before.as_ref(), ratios, &mut made) {
+        match one_more(
+            alloc,
+            task,
+            unit,
+            before.as_ref(),
+            ratios,
+            &mut ladder,
+            &mut made,
+        ) {
             Ok(behind) => before = Some(behind),
             Err(fault) => {
                 made.refused = Some(fault);
@@ -71,6 +80,7 @@ fn one_more(
     unit: &[u8],
     before: Option<&SeqState>,
     ratios: &ArrayVec<u16, RATIOS_MOST>,
+    ladder: &mut Ladder,
     made: &mut StreamMade,
 ) -> Result<SeqState, PictureFault>
     requires unit { length unit.now ≤ UNIT_BYTES_MOST }
@@ -78,7 +88,7 @@ fn one_more(
     ensures { IfOk result IsState }
 {
     let behind = state_behind(alloc, unit, before)?;
-    let one = made_of(alloc, task, unit, before, ratios)?;
+    let one = made_of(alloc, task, unit, before, ratios, ladder)?;
     if made.bytes.extend_from_slice(one.bytes.as_slice()).is_err() {
         return Err(PictureFault::OutOfMemory);
     }

@@ -1,11 +1,21 @@
-use job_programs::{ProgramsFault, SourceFault, read_one, read_programs};
+ghost use Rattle.std.specs.Prelude.{◌<◌, ◌≤◌, length, IfOk};
+ghost use Rattle.std.specs.Option.{option_copied};
+ghost use Rattle.picture_grammar.specs.Picture.{IsState, MayPrecede};
+
+use job_programs::{
+    ProgramsFault, SizedPrograms, SourceFault, read_one, read_programs, read_sized_programs,
+};
 use job_report::limits::{PROBE_SLOT, START_DEFAULT};
 use job_report::read_job;
+use picture_reader::check_picture;
 use program_maker::make_program;
-use program_reader::SourceKind;
+use program_reader::{Program, SourceKind, UnitSizes};
 use shelf_io::{Fault, MemShelf};
 use std::alloc::Global;
 use std::test::Fail;
+use syntax_types::SeqState;
+use version_maker::{PictureFault, UNIT_BYTES_MOST, sizes_of};
+use version_table::limits::VERSIONS_MOST;
 
 /// A job with the program 1 of `a.ts` and another one.
 const ANOTHER_FILE: &[u8] =
@@ -16,6 +26,10 @@ const ONE_FILE_TWICE: &[u8] =
 
 const ANOTHER_NUMBER: &[u8] =
     b"slot = 4000\n[[program]]\nfile = \"a.ts\"\nprogram = 1\nnumber = 1\n[[program]]\nfile = \"a.ts\"\nprogram = 2\nnumber = 2\n";
+
+/// Two programs of a file, each with ratios of its own.
+const TWO_RATIOS_AND_ONE: &[u8] =
+    b"slot = 4000\n[[program]]\nfile = \"a.ts\"\nprogram = 1\nnumber = 1\ncoarser = [24, 48]\n[[program]]\nfile = \"a.ts\"\nprogram = 1\nnumber = 2\ncoarser = [32]\n";
 
 /// How many units the programs of a job have together, or why they aren't read.
 fn units_of(alloc: Global, shelf: &mut MemShelf, text: &[u8]) -> Result<usize, ProgramsFault> {
@@ -29,6 +43,66 @@ fn units_of(alloc: Global, shelf: &mut MemShelf, text: &[u8]) -> Result<usize, P
             Ok(units)
         }
         Err(_) => Err(ProgramsFault::OutOfMemory),
+    }
+}
+
+/// The programs of a job with the sizes of their units, or why they aren't read.
+fn sized(
+    alloc: Global,
+    shelf: &mut MemShelf,
+    text: &[u8],
+) -> Result<SizedPrograms, ProgramsFault> {
+    match read_job(alloc, text) {
+        Ok(job) => read_sized_programs(alloc, shelf, &job),
+        Err(_) => Err(ProgramsFault::OutOfMemory),
+    }
+}
+
+/// Whether these are the sizes of the units of a program, each sized by itself behind the state of the one before.
+fn are_sizes_of(
+    alloc: Global,
+    program: &Program,
+    sizes: &[UnitSizes],
+    coarser: &[u16],
+) -> Result<bool, PictureFault>
+    requires { length coarser.now < VERSIONS_MOST }
+{
+    let video = program.video.as_slice();
+    let mut before: Option<SeqState> = None;
+    for (unit, own) in program.units.as_slice().iter().zip(sizes) {
+        let bytes = unit_at(video, unit.begin as usize, unit.end as usize);
+        let alone = sizes_of(alloc, bytes, before.as_ref(), coarser)?;
+        if own.versions.as_slice() != alone.as_slice() {
+            return Ok(false);
+        }
+        let behind = state_behind(alloc, bytes, before.as_ref())?;
+        before = Some(behind);
+    }
+    Ok(program.units.len() == sizes.len())
+}
+
+/// The bytes between two places, as many as a unit may have.
+fn unit_at(video: &[u8], begin: usize, end: usize) -> &[u8]
+    ensures { length result.now ≤ UNIT_BYTES_MOST }
+{
+    let unit = video.get(begin..end).unwrap_or(&[]);
+    let few = unit.len().min(UNIT_BYTES_MOST);
+    &unit[..few]
+}
+
+/// The state behind a unit.
+fn state_behind(
+    alloc: Global,
+    unit: &[u8],
+    before: Option<&SeqState>,
+) -> Result<SeqState, PictureFault>
+    requires unit { length unit.now ≤ UNIT_BYTES_MOST }
+    requires before { MayPrecede (option_copied before) }
+    ensures { IfOk result IsState }
+{
+    match check_picture(alloc, unit, before) {
+        Ok(headers) => Ok(headers.seq),
+        Err(fault) => Err(fault),
     }
 }
 
@@ -138,5 +212,54 @@ fn a_probed_file(rt: HostRuntime) -> Result<(), Fail> {
     }
     let other = read_one(alloc, &mut shelf, "a.ts", 2, &[], START_DEFAULT, PROBE_SLOT);
     assert_eq!(rt; other.err(), Some(refused(0, SourceKind::NoProgram)));
+    Ok(())
+}
+
+#[test]
+fn programs_with_the_sizes_of_their_units(rt: HostRuntime) -> Result<(), Fail> {
+    let alloc = rt.alloc();
+    let mut shelf = shelf_of(alloc, Vec::new(alloc))?;
+    match sized(alloc, &mut shelf, TWO_RATIOS_AND_ONE) {
+        Ok(read) => match (read.programs.as_slice(), read.sizes.as_slice()) {
+            ([first, second], [of_first, of_second]) => {
+                let two = are_sizes_of(alloc, first, of_first.as_slice(), &[24, 48]);
+                assert_eq!(rt; two, Ok(true));
+                let one = are_sizes_of(alloc, second, of_second.as_slice(), &[32]);
+                assert_eq!(rt; one, Ok(true));
+            }
+            _ => {
+                assert!(rt; false);
+            }
+        },
+        Err(fault) => {
+            assert_eq!(rt; fault, ProgramsFault::OutOfMemory);
+            assert!(rt; false);
+        }
+    }
+    Ok(())
+}
+
+#[test]
+fn sized_programs_are_refused_as_others(rt: HostRuntime) -> Result<(), Fail> {
+    let alloc = rt.alloc();
+    let mut shelf = shelf_of(alloc, Vec::new(alloc))?;
+    assert_eq!(rt;
+        sized(alloc, &mut shelf, ANOTHER_FILE).err(),
+        Some(ProgramsFault::Missing(1))
+    );
+    assert_eq!(rt;
+        sized(alloc, &mut shelf, ANOTHER_NUMBER).err(),
+        Some(refused(1, SourceKind::NoProgram))
+    );
+    shelf.put_file("b.ts", &[0x47; 187])?;
+    assert_eq!(rt;
+        sized(alloc, &mut shelf, ANOTHER_FILE).err(),
+        Some(refused(1, SourceKind::ShortFile))
+    );
+    let mut failing = shelf_of(alloc, vec![in alloc; 1]?)?;
+    assert_eq!(rt;
+        sized(alloc, &mut failing, ONE_FILE_TWICE).err(),
+        Some(ProgramsFault::Failed(0))
+    );
     Ok(())
 }

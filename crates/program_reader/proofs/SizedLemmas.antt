@@ -136,7 +136,8 @@ sized_more slice es packets coarser wanted before unit picture old new sizes mor
     (one_more es coarser (state_behind old.last) (state_behind new.last) (map kept_at old.units.items) unit sizes own are behind (so_far want)))
 
 -- the sizes of all
-pub sized_all : (es coarser : List ℕ) (before : Option SeqState) (units : List (ℕ × ℕ)) (sizes : List UnitSizes) → AreSizedSoFar es coarser before units sizes → AreUnitSizes es coarser None units sizes
+pub sized_all : (es coarser : List ℕ) (before : Option SeqState) (units : List (ℕ × ℕ)) (sizes : List UnitSizes) → AreSizedSoFar es coarser before units sizes
+    → AreUnitSizes es coarser None units sizes
 sized_all es coarser before units sizes so_far =
     subst (λ (us : List (ℕ × ℕ)). AreUnitSizes es coarser None us sizes) (append-nil units)
     (subst (λ (ss : List UnitSizes). AreUnitSizes es coarser None (units ++ []) ss) (append-nil sizes) (so_far.all [] [] tt))

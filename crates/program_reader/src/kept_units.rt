@@ -15,6 +15,7 @@ use crate::unit_picture::{TimedUnit, unit_picture};
 use crate::unit_sizes::{SizesWanted, UnitSizes};
 use pes_units::Times;
 use std::alloc::{AllocError, Global};
+use version_maker::Ladder;
 use version_table::limits::VERSIONS_MOST;
 
 /// A unit that is kept: where it stands in the video, the times of its PES header, and its decoding time in ticks.
@@ -61,6 +62,7 @@ pub fn keep_units(
     let stamps = stamped_pictures(alloc, es, video.packets.as_slice())?;
     let mut left = stamps.as_slice();
     let mut kept = KeptUnits::new(alloc);
+    let mut ladder = Ladder::new();
     for at in 0..cuts.len() {
         let (begin, end) = cuts[at];
         let found = unit_times(es, left, begin, end);
@@ -71,7 +73,15 @@ pub fn keep_units(
             times: found.times,
             is_last: at + 1 == cuts.len(),
         };
-        match unit_picture(alloc, es, &unit, kept.last.as_ref(), wanted, sizes) {
+        match unit_picture(
+            alloc,
+            es,
+            &unit,
+            kept.last.as_ref(),
+            wanted,
+            sizes,
+            &mut ladder,
+        ) {
             Ok(Some(picture)) => kept.add(&unit, &picture)?,
             Ok(None) => {
                 kept.dropped = 1;

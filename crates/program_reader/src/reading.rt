@@ -59,7 +59,8 @@ pub fn read_program(
     }
 }
 
-/// Reads a program as `read_program` does, and the sizes of all versions of its units at these ratios: each unit is read once for both.
+/// Reads a program as `read_program` does, and the sizes of all versions of its units at these ratios, in sixteenths: each unit is read
+/// once for both. Distortions are sums of squares of coefficients, as `VersionSize` says.
 pub fn read_sized_program(
     alloc: Global,
     file: &[u8],

@@ -16,6 +16,7 @@ use pes_units::Times;
 use picture_reader::{Headers, PictureFault};
 use std::alloc::Global;
 use syntax_types::SeqState;
+use version_maker::Ladder;
 use version_table::limits::VERSIONS_MOST;
 
 /// A unit of the video from a place up to another, with the times of its picture.
@@ -37,6 +38,7 @@ pub fn unit_picture(
     before: Option<&TimedPicture>,
     wanted: &SizesWanted<'_>,
     sizes: &mut Vec<UnitSizes>,
+    ladder: &mut Ladder,
 ) -> Result<Option<TimedPicture>, ProgramFault>
     requires size { length es.now < 2 ^ 32 }
     requires order { unit.now.begin ≤ unit.now.end }
@@ -50,7 +52,7 @@ pub fn unit_picture(
         wanted.now.are_wanted sizes.old.items sizes.new.items) }
 {
     let bytes = &es[unit.begin as usize..unit.end as usize];
-    let headers = match check_unit(alloc, bytes, state_behind(before), wanted, sizes) {
+    let headers = match check_unit(alloc, bytes, state_behind(before), wanted, sizes, ladder) {
         Ok(headers) => headers,
         Err(fault) => return broken(unit, fault),
     };

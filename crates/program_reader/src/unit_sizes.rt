@@ -10,13 +10,13 @@ use arrayvec::ArrayVec;
 use picture_reader::{Headers, PictureFault, check_picture};
 use std::alloc::{AllocError, Global};
 use syntax_types::SeqState;
-use version_maker::{UNIT_BYTES_MOST, VersionSize, size_picture};
+use version_maker::{Ladder, UNIT_BYTES_MOST, VersionSize, size_picture};
 use version_table::limits::VERSIONS_MOST;
 
 /// The sizes of all versions of a unit.
 #[derive(Drop)]
 pub struct UnitSizes {
-    /// The bytes and the distortion of each: the unit itself, then one for each ratio.
+    /// Of each its bytes, and its distortion as the sum of squares that `VersionSize` says: the unit itself, then one for each ratio.
     pub versions: ArrayVec<VersionSize, VERSIONS_MOST>,
 }
 
@@ -35,6 +35,7 @@ pub fn check_unit(
     before: Option<&SeqState>,
     wanted: &SizesWanted<'_>,
     sizes: &mut Vec<UnitSizes>,
+    ladder: &mut Ladder,
 ) -> Result<Headers, PictureFault>
     requires unit { length unit.now ≤ 2 ^ 60 }
     requires before { MayPrecede (option_copied before) }
@@ -50,7 +51,7 @@ pub fn check_unit(
     if unit.len() > UNIT_BYTES_MOST {
         return check_alone(alloc, unit, before);
     }
-    size_unit(alloc, unit, before, wanted.coarser, sizes)
+    size_unit(alloc, unit, before, wanted.coarser, sizes, ladder)
 }
 
 /// The headers of the picture of a unit, as `check_picture` answers.
@@ -76,6 +77,7 @@ fn size_unit(
     before: Option<&SeqState>,
     coarser: &[u16],
     sizes: &mut Vec<UnitSizes>,
+    ladder: &mut Ladder,
 ) -> Result<Headers, PictureFault>
     requires unit { length unit.now ≤ UNIT_BYTES_MOST }
     requires before { MayPrecede (option_copied before) }
@@ -85,7 +87,7 @@ fn size_unit(
     ensures sizes { IfOk result (λ _. AreSizedBehind (option_copied before.entry) unit.now coarser.now sizes.old.items sizes.new.items) }
     ensures same { IfErr result (λ fault. (refusal_told fault ≡ None) ⊎ (sizes.new.items ≡ sizes.old.items)) }
 {
-    let sized = match size_picture(alloc, unit, before, coarser) {
+    let sized = match size_picture(alloc, unit, before, coarser, ladder) {
         Ok(sized) => sized,
         Err(fault) => return Err(fault),
     };

@@ -11,9 +11,8 @@ use program_reader::{Program, UnitSizes};
 use std::alloc::Global;
 use version_table::Table;
 
-/// The table of the programs of a job, of the sizes that were told when they were read. No unit is read. The error is want of memory.
-///
-/// It needs a program for each of the job's, that can be sent.
+/// The table of the programs of a job, each of which can be sent. `sizes` has of each program those of its units, as
+/// `read_sized_programs` tells them, at the ratios that the job gives it. No unit is read. The error is want of memory.
 pub fn table_of(
     alloc: Global,
     job: &Job,

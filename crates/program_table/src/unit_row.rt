@@ -14,8 +14,8 @@ use program_reader::UnitSource;
 use std::alloc::Global;
 use syntax_types::SeqState;
 use version_bounds::laws::sizes_are_bounded;
-use version_maker::{VersionSize, sizes_of};
-use version_source::{unit_bytes, want_of_memory};
+use version_maker::{VersionSize, sizes_of, want_of_memory};
+use version_source::unit_bytes;
 use version_table::limits::VERSIONS_MOST;
 use version_table::{Unit, Version};
 

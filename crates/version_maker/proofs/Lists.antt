@@ -110,7 +110,8 @@ coarser-at picture (m ∷ ms) (v ∷ vs) (suc k) bytes are within is = coarser-a
 version-at-of : (picture : Picture) (unit coarser : List ℕ) (first : UnitVersion) (others : List UnitVersion) (index : ℕ) (bytes : List ℕ) → IsSourceVersion picture unit first
     → AllZip (IsCoarserVersion picture) coarser others → index ≤ length coarser → AreBytesAt picture unit coarser index bytes
     → IfSome (slice_get (first ∷ others) index) (λ version. version.bytes ≡ bytes)
-version-at-of picture unit coarser first others zero bytes source ones within is = ap (λ (v : UnitVersion). v.bytes) (one-source picture unit first (record { bytes = bytes; distortion = 0 }) source is)
+version-at-of picture unit coarser first others zero bytes source ones within is =
+    ap (λ (v : UnitVersion). v.bytes) (one-source picture unit first (record { bytes = bytes; distortion = 0 }) source is)
 version-at-of picture unit coarser first others (suc k) bytes source ones within is = coarser-at picture coarser others k bytes ones (omega (arith, within)) is
 
 pub version-at : (before : Option SeqState) (picture : Picture) (unit coarser : List ℕ) (index : ℕ) (bytes : List ℕ) → MayPrecede before → AreBytes unit → IsPictureOf before unit picture

@@ -1,7 +1,7 @@
 -- Sizes of versions, slice by slice.
-use Rattle.std.proofs.Common.{◌≡◌, ℕ, zero, suc, ◌+◌, ◌%◌, ◌^◌, ◌<◌, List, [], ◌∷◌, ◌++◌, refl, sym, ◌∙◌, ap, subst, arith, length, take, get_or, add-one, replicate}
-use Rattle.std.specs.List.{AllZip, flat_map, sum_by}
-use Rattle.std.proofs.Math.Seq.{take-suc}
+use Rattle.std.proofs.Common.{◌≡◌, ℕ, zero, suc, ◌+◌, ◌%◌, ◌^◌, ◌<◌, List, [], ◌∷◌, ◌++◌, refl, sym, ◌∙◌, ap, subst, arith, length, take, drop, get_or, add-one, replicate}
+use Rattle.std.specs.List.{AllZip, flat_map, refill, sum_by}
+use Rattle.std.proofs.Math.Seq.{take-append_seam}
 use Rattle.std.proofs.lemmas.Grind.{flat_map-append}
 use Rattle.std.proofs.lemmas.List.{length-append}
 use Rattle.std.proofs.lemmas.List.Sums.{sum_by-append, sum_by-cons}
@@ -33,6 +33,17 @@ all-zip-length P [] [] are = refl
 all-zip-length P [] (b ∷ bs) are = absurd are
 all-zip-length P (a ∷ xs) [] are = absurd are
 all-zip-length P (a ∷ xs) (b ∷ bs) are = ap suc (all-zip-length P xs bs are.1)
+
+pub all-zip-of : {A B : Type 0} (P : A → B → Type 0) (xs : List A) (ys : List B) (d : A) (e : B) → length xs ≡ length ys
+    → ((j : ℕ) → j < length xs → P (get_or xs j d) (get_or ys j e)) → AllZip P xs ys
+all-zip-of P [] [] d e same each = tt
+all-zip-of P [] (b ∷ bs) d e same each = absurd (omega (arith, same))
+all-zip-of P (a ∷ xs) [] d e same each = absurd (omega (arith, same))
+all-zip-of P (a ∷ xs) (b ∷ bs) d e same each = (each 0 (omega arith), all-zip-of P xs bs d e (omega (arith, same)) (λ j below. each (suc j) (omega (arith, below))))
+
+-- a list that is written whole comes back as it was written
+pub refill-all : {X : Type 0} (n : ℕ) (xs ws : List X) → length ws ≡ n → refill n xs ws ≡ ws
+refill-all n xs ws size = ap (λ (k : ℕ). take k (ws ++ drop (length ws) xs)) (sym size) ∙ take-append_seam ws (drop (length ws) xs)
 
 -- ---- one more slice
 
@@ -82,18 +93,6 @@ one-more-sized seq coding slices m from count before size was is bytes distortio
       small = omega (arith, was.small, is.small, is.distortion, sums, last, columns, here);
       distortion = omega (arith, distortion, was.distortion, is.distortion, sums, last);
     }
-
--- at one more ratio
-pub one-more-ratio : (seq : SeqState) (coding : PicCoding) (slices : List Slice) (from : Slice) (coarser : List ℕ) (before made : List VersionSize) (i d : ℕ) (e : VersionSize)
-    (count : SliceCount) (size : VersionSize) → i < length coarser → AreSized seq coding slices coarser before
-    → AllZip (IsSized seq coding (slices ++ from ∷ [])) (take i coarser) made → IsCountedSlice seq coding (get_or coarser i d) from count
-    → size.bytes ≡ ((get_or before i e).bytes + count.bytes) % 2 ^ 64 → size.distortion ≡ ((get_or before i e).distortion + count.distortion) % 2 ^ 64
-    → AllZip (IsSized seq coding (slices ++ from ∷ [])) (take (i + 1) coarser) (made ++ size ∷ [])
-one-more-ratio seq coding slices from coarser before made i d e count size within was so_far is bytes distortion =
-    let front : take (i + 1) coarser ≡ take i coarser ++ get_or coarser i d ∷ [] = ap (λ (n : ℕ). take n coarser) (add-one i) ∙ take-suc coarser i d within in
-    subst (λ (ms : List ℕ). AllZip (IsSized seq coding (slices ++ from ∷ [])) ms (made ++ size ∷ [])) (sym front)
-    (all-zip-more (IsSized seq coding (slices ++ from ∷ [])) (take i coarser) made (get_or coarser i d) size so_far
-    (one-more-sized seq coding slices (get_or coarser i d) from count (get_or before i e) size (all-zip-at (IsSized seq coding slices) coarser before i d e was within) is bytes distortion))
 
 -- ---- before the first slice
 

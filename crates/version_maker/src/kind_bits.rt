@@ -7,7 +7,7 @@ use macroblock_writer::kind_bits;
 use syntax_types::{Kind, PicCoding};
 
 /// Bits of quantiser_scale_code.
-const CODE_BITS: u32 = 5;
+pub const CODE_BITS: u32 = 5;
 
 /// The bits of macroblock_type, dct_type and quantiser_scale_code of a macroblock in its versions, by whether that code and
 /// coded_block_pattern stand there.

@@ -2,11 +2,12 @@
 //!
 //! A unit's versions are the unit itself without its vbv_delay, and its picture requantised more coarsely by each of some
 //! ratios, in their order. `versions_of` gives them all with their distortions, `version_of` the bytes of one of them, and
-//! `sizes_of` how long each is and its distortion, which `size_picture` says beside the headers. Each refuses a unit as
-//! `read_picture` of `picture_reader` does. `first_version_of` gives the bytes of version 0 of a unit that is known to spell
-//! a picture. Stands on `picture_reader`, `requantiser`, `picture_heads` and `picture_writer`.
+//! `sizes_of` how long each is and its distortion, which `size_picture` says beside the headers, with a `Ladder` that is lent
+//! from picture to picture. Each refuses a unit as `read_picture` of `picture_reader` does. `first_version_of` gives the bytes
+//! of version 0 of a unit that is known to spell a picture. Stands on `picture_reader`, `requantiser`, `picture_heads` and `picture_writer`.
 #![tactic(auto)]
 
+mod fault;
 mod kind_bits;
 pub mod laws;
 mod limits;
@@ -19,8 +20,10 @@ mod version;
 mod version_write;
 mod versions;
 
+pub use fault::want_of_memory;
 pub use limits::UNIT_BYTES_MOST;
 pub use picture_reader::PictureFault;
+pub use requantiser::Ladder;
 pub use sizes::{SizedPicture, size_picture, sizes_of};
 pub use version::{UnitVersion, VersionSize};
 pub use versions::{first_version_of, version_of, versions_of};

@@ -6,8 +6,8 @@ ghost use Rattle.version_maker.specs.SizedPicture.{IsSizedPicture};
 ghost use Rattle.version_maker.specs.Versions.{AreSizes};
 
 use crate::limits::UNIT_BYTES_MOST;
-use crate::slice_read::read_and_count;
-use crate::unit_sizes::{all_sizes, no_sizes, with_slice};
+use crate::slice_read::{SliceRead, read_and_count};
+use crate::unit_sizes::{add_slice, all_sizes, no_sizes};
 use crate::version::VersionSize;
 use arrayvec::ArrayVec;
 use picture_reader::{Headers, PictureFault, UnitCursor, UnitPart};
@@ -24,7 +24,8 @@ pub struct SizedPicture {
     pub sizes: ArrayVec<VersionSize, VERSIONS_MOST>,
 }
 
-/// How long all versions of a unit are, and their distortions, in the order of `versions_of`, which refuses the same units.
+/// How long all versions of a unit are, and their distortions, at ratios in sixteenths and in the order of `versions_of`, which
+/// refuses the same units.
 /// It goes once through the unit, and keeps no macroblock.
 pub fn sizes_of(
     alloc: Global,
@@ -38,19 +39,21 @@ pub fn sizes_of(
     ensures { MatchResult result (λ sizes. AreSizes (option_copied before.entry) unit.now coarser.now sizes.items)
         (IsRefusedAs (option_copied before.entry) unit.now) }
 {
-    match size_picture(alloc, unit, before, coarser) {
+    let mut ladder = Ladder::new();
+    match size_picture(alloc, unit, before, coarser, &mut ladder) {
         Ok(sized) => Ok(sized.sizes),
         Err(fault) => Err(fault),
     }
 }
 
 /// The same with the headers of the picture, for which `check_picture` of `picture_reader` need not be asked too: it answers the same
-/// headers and refuses the same units.
+/// headers and refuses the same units. The ladder is lent from picture to picture, and the answer is the same with any.
 pub fn size_picture(
     alloc: Global,
     unit: &[u8],
     before: Option<&SeqState>,
     coarser: &[u16],
+    ladder: &mut Ladder,
 ) -> Result<SizedPicture, PictureFault>
     requires unit { length unit.now ≤ UNIT_BYTES_MOST }
     requires before { MayPrecede (option_copied before) }
@@ -61,9 +64,9 @@ pub fn size_picture(
         Ok(cursor) => cursor,
         Err(fault) => return Err(fault),
     };
-    let mut ladder = Ladder::new();
     let mut read = Macroblock::empty();
     let mut made = Macroblock::empty();
+    let mut slice = SliceRead::new(&cursor.headers.coding);
     let mut sizes = no_sizes(coarser);
     'slices: loop {
         let part = match cursor.next(unit) {
@@ -79,23 +82,24 @@ pub fn size_picture(
                 });
             }
             UnitPart::Slice { row, at } => {
-                let headers = cursor.headers;
                 let bytes = bytes_from(unit, at);
-                let slice = match read_and_count(
+                match read_and_count(
                     alloc,
                     bytes,
-                    &headers.seq,
-                    &headers.coding,
+                    &cursor.headers.seq,
+                    &cursor.headers.coding,
                     coarser,
-                    &mut ladder,
+                    ladder,
                     &mut read,
                     &mut made,
+                    &mut slice,
                 ) {
-                    Ok(slice) => slice,
+                    Ok(()) => {
+                        cursor = cursor.past(unit, row, at, slice.bits, slice.span);
+                        add_slice(&slice, sizes.as_mut_slice());
+                    }
                     Err(fault) => return Err(cursor.fault_of(unit, row, at, fault)),
-                };
-                cursor = cursor.past(unit, row, at, slice.bits, slice.span);
-                sizes = with_slice(&slice, sizes.as_slice());
+                }
             }
         }
     }

@@ -15,9 +15,8 @@ ghost use Rattle.syntax_types.specs.declared.picture.PicCoding.{PicCoding as Cod
 ghost use Rattle.version_maker.specs.Private.Kinds.{AreKindBits};
 ghost use Rattle.version_maker.specs.Private.Counts.{CanCount, IsCountedMacroblock, IsStartCount};
 
-use crate::kind_bits::KindBits;
+use crate::kind_bits::{CODE_BITS, KindBits};
 use macroblock_writer::{increment_bits, macroblock_bits, motion_and_dc_bits, pattern_bits};
-use quant_math::WHOLE_RATIO;
 use requantiser::{
     Head, Outline, Tally, VERSIONS_AT_ONCE, VersionState, coded_head, is_emptied,
     outline_macroblock,
@@ -41,12 +40,12 @@ pub struct SliceCount {
     pub distortion: u64,
 }
 
-/// Bits of a start code and of quantiser_scale_code behind it.
-const CODE_BITS: u64 = 32 + 5;
+/// Bits of a start code.
+const START_CODE_BITS: u64 = 32;
 
 impl VersionCount {
     /// Nothing of a slice with this code, in the version at `m` sixteenths.
-    fn new(coding: &PicCoding, m: u16, code: u8) -> VersionCount
+    pub fn new(coding: &PicCoding, m: u16, code: u8) -> VersionCount
         requires { IsCode code }
         ensures { IsStartCount coding.now m code result }
     {
@@ -58,21 +57,20 @@ impl VersionCount {
     }
 }
 
-/// Nothing of a slice with this code, in each version.
+/// Starts the counts of a slice with this code, in the version at each ratio.
 pub fn start_counts(
     coding: &PicCoding,
     ratios: &[u16],
     code: u8,
-) -> [VersionCount; VERSIONS_AT_ONCE]
+    counts: &mut [VersionCount; VERSIONS_AT_ONCE],
+)
     requires code { IsCode code }
     requires ratios { length ratios.now ≤ VERSIONS_AT_ONCE }
-    ensures { (k : ℕ) (d : CountOf) → k < length ratios.now → IsStartCount coding.now (slice_index ratios.now k) code (slice_index_or result k d) }
+    ensures { (k : ℕ) (d : CountOf) → k < length ratios.now → IsStartCount coding.now (slice_index ratios.now k) code (slice_index_or counts.new k d) }
 {
-    let mut counts = [VersionCount::new(coding, WHOLE_RATIO as u16, code); VERSIONS_AT_ONCE];
     for k in 0..ratios.len() {
         counts[k] = VersionCount::new(coding, ratios[k], code);
     }
-    counts
 }
 
 /// The slice of a version whose macroblocks were counted, with so many bits in its header behind the code.
@@ -82,7 +80,7 @@ pub fn slice_size(info_bits: u64, count: VersionCount) -> SliceCount
     ensures bytes { result.bytes ≡ (37 + info_bits + count.bits + 7) / 8 }
     ensures distortion { result.distortion ≡ count.distortion }
 {
-    let bits = CODE_BITS + info_bits + count.bits;
+    let bits = START_CODE_BITS + u64::from(CODE_BITS) + info_bits + count.bits;
     SliceCount {
         bytes: whole_bytes(bits),
         distortion: count.distortion,

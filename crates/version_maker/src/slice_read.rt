@@ -19,6 +19,7 @@ use crate::slice_count::{VersionCount, count_macroblock, info_bits, is_inner, st
 use bit_cursor::BitReader;
 use macroblock_reader::{SliceCursor, SliceFault, read_slice_head};
 use picture_reader::{Span, columns};
+use quant_math::WHOLE_RATIO;
 use requantiser::{Ladder, Tally, VERSIONS_AT_ONCE, tally_macroblock};
 use shelf_io::{Fault, SliceSource, Source};
 use std::alloc::Global;
@@ -37,8 +38,20 @@ pub struct SliceRead {
     pub counts: [VersionCount; VERSIONS_AT_ONCE],
 }
 
-/// Reads the slice at the front of these bytes, behind its start code, and counts it in the version at each ratio. Each of
-/// its macroblocks is read into one that is lent, and outlined in another one.
+impl SliceRead {
+    /// Nothing.
+    pub fn new(coding: &PicCoding) -> SliceRead {
+        SliceRead {
+            bits: 0,
+            span: Span::new(),
+            info_bits: 0,
+            counts: [VersionCount::new(coding, WHOLE_RATIO as u16, 1); VERSIONS_AT_ONCE],
+        }
+    }
+}
+
+/// Reads the slice at the front of these bytes, behind its start code, and counts it in the version at each ratio into one
+/// that is lent. Each of its macroblocks is read into one that is lent, and outlined in another one.
 pub fn read_and_count(
     alloc: Global,
     bytes: &[u8],
@@ -48,19 +61,20 @@ pub fn read_and_count(
     ladder: &mut Ladder,
     read: &mut Macroblock,
     made: &mut Macroblock,
-) -> Result<SliceRead, SliceFault>
+    slice: &mut SliceRead,
+) -> Result<(), SliceFault>
     requires coding { IsCoding coding.now }
     requires weights { HasWeights seq.now }
     requires length { length bytes.now ≤ 2 ^ 20 }
     requires ratios { length ratios.now ≤ VERSIONS_AT_ONCE }
-    ensures gives { (row : ℕ) → MatchResult result (λ found. IsSliceRead seq.now coding.now ratios.now row found (bit_list bytes.now))
+    ensures gives { (row : ℕ) → MatchResult result (λ _. IsSliceRead seq.now coding.now ratios.now row slice.new (bit_list bytes.now))
         (λ fault. RefusesTold (slice_of seq.now coding.now row) (refusal_told fault) (length (bit_list bytes.now)) (bit_list bytes.now)) }
     ensures inside { IfErr result IsInside }
 {
     let mut source = SliceSource::new(bytes);
     let mut reader = BitReader::new(&mut source);
     let head = read_slice_head(&mut reader, alloc)?;
-    let mut counts = start_counts(coding, ratios, head.code);
+    start_counts(coding, ratios, head.code, &mut slice.counts);
     let span = count_macroblocks(
         &mut reader,
         seq,
@@ -70,16 +84,12 @@ pub fn read_and_count(
         ladder,
         read,
         made,
-        &mut counts,
+        &mut slice.counts,
     )?;
-    let bits = reader.place();
-    let info = info_bits(&head.info);
-    Ok(SliceRead {
-        bits,
-        span,
-        info_bits: info,
-        counts,
-    })
+    slice.bits = reader.place();
+    slice.span = span;
+    slice.info_bits = info_bits(&head.info);
+    Ok(())
 }
 
 /// Counts the macroblocks of a slice with this code in the version at each ratio, up to the close of the slice. It answers

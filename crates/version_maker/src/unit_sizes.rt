@@ -27,20 +27,19 @@ pub fn no_sizes(coarser: &[u16]) -> ArrayVec<VersionSize, VERSIONS_MOST>
     sizes
 }
 
-/// The sizes behind one more slice, which was counted in each version.
-pub fn with_slice(read: &SliceRead, before: &[VersionSize]) -> ArrayVec<VersionSize, VERSIONS_MOST>
+/// Adds one more slice, which was counted in each version, to the sizes.
+pub fn add_slice(read: &SliceRead, sizes: &mut [VersionSize])
     requires counted { (seq : SeqValue) × (coding : CodingValue) × (ratios : List ℕ) × (found : SliceValue) ×
-        IsSliceCounted seq coding ratios found read.now × (length ratios ≡ length before.now) }
-    requires few { length before.now < VERSIONS_MOST }
-    ensures { (seq : SeqValue) (coding : CodingValue) (ratios : List ℕ) (found : SliceValue) (slices : List SliceValue) → IsSliceCounted seq coding ratios found read.now →
-        AreSized seq coding slices ratios before.now → AreSized seq coding (slices ++ found ∷ []) ratios result.items }
+        IsSliceCounted seq coding ratios found read.now × (length ratios ≡ length sizes.old) }
+    requires few { length sizes.old < VERSIONS_MOST }
+    ensures sized { (seq : SeqValue) (coding : CodingValue) (ratios : List ℕ) (found : SliceValue) (slices : List SliceValue) → IsSliceCounted seq coding ratios found read.now →
+        AreSized seq coding slices ratios sizes.old → AreSized seq coding (slices ++ found ∷ []) ratios sizes.new }
+    ensures as_many { length sizes.new ≡ length sizes.old }
 {
-    let mut sizes = ArrayVec::new();
-    for i in 0..before.len() {
+    for i in 0..sizes.len() {
         let count = slice_size(read.info_bits, read.counts[i]);
-        sizes.push(sum(before[i], count));
+        sizes[i] = sum(sizes[i], count);
     }
-    sizes
 }
 
 /// A size and one more slice. The sums go round, which those of a picture that is taken never do.

@@ -5,8 +5,8 @@ use list_types::ListOf;
 pub struct UnitVersion {
     /// Its bytes, a unit again.
     pub bytes: ListOf<u8>,
-    /// The sum of the squares of the differences of all coefficients to the source's, but the DC coefficients of intra
-    /// blocks.
+    /// The sum of the squares of the differences of all coefficients to the source's, as inverse quantisation gives them
+    /// (ISO/IEC 13818-2, 7.4), but the DC coefficients of intra blocks.
     pub distortion: u64,
 }
 
@@ -15,6 +15,6 @@ pub struct UnitVersion {
 pub struct VersionSize {
     /// Its bytes.
     pub bytes: u64,
-    /// The distortion of the version.
+    /// The sum of squares that `UnitVersion` says.
     pub distortion: u64,
 }

@@ -70,13 +70,12 @@ fn make_version<K: Sink>(
                 return Ok(());
             }
             UnitPart::Slice { row, at } => {
-                let headers = cursor.headers;
                 let bytes = bytes_from(unit, at);
                 let made = match make_slice(
                     alloc,
                     bytes,
-                    &headers.seq,
-                    &headers.coding,
+                    &cursor.headers.seq,
+                    &cursor.headers.coding,
                     row,
                     m,
                     &mut lent,

@@ -8,6 +8,7 @@ ghost use Rattle.picture_reader.specs.Picture.{IsPictureOf, IsRefusedAs};
 ghost use Rattle.version_maker.specs.Versions.{AreVersions, AreVersionsOf, IsCoarserVersion, IsVersionAt};
 ghost use Rattle.version_maker.specs.Private.Bytes.{AreSourceBytes, AreSourceBytesOf};
 
+use crate::fault::want_of_memory;
 use crate::limits::UNIT_BYTES_MOST;
 use crate::version::UnitVersion;
 use crate::version_write::coarser_bytes;
@@ -69,16 +70,15 @@ pub fn first_version_of(
     alloc: Global,
     unit: &[u8],
     before: Option<&SeqState>,
-) -> Result<ListOf<u8>, PictureFault>
+) -> Result<ListOf<u8>, OutOfMemory>
     requires unit { length unit.now ≤ UNIT_BYTES_MOST }
     requires before { MayPrecede (option_copied before) }
     requires picture { (picture : Picture) × IsPictureOf (option_copied before) unit.now picture }
-    ensures { MatchResult result (λ bytes. (coarser : List ℕ) → IsVersionAt (option_copied before.entry) unit.now coarser 0 bytes)
-        (λ fault. fault ≡ PictureFault.OutOfMemory) }
+    ensures { IfOk result (λ bytes. (coarser : List ℕ) → IsVersionAt (option_copied before.entry) unit.now coarser 0 bytes) }
 {
     let cursor = match UnitCursor::new(unit, before) {
         Ok(cursor) => cursor,
-        Err(fault) => return Err(fault),
+        Err(fault) => return Err(want_of_memory(fault)),
     };
     let version = source_bytes(alloc, unit, cursor.headers.slices_at as usize)?;
     Ok(version)

@@ -15,4 +15,4 @@ mod state;
 
 pub use packet::unit_bytes;
 pub use source::VersionSource;
-pub use state::{state_behind, want_of_memory};
+pub use state::state_behind;

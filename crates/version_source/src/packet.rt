@@ -10,7 +10,6 @@ ghost use Rattle.version_source.specs.Pieces.{audio_payload, packets_for, piece_
 ghost use Rattle.version_source.specs.Sendable.{IsPieceOf, IsUnitOf, Leaves, bytes_of};
 ghost use Rattle.version_source.specs.Private.Sending.{IsPacketOf};
 
-use crate::state::want_of_memory;
 use list_types::{ListOf, OutOfMemory};
 use mux_writer::Filled;
 use pes_units::{MOST_HEADER_BYTES, Times, write_video_header};
@@ -18,7 +17,7 @@ use program_reader::{AudioPiece, UnitSource};
 use std::alloc::Global;
 use stream_constants::packets::PAYLOAD_BYTES;
 use syntax_types::SeqState;
-use version_maker::{UNIT_BYTES_MOST, first_version_of, version_of};
+use version_maker::{UNIT_BYTES_MOST, first_version_of, version_of, want_of_memory};
 
 /// The PES packet of a unit of a video in the version of this number, behind the state before it. The error is want of memory.
 pub fn unit_packet(
@@ -57,10 +56,7 @@ fn unit_version(
     ensures { IfOk result (IsVersionAt (option_copied before.entry) unit.now coarser.now index) }
 {
     if index == 0 {
-        return match first_version_of(alloc, unit, before) {
-            Ok(version) => Ok(version),
-            Err(fault) => Err(want_of_memory(fault)),
-        };
+        return first_version_of(alloc, unit, before);
     }
     match version_of(alloc, unit, before, coarser, index) {
         Ok(version) => Ok(version),

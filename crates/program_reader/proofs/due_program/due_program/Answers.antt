@@ -12,7 +12,8 @@ pub due_units-requires-clause-earliest : goal.due_units-requires-clause-earliest
 due_units-requires-clause-earliest c =
     let clock : IsClockOf (with_video c.args.beside c.requires.video.0) c.args.video c.args.streams.now c.clock-clock.result.earliest =
     subst (IsClockOf (with_video c.args.beside c.requires.video.0) c.args.video c.args.streams.now) (sym c.clock-clock.ensures.earliest)
-    (clock_of (with_video c.args.beside c.requires.video.0) c.args.video c.args.streams.now c.as_slice.result.now c.first_ticks-first.result.ticks c.of_units.result.ticks c.of_streams-earliest.result.ticks
+    (clock_of (with_video c.args.beside c.requires.video.0) c.args.video c.args.streams.now c.as_slice.result.now
+    c.first_ticks-first.result.ticks c.of_units.result.ticks c.of_streams-earliest.result.ticks
     c.as_slice.ensures.value c.first_ticks-first.ensures c.requires.video.1 c.requires.streams c.of_units.ensures c.of_streams-earliest.ensures) in
     clock.is_time
 
@@ -20,7 +21,8 @@ pub audio_sources-requires-clause-earliest : goal.audio_sources-requires-clause-
 audio_sources-requires-clause-earliest c =
     let clock : IsClockOf (with_video c.args.beside c.requires.video.0) c.args.video c.args.streams.now c.clock-clock.result.earliest =
     subst (IsClockOf (with_video c.args.beside c.requires.video.0) c.args.video c.args.streams.now) (sym c.clock-clock.ensures.earliest)
-    (clock_of (with_video c.args.beside c.requires.video.0) c.args.video c.args.streams.now c.as_slice.result.now c.first_ticks-first.result.ticks c.of_units.result.ticks c.of_streams-earliest.result.ticks
+    (clock_of (with_video c.args.beside c.requires.video.0) c.args.video c.args.streams.now c.as_slice.result.now
+    c.first_ticks-first.result.ticks c.of_units.result.ticks c.of_streams-earliest.result.ticks
     c.as_slice.ensures.value c.first_ticks-first.ensures c.requires.video.1 c.requires.streams c.of_units.ensures c.of_streams-earliest.ensures) in
     clock.is_time
 
@@ -28,7 +30,8 @@ pub base-requires-clause-earliest : goal.base-requires-clause-earliest
 base-requires-clause-earliest c =
     let clock : IsClockOf (with_video c.args.beside c.requires.video.0) c.args.video c.args.streams.now c.clock-clock.result.earliest =
     subst (IsClockOf (with_video c.args.beside c.requires.video.0) c.args.video c.args.streams.now) (sym c.clock-clock.ensures.earliest)
-    (clock_of (with_video c.args.beside c.requires.video.0) c.args.video c.args.streams.now c.as_slice.result.now c.first_ticks-first.result.ticks c.of_units.result.ticks c.of_streams-earliest.result.ticks
+    (clock_of (with_video c.args.beside c.requires.video.0) c.args.video c.args.streams.now c.as_slice.result.now
+    c.first_ticks-first.result.ticks c.of_units.result.ticks c.of_streams-earliest.result.ticks
     c.as_slice.ensures.value c.first_ticks-first.ensures c.requires.video.1 c.requires.streams c.of_units.ensures c.of_streams-earliest.ensures) in
     clock.is_time
 
@@ -36,7 +39,8 @@ pub due_units-requires-clause-times : goal.due_units-requires-clause-times
 due_units-requires-clause-times c =
     let clock : IsClockOf (with_video c.args.beside c.requires.video.0) c.args.video c.args.streams.now c.clock-clock.result.earliest =
     subst (IsClockOf (with_video c.args.beside c.requires.video.0) c.args.video c.args.streams.now) (sym c.clock-clock.ensures.earliest)
-    (clock_of (with_video c.args.beside c.requires.video.0) c.args.video c.args.streams.now c.as_slice.result.now c.first_ticks-first.result.ticks c.of_units.result.ticks c.of_streams-earliest.result.ticks
+    (clock_of (with_video c.args.beside c.requires.video.0) c.args.video c.args.streams.now c.as_slice.result.now
+    c.first_ticks-first.result.ticks c.of_units.result.ticks c.of_streams-earliest.result.ticks
     c.as_slice.ensures.value c.first_ticks-first.ensures c.requires.video.1 c.requires.streams c.of_units.ensures c.of_streams-earliest.ensures) in
     subst (λ (us : List KeptUnit). All (λ unit. IsTimeFrom c.clock-clock.result.earliest unit.ticks) us) (sym c.as_slice-2.ensures.value) clock.units_from
 
@@ -44,7 +48,8 @@ pub audio_sources-requires-clause-read : goal.audio_sources-requires-clause-read
 audio_sources-requires-clause-read c =
     let clock : IsClockOf (with_video c.args.beside c.requires.video.0) c.args.video c.args.streams.now c.clock-clock.result.earliest =
     subst (IsClockOf (with_video c.args.beside c.requires.video.0) c.args.video c.args.streams.now) (sym c.clock-clock.ensures.earliest)
-    (clock_of (with_video c.args.beside c.requires.video.0) c.args.video c.args.streams.now c.as_slice.result.now c.first_ticks-first.result.ticks c.of_units.result.ticks c.of_streams-earliest.result.ticks
+    (clock_of (with_video c.args.beside c.requires.video.0) c.args.video c.args.streams.now c.as_slice.result.now
+    c.first_ticks-first.result.ticks c.of_units.result.ticks c.of_streams-earliest.result.ticks
     c.as_slice.ensures.value c.first_ticks-first.ensures c.requires.video.1 c.requires.streams c.of_units.ensures c.of_streams-earliest.ensures) in
     subst (λ (ss : List AudioStream). AreStreamsFrom c.clock-clock.result.earliest ss c.args.streams.now) (sym c.as_slice-3.ensures) clock.streams_from
 
@@ -66,8 +71,8 @@ returns-clause-program c = λ packets read.
     subst (IsClockOf (with_video c.args.beside packets) c.args.video c.args.streams.now) (sym c.clock-clock.ensures.earliest)
     (clock_of (with_video c.args.beside packets) c.args.video c.args.streams.now c.as_slice.result.now c.first_ticks-first.result.ticks c.of_units.result.ticks c.of_streams-earliest.result.ticks
     c.as_slice.ensures.value c.first_ticks-first.ensures read c.requires.streams c.of_units.ensures c.of_streams-earliest.ensures) in
-    program_is c.args.start (with_video c.args.beside packets) c.args.video c.args.streams.now c.clock-clock.result c.as_slice-2.result.now c.as_slice-3.result.now c.base.result c.into_bytes.result c.in_ok-units.units
-    c.in_ok-audios.audios c.audio_packets_dropped.result read c.requires.streams clock c.clock-clock.ensures.start c.requires.few c.base.ensures c.into_bytes.ensures
+    program_is c.args.start (with_video c.args.beside packets) c.args.video c.args.streams.now c.clock-clock.result c.as_slice-2.result.now c.as_slice-3.result.now
+    c.base.result c.into_bytes.result c.in_ok-units.units c.in_ok-audios.audios c.audio_packets_dropped.result read c.requires.streams clock c.clock-clock.ensures.start c.requires.few c.base.ensures c.into_bytes.ensures
     c.as_slice-2.ensures.value c.in_ok-units.ensures c.as_slice-3.ensures c.in_ok-audios.ensures c.audio_packets_dropped.ensures.sum
 
 pub returns-clause-places : goal.returns-clause-places

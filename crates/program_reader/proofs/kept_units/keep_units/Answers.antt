@@ -123,7 +123,8 @@ loop-at-preserved c =
     let given : TimedUnit = record { begin = unit.0; end = unit.1; times = c.unit_times-found.result.times; is_last = c.loop-at.at + 1 == length c.args.cuts.now } in
     let asked = c.args.wanted.now in
     let next = next_same c.as_slice-es.result.now es packets (option_copied c.as_ref.result) c.loop-at.kept.last unit c.in-Ok-Some.picture c.as_slice-es.ensures.value c.as_ref.ensures.value
-    (found_some c.as_slice-es.result.now packets (option_copied c.as_ref.result) given c.in-Ok-Some.field-0 c.in-Ok-Some.picture c.in-Ok-Some.field-0-is (c.in-Ok-Some.ensures.found packets found.0)) in
+    (found_some c.as_slice-es.result.now packets (option_copied c.as_ref.result) given c.in-Ok-Some.field-0 c.in-Ok-Some.picture c.in-Ok-Some.field-0-is
+    (c.in-Ok-Some.ensures.found packets found.0)) in
     let own = sized_found (state_behind (option_copied c.as_ref.result)) (unit_bytes c.as_slice-es.result.now unit) asked.coarser.now asked.are_wanted c.loop-at.sizes.items
     c.unit_picture.new.sizes.items c.in-Ok-Some.field-0 c.in-Ok-Some.picture c.in-Ok-Some.field-0-is c.in-Ok-Some.ensures.sizes in
     record {
@@ -136,7 +137,9 @@ loop-at-preserved c =
     }
 
 pub returns-clause-kept : goal.returns-clause-kept
-returns-clause-kept c = kept_all c.args.video.now.payload.items c.args.video.now.packets.items c.args.cuts.now c.loop-at.at c.loop-at.left.now c.loop-at.kept c.loop-at-test.false c.loop-at.invariant.so_far
+returns-clause-kept c =
+    kept_all c.args.video.now.payload.items c.args.video.now.packets.items c.args.cuts.now c.loop-at.at c.loop-at.left.now c.loop-at.kept c.loop-at-test.false
+    c.loop-at.invariant.so_far
 
 pub returns-in-Ok-None-clause-sizes : goal.returns-in-Ok-None-clause-sizes
 returns-in-Ok-None-clause-sizes c = λ want.

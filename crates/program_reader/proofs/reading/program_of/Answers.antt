@@ -5,8 +5,9 @@ use Rattle.program_reader.proofs.SizedLemmas.{program_sizes}
 use Rattle.program_reader.proofs.reading.program_of.Goals as goal
 
 pub returns-in-Err-read_streams-clause-program : goal.returns-in-Err-read_streams-clause-program
-returns-in-Err-read_streams-clause-program c = bad_streams c.args.demuxed c.in-Ok.video c.as_slice.result.now c.first_time.result.time c.in-Err-read_streams.fault (c.in-Ok.ensures.video c.args.demuxed refl) c.as_slice.ensures
-    c.first_time.ensures c.in-Err-read_streams.ensures
+returns-in-Err-read_streams-clause-program c =
+    bad_streams c.args.demuxed c.in-Ok.video c.as_slice.result.now c.first_time.result.time c.in-Err-read_streams.fault (c.in-Ok.ensures.video c.args.demuxed refl)
+    c.as_slice.ensures c.first_time.ensures c.in-Err-read_streams.ensures
 
 pub returns-then-as_slice-gt-UNITS_MOST-clause-program : goal.returns-then-as_slice-gt-UNITS_MOST-clause-program
 returns-then-as_slice-gt-UNITS_MOST-clause-program c =

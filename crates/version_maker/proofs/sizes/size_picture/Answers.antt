@@ -1,8 +1,10 @@
 use Rattle.std.proofs.Common.{◌++◌, ◌∷◌, ◌+◌, ◌<◌, ℕ, List, [], length, take, refl, sym, ap, ap₂, subst, ◌∙◌, arith}
 use Rattle.std.specs.Prelude.{map}
+use Rattle.std.specs.List.{refill}
 use Rattle.std.specs.Option.{option_copied}
 use Rattle.std.proofs.lemmas.List.{length-append, length-take-le}
 use Rattle.bit_lists.specs.Fields.{AreBytes, bit_list}
+use Rattle.syntax_types.specs.declared.slice.Slice.{Slice}
 use Rattle.video_headers.specs.declared.head.Headers.{Headers}
 use Rattle.picture_reader.specs.declared.cursor.UnitPart.{UnitPart}
 use Rattle.picture_reader.specs.UnitCursor.{IsNextPart, bits_from, picture_of}
@@ -14,7 +16,7 @@ use Rattle.version_maker.specs.Versions.{AreSizes}
 use Rattle.version_maker.specs.Private.Read.{IsSliceRead}
 use Rattle.version_maker.specs.Private.Sized.{AreSized, IsSized, first_size, with_bytes}
 use Rattle.version_maker.proofs.SizedPictures.{sized-headers}
-use Rattle.version_maker.proofs.SizedSlices.{all-zip-length}
+use Rattle.version_maker.proofs.SizedSlices.{all-zip-length, refill-all}
 use Rattle.version_maker.proofs.UnitSizes.{unit-sizes}
 use Rattle.version_maker.proofs.sizes.size_picture.Goals as goal
 
@@ -34,7 +36,7 @@ past-cursor-requires-clause-bits c =
     let unit = c.args.unit.now in
     let headers = c.slices.cursor.headers in
     let coarser = c.args.coarser.now in
-    let read = c.in-Ok-read_and_count.slice in
+    let read = c.read_and_count.new.slice in
     let w : IsSliceRead headers.seq headers.coding coarser c.in-Slice.row read (bits_from unit c.in-Slice.at) =
     subst (λ (b : List ℕ). IsSliceRead headers.seq headers.coding coarser c.in-Slice.row read (bit_list b)) c.bytes_from-bytes.ensures (c.in-Ok-read_and_count.ensures.gives c.in-Slice.row) in
     w.within
@@ -44,7 +46,7 @@ past-cursor-requires-clause-some c =
     let unit = c.args.unit.now in
     let headers = c.slices.cursor.headers in
     let coarser = c.args.coarser.now in
-    let read = c.in-Ok-read_and_count.slice in
+    let read = c.read_and_count.new.slice in
     let w : IsSliceRead headers.seq headers.coding coarser c.in-Slice.row read (bits_from unit c.in-Slice.at) =
     subst (λ (b : List ℕ). IsSliceRead headers.seq headers.coding coarser c.in-Slice.row read (bit_list b)) c.bytes_from-bytes.ensures (c.in-Ok-read_and_count.ensures.gives c.in-Slice.row) in
     w.counted.spans.some
@@ -54,17 +56,17 @@ past-cursor-requires-clause-few c =
     let unit = c.args.unit.now in
     let headers = c.slices.cursor.headers in
     let coarser = c.args.coarser.now in
-    let read = c.in-Ok-read_and_count.slice in
+    let read = c.read_and_count.new.slice in
     let w : IsSliceRead headers.seq headers.coding coarser c.in-Slice.row read (bits_from unit c.in-Slice.at) =
     subst (λ (b : List ℕ). IsSliceRead headers.seq headers.coding coarser c.in-Slice.row read (bit_list b)) c.bytes_from-bytes.ensures (c.in-Ok-read_and_count.ensures.gives c.in-Slice.row) in
     w.counted.few
 
-pub with_slice-sizes-requires-clause-counted : goal.with_slice-sizes-requires-clause-counted
-with_slice-sizes-requires-clause-counted c =
+pub add_slice-requires-clause-counted : goal.add_slice-requires-clause-counted
+add_slice-requires-clause-counted c =
     let unit = c.args.unit.now in
     let headers = c.slices.cursor.headers in
     let coarser = c.args.coarser.now in
-    let read = c.in-Ok-read_and_count.slice in
+    let read = c.read_and_count.new.slice in
     let w : IsSliceRead headers.seq headers.coding coarser c.in-Slice.row read (bits_from unit c.in-Slice.at) =
     subst (λ (b : List ℕ). IsSliceRead headers.seq headers.coding coarser c.in-Slice.row read (bit_list b)) c.bytes_from-bytes.ensures (c.in-Ok-read_and_count.ensures.gives c.in-Slice.row) in (
       headers.seq,
@@ -73,16 +75,16 @@ with_slice-sizes-requires-clause-counted c =
       w.found,
       w.counted,
       all-zip-length (IsSized headers.seq headers.coding c.slices.invariant.slices) coarser c.slices.sizes.items c.slices.invariant.sized
-          ∙ ap (λ (xs : List VersionSize). length xs) (sym c.as_slice-in-Slice.ensures.value),
+          ∙ ap (λ (xs : List VersionSize). length xs) (sym c.as_mut_slice.ensures.value),
     )
 
-pub with_slice-sizes-requires-clause-few : goal.with_slice-sizes-requires-clause-few
-with_slice-sizes-requires-clause-few c =
+pub add_slice-requires-clause-few : goal.add_slice-requires-clause-few
+add_slice-requires-clause-few c =
     let headers = c.slices.cursor.headers in
     let inv = c.slices.invariant in
     omega (
       arith,
-      ap (λ (xs : List VersionSize). length xs) c.as_slice-in-Slice.ensures.value,
+      ap (λ (xs : List VersionSize). length xs) c.as_mut_slice.ensures.value,
       all-zip-length (IsSized headers.seq headers.coding inv.slices) c.args.coarser.now c.slices.sizes.items inv.sized,
       c.requires.coarser,
     )
@@ -96,18 +98,22 @@ slices-preserved c =
     let cursor = c.slices.cursor in
     let seq = cursor.headers.seq in
     let coding = cursor.headers.coding in
-    let read = c.in-Ok-read_and_count.slice in
+    let read = c.read_and_count.new.slice in
     let w : IsSliceRead seq coding coarser c.in-Slice.row read (bits_from unit c.in-Slice.at) =
     subst (λ (b : List ℕ). IsSliceRead seq coding coarser c.in-Slice.row read (bit_list b)) c.bytes_from-bytes.ensures (c.in-Ok-read_and_count.ensures.gives c.in-Slice.row) in
     let begins = subst (λ (p : UnitPart). IsNextPart before unit inv.slices cursor p) c.in-Slice.is (c.in-Ok-next.ensures before inv.slices inv.stands) in
+    let sizes = c.slices.sizes.items in
+    let more : List Slice = inv.slices ++ w.found ∷ [] in
     record {
-      slices = inv.slices ++ w.found ∷ [];
+      slices = more;
       stands = c.past-cursor.ensures.stands before inv.slices w.found inv.stands begins
           (record { spelled = w.spelled; within = w.within; in_row = w.in_row; spans = w.counted.spans });
       few = omega (arith, inv.few, begins.onward, c.past-cursor.ensures.onward, length-append inv.slices (w.found ∷ []));
-      sized = subst (λ (h : Headers). AreSized h.seq h.coding (inv.slices ++ w.found ∷ []) coarser c.with_slice-sizes.result.items) (sym c.past-cursor.ensures.headers)
-          (c.with_slice-sizes.ensures seq coding coarser w.found inv.slices w.counted
-          (subst (AreSized seq coding inv.slices coarser) (sym c.as_slice-in-Slice.ensures.value) inv.sized));
+      sized = subst (λ (h : Headers). AreSized h.seq h.coding more coarser (refill (length sizes) sizes c.add_slice.new.sizes)) (sym c.past-cursor.ensures.headers)
+          (subst (AreSized seq coding more coarser)
+          (sym (refill-all (length sizes) sizes c.add_slice.new.sizes (c.add_slice.ensures.as_many ∙ ap (λ (xs : List VersionSize). length xs) c.as_mut_slice.ensures.value)))
+          (c.add_slice.ensures.sized seq coding coarser w.found inv.slices w.counted
+          (subst (AreSized seq coding inv.slices coarser) (sym c.as_mut_slice.ensures.value) inv.sized)));
     }
 
 pub all_sizes-requires : goal.all_sizes-requires

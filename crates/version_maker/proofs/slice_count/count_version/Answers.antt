@@ -19,7 +19,13 @@ returns c =
       is = record { at = outlined.at; state = outlined.state; difference = outlined.difference };
       counted = record {
         state = refl;
-        bits = omega (arith, c.from.ensures, c.head_in_version.ensures.value coding from.kind c.requires.kinds, outline-counted coding from head c.args.shared c.requires.spelled c.requires.shared, outlined.bits);
+        bits = omega (
+          arith,
+          c.from.ensures,
+          c.head_in_version.ensures.value coding from.kind c.requires.kinds,
+          outline-counted coding from head c.args.shared c.requires.spelled c.requires.shared,
+          outlined.bits,
+        );
         few = omega (arith, c.from.ensures, c.head_in_version.ensures.few, c.requires.few, c.requires.can.tallied.few);
         distortion = refl;
         small = omega (arith, c.requires.can.tallied.small);

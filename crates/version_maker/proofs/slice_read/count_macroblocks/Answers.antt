@@ -58,7 +58,8 @@ returns-in_err-is_more-clause-gives g c = λ bits told_bits.
 pub returns-in_err-closed-clause-gives : goal.returns-in_err-closed-clause-gives
 returns-in_err-closed-clause-gives g c = λ bits told_bits.
     let p = err_from_is_err_and c.from_residual-in_err-closed.result c.from_residual-in_err-closed.ensures.1 in
-    rw (p.1, p.2) (none-told (many (next_macroblock c.args.seq.now c.args.coding.now)) (refusal_told c.in_err-closed.field-0.0) (place c.args.from.now + length bits) bits c.in_err-closed.ensures.outside)
+    rw (p.1, p.2)
+    (none-told (many (next_macroblock c.args.seq.now c.args.coding.now)) (refusal_told c.in_err-closed.field-0.0) (place c.args.from.now + length bits) bits c.in_err-closed.ensures.outside)
 
 pub returns-then-not-is_more-clause-gives : goal.returns-then-not-is_more-clause-gives
 returns-then-not-is_more-clause-gives g c = λ bits told_bits.
@@ -83,7 +84,9 @@ returns-then-not-is_more-clause-gives g c = λ bits told_bits.
       ends = behind.ends;
       spans = span-whole seq coding ms c.macroblocks.span inv.middle rest inv.spans closed;
       few = omega (arith, inv.columns_left, c.columns-columns.ensures.value, c.columns-columns.ensures.few);
-      each = λ k d below. subst (λ (b : Bool). let start : VersionCount = get_or c.args.counts.now k d in AreCounted seq coding start.state ms b (get_or c.macroblocks.counts k d)) all_read (inv.each k d below);
+      each = λ k d below.
+          let start : VersionCount = get_or c.args.counts.now k d in
+          subst (λ (b : Bool). AreCounted seq coding start.state ms b (get_or c.macroblocks.counts k d)) all_read (inv.each k d below);
     }
 
 pub count_next-in_force-requires-clause-spelled : goal.count_next-in_force-requires-clause-spelled

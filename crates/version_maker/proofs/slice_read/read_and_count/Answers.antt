@@ -35,8 +35,8 @@ returns-in_err-head-clause-inside c =
     let p = err_from_is_err_and c.from_residual.result c.from_residual.ensures.1 in
     rw (p.1, p.2) (inside-when c.in_err-head.field-0.0 (λ e. none-rose (c.in_err-head.ensures.failed (ap Err e))) (λ e. none-rose (c.in_err-head.ensures.missing (ap Err e))))
 
-pub start_counts-counts-requires-clause-code : goal.start_counts-counts-requires-clause-code
-start_counts-counts-requires-clause-code c =
+pub start_counts-requires-clause-code : goal.start_counts-requires-clause-code
+start_counts-requires-clause-code c =
     let bits = bit_list c.args.bytes.now in
     let has : HasLeft c.new-reader.result (length bits) bits = record
     { told = c.new-reader.ensures.left ∙ ap (λ b. Some (bit_list b)) c.new-source.ensures; ends = omega (arith, c.new-reader.ensures.place) } in
@@ -77,8 +77,8 @@ returns-in_err-span-clause-inside c =
     let p = err_from_is_err_and c.from_residual-in_err-span.result c.from_residual-in_err-span.ensures.1 in
     rw (p.1, p.2) (inside-when c.in_err-span.field-0.0 (λ e. none-rose (c.in_err-span.ensures.failed (ap Err e))) (λ e. none-rose (c.in_err-span.ensures.missing (ap Err e))))
 
-pub info_bits-info-requires : goal.info_bits-info-requires
-info_bits-info-requires c =
+pub info_bits-slice-requires : goal.info_bits-slice-requires
+info_bits-slice-requires c =
     let bits = bit_list c.args.bytes.now in
     let has : HasLeft c.new-reader.result (length bits) bits = record
     { told = c.new-reader.ensures.left ∙ ap (λ b. Some (bit_list b)) c.new-source.ensures; ends = omega (arith, c.new-reader.ensures.place) } in
@@ -97,21 +97,21 @@ returns-clause-gives c = λ row.
     let all = c.in_ok-span.ensures.gives middle left.told in
     let found : Slice = record { row = row; code = head.code; info = head.info; macroblocks = all.macroblocks } in
     let spelled = slice-spelled seq coding row head all.macroblocks bits middle all.rest s all.spelled in
-    let count : c.place-bits.result + length all.rest ≡ length bits = omega (arith, c.place-bits.ensures, all.ends, left.ends) in
-    let dropped = rest-dropped c.place-bits.result bits all.rest ((exact-slice seq coding row).spelled_front found bits all.rest spelled) count in
+    let count : c.place-slice.result + length all.rest ≡ length bits = omega (arith, c.place-slice.ensures, all.ends, left.ends) in
+    let dropped = rest-dropped c.place-slice.result bits all.rest ((exact-slice seq coding row).spelled_front found bits all.rest spelled) count in
     record {
       found = found;
       spelled = subst (λ (b : List ℕ). (slice seq coding row).Spells found bits b) dropped spelled;
       within = omega (arith, count);
       in_row = refl;
       counted = record {
-        info = c.info_bits-info.ensures.value;
-        few_info = c.info_bits-info.ensures.few;
+        info = c.info_bits-slice.ensures.value;
+        few_info = c.info_bits-slice.ensures.few;
         spans = all.spans;
         few = all.few;
         each = λ k d below.
-            let is = c.start_counts-counts.ensures k d below in
-            let start : VersionCount = get_or c.start_counts-counts.result k d in
+            let is = c.start_counts.ensures k d below in
+            let start : VersionCount = get_or c.start_counts.new.counts k d in
             record {
               start = start.state;
               ratio = is.ratio;

@@ -130,7 +130,9 @@ macroblocks-preserved g c =
             told = c.in_ok-is_last.ensures.left ∙ behind.told;
             ends = omega (arith, c.in_ok-is_last.ensures.place, behind.ends);
           } in
-          let closing = closing-kept seq ms m c.next.new.self c.in_ok-is_last.is_last (bits_left c.next.new.from) rest behind.told c.in_ok-is_last.ensures.closed c.in_ok-is_last.ensures.going (c.in_ok-is_more.ensures.behind seq ms inv.stands c.if-not-is_more.false) in (
+          let stands = c.in_ok-is_more.ensures.behind seq ms inv.stands c.if-not-is_more.false in
+          let last = c.in_ok-is_last.ensures in
+          let closing = closing-kept seq ms m c.next.new.self c.in_ok-is_last.is_last (bits_left c.next.new.from) rest behind.told last.closed last.going stands in (
             rest,
             subst (λ (xs : List Macroblock). SpellsFront next [] xs bits rest) (sym taken) (several-more next ms m bits middle rest spelled one),
             now,

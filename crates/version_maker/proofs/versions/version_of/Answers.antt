@@ -12,8 +12,9 @@ pub returns-then-index-eq0 : goal.returns-then-index-eq0
 returns-then-index-eq0 c =
     let before = option_copied c.args.before in
     let unit = c.args.unit.now in
+    let are = are-bytes unit (λ i. omega (arith, c.type_inv.unit i)) in
     match-weaker (AreSourceBytesOf before unit) (IsVersionAt before unit c.args.coarser.now c.args.index) (IsRefusedAs before unit) c.source_version.result
-    (λ bytes is. first-version before unit c.args.coarser.now c.args.index bytes c.requires.before (are-bytes unit (λ i. omega (arith, c.type_inv.unit i))) c.if-index-eq0.true is) c.source_version.ensures
+    (λ bytes is. first-version before unit c.args.coarser.now c.args.index bytes c.requires.before are c.if-index-eq0.true is) c.source_version.ensures
 
 pub returns : goal.returns
 returns c =
