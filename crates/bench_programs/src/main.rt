@@ -70,7 +70,10 @@ fn main(rt: HostRuntime) -> io::Result<()> {
                 Err(fault) => return println!(rt; "{fault}"),
             };
             print_program(&rt, &sized.program)?;
-            println!(rt; "{} bytes in all versions", bytes_of(sized.sizes.as_slice()))
+            println!(rt;
+                "{} bytes in all versions",
+                bytes_of(sized.sizes.as_slice())
+            )
         }
         _ => {
             let program = match read_program(rt.alloc(), file.as_slice(), number, &[], START) {

@@ -47,11 +47,7 @@ fn units_of(alloc: Global, shelf: &mut MemShelf, text: &[u8]) -> Result<usize, P
 }
 
 /// The programs of a job with the sizes of their units, or why they aren't read.
-fn sized(
-    alloc: Global,
-    shelf: &mut MemShelf,
-    text: &[u8],
-) -> Result<SizedPrograms, ProgramsFault> {
+fn sized(alloc: Global, shelf: &mut MemShelf, text: &[u8]) -> Result<SizedPrograms, ProgramsFault> {
     match read_job(alloc, text) {
         Ok(job) => read_sized_programs(alloc, shelf, &job),
         Err(_) => Err(ProgramsFault::OutOfMemory),
