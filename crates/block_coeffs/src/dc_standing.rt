@@ -12,7 +12,7 @@ use syntax_types::Dc;
 const SIZE_MOST: u16 = 11;
 
 /// What stands at the front of a window where a DC coefficient must come (7.2.1).
-#[derive(Clone, Copy, Debug, PartialEq, Eq)]
+#[derive(Clone, Copy)]
 pub enum DcStanding {
     /// The coefficient, in so many bits.
     Coefficient { dc: Dc, len: u32 },

@@ -18,7 +18,7 @@ use syntax_types::BLOCK_PLACES;
 const FORBIDDEN_LEVEL: u32 = 1 << (LEVEL_BITS - 1);
 
 /// What stands at the front of a window where a coefficient or the end of block must come (6.2.6).
-#[derive(Clone, Copy, Debug, PartialEq, Eq)]
+#[derive(Clone, Copy)]
 pub enum Standing {
     /// The end of block, in so many bits.
     EndOfBlock { len: u32 },

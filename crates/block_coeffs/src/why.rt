@@ -1,7 +1,7 @@
 use crate::fault::BlockFault;
 
 /// Why no coefficient and no end of block stands at some bits.
-#[derive(Clone, Copy, Debug, PartialEq, Eq)]
+#[derive(Clone, Copy)]
 pub enum Why {
     NoCode,
     TooMany,

@@ -7,7 +7,7 @@ use version_table::limits::VERSIONS_MOST;
 const RATIO_PARTS: u128 = 1 << 64;
 
 /// A version of a unit at which the lower hull of those turns that its elementary buffer holds.
-#[derive(Clone, Copy, Debug, Default, PartialEq)]
+#[derive(Clone, Copy, Default)]
 pub(crate) struct Corner {
     /// Its number among the unit's versions.
     pub version: u8,

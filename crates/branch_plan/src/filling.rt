@@ -14,7 +14,7 @@ use stream_constants::decoder::EB_UNIT_BYTES;
 use version_table::{ProgramRow, Table};
 
 /// A unit with the room that its packets share with those of the others, and the version that it has now.
-#[derive(Clone, Copy, Debug, Default, PartialEq)]
+#[derive(Clone, Copy)]
 pub(crate) struct FilledUnit {
     /// Its due time, in ticks.
     pub due: u64,
@@ -37,7 +37,7 @@ pub(crate) struct FilledUnit {
 }
 
 /// A step along a unit's lower hull: more packets, less distortion.
-#[derive(Clone, Copy, Debug, Default, PartialEq)]
+#[derive(Clone, Copy)]
 struct Step {
     /// Which unit, in the order of due times.
     unit: usize,

@@ -15,7 +15,7 @@ use stream_constants::packets::PAYLOAD_BYTES;
 use version_table::Version;
 
 /// A version as the line of its cost.
-#[derive(Clone, Copy, Debug, Default, PartialEq)]
+#[derive(Clone, Copy)]
 struct Line {
     rise: u64,
     packets: u32,

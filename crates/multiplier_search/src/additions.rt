@@ -25,7 +25,7 @@ use std::alloc::Global;
 use version_table::Table;
 
 /// A window from time 0 on that is added to some windows.
-#[derive(Clone, Copy, Debug, Default, PartialEq)]
+#[derive(Clone, Copy)]
 struct Addition {
     /// Its end, in ticks.
     due: u64,

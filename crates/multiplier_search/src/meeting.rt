@@ -12,7 +12,7 @@ const FIRST_STRIDE: u64 = 64;
 const STRIDES: u64 = 8;
 
 /// Two lines that values are below: one through the value at the least lambda that is left, one through the value at the greatest.
-#[derive(Clone, Copy, Debug, Default, PartialEq)]
+#[derive(Clone, Copy)]
 pub struct Lines {
     /// The value at the least lambda.
     lower: i128,

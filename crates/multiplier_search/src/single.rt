@@ -16,7 +16,7 @@ use std::alloc::Global;
 use version_table::Table;
 
 /// A multiplier and its value alone.
-#[derive(Clone, Copy, Debug, Default, PartialEq)]
+#[derive(Clone, Copy)]
 struct Valued {
     multiplier: Multiplier,
     value: i128,

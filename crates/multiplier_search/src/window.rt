@@ -22,7 +22,7 @@ use std::alloc::Global;
 use version_table::Table;
 
 /// A window and its value alone.
-#[derive(Clone, Copy, Debug, Default, PartialEq)]
+#[derive(Clone, Copy)]
 struct ValuedWindow {
     window: Window,
     value: i128,

@@ -1,5 +1,5 @@
 /// What is kept of a picture that is read.
-#[derive(Clone, Copy, Debug, PartialEq, Eq)]
+#[derive(Clone, Copy)]
 pub enum Keep {
     /// All of its slices.
     Tree,

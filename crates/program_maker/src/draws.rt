@@ -8,7 +8,7 @@ const MULTIPLIER: u64 = 6_364_136_223_846_793_005;
 const INCREMENT: u64 = 1_442_695_040_888_963_407;
 
 /// The draws behind a state: a linear congruential generator of 64 bits, of which each draw gives the upper 32.
-#[derive(Clone, Copy, Debug)]
+#[derive(Clone, Copy)]
 pub struct Draws {
     state: u64,
 }

@@ -12,7 +12,7 @@ use stream_constants::packets::PAYLOAD_BYTES;
 use version_source::VersionSource;
 
 /// A piece, by its numbers.
-#[derive(Clone, Copy, Debug)]
+#[derive(Clone, Copy)]
 pub struct Ask {
     /// The number of the stream over all programs.
     pub stream: u32,

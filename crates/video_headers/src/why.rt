@@ -1,7 +1,7 @@
 use crate::fault::HeadFault;
 
 /// Why no element stands at some bits.
-#[derive(Clone, Copy, Debug, PartialEq, Eq)]
+#[derive(Clone, Copy)]
 pub enum Why {
     BadHeader,
     NotMpeg2,

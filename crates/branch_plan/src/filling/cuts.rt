@@ -6,7 +6,7 @@ use crate::corners::{Corner, corner_at, ratio};
 const REACH_TICKS: u64 = 13_500_000;
 
 /// A step down of one unit.
-#[derive(Clone, Copy, Debug, Default, PartialEq)]
+#[derive(Clone, Copy)]
 struct Cut {
     /// Which unit, in the order of due times.
     unit: usize,

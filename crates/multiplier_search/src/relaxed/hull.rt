@@ -9,7 +9,7 @@ use version_table::{Table, Unit, Version};
 const RATIO_PARTS: u64 = 1 << 15;
 
 /// A version of a unit at which its lower hull turns.
-#[derive(Clone, Copy, Debug, Default, PartialEq)]
+#[derive(Clone, Copy, Default)]
 pub struct Corner {
     /// Its packets.
     pub packets: u32,
@@ -18,7 +18,7 @@ pub struct Corner {
 }
 
 /// A coded picture whose versions may be mixed.
-#[derive(Clone, Copy, Debug, Default, PartialEq)]
+#[derive(Clone, Copy)]
 pub struct MixedUnit {
     /// Its due time, in ticks.
     pub due: u64,
@@ -35,7 +35,7 @@ pub struct MixedUnit {
 }
 
 /// A step along a unit's lower hull: more packets, less distortion.
-#[derive(Clone, Copy, Debug, Default, PartialEq)]
+#[derive(Clone, Copy, Default)]
 pub struct HullStep {
     /// Which unit, in the order of due times.
     pub unit: usize,

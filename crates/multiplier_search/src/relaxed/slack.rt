@@ -18,7 +18,7 @@ pub struct Slack {
 }
 
 /// Units next to each other that fill their room, and what a packet of it is worth.
-#[derive(Clone, Copy, Debug, Default, PartialEq)]
+#[derive(Clone, Copy)]
 pub struct Interval {
     /// The first unit.
     pub first: usize,

@@ -29,7 +29,7 @@ pub struct SlackTree {
 }
 
 /// What is known of the places below a node, where those outside of it have no packets.
-#[derive(Clone, Copy, Debug, Default, PartialEq)]
+#[derive(Clone, Copy)]
 struct SlackNode {
     /// Their packets.
     packets: i64,
