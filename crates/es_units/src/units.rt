@@ -7,7 +7,7 @@ use list_types::ListOf;
 use std::alloc::Global;
 
 /// The units of a video stream.
-#[derive(Debug, Drop)]
+#[derive(Drop)]
 pub struct Units {
     /// How many units end at the first sequence header or before it, and are dropped. It stands still at its type's end.
     pub dropped: u32,

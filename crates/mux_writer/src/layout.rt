@@ -20,7 +20,7 @@ pub const FIRST_MAP_PID: u16 = 0x100;
 pub const PROGRAM_PIDS: u16 = 16;
 
 /// What the programs of an output stream are.
-#[derive(Debug, Drop)]
+#[derive(Drop)]
 pub struct Layout {
     /// `transport_stream_id`.
     pub stream_id: u16,

@@ -7,7 +7,7 @@ use job_programs::SourceFault;
 use slot_rule::Miss;
 
 /// Why the text of a table or a job is refused.
-#[derive(Clone, Copy, Debug)]
+#[derive(Clone, Copy)]
 pub enum JobRefusal {
     /// The first line, from 1, that no table text has there.
     TableSyntax(u64),
@@ -22,7 +22,7 @@ pub enum JobRefusal {
 }
 
 /// Why a certificate is refused.
-#[derive(Clone, Copy, Debug)]
+#[derive(Clone, Copy)]
 pub enum CertRefusal {
     /// The first byte, from 0, that no certificate has there.
     Syntax(u64),
@@ -31,7 +31,7 @@ pub enum CertRefusal {
 }
 
 /// How a command ended.
-#[derive(Clone, Copy, Debug)]
+#[derive(Clone, Copy)]
 pub enum Status {
     /// The work was done.
     Ok,

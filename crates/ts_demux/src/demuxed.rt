@@ -2,21 +2,21 @@ use list_types::ListOf;
 use psi_tables::ProgramMap;
 
 /// A PES packet: the byte of the file where its first transport packet stands, and its bytes.
-#[derive(Debug, Drop)]
+#[derive(Drop)]
 pub struct PesUnit {
     pub at: u64,
     pub bytes: ListOf<u8>,
 }
 
 /// An audio stream: its PID and its PES packets in order.
-#[derive(Debug, Drop)]
+#[derive(Drop)]
 pub struct AudioStream {
     pub pid: u16,
     pub units: ListOf<PesUnit>,
 }
 
 /// The carried streams of a program.
-#[derive(Debug, Drop)]
+#[derive(Drop)]
 pub struct Demuxed {
     /// The carried streams alone, the video first, then the audio streams as the PMT has them; with the PMT's number, PCR
     /// PID and count of dropped descriptors.
