@@ -11,7 +11,7 @@ use std::alloc::Global;
 use std::marker::Model;
 
 /// A shelf in memory that never fails: only names that aren't held and want of memory stop a call.
-#[derive(Debug, Drop)]
+#[derive(Drop)]
 pub struct CalmShelf {
     table: FileTable,
     absences: u64,

@@ -6,7 +6,7 @@ use std::alloc::Global;
 use std::marker::Model;
 
 /// A sink in memory that never fails: only want of memory stops a call. Contracts see what was written.
-#[derive(Debug, Drop)]
+#[derive(Drop)]
 pub struct CalmSink {
     written: Vec<u8>,
 }

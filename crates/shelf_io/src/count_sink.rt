@@ -6,7 +6,7 @@ use std::marker::Model;
 
 /// A sink that keeps the number of the bytes that were written, and none of them. It fails only where that number
 /// would pass its type's end. Contracts see the number.
-#[derive(Debug, Drop)]
+#[derive(Drop)]
 pub struct CountSink {
     count: u64,
     faults: u64,

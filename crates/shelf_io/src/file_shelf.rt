@@ -2,6 +2,7 @@ ghost use Rattle.std.specs.Prelude.{◌≡◌, ◌≢◌, ◌≤◌, ◌<◌, le
 ghost use Rattle.shelf_io.specs.Counted.{counts_after_read, counts_after_write};
 ghost use Rattle.shelf_io.specs.Counts.{no_counts};
 
+use crate::buffer::copy_front;
 use crate::fault::Fault;
 use crate::shelf::Shelf;
 use crate::whole_file::PIECE_BYTES;
@@ -102,18 +103,24 @@ impl<'a, R: Files> Shelf for FileShelf<'a, R> {
     }
 }
 
-/// Reads through a room of its own, since nothing is known of a buffer in which a read failed.
+/// Opens a file and reads from a place of it on.
 fn read_at<R: Files>(rt: &R, name: &str, at: u64, buf: &mut [u8]) -> io::Result<usize>
     ensures count { IfOk result (λ n. n ≤ length buf.old) }
     ensures kept { OnErr result (buf.new ≡ buf.old) }
 {
     let mut file = File::open(rt, name)?;
     file.seek(SeekFrom::Start(at))?;
-    let mut room = [0u8; PIECE_BYTES];
-    let size = buf.len().min(PIECE_BYTES);
-    let count = read_some(&mut file, &mut room[..size])?;
-    buf[..count].copy_from_slice(&room[..count]);
-    Ok(count)
+    read_through(&mut [0u8; PIECE_BYTES], &mut file, buf)
+}
+
+/// Reads through a room, since nothing is known of a buffer in which a read failed.
+fn read_through<F: Read>(room: &mut [u8], from: &mut F, buf: &mut [u8]) -> io::Result<usize>
+    ensures count { IfOk result (λ n. n ≤ length buf.old) }
+    ensures kept { OnErr result (buf.new ≡ buf.old) }
+{
+    let size = buf.len().min(room.len());
+    let count = read_some(from, &mut room[..size])?;
+    Ok(copy_front(&room[..count], buf))
 }
 
 fn read_some<F: Read>(from: &mut F, buf: &mut [u8]) -> io::Result<usize>

@@ -10,7 +10,7 @@ use std::collections::BTreeMap;
 use std::marker::Model;
 
 /// The files of a shelf in memory.
-#[derive(Debug, Drop)]
+#[derive(Drop)]
 pub struct FileTable {
     alloc: Global,
     held: BTreeMap<String, Vec<u8>>,

@@ -13,7 +13,7 @@ use std::alloc::Global;
 use std::marker::Model;
 
 /// A shelf in memory that fails in chosen calls. The calls of `Shelf` are numbered from 1, over all three.
-#[derive(Debug, Drop)]
+#[derive(Drop)]
 pub struct MemShelf {
     table: FileTable,
     faults: u64,

@@ -2,7 +2,7 @@ ghost use Rattle.std.specs.Prelude.{◌≡◌, ◌↔◌, IsTrue, Contains};
 ghost use Rattle.shelf_io.specs.Counts.{one_more};
 
 /// Calls that are numbered from 1, of which some are to fail.
-#[derive(Debug, Drop)]
+#[derive(Drop)]
 pub struct NumberedCalls {
     pub count: u64,
     pub failing: Vec<u64>,

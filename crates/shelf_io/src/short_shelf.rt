@@ -11,7 +11,7 @@ use crate::shelf::Shelf;
 use std::marker::Model;
 
 /// A shelf in memory that never fails, and moves at most so many bytes a call: what is asked of it comes in short pieces.
-#[derive(Debug, Drop)]
+#[derive(Drop)]
 pub struct ShortShelf {
     inner: CalmShelf,
     limit: u32,

@@ -8,7 +8,7 @@ use crate::source::Source;
 use std::marker::Model;
 
 /// A source over bytes in memory, which never fails. Contracts see the bytes that are left.
-#[derive(Debug, Drop)]
+#[derive(Drop)]
 pub struct SliceSource<'a> {
     rest: &'a [u8],
 }

@@ -7,6 +7,7 @@ use shelf_io::{
     ShortShelf, Sink, SliceSource, Source, VecSink, Writing, put_all, read_file, take_full,
     write_file,
 };
+use std::alloc::Global;
 use std::fmt::Display;
 use std::test::Fail;
 use std::{env, fs, io, process};
@@ -17,13 +18,20 @@ fn a_shelf_in_memory_fails_in_its_chosen_calls_alone(rt: HostRuntime) -> Result<
     let mut shelf = MemShelf::new(alloc, vec![in alloc; 2, 4]?);
     shelf.put_file("a", b"abc")?;
     let mut buf = [0u8; 2];
-    assert_eq!(rt; shelf.read("a", 1, &mut buf), Ok(2));
-    assert_eq!(rt; shelf.read("a", 0, &mut buf), Err(Fault::Failed));
-    assert_eq!(rt; buf, *b"bc");
-    assert_eq!(rt; shelf.append("a", b"de"), Ok(2));
-    assert_eq!(rt; shelf.start("a"), Err(Fault::Failed));
-    assert_eq!(rt; shelf.file("a"), Some(b"abcde".as_slice()));
-    assert_eq!(rt; shelf.read("b", 0, &mut buf), Err(Fault::Missing));
+    let first = [
+        shelf.read("a", 1, &mut buf),
+        shelf.read("a", 0, &mut buf),
+        shelf.append("a", b"de"),
+    ];
+    let started = shelf.start("a");
+    let lacking = shelf.read("b", 0, &mut buf);
+    let kept = shelf.file("a") == Some(b"abcde".as_slice());
+    assert_eq!(rt; first, [Ok(2), Err(Fault::Failed), Ok(2)]);
+    assert_eq!(rt;
+        (started, lacking),
+        (Err(Fault::Failed), Err(Fault::Missing))
+    );
+    assert_eq!(rt; (kept, buf), (true, *b"bc"));
     Ok(())
 }
 
@@ -33,13 +41,31 @@ fn a_calm_shelf_lacks_only_names_that_are_not_held(rt: HostRuntime) -> Result<()
     let mut shelf = CalmShelf::new(alloc);
     shelf.put_file("a", b"abc")?;
     let mut buf = [0u8; 4];
-    assert_eq!(rt; shelf.read("a", 3, &mut buf), Ok(0));
-    assert_eq!(rt; shelf.read("b", 0, &mut buf), Err(Fault::Missing));
-    assert_eq!(rt; shelf.append("b", b"x"), Ok(1));
-    assert_eq!(rt; shelf.file("b").map(|bytes| bytes.len()), Some(1));
-    assert_eq!(rt; shelf.start("a"), Ok(()));
-    assert_eq!(rt; shelf.file("a").map(|bytes| bytes.len()), Some(0));
+    let moved = [
+        shelf.read("a", 3, &mut buf),
+        shelf.read("b", 0, &mut buf),
+        shelf.append("b", b"x"),
+    ];
+    let started = shelf.start("a");
+    let held = [
+        shelf.file("a") == Some(b"".as_slice()),
+        shelf.file("b") == Some(b"x".as_slice()),
+    ];
+    assert_eq!(rt; moved, [Ok(0), Err(Fault::Missing), Ok(1)]);
+    assert_eq!(rt; (started, held), (Ok(()), [true; 2]));
     Ok(())
+}
+
+/// Whether a file's bytes up to one past a limit are these.
+fn reads<K: Shelf>(
+    alloc: Global,
+    shelf: &mut K,
+    name: &str,
+    limit: u32,
+    want: &[u8],
+) -> Result<bool, Fault> {
+    let bytes = read_file(alloc, shelf, name, u64::from(limit))?;
+    Ok(bytes.as_slice() == want)
 }
 
 #[test]
@@ -49,14 +75,19 @@ fn a_short_shelf_moves_few_bytes_a_call(rt: HostRuntime) -> Result<(), Fail> {
     inner.put_file("a", b"abcde")?;
     let mut shelf = ShortShelf::new(inner, 2);
     let mut buf = *b"xyz";
-    assert_eq!(rt; shelf.read("a", 1, &mut buf), Ok(2));
-    assert_eq!(rt; buf, *b"bcz");
-    assert_eq!(rt; shelf.append("a", b"fgh"), Ok(2));
-    assert_eq!(rt; shelf.file("a"), Some(b"abcdefg".as_slice()));
-    assert_eq!(rt; shelf.read("b", 0, &mut buf), Err(Fault::Missing));
-    write_file(&mut shelf, "b", b"abcdef")?;
-    let whole = read_file(alloc, &mut shelf, "b", 6)?;
-    assert_eq!(rt; whole.as_slice(), b"abcdef".as_slice());
+    let moved = [
+        shelf.read("a", 1, &mut buf),
+        shelf.append("a", b"fgh"),
+        shelf.read("b", 0, &mut buf),
+    ];
+    let held = shelf.file("a") == Some(b"abcdefg".as_slice());
+    let written = write_file(&mut shelf, "b", b"abcdef");
+    let whole = reads(alloc, &mut shelf, "b", 6, b"abcdef");
+    assert_eq!(rt; moved, [Ok(2), Ok(2), Err(Fault::Missing)]);
+    assert_eq!(rt;
+        (buf, held, written, whole),
+        (*b"bcz", true, Ok(()), Ok(true))
+    );
     Ok(())
 }
 
@@ -65,14 +96,12 @@ fn a_file_is_read_one_byte_past_its_limit_and_no_further(rt: HostRuntime) -> Res
     let alloc = rt.alloc();
     let mut shelf = CalmShelf::new(alloc);
     write_file(&mut shelf, "a", b"abcdef")?;
-    let whole = read_file(alloc, &mut shelf, "a", 6)?;
-    assert_eq!(rt; whole.as_slice(), b"abcdef".as_slice());
-    let front = read_file(alloc, &mut shelf, "a", 3)?;
-    assert_eq!(rt; front.as_slice(), b"abcd".as_slice());
-    assert_eq!(rt;
-        read_file(alloc, &mut shelf, "b", 3).err(),
-        Some(Fault::Missing)
-    );
+    let answers = [
+        reads(alloc, &mut shelf, "a", 6, b"abcdef"),
+        reads(alloc, &mut shelf, "a", 3, b"abcd"),
+        reads(alloc, &mut shelf, "b", 3, b""),
+    ];
+    assert_eq!(rt; answers, [Ok(true), Ok(true), Err(Fault::Missing)]);
     Ok(())
 }
 
@@ -119,9 +148,8 @@ fn a_file_is_asked_for_one_byte_past_its_limit_and_no_further(rt: HostRuntime) -
         name: "a",
         asked: 0,
     };
-    let front = read_file(alloc, &mut shelf, "a", 3)?;
-    assert_eq!(rt; front.as_slice(), b"abcd".as_slice());
-    assert_eq!(rt; shelf.asked, 4);
+    let front = reads(alloc, &mut shelf, "a", 3, b"abcd");
+    assert_eq!(rt; (front, shelf.asked), (Ok(true), 4));
     Ok(())
 }
 
@@ -130,32 +158,48 @@ fn a_write_that_fails_leaves_what_was_held_before(rt: HostRuntime) -> Result<(),
     let alloc = rt.alloc();
     let mut shelf = MemShelf::new(alloc, vec![in alloc; 1, 3]?);
     shelf.put_file("a", b"old")?;
-    assert_eq!(rt; write_file(&mut shelf, "a", b"new"), Err(Fault::Failed));
-    assert_eq!(rt; shelf.file("a"), Some(b"old".as_slice()));
-    assert_eq!(rt; write_file(&mut shelf, "a", b"new"), Err(Fault::Failed));
-    assert_eq!(rt; shelf.file("a"), Some(b"".as_slice()));
-    assert_eq!(rt; write_file(&mut shelf, "a", b"new"), Ok(()));
-    assert_eq!(rt; shelf.file("a"), Some(b"new".as_slice()));
+    let first = write_file(&mut shelf, "a", b"new");
+    let unstarted = shelf.file("a") == Some(b"old".as_slice());
+    let second = write_file(&mut shelf, "a", b"new");
+    let empty = shelf.file("a") == Some(b"".as_slice());
+    let third = write_file(&mut shelf, "a", b"new");
+    let whole = shelf.file("a") == Some(b"new".as_slice());
+    assert_eq!(rt;
+        [first, second, third],
+        [Err(Fault::Failed), Err(Fault::Failed), Ok(())]
+    );
+    assert_eq!(rt; [unstarted, empty, whole], [true; 3]);
+    Ok(())
+}
+
+#[test]
+fn a_sink_in_memory_fails_in_its_chosen_calls_alone(rt: HostRuntime) -> Result<(), Fail> {
+    let alloc = rt.alloc();
+    let mut sink = MemSink::new(alloc, vec![in alloc; 2]?);
+    let puts = [
+        put_all(&mut sink, b"ab"),
+        put_all(&mut sink, b"cd"),
+        put_all(&mut sink, b"ef"),
+    ];
+    let held = sink.bytes() == b"abef".as_slice();
+    assert_eq!(rt; (puts, held), ([Ok(()), Err(Fault::Failed), Ok(())], true));
     Ok(())
 }
 
 #[test]
 fn sinks_in_memory_hold_what_was_put(rt: HostRuntime) -> Result<(), Fail> {
     let alloc = rt.alloc();
-    let mut failing = MemSink::new(alloc, vec![in alloc; 2]?);
-    put_all(&mut failing, b"ab")?;
-    assert_eq!(rt; put_all(&mut failing, b"cd"), Err(Fault::Failed));
-    put_all(&mut failing, b"ef")?;
-    assert_eq!(rt; failing.bytes(), b"abef".as_slice());
     let mut calm = CalmSink::new(alloc);
-    put_all(&mut calm, b"ab")?;
-    assert_eq!(rt; calm.bytes(), b"ab".as_slice());
     let mut vector = VecSink::new(alloc);
-    put_all(&mut vector, b"ab")?;
+    let first = [put_all(&mut calm, b"ab"), put_all(&mut vector, b"ab")];
     vector.clear();
-    put_all(&mut vector, b"cd")?;
-    assert_eq!(rt; vector.bytes(), b"cd".as_slice());
-    assert_eq!(rt; vector.into_bytes().as_slice(), b"cd".as_slice());
+    let second = put_all(&mut vector, b"cd");
+    let held = [
+        calm.bytes() == b"ab".as_slice(),
+        vector.bytes() == b"cd".as_slice(),
+        vector.into_bytes().as_slice() == b"cd".as_slice(),
+    ];
+    assert_eq!(rt; (first, second, held), ([Ok(()); 2], Ok(()), [true; 3]));
     Ok(())
 }
 
@@ -179,24 +223,36 @@ fn a_sink_that_counts_tells_how_many_bytes_a_writer_puts(rt: HostRuntime) -> Res
 fn a_source_gives_its_bytes_and_ends(rt: HostRuntime) -> Result<(), Fail> {
     let mut source = SliceSource::new(b"abcde");
     let mut buf = [0u8; 3];
-    assert_eq!(rt; take_full(&mut source, &mut buf), Ok(3));
-    assert_eq!(rt; buf, *b"abc");
-    assert_eq!(rt; take_full(&mut source, &mut buf), Ok(2));
-    assert_eq!(rt; buf, *b"dec");
-    assert_eq!(rt; take_full(&mut source, &mut buf), Ok(0));
+    let first = take_full(&mut source, &mut buf);
+    let front = buf;
+    let rest = [
+        take_full(&mut source, &mut buf),
+        take_full(&mut source, &mut buf),
+    ];
+    assert_eq!(rt; (first, front), (Ok(3), *b"abc"));
+    assert_eq!(rt; (rest, buf), ([Ok(2), Ok(0)], *b"dec"));
     Ok(())
 }
 
 #[test]
 fn bytes_in_memory_come_several_at_a_time_while_four_are_left(rt: HostRuntime) -> Result<(), Fail> {
     let mut source = SliceSource::new(&[0xFE, 0x02, 0x03, 0x04, 0x05, 0x06]);
-    assert_eq!(rt; source.take_number(1), Ok(Some(0xFE)));
-    assert_eq!(rt; source.take_number(2), Ok(Some(0x0203)));
-    assert_eq!(rt; source.take_number(2), Ok(None));
-    assert_eq!(rt; source.take_byte(), Ok(Some(0x04)));
+    let numbers = [
+        source.take_number(1),
+        source.take_number(2),
+        source.take_number(2),
+    ];
+    let byte = source.take_byte();
+    assert_eq!(rt;
+        (numbers, byte),
+        ([Ok(Some(0xFE)), Ok(Some(0x0203)), Ok(None)], Ok(Some(0x04)))
+    );
     let mut source = SliceSource::new(&[0xFE, 0x02, 0x03, 0x04]);
-    assert_eq!(rt; source.take_number(4), Ok(Some(0xFE02_0304)));
-    assert_eq!(rt; source.take_byte(), Ok(None));
+    let number = source.take_number(4);
+    assert_eq!(rt;
+        (number, source.take_byte()),
+        (Ok(Some(0xFE02_0304)), Ok(None))
+    );
     Ok(())
 }
 
@@ -206,8 +262,8 @@ fn bytes_of_a_file_come_one_at_a_time(rt: HostRuntime) -> Result<(), Fail> {
     let mut shelf = MemShelf::new(alloc, Vec::new(alloc));
     shelf.put_file("a", b"abcde")?;
     let mut reading = Reading::new(&mut shelf, "a");
-    assert_eq!(rt; reading.take_number(4), Ok(None));
-    assert_eq!(rt; reading.take_byte(), Ok(Some(b'a')));
+    let number = reading.take_number(4);
+    assert_eq!(rt; (number, reading.take_byte()), (Ok(None), Ok(Some(b'a'))));
     Ok(())
 }
 
@@ -216,15 +272,22 @@ fn one_file_of_a_shelf_is_a_source_and_a_sink(rt: HostRuntime) -> Result<(), Fai
     let alloc = rt.alloc();
     let mut shelf = MemShelf::new(alloc, vec![in alloc; 4]?);
     shelf.put_file("a", b"abc")?;
-    put_all(&mut Writing::new(&mut shelf, "a"), b"de")?;
-    assert_eq!(rt; shelf.file("a"), Some(b"abcde".as_slice()));
+    let added = put_all(&mut Writing::new(&mut shelf, "a"), b"de");
+    let held = shelf.file("a") == Some(b"abcde".as_slice());
     let mut buf = [0u8; 4];
     let mut reading = Reading::new(&mut shelf, "a");
-    assert_eq!(rt; take_full(&mut reading, &mut buf), Ok(4));
-    assert_eq!(rt; buf, *b"abcd");
-    assert_eq!(rt; reading.take(&mut buf), Ok(1));
-    assert_eq!(rt; reading.take(&mut buf), Err(Fault::Failed));
-    assert_eq!(rt; reading.take(&mut buf), Ok(0));
+    let first = take_full(&mut reading, &mut buf);
+    let front = buf;
+    let rest = [
+        reading.take(&mut buf),
+        reading.take(&mut buf),
+        reading.take(&mut buf),
+    ];
+    assert_eq!(rt;
+        (added, held, first, front),
+        (Ok(()), true, Ok(4), *b"abcd")
+    );
+    assert_eq!(rt; rest, [Ok(1), Err(Fault::Failed), Ok(0)]);
     Ok(())
 }
 
@@ -235,16 +298,17 @@ fn a_real_file_is_written_and_read_back(rt: HostRuntime) -> Result<(), Fail> {
     let path = env::temp_dir(&rt)?.join(alloc, own.as_str())?;
     let name = path.as_str();
     let mut shelf = FileShelf::new(&rt);
-    write_file(&mut shelf, name, b"one two")?;
-    put_all(&mut Writing::new(&mut shelf, name), b" three")?;
-    let bytes = read_file(alloc, &mut shelf, name, 100)?;
-    assert_eq!(rt; bytes.as_slice(), b"one two three".as_slice());
+    let started = write_file(&mut shelf, name, b"one two");
+    let added = put_all(&mut Writing::new(&mut shelf, name), b" three");
+    let held = reads(alloc, &mut shelf, name, 100, b"one two three");
     fs::remove_file(&rt, name)?;
+    let removed = reads(alloc, &mut shelf, name, 100, b"");
+    let nameless = write_file(&mut shelf, "", b"x");
     assert_eq!(rt;
-        read_file(alloc, &mut shelf, name, 100).err(),
-        Some(Fault::Missing)
+        [started, added, nameless],
+        [Ok(()), Ok(()), Err(Fault::Failed)]
     );
-    assert_eq!(rt; write_file(&mut shelf, "", b"x"), Err(Fault::Failed));
+    assert_eq!(rt; [held, removed], [Ok(true), Err(Fault::Missing)]);
     Ok(())
 }
 
@@ -280,8 +344,9 @@ fn output_that_takes_nothing_is_a_failure(rt: HostRuntime) -> Result<(), Fail> {
         room: std::cell::Cell::new(3),
     };
     let mut sink = OutSink::new(&out);
-    assert_eq!(rt; put_all(&mut sink, b"abc"), Ok(()));
-    assert_eq!(rt; sink.put(b""), Ok(0));
-    assert_eq!(rt; put_all(&mut sink, b"d"), Err(Fault::Failed));
+    let whole = put_all(&mut sink, b"abc");
+    let empty = sink.put(b"");
+    let more = put_all(&mut sink, b"d");
+    assert_eq!(rt; (whole, empty, more), (Ok(()), Ok(0), Err(Fault::Failed)));
     Ok(())
 }
