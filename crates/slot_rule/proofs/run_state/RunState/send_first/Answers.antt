@@ -28,17 +28,17 @@ overflow_mul-start c = omega (arith, c.requires.start)
 
 pub returns-in-Some-clause-fills : goal.returns-in-Some-clause-fills
 returns-in-Some-clause-fills c = (
-      c.release.new.self.states.items,
-      c.release.ensures.releases,
-      (
-        subst (λ (list : List QueueState). IsFirst (PassesAt c.args.start) list c.in-Some.head.stream c.in-Some.head.packet) c.as_slice.ensures.value c.in-Some.ensures.first,
-        c.send.ensures.sends,
-      ),
-    )
+  c.release.new.self.states.items,
+  c.release.ensures.releases,
+  (
+    subst (λ (list : List QueueState). IsFirst (PassesAt c.args.start) list c.in-Some.head.stream c.in-Some.head.packet) c.as_slice.ensures.value c.in-Some.ensures.first,
+    c.send.ensures.sends,
+  ),
+)
 
 pub returns-in-None-clause-fills : goal.returns-in-None-clause-fills
 returns-in-None-clause-fills c = (
-      c.release.new.self.states.items,
-      c.release.ensures.releases,
-      (subst (λ (list : List QueueState). IsFirstHead (PassesAt c.args.start) list None) c.as_slice.ensures.value c.in-None.ensures.first, refl),
-    )
+  c.release.new.self.states.items,
+  c.release.ensures.releases,
+  (subst (λ (list : List QueueState). IsFirstHead (PassesAt c.args.start) list None) c.as_slice.ensures.value c.in-None.ensures.first, refl),
+)
