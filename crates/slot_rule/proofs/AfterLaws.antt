@@ -47,13 +47,6 @@ Missed-late states end now n stream work packet row miss d row_is now_is within 
     subst (λ (m : Miss). TellsAfter states end row n (Missed m)) (sym miss_is)
     (packet, refl, inl (record { state = get_or states stream d; there = slice_get-get_or states stream d within; went = row_is; late = omega arith }))
 
--- the first packet that isn't sent is overdue
-pub Missed-overdue : (states : List QueueState) (end now n stream : ℕ) (packet : QueuedPacket) (row : Row) (miss : Miss) → NoneLate states end row → now ≡ end
-    → IsFirst Passes states stream packet → SUBTICKS_PER_TICK * packet.due < now + margin_subticks
-    → miss ≡ record { stream = stream; unit = packet.item; slot = n; due = packet.due } → TellsAfter states end row n (Missed miss)
-Missed-overdue states end now n stream packet row miss none now_is first overdue miss_is =
-    subst (λ (m : Miss). TellsAfter states end row n (Missed m)) (sym miss_is) (packet, refl, inr (none, (first, omega arith)))
-
 -- ---- no miss
 
 -- the packet in the row comes in time

@@ -1,6 +1,5 @@
 use Rattle.std.proofs.Common.{◌≡◌, ℕ, ◌+◌, ◌*◌, ◌^◌, ◌<◌, ap, arith}
-use Rattle.std.proofs.lemmas.Option.{slice_get_within}
-use Rattle.slot_rule.proofs.AfterLaws.{Missed-late, Missed-overdue, NoneLate-in_time, NoneLate-other, NoneOverdue-from_first, small_end, small_first, small_work}
+use Rattle.slot_rule.proofs.AfterLaws.{Missed-late, NoneLate-in_time, NoneLate-other, NoneOverdue-from_first, small_end, small_first, small_work}
 use Rattle.slot_rule.proofs.after.After.slot.Goals as goal
 use Rattle.slot_rule.proofs.after.After.slot.Goals.{in-Carries+else-packet-end_with_margin, in_default}
 
@@ -45,23 +44,6 @@ returns-then-packet-end_with_margin c =
 
 pub overflow_mul-head : goal.overflow_mul-head
 overflow_mul-head c = omega (arith, small_first c.args.states.now c.in-Some.head.stream c.in-Some.head.packet c.requires.soon c.in-Some.ensures)
-
-pub miss_of-requires-in-Some : goal.miss_of-requires-in-Some
-miss_of-requires-in-Some c = omega (arith, c.requires.few, slice_get_within c.args.states.now c.in-Some.head.stream c.in-Some.ensures.state c.in-Some.ensures.there)
-
-pub returns-in-Some : goal.returns-in-Some
-returns-in-Some c =
-    let states = c.args.states.now in
-    let end = 940 * ((c.args.n + 1) * c.args.slot) in
-    let product : c.from.result * c.from-2.result ≡ (c.args.n + 1) * c.args.slot = cc (c.from.ensures, c.from-2.ensures) in
-    Missed-overdue states end _ c.args.n c.in-Some.head.stream c.in-Some.head.packet c.args.row c.miss_of-in-Some.result
-    (elim c.match-row.branch [
-      | in-Carries+else-packet-end_with_margin w ↦
-          NoneLate-in_time states end _ w.in-Carries.stream w.mb_or_tb_work.result w.in-Carries.packet c.args.row _ w.in-Carries.is
-          (ap (λ (k : ℕ). 940 * k) product) w.mb_or_tb_work.ensures (omega (arith, w.if-packet-end_with_margin.false))
-      | in_default w ↦ NoneLate-other states end c.args.row w.in_default.not-Carries
-    ])
-    (ap (λ (k : ℕ). 940 * k) product) c.in-Some.ensures (omega (arith, c.if-head-end_with_margin.true)) c.miss_of-in-Some.ensures
 
 pub returns-in-Some-2 : goal.returns-in-Some-2
 returns-in-Some-2 c =
