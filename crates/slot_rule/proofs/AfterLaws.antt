@@ -1,5 +1,7 @@
 -- What the states after a slot tell of misses.
-use Rattle.std.proofs.Common.{◌≡◌, ℕ, ◌+◌, ◌*◌, ◌<◌, ◌≤◌, List, get_or, slice_get, Some, sym, ap, ap₂, subst, ◌∙◌, inl, inr, arith}
+use Rattle.std.proofs.Common.{◌≡◌, ℕ, ◌+◌, ◌-◌, ◌*◌, ◌^◌, ◌<◌, ◌≤◌, All, List, length, get_or, slice_get, Some, refl, sym, ap, ap₂, subst, ◌∙◌, inl, inr, arith}
+use Rattle.std.proofs.lemmas.Nat.{mul-le}
+use Rattle.version_table.specs.declared.limits.TheConstants.{SLOT_MOST, TIME_SLOTS_MOST}
 use Rattle.std.proofs.lemmas.Option.{same_Some, slice_get_within, slice_get-get_or}
 use Rattle.stream_constants.specs.declared.clock.TheConstants.{SUBTICKS_PER_TICK}
 use Rattle.slot_rule.specs.Constants.{margin_subticks}
@@ -7,9 +9,45 @@ use Rattle.slot_rule.specs.declared.queue_state.QueueState.{QueueState}
 use Rattle.slot_rule.specs.Buffers.{Row, Carries}
 use Rattle.slot_rule.specs.Private.Heads.{IsFirst, Passes}
 use Rattle.slot_rule.specs.Schedule.{IsDueBefore}
-use Rattle.slot_rule.specs.Private.Slots.{NoneLate, NoneOverdue}
-use Rattle.slot_rule.specs.Private.QueueState.{mb_or_tb_of_state}
-use Rattle.slot_rule.specs.Queues.{QueuedPacket}
+use Rattle.slot_rule.specs.Private.Slots.{IsDueSoon, NoneLate, NoneOverdue, TellsAfter}
+use Rattle.slot_rule.specs.declared.after.After.TheVariants.{Missed}
+use Rattle.slot_rule.specs.declared.sent.Miss.{Miss}
+use Rattle.slot_rule.specs.Private.QueueState.{mb_or_tb_of_kind, mb_or_tb_of_state}
+use Rattle.slot_rule.specs.Queues.{QueueKind, Video, Audio, QueuedPacket}
+use Rattle.slot_rule.proofs.Places.{All-at_place}
+
+-- ---- the numbers are far below the limits of their types
+
+pub small_end : (n slot : ℕ) → n < TIME_SLOTS_MOST → slot ≤ SLOT_MOST → (n + 1) * slot ≤ TIME_SLOTS_MOST * SLOT_MOST
+small_end n slot few most = mul-le (n + 1) slot TIME_SLOTS_MOST SLOT_MOST (omega arith) most
+
+small_work_of_kind : (kind : QueueKind) (tb mb : ℕ) → tb < 2 ^ 60 → mb < 2 ^ 60 → mb_or_tb_of_kind kind tb mb < 2 ^ 60
+small_work_of_kind (Video program vbv) tb mb tb_small mb_small = mb_small
+small_work_of_kind Audio tb mb tb_small mb_small = tb_small
+
+pub small_work : (states : List QueueState) (stream now work : ℕ) (d : QueueState) → All IsDueSoon states → stream < length states
+    → work ≡ mb_or_tb_of_state (get_or states stream d) now → work < 2 ^ 60
+small_work states stream now work d soon within is =
+    let state = get_or states stream d in
+    let small = (soon stream d within).small in
+    let low = small_work_of_kind state.kind (state.tb_empty - now) (state.mb_empty - now) (omega (arith, small.tb)) (omega (arith, small.mb)) in
+    omega (arith, low)
+
+pub small_first : (states : List QueueState) (stream : ℕ) (packet : QueuedPacket) → All IsDueSoon states → IsFirst Passes states stream packet → packet.due < 2 ^ 50
+small_first states stream packet soon is = (All-at_place IsDueSoon states soon stream is.state is.there).due packet is.head
+
+-- ---- a miss
+
+-- the packet in the row comes late
+pub Missed-late : (states : List QueueState) (end now n stream work : ℕ) (packet : QueuedPacket) (row : Row) (miss : Miss) (d : QueueState) → row ≡ Carries stream packet
+    → now ≡ end → stream < length states → work ≡ mb_or_tb_of_state (get_or states stream d) now → SUBTICKS_PER_TICK * packet.due < (now + margin_subticks) + work
+    → miss ≡ record { stream = stream; unit = packet.item; slot = n; due = packet.due } → TellsAfter states end row n (Missed miss)
+Missed-late states end now n stream work packet row miss d row_is now_is within work_is late miss_is =
+    let work_is' : work ≡ mb_or_tb_of_state (get_or states stream d) end = work_is ∙ ap (mb_or_tb_of_state (get_or states stream d)) now_is in
+    subst (λ (m : Miss). TellsAfter states end row n (Missed m)) (sym miss_is)
+    (packet, refl, inl (record { state = get_or states stream d; there = slice_get-get_or states stream d within; went = row_is; late = omega arith }))
+
+-- ---- no miss
 
 -- the packet in the row comes in time
 pub NoneLate-in_time : (states : List QueueState) (end now stream work : ℕ) (packet : QueuedPacket) (row : Row) (d : QueueState) → row ≡ Carries stream packet

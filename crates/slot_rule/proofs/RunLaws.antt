@@ -109,6 +109,14 @@ sent_gone table choice stream now time both packet olds news sender sends low lo
       | inr apart ↦ (let holds = none other state (sym (sends.others other apart) ∙ there) in λ packet' some oldest. (let later = holds packet' some oldest in omega arith))
     ]
 
+-- what holds of the sender's state holds of the state that is read at its place
+pub at_read : (P : QueueState → Type 0) (table : Table) (choice : List ℕ) (olds read : List QueueState) (stream : ℕ) (packet : QueuedPacket) (d : QueueState) → read ≡ olds
+    → (sender : IsSender table choice olds stream packet) → P sender.state → P (get_or read stream d)
+at_read P table choice olds read stream packet d same sender holds =
+    let within : stream < length olds = slice_get_within olds stream sender.state sender.there in
+    let state_is : sender.state ≡ get_or olds stream d = same_Some _ _ (sym sender.there ∙ slice_get-get_or olds stream d within) in
+    subst P (state_is ∙ ap (λ (list : List QueueState). get_or list stream d) (sym same)) holds
+
 -- ---- a state that is written back
 -- the states, with one written in a list that is known under another name
 pub written : (olds read : List QueueState) (stream : ℕ) (new : QueueState) → read ≡ olds → refill (length olds) olds (set read stream new) ≡ set olds stream new

@@ -1,11 +1,24 @@
 -- What a stream's state keeps through its steps.
-use Rattle.std.proofs.Common.{◌≡◌, ℕ, ◌+◌, ◌<◌, ◌≤◌, ◌-◌, List, length, get_or, slice_get, Option, Some, sym, ap, ◌∙◌, inl, inr, arith}
+use Rattle.std.proofs.Common.{◌≡◌, ℕ, ◌+◌, ◌<◌, ◌≤◌, ◌-◌, All, List, length, get_or, slice_get, Option, Some, sym, ap, ◌∙◌, inl, inr, arith}
 use Rattle.std.proofs.lemmas.Bool.{cases_lt}
 use Rattle.std.proofs.lemmas.Option.{same_Some, slice_get_within, get_or_from_slice_get}
 use Rattle.slot_rule.specs.declared.queue_state.QueueState.{QueueState}
-use Rattle.slot_rule.specs.Private.QueueState.{KeepsPlace, Releases, held_bytes}
-use Rattle.slot_rule.specs.Queues.{QueuedPacket}
+use Rattle.stream_constants.specs.declared.decoder.TheConstants.{AUDIO_TB_SUBTICKS}
+use Rattle.slot_rule.specs.Buffers.{tb_subticks}
+use Rattle.slot_rule.specs.Private.QueueState.{IsNumbered, KeepsPlace, Releases, held_bytes}
+use Rattle.slot_rule.specs.Queues.{QueueKind, Video, Audio, QueuedPacket}
+use Rattle.slot_rule.proofs.Places.{All-at_place}
 use Rattle.slot_rule.proofs.RuleSent.{held-push, held-pop}
+
+-- a byte takes at most so long to leave the transport buffer
+pub tb_subticks-le : (kind : QueueKind) → tb_subticks kind ≤ AUDIO_TB_SUBTICKS
+tb_subticks-le (Video program vbv) = omega arith
+tb_subticks-le Audio = omega arith
+
+-- the head packet is one of the packets
+pub head_numbered : (packets : List QueuedPacket) (state : QueueState) (packet : QueuedPacket) → All IsNumbered packets → KeepsPlace packets state → state.head ≡ Some packet
+    → IsNumbered packet
+head_numbered packets state packet numbered keeps head = All-at_place IsNumbered packets numbered state.sent packet (sym keeps.head ∙ head)
 
 -- the head packet goes
 pub KeepsPlace-send : (packets : List QueuedPacket) (old : QueueState) (packet : QueuedPacket) (next : Option QueuedPacket) (tb mb : ℕ) → KeepsPlace packets old

@@ -23,15 +23,17 @@ last_line-append (first ∷ second ∷ front) line behind = last_line-append (se
 pub last_line_push : (front : List Line) (line : Line) → last_line (front ++ line ∷ []) ≡ Some line
 last_line_push front line = last_line-append front line []
 
+last_parts-more : {X : Type 0} (y : X) (xs : List X) (x : X) → ((front : List X) × (xs ≡ front ++ x ∷ [])) → (front : List X) × (y ∷ xs ≡ front ++ x ∷ [])
+last_parts-more {X} y xs x found = (y ∷ found.0, ap (λ (rest : List X). y ∷ rest) found.1)
+
 -- a list with a last item ends in it
 pub last_parts : {X : Type 0} (xs : List X) (x : X) → slice_get xs (length xs - 1) ≡ Some x → (front : List X) × (xs ≡ front ++ x ∷ [])
 last_parts [] x e = absurd cc
 last_parts (y ∷ []) x e = ([], cc)
-last_parts {X} (y ∷ z ∷ xs) x e =
+last_parts (y ∷ z ∷ xs) x e =
     let here : length (y ∷ z ∷ xs) - 1 ≡ suc (length xs) = omega arith in
     let there : length (z ∷ xs) - 1 ≡ length xs = omega arith in
-    let (front, is) = last_parts (z ∷ xs) x (rw there (rw here at e)) in
-    (y ∷ front, ap (λ (rest : List X). y ∷ rest) is)
+    last_parts-more y (z ∷ xs) x (last_parts (z ∷ xs) x (rw there (rw here at e)))
 
 -- one without is empty
 pub last_none : {X : Type 0} (xs : List X) → slice_get xs (length xs - 1) ≡ None → xs ≡ []

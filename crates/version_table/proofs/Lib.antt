@@ -12,6 +12,7 @@ pub mod LineTexts
 pub mod LinesTable
 pub mod Numbers
 pub mod Openings
+pub mod Pushed
 pub mod Readers
 pub mod Readings
 pub mod Rising

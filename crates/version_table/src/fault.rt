@@ -48,7 +48,7 @@ impl Limit {
 }
 
 /// Why a text gave no table.
-#[derive(Clone, Copy, Debug, PartialEq, Eq, Error)]
+#[derive(Clone, Copy, Debug, Error)]
 pub enum TableFault {
     /// No table has this line there, counted from 1. A missing last line end counts for its line, and a line that is
     /// still owed at the end of the text is named too.

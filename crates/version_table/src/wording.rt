@@ -28,10 +28,10 @@ impl<'a> Allowed<'a> {
 impl fmt::Display for Allowed<'_> {
     fn fmt<W: fmt::Write>(&self, f: &mut fmt::Formatter<W>) -> fmt::Result {
         match self.name {
-            "slot" => write!(f, "{SLOT_LEAST} to {SLOT_MOST} ticks"),
-            "nodes" => write!(f, "1 to {NODES_MOST}"),
-            "evaluations" => write!(f, "0 to {EVALUATIONS_MOST}"),
-            "vbv" => write!(f, "1 to {VBV_MOST} units of 2048 bytes"),
+            "slot" => write_range(f, SLOT_LEAST, SLOT_MOST, " ticks"),
+            "nodes" => write_range(f, 1, NODES_MOST, ""),
+            "evaluations" => write_range(f, 0, EVALUATIONS_MOST, ""),
+            "vbv" => write_range(f, 1, VBV_MOST as u32, " units of 2048 bytes"),
             "bytes" => write!(
                 f,
                 "1 to {VERSION_BYTES_MOST} in a version, 1 to {PAYLOAD_BYTES} in a packet, and at most {TABLE_TEXT_MOST} in the text"
@@ -43,26 +43,35 @@ impl fmt::Display for Allowed<'_> {
     }
 }
 
+/// What is allowed of a number between two limits.
+fn write_range<W: fmt::Write>(
+    f: &mut fmt::Formatter<W>,
+    least: u32,
+    most: u32,
+    unit: &str,
+) -> fmt::Result {
+    write!(f, "{least} to {most}{unit}")
+}
+
 /// What is allowed of a time.
 fn write_time<W: fmt::Write>(f: &mut fmt::Formatter<W>, name: &str) -> fmt::Result {
-    match name {
-        "due" => write!(
-            f,
-            "at most {TIME_SLOTS_MOST} slots, above that of the unit before it, and not below that of the packet before it"
-        ),
-        _ => write!(
-            f,
-            "at most {TIME_SLOTS_MOST} slots, not below its due time, and not below that of the packet before it"
-        ),
-    }
+    let bound = match name {
+        "due" => "above that of the unit before it",
+        _ => "not below its due time",
+    };
+    write!(
+        f,
+        "at most {TIME_SLOTS_MOST} slots, {bound}, and not below that of the packet before it"
+    )
 }
 
 /// How many of a kind a table may have.
 fn write_count<W: fmt::Write>(f: &mut fmt::Formatter<W>, name: &str) -> fmt::Result {
-    match name {
-        "programs" => write!(f, "at most {PROGRAMS_MOST} programs"),
-        "audios" => write!(f, "at most {AUDIOS_MOST} audio streams in a program"),
-        "units" => write!(f, "at most {UNITS_MOST} units in all"),
-        _ => write!(f, "at most {TEXT_AUDIO_PACKETS_MOST} audio packets in all"),
-    }
+    let (most, kind) = match name {
+        "programs" => (PROGRAMS_MOST, "programs"),
+        "audios" => (AUDIOS_MOST, "audio streams in a program"),
+        "units" => (UNITS_MOST, "units in all"),
+        _ => (TEXT_AUDIO_PACKETS_MOST, "audio packets in all"),
+    };
+    write!(f, "at most {most} {kind}")
 }

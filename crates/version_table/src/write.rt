@@ -55,8 +55,7 @@ fn push_units(out: &mut Vec<u8>, units: &[Unit]) -> Result<(), OutOfMemory>
 fn push_unit(out: &mut Vec<u8>, unit: &Unit) -> Result<(), OutOfMemory>
     ensures { OnOk result (out.new.items ≡ out.old.items ++ text_of_line (line_of_unit unit.now)) }
 {
-    out.extend_from_slice(b"unit ")?;
-    push_number(out, unit.due)?;
+    push_word_and_number(out, b"unit ", unit.due)?;
     push_versions(out, unit.versions.as_slice())?;
     out.push(b'\n')?;
     Ok(())
@@ -66,10 +65,8 @@ fn push_versions(out: &mut Vec<u8>, versions: &[Version]) -> Result<(), OutOfMem
     ensures { OnOk result (out.new.items ≡ out.old.items ++ flat_map text_of_version (map stated versions.now)) }
 {
     for version in versions {
-        out.push(b' ')?;
-        push_number(out, u64::from(version.bytes))?;
-        out.push(b':')?;
-        push_number(out, version.distortion)?;
+        push_word_and_number(out, b" ", u64::from(version.bytes))?;
+        push_word_and_number(out, b":", version.distortion)?;
     }
     Ok(())
 }
@@ -105,12 +102,9 @@ fn push_packets(out: &mut Vec<u8>, packets: &[AudioPacket]) -> Result<(), OutOfM
 fn push_packet(out: &mut Vec<u8>, packet: &AudioPacket) -> Result<(), OutOfMemory>
     ensures { OnOk result (out.new.items ≡ out.old.items ++ text_of_line (line_of_packet packet.now)) }
 {
-    out.extend_from_slice(b"packet ")?;
-    push_number(out, packet.due)?;
-    out.push(b' ')?;
-    push_number(out, packet.gone)?;
-    out.push(b' ')?;
-    push_number(out, u64::from(packet.bytes))?;
+    push_word_and_number(out, b"packet ", packet.due)?;
+    push_word_and_number(out, b" ", packet.gone)?;
+    push_word_and_number(out, b" ", u64::from(packet.bytes))?;
     out.push(b'\n')?;
     Ok(())
 }
@@ -119,9 +113,17 @@ fn push_packet(out: &mut Vec<u8>, packet: &AudioPacket) -> Result<(), OutOfMemor
 fn push_number_line(out: &mut Vec<u8>, word: &[u8], n: u64) -> Result<(), OutOfMemory>
     ensures { OnOk result (out.new.items ≡ out.old.items ++ (word.now ++ decimal n ++ codes "\n")) }
 {
+    push_word_and_number(out, word, n)?;
+    out.push(b'\n')?;
+    Ok(())
+}
+
+/// A word or a sign, and one number.
+fn push_word_and_number(out: &mut Vec<u8>, word: &[u8], n: u64) -> Result<(), OutOfMemory>
+    ensures { OnOk result (out.new.items ≡ out.old.items ++ (word.now ++ decimal n)) }
+{
     out.extend_from_slice(word)?;
     push_number(out, n)?;
-    out.push(b'\n')?;
     Ok(())
 }
 

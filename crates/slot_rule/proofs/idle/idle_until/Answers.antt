@@ -2,8 +2,14 @@ use Rattle.std.proofs.Common.{◌≡◌, ◌<◌, ◌*◌, ◌/◌, ℕ, List, N
 use Rattle.stream_constants.specs.declared.clock.TheConstants.{SUBTICKS_PER_TICK}
 use Rattle.slot_rule.specs.declared.queue_state.QueueState.{QueueState}
 use Rattle.slot_rule.specs.Private.Heads.{IsFirst, IsFirstHead, Passes, PassesAt}
+use Rattle.slot_rule.proofs.AfterLaws.{small_first}
 use Rattle.slot_rule.proofs.IdleLaws.{IsIdle-from}
 use Rattle.slot_rule.proofs.idle.idle_until.Goals as goal
+
+pub overflow_mul-head : goal.overflow_mul-head
+overflow_mul-head c =
+    let first = subst (λ (states : List QueueState). IsFirst Passes states c.in-Some.head.stream c.in-Some.head.packet) c.as_slice-states.ensures.value c.in-Some.ensures in
+    omega (arith, small_first c.args.run.now.states.items c.in-Some.head.stream c.in-Some.head.packet c.requires.soon first)
 
 pub returns-clause-idle : goal.returns-clause-idle
 returns-clause-idle c m from upto =

@@ -1,4 +1,6 @@
 use Rattle.std.proofs.Common.{◌≡◌, ℕ, ◌*◌, length, sym, ap, ap₂, subst, ◌∙◌, arith}
+use Rattle.std.proofs.lemmas.Nat.{mul-le}
+use Rattle.version_table.specs.declared.limits.TheConstants.{SLOT_MOST, TIME_SLOTS_MOST}
 use Rattle.stream_constants.specs.declared.clock.TheConstants.{SUBTICKS_PER_TICK}
 use Rattle.slot_rule.specs.Private.Slots.{FillsSlot, Reserves}
 use Rattle.slot_rule.specs.Private.States.{ChangesEach, ReleasesAll}
@@ -6,6 +8,24 @@ use Rattle.slot_rule.specs.Timetable.{reserved}
 use Rattle.slot_rule.proofs.SlotLaws.{reserved_slot-run, free_slot-run}
 use Rattle.slot_rule.proofs.SmallLaws.{states_few, all_small, all_ready, all_placed}
 use Rattle.slot_rule.proofs.slot.run_slot.Goals as goal
+
+pub overflow_mul-start : goal.overflow_mul-start
+overflow_mul-start c =
+    let small = mul-le c.from.result c.from-2.result TIME_SLOTS_MOST SLOT_MOST (omega (arith, c.from.ensures, c.requires.slot))
+    (omega (arith, c.from-2.ensures, c.requires.valid.slot_most)) in
+    omega (arith, small)
+
+pub reserve-requires-clause-start : goal.reserve-requires-clause-start
+reserve-requires-clause-start c =
+    let small = mul-le c.from.result c.from-2.result TIME_SLOTS_MOST SLOT_MOST (omega (arith, c.from.ensures, c.requires.slot))
+    (omega (arith, c.from-2.ensures, c.requires.valid.slot_most)) in
+    omega (arith, small)
+
+pub send_first-requires-clause-start : goal.send_first-requires-clause-start
+send_first-requires-clause-start c =
+    let small = mul-le c.from.result c.from-2.result TIME_SLOTS_MOST SLOT_MOST (omega (arith, c.from.ensures, c.requires.slot))
+    (omega (arith, c.from-2.ensures, c.requires.valid.slot_most)) in
+    omega (arith, small)
 
 pub reserve-requires-clause-small : goal.reserve-requires-clause-small
 reserve-requires-clause-small c =
