@@ -2,8 +2,8 @@ ghost use Rattle.std.specs.Prelude.{◌≡◌, false, OnOk};
 ghost use Rattle.bit_lists.specs.Bits.{bits_of};
 ghost use Rattle.bit_cursor.specs.BitWriter.{is_stopped, AddsBits};
 
-use super::*;
-use shelf_io::{MemSink, VecSink};
+use bit_cursor::BitWriter;
+use shelf_io::{Fault, MemSink, Sink, VecSink};
 use std::test::Fail;
 
 // What callers know of a sink once its writer was finished.

@@ -1,6 +1,6 @@
-use super::*;
 use std::test::Fail;
 use stream_constants::packets::PACKET_BYTES;
+use ts_packets::{AdaptationField, Packet, PacketFault, pid_of};
 
 fn null_packet() -> [u8; PACKET_BYTES] {
     let mut bytes = [0xFF; PACKET_BYTES];

@@ -1,7 +1,7 @@
-use super::symbol::{
+use prefix_codes::symbol::{
     ADDRESS_ESCAPE, BACKWARD, END_OF_BLOCK, ESCAPE, FORWARD, INTRA, LEVELS_PER_RUN, PATTERN, QUANT,
 };
-use super::*;
+use prefix_codes::{Code, TableName, WINDOW_BITS, code_of, find, find_whole};
 
 #[test]
 fn a_code_is_found_where_all_its_bits_are_known(rt: HostRuntime) {
