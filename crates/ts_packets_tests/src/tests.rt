@@ -1,4 +1,4 @@
-use std::test::Fail;
+use assertions::assert_same;
 use stream_constants::packets::PACKET_BYTES;
 use ts_packets::{AdaptationField, Packet, PacketFault, pid_of};
 
@@ -18,72 +18,76 @@ fn pcr_packet() -> [u8; PACKET_BYTES] {
     bytes
 }
 
+/// The null packet with another front.
+fn with_front(front: [u8; 4]) -> [u8; PACKET_BYTES] {
+    let mut bytes = null_packet();
+    bytes[..4].copy_from_slice(&front);
+    bytes
+}
+
+/// The fault of the null packet with another front.
+fn fault_of(front: [u8; 4]) -> Option<PacketFault> {
+    Packet::read(&with_front(front)).err()
+}
+
+const NULL: Packet<'static> = Packet {
+    pid: 8191,
+    start: false,
+    counter: 0,
+    field: None,
+    payload: &[0xFF; 184],
+};
+
+const PCR: Packet<'static> = Packet {
+    pid: 257,
+    start: false,
+    counter: 15,
+    field: Some(AdaptationField {
+        discontinuity: false,
+        pcr: Some(2217),
+    }),
+    payload: &[],
+};
+
 #[test]
-fn a_null_packet_has_payload_alone(rt: HostRuntime) -> Result<(), Fail> {
-    let bytes = null_packet();
-    let packet = Packet::read(&bytes)?;
-    assert_eq!(rt; packet.pid, 8191);
-    assert_eq!(rt; packet.start, false);
-    assert_eq!(rt; packet.counter, 0);
-    assert_eq!(rt; packet.field, None);
-    assert_eq!(rt; packet.payload, [0xFF; 184].as_slice());
-    Ok(())
+fn a_null_packet_has_payload_alone(rt: HostRuntime) {
+    assert_same(&rt, Packet::read(&null_packet()), Ok(NULL));
 }
 
 #[test]
-fn a_pcr_packet_has_a_field_alone(rt: HostRuntime) -> Result<(), Fail> {
-    let bytes = pcr_packet();
-    let packet = Packet::read(&bytes)?;
-    let field = AdaptationField {
-        discontinuity: false,
-        pcr: Some(2217),
-    };
-    assert_eq!(rt; packet.pid, 257);
-    assert_eq!(rt; packet.counter, 15);
-    assert_eq!(rt; packet.field, Some(field));
-    assert_eq!(rt; packet.payload.len(), 0);
-    Ok(())
+fn a_pcr_packet_has_a_field_alone(rt: HostRuntime) {
+    assert_same(&rt, Packet::read(&pcr_packet()), Ok(PCR));
 }
 
 #[test]
 fn the_first_fault_is_answered(rt: HostRuntime) {
-    let mut bytes = null_packet();
-    bytes[3] = 0x0F;
-    assert_eq!(rt; Packet::read(&bytes), Err(PacketFault::BadField));
-    bytes[3] = 0xC0;
-    assert_eq!(rt; Packet::read(&bytes), Err(PacketFault::Scrambled));
-    bytes[1] = 0x80;
-    assert_eq!(rt; Packet::read(&bytes), Err(PacketFault::ErrorFlag));
-    assert_eq!(rt; pid_of(&bytes), Ok(255));
-    bytes[0] = 0x46;
-    assert_eq!(rt; Packet::read(&bytes), Err(PacketFault::Sync));
-    assert_eq!(rt; pid_of(&bytes), Err(PacketFault::Sync));
+    let faults = [
+        fault_of([0x47, 0x1F, 0xFF, 0x0F]),
+        fault_of([0x47, 0x1F, 0xFF, 0xC0]),
+        fault_of([0x47, 0x80, 0xFF, 0xC0]),
+        fault_of([0x46, 0x80, 0xFF, 0xC0]),
+    ];
+    let first = [
+        Some(PacketFault::BadField),
+        Some(PacketFault::Scrambled),
+        Some(PacketFault::ErrorFlag),
+        Some(PacketFault::Sync),
+    ];
+    assert_same(&rt, faults, first);
+    let pids = [
+        pid_of(&with_front([0x47, 0x80, 0xFF, 0xC0])),
+        pid_of(&with_front([0x46, 0x80, 0xFF, 0xC0])),
+    ];
+    assert_same(&rt, pids, [Ok(255), Err(PacketFault::Sync)]);
 }
 
 #[test]
 fn packets_are_written_byte_for_byte(rt: HostRuntime) {
     let mut bytes = [0; PACKET_BYTES];
-    let null = Packet {
-        pid: 8191,
-        start: false,
-        counter: 0,
-        field: None,
-        payload: &[0xFF; 184],
-    };
-    null.write(&mut bytes);
-    assert_eq!(rt; bytes.as_slice(), null_packet().as_slice());
-    let pcr = Packet {
-        pid: 257,
-        start: false,
-        counter: 15,
-        field: Some(AdaptationField {
-            discontinuity: false,
-            pcr: Some(2217),
-        }),
-        payload: &[],
-    };
-    pcr.write(&mut bytes);
-    assert_eq!(rt; bytes.as_slice(), pcr_packet().as_slice());
+    NULL.write(&mut bytes);
+    assert_same(&rt, bytes, null_packet());
+    PCR.write(&mut bytes);
+    assert_same(&rt, bytes, pcr_packet());
 }
 
 #[test]
@@ -101,6 +105,6 @@ fn a_short_payload_is_stuffed(rt: HostRuntime) {
     };
     packet.write(&mut bytes);
     let front = [0x47, 0x41, 0x00, 0x33, 0x03, 0x80, 0xFF, 0xFF];
-    assert_eq!(rt; &bytes[..8], front.as_slice());
-    assert_eq!(rt; Packet::read(&bytes), Ok(packet));
+    assert_same(&rt, &bytes[..8], front.as_slice());
+    assert_same(&rt, Packet::read(&bytes), Ok(packet));
 }
