@@ -90,6 +90,3 @@ impl<'a, K: Sink> BitWriter<'a, K> {
         self.stopped
     }
 }
-
-#[cfg(test)]
-mod tests;

@@ -15,6 +15,3 @@ mod waiting_bits;
 pub use bit_reader::{AHEAD_BITS, BitReader};
 pub use bit_writer::BitWriter;
 pub use fault::BitFault;
-
-#[cfg(test)]
-mod tests;

@@ -1,3 +1,4 @@
+use assertions::assert_same;
 use pes_units::{MOST_HEADER_BYTES, PesFault, PesHeader, Times, unwrap_time, write_video_header};
 
 #[test]
@@ -7,15 +8,11 @@ fn a_pts_alone_takes_fourteen_bytes(rt: HostRuntime) {
         dts: Some(90_000),
     };
     let mut header = [0xFF; MOST_HEADER_BYTES];
-    assert_eq!(rt; write_video_header(&times, &mut header), 14);
-    assert_eq!(rt;
-        &header[..15],
-        [
-            0x00, 0x00, 0x01, 0xE0, 0x00, 0x00, 0x80, 0x80, 0x05, 0x21, 0x00, 0x05, 0xBF, 0x21,
-            0xFF
-        ]
-        .as_slice()
-    );
+    assert_same(&rt, write_video_header(&times, &mut header), 14);
+    let written = [
+        0x00, 0x00, 0x01, 0xE0, 0x00, 0x00, 0x80, 0x80, 0x05, 0x21, 0x00, 0x05, 0xBF, 0x21, 0xFF,
+    ];
+    assert_same(&rt, &header[..15], written.as_slice());
 }
 
 #[test]
@@ -33,24 +30,38 @@ fn both_times_are_read(rt: HostRuntime) {
         },
         len: 20,
     };
-    assert_eq!(rt; PesHeader::read(&bytes, true), Ok(header));
-    assert_eq!(rt; PesHeader::read(&bytes, false), Err(PesFault::BadPrefix));
-    assert_eq!(rt; PesHeader::read(&bytes[..20], true), Err(PesFault::Short));
+    let read = [
+        PesHeader::read(&bytes, true),
+        PesHeader::read(&bytes, false),
+        PesHeader::read(&bytes[..20], true),
+    ];
+    let expected = [Ok(header), Err(PesFault::BadPrefix), Err(PesFault::Short)];
+    assert_same(&rt, read, expected);
 }
 
 #[test]
 fn the_first_fault_is_answered(rt: HostRuntime) {
     let mut bytes = [0x00, 0x00, 0x01, 0xC0, 0x00, 0x00, 0x30, 0x40, 0x00, 0x00];
-    assert_eq!(rt; PesHeader::read(&bytes[..2], false), Err(PesFault::Short));
-    assert_eq!(rt; PesHeader::read(&bytes[..9], false), Err(PesFault::Short));
-    assert_eq!(rt; PesHeader::read(&bytes, false), Err(PesFault::Scrambled));
-    bytes[6] = 0x80;
-    assert_eq!(rt; PesHeader::read(&bytes, false), Err(PesFault::BadMarker));
-    bytes[1] = 0x01;
-    assert_eq!(rt;
+    let scrambled = [
         PesHeader::read(&bytes[..2], false),
-        Err(PesFault::BadPrefix)
+        PesHeader::read(&bytes[..9], false),
+        PesHeader::read(&bytes, false),
+    ];
+    let faults = [
+        Err(PesFault::Short),
+        Err(PesFault::Short),
+        Err(PesFault::Scrambled),
+    ];
+    assert_same(&rt, scrambled, faults);
+    bytes[6] = 0x80;
+    assert_same(
+        &rt,
+        PesHeader::read(&bytes, false),
+        Err(PesFault::BadMarker),
     );
+    bytes[1] = 0x01;
+    let front = PesHeader::read(&bytes[..2], false);
+    assert_same(&rt, front, Err(PesFault::BadPrefix));
 }
 
 #[test]
@@ -67,19 +78,26 @@ fn a_cut_last_packet_is_taken_in_video_alone(rt: HostRuntime) {
         },
         len: 14,
     };
-    assert_eq!(rt; PesHeader::read(&bytes, true), Err(PesFault::Short));
-    assert_eq!(rt; PesHeader::read_last(&bytes, true), Ok(Some(header)));
-    assert_eq!(rt; PesHeader::read_last(&bytes[..13], true), Ok(None));
+    assert_same(&rt, PesHeader::read(&bytes, true), Err(PesFault::Short));
+    let last = [
+        PesHeader::read_last(&bytes, true),
+        PesHeader::read_last(&bytes[..13], true),
+    ];
+    assert_same(&rt, last, [Ok(Some(header)), Ok(None)]);
     bytes[3] = 0xC0;
     bytes[5] = 0xFF;
-    assert_eq!(rt; PesHeader::read_last(&bytes, false), Ok(None));
+    assert_same(&rt, PesHeader::read_last(&bytes, false), Ok(None));
     bytes[5] = 8;
-    assert_eq!(rt; PesHeader::read_last(&bytes, false), Err(PesFault::Short));
+    let audio = PesHeader::read_last(&bytes, false);
+    assert_same(&rt, audio, Err(PesFault::Short));
 }
 
 #[test]
 fn times_go_on_past_their_cycle(rt: HostRuntime) {
-    assert_eq!(rt; unwrap_time(8_589_930_992, 0), 8_589_934_592);
-    assert_eq!(rt; unwrap_time(0, (1 << 33) - 1), -1);
-    assert_eq!(rt; unwrap_time(0, 1 << 32), 1 << 32);
+    let times = [
+        unwrap_time(8_589_930_992, 0),
+        unwrap_time(0, (1 << 33) - 1),
+        unwrap_time(0, 1 << 32),
+    ];
+    assert_same(&rt, times, [8_589_934_592, -1, 1 << 32]);
 }

@@ -15,6 +15,3 @@ mod tables;
 pub use code::Code;
 pub use lookup::{WINDOW_BITS, code_of, coefficient_code, find, find_whole};
 pub use table_name::TableName;
-
-#[cfg(test)]
-mod tests;

@@ -18,6 +18,3 @@ pub use packet::{Packet, pid_of};
 pub use packet_fault::PacketFault;
 pub use pid_fault::PidFault;
 pub use pid_reader::PidReader;
-
-#[cfg(test)]
-mod tests;

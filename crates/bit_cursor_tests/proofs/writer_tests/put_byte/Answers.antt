@@ -1,7 +1,7 @@
 use Rattle.std.proofs.Common.{rules, ap}
 use Rattle.bit_lists.specs.Bits.{bits_of}
 use Rattle.bit_cursor.proofs.Composed.{finished}
-use Rattle.bit_cursor.proofs.bit_writer.tests.put_byte.Goals as goal
+use Rattle.bit_cursor_tests.proofs.writer_tests.put_byte.Goals as goal
 
 pub returns : goal.returns
 returns g c =

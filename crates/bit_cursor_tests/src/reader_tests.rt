@@ -3,8 +3,10 @@ ghost use Rattle.shelf_io.specs.Source.{Takes};
 ghost use Rattle.bit_lists.specs.Fields.{bit_list};
 ghost use Rattle.bit_cursor.specs.Shown.{IsFirstNumber};
 
-use super::*;
+use assertions::assert_same;
+use bit_cursor::{BitFault, BitReader};
 use shelf_io::{Fault, MemShelf, Reading, SliceSource, Source};
+use std::process::Abort;
 use std::test::Fail;
 
 /// A source that gives one byte at a time, however long the buffer is.
@@ -48,71 +50,67 @@ fn first_byte<S: Source>(source: &mut S) -> Result<u32, BitFault>
     reader.bits(8)
 }
 
-#[test]
-fn bits_come_in_order_and_a_look_ahead_moves_nothing(rt: HostRuntime) -> Result<(), Fail> {
-    let mut source = SliceSource::new(&[0xB4, 0x01]);
-    let mut reader = BitReader::new(&mut source);
-    assert_eq!(rt; reader.bits(3), Ok(5));
-    assert_eq!(rt; reader.peek(8), Ok((160, 8)));
-    assert_eq!(rt; reader.bits(14), Err(BitFault::End));
-    assert_eq!(rt; reader.place(), 3);
-    assert_eq!(rt; reader.bits(13), Ok(5121));
-    assert_eq!(rt; reader.peek(4), Ok((0, 0)));
-    assert_eq!(rt; reader.bits(0), Ok(0));
-    assert_eq!(rt; reader.place(), 16);
-    Ok(())
+/// Reads the bytes B4 01: a look ahead moves nothing, and no bit is lost where too many are asked for.
+fn read_both_bytes<S: Source>(rt: &impl Abort, source: &mut S) {
+    let mut reader = BitReader::new(source);
+    assert_same(rt, reader.bits(3), Ok(5));
+    assert_same(rt, reader.peek(8), Ok((160, 8)));
+    assert_same(rt, reader.bits(14), Err(BitFault::End));
+    assert_same(rt, reader.place(), 3);
+    assert_same(rt, reader.bits(13), Ok(5121));
+    assert_same(rt, reader.peek(4), Ok((0, 0)));
+    assert_same(rt, reader.bits(0), Ok(0));
+    assert_same(rt, reader.place(), 16);
 }
 
 #[test]
-fn a_source_of_one_byte_a_call_gives_the_same(rt: HostRuntime) -> Result<(), Fail> {
+fn bits_come_in_order_and_a_look_ahead_moves_nothing(rt: HostRuntime) {
+    read_both_bytes(&rt, &mut SliceSource::new(&[0xB4, 0x01]));
+}
+
+#[test]
+fn a_source_of_one_byte_a_call_gives_the_same(rt: HostRuntime) {
     let mut source = Slow {
         bytes: SliceSource::new(&[0xB4, 0x01]),
     };
-    let mut reader = BitReader::new(&mut source);
-    assert_eq!(rt; reader.bits(3), Ok(5));
-    assert_eq!(rt; reader.peek(8), Ok((160, 8)));
-    assert_eq!(rt; reader.bits(14), Err(BitFault::End));
-    assert_eq!(rt; reader.place(), 3);
-    assert_eq!(rt; reader.bits(13), Ok(5121));
-    assert_eq!(rt; reader.peek(4), Ok((0, 0)));
-    Ok(())
+    read_both_bytes(&rt, &mut source);
 }
 
 #[test]
-fn wide_numbers_cross_bytes(rt: HostRuntime) -> Result<(), Fail> {
+fn wide_numbers_cross_bytes(rt: HostRuntime) {
     let mut source = SliceSource::new(&[
         0x9E, 0x37, 0x79, 0xB9, 0x7F, 0x4A, 0x7C, 0x15, 0xF3, 0x9C,
     ]);
     let mut reader = BitReader::new(&mut source);
-    assert_eq!(rt; reader.bits(7), Ok(79));
-    assert_eq!(rt; reader.bits(32), Ok(465_362_111));
-    assert_eq!(rt; reader.bits(1), Ok(1));
-    assert_eq!(rt; reader.bits(25), Ok(9_762_859));
-    assert_eq!(rt; reader.peek(24), Ok((15_153_152, 15)));
-    Ok(())
+    let bits = [
+        reader.bits(7),
+        reader.bits(32),
+        reader.bits(1),
+        reader.bits(25),
+    ];
+    assert_same(&rt, bits, [Ok(79), Ok(465_362_111), Ok(1), Ok(9_762_859)]);
+    assert_same(&rt, reader.peek(24), Ok((15_153_152, 15)));
 }
 
 #[test]
-fn aligning_moves_to_the_next_byte_and_stays_at_one(rt: HostRuntime) -> Result<(), Fail> {
+fn aligning_moves_to_the_next_byte_and_stays_at_one(rt: HostRuntime) {
     let mut source = SliceSource::new(&[0xB4, 0x01, 0x47]);
     let mut reader = BitReader::new(&mut source);
-    assert_eq!(rt; reader.bits(3), Ok(5));
-    assert_eq!(rt; reader.peek(16), Ok((0xA00A, 16)));
+    assert_same(&rt, reader.bits(3), Ok(5));
+    assert_same(&rt, reader.peek(16), Ok((0xA00A, 16)));
     reader.align();
-    assert_eq!(rt; reader.place(), 8);
+    assert_same(&rt, reader.place(), 8);
     reader.align();
-    assert_eq!(rt; reader.bits(8), Ok(1));
-    assert_eq!(rt; reader.bits(8), Ok(0x47));
-    Ok(())
+    let bytes = [reader.bits(8), reader.bits(8)];
+    assert_same(&rt, bytes, [Ok(1), Ok(0x47)]);
 }
 
 #[test]
-fn a_source_goes_on_behind_the_bytes_that_were_asked_for(rt: HostRuntime) -> Result<(), Fail> {
+fn a_source_goes_on_behind_the_bytes_that_were_asked_for(rt: HostRuntime) {
     let mut source = SliceSource::new(&[0xB4, 0x01, 0x47]);
-    assert_eq!(rt; first_byte(&mut source), Ok(0xB4));
-    assert_eq!(rt; first_byte(&mut source), Ok(0x01));
-    assert_eq!(rt; source.take_byte(), Ok(Some(0x47)));
-    Ok(())
+    let bytes = [first_byte(&mut source), first_byte(&mut source)];
+    assert_same(&rt, bytes, [Ok(0xB4), Ok(0x01)]);
+    assert_same(&rt, source.take_byte(), Ok(Some(0x47)));
 }
 
 #[test]
@@ -122,20 +120,19 @@ fn a_file_that_fails_once_loses_no_bit(rt: HostRuntime) -> Result<(), Fail> {
     shelf.put_file("a", &[0xB4, 0x01])?;
     let mut file = Reading::new(&mut shelf, "a");
     let mut reader = BitReader::new(&mut file);
-    assert_eq!(rt; reader.bits(3), Ok(5));
-    assert_eq!(rt; reader.bits(13), Err(BitFault::Outside(Fault::Failed)));
-    assert_eq!(rt; reader.place(), 3);
-    assert_eq!(rt; reader.bits(13), Ok(5121));
+    let bits = [reader.bits(3), reader.bits(13)];
+    assert_same(&rt, bits, [Ok(5), Err(BitFault::Outside(Fault::Failed))]);
+    assert_same(&rt, reader.place(), 3);
+    assert_same(&rt, reader.bits(13), Ok(5121));
     Ok(())
 }
 
 #[test]
-fn a_file_that_is_not_held_is_missing(rt: HostRuntime) -> Result<(), Fail> {
+fn a_file_that_is_not_held_is_missing(rt: HostRuntime) {
     let alloc = rt.alloc();
     let mut shelf = MemShelf::new(alloc, Vec::new(alloc));
     let mut file = Reading::new(&mut shelf, "a");
     let mut reader = BitReader::new(&mut file);
-    assert_eq!(rt; reader.peek(1), Err(Fault::Missing));
-    assert_eq!(rt; reader.bits(0), Ok(0));
-    Ok(())
+    assert_same(&rt, reader.peek(1), Err(Fault::Missing));
+    assert_same(&rt, reader.bits(0), Ok(0));
 }
