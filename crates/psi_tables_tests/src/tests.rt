@@ -5,6 +5,7 @@ ghost use Rattle.psi_tables.specs.Streams.{IsStreamWritable};
 ghost use Rattle.psi_tables.specs.Pmt.{IsWritableMap, without_dropped};
 
 use arrayvec::{ArrayVec, CapacityError};
+use assertions::assert_same;
 use psi_tables::{
     ProgramMap, Section, SectionFault, Stream, crc32, is_pat, read_pat, read_pmt, write_pat,
     write_pmt,
@@ -33,6 +34,11 @@ const OTHER_PMT: [u8; 34] = [
 
 fn section_of(bytes: &[u8]) -> Result<Section, CapacityError> {
     Section::try_from(bytes)
+}
+
+/// What is read of a PMT with these bytes, where they fit into a section.
+fn pmt_of(bytes: &[u8]) -> Option<Result<Option<ProgramMap>, SectionFault>> {
+    Some(read_pmt(&section_of(bytes).ok()?))
 }
 
 /// A stream with one descriptor.
@@ -96,10 +102,8 @@ fn with_video(stream: Stream) -> ProgramMap
 
 #[test]
 fn the_crc_is_that_of_annex_a(rt: HostRuntime) {
-    assert_eq!(rt; crc32(b"123456789"), 0x0376_E6E7);
-    assert_eq!(rt; crc32(&[]), 0xFFFF_FFFF);
-    assert_eq!(rt; crc32(&PAT), 0);
-    assert_eq!(rt; crc32(&PMT), 0);
+    let sums = [crc32(b"123456789"), crc32(&[]), crc32(&PAT), crc32(&PMT)];
+    assert_same(&rt, sums, [0x0376_E6E7, 0xFFFF_FFFF, 0, 0]);
     assert_ne!(rt; crc32(&OTHER_PMT), 0);
 }
 
@@ -107,9 +111,12 @@ fn the_crc_is_that_of_annex_a(rt: HostRuntime) {
 fn a_pat_is_read(rt: HostRuntime) -> Result<(), Fail> {
     let section = section_of(&PAT)?;
     assert!(rt; is_pat(&section));
-    assert_eq!(rt; read_pat(&section, 1), Ok(Some(0x100)));
-    assert_eq!(rt; read_pat(&section, 2), Ok(None));
-    assert_eq!(rt; read_pat(&section, 0), Ok(None));
+    let pids = [
+        read_pat(&section, 1),
+        read_pat(&section, 2),
+        read_pat(&section, 0),
+    ];
+    assert_same(&rt, pids, [Ok(Some(0x100)), Ok(None), Ok(None)]);
     Ok(())
 }
 
@@ -119,8 +126,8 @@ fn the_networks_pid_is_skipped_and_the_first_of_two_taken(rt: HostRuntime) -> Re
         0x00, 0x30, 0x15, 0x00, 0x01, 0x01, 0x00, 0x00, 0x00, 0x00, 0x00, 0x10, 0x00, 0x02, 0x1F,
         0xFF, 0x00, 0x02, 0x00, 0x20, 0x00, 0x00, 0x00, 0x00,
     ])?;
-    assert_eq!(rt; read_pat(&section, 0), Ok(None));
-    assert_eq!(rt; read_pat(&section, 2), Ok(Some(0x1FFF)));
+    let pids = [read_pat(&section, 0), read_pat(&section, 2)];
+    assert_same(&rt, pids, [Ok(None), Ok(Some(0x1FFF))]);
     Ok(())
 }
 
@@ -129,37 +136,35 @@ fn a_section_of_another_table_or_not_current_says_nothing(rt: HostRuntime) -> Re
     let mut bytes = PAT;
     bytes[5] = 0xC0;
     let next = section_of(&bytes)?;
-    assert!(rt; !is_pat(&next));
-    assert_eq!(rt; read_pat(&next, 1), Ok(None));
     let map = section_of(&PMT)?;
-    assert!(rt; !is_pat(&map));
-    assert_eq!(rt; read_pat(&map, 1), Ok(None));
-    assert_eq!(rt; read_pmt(&section_of(&PAT)?), Ok(None));
     let short = section_of(&[0x00, 0xB0, 0x02, 0x00, 0x01])?;
-    assert_eq!(rt; read_pat(&short, 1), Ok(None));
+    assert_same(&rt, [is_pat(&next), is_pat(&map)], [false, false]);
+    let pids = [read_pat(&next, 1), read_pat(&map, 1), read_pat(&short, 1)];
+    assert_same(&rt, pids, [Ok(None), Ok(None), Ok(None)]);
+    assert_same(&rt, read_pmt(&section_of(&PAT)?), Ok(None));
     Ok(())
 }
 
 #[test]
 fn a_section_that_its_loops_do_not_fill_is_bad(rt: HostRuntime) -> Result<(), Fail> {
     let cut = section_of(&PAT[..15])?;
-    assert_eq!(rt; read_pat(&cut, 2), Err(SectionFault::BadSection));
     let header = section_of(&PAT[..6])?;
-    assert_eq!(rt; read_pat(&header, 1), Err(SectionFault::BadSection));
+    let pids = [read_pat(&cut, 2), read_pat(&header, 1)];
+    assert_same(
+        &rt,
+        pids,
+        [Err(SectionFault::BadSection), Err(SectionFault::BadSection)],
+    );
     let mut bytes = OTHER_PMT;
     bytes[21] = 7;
-    assert_eq!(rt;
-        read_pmt(&section_of(&bytes)?),
-        Err(SectionFault::BadSection)
-    );
+    let bad = Some(Err(SectionFault::BadSection));
+    assert_same(&rt, pmt_of(&bytes), bad);
     bytes[21] = 8;
     bytes[26] = 4;
-    assert_eq!(rt;
-        read_pmt(&section_of(&bytes)?),
-        Err(SectionFault::BadSection)
-    );
+    let bad = Some(Err(SectionFault::BadSection));
+    assert_same(&rt, pmt_of(&bytes), bad);
     bytes[5] = 0x0A;
-    assert_eq!(rt; read_pmt(&section_of(&bytes)?), Ok(None));
+    assert_same(&rt, pmt_of(&bytes), Some(Ok(None)));
     Ok(())
 }
 
@@ -167,10 +172,11 @@ fn a_section_that_its_loops_do_not_fill_is_bad(rt: HostRuntime) -> Result<(), Fa
 fn a_pat_is_written_byte_for_byte(rt: HostRuntime) {
     let mut section = Section::new();
     write_pat(1, &[(1, 0x100)], &mut section);
-    assert_eq!(rt; section.as_slice(), PAT.as_slice());
-    assert_eq!(rt;
+    assert_same(&rt, section.as_slice(), PAT.as_slice());
+    assert_same(
+        &rt,
         pid_read_back(&[(1, 0x100), (7, 0x1FFF)], 7),
-        Ok(Some(0x1FFF))
+        Ok(Some(0x1FFF)),
     );
 }
 
@@ -178,9 +184,9 @@ fn a_pat_is_written_byte_for_byte(rt: HostRuntime) {
 fn a_pmt_is_written_byte_for_byte_and_read_back(rt: HostRuntime) -> Result<(), Fail> {
     let mut section = Section::new();
     let map = with_video(stream_of(3, 0x102, 10, &[0x65, 0x6E, 0x67, 0])?);
-    assert_eq!(rt; write_pmt(&map, &mut section), Ok(()));
-    assert_eq!(rt; section.as_slice(), PMT.as_slice());
-    assert_eq!(rt; read_back(&map)?, Some(map));
+    assert_same(&rt, write_pmt(&map, &mut section), Ok(()));
+    assert_same(&rt, section.as_slice(), PMT.as_slice());
+    assert_same(&rt, read_back(&map)?, Some(map));
     Ok(())
 }
 
@@ -194,7 +200,7 @@ fn descriptors_of_other_tags_are_counted(rt: HostRuntime) -> Result<(), Fail> {
         streams,
         dropped: 3,
     };
-    assert_eq!(rt; read_pmt(&section_of(&OTHER_PMT)?), Ok(Some(map)));
+    assert_same(&rt, read_pmt(&section_of(&OTHER_PMT)?), Ok(Some(map)));
     Ok(())
 }
 
@@ -206,13 +212,13 @@ fn no_more_than_64_streams_are_read(rt: HostRuntime) -> Result<(), Fail> {
     }
     section.try_extend_from_slice(&[0; 4])?;
     let count = read_pmt(&section)?.map_or(0, |map| map.streams.len());
-    assert_eq!(rt; count, 64);
+    assert_same(&rt, count, 64);
     let mut longer = section_of(&[2, 0xB1, 0x52, 0, 1, 0xC1, 0, 0, 0xE1, 1, 0xF0, 0])?;
     for _ in 0..65 {
         longer.try_extend_from_slice(&[2, 0xE1, 1, 0xF0, 0])?;
     }
     longer.try_extend_from_slice(&[0; 4])?;
-    assert_eq!(rt; read_pmt(&longer), Err(SectionFault::BadSection));
+    assert_same(&rt, read_pmt(&longer), Err(SectionFault::BadSection));
     Ok(())
 }
 
@@ -222,11 +228,11 @@ fn no_more_than_183_bytes_of_a_stream_are_kept(rt: HostRuntime) -> Result<(), Fa
     section.try_extend_from_slice(&[2, 0xE1, 1, 0xF0, 183, 2, 181])?;
     section.try_extend_from_slice(&[0; 185])?;
     let count = read_pmt(&section)?.map_or(0, |map| map.streams.len());
-    assert_eq!(rt; count, 1);
+    assert_same(&rt, count, 1);
     let mut longer = section_of(&[2, 0xB0, 0xCA, 0, 1, 0xC1, 0, 0, 0xE1, 1, 0xF0, 0])?;
     longer.try_extend_from_slice(&[2, 0xE1, 1, 0xF0, 184, 2, 182])?;
     longer.try_extend_from_slice(&[0; 186])?;
-    assert_eq!(rt; read_pmt(&longer), Err(SectionFault::BadSection));
+    assert_same(&rt, read_pmt(&longer), Err(SectionFault::BadSection));
     Ok(())
 }
 
@@ -234,11 +240,11 @@ fn no_more_than_183_bytes_of_a_stream_are_kept(rt: HostRuntime) -> Result<(), Fa
 fn a_section_of_183_bytes_is_written_and_a_longer_one_is_not(rt: HostRuntime) -> Result<(), Fail> {
     let mut section = Section::new();
     let map = with_video(stream_of(3, 0x102, 3, &[0; 155])?);
-    assert_eq!(rt; write_pmt(&map, &mut section), Ok(()));
-    assert_eq!(rt; section.len(), 183);
+    assert_same(&rt, write_pmt(&map, &mut section), Ok(()));
+    assert_same(&rt, section.len(), 183);
     let mut other = section_of(&PAT)?;
     let map = with_video(stream_of(3, 0x102, 3, &[0; 156])?);
-    assert_eq!(rt; write_pmt(&map, &mut other), Err(SectionFault::TooLong));
-    assert_eq!(rt; other.as_slice(), PAT.as_slice());
+    assert_same(&rt, write_pmt(&map, &mut other), Err(SectionFault::TooLong));
+    assert_same(&rt, other.as_slice(), PAT.as_slice());
     Ok(())
 }
