@@ -26,44 +26,47 @@ fn answer_behind(alloc: Global, rest: &str) -> Result<String, AllocError> {
     answer_of(alloc, text.as_bytes())
 }
 
+/// Texts of jobs without programs, and what reading them answers.
+const FIELDS: [(&str, &str); 31] = [
+    ("", "field slot"),
+    ("# a remark alone\n", "field slot"),
+    ("start = -1\n", "field slot"),
+    ("slot = \"4000\"\n", "field slot"),
+    ("slot = 4000.0\n", "field slot"),
+    ("slot = 2026-11-27\n", "field slot"),
+    ("slot = [4000]\n", "field slot"),
+    ("slot = -4000\n", "limit slot"),
+    ("slot = 1015\n", "limit slot"),
+    ("slot = 1016\n", "field program"),
+    ("slot = 40_000\n", "field program"),
+    ("slot = 40001\n", "limit slot"),
+    ("slot = 4000\n", "field program"),
+    ("slot = 4000\nstart = 0\n", "field program"),
+    ("slot = 4000\nstart = 54000000\n", "field program"),
+    ("slot = 4000\nstart = 54000001\n", "limit start"),
+    ("slot = 4000\nstart = true\n", "field start"),
+    ("slot = 4000\nstream_id = 65535\n", "field program"),
+    ("slot = 4000\nstream_id = 65536\n", "limit stream_id"),
+    ("slot = 4000\nnodes = 0\n", "limit nodes"),
+    ("slot = 4000\nnodes = 1048576\n", "field program"),
+    ("slot = 4000\nnodes = 1048577\n", "limit nodes"),
+    ("evaluations = 1.5\nnodes = 0\nslot = 4000\n", "limit nodes"),
+    ("slot = 4000\nevaluations = 0\n", "field program"),
+    ("slot = 4000\nevaluations = 1048577\n", "limit evaluations"),
+    ("slot = 4000\nprogram = 1\n", "field program"),
+    ("slot = 4000\n[program]\nfile = \"a.ts\"\n", "field program"),
+    ("slot = 4000\nprogram = []\n", "limit program"),
+    ("slot = 4000\nprogram = [{}, 1]\n", "field program"),
+    (
+        "slot = 4000\nprogram = [{},{},{},{},{},{},{},{},{}]\nx = 1\n",
+        "limit program",
+    ),
+    ("slot = 4000\nslots = 1\n[[program]]\n", "field unknown"),
+];
+
 #[test]
 fn fields_of_a_job_are_tested_in_order(rt: HostRuntime) -> Result<(), Fail> {
-    for (text, want) in [
-        ("", "field slot"),
-        ("# a remark alone\n", "field slot"),
-        ("start = -1\n", "field slot"),
-        ("slot = \"4000\"\n", "field slot"),
-        ("slot = 4000.0\n", "field slot"),
-        ("slot = 2026-11-27\n", "field slot"),
-        ("slot = [4000]\n", "field slot"),
-        ("slot = -4000\n", "limit slot"),
-        ("slot = 1015\n", "limit slot"),
-        ("slot = 1016\n", "field program"),
-        ("slot = 40_000\n", "field program"),
-        ("slot = 40001\n", "limit slot"),
-        ("slot = 4000\n", "field program"),
-        ("slot = 4000\nstart = 0\n", "field program"),
-        ("slot = 4000\nstart = 54000000\n", "field program"),
-        ("slot = 4000\nstart = 54000001\n", "limit start"),
-        ("slot = 4000\nstart = true\n", "field start"),
-        ("slot = 4000\nstream_id = 65535\n", "field program"),
-        ("slot = 4000\nstream_id = 65536\n", "limit stream_id"),
-        ("slot = 4000\nnodes = 0\n", "limit nodes"),
-        ("slot = 4000\nnodes = 1048576\n", "field program"),
-        ("slot = 4000\nnodes = 1048577\n", "limit nodes"),
-        ("evaluations = 1.5\nnodes = 0\nslot = 4000\n", "limit nodes"),
-        ("slot = 4000\nevaluations = 0\n", "field program"),
-        ("slot = 4000\nevaluations = 1048577\n", "limit evaluations"),
-        ("slot = 4000\nprogram = 1\n", "field program"),
-        ("slot = 4000\n[program]\nfile = \"a.ts\"\n", "field program"),
-        ("slot = 4000\nprogram = []\n", "limit program"),
-        ("slot = 4000\nprogram = [{}, 1]\n", "field program"),
-        (
-            "slot = 4000\nprogram = [{},{},{},{},{},{},{},{},{}]\nx = 1\n",
-            "limit program",
-        ),
-        ("slot = 4000\nslots = 1\n[[program]]\n", "field unknown"),
-    ] {
+    for &(text, want) in &FIELDS {
         assert_eq!(rt;
             answer_of(rt.alloc(), text.as_bytes())?.as_str(),
             want,
@@ -73,61 +76,64 @@ fn fields_of_a_job_are_tested_in_order(rt: HostRuntime) -> Result<(), Fail> {
     Ok(())
 }
 
+/// What goes on behind a job with what must be there, and what reading both answers.
+const PROGRAM_FIELDS: [(&str, &str); 30] = [
+    ("", "job"),
+    ("weight = 1\n", "job"),
+    ("weight = 0\n", "limit program[0].weight"),
+    ("weight = 100\n", "job"),
+    ("weight = 101\n", "limit program[0].weight"),
+    ("weight = \"1\"\nweigth = 2\n", "field program[0].weight"),
+    ("weigth = 2\n", "field program[0].unknown"),
+    ("coarser = []\n", "job"),
+    ("coarser = [17, 1792]\n", "job"),
+    ("coarser = [16, 17]\n", "limit program[0].coarser"),
+    ("coarser = [1793]\n", "limit program[0].coarser"),
+    ("coarser = [32, 24]\n", "limit program[0].coarser"),
+    ("coarser = [24, 24]\n", "limit program[0].coarser"),
+    ("coarser = [17, 18, 19, 20, 21, 22, 23]\n", "job"),
+    (
+        "coarser = [17, 18, 19, 20, 21, 22, 23, 24]\n",
+        "limit program[0].coarser",
+    ),
+    ("coarser = [1, \"32\"]\n", "field program[0].coarser"),
+    ("coarser = 24\n", "field program[0].coarser"),
+    ("drop = [8191, 0, 0]\n", "job"),
+    ("drop = [8192]\n", "limit program[0].drop"),
+    ("drop = [-1]\n", "limit program[0].drop"),
+    ("drop = [33, 34.0]\n", "field program[0].drop"),
+    ("[[program]]\n", "field program[1].file"),
+    ("[[program]]\nfile = \"\"\n", "limit program[1].file"),
+    ("[[program]]\nfile = \"b\"\n", "field program[1].program"),
+    (
+        "[[program]]\nfile = \"b\"\nprogram = 0\n",
+        "limit program[1].program",
+    ),
+    (
+        "[[program]]\nfile = \"b\"\nprogram = 1\n",
+        "field program[1].number",
+    ),
+    (
+        "[[program]]\nfile = \"b\"\nprogram = 65535\nnumber = 65535\n",
+        "job",
+    ),
+    (
+        "[[program]]\nfile = \"b\"\nprogram = 65536\n",
+        "limit program[1].program",
+    ),
+    (
+        "[[program]]\nfile = \"b\"\nprogram = 1\nnumber = 1\n",
+        "limit program[1].number",
+    ),
+    (
+        "[[program]]\nfile = \"a.ts\"\nprogram = 1\nnumber = 2\n",
+        "job",
+    ),
+];
+
 #[test]
 fn fields_of_programs_are_tested_in_order(rt: HostRuntime) -> Result<(), Fail> {
-    for (text, want) in [
-        ("", "job"),
-        ("weight = 1\n", "job"),
-        ("weight = 0\n", "limit program[0].weight"),
-        ("weight = 100\n", "job"),
-        ("weight = 101\n", "limit program[0].weight"),
-        ("weight = \"1\"\nweigth = 2\n", "field program[0].weight"),
-        ("weigth = 2\n", "field program[0].unknown"),
-        ("coarser = []\n", "job"),
-        ("coarser = [17, 1792]\n", "job"),
-        ("coarser = [16, 17]\n", "limit program[0].coarser"),
-        ("coarser = [1793]\n", "limit program[0].coarser"),
-        ("coarser = [32, 24]\n", "limit program[0].coarser"),
-        ("coarser = [24, 24]\n", "limit program[0].coarser"),
-        ("coarser = [17, 18, 19, 20, 21, 22, 23]\n", "job"),
-        (
-            "coarser = [17, 18, 19, 20, 21, 22, 23, 24]\n",
-            "limit program[0].coarser",
-        ),
-        ("coarser = [1, \"32\"]\n", "field program[0].coarser"),
-        ("coarser = 24\n", "field program[0].coarser"),
-        ("drop = [8191, 0, 0]\n", "job"),
-        ("drop = [8192]\n", "limit program[0].drop"),
-        ("drop = [-1]\n", "limit program[0].drop"),
-        ("drop = [33, 34.0]\n", "field program[0].drop"),
-        ("[[program]]\n", "field program[1].file"),
-        ("[[program]]\nfile = \"\"\n", "limit program[1].file"),
-        ("[[program]]\nfile = \"b\"\n", "field program[1].program"),
-        (
-            "[[program]]\nfile = \"b\"\nprogram = 0\n",
-            "limit program[1].program",
-        ),
-        (
-            "[[program]]\nfile = \"b\"\nprogram = 1\n",
-            "field program[1].number",
-        ),
-        (
-            "[[program]]\nfile = \"b\"\nprogram = 65535\nnumber = 65535\n",
-            "job",
-        ),
-        (
-            "[[program]]\nfile = \"b\"\nprogram = 65536\n",
-            "limit program[1].program",
-        ),
-        (
-            "[[program]]\nfile = \"b\"\nprogram = 1\nnumber = 1\n",
-            "limit program[1].number",
-        ),
-        (
-            "[[program]]\nfile = \"a.ts\"\nprogram = 1\nnumber = 2\n",
-            "job",
-        ),
-    ] {
+    for &(text, want) in &PROGRAM_FIELDS {
         assert_eq!(rt;
             answer_behind(rt.alloc(), text)?.as_str(),
             want,
@@ -137,19 +143,22 @@ fn fields_of_programs_are_tested_in_order(rt: HostRuntime) -> Result<(), Fail> {
     Ok(())
 }
 
+/// Texts that are documents or none, and what reading them answers.
+const DOCUMENTS: [(&str, &str); 9] = [
+    ("slot =\n", "syntax"),
+    ("slot = 4000\nslot = 4000\n", "syntax"),
+    ("slot = 04000\n", "syntax"),
+    ("slot = 4000\r\n", "field program"),
+    ("slot = 4000\r", "syntax"),
+    ("\u{feff}slot = 4000\n", "field program"),
+    ("slot = 4000", "field program"),
+    ("slot = 9223372036854775808\n", "syntax"),
+    ("\"slot\" = 4000\n", "field program"),
+];
+
 #[test]
 fn texts_are_documents_or_refused(rt: HostRuntime) -> Result<(), Fail> {
-    for (text, want) in [
-        ("slot =\n", "syntax"),
-        ("slot = 4000\nslot = 4000\n", "syntax"),
-        ("slot = 04000\n", "syntax"),
-        ("slot = 4000\r\n", "field program"),
-        ("slot = 4000\r", "syntax"),
-        ("\u{feff}slot = 4000\n", "field program"),
-        ("slot = 4000", "field program"),
-        ("slot = 9223372036854775808\n", "syntax"),
-        ("\"slot\" = 4000\n", "field program"),
-    ] {
+    for &(text, want) in &DOCUMENTS {
         assert_eq!(rt;
             answer_of(rt.alloc(), text.as_bytes())?.as_str(),
             want,

@@ -65,7 +65,7 @@ fn is_printed(table: TableName, symbol: u16, printed: &str) -> bool {
 }
 
 /// Codes of each table, as Annex B prints them.
-const PRINTED: [(TableName, u16, &'static str); 30] = [
+const PRINTED: [(TableName, u16, &str); 30] = [
     (TableName::Address, 1, "1"),
     (TableName::Address, 16, "0000 0101 11"),
     (TableName::Address, 33, "0000 0011 000"),

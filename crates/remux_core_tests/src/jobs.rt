@@ -32,7 +32,7 @@ const JOBS: [(&str, u8, &str); 5] = [
 fn each_job_without_a_table_has_its_status_and_line(rt: HostRuntime) -> Result<(), Fail> {
     for words in [["run", "j", "o", "c"].as_slice(), &["check", "j", "c"]] {
         let words = words_of(rt.alloc(), words)?;
-        for (text, code, line) in JOBS {
+        for &(text, code, line) in &JOBS {
             let mut shelf = CalmShelf::new(rt.alloc());
             shelf.put_file("j", text.as_bytes())?;
             let mut out = CalmSink::new(rt.alloc());

@@ -71,7 +71,7 @@ const CERTIFICATE_FRONT: [u8; 31] = [
 #[test]
 fn each_example_has_its_status_and_line(rt: HostRuntime) -> Result<(), Fail> {
     let words = words_of(rt.alloc(), &["plan", "t", "c"])?;
-    for (text, code, line) in EXAMPLES {
+    for &(text, code, line) in &EXAMPLES {
         let mut shelf = CalmShelf::new(rt.alloc());
         shelf.put_file("t", text.as_bytes())?;
         let mut out = CalmSink::new(rt.alloc());
@@ -103,7 +103,7 @@ fn a_certificate_has_its_numbers(rt: HostRuntime) -> Result<(), Fail> {
 #[test]
 fn each_failing_call_has_its_status(rt: HostRuntime) -> Result<(), Fail> {
     let words = words_of(rt.alloc(), &["plan", "t", "c"])?;
-    for (text, code, _line) in EXAMPLES {
+    for &(text, code, _line) in &EXAMPLES {
         let calls = if code == 0 { 4 } else { 2 };
         for k in 1..=calls + 1 {
             let mut shelf = MemShelf::new(rt.alloc(), vec![in rt.alloc(); k]?);
@@ -129,7 +129,7 @@ fn each_failing_call_has_its_status(rt: HostRuntime) -> Result<(), Fail> {
 #[test]
 fn a_report_that_fails_is_a_write_fault(rt: HostRuntime) -> Result<(), Fail> {
     let words = words_of(rt.alloc(), &["plan", "t", "c"])?;
-    for (text, _code, _line) in EXAMPLES {
+    for &(text, _code, _line) in &EXAMPLES {
         let mut shelf = CalmShelf::new(rt.alloc());
         shelf.put_file("t", text.as_bytes())?;
         let mut out = MemSink::new(rt.alloc(), vec![in rt.alloc(); 1]?);

@@ -64,7 +64,7 @@ const TABLE_FRONT: &str =
 #[test]
 fn each_probed_file_has_its_status_and_line(rt: HostRuntime) -> Result<(), Fail> {
     let program = make_program(rt.alloc(), 1, 12)?;
-    for (length, number, code, line) in PROBES {
+    for &(length, number, code, line) in &PROBES {
         let words = words_of(rt.alloc(), &["probe", "a.ts", number, "t"])?;
         let mut shelf = CalmShelf::new(rt.alloc());
         shelf.put_file("a.ts", program.as_slice().get(..length).unwrap_or(&[]))?;
