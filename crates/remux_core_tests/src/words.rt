@@ -14,7 +14,7 @@ pub fn words_of(alloc: Global, words: &[&str]) -> Result<Vec<String>, AllocError
 
 /// Words that are no command.
 const NO_COMMANDS: [&[&str]; 35] = [
-    [].as_slice(),
+    &[],
     &["plan", "t"],
     &["plan", "t", "t"],
     &["plan", "", "c"],
