@@ -6,4 +6,6 @@
 #[cfg(test)]
 mod reader_tests;
 #[cfg(test)]
+mod same;
+#[cfg(test)]
 mod writer_tests;

@@ -3,7 +3,7 @@ ghost use Rattle.shelf_io.specs.Source.{Takes};
 ghost use Rattle.bit_lists.specs.Fields.{bit_list};
 ghost use Rattle.bit_cursor.specs.Shown.{IsFirstNumber};
 
-use assertions::assert_same;
+use crate::same::assert_same;
 use bit_cursor::{BitFault, BitReader};
 use shelf_io::{Fault, MemShelf, Reading, SliceSource, Source};
 use std::process::Abort;

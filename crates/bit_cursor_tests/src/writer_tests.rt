@@ -2,7 +2,7 @@ ghost use Rattle.std.specs.Prelude.{◌≡◌, false, OnOk};
 ghost use Rattle.bit_lists.specs.Bits.{bits_of};
 ghost use Rattle.bit_cursor.specs.BitWriter.{is_stopped, AddsBits};
 
-use assertions::assert_same;
+use crate::same::assert_same;
 use bit_cursor::BitWriter;
 use shelf_io::{Fault, MemSink, Sink, VecSink};
 use std::process::Abort;

@@ -1,4 +1,3 @@
-use assertions::assert_same;
 use pes_units::{MOST_HEADER_BYTES, PesFault, PesHeader, Times, unwrap_time, write_video_header};
 
 #[test]
@@ -8,11 +7,11 @@ fn a_pts_alone_takes_fourteen_bytes(rt: HostRuntime) {
         dts: Some(90_000),
     };
     let mut header = [0xFF; MOST_HEADER_BYTES];
-    assert_same(&rt, write_video_header(&times, &mut header), 14);
+    assert_eq!(rt; write_video_header(&times, &mut header), 14);
     let written = [
         0x00, 0x00, 0x01, 0xE0, 0x00, 0x00, 0x80, 0x80, 0x05, 0x21, 0x00, 0x05, 0xBF, 0x21, 0xFF,
     ];
-    assert_same(&rt, &header[..15], written.as_slice());
+    assert_eq!(rt; &header[..15], written.as_slice());
 }
 
 #[test]
@@ -36,7 +35,7 @@ fn both_times_are_read(rt: HostRuntime) {
         PesHeader::read(&bytes[..20], true),
     ];
     let expected = [Ok(header), Err(PesFault::BadPrefix), Err(PesFault::Short)];
-    assert_same(&rt, read, expected);
+    assert_eq!(rt; read, expected);
 }
 
 #[test]
@@ -52,16 +51,12 @@ fn the_first_fault_is_answered(rt: HostRuntime) {
         Err(PesFault::Short),
         Err(PesFault::Scrambled),
     ];
-    assert_same(&rt, scrambled, faults);
+    assert_eq!(rt; scrambled, faults);
     bytes[6] = 0x80;
-    assert_same(
-        &rt,
-        PesHeader::read(&bytes, false),
-        Err(PesFault::BadMarker),
-    );
+    assert_eq!(rt; PesHeader::read(&bytes, false), Err(PesFault::BadMarker));
     bytes[1] = 0x01;
     let front = PesHeader::read(&bytes[..2], false);
-    assert_same(&rt, front, Err(PesFault::BadPrefix));
+    assert_eq!(rt; front, Err(PesFault::BadPrefix));
 }
 
 #[test]
@@ -78,18 +73,18 @@ fn a_cut_last_packet_is_taken_in_video_alone(rt: HostRuntime) {
         },
         len: 14,
     };
-    assert_same(&rt, PesHeader::read(&bytes, true), Err(PesFault::Short));
+    assert_eq!(rt; PesHeader::read(&bytes, true), Err(PesFault::Short));
     let last = [
         PesHeader::read_last(&bytes, true),
         PesHeader::read_last(&bytes[..13], true),
     ];
-    assert_same(&rt, last, [Ok(Some(header)), Ok(None)]);
+    assert_eq!(rt; last, [Ok(Some(header)), Ok(None)]);
     bytes[3] = 0xC0;
     bytes[5] = 0xFF;
-    assert_same(&rt, PesHeader::read_last(&bytes, false), Ok(None));
+    assert_eq!(rt; PesHeader::read_last(&bytes, false), Ok(None));
     bytes[5] = 8;
     let audio = PesHeader::read_last(&bytes, false);
-    assert_same(&rt, audio, Err(PesFault::Short));
+    assert_eq!(rt; audio, Err(PesFault::Short));
 }
 
 #[test]
@@ -99,5 +94,5 @@ fn times_go_on_past_their_cycle(rt: HostRuntime) {
         unwrap_time(0, (1 << 33) - 1),
         unwrap_time(0, 1 << 32),
     ];
-    assert_same(&rt, times, [8_589_934_592, -1, 1 << 32]);
+    assert_eq!(rt; times, [8_589_934_592, -1, 1 << 32]);
 }

@@ -1,4 +1,3 @@
-use assertions::assert_same;
 use prefix_codes::symbol::{
     ADDRESS_ESCAPE, BACKWARD, END_OF_BLOCK, ESCAPE, FORWARD, INTRA, LEVELS_PER_RUN, PATTERN, QUANT,
 };
@@ -14,11 +13,7 @@ fn a_code_is_found_where_all_its_bits_are_known(rt: HostRuntime) {
         find(table, 0xFF_FFFF, 0),
         find(table, 0, 24),
     ];
-    assert_same(
-        &rt,
-        found,
-        [Some((1, 2)), None, Some((4000, 2)), None, None],
-    );
+    assert_eq!(rt; found, [Some((1, 2)), None, Some((4000, 2)), None, None]);
 }
 
 #[test]
@@ -38,15 +33,15 @@ fn a_code_is_found_in_a_whole_window(rt: HostRuntime) {
         Some((16, 10)),
         None,
     ];
-    assert_same(&rt, found, whole);
+    assert_eq!(rt; found, whole);
 }
 
 #[test]
 fn the_first_coefficient_has_a_code_of_one_bit_and_no_end_of_block(rt: HostRuntime) {
     let table = TableName::CoeffFirst;
-    assert_same(&rt, find(table, 0x80_0000, 24), Some((1, 1)));
+    assert_eq!(rt; find(table, 0x80_0000, 24), Some((1, 1)));
     let codes = [code_of(table, END_OF_BLOCK), code_of(table, ESCAPE)];
-    assert_same(&rt, codes, [None, Some(Code { bits: 1, len: 6 })]);
+    assert_eq!(rt; codes, [None, Some(Code { bits: 1, len: 6 })]);
 }
 
 /// The bits of a code as Annex B prints them, at the front of a window.

@@ -4,8 +4,8 @@ ghost use Rattle.psi_tables.specs.Pat.{map_pid};
 ghost use Rattle.psi_tables.specs.Streams.{IsStreamWritable};
 ghost use Rattle.psi_tables.specs.Pmt.{IsWritableMap, without_dropped};
 
+use crate::same::assert_same;
 use arrayvec::{ArrayVec, CapacityError};
-use assertions::assert_same;
 use psi_tables::{
     ProgramMap, Section, SectionFault, Stream, crc32, is_pat, read_pat, read_pmt, write_pat,
     write_pmt,

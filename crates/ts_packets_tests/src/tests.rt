@@ -1,4 +1,3 @@
-use assertions::assert_same;
 use stream_constants::packets::PACKET_BYTES;
 use ts_packets::{AdaptationField, Packet, PacketFault, pid_of};
 
@@ -51,12 +50,12 @@ const PCR: Packet<'static> = Packet {
 
 #[test]
 fn a_null_packet_has_payload_alone(rt: HostRuntime) {
-    assert_same(&rt, Packet::read(&null_packet()), Ok(NULL));
+    assert_eq!(rt; Packet::read(&null_packet()), Ok(NULL));
 }
 
 #[test]
 fn a_pcr_packet_has_a_field_alone(rt: HostRuntime) {
-    assert_same(&rt, Packet::read(&pcr_packet()), Ok(PCR));
+    assert_eq!(rt; Packet::read(&pcr_packet()), Ok(PCR));
 }
 
 #[test]
@@ -73,21 +72,21 @@ fn the_first_fault_is_answered(rt: HostRuntime) {
         Some(PacketFault::ErrorFlag),
         Some(PacketFault::Sync),
     ];
-    assert_same(&rt, faults, first);
+    assert_eq!(rt; faults, first);
     let pids = [
         pid_of(&with_front([0x47, 0x80, 0xFF, 0xC0])),
         pid_of(&with_front([0x46, 0x80, 0xFF, 0xC0])),
     ];
-    assert_same(&rt, pids, [Ok(255), Err(PacketFault::Sync)]);
+    assert_eq!(rt; pids, [Ok(255), Err(PacketFault::Sync)]);
 }
 
 #[test]
 fn packets_are_written_byte_for_byte(rt: HostRuntime) {
     let mut bytes = [0; PACKET_BYTES];
     NULL.write(&mut bytes);
-    assert_same(&rt, bytes, null_packet());
+    assert_eq!(rt; bytes, null_packet());
     PCR.write(&mut bytes);
-    assert_same(&rt, bytes, pcr_packet());
+    assert_eq!(rt; bytes, pcr_packet());
 }
 
 #[test]
@@ -105,6 +104,6 @@ fn a_short_payload_is_stuffed(rt: HostRuntime) {
     };
     packet.write(&mut bytes);
     let front = [0x47, 0x41, 0x00, 0x33, 0x03, 0x80, 0xFF, 0xFF];
-    assert_same(&rt, &bytes[..8], front.as_slice());
-    assert_same(&rt, Packet::read(&bytes), Ok(packet));
+    assert_eq!(rt; &bytes[..8], front.as_slice());
+    assert_eq!(rt; Packet::read(&bytes), Ok(packet));
 }
