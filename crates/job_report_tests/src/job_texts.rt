@@ -185,23 +185,50 @@ fn the_bytes_of_a_text_are_counted_first(rt: HostRuntime) -> Result<(), Fail> {
     Ok(())
 }
 
+/// The slot, start, stream_id, nodes and evaluations of a job.
+fn numbers_of(job: &Job) -> [u64; 5] {
+    [
+        u64::from(job.slot),
+        job.start,
+        u64::from(job.stream_id),
+        u64::from(job.nodes),
+        u64::from(job.evaluations),
+    ]
+}
+
+/// What a program states: its file, its numbers with its weight, and its lists.
+#[derive(Clone, Copy)]
+struct Stated<'a> {
+    file: &'a str,
+    numbers: [u16; 3],
+    coarser: &'a [u16],
+    drop: &'a [u16],
+}
+
+/// Whether these are the one program that is stated.
+fn are_one(programs: &[ProgramJob], stated: &Stated<'_>) -> bool {
+    match programs {
+        [program] => {
+            program.file.as_str() == stated.file
+                && [program.program, program.number, u16::from(program.weight)] == stated.numbers
+                && program.coarser.as_slice() == stated.coarser
+                && program.drop.as_slice() == stated.drop
+        }
+        _ => false,
+    }
+}
+
 #[test]
 fn what_is_not_stated_has_its_default(rt: HostRuntime) -> Result<(), Fail> {
     let job = read_job(rt.alloc(), LEAST.as_bytes())?;
-    assert_eq!(rt; job.slot, 4_000);
-    assert_eq!(rt; job.start, 13_500_000);
-    assert_eq!(rt; job.stream_id, 1);
-    assert_eq!(rt; job.nodes, 1_000);
-    assert_eq!(rt; job.evaluations, 1_000);
-    assert_eq!(rt; job.programs.len(), 1);
-    for program in job.programs.as_slice() {
-        assert_eq!(rt; program.weight, 1);
-        assert_eq!(rt;
-            program.coarser.as_slice(),
-            [24, 32, 48, 80, 128].as_slice()
-        );
-        assert_eq!(rt; program.drop.len(), 0);
-    }
+    let stated = Stated {
+        file: "a.ts",
+        numbers: [1, 1, 1],
+        coarser: &[24, 32, 48, 80, 128],
+        drop: &[],
+    };
+    assert_eq!(rt; numbers_of(&job), [4_000, 13_500_000, 1, 1_000, 1_000]);
+    assert!(rt; are_one(job.programs.as_slice(), &stated));
     Ok(())
 }
 
@@ -210,61 +237,61 @@ fn what_is_stated_is_read(rt: HostRuntime) -> Result<(), Fail> {
     let text = "evaluations = 0\nnodes = 7\nslot = 1016\nstart = 27_000_000\nstream_id = 0x1F\n\
         program = [{file = 'b c', program = 2, number = 3, weight = 100, coarser = [17], drop = [33, 34]}]\n";
     let job = read_job(rt.alloc(), text.as_bytes())?;
-    assert_eq!(rt; job.slot, 1_016);
-    assert_eq!(rt; job.start, 27_000_000);
-    assert_eq!(rt; job.stream_id, 31);
-    assert_eq!(rt; job.nodes, 7);
-    assert_eq!(rt; job.evaluations, 0);
-    assert_eq!(rt; job.programs.len(), 1);
-    for program in job.programs.as_slice() {
-        assert_eq!(rt; program.file.as_str(), "b c");
-        assert_eq!(rt; program.program, 2);
-        assert_eq!(rt; program.number, 3);
-        assert_eq!(rt; program.weight, 100);
-        assert_eq!(rt; program.coarser.as_slice(), [17].as_slice());
-        assert_eq!(rt; program.drop.as_slice(), [33, 34].as_slice());
-    }
+    let stated = Stated {
+        file: "b c",
+        numbers: [2, 3, 100],
+        coarser: &[17],
+        drop: &[33, 34],
+    };
+    assert_eq!(rt; numbers_of(&job), [1_016, 27_000_000, 31, 7, 0]);
+    assert!(rt; are_one(job.programs.as_slice(), &stated));
     Ok(())
+}
+
+/// Whether the name of the first program whose file is one of these names is this one; none where it is empty.
+fn is_shared_so(alloc: Global, names: [&str; 3], want: &str) -> Result<bool, Fail> {
+    let mut text = String::from_str(alloc, LEAST)?;
+    text.push_str("[[program]]\nfile = \"out.ts\"\nprogram = 1\nnumber = 2\n")?;
+    text.push_str("[[program]]\nfile = \"job\"\nprogram = 1\nnumber = 3\n")?;
+    let job = read_job(alloc, text.as_bytes())?;
+    Ok(match shared_file(&job, names.as_slice()) {
+        Some(name) => name.as_str() == want,
+        None => want.is_empty(),
+    })
 }
 
 #[test]
 fn the_first_program_of_a_named_file_is_told(rt: HostRuntime) -> Result<(), Fail> {
-    let mut text = String::from_str(rt.alloc(), LEAST)?;
-    text.push_str("[[program]]\nfile = \"out.ts\"\nprogram = 1\nnumber = 2\n")?;
-    text.push_str("[[program]]\nfile = \"job\"\nprogram = 1\nnumber = 3\n")?;
-    let job = read_job(rt.alloc(), text.as_bytes())?;
     for (names, want) in [
         (["job", "out.ts", "cert"], "program[1].file"),
         (["job", "out", "cert"], "program[2].file"),
         (["a.ts", "job", "out.ts"], "program[0].file"),
         (["a", "A.ts", "out.ts2"], ""),
     ] {
-        let told = match shared_file(&job, names.as_slice()) {
-            Some(name) => String::from_str(rt.alloc(), name.as_str())?,
-            None => String::new(rt.alloc()),
-        };
-        assert_eq!(rt; told.as_str(), want);
+        assert!(rt; is_shared_so(rt.alloc(), names, want)?, "{want}");
     }
     Ok(())
 }
 
+/// The job of program 7 of a file, which is sent as 9.
+fn probed_job(alloc: Global) -> Result<Job, OutOfMemory> {
+    let mut file = Text::new(alloc);
+    file.push_str("a.ts")?;
+    let mut programs = ListOf::new(alloc);
+    programs.push(ProgramJob::new(file, 7, 9))?;
+    Ok(Job::new(PROBE_SLOT, programs))
+}
+
 #[test]
 fn a_probed_program_has_the_defaults(rt: HostRuntime) -> Result<(), Fail> {
-    let mut file = Text::new(rt.alloc());
-    file.push_str("a.ts")?;
-    let mut programs = ListOf::new(rt.alloc());
-    programs.push(ProgramJob::new(file, 7, 9))?;
-    let job = Job::new(PROBE_SLOT, programs);
-    assert_eq!(rt; job.slot, 4_000);
-    assert_eq!(rt; job.start, 13_500_000);
-    for program in job.programs.as_slice() {
-        assert_eq!(rt; program.file.as_str(), "a.ts");
-        assert_eq!(rt; program.program, 7);
-        assert_eq!(rt; program.number, 9);
-        assert_eq!(rt;
-            program.coarser.as_slice(),
-            [24, 32, 48, 80, 128].as_slice()
-        );
-    }
+    let job = probed_job(rt.alloc())?;
+    let stated = Stated {
+        file: "a.ts",
+        numbers: [7, 9, 1],
+        coarser: &[24, 32, 48, 80, 128],
+        drop: &[],
+    };
+    assert_eq!(rt; numbers_of(&job), [4_000, 13_500_000, 1, 1_000, 1_000]);
+    assert!(rt; are_one(job.programs.as_slice(), &stated));
     Ok(())
 }

@@ -3,10 +3,10 @@ use job_report::*;
 use std::alloc::Global;
 use std::test::Fail;
 
-/// The line of a report, as text.
-fn line_of(alloc: Global, report: &Report) -> Result<String, Fail> {
-    let line = report_text(alloc, report)?;
-    Ok(String::from_utf8(line)?)
+/// Whether the line of a report is this text.
+fn is_line(alloc: Global, report: Report, want: &str) -> Result<bool, OutOfMemory> {
+    let line = report_text(alloc, &report)?;
+    Ok(line.as_slice() == want.as_bytes())
 }
 
 /// A name in a report.
@@ -32,9 +32,7 @@ fn text_of(alloc: Global, characters: &str) -> Result<Text, OutOfMemory> {
     Ok(text)
 }
 
-#[test]
-fn work_that_was_done_is_reported(rt: HostRuntime) -> Result<(), Fail> {
-    let alloc = rt.alloc();
+fn is_line_of_plan(alloc: Global) -> Result<bool, OutOfMemory> {
     let plan = Report::Plan {
         bound: 9,
         choice: list_of(alloc, &[1])?,
@@ -42,39 +40,50 @@ fn work_that_was_done_is_reported(rt: HostRuntime) -> Result<(), Fail> {
         nodes: 4,
         optimal: true,
     };
-    assert_eq!(rt;
-        line_of(alloc, &plan)?.as_str(),
-        "{\"bound\":9,\"choice\":[1],\"distortion\":9,\"nodes\":4,\"search\":\"optimal\"}\n"
-    );
+    is_line(
+        alloc,
+        plan,
+        "{\"bound\":9,\"choice\":[1],\"distortion\":9,\"nodes\":4,\"search\":\"optimal\"}\n",
+    )
+}
+
+fn is_line_of_probe(alloc: Global) -> Result<bool, OutOfMemory> {
     let probe = Report::Probe {
         audio_packets: list_of(alloc, &[80])?,
         units: 12,
     };
-    assert_eq!(rt;
-        line_of(alloc, &probe)?.as_str(),
-        "{\"audio_packets\":[80],\"units\":12}\n"
-    );
+    is_line(alloc, probe, "{\"audio_packets\":[80],\"units\":12}\n")
+}
+
+fn is_line_of_check(alloc: Global) -> Result<bool, OutOfMemory> {
     let check = Report::Check { bound: 10 };
-    assert_eq!(rt;
-        line_of(alloc, &check)?.as_str(),
-        "{\"bound\":10,\"verdict\":\"yes\"}\n"
-    );
+    is_line(alloc, check, "{\"bound\":10,\"verdict\":\"yes\"}\n")
+}
+
+fn is_line_of_gen(alloc: Global) -> Result<bool, OutOfMemory> {
     let made = Report::Gen {
         bytes: 188,
         pictures: 1,
     };
-    assert_eq!(rt;
-        line_of(alloc, &made)?.as_str(),
-        "{\"bytes\":188,\"pictures\":1}\n"
-    );
-    Ok(())
+    is_line(alloc, made, "{\"bytes\":188,\"pictures\":1}\n")
 }
 
 #[test]
-fn a_stream_is_reported_program_by_program(rt: HostRuntime) -> Result<(), Fail> {
+fn work_that_was_done_is_reported(rt: HostRuntime) -> Result<(), Fail> {
     let alloc = rt.alloc();
-    let mut programs = ListOf::new(alloc);
-    programs.push(ProgramReport {
+    let are_lines = [
+        is_line_of_plan(alloc)?,
+        is_line_of_probe(alloc)?,
+        is_line_of_check(alloc)?,
+        is_line_of_gen(alloc)?,
+    ];
+    assert_eq!(rt; are_lines, [true; 4]);
+    Ok(())
+}
+
+/// What is reported of a program that lost a descriptor and more.
+fn program_of(alloc: Global) -> Result<ProgramReport, OutOfMemory> {
+    Ok(ProgramReport {
         audio_bytes: list_of(alloc, &[11_800, 0])?,
         choice: list_of(alloc, &[0, 2])?,
         descriptors_dropped: 3,
@@ -83,7 +92,13 @@ fn a_stream_is_reported_program_by_program(rt: HostRuntime) -> Result<(), Fail> 
         pes_dropped: 1,
         rest: 187,
         units_dropped: 2,
-    })?;
+    })
+}
+
+#[test]
+fn a_stream_is_reported_program_by_program(rt: HostRuntime) -> Result<(), Fail> {
+    let mut programs = ListOf::new(rt.alloc());
+    programs.push(program_of(rt.alloc())?)?;
     let run = Report::Run {
         bound: 0,
         distortion: 18_446_744_073_709_551_615,
@@ -92,10 +107,12 @@ fn a_stream_is_reported_program_by_program(rt: HostRuntime) -> Result<(), Fail> 
         optimal: false,
         slots: 1_270,
     };
-    assert_eq!(rt;
-        line_of(alloc, &run)?.as_str(),
-        "{\"bound\":0,\"distortion\":18446744073709551615,\"nodes\":1,\"programs\":[{\"audio_bytes\":[11800,0],\"choice\":[0,2],\"descriptors_dropped\":3,\"not_carried\":[259,8191],\"number\":7,\"pes_dropped\":1,\"rest\":187,\"units_dropped\":2}],\"search\":\"budget\",\"slots\":1270}\n"
-    );
+    let so = is_line(
+        rt.alloc(),
+        run,
+        "{\"bound\":0,\"distortion\":18446744073709551615,\"nodes\":1,\"programs\":[{\"audio_bytes\":[11800,0],\"choice\":[0,2],\"descriptors_dropped\":3,\"not_carried\":[259,8191],\"number\":7,\"pes_dropped\":1,\"rest\":187,\"units_dropped\":2}],\"search\":\"budget\",\"slots\":1270}\n",
+    )?;
+    assert!(rt; so);
     Ok(())
 }
 
@@ -159,34 +176,43 @@ fn refusals_are_reported_with_their_status(rt: HostRuntime) -> Result<(), Fail> 
             "{\"node\":1,\"reason\":\"certificate\",\"status\":8,\"why\":\"DueOrder\"}\n",
         ),
     ] {
-        assert_eq!(rt; line_of(alloc, &report)?.as_str(), want);
+        assert!(rt; is_line(alloc, report, want)?, "{want}");
     }
     Ok(())
 }
 
+fn is_line_of_missing(alloc: Global, name: &str, want: &str) -> Result<bool, OutOfMemory> {
+    let name = text_of(alloc, name)?;
+    is_line(alloc, Report::Missing { name }, want)
+}
+
+fn is_line_of_unread(alloc: Global, name: &str, want: &str) -> Result<bool, OutOfMemory> {
+    let name = text_of(alloc, name)?;
+    is_line(alloc, Report::ReadFault { name }, want)
+}
+
+fn is_line_of_unwritten(alloc: Global, name: &str, want: &str) -> Result<bool, OutOfMemory> {
+    let name = text_of(alloc, name)?;
+    is_line(alloc, Report::WriteFault { name }, want)
+}
+
 #[test]
 fn names_of_files_are_quoted(rt: HostRuntime) -> Result<(), Fail> {
-    let alloc = rt.alloc();
-    let missing = Report::Missing {
-        name: text_of(alloc, "b.ts")?,
-    };
-    assert_eq!(rt;
-        line_of(alloc, &missing)?.as_str(),
-        "{\"name\":\"b.ts\",\"reason\":\"missing\",\"status\":9}\n"
-    );
-    let read = Report::ReadFault {
-        name: text_of(alloc, "a \"b\"\\\n.ts")?,
-    };
-    assert_eq!(rt;
-        line_of(alloc, &read)?.as_str(),
-        "{\"name\":\"a \\\"b\\\"\\\\\\n.ts\",\"reason\":\"read\",\"status\":6}\n"
-    );
-    let write = Report::WriteFault {
-        name: text_of(alloc, "ö.ts")?,
-    };
-    assert_eq!(rt;
-        line_of(alloc, &write)?.as_str(),
-        "{\"name\":\"ö.ts\",\"reason\":\"write\",\"status\":7}\n"
-    );
+    let missing = is_line_of_missing(
+        rt.alloc(),
+        "b.ts",
+        "{\"name\":\"b.ts\",\"reason\":\"missing\",\"status\":9}\n",
+    )?;
+    let unread = is_line_of_unread(
+        rt.alloc(),
+        "a \"b\"\\\n.ts",
+        "{\"name\":\"a \\\"b\\\"\\\\\\n.ts\",\"reason\":\"read\",\"status\":6}\n",
+    )?;
+    let unwritten = is_line_of_unwritten(
+        rt.alloc(),
+        "ö.ts",
+        "{\"name\":\"ö.ts\",\"reason\":\"write\",\"status\":7}\n",
+    )?;
+    assert_eq!(rt; [missing, unread, unwritten], [true; 3]);
     Ok(())
 }

@@ -1,5 +1,5 @@
 //! Each call of the shelf and of the sink fails in turn, for each command.
-use crate::words::words_of;
+use crate::calls::{ends_so, ends_unreported, words_of};
 use program_maker::make_program;
 use remux_core::run;
 use shelf_io::{MemShelf, MemSink};
@@ -54,22 +54,16 @@ fn shelf_of(alloc: Global, failing: u64) -> Result<MemShelf, Fail> {
     Ok(shelf)
 }
 
-/// Whether a command ends so over a shelf whose call of this number fails.
-fn ends_so(
+/// Whether a command ends so over this shelf.
+fn ends_as(
     alloc: Global,
     words: &[&str],
     shelf: &mut MemShelf,
     wanted: &Ending<'_>,
 ) -> Result<bool, Fail> {
-    let words = words_of(alloc, words)?;
-    let mut out = MemSink::new(alloc, Vec::new(alloc));
-    let status = run(alloc, words.as_slice(), shelf, &mut out);
+    let so = ends_so(alloc, words, shelf, wanted.code, wanted.line)?;
     let left = shelf.file("o").map(|bytes| bytes.len());
-    Ok(
-        status.code() == wanted.code
-            && out.bytes() == wanted.line.as_bytes()
-            && (wanted.left.is_none() || left == wanted.left),
-    )
+    Ok(so && (wanted.left.is_none() || left == wanted.left))
 }
 
 /// The ending of the call of this number; the last one where no call fails.
@@ -92,7 +86,7 @@ fn first_wrong(
 ) -> Result<Option<u64>, Fail> {
     for call in 1..=last {
         let mut shelf = shelf_of(alloc, call)?;
-        if !ends_so(alloc, words, &mut shelf, ending_of(endings, call, done))? {
+        if !ends_as(alloc, words, &mut shelf, ending_of(endings, call, done))? {
             return Ok(Some(call));
         }
     }
@@ -169,7 +163,7 @@ fn first_wrong_of_run(alloc: Global, first: u64, last: u64) -> Result<Option<u64
             _ => ended(95, 7, UNWRITTEN, Some(bytes_before(call))),
         };
         let mut shelf = shelf_of(alloc, call)?;
-        let so = ends_so(alloc, &["run", "j", "o", "c"], &mut shelf, &wanted)?;
+        let so = ends_as(alloc, &["run", "j", "o", "c"], &mut shelf, &wanted)?;
         if !so || shelf.file("c").is_some() {
             return Ok(Some(call));
         }
@@ -213,6 +207,29 @@ fn last_appends_of_run(rt: HostRuntime) -> Result<(), Fail> {
     Ok(())
 }
 
+/// Whether `run` over a shelf whose call of this number fails ends with this exit status and a line that begins so, its stream
+/// whole, and leaves a certificate so: none, an empty one, or one with bytes.
+fn ends_behind_the_stream(
+    alloc: Global,
+    call: u64,
+    code: u8,
+    line: &str,
+    certificate: Option<bool>,
+) -> Result<bool, Fail> {
+    let words = words_of(alloc, &["run", "j", "o", "c"])?;
+    let mut shelf = shelf_of(alloc, call)?;
+    let mut out = MemSink::new(alloc, Vec::new(alloc));
+    let status = run(alloc, words.as_slice(), &mut shelf, &mut out);
+    let stream = shelf.file("o").map(|bytes| bytes.len());
+    let left = shelf.file("c").map(|bytes| bytes.is_empty());
+    Ok(
+        status.code() == code
+            && out.bytes().starts_with(line.as_bytes())
+            && stream == Some(1_065_960)
+            && left == certificate,
+    )
+}
+
 /// Behind the last append: the start and one append of the certificate, and no other call.
 #[test]
 fn calls_behind_the_stream_of_run(rt: HostRuntime) -> Result<(), Fail> {
@@ -221,47 +238,51 @@ fn calls_behind_the_stream_of_run(rt: HostRuntime) -> Result<(), Fail> {
         (97, 7, UNWRITTEN_CERTIFICATE, Some(true)),
         (98, 0, "{\"bound\":0,", Some(false)),
     ] {
-        let words = words_of(rt.alloc(), &["run", "j", "o", "c"])?;
-        let mut shelf = shelf_of(rt.alloc(), call)?;
-        let mut out = MemSink::new(rt.alloc(), Vec::new(rt.alloc()));
-        let status = run(rt.alloc(), words.as_slice(), &mut shelf, &mut out);
-        assert_eq!(rt; status.code(), code, "{call}");
-        assert!(rt; out.bytes().starts_with(line.as_bytes()), "{call}");
-        assert_eq!(rt;
-            shelf.file("o").map(|bytes| bytes.len()),
-            Some(1_065_960),
-            "{call}"
-        );
-        assert_eq!(rt;
-            shelf.file("c").map(|bytes| bytes.is_empty()),
-            certificate,
-            "{call}"
-        );
+        let so = ends_behind_the_stream(rt.alloc(), call, code, line, certificate)?;
+        assert!(rt; so, "{call}");
     }
     Ok(())
+}
+
+/// Whether `check` of a certificate ends so where the call of this number fails, and leaves the certificate.
+fn checks_so(
+    alloc: Global,
+    certificate: &[u8],
+    call: u64,
+    code: u8,
+    line: &str,
+) -> Result<bool, Fail> {
+    let mut shelf = shelf_of(alloc, call)?;
+    shelf.put_file("c", certificate)?;
+    let wanted = ended(call, code, line, Some(4));
+    let so = ends_as(alloc, &["check", "j", "c"], &mut shelf, &wanted)?;
+    Ok(so && shelf.file("c") == Some(certificate))
+}
+
+/// The exit status of a run of the job where no call fails, and its shelf, which holds the certificate then.
+fn run_job(alloc: Global) -> Result<(u8, MemShelf), Fail> {
+    let words = words_of(alloc, &["run", "j", "s", "c"])?;
+    let mut shelf = shelf_of(alloc, 0)?;
+    let mut out = MemSink::new(alloc, Vec::new(alloc));
+    let status = run(alloc, words.as_slice(), &mut shelf, &mut out);
+    Ok((status.code(), shelf))
 }
 
 /// Two reads of the job, three of the program, two of the certificate.
 #[test]
 fn calls_of_check(rt: HostRuntime) -> Result<(), Fail> {
-    let mut first = shelf_of(rt.alloc(), 0)?;
-    let words = words_of(rt.alloc(), &["run", "j", "s", "c"])?;
-    let mut out = MemSink::new(rt.alloc(), Vec::new(rt.alloc()));
-    let status = run(rt.alloc(), words.as_slice(), &mut first, &mut out);
-    assert_eq!(rt; status.code(), 0);
-    let certificate = first.file("c").unwrap_or(&[]);
+    let (code, shelf) = run_job(rt.alloc())?;
+    assert_eq!(rt; code, 0);
+    let certificate = shelf.file("c").unwrap_or(&[]);
     for call in 1..=8u64 {
-        let wanted = match call {
-            0..=2 => ended(2, 6, UNREAD_JOB, Some(4)),
-            3..=5 => ended(5, 6, UNREAD_PROGRAM, Some(4)),
-            6..=7 => ended(7, 6, UNREAD_CERTIFICATE, Some(4)),
-            _ => ended(8, 0, "{\"bound\":0,\"verdict\":\"yes\"}\n", Some(4)),
+        let (code, line) = match call {
+            0..=2 => (6, UNREAD_JOB),
+            3..=5 => (6, UNREAD_PROGRAM),
+            6..=7 => (6, UNREAD_CERTIFICATE),
+            _ => (0, "{\"bound\":0,\"verdict\":\"yes\"}\n"),
         };
-        let mut shelf = shelf_of(rt.alloc(), call)?;
-        shelf.put_file("c", certificate)?;
-        let so = ends_so(rt.alloc(), &["check", "j", "c"], &mut shelf, &wanted)?;
+        let so = checks_so(rt.alloc(), certificate, call, code, line)?;
         assert!(rt; so, "{call}");
-        assert!(rt; shelf.file("c") == Some(certificate), "{call}");
     }
     Ok(())
 }
@@ -277,14 +298,10 @@ fn a_report_that_fails_is_a_write_fault(rt: HostRuntime) -> Result<(), Fail> {
         (["check", "j", "o"].as_slice(), false),
         (["none"].as_slice(), false),
     ] {
-        let words = words_of(rt.alloc(), words)?;
         let mut shelf = shelf_of(rt.alloc(), 0)?;
-        let mut out = MemSink::new(rt.alloc(), vec![in rt.alloc(); 1]?);
-        let status = run(rt.alloc(), words.as_slice(), &mut shelf, &mut out);
-        assert_eq!(rt; status.code(), 7);
-        assert!(rt; out.bytes().is_empty());
+        let so = ends_unreported(rt.alloc(), words, &mut shelf)?;
         let kept = shelf.file("o") == Some(b"kept".as_slice());
-        assert_eq!(rt; kept, !written);
+        assert!(rt; so && kept != written);
     }
     Ok(())
 }

@@ -1,6 +1,6 @@
-use crate::words::words_of;
-use remux_core::run;
-use shelf_io::{CalmShelf, CalmSink};
+use crate::calls::ends_so;
+use shelf_io::CalmShelf;
+use std::alloc::Global;
 use std::test::Fail;
 
 /// A job text, the exit status of `run` where no other file is there, and the line that it prints.
@@ -28,21 +28,26 @@ const JOBS: [(&str, u8, &str); 5] = [
     ),
 ];
 
+/// Whether a command whose first file is a job ends so, and writes neither of the other files.
+fn job_ends_so(
+    alloc: Global,
+    words: &[&str],
+    text: &str,
+    code: u8,
+    line: &str,
+) -> Result<bool, Fail> {
+    let mut shelf = CalmShelf::new(alloc);
+    shelf.put_file("j", text.as_bytes())?;
+    let so = ends_so(alloc, words, &mut shelf, code, line)?;
+    Ok(so && shelf.file("o").is_none() && shelf.file("c").is_none())
+}
+
 #[test]
 fn each_job_without_a_table_has_its_status_and_line(rt: HostRuntime) -> Result<(), Fail> {
     for words in [["run", "j", "o", "c"].as_slice(), &["check", "j", "c"]] {
-        let words = words_of(rt.alloc(), words)?;
         for &(text, code, line) in &JOBS {
-            let mut shelf = CalmShelf::new(rt.alloc());
-            shelf.put_file("j", text.as_bytes())?;
-            let mut out = CalmSink::new(rt.alloc());
-            let status = run(rt.alloc(), words.as_slice(), &mut shelf, &mut out);
-            assert_eq!(rt; status.code(), code, "{text}");
-            assert!(rt; out.bytes() == line.as_bytes(), "{text}");
-            assert!(rt;
-                shelf.file("o").is_none() && shelf.file("c").is_none(),
-                "{text}"
-            );
+            let so = job_ends_so(rt.alloc(), words, text, code, line)?;
+            assert!(rt; so, "{text}");
         }
     }
     Ok(())
@@ -50,13 +55,13 @@ fn each_job_without_a_table_has_its_status_and_line(rt: HostRuntime) -> Result<(
 
 #[test]
 fn a_missing_job_is_missing(rt: HostRuntime) -> Result<(), Fail> {
-    let words = words_of(rt.alloc(), &["run", "j.toml", "o", "c"])?;
-    let mut shelf = CalmShelf::new(rt.alloc());
-    let mut out = CalmSink::new(rt.alloc());
-    let status = run(rt.alloc(), words.as_slice(), &mut shelf, &mut out);
-    assert_eq!(rt; status.code(), 9);
-    assert!(rt;
-        out.bytes() == b"{\"name\":\"j.toml\",\"reason\":\"missing\",\"status\":9}\n".as_slice()
-    );
+    let so = ends_so(
+        rt.alloc(),
+        &["run", "j.toml", "o", "c"],
+        &mut CalmShelf::new(rt.alloc()),
+        9,
+        "{\"name\":\"j.toml\",\"reason\":\"missing\",\"status\":9}\n",
+    )?;
+    assert!(rt; so);
     Ok(())
 }

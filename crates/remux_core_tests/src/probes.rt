@@ -1,7 +1,7 @@
-use crate::words::words_of;
+use crate::calls::ends_so;
 use program_maker::make_program;
-use remux_core::run;
-use shelf_io::{CalmShelf, CalmSink};
+use shelf_io::CalmShelf;
+use std::alloc::Global;
 use std::test::Fail;
 
 /// Bytes of the generated program's file that are there, its program that is probed, the exit status, and the line that is printed.
@@ -61,18 +61,34 @@ const PROBES: [(usize, &str, u8, &str); 9] = [
 const TABLE_FRONT: &str =
     "remux table 1\nslot 4000\nnodes 1000\nevaluations 1000\nprogram 112\nunit ";
 
+/// Whether the front of this length of the generated program is probed with this exit status and line, and has a table exactly
+/// where the status is 0.
+fn is_probed_so(
+    alloc: Global,
+    front: &[u8],
+    number: &str,
+    code: u8,
+    line: &str,
+) -> Result<bool, Fail> {
+    let mut shelf = CalmShelf::new(alloc);
+    shelf.put_file("a.ts", front)?;
+    let so = ends_so(
+        alloc,
+        &["probe", "a.ts", number, "t"],
+        &mut shelf,
+        code,
+        line,
+    )?;
+    Ok(so && shelf.file("t").is_some() == (code == 0))
+}
+
 #[test]
 fn each_probed_file_has_its_status_and_line(rt: HostRuntime) -> Result<(), Fail> {
     let program = make_program(rt.alloc(), 1, 12)?;
     for &(length, number, code, line) in &PROBES {
-        let words = words_of(rt.alloc(), &["probe", "a.ts", number, "t"])?;
-        let mut shelf = CalmShelf::new(rt.alloc());
-        shelf.put_file("a.ts", program.as_slice().get(..length).unwrap_or(&[]))?;
-        let mut out = CalmSink::new(rt.alloc());
-        let status = run(rt.alloc(), words.as_slice(), &mut shelf, &mut out);
-        assert_eq!(rt; status.code(), code, "{length} {number}");
-        assert!(rt; out.bytes() == line.as_bytes(), "{length} {number}");
-        assert_eq!(rt; shelf.file("t").is_some(), code == 0, "{length} {number}");
+        let front = program.as_slice().get(..length).unwrap_or(&[]);
+        let so = is_probed_so(rt.alloc(), front, number, code, line)?;
+        assert!(rt; so, "{length} {number}");
     }
     Ok(())
 }
@@ -83,23 +99,25 @@ fn a_probed_table_is_planned(rt: HostRuntime) -> Result<(), Fail> {
     let program = make_program(rt.alloc(), 1, 12)?;
     let mut shelf = CalmShelf::new(rt.alloc());
     shelf.put_file("a.ts", program.as_slice())?;
-    let words = words_of(rt.alloc(), &["probe", "a.ts", "1", "t"])?;
-    let mut out = CalmSink::new(rt.alloc());
-    let status = run(rt.alloc(), words.as_slice(), &mut shelf, &mut out);
-    assert_eq!(rt; status.code(), 0);
+    let is_probed = ends_so(
+        rt.alloc(),
+        &["probe", "a.ts", "1", "t"],
+        &mut shelf,
+        0,
+        "{\"audio_packets\":[80],\"units\":12}\n",
+    )?;
     let table = shelf.file("t").unwrap_or(&[]);
-    assert!(rt; table.starts_with(TABLE_FRONT.as_bytes()));
-    assert_eq!(rt; count_of(table, b'\n'), 98);
-    assert_eq!(rt; count_of(table, b':'), 72);
-    let words = words_of(rt.alloc(), &["plan", "t", "c"])?;
-    let mut out = CalmSink::new(rt.alloc());
-    let status = run(rt.alloc(), words.as_slice(), &mut shelf, &mut out);
-    assert_eq!(rt; status.code(), 0);
-    assert!(rt;
-        out.bytes()
-            == b"{\"bound\":0,\"choice\":[0,0,0,0,0,0,0,0,0,0,0,0],\"distortion\":0,\"nodes\":1,\"search\":\"optimal\"}\n".as_slice()
-    );
-    assert!(rt; shelf.file("c").is_some());
+    let begins = table.starts_with(TABLE_FRONT.as_bytes());
+    let counts = (count_of(table, b'\n'), count_of(table, b':'));
+    let is_planned = ends_so(
+        rt.alloc(),
+        &["plan", "t", "c"],
+        &mut shelf,
+        0,
+        "{\"bound\":0,\"choice\":[0,0,0,0,0,0,0,0,0,0,0,0],\"distortion\":0,\"nodes\":1,\"search\":\"optimal\"}\n",
+    )?;
+    assert!(rt; is_probed && begins && is_planned && shelf.file("c").is_some());
+    assert_eq!(rt; counts, (98, 72));
     Ok(())
 }
 
@@ -110,13 +128,13 @@ fn count_of(text: &[u8], byte: u8) -> usize {
 
 #[test]
 fn a_file_that_is_not_there_is_missing(rt: HostRuntime) -> Result<(), Fail> {
-    let words = words_of(rt.alloc(), &["probe", "a.ts", "1", "t"])?;
-    let mut shelf = CalmShelf::new(rt.alloc());
-    let mut out = CalmSink::new(rt.alloc());
-    let status = run(rt.alloc(), words.as_slice(), &mut shelf, &mut out);
-    assert_eq!(rt; status.code(), 9);
-    assert!(rt;
-        out.bytes() == b"{\"name\":\"a.ts\",\"reason\":\"missing\",\"status\":9}\n".as_slice()
-    );
+    let so = ends_so(
+        rt.alloc(),
+        &["probe", "a.ts", "1", "t"],
+        &mut CalmShelf::new(rt.alloc()),
+        9,
+        "{\"name\":\"a.ts\",\"reason\":\"missing\",\"status\":9}\n",
+    )?;
+    assert!(rt; so);
     Ok(())
 }

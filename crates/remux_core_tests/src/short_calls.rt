@@ -1,7 +1,7 @@
 //! A run over a shelf that moves few bytes a call is the run over one that moves them at once.
 ghost use Rattle.std.specs.Prelude.{◌≤◌};
 
-use crate::words::words_of;
+use crate::calls::words_of;
 use program_maker::make_program;
 use remux_core::run;
 use shelf_io::{CalmShelf, CalmSink, Shelf, ShortShelf};
@@ -46,10 +46,12 @@ fn a_run_in_short_calls_is_the_same(rt: HostRuntime) -> Result<(), Fail> {
     let alloc = rt.alloc();
     let mut whole = shelf_of(alloc)?;
     let (code, line) = run_over(alloc, &mut whole)?;
-    assert_eq!(rt; code, 0);
-    assert_eq!(rt; whole.file("o").map(|bytes| bytes.len()), Some(1_065_960));
-    assert_eq!(rt; is_same(alloc, 1, &whole, &line)?, true);
-    assert_eq!(rt; is_same(alloc, 7, &whole, &line)?, true);
-    assert_eq!(rt; is_same(alloc, 188, &whole, &line)?, true);
+    let length = whole.file("o").map(|bytes| bytes.len());
+    let same = [
+        is_same(alloc, 1, &whole, &line)?,
+        is_same(alloc, 7, &whole, &line)?,
+        is_same(alloc, 188, &whole, &line)?,
+    ];
+    assert_eq!(rt; (code, length, same), (0, Some(1_065_960), [true; 3]));
     Ok(())
 }

@@ -1,16 +1,6 @@
-use remux_core::run;
-use shelf_io::{CalmShelf, CalmSink};
-use std::alloc::{AllocError, Global};
+use crate::calls::ends_so;
+use shelf_io::CalmShelf;
 use std::test::Fail;
-
-/// The words of a command.
-pub fn words_of(alloc: Global, words: &[&str]) -> Result<Vec<String>, AllocError> {
-    let mut all = Vec::new(alloc);
-    for word in words {
-        all.push(String::from_str(alloc, word)?)?;
-    }
-    Ok(all)
-}
 
 /// Words that are no command.
 const NO_COMMANDS: [&[&str]; 35] = [
@@ -53,13 +43,16 @@ const NO_COMMANDS: [&[&str]; 35] = [
 
 #[test]
 fn other_words_are_usage(rt: HostRuntime) -> Result<(), Fail> {
-    for &words in &NO_COMMANDS {
-        let words = words_of(rt.alloc(), words)?;
-        let mut shelf = CalmShelf::new(rt.alloc());
-        let mut out = CalmSink::new(rt.alloc());
-        let status = run(rt.alloc(), words.as_slice(), &mut shelf, &mut out);
-        assert_eq!(rt; status.code(), 2);
-        assert!(rt; out.bytes() == b"{\"reason\":\"usage\",\"status\":2}\n".as_slice());
+    let mut shelf = CalmShelf::new(rt.alloc());
+    for (place, &words) in NO_COMMANDS.iter().enumerate() {
+        let so = ends_so(
+            rt.alloc(),
+            words,
+            &mut shelf,
+            2,
+            "{\"reason\":\"usage\",\"status\":2}\n",
+        )?;
+        assert!(rt; so, "{place}");
     }
     Ok(())
 }
