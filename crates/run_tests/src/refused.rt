@@ -2,6 +2,7 @@
 
 use crate::shelves::{ROOMY, code_over, failing_shelf, is_between, run_over};
 use program_maker::make_program;
+use std::alloc::Global;
 use std::test::Fail;
 
 /// Bytes of a transport packet.
@@ -68,30 +69,41 @@ fn contains(bytes: &[u8], wanted: &[u8]) -> bool {
     false
 }
 
-/// The call that starts OUT fails, then its first append, its third one, and none.
+/// Whether a run whose call of this number fails ends with this exit status, leaves as many bytes of the whole stream, and no
+/// certificate.
+fn leaves_a_front(
+    alloc: Global,
+    whole: &[u8],
+    call: u64,
+    code: u8,
+    length: Option<usize>,
+) -> Result<bool, Fail> {
+    let mut shelf = failing_shelf(alloc, ROOMY, call)?;
+    let ended = code_over(alloc, &mut shelf)?;
+    let stream = shelf.file("out.ts");
+    Ok(
+        ended == code
+            && stream.map(|bytes| bytes.len()) == length
+            && whole.starts_with(stream.unwrap_or(&[]))
+            && shelf.file("run.cert").is_none(),
+    )
+}
+
+/// The last call that reads fails, then the one that starts OUT, its first append and its third one.
 #[test]
 fn a_write_that_fails_leaves_a_front_and_no_certificate(rt: HostRuntime) -> Result<(), Fail> {
     let file = make_program(rt.alloc(), 1, 12)?;
     let whole = run_over(rt.alloc(), ROOMY, file.as_slice())?;
     assert_eq!(rt; whole.code, 0);
-    for (call, length) in [
-        (READS + 1, None),
-        (READS + 2, Some(0)),
-        (READS + 4, Some(2 * GATHERED)),
+    for (call, code, length) in [
+        (READS, 6, None),
+        (READS + 1, 7, None),
+        (READS + 2, 7, Some(0)),
+        (READS + 4, 7, Some(2 * GATHERED)),
     ] {
-        let mut shelf = failing_shelf(rt.alloc(), ROOMY, call)?;
-        assert_eq!(rt; code_over(rt.alloc(), &mut shelf)?, 7, "{call}");
-        let stream = shelf.file("out.ts");
-        assert_eq!(rt; stream.map(|bytes| bytes.len()), length, "{call}");
-        assert!(rt;
-            whole.stream.as_slice().starts_with(stream.unwrap_or(&[])),
-            "{call}"
-        );
-        assert!(rt; shelf.file("run.cert").is_none(), "{call}");
+        let so = leaves_a_front(rt.alloc(), whole.stream.as_slice(), call, code, length)?;
+        assert!(rt; so, "{call}");
     }
-    let mut shelf = failing_shelf(rt.alloc(), ROOMY, READS)?;
-    assert_eq!(rt; code_over(rt.alloc(), &mut shelf)?, 6);
-    assert!(rt; shelf.file("out.ts").is_none());
     Ok(())
 }
 

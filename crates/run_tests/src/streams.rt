@@ -31,19 +31,22 @@ fn has_coarser(choice: &[u8]) -> bool {
     false
 }
 
+/// The choice of so many units in a certificate; none where it is shorter.
+fn choice_of(certificate: &[u8], units: usize) -> &[u8] {
+    certificate
+        .get(CHOICE_AT..)
+        .unwrap_or(&[])
+        .get(..units)
+        .unwrap_or(&[])
+}
+
 /// Whether OUT has the program's audio, and its pictures in the versions that the certificate names, made again with every
 /// version kept. All are the source's own where `only_sources`.
 fn is_sent(alloc: Global, ran: &Ran, file: &[u8], only_sources: bool) -> Result<bool, Fail> {
     let program = read_program(alloc, file, 1, &[], START)?;
     let stream = read_program(alloc, ran.stream.as_slice(), 1, &[], START)?;
     let units = program.units.len();
-    let choice = ran
-        .certificate
-        .as_slice()
-        .get(CHOICE_AT..)
-        .unwrap_or(&[])
-        .get(..units)
-        .unwrap_or(&[]);
+    let choice = choice_of(ran.certificate.as_slice(), units);
     if stream.units.len() != units || choice.len() != units || has_coarser(choice) == only_sources {
         return Ok(false);
     }
@@ -59,6 +62,13 @@ fn a_program_with_room_goes_out_in_its_own_pictures(rt: HostRuntime) -> Result<(
     Ok(())
 }
 
+/// Whether two runs printed and left the same.
+fn are_same(first: &Ran, second: &Ran) -> bool {
+    first.line.as_slice() == second.line.as_slice()
+        && first.stream.as_slice() == second.stream.as_slice()
+        && first.certificate.as_slice() == second.certificate.as_slice()
+}
+
 /// 300 pictures at a rate that they don't fit, twice, and at one that they do.
 #[test]
 fn a_large_program_is_planned_and_sent(rt: HostRuntime) -> Result<(), Fail> {
@@ -66,9 +76,7 @@ fn a_large_program_is_planned_and_sent(rt: HostRuntime) -> Result<(), Fail> {
     let tight = run_over(rt.alloc(), TIGHT, file.as_slice())?;
     let again = run_over(rt.alloc(), TIGHT, file.as_slice())?;
     assert_eq!(rt; tight.code, 0);
-    assert!(rt; tight.line.as_slice() == again.line.as_slice());
-    assert!(rt; tight.stream.as_slice() == again.stream.as_slice());
-    assert!(rt; tight.certificate.as_slice() == again.certificate.as_slice());
+    assert!(rt; are_same(&tight, &again));
     assert!(rt; is_sent(rt.alloc(), &tight, file.as_slice(), false)?);
     let roomy = run_over(rt.alloc(), ROOMY, file.as_slice())?;
     assert_eq!(rt; roomy.code, 0);
