@@ -1,11 +1,39 @@
-//! The program: what the words behind its name say is done over the working folder, standard output and standard error.
+//! The program: the words of the command line are those of a command, or `--help` or `--version`, each as the only word.
 //!
 //! All that it promises stands on `command_line`.
 #![tactic(auto)]
 
-use command_line::answer;
+use command_line::{HELP, VERSION, command, share_one_file, told};
+use remux_core::Status;
 use std::process::ExitCode;
+use std::rt::{Env, Files};
+use std::{env, io};
 
 fn main(rt: HostRuntime) -> ExitCode {
-    ExitCode::from(answer(&rt))
+    match words(&rt) {
+        Ok(words) => ExitCode::from(answer(&rt, words.as_slice())),
+        // Words that aren't UTF-8 are no command.
+        Err(e) if e.kind() == io::ErrorKind::InvalidData => ExitCode::from(command(&rt, &[])),
+        Err(_) => ExitCode::from(Status::OutOfMemory.code()),
+    }
+}
+
+/// The words behind the program's name.
+fn words<R: Env + AllocGlobal>(rt: &R) -> io::Result<Vec<String>> {
+    let mut words = Vec::new(rt.alloc());
+    for word in env::args(rt)?.skip(1) {
+        words.push(word)?;
+    }
+    Ok(words)
+}
+
+/// The exit status of a command line.
+fn answer<R: Files + Print + Eprint + AllocGlobal>(rt: &R, words: &[String]) -> u8 {
+    match words {
+        [word] if word.as_str() == "--help" => told(rt, HELP),
+        [word] if word.as_str() == "--version" => told(rt, VERSION),
+        // Two names of one file are no command.
+        _ if share_one_file(rt, words) => command(rt, &[]),
+        _ => command(rt, words),
+    }
 }
