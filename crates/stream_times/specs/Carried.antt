@@ -8,7 +8,8 @@ use Rattle.ts_demux.specs.declared.demuxed.Demuxed.{Demuxed}
 use Rattle.ts_demux.specs.Demux.{IsDemuxed, pids_of}
 use Rattle.version_table.specs.declared.table.ProgramRow.{ProgramRow}
 use Rattle.version_table.specs.declared.table.Table.{Table}
-use Rattle.version_table.specs.Choice.{version_at}
+use Rattle.version_table.specs.Choice.{Fits, version_at}
+use Rattle.version_table.specs.Table.{IsValidTable}
 use Rattle.slot_rule.specs.Sent.{choice_from}
 use Rattle.program_reader.specs.Audio.{HaveFrames}
 use Rattle.mux_writer.specs.Layout.{map_pid, video_pid}
@@ -50,10 +51,13 @@ pub record CarriesTable (table : Table) (choice numbers bytes : List ℕ) : Type
       → CarriesTimes bytes stream table.slot place number row (choice_from table.programs place choice)
 
 -- The bytes of a stream of programs of these numbers, read by themselves, give no decoder a fault, whichever removals take each byte between the times at which
--- the bytes themselves say that it is wanted and gone: all that counts in the table that they are clean for, its times, sizes and buffers, they carry.
+-- the bytes themselves say that it is wanted and gone: all that counts in the table that they are clean for, its times, sizes and buffers, they carry. The table
+-- is valid, so its times are in order, and the choice names a version of each unit.
 pub record IsCleanByItsTimes (slot : ℕ) (numbers bytes : List ℕ) : Type 0 where
   pub table : Table
   pub choice : List ℕ
+  pub valid : IsValidTable table
+  pub fits : Fits table choice
   pub slot_is : table.slot ≡ slot
   pub carried : CarriesTable table choice numbers bytes
   pub clean : IsCleanStream table choice bytes
