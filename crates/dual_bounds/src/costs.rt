@@ -109,7 +109,8 @@ fn price(windows: &[Window], time: u64) -> u64
 }
 
 /// What a window charges for a packet that is due at a time.
-fn charge(window: Window, time: u64) -> u64
+#[inline]
+pub fn charge(window: Window, time: u64) -> u64
     ensures { result ≡ charge time window }
 {
     if window.from <= time && time <= window.due {

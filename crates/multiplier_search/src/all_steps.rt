@@ -3,13 +3,13 @@ ghost use Rattle.std.specs.List.{AllZip};
 ghost use Rattle.version_table.specs.Table.{IsValidTable, IsValidUnit};
 ghost use Rattle.dual_bounds.specs.Fixed.{FixesVersions, NamesVersion};
 ghost use Rattle.dual_bounds.specs.declared.constants.TheConstants.{LAMBDA_MOST};
-ghost use Rattle.dual_bounds.specs.Values.{charge, price};
+ghost use Rattle.dual_bounds.specs.Values.{price};
 ghost use Rattle.cost_steps.specs.declared.constants.TheConstants.{PRICE_MOST};
 ghost use Rattle.multiplier_search.specs.Private.UnitSteps.{AddSteps, AddUnit, AreStepsOf, IsSweepOf, LeaveRoom};
 
 use cost_steps::add_steps_above;
 use cost_sweep::{CostStep, CostSweep};
-use dual_bounds::{Fixed, Window};
+use dual_bounds::{Fixed, Window, charge};
 use list_types::OutOfMemory;
 use std::alloc::Global;
 use version_table::{Table, Unit};
@@ -108,18 +108,7 @@ fn price_of(windows: &[Window], time: u64) -> u64
 {
     let mut total = 0;
     for window in windows {
-        total += charge_of(*window, time);
+        total += charge(*window, time);
     }
     total
-}
-
-/// What a window charges for a packet that is due at a time.
-fn charge_of(window: Window, time: u64) -> u64
-    ensures { result ≡ charge time window }
-{
-    if window.from <= time && time <= window.due {
-        window.lambda
-    } else {
-        0
-    }
 }

@@ -49,7 +49,8 @@ use Rattle.picture_grammar.specs.Refusal.{Refusal}
 use Rattle.picture_grammar.specs.Refusal.Refusal.{BadHeader, Uncovered}
 use Rattle.picture_grammar.specs.Grammar.{Grammar, done, ◌>>=◌, ◌>>◌, optional, if_next, SpellsList, Next}
 use Rattle.picture_grammar.specs.Grammar.Next.{more, last}
-use Rattle.picture_grammar.specs.StartCode.{start_code_prefix, start_code, zero_byte, only_zero_bytes, is_slice}
+use Rattle.picture_grammar.specs.StartCode.{start_code_prefix, start_code, zero_byte, only_zero_bytes}
+use Rattle.stream_constants.specs.SliceCodes.{is_slice}
 use Rattle.picture_grammar.specs.Picture.{later_slice, slice_or_end, next_slice, whole_slice, picture_unit, rows, addresses, IsCovered, SpellsPicture, RefusesPicture}
 use Rattle.picture_grammar.specs.Slice.{columns}
 use Rattle.picture_grammar.proofs.HeaderLaws.{exact-picture_unit}

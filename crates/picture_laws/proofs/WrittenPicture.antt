@@ -56,7 +56,8 @@ use Rattle.stream_constants.specs.declared.start_codes.TheConstants.{SEQUENCE_EN
 use Rattle.picture_grammar.specs.Refusal.Refusal.{BadHeader}
 use Rattle.picture_grammar.specs.Grammar.{optional, SpellsList}
 use Rattle.picture_grammar.specs.Grammar.Next.{more, last}
-use Rattle.picture_grammar.specs.StartCode.{start_code_prefix, start_code_bits, zero_bits, only_zero_bytes, is_slice}
+use Rattle.picture_grammar.specs.StartCode.{start_code_prefix, start_code_bits, zero_bits, only_zero_bytes}
+use Rattle.stream_constants.specs.SliceCodes.{is_slice}
 use Rattle.picture_grammar.specs.Slice.{ClosesSlice, slice}
 use Rattle.picture_grammar.specs.Head.{head}
 use Rattle.picture_grammar.specs.Picture.{whole_slice, slice_or_end, next_slice, picture_unit, SpellsPicture}

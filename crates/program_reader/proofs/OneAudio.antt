@@ -58,7 +58,8 @@ use Rattle.audio_frames.specs.declared.frame.Frame.{Frame}
 use Rattle.audio_frames.specs.declared.pes_start.PesStart.{PesStart}
 use Rattle.audio_frames.specs.FrameHeader.{syncword}
 use Rattle.audio_frames.specs.Frames.{is_audio_frame, goes_on, end_of, is_near_end, is_rest, first_frame, AreFrames, FramesUpTo, AreAllFrames, BreaksAt}
-use Rattle.audio_frames.specs.Times.{given_time, frame_ticks, frame_time_at, IsTimeOf, AreTimes, AreRising, spans, rate_of, AreFramesOf, IsUntimed, IsOutOfOrder, IsAudioRefused}
+use Rattle.audio_frames.specs.Times.{given_time, frame_ticks, frame_time_at, IsTimeOf, AreTimes, AreRising, rate_of, AreFramesOf, IsUntimed, IsOutOfOrder, IsAudioRefused}
+use Rattle.list_types.specs.Spans.{spans}
 use Rattle.audio_frames.proofs.Chains.{some_frame}
 use Rattle.audio_frames.proofs.Formats.{header_long, goes_on_header}
 use Rattle.pes_units.specs.TimeAxis.{IsUnwrapped}

@@ -43,7 +43,7 @@ use Rattle.std.proofs.lemmas.Bool.{lt-ltb}
 use Rattle.std.proofs.lemmas.List.{take_more, take_all, map-append, length-append}
 use Rattle.std.proofs.lemmas.List.Elements.{All-cons, All-tail, All-nil}
 use Rattle.audio_frames.specs.declared.frame.Frame.{Frame}
-use Rattle.audio_frames.specs.Times.{spans}
+use Rattle.list_types.specs.Spans.{spans}
 use Rattle.pes_units.specs.PesPackets.{is_dropped}
 use Rattle.ts_demux.specs.declared.demuxed.AudioStream.{AudioStream}
 use Rattle.ts_demux.specs.declared.demuxed.PesUnit.{PesUnit}

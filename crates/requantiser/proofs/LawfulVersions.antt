@@ -14,7 +14,7 @@ use Rattle.picture_grammar.specs.Grammar.{with_spelling}
 use Rattle.picture_grammar.specs.Head.{head}
 use Rattle.picture_grammar.specs.Picture.{IsLawful, IsCovered, MayPrecede, SpellsPicture, addresses, rows}
 use Rattle.picture_grammar.specs.Slice.{columns}
-use Rattle.picture_grammar.specs.StartCode.{is_slice}
+use Rattle.stream_constants.specs.SliceCodes.{is_slice}
 use Rattle.picture_laws.specs.Spellable.{HasSpellableParts, HasSpellableMacroblocks, HasSpellableSlices}
 use Rattle.picture_laws.proofs.WrittenPicture.{slices-of_picture, picture-read}
 use Rattle.picture_laws.proofs.WrittenBits.{written-bytes}

@@ -51,7 +51,8 @@ use Rattle.stream_constants.specs.declared.start_codes.TheConstants.{FIRST_SLICE
 use Rattle.picture_grammar.specs.Refusal.Refusal.{BadHeader}
 use Rattle.picture_grammar.specs.Grammar.{Grammar, done, ◌>>=◌, ◌>>◌, if_next, optional, SpellsList, Next}
 use Rattle.picture_grammar.specs.Grammar.Next.{more, last}
-use Rattle.picture_grammar.specs.StartCode.{start_code_prefix, start_code_bits, start_code, only_zero_bytes, is_slice, zero_bits, zero_byte}
+use Rattle.picture_grammar.specs.StartCode.{start_code_prefix, start_code_bits, start_code, only_zero_bytes, zero_bits, zero_byte}
+use Rattle.stream_constants.specs.SliceCodes.{is_slice}
 use Rattle.picture_grammar.specs.Slice.{slice}
 use Rattle.picture_grammar.specs.Picture.{whole_slice, slice_or_end, next_slice, IsCoding}
 use Rattle.picture_grammar.proofs.MacroblockLaws.{exact-slice}

@@ -40,7 +40,8 @@ use Rattle.bit_lists.proofs.BitLemmas.{length-bits_of}
 use Rattle.bit_lists.proofs.PrefixLemmas.{IsPrefix-append}
 use Rattle.bit_cursor.specs.Shown.{IsFirstNumber}
 use Rattle.bit_cursor.specs.declared.bit_reader.BitReader.{BitReader}
-use Rattle.bit_cursor.specs.BitReader.{bits_left, place, without_bits}
+use Rattle.bit_cursor.specs.BitReader.{bits_left, place}
+use Rattle.shelf_io.specs.Source.{without_front}
 use Rattle.picture_grammar.specs.Refusal.Refusal.{End, Profile, BadHeader}
 use Rattle.picture_grammar.specs.Element.{rule}
 use Rattle.picture_grammar.specs.Head.{is_scalable}
@@ -63,7 +64,7 @@ abbrev FourBits : ℕ → List ℕ → Type 0
 FourBits number code = (number < 2 ^ 4) × (code ≡ bits_of 4 number)
 
 pub four-taken : {S : Type 0} {g : Ghosts S} (number : ℕ) (old new : BitReader S g) → IfSome (bits_left old) (λ bits. IsFirstNumber 4 bits number)
-    → number < 2 ^ 4 → bits_left new ≡ without_bits (bits_left old) 4 → place new ≡ place old + 4
+    → number < 2 ^ 4 → bits_left new ≡ without_front (bits_left old) 4 → place new ≡ place old + 4
     → (end : ℕ) (bits : List ℕ) → Wholes old end bits → FourTaken (Some number) new end bits
 four-taken number old new front fits left moved end bits here =
     let is = told-of (λ bits. IsFirstNumber 4 bits number) (bits_left old) bits here.rests.told front in
