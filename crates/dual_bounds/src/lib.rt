@@ -15,7 +15,7 @@ mod values;
 mod windows;
 
 pub use bounds::bound_of;
-pub use costs::{charge, unit_cost};
+pub use costs::{price, unit_cost};
 pub use fixed::{Fixed, nothing_fixed};
 pub use room::{capacity, window_capacity};
 pub use values::{dual_value, window_value, windows_of, worth};

@@ -8,7 +8,7 @@ use Rattle.es_units.proofs.Places.{filter_at, filter_past, filter_none}
 abbrev early : List ℕ → ℕ → ℕ → Bool
 early es first at = is_unit_cut es at && nat_le at first
 
-abbrev late : List ℕ → ℕ → ℕ → Bool
+abbrev pub late : List ℕ → ℕ → ℕ → Bool
 late es first at = is_unit_cut es at && nat_lt first at
 
 -- the next cut from a place on

@@ -146,7 +146,7 @@ explains-cut n (Some bits) place rules short (number, below, passing, begun) =
 
 -- ---- flags, and marker bits
 
-abbrev FlagCode : Bool → List ℕ → Type 0
+abbrev pub FlagCode : Bool → List ℕ → Type 0
 FlagCode is_set code = code ≡ flag is_set ∷ []
 
 -- a bit as a flag
@@ -174,7 +174,7 @@ explains-flag_rule value (Some bits) place before after broken is_set is front p
     code-breaks FlagCode End before after broken is_set (flag is_set ∷ []) bits place free-flag refl
     (subst (λ (x : List ℕ). IsPrefix x bits) (bit-flag value is_set is) (number-first 1 value bits front)) passing fails
 
-none_left : (bits : List ℕ) → length bits < 1 → bits ≡ []
+pub none_left : (bits : List ℕ) → length bits < 1 → bits ≡ []
 none_left [] lt = refl
 none_left (bit ∷ bits) lt = absurd (omega arith)
 

@@ -48,6 +48,7 @@ use Rattle.es_units.proofs.CutSteps.{no_slice_at}
 use Rattle.es_units.proofs.Places.{places_none, filter_from, filter_at, filter_none, find_place}
 use Rattle.layer_laws.specs.WholeUnits.{IsLedBySequence, IsWholeUnit, placed_units}
 use Rattle.layer_laws.proofs.CodesAtSeams.{is_code, code_within, code_inside, code_behind, code_before}
+use Rattle.es_units.proofs.Spans.{late}
 
 -- ---- one unit in a stream
 
@@ -117,9 +118,6 @@ module _ (es : List ℕ) (o : ℕ) (unit : List ℕ) (there : Stands es o unit) 
       and_from _ _ header (ap (is_behind_slice es) place ∙ from_slice n (omega (arith, slice_inside)))
 
 -- ---- all units
-
-abbrev late : List ℕ → ℕ → ℕ → Bool
-late es first at = is_unit_cut es at && nat_lt first at
 
 header_first : (unit rest : List ℕ) → IsWholeUnit unit → has_code is_unit_start (unit ++ rest) 0 ≡ true → IsLow (unit ++ rest)
 header_first unit rest whole header =

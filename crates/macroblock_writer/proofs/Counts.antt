@@ -9,10 +9,6 @@ use Rattle.picture_grammar.specs.Block.{coefficient_table}
 use Rattle.picture_grammar.specs.Written.{written_coefficient, written_coefficients}
 use Rattle.prefix_codes.specs.TableName.{code_for}
 
--- three parts one behind the other
-pub three_parts : (a b c : List ℕ) → length (a ++ b ++ c) ≡ length a + length b + length c
-three_parts a b c = omega (arith, length-append (a ++ b) c, length-append a b)
-
 -- a part that may stand
 pub part_where : (stands : Bool) (part : List ℕ) (n : ℕ) → length part ≡ n → length (if stands then part else []) ≡ (if stands then n else 0)
 part_where true part n is = is

@@ -63,7 +63,7 @@ use Rattle.picture_laws.proofs.DecidedUnits.{unit_answer, right-unit}
 -- ---- what spells a unit leaves nothing
 
 -- one more zero byte, or the end of the bits
-abbrev next_zero : List ℕ → Grammar (Next ℕ (Unit {0}))
+abbrev pub next_zero : List ℕ → Grammar (Next ℕ (Unit {0}))
 next_zero before = if_next (λ bits. bits ≡ []) (done (last tt))
     (if_next (IsPrefix start_code_prefix) (start_code BadHeader (λ _. false) >> done (last tt)) (zero_byte BadHeader >>= λ byte. done (more byte)))
 

@@ -36,7 +36,8 @@ use Rattle.requantiser.specs.Private.Lengths.{AreLengths, length_by, table_numbe
 use Rattle.requantiser.specs.Private.Changes.{pair_changes}
 use Rattle.requantiser.specs.Private.Tallies.{IsCounted, IsCountedBlock, IsEnded, IsTallied, bits_at, has_none}
 use Rattle.requantiser.specs.Private.Walk.{coarsened_pairs}
-use Rattle.requantiser.proofs.Tallies.{block_counted, three_parts}
+use Rattle.requantiser.proofs.Tallies.{block_counted}
+use Rattle.list_types.proofs.Lists.{three_parts}
 
 -- ---- the lengths of codes
 

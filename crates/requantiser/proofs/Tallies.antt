@@ -17,9 +17,6 @@ use Rattle.requantiser.specs.Private.Tallies.{IsCounted, IsCountedBlock, IsEnded
 use Rattle.requantiser.specs.Private.Walk.{coarsened_pairs}
 use Rattle.requantiser.proofs.Spelled.{no_end_first}
 
-pub three_parts : (a b c : List ℕ) → length (a ++ b ++ c) ≡ length a + length b + length c
-three_parts a b c = omega (arith, length-append (a ++ b) c, length-append a b)
-
 -- ---- one item of a list after another
 
 module _ {A : Type 0} (P : A → A → Type 0) where

@@ -57,7 +57,7 @@ use Rattle.video_headers.proofs.Looks.{look-goes}
 use Rattle.video_headers.proofs.NextCodes.{front-short, look-refused}
 use Rattle.video_headers.proofs.Reading.{runs-none}
 use Rattle.video_headers.proofs.ToldFields.{told-of}
-use Rattle.video_headers.proofs.Windows.{nothing_left}
+use Rattle.grammar_reading.proofs.ReadElements.{none_left}
 use Rattle.video_headers.proofs.ZeroBytes.{rests-passed}
 
 abbrev FourBits : ℕ → List ℕ → Type 0
@@ -74,7 +74,7 @@ four-taken number old new front fits left moved end bits here =
 pub four-missing : {S : Type 0} {g : Ghosts S} (old new : BitReader S g) → IfSome (bits_left old) (λ bits. length bits < 4)
     → (end : ℕ) (bits : List ℕ) → Wholes old end bits → FourTaken None new end bits
 four-missing old new short end bits here =
-    let few = told-of (λ bits. length bits < 4) (bits_left old) bits here.rests.told short in nothing_left bits (omega (arith, here.whole, few))
+    let few = told-of (λ bits. length bits < 4) (bits_left old) bits here.rests.told short in none_left bits (omega (arith, here.whole, few))
 
 pub some-identifier : (part : Part) → has_extensions part ≡ true → (number : ℕ) × (number < 2 ^ 4) × (is_scalable number ≡ false) × (identifiers_of part number ≡ true)
 some-identifier Sequence is = (2, omega arith, refl, refl)

@@ -55,7 +55,7 @@ use Rattle.video_headers.specs.Private.Stands.{StandsAt, StandsNext, BeginsByte,
 use Rattle.video_headers.specs.Private.Wholes.{Wholes}
 use Rattle.video_headers.proofs.Looks.{looked}
 use Rattle.video_headers.proofs.ToldFields.{told-of}
-use Rattle.video_headers.proofs.Windows.{nothing_left}
+use Rattle.grammar_reading.proofs.ReadElements.{none_left}
 
 -- n bits were passed
 pub rests-passed : {S : Type 0} {g : Ghosts S} (n : ℕ) (old new : BitReader S g) → bits_left new ≡ without_front (bits_left old) n → place new ≡ place old + n
@@ -124,7 +124,7 @@ pub byte-missing : {S : Type 0} {g : Ghosts S} (old new : BitReader S g) → IfS
     → (end : ℕ) (bits : List ℕ) → Wholes old end bits → ByteTaken None new end bits
 byte-missing old new short same stays end bits here =
     let few = told-of (λ bits. length bits < 8) (bits_left old) bits here.rests.told short in (
-      nothing_left bits (omega (arith, here.whole, few)),
+      none_left bits (omega (arith, here.whole, few)),
       record { rests = record { told = same ∙ here.rests.told; ends = omega (arith, here.rests.ends, stays) }; whole = here.whole; ends = here.ends },
     )
 
