@@ -1,6 +1,6 @@
 use Rattle.std.proofs.Common.{[], length, unwrap_or, ap, sym, ◌∙◌}
 use Rattle.bit_lists.proofs.BitLemmas.{length-bits_of}
-use Rattle.macroblock_writer.proofs.block_counts.code_bits.Goals as goal
+use Rattle.prefix_codes.proofs.lookup.code_bits.Goals as goal
 
 pub returns-in-Some-clause-value : goal.returns-in-Some-clause-value
 returns-in-Some-clause-value c =
