@@ -43,7 +43,8 @@ use Rattle.audio_frames.specs.Frames.{AreAllFrames}
 use Rattle.audio_frames.specs.declared.clock.Clock.{Clock}
 use Rattle.audio_frames.specs.declared.frame.Frame.{Frame}
 use Rattle.audio_frames.specs.declared.pes_start.PesStart.{PesStart}
-use Rattle.audio_frames.specs.Times.{frame_ticks, given_time, IsTimeOf, frame_time_at, AreTimes, AreRising, IsOutOfOrder, AreFramesOf, rate_of, spans}
+use Rattle.audio_frames.specs.Times.{frame_ticks, given_time, IsTimeOf, frame_time_at, AreTimes, AreRising, IsOutOfOrder, AreFramesOf, rate_of}
+use Rattle.list_types.specs.Spans.{spans}
 use Rattle.audio_frames.specs.Private.Packets.{IsLastGiven, IsClockAt}
 
 time_last : (times : List ℤ) (t : ℤ) (k : ℕ) → k ≡ length times → frame_time_at (times ++ t ∷ []) k ≡ t

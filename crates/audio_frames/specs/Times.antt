@@ -18,8 +18,6 @@ use Rattle.std.specs.Prelude.{
   ◌||◌,
   ◌⊎◌,
   List,
-  [],
-  ◌∷◌,
   length,
   drop,
   map,
@@ -43,6 +41,7 @@ use Rattle.std.specs.Prelude.{
 }
 use Rattle.std.specs.List.{last_or}
 use Rattle.std.specs.List.Sorted.{IsStrictlyIncreasing}
+use Rattle.list_types.specs.Spans.{spans}
 use Rattle.audio_frames.specs.declared.clock.TheConstants.{FRAME_SAMPLES}
 use Rattle.stream_constants.specs.declared.clock.TheConstants.{TICKS_PER_SECOND, TICKS_PER_TIME_UNIT}
 use Rattle.audio_frames.specs.declared.audio_fault.AudioFault.{AudioFault}
@@ -104,11 +103,6 @@ abbrev pub AreRising : List ℤ → ℕ → Type 0
 AreRising times count = (k : ℕ) → k + 1 < count → frame_time_at times k <ℤ frame_time_at times (k + 1)
 
 -- ---- what is answered
-
--- from a place to the next one, and from the last one to the end
-abbrev pub spans : ℕ → List ℕ → ℕ → List (ℕ × ℕ)
-spans from [] end = (from, end) ∷ []
-spans from (place ∷ places) end = (from, place) ∷ spans place places end
 
 -- the sampling rate of the first frame
 abbrev pub rate_of : List ℕ → List ℕ → ℕ

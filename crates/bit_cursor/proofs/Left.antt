@@ -38,7 +38,6 @@ use Rattle.shelf_io.specs.Source.{without_front}
 use Rattle.bit_lists.specs.Bits.{bits_of}
 use Rattle.bit_lists.specs.Fields.{bit_list, bits_of_byte}
 use Rattle.bit_lists.proofs.BitLemmas.{length-bits_of}
-use Rattle.bit_cursor.specs.BitReader.{without_bits}
 use Rattle.bit_lists.proofs.ByteLemmas.{bit_list-take}
 use Rattle.bit_lists.proofs.JoinedLemmas.{drop-bits_of, bits_of-byte}
 use Rattle.bit_cursor.proofs.Words.{bits_of-more, bits_of-bytes}
@@ -48,7 +47,7 @@ abbrev pub told_bits : Option (List ℕ) → ℕ → ℕ → Option (List ℕ)
 told_bits told h w = option_map (λ bytes. bits_of h w ++ bit_list bytes) told
 
 -- n held bits were given
-pub told_fewer : (told : Option (List ℕ)) (h n w : ℕ) → n ≤ h → told_bits told (h - n) w ≡ without_bits (told_bits told h w) n
+pub told_fewer : (told : Option (List ℕ)) (h n w : ℕ) → n ≤ h → told_bits told (h - n) w ≡ without_front (told_bits told h w) n
 told_fewer None h n w le = refl
 told_fewer (Some bytes) h n w le =
     let whole : n + (h - n) ≡ h = omega arith in

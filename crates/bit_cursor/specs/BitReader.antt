@@ -1,5 +1,5 @@
 -- What a reader of bits has left, and where it stands.
-use Rattle.std.specs.Prelude.{◌≡◌, ℕ, ◌+◌, ◌-◌, ◌*◌, ◌≤◌, List, Option, ◌++◌, drop}
+use Rattle.std.specs.Prelude.{◌≡◌, ℕ, ◌+◌, ◌-◌, ◌*◌, ◌≤◌, List, Option, ◌++◌}
 use Rattle.std.specs.Borrow.{MutBor}
 use Rattle.std.specs.Option.{option_map}
 use Rattle.shelf_io.specs.declared.source.Source.{Ghosts}
@@ -24,10 +24,6 @@ held_bits reader = bits_of reader.held reader.word
 -- the bits that are left, where the source tells its bytes: the held ones, then those of the source
 abbrev pub bits_left : {S : Type 0} {g : Ghosts S} → BitReader S g → Option (List ℕ)
 bits_left {S} {g} reader = option_map (λ bytes. held_bits reader ++ bit_list bytes) (g.left (source_of reader).now)
-
--- what is told of the bits that are left once n more were given
-abbrev pub without_bits : Option (List ℕ) → ℕ → Option (List ℕ)
-without_bits told n = option_map (drop n) told
 
 -- the place of the next bit, in bits from the source's first
 abbrev pub place : {S : Type 0} {g : Ghosts S} → BitReader S g → ℕ

@@ -26,7 +26,8 @@ pub struct BitReader<'a, S: Source> {
 impl<'a, S: Source> BitReader<'a, S> {
     ghost use Rattle.std.specs.Option.{option_map};
     ghost use Rattle.bit_lists.specs.Fields.{bit_list};
-    ghost use Rattle.bit_cursor.specs.BitReader.{source_of, bits_held, bits_left, without_bits, place, faults_of, absences_of, TakesBytes, Fetches, KeepsSource};
+    ghost use Rattle.bit_cursor.specs.BitReader.{source_of, bits_held, bits_left, place, faults_of, absences_of, TakesBytes, Fetches, KeepsSource};
+    ghost use Rattle.shelf_io.specs.Source.{without_front};
 
     /// A reader at the source's first bit.
     pub fn new(source: &'a mut S) -> Self
@@ -51,7 +52,7 @@ impl<'a, S: Source> BitReader<'a, S> {
         requires { n ≤ 32 }
         ensures value { IfOk result (λ value. IfSome (bits_left self.old) (λ bits. IsFirstNumber n bits value)) }
         ensures below { IfOk result (λ value. value < 2 ^ n) }
-        ensures left { IfOk result (λ _. bits_left self.new ≡ without_bits (bits_left self.old) n) }
+        ensures left { IfOk result (λ _. bits_left self.new ≡ without_front (bits_left self.old) n) }
         ensures place { IfOk result (λ _. place self.new ≡ place self.old + n) }
         ensures held { IfOk result (λ _. bits_held self.new + n ≡ bits_held self.old + 8 * bytes_beyond (bits_held self.old) n) }
         ensures taken { IfOk result (λ _. TakesBytes self.old self.new (bytes_beyond (bits_held self.old) n)) }
@@ -174,7 +175,7 @@ impl<'a, S: Source> BitReader<'a, S> {
     #[inline]
     pub fn skip(&mut self, n: u32)
         requires { n ≤ bits_held self.old }
-        ensures left { bits_left self.new ≡ without_bits (bits_left self.old) n }
+        ensures left { bits_left self.new ≡ without_front (bits_left self.old) n }
         ensures place { place self.new ≡ place self.old + n }
         ensures held { bits_held self.new + n ≡ bits_held self.old }
         ensures same_source { (source_of self.new).ghost_name ≡ (source_of self.old).ghost_name }
@@ -187,7 +188,7 @@ impl<'a, S: Source> BitReader<'a, S> {
     #[inline]
     pub fn align(&mut self)
         ensures place { place self.new ≡ byte_aligned (place self.old) }
-        ensures left { bits_left self.new ≡ without_bits (bits_left self.old) (place self.new - place self.old) }
+        ensures left { bits_left self.new ≡ without_front (bits_left self.old) (place self.new - place self.old) }
         ensures held { bits_held self.new + (place self.new - place self.old) ≡ bits_held self.old }
         ensures same_source { (source_of self.new).ghost_name ≡ (source_of self.old).ghost_name }
         ensures source { (source_of self.new).now ≡ (source_of self.old).now }

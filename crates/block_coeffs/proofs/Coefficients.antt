@@ -38,7 +38,7 @@ use Rattle.prefix_codes.specs.declared.table_name.TableName.{TableName}
 use Rattle.prefix_codes.specs.declared.table_name.TableName.TheVariants.{CoeffZero, CoeffFirst, CoeffOne}
 use Rattle.syntax_types.specs.declared.block.BlockWay.{BlockWay}
 use Rattle.syntax_types.specs.declared.block.RunLevel.{RunLevel}
-use Rattle.bit_cursor.specs.BitReader.{without_bits}
+use Rattle.shelf_io.specs.Source.{without_front}
 use Rattle.picture_grammar.specs.Grammar.{many}
 use Rattle.picture_grammar.specs.Grammar.Next.{more, last}
 use Rattle.picture_grammar.specs.Block.{coefficient, coefficient_table, first_place, next_place}
@@ -115,7 +115,7 @@ module _ (way : BlockWay) (before : List RunLevel) (table : TableName) (index : 
     (window : BitWindow) (told after : Option (List ℕ)) (place place_after : ℕ) where
   -- a coefficient was found and its bits were passed
   pub pair-read : IfSome told (ShowsKnown window) → (bits : Option (List ℕ)) (at word next run : ℕ) (held : ℤ) (len : ℕ) (items : List RunLevel)
-      → IsFound table index window (Pair word next) → run ≡ run_of word → held ≡ level_of word → len ≡ length_of word → after ≡ without_bits told len → place_after ≡ place + len
+      → IsFound table index window (Pair word next) → run ≡ run_of word → held ≡ level_of word → len ≡ length_of word → after ≡ without_front told len → place_after ≡ place + len
       → items ≡ before ++ record { run = run; level = held } ∷ [] → ReadsFrom (several (coefficient way)) before bits told at place
       → ReadsFrom (several (coefficient way)) items bits after at place_after
   pair-read shows bits at word next run held len items is run_is held_is len_is left moved items_are r =
@@ -129,7 +129,7 @@ module _ (way : BlockWay) (before : List RunLevel) (table : TableName) (index : 
       (reads-more (coefficient way) (stands-before (coefficient way before) before (more pair) (local-coefficients way)) r read)
 
   -- the end of block was found and passed
-  pub end-read : IfSome told (ShowsKnown window) → (bits : Option (List ℕ)) (at len : ℕ) → IsFound table index window (EndOfBlock len) → after ≡ without_bits told len → place_after ≡ place + len
+  pub end-read : IfSome told (ShowsKnown window) → (bits : Option (List ℕ)) (at len : ℕ) → IsFound table index window (EndOfBlock len) → after ≡ without_front told len → place_after ≡ place + len
       → ReadsFrom (several (coefficient way)) before bits told at place → ReadsFrom (many (coefficient way)) (before, tt) bits after at place_after
   end-read shows bits at len is left moved r =
       let found = reads-known (coefficient_at table index) (local-at way before table index table_is index_is) (last tt) told after window len place place_after shows is.0 is.1 left moved in

@@ -45,7 +45,7 @@ use Rattle.bit_lists.proofs.BitLemmas.{length-bits_of, bits_of-mod}
 use Rattle.prefix_codes.specs.declared.table_name.TableName.{TableName}
 use Rattle.prefix_codes.specs.declared.table_name.TableName.TheVariants.{Address, TypeI, TypeP, TypeB, Pattern, Motion, DcLuma, DcChroma, CoeffZero, CoeffFirst, CoeffOne}
 use Rattle.prefix_codes.specs.Entry.{Entry}
-use Rattle.prefix_codes.specs.TableName.{entries, code_in, Begins}
+use Rattle.prefix_codes.specs.TableName.{entries, code_in, Begins, is_sizes}
 use Rattle.prefix_codes.proofs.Computing.{tables}
 use Rattle.prefix_codes.proofs.TableLemmas.{code_in-passes}
 use Rattle.picture_grammar.specs.Refusal.Refusal.{End}
@@ -55,7 +55,7 @@ use Rattle.block_coeffs.specs.declared.why.Why.TheVariants as why
 use Rattle.block_coeffs.specs.declared.dc_standing.DcStanding.TheVariants.{Coefficient, Refused}
 use Rattle.grammar_reading.specs.Cut.{BeginsCode}
 use Rattle.grammar_reading.specs.Window.{seen, ShowsFront}
-use Rattle.block_coeffs.specs.Private.DcStanding.{is_sizes, dc_by, IsWhyNoSize, IsDcFound}
+use Rattle.block_coeffs.specs.Private.DcStanding.{dc_by, IsWhyNoSize, IsDcFound}
 use Rattle.grammar_reading.proofs.Fronts.{front_of-more, length-front_of, take-front_of}
 use Rattle.grammar_reading.proofs.Cuts.{begun-length, shows-all, shows-filled, seen-begins}
 use Rattle.block_coeffs.proofs.Pairs.{seen-code}

@@ -6,7 +6,7 @@ use Rattle.bit_cursor.proofs.Fronts.{told_both}
 use Rattle.picture_grammar.specs.Refusal.{Refusal}
 use Rattle.picture_grammar.specs.Grammar.{Grammar}
 use Rattle.picture_grammar.specs.Exact.{IsLocal}
-use Rattle.bit_cursor.specs.BitReader.{without_bits}
+use Rattle.shelf_io.specs.Source.{without_front}
 use Rattle.block_coeffs.specs.declared.why.Why.{Why}
 use Rattle.block_coeffs.specs.declared.why.Why.TheVariants as why
 use Rattle.grammar_reading.specs.declared.window.BitWindow.{BitWindow}
@@ -37,7 +37,7 @@ front-known (Some bits) window shows = taken window bits window.known shows (ome
 taken-known : (window : BitWindow) (bits : List ℕ) (len : ℕ) → ShowsKnown window bits → len ≤ window.known → take len bits ≡ seen window len
 taken-known window bits len shows le = sym (take-take len window.known bits le) ∙ ap (take len) shows ∙ take-front_of 24 window.bits len window.known le
 
-front-left : (told : Option (List ℕ)) (window : BitWindow) (len : ℕ) → IfSome told (ShowsKnown window) → len ≤ window.known → told ≡ option_map (λ rest. seen window len ++ rest) (without_bits told len)
+front-left : (told : Option (List ℕ)) (window : BitWindow) (len : ℕ) → IfSome told (ShowsKnown window) → len ≤ window.known → told ≡ option_map (λ rest. seen window len ++ rest) (without_front told len)
 front-left None window len shows le = refl
 front-left (Some bits) window len shows le = ap Some (sym (take-append-drop len bits) ∙ ap (λ f. f ++ drop len bits) (taken-known window bits len shows le))
 
@@ -54,7 +54,7 @@ local-spelled {grammar = grammar} local value front (Some rest) s = anywhere loc
 
 -- what the window knows of a value was read once it is taken
 pub reads-known : {A : Type 0} (grammar : Grammar A) → IsLocal grammar → (value : A) (told after : Option (List ℕ)) (window : BitWindow) (len place place_after : ℕ)
-    → IfSome told (ShowsKnown window) → len ≤ window.known → grammar.Spells value (seen window len) [] → after ≡ without_bits told len
+    → IfSome told (ShowsKnown window) → len ≤ window.known → grammar.Spells value (seen window len) [] → after ≡ without_front told len
     → place_after ≡ place + len → ReadsFrom grammar value told after place place_after
 reads-known grammar local value told after window len place place_after shows le spelled left moved =
     let within = window.within in record {
@@ -65,13 +65,13 @@ reads-known grammar local value told after window len place place_after shows le
     }
 
 pub reads-found : {A : Type 0} (grammar : Grammar A) → IsLocal grammar → (value : A) (told after : Option (List ℕ)) (window : BitWindow) (len place place_after : ℕ)
-    → IfSome told (ShowsFront window) → len ≤ window.known → grammar.Spells value (seen window len) [] → after ≡ without_bits told len
+    → IfSome told (ShowsFront window) → len ≤ window.known → grammar.Spells value (seen window len) [] → after ≡ without_front told len
     → place_after ≡ place + len → ReadsFrom grammar value told after place place_after
 reads-found grammar local value told after window len place place_after shows = reads-known grammar local value told after window len place place_after (front-known told window shows)
 
 -- bits that the window knows were passed
 pub advances-known : (told after : Option (List ℕ)) (window : BitWindow) (len place place_after : ℕ) → IfSome told (ShowsKnown window) → len ≤ window.known
-    → after ≡ without_bits told len → place_after ≡ place + len → AdvancesFrom told after place place_after
+    → after ≡ without_front told len → place_after ≡ place + len → AdvancesFrom told after place place_after
 advances-known told after window len place place_after shows le left moved =
     let within = window.within in record {
       front = seen window len;

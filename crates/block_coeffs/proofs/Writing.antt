@@ -45,7 +45,8 @@ use Rattle.prefix_codes.specs.declared.symbol.TheConstants.{END_OF_BLOCK}
 use Rattle.syntax_types.specs.declared.block.BlockWay.{BlockWay}
 use Rattle.syntax_types.specs.declared.block.RunLevel.{RunLevel}
 use Rattle.picture_grammar.specs.Block.{coefficient_table}
-use Rattle.picture_grammar.specs.Written.{code_for, written_coefficient, written_coefficients}
+use Rattle.picture_grammar.specs.Written.{written_coefficient, written_coefficients}
+use Rattle.prefix_codes.specs.TableName.{code_for}
 use Rattle.block_coeffs.specs.Private.Writing.{CanFollow}
 
 -- ---- bits of a coefficient

@@ -1,22 +1,9 @@
 ghost use Rattle.std.specs.Prelude.{◌≡◌, IsTrue};
-ghost use Rattle.picture_grammar.specs.Block.{dc_table, coefficient_table};
-ghost use Rattle.block_coeffs.specs.Private.DcStanding.{is_sizes};
+ghost use Rattle.picture_grammar.specs.Block.{coefficient_table};
 ghost use Rattle.prefix_codes.specs.TableName.{is_coefficients};
 
 use prefix_codes::TableName;
 use syntax_types::BlockWay;
-
-/// The table of the DC coefficient's size (7.2.1).
-pub fn size_table(way: BlockWay) -> TableName
-    ensures table { result ≡ dc_table way.luma }
-    ensures sizes { IsTrue (is_sizes result) }
-{
-    if way.luma {
-        TableName::DcLuma
-    } else {
-        TableName::DcChroma
-    }
-}
 
 /// The table of the coefficient at a place, which is 0 for the first one of a non-intra block alone (7.2.2.1).
 pub fn table_at(way: BlockWay, place: u32) -> TableName

@@ -1,7 +1,7 @@
 ghost use Rattle.std.specs.Prelude.{ℕ, List, IsTrue};
-ghost use Rattle.prefix_codes.specs.TableName.{Begins};
+ghost use Rattle.prefix_codes.specs.TableName.{Begins, is_sizes};
 ghost use Rattle.grammar_reading.specs.Window.{seen, ShowsFront};
-ghost use Rattle.block_coeffs.specs.Private.DcStanding.{is_sizes, IsWhyNoSize, IsDcFound};
+ghost use Rattle.block_coeffs.specs.Private.DcStanding.{IsWhyNoSize, IsDcFound};
 
 use crate::why::Why;
 use grammar_reading::{BitWindow, begins_code};

@@ -4,15 +4,14 @@ ghost use Rattle.bit_cursor.specs.BitReader.{bits_left, bits_held, place, faults
 ghost use Rattle.syntax_types.specs.declared.block.Block.{Block};
 ghost use Rattle.picture_grammar.specs.Grammar.{many, optional};
 ghost use Rattle.picture_grammar.specs.Block.{block, coefficient, coefficient_table, dc_coefficient};
-ghost use Rattle.prefix_codes.specs.TableName.{is_coefficients};
+ghost use Rattle.prefix_codes.specs.TableName.{is_coefficients, is_sizes};
 ghost use Rattle.block_coeffs.specs.Private.Pairs.{IsBehind, ReadsOn, RefusesOn};
 ghost use Rattle.block_coeffs.specs.Private.Standing.{StandsNext};
-ghost use Rattle.block_coeffs.specs.Private.DcStanding.{is_sizes, dc_by};
+ghost use Rattle.block_coeffs.specs.Private.DcStanding.{dc_by};
 ghost use Rattle.grammar_reading.specs.Window.{ShowsFront};
 ghost use Rattle.grammar_reading.specs.BitsRead.{Advances, AnswersSpelling, BeginsWith, Explains, Reads};
 ghost use Rattle.block_coeffs.specs.BlockFault.{refusal_told};
 
-use crate::coefficient_table::size_table;
 use crate::dc_standing::{DcStanding, what_dc};
 use crate::fault::BlockFault;
 use crate::short_codes::{PAIR_WORDS, SHORT_BITS, length_in, level_in, run_in, short_word};
@@ -20,6 +19,7 @@ use crate::standing::{Standing, what_stands, what_stands_whole};
 use arrayvec::ArrayVec;
 use bit_cursor::BitReader;
 use grammar_reading::{held_window, whole_window};
+use picture_grammar::stands::size_table;
 use prefix_codes::{TableName, WINDOW_BITS};
 use shelf_io::{Fault, Source};
 use syntax_types::{BLOCK_PLACES, Block, BlockWay, Dc, RunLevel};

@@ -1,14 +1,15 @@
 ghost use Rattle.std.specs.Prelude.{◌≡◌, ◌<◌, ◌≤◌, ◌^◌, List, ℕ, IsTrue, false};
 ghost use Rattle.bit_cursor.specs.BitWriter.{is_stopped, Writes};
-ghost use Rattle.prefix_codes.specs.TableName.{is_coefficients};
+ghost use Rattle.prefix_codes.specs.TableName.{is_coefficients, code_for as bits_for};
 ghost use Rattle.picture_grammar.specs.Block.{block as block_grammar, first_place};
-ghost use Rattle.picture_grammar.specs.Written.{code_for as bits_for, written_dc, written_escape, written_coefficient, written_coefficients, written_block};
+ghost use Rattle.picture_grammar.specs.Written.{written_dc, written_escape, written_coefficient, written_coefficients, written_block};
 ghost use Rattle.block_coeffs.specs.Private.Writing.{CanStand, CanFollow};
 
-use crate::coefficient_table::{size_table, table_at};
+use crate::coefficient_table::table_at;
 use crate::written_codes::{code_for, level_field};
 use bit_cursor::BitWriter;
 use picture_grammar::escape::{LEVEL_BITS, RUN_BITS};
+use picture_grammar::stands::size_table;
 use prefix_codes::{TableName, coefficient_code, symbol};
 use shelf_io::{Fault, Sink};
 use syntax_types::{Block, BlockWay, Dc, RunLevel};

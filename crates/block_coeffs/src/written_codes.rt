@@ -1,6 +1,7 @@
 ghost use Rattle.std.specs.Prelude.{◌≡◌, ◌-◌, ◌≤◌, ◌<◌, ◌^◌, unsigned_abs};
 ghost use Rattle.bit_lists.specs.Bits.{bits_of};
-ghost use Rattle.picture_grammar.specs.Written.{code_for as bits_for, level_bits};
+ghost use Rattle.picture_grammar.specs.Written.{level_bits};
+ghost use Rattle.prefix_codes.specs.TableName.{code_for as bits_for};
 
 use picture_grammar::escape::LEVEL_BITS;
 use prefix_codes::{Code, TableName, WINDOW_BITS, code_of};

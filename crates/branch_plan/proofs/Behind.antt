@@ -8,6 +8,7 @@ use Rattle.certificate_checker.specs.declared.why.Why.TheVariants as whys
 use Rattle.certificate_checker.specs.Shown.{bound_of_leaf, fix, versions_of}
 use Rattle.certificate_checker.specs.Faults.{IsRight}
 use Rattle.certificate_checker.specs.Walk.{IsLeaf, Shows, Stops, Walked, Walks, WalksEach, beside, missing, wrong, leaf, branch, none, stop, next}
+use Rattle.certificate_checker.proofs.Outcomes.{branch_unit}
 
 -- ---- a tree that shows a bound, taken apart at its first node
 abbrev pub ShowsFrom : Table → List (Option ℕ) → List Node → Walked → Type 0
@@ -64,18 +65,11 @@ alike_leaf table fixed node behind bound (Shows other rest) is (inl second) = sy
 alike_leaf table fixed node behind bound (Shows other rest) is (inr (unit, same, right, each)) = absurd (subst (λ (n : Node). IsLeaf n) same is)
 alike_leaf table fixed node behind bound (Stops why left) is second = tt
 
-abbrev unit_in : Node → ℕ
-unit_in (Branch unit) = unit
-unit_in (Dual priced) = 0
-unit_in (Run scheduled) = 0
-unit_in Open = 0
-unit_in (Window priced) = 0
-
 -- the children of a branch on the same unit
 pub moved : (table : Table) (fixed : List (Option ℕ)) (unit other : ℕ) (nodes : List Node) (walked : Walked) → Branch unit ≡ Branch other
     → WalksEach table fixed other 0 (versions_of table other) nodes walked → WalksEach table fixed unit 0 (versions_of table unit) nodes walked
 moved table fixed unit other nodes walked same each =
-    subst (λ (u : ℕ). WalksEach table fixed u 0 (versions_of table u) nodes walked) (sym (ap (λ (n : Node). unit_in n) same)) each
+    subst (λ (u : ℕ). WalksEach table fixed u 0 (versions_of table u) nodes walked) (sym (ap (λ (n : Node). branch_unit n) same)) each
 
 alike_branch : (table : Table) (fixed : List (Option ℕ)) (unit : ℕ) (nodes : List Node) (a b : Walked)
     → ((other : Walked) → WalksEach table fixed unit 0 (versions_of table unit) nodes other → AreAlike a other) → ShowsFrom table fixed (Branch unit ∷ nodes) b → AreAlike a b

@@ -28,6 +28,7 @@ use Rattle.branch_plan.specs.Private.Leaves.{IsFreeUnit}
 use Rattle.branch_plan.proofs.Forests.{at_most_least, has_leaf, least_at_most, tree_walks}
 use Rattle.branch_plan.proofs.Opens.{all_contained, contains_first, first_or_more}
 use Rattle.branch_plan.proofs.Splits.{ids_count}
+use Rattle.branch_plan.proofs.Growing.{lower_bound}
 
 -- ---- what is shown
 -- a certificate of these nodes and this bound
@@ -53,10 +54,6 @@ shown_best table (Some bound) nodes known valid is walks most =
 shown_least : (bound : ℕ) (shown : Option ℕ) → IsAtMost bound shown → ((n : ℕ) → IsAtMost n shown → n ≤ bound) → shown ≡ Some bound
 shown_least bound None most least = absurd (omega (arith, least (suc bound) tt))
 shown_least bound (Some other) most least = ap Some (omega (arith, most, least other (omega arith)))
-
-lower_at_most : (low high : ℕ) (shown : Option ℕ) → low ≤ high → IsAtMost high shown → IsAtMost low shown
-lower_at_most low high None less most = tt
-lower_at_most low high (Some bound) less most = omega (arith, less, most)
 
 -- ---- the order of the nodes
 pub tree_order : (table : Table) (nodes : List Node) (links : List Link) (path : ℕ → List (Option ℕ)) (tree : Forest) → IsTree table nodes links path tree → IsOrder nodes links (ids_then tree [])
@@ -103,7 +100,7 @@ ends_best table most root arena known leaves valid grown is root_is few each =
 settled_least : (table : Table) (nodes : List Node) (path : ℕ → List (Option ℕ)) (all leaves : List (Reverse (ℕ × ℕ))) (top : Reverse (ℕ × ℕ)) (bound distortion j : ℕ) → top.0.0 ≡ bound
     → bound ≤ distortion → IsPermutation all (top ∷ leaves) → AllByRecursion (λ (other : Reverse (ℕ × ℕ)). bound ≤ other.0.0) leaves → IsSettledIn table nodes path all distortion j
     → IsAtMost bound (bound_of_leaf table (path j) (node_of nodes j))
-settled_least table nodes path all leaves top bound distortion j is less taken least (inl most) = lower_at_most bound distortion (bound_of_leaf table (path j) (node_of nodes j)) less most
+settled_least table nodes path all leaves top bound distortion j is less taken least (inl most) = lower_bound bound distortion (bound_of_leaf table (path j) (node_of nodes j)) less most
 settled_least table nodes path all leaves top bound distortion j is less taken least (inr (leaf, there, number, shown)) =
     subst (λ (b : Option ℕ). IsAtMost bound b) (sym shown) (at_or_above (first_or_more top leaf leaves (Contains-permutation all (top ∷ leaves) leaf taken there)))
   where

@@ -69,6 +69,7 @@ use Rattle.branch_plan.proofs.WholeTrees.{
   some_whole,
   whole,
 }
+use Rattle.certificate_checker.proofs.Units.{no_unit}
 
 -- ---- units in order
 abbrev free_in : List (Option ℕ) → ℕ → Bool
@@ -247,8 +248,6 @@ mutual
       (each_from table f u i (suc more) ns (Shows bound behind) each)
 
 -- ---- the units of a table in order
-abbrev no_unit : CodedUnit
-no_unit = record { due = 0; versions = record { items = [] } }
 
 abbrev counts_of : Table → List ℕ
 counts_of table = map (λ (unit : CodedUnit). length unit.versions.items) (units_of table)

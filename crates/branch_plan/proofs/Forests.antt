@@ -10,6 +10,7 @@ use Rattle.certificate_checker.specs.Walk.{IsLeaf, Shows, Walks, WalksEach, leaf
 use Rattle.certificate_checker.specs.Checked.{IsAtMost}
 use Rattle.branch_plan.specs.Tree.{HasLeaf, HasLeafBelow, here, below, in_first, in_later}
 use Rattle.branch_plan.specs.Private.Forest.{Forest, no_tree, leaf_at, branch_at, Stands, ids_then, least_shown, occurs, size, width}
+use Rattle.certificate_checker.proofs.Soundness.{lesser-first, lesser-second}
 
 -- ---- what the nodes of trees show
 branch_walks : (table : Table) (node : ℕ → Node) (fixed : List (Option ℕ)) (id unit : ℕ) (under : Forest) (behind : List ℕ) (bound : Option ℕ) → node id ≡ Branch unit
@@ -67,16 +68,6 @@ at_most_both n None b first second = second
 at_most_both n (Some a) None first second = first
 at_most_both n (Some a) (Some b) first second = omega (arith, first, second)
 
-at_most_first : (n : ℕ) (a b : Option ℕ) → IsAtMost n (lesser a b) → IsAtMost n a
-at_most_first n None b most = tt
-at_most_first n (Some a) None most = most
-at_most_first n (Some a) (Some b) most = omega (arith, most)
-
-at_most_second : (n : ℕ) (a b : Option ℕ) → IsAtMost n (lesser a b) → IsAtMost n b
-at_most_second n None b most = most
-at_most_second n (Some a) None most = tt
-at_most_second n (Some a) (Some b) most = omega (arith, most)
-
 -- ---- by where a number stands
 one_of : {P : Type 0} (test : Bool) (rest : ℕ) → 0 < cond test 1 0 + rest → (test ≡ true → P) → (0 < rest → P) → P
 one_of true rest some here_is later_is = here_is refl
@@ -117,16 +108,16 @@ least_at_most table most node path n id is own k (leaf_at other more) some stand
     in_leaf {P = IsAtMost n (bound_of_leaf table (path id) (node id))} other id (occurs id more) some
     (λ same. subst (λ (j : ℕ). IsAtMost n (bound_of_leaf table (path j) (node j))) same
     (subst (λ (f : List (Option ℕ)). IsAtMost n (bound_of_leaf table f (node other))) (sym stands.1)
-    (at_most_first n (bound_of_leaf table (own k) (node other)) (least_shown table node own (k + 1) more) shown)))
+    (lesser-first n (bound_of_leaf table (own k) (node other)) (least_shown table node own (k + 1) more) shown)))
     (λ there. least_at_most table most node path n id is own (k + 1) more there stands.4
-    (at_most_second n (bound_of_leaf table (own k) (node other)) (least_shown table node own (k + 1) more) shown))
+    (lesser-second n (bound_of_leaf table (own k) (node other)) (least_shown table node own (k + 1) more) shown))
 least_at_most table most node path n id is own k (branch_at other unit under more) some stands shown =
     in_branch {P = IsAtMost n (bound_of_leaf table (path id) (node id))} other id (occurs id under) (occurs id more) some
     (λ same. absurd (branch_no_leaf (node other) unit stands.1 (subst (λ (j : ℕ). IsLeaf (node j)) (sym same) is)))
     (λ there. least_at_most table most node path n id is (λ j. fix unit j (own k)) 0 under there stands.5
-    (at_most_first n (least_shown table node (λ j. fix unit j (own k)) 0 under) (least_shown table node own (k + 1) more) shown))
+    (lesser-first n (least_shown table node (λ j. fix unit j (own k)) 0 under) (least_shown table node own (k + 1) more) shown))
     (λ there. least_at_most table most node path n id is own (k + 1) more there stands.6
-    (at_most_second n (least_shown table node (λ j. fix unit j (own k)) 0 under) (least_shown table node own (k + 1) more) shown))
+    (lesser-second n (least_shown table node (λ j. fix unit j (own k)) 0 under) (least_shown table node own (k + 1) more) shown))
 
 -- a leaf of the trees is one of the certificate's
 has_below : (table : Table) (most : ℕ) (node : ℕ → Node) (path : ℕ → List (Option ℕ)) (id : ℕ) → IsLeaf (node id) → (fixed : List (Option ℕ)) (unit k : ℕ) (trees : Forest) (behind : List ℕ)

@@ -47,7 +47,7 @@ no_children table most windows fixed unit first made leaves distortion none =
     }
 
 -- ---- one child more
-lower_bound : (low high : ℕ) (shown : Option ℕ) → low ≤ high → IsAtMost high shown → IsAtMost low shown
+pub lower_bound : (low high : ℕ) (shown : Option ℕ) → low ≤ high → IsAtMost high shown → IsAtMost low shown
 lower_bound low high None less most = tt
 lower_bound low high (Some bound) less most = omega (arith, less, most)
 

@@ -3,7 +3,7 @@ ghost use Rattle.version_table.specs.Table.{units_of};
 ghost use Rattle.branch_plan.specs.Private.Growth.{ArePaths, AreLinked, IsOrder, node_of};
 
 use bound_certificate::Node;
-use dual_bounds::{Fixed, Multipliers, Windows, nothing_fixed};
+use dual_bounds::{Fixed, Multipliers, copied, nothing_fixed};
 use list_types::{ListOf, OutOfMemory};
 use std::alloc::Global;
 use version_table::Table;
@@ -92,7 +92,7 @@ fn copy_of(node: &Node) -> Node
             scheduled: *scheduled,
         },
         Node::Open => Node::Open,
-        Node::Window { with } => Node::Window { with: copied(with) },
+        Node::Window { with } => Node::Window { with: copied(with.as_slice()) },
     }
 }
 
@@ -103,17 +103,6 @@ fn copied_multipliers(multipliers: &Multipliers) -> Multipliers
     let mut copy = Multipliers::new();
     for multiplier in multipliers.as_slice() {
         copy.push(*multiplier);
-    }
-    copy
-}
-
-/// The same windows.
-pub(crate) fn copied(windows: &Windows) -> Windows
-    ensures { result ≡ windows.now }
-{
-    let mut copy = Windows::new();
-    for window in windows.as_slice() {
-        copy.push(*window);
     }
     copy
 }

@@ -13,7 +13,7 @@ ghost use Rattle.branch_plan.specs.Private.Growth.{IsOrdered};
 ghost use Rattle.branch_plan.specs.Private.Known.{IsKnown};
 ghost use Rattle.branch_plan.specs.Private.Leaves.{IsFreeUnit};
 
-use crate::arena::{Link, copied};
+use crate::arena::Link;
 use crate::branching::{Growth, add_if_open};
 use crate::changes::unit_at;
 use crate::known::Known;
@@ -21,7 +21,7 @@ use crate::leaves::{Leaf, leaf_on};
 use crate::limits::{NODES_WITH_MANY_WINDOWS_MOST, RELAXED_MOST};
 use crate::open::OpenLeaves;
 use bound_certificate::Node;
-use dual_bounds::{Fixed, Windows};
+use dual_bounds::{Fixed, Windows, copied};
 use list_types::{ListOf, OutOfMemory};
 use multiplier_search::LinearRelaxation;
 use slot_rule::SlotRun;
@@ -221,11 +221,11 @@ fn windows_for(
     ensures few { relaxed ≡ false → IfOk result (λ own. own.items ≡ windows.now.items) }
 {
     if !relaxed {
-        return Ok(copied(windows));
+        return Ok(copied(windows.as_slice()));
     }
     match relaxation {
         Some(relaxation) => relaxation.windows(alloc, table, fixed, windows),
-        None => Ok(copied(windows)),
+        None => Ok(copied(windows.as_slice())),
     }
 }
 
@@ -270,7 +270,7 @@ fn windows_in(node: &Node) -> Windows
     ensures { result.items ≡ windows_in node.now }
 {
     match node {
-        Node::Window { with } => copied(with),
+        Node::Window { with } => copied(with.as_slice()),
         Node::Branch { unit: _ } => Windows::new(),
         Node::Dual { with: _ } => unreachable!(),
         Node::Run { scheduled: _ } => Windows::new(),

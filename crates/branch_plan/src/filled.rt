@@ -7,7 +7,7 @@ ghost use Rattle.branch_plan.specs.Private.Known.{IsKnown};
 use crate::changes::{put, unit_at};
 use crate::corners::corner_at;
 use crate::filling::Filling;
-use crate::known::Known;
+use crate::known::{Known, better};
 use list_types::OutOfMemory;
 use slot_rule::SlotRun;
 use std::alloc::Global;
@@ -184,23 +184,6 @@ fn next_cut(packets: u32, last: u64, due: u64) -> u32 {
         packets.saturating_mul(2).min(CUT_MOST)
     } else {
         FIRST_CUT
-    }
-}
-
-/// The better of a known choice and one that is scheduled.
-pub(crate) fn better(table: &Table, known: Known, choice: Choice) -> Known
-    requires valid { IsValidTable table.now }
-    requires known { IsKnown table.now known }
-    requires fits { Fits table.now choice }
-    requires scheduled { IsScheduled table.now choice }
-    ensures known { IsKnown table.now result }
-    ensures kept { result.distortion ≤ known.distortion }
-{
-    let distortion = distortion_of(table, &choice);
-    if distortion < known.distortion {
-        Known { choice, distortion }
-    } else {
-        known
     }
 }
 

@@ -1,4 +1,6 @@
 ghost use Rattle.std.specs.Prelude.{◌≡◌, ◌<◌, ◌≤◌, ℕ, IfOk, IfErr, OnOk};
+ghost use Rattle.slot_rule.specs.Schedule.{IsScheduled};
+ghost use Rattle.version_table.specs.Choice.{Fits, distortion_of_choice};
 ghost use Rattle.version_table.specs.Table.{IsValidTable};
 ghost use Rattle.version_table.specs.declared.limits.TheConstants.{VERSIONS_MOST};
 ghost use Rattle.branch_plan.specs.Plan.{IsMissOfSmallest, IsNoWorse, SmallestIsScheduled};
@@ -87,5 +89,23 @@ fn or_level(
         Ok(Known { choice, distortion })
     } else {
         Ok(known)
+    }
+}
+
+/// The better of a known choice and another one that is scheduled, the known one among equals.
+pub(crate) fn better(table: &Table, known: Known, choice: Choice) -> Known
+    requires valid { IsValidTable table.now }
+    requires known { IsKnown table.now known }
+    requires fits { Fits table.now choice }
+    requires scheduled { IsScheduled table.now choice }
+    ensures known { IsKnown table.now result }
+    ensures kept { result.distortion ≤ known.distortion }
+    ensures other { result.distortion ≤ distortion_of_choice table.now choice }
+{
+    let distortion = distortion_of(table, &choice);
+    if distortion < known.distortion {
+        Known { choice, distortion }
+    } else {
+        known
     }
 }

@@ -15,7 +15,7 @@ ghost use Rattle.branch_plan.specs.Private.Leaves.{IsFreeUnit, IsLeafOn};
 
 use crate::apart::costs_apart;
 use crate::changes::unit_at;
-use crate::known::Known;
+use crate::known::{Known, better};
 use bound_certificate::Node;
 use dual_bounds::{Fixed, Windows, bound_of, window_value};
 use list_types::{ListOf, OutOfMemory};
@@ -189,22 +189,4 @@ fn choice_left(alloc: Global, fixed: &Fixed) -> Result<Choice, OutOfMemory>
         choice.push(entry.unwrap_or(0))?;
     }
     Ok(choice)
-}
-
-/// The better of a known choice and another one that is scheduled, the known one among equals.
-fn better(table: &Table, known: Known, choice: Choice) -> Known
-    requires valid { IsValidTable table.now }
-    requires known { IsKnown table.now known }
-    requires fits { Fits table.now choice }
-    requires scheduled { IsScheduled table.now choice }
-    ensures known { IsKnown table.now result }
-    ensures kept { result.distortion ≤ known.distortion }
-    ensures other { result.distortion ≤ distortion_of_choice table.now choice }
-{
-    let distortion = distortion_of(table, &choice);
-    if distortion < known.distortion {
-        Known { choice, distortion }
-    } else {
-        known
-    }
 }

@@ -12,9 +12,7 @@ use Rattle.certificate_checker.specs.declared.why.Why.TheVariants as whys
 use Rattle.certificate_checker.specs.Shown.{bound_of_leaf, fix, lesser, unfixed, versions_of}
 use Rattle.certificate_checker.specs.Faults.{IsFirstOfNode, IsRight}
 use Rattle.certificate_checker.specs.Walk.{Shows, Stops, Walks, missing, wrong, leaf, branch, stop, next}
-
-abbrev version : (bytes distortion : ℕ) → Version
-version bytes distortion = record { bytes = bytes; distortion = distortion }
+use Rattle.dual_bounds.proofs.Examples.{version}
 
 abbrev one_unit : Table
 one_unit = record {

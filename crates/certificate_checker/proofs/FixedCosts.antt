@@ -19,7 +19,8 @@ use Rattle.certificate_checker.specs.declared.tally.Tally.{Tally}
 use Rattle.certificate_checker.specs.Private.FixedCosts.{SplitsBefore, SplitsBy, charged_at, due_at, packets_within}
 use Rattle.certificate_checker.specs.Private.Neighbours.{AreLinked, IsNext}
 use Rattle.certificate_checker.specs.Private.Order.{unit_of}
-use Rattle.certificate_checker.specs.Private.PlaceSums.{number_at, sum_from}
+use Rattle.certificate_checker.specs.Private.PlaceSums.{number_at}
+use Rattle.sum_tree.specs.Nodes.{sum_from}
 use Rattle.certificate_checker.specs.Private.Tallies.{IsTally, fixed_of, free_cost, is_out, unit_at, version_fixed, where_free}
 use Rattle.certificate_checker.proofs.OrderCosts.{cost_of_number, costs_in_order, no_place}
 use Rattle.certificate_checker.proofs.SumTrees.{sum_joined, sum_same}

@@ -16,7 +16,7 @@ use Rattle.certificate_checker.specs.Faults.{IsFree}
 use Rattle.certificate_checker.specs.Shown.{fix, unfixed}
 use Rattle.certificate_checker.specs.Private.Order.{IsDueOrder, unit_of}
 use Rattle.certificate_checker.specs.Private.Paths.{unfix}
-use Rattle.certificate_checker.specs.Private.PlaceSums.{sum_from}
+use Rattle.sum_tree.specs.Nodes.{sum_from}
 use Rattle.certificate_checker.specs.Private.Tallies.{ArePlaces, free_cost, free_sum, unit_at, where_free}
 use Rattle.certificate_checker.proofs.FixedCosts.{by_places, sum_le}
 use Rattle.certificate_checker.proofs.OrderCosts.{cost_of_number, costs_in_order}

@@ -204,7 +204,7 @@ abbrev shown_behind : Walked → List Node
 shown_behind (Shows bound behind) = behind
 shown_behind (Stops why left) = []
 
-abbrev branch_unit : Node → ℕ
+abbrev pub branch_unit : Node → ℕ
 branch_unit (Branch unit) = unit
 branch_unit (Dual priced) = 0
 branch_unit (Run scheduled) = 0

@@ -56,12 +56,12 @@ use Rattle.certificate_checker.specs.Walk.{IsLeaf, Shows, Stops, Walked, Walks, 
 use Rattle.certificate_checker.specs.Checked.{IsAtMost, IsFaultless}
 
 -- ---- bounds
-lesser-first : (n : ℕ) (a b : Option ℕ) → IsAtMost n (lesser a b) → IsAtMost n a
+pub lesser-first : (n : ℕ) (a b : Option ℕ) → IsAtMost n (lesser a b) → IsAtMost n a
 lesser-first n None b most = tt
 lesser-first n (Some a) None most = most
 lesser-first n (Some a) (Some b) most = omega (arith, most)
 
-lesser-second : (n : ℕ) (a b : Option ℕ) → IsAtMost n (lesser a b) → IsAtMost n b
+pub lesser-second : (n : ℕ) (a b : Option ℕ) → IsAtMost n (lesser a b) → IsAtMost n b
 lesser-second n None b most = most
 lesser-second n (Some a) None most = tt
 lesser-second n (Some a) (Some b) most = omega (arith, most)

@@ -8,7 +8,8 @@ ghost use Rattle.certificate_checker.specs.Faults.{AreRight, NoneEmpty};
 ghost use Rattle.certificate_checker.specs.Shown.{bound_of_windows};
 ghost use Rattle.certificate_checker.specs.Private.FixedCosts.{charged_at};
 ghost use Rattle.certificate_checker.specs.Private.Order.{IsDueOrder};
-ghost use Rattle.certificate_checker.specs.Private.PlaceSums.{AreSums, sum_from};
+ghost use Rattle.certificate_checker.specs.Private.PlaceSums.{AreSums};
+ghost use Rattle.sum_tree.specs.Nodes.{sum_from};
 ghost use Rattle.certificate_checker.specs.Private.Tallies.{IsTally, free_cost};
 
 use crate::order::{DueUnit, unit_at};

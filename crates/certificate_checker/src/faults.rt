@@ -1,11 +1,10 @@
-ghost use Rattle.std.specs.Prelude.{◌≡◌, ◌≤◌, ◌↔◌, IsTrue, length, map, MatchOption};
+ghost use Rattle.std.specs.Prelude.{◌≡◌, ◌≤◌, ◌↔◌, IsTrue, length, MatchOption};
 ghost use Rattle.version_table.specs.declared.table.Table.{Table};
 ghost use Rattle.version_table.specs.declared.table.Unit.{Unit as CodedUnit};
 ghost use Rattle.version_table.specs.Choice.{Fits};
 ghost use Rattle.version_table.specs.Table.{IsValidTable};
 ghost use Rattle.slot_rule.specs.Schedule.{IsScheduled};
 ghost use Rattle.dual_bounds.specs.Fixed.{FixesVersions};
-ghost use Rattle.dual_bounds.specs.Values.{from_start};
 ghost use Rattle.bound_certificate.specs.declared.cert.Node.TheVariants.{Branch};
 ghost use Rattle.certificate_checker.specs.Faults.{AreRight, GoesBefore, IsFirstOfBranch, IsFirstOfRun, IsFirstOfWindows, IsFlagOf, IsRight, IsSettled, KeepLimit, LeavesOne, NoneEmpty, Rise};
 ghost use Rattle.certificate_checker.specs.Shown.{bound_of_run, choice_left};
@@ -16,8 +15,8 @@ use crate::costs::distortion_of_all;
 use crate::order::DueUnit;
 use crate::path::{Path, versions_of};
 use crate::why::Why;
-use dual_bounds::constants::{LAMBDA_MOST, WINDOWS_MOST};
-use dual_bounds::{Multiplier, Window, Windows};
+use dual_bounds::constants::LAMBDA_MOST;
+use dual_bounds::Window;
 use slot_rule::first_miss_of;
 use version_table::Table;
 
@@ -91,22 +90,6 @@ fn keep_limit(windows: &[Window]) -> bool
         }
     }
     true
-}
-
-/// Multipliers as windows from time 0 on.
-pub(crate) fn windows_of(multipliers: &[Multiplier]) -> Windows
-    requires { length multipliers.now ≤ WINDOWS_MOST }
-    ensures { result.items ≡ map from_start multipliers.now }
-{
-    let mut windows = Windows::new();
-    for multiplier in multipliers {
-        windows.push(Window {
-            from: 0,
-            due: multiplier.due,
-            lambda: multiplier.lambda,
-        });
-    }
-    windows
 }
 
 /// What is wrong first with the one choice that a path leaves and whether it is scheduled.

@@ -1,5 +1,6 @@
 ghost use Rattle.std.specs.Prelude.{◌≡◌, ◌≢◌, ℕ, ◌-◌, ◌*◌, ◌%◌, ◌<◌, ◌≤◌, ◌^◌, length, IfOk, vec_capacity};
-ghost use Rattle.certificate_checker.specs.Private.PlaceSums.{AreSums, number_at, odd_at, odd_before, sum_from};
+ghost use Rattle.certificate_checker.specs.Private.PlaceSums.{AreSums, number_at, odd_at, odd_before};
+ghost use Rattle.sum_tree.specs.Nodes.{sum_from};
 
 use crate::filling::refill;
 use list_types::OutOfMemory;

@@ -8,7 +8,8 @@ ghost use Rattle.certificate_checker.specs.Shown.{fix, unfixed, versions_of};
 ghost use Rattle.certificate_checker.specs.Private.FixedCosts.{SplitsBefore, SplitsBy, packets_within};
 ghost use Rattle.certificate_checker.specs.Private.Order.{IsDueOrder, IsPlaced, unit_of};
 ghost use Rattle.certificate_checker.specs.Private.Paths.{unfix};
-ghost use Rattle.certificate_checker.specs.Private.PlaceSums.{AreSums, sum_from};
+ghost use Rattle.certificate_checker.specs.Private.PlaceSums.{AreSums};
+ghost use Rattle.sum_tree.specs.Nodes.{sum_from};
 ghost use Rattle.certificate_checker.specs.Private.Tallies.{AreApart, ArePlaces, HasTallyRoom, IsTally, IsVersionPut, KeepsTallyRoom, free_sum, unit_at};
 
 use crate::filling::refill;

@@ -8,12 +8,12 @@ ghost use Rattle.certificate_checker.specs.Private.Paths.{IsClosed, IsClosing, I
 ghost use Rattle.certificate_checker.specs.Private.Tallies.{IsTold, KeepsTallyRoom};
 
 use crate::costs::bound_of_windows;
-use crate::faults::{bound_of_run, fault_of_branch, fault_of_run, fault_of_windows, windows_of};
+use crate::faults::{bound_of_run, fault_of_branch, fault_of_run, fault_of_windows};
 use crate::path::{Next, OpenBranch, Path, versions_of};
 use crate::tally::Tally;
 use crate::why::{CertFault, Why};
 use bound_certificate::Node;
-use dual_bounds::Window;
+use dual_bounds::{Window, windows_of};
 use dual_bounds::constants::WINDOWS_MOST;
 use version_table::Table;
 

@@ -8,6 +8,7 @@ use Rattle.payload_lists.specs.Payload.{Payload}
 use Rattle.ts_packets.specs.Packet.{PacketRecord}
 use Rattle.tstd_model.specs.declared.decoder_input.Arrival.{Arrival}
 use Rattle.tstd_model.specs.declared.decoder_input.BufferKind.TheVariants.{System}
+use Rattle.tstd_model.specs.declared.decoder_input.Removal.{Removal}
 use Rattle.tstd_model.specs.declared.fault.TstdFault.{TstdFault}
 use Rattle.tstd_model.specs.Faults.{IsFault}
 use Rattle.version_table.specs.declared.table.AudioPacket.{AudioPacket}
@@ -26,7 +27,7 @@ use Rattle.slot_rule.specs.SlotList.{IsSlotList, is_sent_of, piece_sent, sent_of
 use Rattle.slot_rule.proofs.RuleQueues.{HasSizes-at_program, IsLimited, IsValidStream, IsValidStream-at}
 use Rattle.tstd_bridge.specs.Arrivals.{Headers, arrivals_from, buffers_of}
 use Rattle.tstd_bridge.specs.Clean.{AreClean}
-use Rattle.tstd_bridge.specs.Removals.{AreWithin, LeaveData}
+use Rattle.tstd_bridge.specs.Removals.{AreWithin, IsAllowed, LeaveData, removals_when_wanted}
 use Rattle.mux_writer.specs.Layout.{map_pid, video_pid}
 use Rattle.mux_writer.specs.Output.{output_packets, packet_in}
 use Rattle.mux_writer.specs.Pieces.{Pieces}
@@ -58,6 +59,11 @@ abbrev pub StandInOrder : Type 0
 StandInOrder = (table : Table) (choice : List ℕ) (stream : ℕ) (queue : Queue) (list : SlotList) → slice_get (queues_of table choice) stream ≡ Some queue → IsSlotList table choice list
     → filter (is_sent_of stream) list.rows ≡ map (piece_sent queue.kind stream) queue.packets
 
+-- the bytes of each stream may be removed when they are wanted
+abbrev pub AllowedWhenWanted : Type 0
+AllowedWhenWanted = (table : Table) (choice : List ℕ) (stream : ℕ) (kind : QueueKind) (packets : List QueuedPacket) (headers : Headers) → IsValidTable table → Fits table choice
+    → slice_get (queues_of table choice) stream ≡ Some (record { kind = kind; packets = packets }) → IsAllowed kind headers packets (removals_when_wanted kind headers packets)
+
 -- what is known of a job's stream
 pub record IsMade (job : Job) (programs : List Program) (table : Table) (choice : List ℕ) (versions : List (List (List UnitVersion))) (list : SlotList) : Type 0 where
   pub valid : IsValidTable table
@@ -68,6 +74,7 @@ pub record IsMade (job : Job) (programs : List Program) (table : Table) (choice 
   pub sendable : All IsSendable programs
   pub slots : IsSlotList table choice list
   pub clean : AreClean table choice slots.rows
+  pub when_wanted : AllowedWhenWanted
   pub as_queued : PiecesAreAsQueued
   pub in_order : StandInOrder
 
@@ -156,6 +163,11 @@ module _ (job : Job) (programs : List Program) (table : Table) (choice : List �
       (found-zip (IsPayloadOf (headers_of stream)) (λ packet. pieces_of (stream_items programs versions choice) stream packet.item packet.piece) packets
       (λ k d inside. let has = is.has k _ (slice_get-get_or packets k d inside) in record { size = has.size; header = refl }))
 
+  when-wanted : (stream pid : ℕ) (kind : QueueKind) (packets : List QueuedPacket) → IsStream stream pid kind packets
+      → (removals : List Removal) × IsAllowed kind (headers_of stream) packets removals
+  when-wanted stream pid kind packets is =
+      (removals_when_wanted kind (headers_of stream) packets, made.when_wanted table choice stream kind packets (headers_of stream) made.valid made.fits is.queue)
+
   -- ---- a video
 
   -- each packet beside its piece
@@ -212,6 +224,7 @@ module _ (job : Job) (programs : List Program) (table : Table) (choice : List �
       record {
         headers = headers_of (video_number table.programs program);
         payloads = payloads-beside (video_number table.programs program) (video_pid program) (Video program row.vbv) (video_queue program row (choice_from table.programs program choice)).packets is;
+        allowed = when-wanted (video_number table.programs program) (video_pid program) (Video program row.vbv) (video_queue program row (choice_from table.programs program choice)).packets is;
         clean = λ removals fault allowed found.
             made.clean.videos (video_number table.programs program) program row.vbv (video_queue program row (choice_from table.programs program choice)).packets
             (headers_of (video_number table.programs program)) removals fault is.queue (video-data program row there) allowed
@@ -283,6 +296,7 @@ module _ (job : Job) (programs : List Program) (table : Table) (choice : List �
       record {
         headers = headers_of (video_number table.programs program + 1 + audio);
         payloads = payloads-beside (video_number table.programs program + 1 + audio) (video_pid program + 1 + audio) Audio (audio_of packets).packets is;
+        allowed = when-wanted (video_number table.programs program + 1 + audio) (video_pid program + 1 + audio) Audio (audio_of packets).packets is;
         clean = λ removals fault allowed found.
             made.clean.audios (video_number table.programs program + 1 + audio) (audio_of packets).packets (headers_of (video_number table.programs program + 1 + audio)) removals fault
             is.queue (audio-within program audio row packets there of) allowed

@@ -25,10 +25,11 @@ pub record IsPayloadOf (headers : Headers) (payload : Payload) (packet : QueuedP
   pub header : header_bytes payload ≡ headers packet
 
 -- The payloads of a PID are those of the packets of a queue, in order, each once; and what the packets of the PID bring to the stream's decoder
--- gives it no fault, whichever removals take each byte between its packet's due and gone times.
+-- gives it no fault, whichever removals take each byte between its packet's due and gone times. There are such removals.
 pub record IsCleanOn (slot pid : ℕ) (queue : Queue) (stream : List PacketRecord) : Type 0 where
   pub headers : Headers
   pub payloads : AllZip (IsPayloadOf headers) (payloads_on pid stream) queue.packets
+  pub allowed : (removals : List Removal) × IsAllowed queue.kind headers queue.packets removals
   pub clean : (removals : List Removal) (fault : TstdFault) → IsAllowed queue.kind headers queue.packets removals
       → IsFault slot (buffers_of queue.kind) (arrivals_on pid stream) removals fault → ⊥
 

@@ -15,7 +15,7 @@ ghost use Rattle.clean_stream.specs.Clean.{IsCleanStream};
 
 use job_stream::laws::stream_has_slots;
 use slot_rule::laws::{packets_stand_in_order, slots_name_the_table};
-use tstd_bridge::laws::schedules_are_clean;
+use tstd_bridge::laws::{removals_when_wanted_are_allowed, schedules_are_clean};
 use version_source::laws::{one_list_of_versions, pieces_are_as_queued, programs_can_be_sent};
 
 /// The bytes of a job's stream under a scheduled choice are clean: what their packets bring to the decoder of each elementary
@@ -31,5 +31,6 @@ pub fn stream_is_clean()
     slots_name_the_table();
     packets_stand_in_order();
     schedules_are_clean();
+    removals_when_wanted_are_allowed();
     stream_has_slots();
 }

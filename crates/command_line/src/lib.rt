@@ -6,12 +6,10 @@
 #![tactic(auto)]
 
 mod exit;
-mod help;
 mod names;
 mod program;
 mod sentence;
 
 pub use crate::exit::exit_status;
-pub use crate::help::{HELP, VERSION};
 pub use crate::names::share_one_file;
-pub use crate::program::{command, told};
+pub use crate::program::command;

@@ -5,19 +5,8 @@ ghost use Rattle.remux_core.specs.Status.{code_of};
 ghost use Rattle.remux_core.specs.declared.status.Status.{Status as AnyStatus};
 
 use crate::exit::exit_status;
-use remux_core::Status;
 use shelf_io::{FileShelf, OutSink};
 use std::rt::Files;
-
-/// Prints a text, and gives the exit status: 0, or 7 where it can't be written.
-pub fn told(rt: &impl Print, text: &str) -> u8
-    ensures { (result ≡ 0) ⊎ (result ≡ 7) }
-{
-    match rt.print(text) {
-        Ok(()) => Status::Ok.code(),
-        Err(_) => Status::WriteFault.code(),
-    }
-}
 
 /// Runs a command over the working folder and standard output. The exit status is 2 exactly for words of no command, but for a
 /// report that can't be written (7) and want of memory (10).

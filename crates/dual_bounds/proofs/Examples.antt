@@ -11,7 +11,7 @@ use Rattle.dual_bounds.specs.Room.{serves, free_slots, audio_due, room, slot_cap
 use Rattle.dual_bounds.specs.Values.{price, least_cost, least_costs, worth, value_of_windows, value_of_multipliers}
 use Rattle.dual_bounds.specs.Bounds.{bound_of_value}
 
-abbrev version : (bytes distortion : ℕ) → Version
+abbrev pub version : (bytes distortion : ℕ) → Version
 version bytes distortion = record { bytes = bytes; distortion = distortion }
 
 abbrev unit : (due : ℕ) → List Version → CodedUnit

@@ -96,10 +96,12 @@ fn cost(version: &Version, charged: u64) -> u64
 }
 
 /// What a packet that is due at a time is charged.
-fn price(windows: &[Window], time: u64) -> u64
-    requires { AreCharging windows.now }
+#[inline]
+pub fn price(windows: &[Window], time: u64) -> u64
+    requires few { length windows.now ≤ WINDOWS_MOST }
+    requires lambdas { All (λ window. window.lambda ≤ LAMBDA_MOST) windows.now }
     ensures value { result ≡ price windows.now time }
-    ensures small { result ≤ 2 ^ 46 }
+    ensures small { result ≤ length windows.now * LAMBDA_MOST }
 {
     let mut total = 0;
     for window in windows {

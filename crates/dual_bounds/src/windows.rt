@@ -1,3 +1,6 @@
+ghost use Rattle.std.specs.Prelude.{◌≡◌, ◌≤◌, length};
+ghost use Rattle.dual_bounds.specs.declared.constants.TheConstants.{WINDOWS_MOST};
+
 use crate::constants::WINDOWS_MOST;
 use arrayvec::ArrayVec;
 
@@ -26,3 +29,15 @@ pub type Multipliers = ArrayVec<Multiplier, WINDOWS_MOST>;
 
 /// The windows of one bound.
 pub type Windows = ArrayVec<Window, WINDOWS_MOST>;
+
+/// The same windows.
+pub fn copied(windows: &[Window]) -> Windows
+    requires { length windows.now ≤ WINDOWS_MOST }
+    ensures { result.items ≡ windows.now }
+{
+    let mut copy = Windows::new();
+    for window in windows {
+        copy.push(*window);
+    }
+    copy
+}

@@ -3,7 +3,7 @@ use Rattle.std.proofs.Common.{◌≡◌, ℕ, List, [], ◌∷◌, ◌++◌, Opt
 use Rattle.es_units.specs.declared.units.Units.{Units}
 use Rattle.es_units.specs.Units.{cut_units}
 
-abbrev code : ℕ → List ℕ
+abbrev pub code : ℕ → List ℕ
 code value = 0x00 ∷ 0x00 ∷ 0x01 ∷ value ∷ 0x7F ∷ []
 
 abbrev sequence : List ℕ

@@ -1,5 +1,5 @@
 pub mod BehindSlice
 pub mod CutSteps
-mod Examples
+pub mod Examples
 pub mod Places
 pub mod Spans

@@ -1,13 +1,14 @@
 -- The units and the number of dropped ones, one cut further.
 use Rattle.std.proofs.Common.{◌≡◌, ℕ, suc, Bool, true, false, ◌+◌, ◌-◌, ◌^◌, ◌<◌, ◌≤◌, min, ◌&&◌, List, [], ◌∷◌, ◌++◌, length, filter, Some, nat_lt, nat_le, refl, sym, ap, ◌∙◌, append_assoc, arith}
 use Rattle.std.proofs.lemmas.Bool.{and_left, and_right, and_from, le-leb, lt-leb, lt-ltb, le-ltb}
-use Rattle.es_units.specs.Units.{places, is_unit_cut, first_sequence, spans, cuts_up_to, cuts_behind, cut_units}
+use Rattle.es_units.specs.Units.{places, is_unit_cut, first_sequence, cuts_up_to, cuts_behind, cut_units}
+use Rattle.list_types.specs.Spans.{spans}
 use Rattle.es_units.proofs.Places.{filter_at, filter_past, filter_none}
 
 abbrev early : List ℕ → ℕ → ℕ → Bool
 early es first at = is_unit_cut es at && nat_le at first
 
-abbrev late : List ℕ → ℕ → ℕ → Bool
+abbrev pub late : List ℕ → ℕ → ℕ → Bool
 late es first at = is_unit_cut es at && nat_lt first at
 
 -- the next cut from a place on

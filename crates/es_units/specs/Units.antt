@@ -1,9 +1,11 @@
 -- The cut of a video stream into units (start codes by ISO/IEC 13818-2, 6.2; the cut is this project's).
-use Rattle.std.specs.Prelude.{ℕ, ◌+◌, ◌-◌, ◌^◌, min, nat_lt, nat_le, Bool, not, ◌&&◌, List, [], ◌∷◌, length, filter, Option}
+use Rattle.std.specs.Prelude.{ℕ, ◌+◌, ◌-◌, ◌^◌, min, nat_lt, nat_le, Bool, not, ◌&&◌, List, length, filter, Option}
 use Rattle.std.specs.List.{find, list_any, list_all, range_with_len}
 use Rattle.std.specs.Option.{option_map}
+use Rattle.list_types.specs.Spans.{spans}
 use Rattle.es_units.specs.declared.units.Units.{Units}
-use Rattle.start_codes.specs.StartCodes.{is_slice, is_sequence_header, is_unit_start, has_code}
+use Rattle.start_codes.specs.StartCodes.{is_sequence_header, is_unit_start, has_code}
+use Rattle.stream_constants.specs.SliceCodes.{is_slice}
 
 -- the places from one up to another, which isn't one of them
 abbrev pub places : ℕ → ℕ → List ℕ
@@ -21,11 +23,6 @@ is_unit_cut es at = has_code is_unit_start es at && is_behind_slice es at
 -- the place of the first sequence header
 abbrev pub first_sequence : List ℕ → Option ℕ
 first_sequence es = find (has_code is_sequence_header es) (places 0 (length es))
-
--- from a place to the first cut, from each cut to the next one, and from the last one to the end
-abbrev pub spans : ℕ → List ℕ → ℕ → List (ℕ × ℕ)
-spans from [] end = (from, end) ∷ []
-spans from (cut ∷ cuts) end = (from, cut) ∷ spans cut cuts end
 
 -- the number of the cuts up to the first sequence header, each of which ends a unit that is dropped
 abbrev pub cuts_up_to : List ℕ → ℕ → ℕ

@@ -1,5 +1,5 @@
 -- Where bits end within a code, and why none stands at bits that no code begins.
-use Rattle.std.proofs.Common.{◌≡◌, ℕ, ◌+◌, ◌-◌, ◌&&◌, ◌/◌, ◌%◌, ◌^◌, ◌<◌, ◌≤◌, ◌⊎◌, ◌↔◌, nat_le, Bool, true, List, [], ◌∷◌, length, take, Some, refl, sym, ap, subst, ◌∙◌, inl, inr, arith, append-nil}
+use Rattle.std.proofs.Common.{◌≡◌, ℕ, ◌+◌, ◌-◌, ◌&&◌, ◌/◌, ◌%◌, ◌^◌, ◌<◌, ◌≤◌, ◌⊎◌, ◌↔◌, nat_le, Bool, true, List, [], ◌∷◌, length, take, Option, Some, refl, sym, ap, subst, ◌∙◌, inl, inr, arith, append-nil}
 use Rattle.std.specs.List.{list_all}
 use Rattle.std.proofs.Math.Nat.{mod-lt, mod-eq_of_lt}
 use Rattle.std.proofs.lemmas.Bool.{and_parts, and_from, leb-true, le-leb, lt-leb}
@@ -229,3 +229,11 @@ module _ (table : TableName) (most : ℕ) (window : BitWindow)
         refl,
       ),
     )
+
+-- ---- where all bits of a window are known
+
+-- what begins a whole window, as a look-up found it
+pub begun-whole : {found : Option (ℕ × ℕ)} (table : TableName) (window : BitWindow) (symbol len n : ℕ) → window.known ≡ 24
+    → ((s k : ℕ) → (found ≡ Some (s, k)) ↔ Begins table (seen window 24) s k) → found ≡ Some (symbol, len) → n ≡ len → Begins table (seen window window.known) symbol n
+begun-whole table window symbol len n whole front is same =
+    subst (λ k. Begins table (seen window k) symbol n) (sym whole) ((front symbol n).0 (is ∙ ap (λ k. Some (symbol, k)) (sym same)))

@@ -49,7 +49,8 @@ use Rattle.bit_lists.proofs.BitLemmas.{length-bits_of}
 use Rattle.bit_lists.proofs.NumberLemmas.{AreBits, AreBits-append, AreBits-zeros, AreBits-bit_list, number_of-below, bits_of-number_of, AreBits-bits_of}
 use Rattle.bit_lists.proofs.PrefixLemmas.{IsPrefix-append}
 use Rattle.bit_cursor.specs.Shown.{IsFirstNumber}
-use Rattle.bit_cursor.specs.BitReader.{source_of, bits_held, held_bits, bits_left, without_bits}
+use Rattle.bit_cursor.specs.BitReader.{source_of, bits_held, held_bits, bits_left}
+use Rattle.shelf_io.specs.Source.{without_front}
 use Rattle.bit_cursor.specs.declared.bit_reader.BitReader.{BitReader}
 use Rattle.picture_grammar.specs.Refusal.{Refusal}
 use Rattle.picture_grammar.specs.Refusal.Refusal.{End}
@@ -110,13 +111,13 @@ code-cut Codes kind rules value code bits place short coded passing begun = reco
 -- ---- numbers of n bits (uimsbf)
 
 -- the bits left behind a number
-number-left : (n value : ℕ) (told : Option (List ℕ)) → IfSome told (λ bits. IsFirstNumber n bits value) → told ≡ option_map (λ rest. bits_of n value ++ rest) (without_bits told n)
+number-left : (n value : ℕ) (told : Option (List ℕ)) → IfSome told (λ bits. IsFirstNumber n bits value) → told ≡ option_map (λ rest. bits_of n value ++ rest) (without_front told n)
 number-left n value None front = refl
 number-left n value (Some bits) front = ap Some (sym (take-append-drop n bits) ∙ ap (λ (x : List ℕ). x ++ drop n bits) front.front)
 
 module _ (n value : ℕ) (told after : Option (List ℕ)) (place place_after : ℕ) where
   -- what `bits` gives is a number of the grammar, where it passes the rules
-  pub reads-number : (rules : List (Rule ℕ)) → IfSome told (λ bits. IsFirstNumber n bits value) → value < 2 ^ n → after ≡ without_bits told n → place_after ≡ place + n → passes rules value ≡ true
+  pub reads-number : (rules : List (Rule ℕ)) → IfSome told (λ bits. IsFirstNumber n bits value) → value < 2 ^ n → after ≡ without_front told n → place_after ≡ place + n → passes rules value ≡ true
       → ReadsFrom (uimsbf n rules) value told after place place_after
   reads-number rules front below left moved passing =
       reads-code (λ number code. (number < 2 ^ n) × (code ≡ bits_of n number)) End rules value (bits_of n value) (below, refl) told after place place_after passing
@@ -145,7 +146,7 @@ explains-cut n (Some bits) place rules short (number, below, passing, begun) =
 
 -- ---- flags, and marker bits
 
-abbrev FlagCode : Bool → List ℕ → Type 0
+abbrev pub FlagCode : Bool → List ℕ → Type 0
 FlagCode is_set code = code ≡ flag is_set ∷ []
 
 -- a bit as a flag
@@ -157,7 +158,7 @@ bit-flag value false e = subst (λ (v : ℕ). bits_of 1 v ≡ 0 ∷ []) e refl
 module _ (value : ℕ) (told after : Option (List ℕ)) (place place_after : ℕ) where
   -- what `bits(1)` gives is a flag of the grammar
   pub reads-flag : (rules : List (Rule Bool)) (is_set : Bool) → flag is_set ≡ value → IfSome told (λ bits. IsFirstNumber 1 bits value)
-      → after ≡ without_bits told 1 → place_after ≡ place + 1 → passes rules is_set ≡ true
+      → after ≡ without_front told 1 → place_after ≡ place + 1 → passes rules is_set ≡ true
       → ReadsFrom (flag_where rules) is_set told after place place_after
   reads-flag rules is_set is front left moved passing =
       reads-code FlagCode End rules is_set (flag is_set ∷ []) refl told after place place_after passing
@@ -173,7 +174,7 @@ explains-flag_rule value (Some bits) place before after broken is_set is front p
     code-breaks FlagCode End before after broken is_set (flag is_set ∷ []) bits place free-flag refl
     (subst (λ (x : List ℕ). IsPrefix x bits) (bit-flag value is_set is) (number-first 1 value bits front)) passing fails
 
-none_left : (bits : List ℕ) → length bits < 1 → bits ≡ []
+pub none_left : (bits : List ℕ) → length bits < 1 → bits ≡ []
 none_left [] lt = refl
 none_left (bit ∷ bits) lt = absurd (omega arith)
 
@@ -224,13 +225,13 @@ left-bits {S} {g} reader = by_bytes (g.left (source_of reader).now) where
 -- a number that a reader gives, where it gives one
 pub reads-answer : {E : Type 0} (result : Result ℕ E) (n : ℕ) (told after : Option (List ℕ)) (place place_after : ℕ)
     → IfOk result (λ value. IfSome told (λ bits. IsFirstNumber n bits value)) → IfOk result (λ value. value < 2 ^ n)
-    → IfOk result (λ _. after ≡ without_bits told n) → IfOk result (λ _. place_after ≡ place + n) → IfOk result (λ number. ReadsFrom (uimsbf n []) number told after place place_after)
+    → IfOk result (λ _. after ≡ without_front told n) → IfOk result (λ _. place_after ≡ place + n) → IfOk result (λ number. ReadsFrom (uimsbf n []) number told after place place_after)
 reads-answer (Ok value) n told after place place_after front below left moved = reads-number n value told after place place_after [] front below left moved refl
 reads-answer (Err fault) n told after place place_after front below left moved = tt
 
 -- a bit that a reader gives, as a flag
 pub reads-bit : (value : ℕ) (told after : Option (List ℕ)) (place place_after : ℕ) → IfSome told (λ bits. IsFirstNumber 1 bits value) → value < 2 ^ 1
-    → after ≡ without_bits told 1 → place_after ≡ place + 1
+    → after ≡ without_front told 1 → place_after ≡ place + 1
     → ReadsFrom one_flag (value == 1) told after place place_after
 reads-bit value told after place place_after front below left moved = reads-flag value told after place place_after [] (value == 1) (of_bit value below) front left moved refl where
   of_bit : (value : ℕ) → value < 2 → flag (value == 1) ≡ value

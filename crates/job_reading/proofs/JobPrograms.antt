@@ -48,7 +48,7 @@ use Rattle.job_reading.proofs.VersionBytes.{video-versions-some}
 -- ---- numbers
 
 -- maps that stand before the programs of some jobs have other numbers than these
-abbrev IsOtherNumber : List ProgramJob → ProgramMap → Type 0
+abbrev pub IsOtherNumber : List ProgramJob → ProgramMap → Type 0
 IsOtherNumber jobs earlier = All (λ (job : ProgramJob). earlier.number ≢ job.number) jobs
 
 at-middle : (before rest : List ProgramMap) (program_map : ProgramMap) (n : ℕ) → length before ≡ n → slice_get (before ++ program_map ∷ rest) n ≡ Some program_map
@@ -65,7 +65,7 @@ earlier-at P (m ∷ ms) rest zero earlier within found all = let same : m ≡ ea
     same_of e = cc
 earlier-at P (m ∷ ms) rest (suc n) earlier within found all = earlier-at P ms rest n earlier (omega (arith, within)) found (All-tail P m ms all)
 
-numbered : (maps before rest : List ProgramMap) (program_map : ProgramMap) (n : ℕ) (job : ProgramJob) (jobs : List ProgramJob) → maps ≡ before ++ program_map ∷ rest → length before ≡ n
+pub numbered : (maps before rest : List ProgramMap) (program_map : ProgramMap) (n : ℕ) (job : ProgramJob) (jobs : List ProgramJob) → maps ≡ before ++ program_map ∷ rest → length before ≡ n
     → program_map.number ≡ job.number → 1 ≤ job.number → All (IsOtherNumber (job ∷ jobs)) before → IsNumberedIn maps n program_map
 numbered maps before rest program_map n job jobs split size number some apart = record {
   there = ap (λ (ms : List ProgramMap). slice_get ms n) split ∙ at-middle before rest program_map n size;
@@ -79,10 +79,10 @@ numbered maps before rest program_map n job jobs split size number some apart = 
 apart-head : (job : ProgramJob) (jobs : List ProgramJob) → HaveNumbersApart (job ∷ jobs) → All (λ (other : ProgramJob). job.number ≢ other.number) jobs
 apart-head job jobs apart = All-from_get_or (λ (other : ProgramJob). job.number ≢ other.number) jobs job (λ i within. apart 0 (suc i) job (omega arith) (omega (arith, within)))
 
-apart-tail : (job : ProgramJob) (jobs : List ProgramJob) → HaveNumbersApart (job ∷ jobs) → HaveNumbersApart jobs
+pub apart-tail : (job : ProgramJob) (jobs : List ProgramJob) → HaveNumbersApart (job ∷ jobs) → HaveNumbersApart jobs
 apart-tail job jobs apart i j d less within = apart (suc i) (suc j) d (omega (arith, less)) (omega (arith, within))
 
-apart-next : (before : List ProgramMap) (job : ProgramJob) (jobs : List ProgramJob) (program_map : ProgramMap) → program_map.number ≡ job.number → All (IsOtherNumber (job ∷ jobs)) before
+pub apart-next : (before : List ProgramMap) (job : ProgramJob) (jobs : List ProgramJob) (program_map : ProgramMap) → program_map.number ≡ job.number → All (IsOtherNumber (job ∷ jobs)) before
     → HaveNumbersApart (job ∷ jobs) → All (IsOtherNumber jobs) (before ++ program_map ∷ [])
 apart-next before job jobs program_map number apart pairs =
     All-append (IsOtherNumber jobs) before (program_map ∷ [])

@@ -2,6 +2,7 @@ mod AudioStreams
 mod CarriedShape
 mod JobPrograms
 mod JobRows
+mod MapPids
 mod ReadyPrograms
 mod SentAudios
 mod SentStreams

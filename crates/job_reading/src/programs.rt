@@ -1,6 +1,6 @@
 //! The programs of a job's stream.
 
-ghost use Rattle.std.specs.Prelude.{◌≡◌, ℕ, All, List, length};
+ghost use Rattle.std.specs.Prelude.{◌≡◌, ℕ, All, List, Some, length, map, slice_get};
 ghost use Rattle.bit_lists.specs.Fields.{AreBytes};
 ghost use Rattle.version_table.specs.declared.table.Table.{Table};
 ghost use Rattle.version_table.specs.Choice.{Fits};
@@ -13,10 +13,12 @@ ghost use Rattle.program_reader.specs.declared.program.Program.{Program};
 ghost use Rattle.version_maker.specs.declared.version.UnitVersion.{UnitVersion};
 ghost use Rattle.version_source.specs.Pieces.{pieces_of, stream_items};
 ghost use Rattle.version_source.specs.Versions.{AreAllVersions, ratios_of};
+ghost use Rattle.mux_writer.specs.Layout.{map_pid};
 ghost use Rattle.mux_writer.specs.Output.{output_stream};
 ghost use Rattle.job_programs.specs.Programs.{ArePrograms};
 ghost use Rattle.program_table.specs.Table.{IsTableOf};
 ghost use Rattle.job_stream.specs.Stream.{layout_of};
+ghost use Rattle.stream_parsing.specs.TakenOut.{LeadsToMap};
 ghost use Rattle.job_reading.specs.ParsesTo.{ParsesTo};
 
 use crate::streams::{slots_are_rows, streams_carry_their_items};
@@ -24,7 +26,7 @@ use layer_laws::packets::packets_stand_in_order;
 use layer_laws::pes::{packets_gathered_again, video_packet_read_as_written};
 use mux_writer::laws::read_as_written;
 use stream_parsing::parsed::{slots_begin_with_tables, units_of_the_video};
-use stream_parsing::programs::programs_are_taken_out;
+use stream_parsing::programs::{maps_are_read, programs_are_taken_out};
 use version_source::laws::{one_list_of_versions, programs_can_be_sent};
 use version_units::units::versions_are_whole_units;
 
@@ -47,6 +49,21 @@ pub fn programs_are_read_back()
     video_packet_read_as_written();
     units_of_the_video();
     versions_are_whole_units();
+    programs_can_be_sent();
+    one_list_of_versions();
+}
+
+/// The PAT of a job's stream leads to the map of each program: for its number it names the PID of the map of its place, and no other one.
+pub fn pat_leads_to_the_maps()
+    ensures { (job : Job) (contents : List (List ℕ)) (programs : List Program) (table : Table) (choice : List ℕ) (slots : SlotList) (versions : List (List (List UnitVersion)))
+        → IsValidJob job → ArePrograms job contents programs → IsTableOf job programs table → IsValidTable table → Fits table choice
+        → IsSlotList table choice slots → AreAllVersions programs (ratios_of job.programs) versions
+        → (place number : ℕ) → slice_get (map (λ program. program.number) job.programs) place ≡ Some number
+        → LeadsToMap (output_stream (layout_of job programs) job.slot (pieces_of (stream_items programs versions choice)) slots.rows) number (map_pid place) }
+{
+    slots_are_rows();
+    slots_begin_with_tables();
+    maps_are_read();
     programs_can_be_sent();
     one_list_of_versions();
 }

@@ -110,7 +110,7 @@ fn file_of(job: &Job, number: u8) -> &str
 fn unread(alloc: Global, name: &str) -> JobStop
     ensures { IsUnread name.now result }
 {
-    match text_of(alloc, name) {
+    match Text::of(alloc, name) {
         Ok(name) => JobStop::Unread(name),
         Err(OutOfMemory) => JobStop::OutOfMemory,
     }
@@ -120,17 +120,8 @@ fn unread(alloc: Global, name: &str) -> JobStop
 fn missing(alloc: Global, name: &str) -> JobStop
     ensures { IsMissing name.now result }
 {
-    match text_of(alloc, name) {
+    match Text::of(alloc, name) {
         Ok(name) => JobStop::Missing(name),
         Err(OutOfMemory) => JobStop::OutOfMemory,
     }
-}
-
-/// A name as a text of its own. Fails only for want of memory.
-fn text_of(alloc: Global, name: &str) -> Result<Text, OutOfMemory>
-    ensures { IfOk result (λ text. text ≡ name.now) }
-{
-    let mut text = Text::new(alloc);
-    text.push_str(name)?;
-    Ok(text)
 }

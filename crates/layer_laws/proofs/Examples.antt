@@ -3,9 +3,7 @@ use Rattle.std.proofs.Common.{◌≡◌, ℕ, List, [], ◌∷◌, ◌++◌, Som
 use Rattle.std.specs.List.{concat}
 use Rattle.es_units.specs.Units.{cut_units}
 use Rattle.layer_laws.specs.WholeUnits.{placed_units}
-
-abbrev code : ℕ → List ℕ
-code value = 0x00 ∷ 0x00 ∷ 0x01 ∷ value ∷ 0x7F ∷ []
+use Rattle.es_units.proofs.Examples.{code}
 
 -- a sequence header, a picture and a slice; a picture and two slices
 abbrev two_units : List (List ℕ)

@@ -39,13 +39,16 @@ use Rattle.std.specs.List.{concat}
 use Rattle.std.proofs.lemmas.Bool.{and_left, and_right, and_from, or_right, lt-ltb, le-ltb, lt-leb, cases_lt}
 use Rattle.std.proofs.lemmas.List.{append-nil, drop_at, take_at}
 use Rattle.std.proofs.lemmas.List.Elements.{All-head, All-tail}
-use Rattle.start_codes.specs.StartCodes.{is_slice, is_sequence_header, is_unit_start, has_code}
-use Rattle.es_units.specs.Units.{places, is_behind_slice, is_unit_cut, first_sequence, spans, cuts_up_to, cuts_behind, cut_units}
+use Rattle.start_codes.specs.StartCodes.{is_sequence_header, is_unit_start, has_code}
+use Rattle.stream_constants.specs.SliceCodes.{is_slice}
+use Rattle.es_units.specs.Units.{places, is_behind_slice, is_unit_cut, first_sequence, cuts_up_to, cuts_behind, cut_units}
+use Rattle.list_types.specs.Spans.{spans}
 use Rattle.es_units.proofs.BehindSlice.{behind_more}
 use Rattle.es_units.proofs.CutSteps.{no_slice_at}
 use Rattle.es_units.proofs.Places.{places_none, filter_from, filter_at, filter_none, find_place}
 use Rattle.layer_laws.specs.WholeUnits.{IsLedBySequence, IsWholeUnit, placed_units}
 use Rattle.layer_laws.proofs.CodesAtSeams.{is_code, code_within, code_inside, code_behind, code_before}
+use Rattle.es_units.proofs.Spans.{late}
 
 -- ---- one unit in a stream
 
@@ -115,9 +118,6 @@ module _ (es : List ℕ) (o : ℕ) (unit : List ℕ) (there : Stands es o unit) 
       and_from _ _ header (ap (is_behind_slice es) place ∙ from_slice n (omega (arith, slice_inside)))
 
 -- ---- all units
-
-abbrev late : List ℕ → ℕ → ℕ → Bool
-late es first at = is_unit_cut es at && nat_lt first at
 
 header_first : (unit rest : List ℕ) → IsWholeUnit unit → has_code is_unit_start (unit ++ rest) 0 ≡ true → IsLow (unit ++ rest)
 header_first unit rest whole header =

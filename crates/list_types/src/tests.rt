@@ -18,5 +18,6 @@ fn a_text_keeps_its_characters(rt: HostRuntime) -> Result<(), Fail> {
     text.push_str("re")?;
     text.push_str("mux")?;
     assert_eq!(rt; text.as_str(), "remux");
+    assert_eq!(rt; Text::of(rt.alloc(), "mux")?.as_str(), "mux");
     Ok(())
 }

@@ -1,4 +1,4 @@
-ghost use Rattle.std.specs.Prelude.{◌≡◌, [], ◌++◌, OnOk, OnErr};
+ghost use Rattle.std.specs.Prelude.{◌≡◌, [], ◌++◌, IfOk, OnOk, OnErr};
 
 use crate::out_of_memory::OutOfMemory;
 use std::alloc::Global;
@@ -27,6 +27,15 @@ impl Text {
         Text {
             characters: String::new(alloc),
         }
+    }
+
+    /// A text with these characters. Fails only for want of memory.
+    pub fn of(alloc: Global, characters: &str) -> Result<Text, OutOfMemory>
+        ensures { IfOk result (λ text. text ≡ characters.now) }
+    {
+        let mut text = Text::new(alloc);
+        text.push_str(characters)?;
+        Ok(text)
     }
 
     /// Adds a text at the end. A refused push leaves the text as it was.

@@ -7,11 +7,7 @@ use Rattle.bit_cursor.specs.BitReader.{bits_left, place, KeepsSource}
 use Rattle.picture_grammar.specs.Grammar.{Grammar}
 use Rattle.macroblock_reader.specs.declared.fault.SliceFault.{SliceFault}
 use Rattle.macroblock_reader.specs.Private.Answers.{Answers, Course}
-use Rattle.macroblock_reader.proofs.Courses.{course-rest}
-
-no-front : (bits : Option (List ℕ)) → bits ≡ option_map (λ (others : List ℕ). [] ++ others) bits
-no-front None = refl
-no-front (Some bits) = refl
+use Rattle.macroblock_reader.proofs.Courses.{course-rest, no-front}
 
 -- a reader that only asked for bits ahead answers what it answers then
 pub answers-ahead : {M A S : Type 0} {g : Ghosts S} {grammar : Grammar A} {old middle new : BitReader S g} → ((x y z : S) → g.keeps x y → g.keeps y z → g.keeps x z) → (result : Result A SliceFault)

@@ -54,7 +54,8 @@ use Rattle.bit_cursor.specs.declared.bit_reader.BitReader.{BitReader}
 use Rattle.bit_cursor.specs.declared.fault.BitFault.{BitFault}
 use Rattle.bit_cursor.specs.declared.fault.BitFault.TheVariants as bits
 use Rattle.bit_cursor.specs.Shown.{IsFirstNumber}
-use Rattle.bit_cursor.specs.BitReader.{bits_left, without_bits, place, faults_of, absences_of, KeepsSource}
+use Rattle.bit_cursor.specs.BitReader.{bits_left, place, faults_of, absences_of, KeepsSource}
+use Rattle.shelf_io.specs.Source.{without_front}
 use Rattle.picture_grammar.specs.Refusal.{Refusal}
 use Rattle.picture_grammar.specs.Refusal.Refusal.{BadType, End}
 use Rattle.picture_grammar.specs.Grammar.{Grammar}
@@ -126,7 +127,7 @@ explains-not_zero_cut n (Some bits) at some are short =
 
 module _ {S : Type 0} {g : Ghosts S} (n value : ℕ) (old new : BitReader S g)
     (front : IfSome (bits_left old) (λ bits. IsFirstNumber n bits value)) (below : value < 2 ^ n)
-    (left : bits_left new ≡ without_bits (bits_left old) n) (moved : place new ≡ place old + n) (keeps : KeepsSource old new) where
+    (left : bits_left new ≡ without_front (bits_left old) n) (moved : place new ≡ place old + n) (keeps : KeepsSource old new) where
   abbrev not_zero : List (Rule ℕ)
   not_zero = rule BadType (λ k. not (k == 0)) ∷ []
 

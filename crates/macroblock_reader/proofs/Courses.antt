@@ -72,7 +72,7 @@ local-any : {A : Type 0} {grammar : Grammar A} → IsLocal grammar → (value : 
 local-any local value front None (rest, s) following = anywhere local value front rest following s
 local-any local value front (Some rest) s following = anywhere local value front rest following s
 
-no-front : (bits : Option (List ℕ)) → bits ≡ option_map (λ (others : List ℕ). [] ++ others) bits
+pub no-front : (bits : Option (List ℕ)) → bits ≡ option_map (λ (others : List ℕ). [] ++ others) bits
 no-front None = refl
 no-front (Some bits) = refl
 

@@ -67,7 +67,7 @@ use Rattle.picture_grammar.specs.Macroblock.{
   macroblock,
 }
 use Rattle.picture_grammar.proofs.LocalLaws.{local-bind, local-element, local-done, local-optional, local-many}
-use Rattle.picture_laws.proofs.LocalHeaders.{local-when, local-repeated, local-uimsbf}
+use Rattle.picture_laws.proofs.LocalHeaders.{local-when, local-repeated, local-uimsbf, local-address}
 use Rattle.grammar_reading.specs.BitsRead.{Reads, Explains, BeginsWith}
 use Rattle.grammar_reading.proofs.BitsRead.{read-comes, refused-comes}
 use Rattle.macroblock_reader.specs.declared.fault.SliceFault.{SliceFault}
@@ -125,9 +125,6 @@ unfolding macroblock
 macroblock-start coding first columns_left reader keeps = course-start (macroblock coding first columns_left) reader keeps
 
 -- ---- no part looks ahead
-
-pub local-increment : (most : ℕ) → IsLocal (address_increment most)
-local-increment most = local-bind _ _ (local-many (address_code most) (λ escapes. local-bind _ _ (local-element _ _ _) (λ symbol. local-done _))) (λ codes. local-done _)
 
 pub local-kind : (coding : PicCoding) → IsLocal (macroblock_type coding)
 local-kind coding = local-element _ _ _

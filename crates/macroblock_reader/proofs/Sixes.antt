@@ -23,6 +23,7 @@ use Rattle.macroblock_reader.specs.SliceFault.{refusal_told}
 use Rattle.macroblock_reader.specs.Private.Answers.{Answers}
 use Rattle.macroblock_reader.specs.Private.Parts.{block_at, BlocksRead}
 use Rattle.macroblock_reader.proofs.Courses.{answers-read, rose-on, err-same}
+use Rattle.list_types.proofs.Lists.{range-last}
 
 -- ---- one more of the items of a list
 
@@ -47,10 +48,6 @@ module _ {I A : Type 0} (grammar : I → Grammar A) where
   local-each local (i ∷ is) =
       local-bind (grammar i) (λ value. each is grammar >>= λ values. done (value ∷ values)) (local i)
       (λ value. local-bind (each is grammar) (λ values. done (value ∷ values)) (local-each local is) (λ values. local-done (value ∷ values)))
-
-range-more : (a n : ℕ) → range_with_len a (suc n) ≡ range_with_len a n ++ (a + n) ∷ []
-range-more a zero = ap (λ x. x ∷ []) (let e : a ≡ a + 0 = omega arith in e)
-range-more a (suc n) = ap (λ (xs : List ℕ). a ∷ xs) (range-more (a + 1) n ∙ ap (λ x. range_with_len (a + 1) n ++ x ∷ []) (let e : a + 1 + n ≡ a + suc n = omega arith in e))
 
 range-split : (a i n : ℕ) → i < n → (later : List ℕ) × (range_with_len a n ≡ range_with_len a i ++ (a + i) ∷ later)
 range-split a i zero lt = absurd (omega (arith, lt))
@@ -84,7 +81,7 @@ module _ {S : Type 0} {g : Ghosts S} (coding : PicCoding) (kind : Kind) (pattern
         (each (range_with_len 0 i ++ i ∷ []) (block_at coding kind pattern)) (take i into) b (take i into ++ b ∷ [])
         (each-more (block_at coding kind pattern) (range_with_len 0 i) i (take i into) b) (stands-before (block_at coding kind pattern i) (take i into) b local) so_far.reads a.ok in
         let suc-is : next ≡ suc i = omega arith in
-        let range : range_with_len 0 next ≡ range_with_len 0 i ++ i ∷ [] = ap (range_with_len 0) suc-is ∙ range-more 0 i ∙ ap (λ x. range_with_len 0 i ++ x ∷ []) (from-zero i) in
+        let range : range_with_len 0 next ≡ range_with_len 0 i ++ i ∷ [] = ap (range_with_len 0) suc-is ∙ range-last 0 i ∙ ap (λ x. range_with_len 0 i ++ x ∷ []) (from-zero i) in
         record {
           six = six;
           reads = subst (λ bs. Reads (each (range_with_len 0 next) (block_at coding kind pattern)) bs old new) (sym front)

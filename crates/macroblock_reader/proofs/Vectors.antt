@@ -51,7 +51,8 @@ use Rattle.shelf_io.specs.declared.source.Source.{Ghosts}
 use Rattle.bit_lists.specs.Bits.{IsPrefix, bits_of, front_of}
 use Rattle.bit_cursor.specs.declared.bit_reader.BitReader.{BitReader}
 use Rattle.bit_cursor.specs.Shown.{IsWindow}
-use Rattle.bit_cursor.specs.BitReader.{bits_left, without_bits, place, KeepsSource}
+use Rattle.bit_cursor.specs.BitReader.{bits_left, place, KeepsSource}
+use Rattle.shelf_io.specs.Source.{without_front}
 use Rattle.prefix_codes.specs.declared.table_name.TableName.TheVariants.{Motion}
 use Rattle.syntax_types.specs.declared.macroblock.Vector.{Vector}
 use Rattle.picture_grammar.specs.Refusal.Refusal.{NoCode, End}
@@ -136,14 +137,14 @@ module _ {S : Type 0} {g : Ghosts S} (shown known : ℕ) (old : BitReader S g) (
       (advances-kept (bits_left old) (bits_left new) (place old) (place new) left moved) keeps)
 
   front-at : (told : Option (List ℕ)) (n : ℕ) (code : List ℕ) → IfSome told (λ bits. IsWindow 2 bits shown known) → n ≤ known → known ≤ 2
-      → take n (bits_of 2 shown) ≡ code → told ≡ option_map (λ rest. code ++ rest) (without_bits told n)
+      → take n (bits_of 2 shown) ≡ code → told ≡ option_map (λ rest. code ++ rest) (without_front told n)
   front-at None n code s le few is = refl
   front-at (Some bits) n code s le few is =
       let front : take n bits ≡ code = sym (take-take n 2 bits (omega arith)) ∙ ap (take n) (sym s.front) ∙ take-take n known (bits_of 2 shown) le ∙ is in
       ap Some (sym (take-append-drop n bits) ∙ ap (λ f. f ++ drop n bits) front)
 
   pub dmvector-read : (value : ℤ) (n : ℕ) (new : BitReader S g) → unsigned_abs value ≤ 1 → length (dmvector_code value) ≡ n → n ≤ known → known ≤ 2 → take n (bits_of 2 shown) ≡ dmvector_code value
-      → bits_left new ≡ without_bits (bits_left old) n → place new ≡ place old + n → KeepsSource old new → Answers ⊥ dmvector (Ok value) old new
+      → bits_left new ≡ without_front (bits_left old) n → place new ≡ place old + n → KeepsSource old new → Answers ⊥ dmvector (Ok value) old new
   dmvector-read value n new small counted le few is left moved keeps =
       answers-read dmvector value old new
       (reads-code DmvectorCode End [] value (dmvector_code value) (small, refl) (bits_left old) (bits_left new) (place old) (place new) refl

@@ -146,9 +146,3 @@ module _ (f_code : ℕ) (window : BitWindow) (size len : ℕ) (b : Begins Motion
         (negative, bits_of n residual, sign-there, (residual, [], residual-there, (pos 0, [], (refl, refl), (refl, refl)))),
       ),
     )
-
--- what begins a whole window, as a look-up found it
-pub begun-whole : {found : Option (ℕ × ℕ)} (table : TableName) (window : BitWindow) (symbol len n : ℕ) → window.known ≡ 24
-    → ((s k : ℕ) → (found ≡ Some (s, k)) ↔ Begins table (seen window 24) s k) → found ≡ Some (symbol, len) → n ≡ len → Begins table (seen window window.known) symbol n
-begun-whole table window symbol len n whole front is same =
-    subst (λ k. Begins table (seen window k) symbol n) (sym whole) ((front symbol n).0 (is ∙ ap (λ k. Some (symbol, k)) (sym same)))

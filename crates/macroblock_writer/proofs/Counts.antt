@@ -6,11 +6,8 @@ use Rattle.syntax_types.specs.declared.block.BlockWay.{BlockWay}
 use Rattle.syntax_types.specs.declared.block.RunLevel.{RunLevel}
 use Rattle.prefix_codes.specs.declared.symbol.TheConstants.{END_OF_BLOCK}
 use Rattle.picture_grammar.specs.Block.{coefficient_table}
-use Rattle.picture_grammar.specs.Written.{code_for, written_coefficient, written_coefficients}
-
--- three parts one behind the other
-pub three_parts : (a b c : List ℕ) → length (a ++ b ++ c) ≡ length a + length b + length c
-three_parts a b c = omega (arith, length-append (a ++ b) c, length-append a b)
+use Rattle.picture_grammar.specs.Written.{written_coefficient, written_coefficients}
+use Rattle.prefix_codes.specs.TableName.{code_for}
 
 -- a part that may stand
 pub part_where : (stands : Bool) (part : List ℕ) (n : ℕ) → length part ≡ n → length (if stands then part else []) ≡ (if stands then n else 0)

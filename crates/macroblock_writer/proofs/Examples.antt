@@ -5,7 +5,8 @@ use Rattle.syntax_types.specs.declared.macroblock.Macroblock.{Macroblock}
 use Rattle.syntax_types.specs.declared.picture.PicCoding.{PicCoding}
 use Rattle.prefix_codes.specs.declared.table_name.TableName.TheVariants.{TypeI, TypeP, TypeB, Pattern, CoeffZero, CoeffFirst, CoeffOne}
 use Rattle.prefix_codes.specs.Entry.{printed_bits}
-use Rattle.picture_grammar.specs.Written.{code_for, written_increment, written_coefficient, written_dc, written_vector, written_macroblock}
+use Rattle.picture_grammar.specs.Written.{written_increment, written_coefficient, written_dc, written_vector, written_macroblock}
+use Rattle.prefix_codes.specs.TableName.{code_for}
 use Rattle.picture_laws.proofs.Computing.{answers}
 use Rattle.picture_laws.proofs.ExampleValues.{coded, flat, intra_kind}
 

@@ -8,7 +8,8 @@ use Rattle.syntax_types.specs.declared.macroblock.TheConstants.{BLOCKS}
 use Rattle.syntax_types.specs.declared.macroblock.Macroblock.{Macroblock}
 use Rattle.syntax_types.specs.declared.picture.PicCoding.{PicCoding}
 use Rattle.picture_grammar.specs.Macroblock.{type_table, type_symbol, has_motion_type, has_dct_type, has_concealment, f_codes}
-use Rattle.picture_grammar.specs.Written.{code_for, if_any, written_increment, written_vector, written_coded_block, written_macroblock}
+use Rattle.picture_grammar.specs.Written.{if_any, written_increment, written_vector, written_coded_block, written_macroblock}
+use Rattle.prefix_codes.specs.TableName.{code_for}
 use Rattle.macroblock_writer.specs.Private.Writing.{written_modes, written_motion, written_coefficients}
 
 ten : (a b c d e f g h i j : List ℕ) → a ++ (b ++ c ++ d ++ e) ++ (f ++ g ++ h) ++ (i ++ j) ≡ a ++ b ++ c ++ d ++ e ++ f ++ g ++ h ++ i ++ j

@@ -8,7 +8,7 @@ use Rattle.bit_lists.specs.Bits.{bits_of}
 use Rattle.bit_lists.specs.Fields.{flag}
 use Rattle.bit_lists.proofs.BitLemmas.{length-bits_of}
 use Rattle.prefix_codes.specs.CoefficientTables.{dct_coefficients_first, longest_coefficients, shared_coefficients}
-use Rattle.prefix_codes.specs.TableName.{code_in}
+use Rattle.prefix_codes.specs.TableName.{code_in, code_for}
 use Rattle.prefix_codes.specs.declared.symbol.TheConstants.{END_OF_BLOCK}
 use Rattle.prefix_codes.specs.declared.table_name.TableName.TheVariants.{CoeffFirst, Pattern}
 use Rattle.syntax_types.specs.declared.block.Block.{Block}
@@ -18,7 +18,7 @@ use Rattle.syntax_types.specs.declared.block.RunLevel.{RunLevel}
 use Rattle.syntax_types.specs.declared.macroblock.Macroblock.{Macroblock}
 use Rattle.syntax_types.specs.declared.picture.PicCoding.{PicCoding}
 use Rattle.picture_grammar.specs.Macroblock.{type_table, type_symbol, has_motion_type, has_dct_type, has_concealment, f_codes, block_way, no_block}
-use Rattle.picture_grammar.specs.Written.{code_for, if_any, written_block, written_coded_block, written_increment, written_macroblock, written_vector}
+use Rattle.picture_grammar.specs.Written.{if_any, written_block, written_coded_block, written_increment, written_macroblock, written_vector}
 use Rattle.macroblock_writer.specs.Parts.{HasDcAlone, dc_length, head_length, motion_length, written_dc_block}
 use Rattle.macroblock_writer.proofs.Counts.{part_where}
 

@@ -18,7 +18,7 @@ use Rattle.macroblock_writer.proofs.Writable.{can_be_written}
 code_fits : (code : ℕ) (bits rest : List ℕ) → quantiser_scale_code.Spells code bits rest → code < 2 ^ 5
 code_fits code bits rest (spelled, (fits, same), passing, split) = fits
 
-info_fits : (extended : Bool) (info : Option SliceInfo) (bits rest : List ℕ) → (optional extended slice_extension).Spells info bits rest → IfSome info (λ info. info.reserved < 2 ^ 7)
+pub info_fits : (extended : Bool) (info : Option SliceInfo) (bits rest : List ℕ) → (optional extended slice_extension).Spells info bits rest → IfSome info (λ info. info.reserved < 2 ^ 7)
 info_fits true info bits rest (made, m, (intra, m1, s1, (reserved, m2, (code, (fits, same), passing, split), (found, m3, s3, (d, d')))), (e, f)) =
     let here : made.reserved < 2 ^ 7 = subst (λ (n : ℕ). n < 2 ^ 7) (sym (ap (λ (i : SliceInfo). i.reserved) d)) fits in
     subst (λ (found : Option SliceInfo). IfSome found (λ info. info.reserved < 2 ^ 7)) (sym e) here

@@ -12,7 +12,8 @@ use Rattle.syntax_types.specs.declared.macroblock.Kind.{Kind}
 use Rattle.syntax_types.specs.declared.macroblock.Macroblock.{Macroblock}
 use Rattle.syntax_types.specs.declared.picture.PicCoding.{PicCoding}
 use Rattle.picture_grammar.specs.Macroblock.{type_table, type_symbol, has_motion_type, has_dct_type, has_concealment, f_codes, block_way, no_block}
-use Rattle.picture_grammar.specs.Written.{code_for, if_any, written_block, written_increment, written_vector}
+use Rattle.picture_grammar.specs.Written.{if_any, written_block, written_increment, written_vector}
+use Rattle.prefix_codes.specs.TableName.{code_for}
 
 -- macroblock_type, and dct_type where it stands (ISO/IEC 13818-2, 6.2.5 and 6.2.5.1)
 abbrev pub kind_length : PicCoding → Kind → ℕ

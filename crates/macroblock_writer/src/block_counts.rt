@@ -1,12 +1,13 @@
 //! How many bits blocks are written in.
 ghost use Rattle.std.specs.Prelude.{◌≡◌, ◌≤◌, length, IsTrue};
-ghost use Rattle.prefix_codes.specs.TableName.{is_coefficients};
+ghost use Rattle.prefix_codes.specs.TableName.{is_coefficients, code_for};
 ghost use Rattle.picture_grammar.specs.Block.{coefficient_table, dc_table, first_place};
-ghost use Rattle.picture_grammar.specs.Written.{code_for, if_any, written_block, written_coefficient, written_coefficients, written_dc};
+ghost use Rattle.picture_grammar.specs.Written.{if_any, written_block, written_coefficient, written_coefficients, written_dc};
 ghost use Rattle.macroblock_writer.specs.Parts.{written_dc_block};
 
 use picture_grammar::escape::{LEVEL_BITS, RUN_BITS};
-use prefix_codes::{TableName, code_of, coefficient_code, symbol};
+use picture_grammar::stands::size_table;
+use prefix_codes::{TableName, code_bits, coefficient_code, symbol};
 use syntax_types::{BLOCK_PLACES, Block, BlockWay, Dc, RunLevel};
 
 /// The bits of a block's written spelling.
@@ -32,18 +33,6 @@ fn dc_bits(way: BlockWay, dc: Option<Dc>) -> u32
 {
     match dc {
         Some(dc) => code_bits(size_table(way), u16::from(dc.size)) + u32::from(dc.size),
-        None => 0,
-    }
-}
-
-/// The bits of the code of a symbol, none where the table lacks it.
-#[inline]
-pub fn code_bits(table: TableName, symbol: u16) -> u32
-    ensures value { result ≡ length (code_for table symbol) }
-    ensures few { result ≤ 24 }
-{
-    match code_of(table, symbol) {
-        Some(code) => u32::from(code.len),
         None => 0,
     }
 }
@@ -74,17 +63,6 @@ fn coefficient_bits(table: TableName, pair: RunLevel) -> u32
     match coefficient_code(table, pair.run, pair.level.unsigned_abs()) {
         Some(code) => u32::from(code.len) + 1,
         None => code_bits(table, symbol::ESCAPE) + (RUN_BITS + LEVEL_BITS),
-    }
-}
-
-// The table of the DC coefficient's size (7.2.1).
-fn size_table(way: BlockWay) -> TableName
-    ensures { result ≡ dc_table way.luma }
-{
-    if way.luma {
-        TableName::DcLuma
-    } else {
-        TableName::DcChroma
     }
 }
 

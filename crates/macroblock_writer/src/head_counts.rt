@@ -3,14 +3,14 @@ ghost use Rattle.std.specs.Prelude.{◌≡◌, ◌≤◌, ◌+◌, ◌^◌, leng
 ghost use Rattle.bit_lists.specs.Bits.{bits_of};
 ghost use Rattle.prefix_codes.specs.declared.table_name.TableName.TheVariants.{Pattern};
 ghost use Rattle.picture_grammar.specs.Macroblock.{type_symbol as symbol_of_kind, type_table as table_of_types};
-ghost use Rattle.picture_grammar.specs.Written.{code_for, if_any, written_increment};
+ghost use Rattle.picture_grammar.specs.Written.{if_any, written_increment};
+ghost use Rattle.prefix_codes.specs.TableName.{code_for};
 ghost use Rattle.macroblock_writer.specs.Parts.{head_length, kind_length};
 
-use crate::block_counts::code_bits;
 use crate::increment::ESCAPE_INCREMENT;
 use crate::modes::type_symbol;
 use picture_grammar::stands::{has_dct_type, type_table};
-use prefix_codes::{TableName, symbol};
+use prefix_codes::{TableName, code_bits, symbol};
 use syntax_types::{Kind, PicCoding};
 
 /// The bits of a macroblock's head behind so many skipped ones: macroblock_address_increment, macroblock_type, and dct_type,

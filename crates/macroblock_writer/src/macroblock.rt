@@ -4,7 +4,8 @@ ghost use Rattle.bit_cursor.specs.BitWriter.{is_stopped, Writes};
 ghost use Rattle.prefix_codes.specs.declared.table_name.TableName.TheVariants.{Pattern};
 ghost use Rattle.picture_grammar.specs.Macroblock.{macroblock as macroblock_grammar};
 ghost use Rattle.picture_grammar.specs.Picture.{IsCoding};
-ghost use Rattle.picture_grammar.specs.Written.{code_for, written_coded_block, written_macroblock};
+ghost use Rattle.picture_grammar.specs.Written.{written_coded_block, written_macroblock};
+ghost use Rattle.prefix_codes.specs.TableName.{code_for};
 ghost use Rattle.picture_laws.specs.Spellable.{IsSpellable};
 ghost use Rattle.macroblock_writer.specs.Private.Writing.{CanBeWritten, written_modes, written_motion, written_coefficients};
 

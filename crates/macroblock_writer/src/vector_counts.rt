@@ -5,8 +5,7 @@ ghost use Rattle.bit_lists.specs.Fields.{flag};
 ghost use Rattle.picture_grammar.specs.Motion.{dmvector_code};
 ghost use Rattle.picture_grammar.specs.Written.{if_any, written_part, written_vector, written_vector_part};
 
-use crate::block_counts::code_bits;
-use prefix_codes::TableName;
+use prefix_codes::{TableName, code_bits};
 use syntax_types::{VECTORS_MOST, Vector};
 
 /// The bits of the vectors of a direction, whose f_codes these are.

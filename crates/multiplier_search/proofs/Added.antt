@@ -24,7 +24,7 @@ use Rattle.cost_steps.specs.declared.constants.TheConstants.{PRICE_MOST}
 use Rattle.cost_steps.specs.Steps.{TellLeastAbove}
 use Rattle.multiplier_search.specs.Private.UnitSteps.{AddSteps, AddUnit, AreStepsOf, beside, LeaveRoom, times_of}
 use Rattle.multiplier_search.specs.Single.{dues_of}
-use Rattle.multiplier_search.proofs.Best.{Contains-one}
+use Rattle.multiplier_search.proofs.Best.{Contains-one, no_time}
 
 -- ---- one unit under one window from time 0 on, beside others
 pub price-beside : (windows : List Window) (due lambda time : ℕ) → price (beside windows due lambda) time ≡ cond (nat_le time due) lambda 0 + price windows time
@@ -130,9 +130,6 @@ added-first windows unit entry units fixed before mid after room add rest =
         | inr later ↦ rest.all time later
       ];
     }
-
-no_time : (time : ℕ) → Contains [] time → ⊥
-no_time time (k, within, is) = omega arith
 
 -- ---- no unit more
 pub added-none : (windows : List Window) (fixed : List (Option ℕ)) (steps : List CostStep) → AddSteps windows [] fixed steps steps

@@ -62,6 +62,9 @@ best_of_both table fixed dues more a b better best best' (inr second) =
     subst (λ (m : Multiplier). IsFirstBest table fixed (dues ++ more) m) (sym second.0) (best_right table fixed dues more a b best best' second.1)
 
 -- ---- at one due time
+pub no_time : (time : ℕ) → Contains [] time → ⊥
+no_time time (k, within, is) = omega arith
+
 pub Contains-one : (x y : ℕ) → Contains (x ∷ []) y → x ≡ y
 Contains-one x y (k, within, is) =
     let first : k ≡ 0 = omega arith in

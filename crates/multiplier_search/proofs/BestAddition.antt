@@ -18,12 +18,9 @@ use Rattle.multiplier_search.specs.Private.Lambda.{value_beside}
 use Rattle.multiplier_search.specs.Private.UnitSteps.{AreStepsOf, times_of}
 use Rattle.multiplier_search.specs.Single.{dues_of}
 use Rattle.multiplier_search.specs.Turns.{BeatAdditions}
-use Rattle.multiplier_search.proofs.Best.{Contains-one}
+use Rattle.multiplier_search.proofs.Best.{Contains-one, no_time}
 use Rattle.multiplier_search.proofs.FirstBest.{front-back}
 use Rattle.multiplier_search.proofs.Rises.{le_beside}
-
-no_time : (time : ℕ) → Contains [] time → ⊥
-no_time time (k, within, is) = omega arith
 
 abbrev held : Addition → Option Addition → Addition
 held other None = other

@@ -20,7 +20,7 @@ use Rattle.multiplier_search.specs.Private.Lengths.{HasItsValue, Outdoes}
 use Rattle.multiplier_search.specs.Private.UnitSteps.{AreStepsOf, times_of}
 use Rattle.multiplier_search.specs.Single.{dues_of, IsBestSingle, IsFirstBest, IsNoWorse, value_alone}
 use Rattle.multiplier_search.specs.Windows.{BeatEachTried, IsBeginning}
-use Rattle.multiplier_search.proofs.Best.{Contains-one}
+use Rattle.multiplier_search.proofs.Best.{Contains-one, no_time}
 use Rattle.multiplier_search.proofs.FirstBest.{front-back}
 
 -- ---- one due time
@@ -47,8 +47,6 @@ outdoes-own table fixed ticks due start own best valued one two each = record {
 }
 
 -- ---- all due times
-no_time : (time : ℕ) → Contains [] time → ⊥
-no_time time (k, within, is) = omega arith
 
 pub outdoes-first : (table : Table) (fixed : List (Option ℕ)) (ticks place : ℕ) (steps : List CostStep) (start : ValuedWindow) → HasItsValue table fixed start → place ≡ 0
     → Outdoes table fixed ticks (times_of (take place steps)) start start

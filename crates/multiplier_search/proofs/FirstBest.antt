@@ -22,7 +22,7 @@ use Rattle.multiplier_search.specs.declared.single.Valued.{Valued}
 use Rattle.multiplier_search.specs.Private.Lambda.{EndsRise, RisesTo, value_at, value_beside}
 use Rattle.multiplier_search.specs.Private.UnitSteps.{AreStepsOf, beside, IsBestValued, IsBetterValued, IsNoWorseValued, IsValued, times_of}
 use Rattle.multiplier_search.specs.Single.{dues_of, IsBestSingle, IsFirstBest, IsNoWorse, value_alone}
-use Rattle.multiplier_search.proofs.Best.{best_at_due, best_of_both, Contains-one}
+use Rattle.multiplier_search.proofs.Best.{best_at_due, best_of_both, Contains-one, no_time}
 
 -- ---- values
 -- what steps add less what they take, less what the room is worth
@@ -133,9 +133,6 @@ best-on table fixed place due sweep best is went (first, valued) =
 no_units : (units : List CodedUnit) → ((time : ℕ) → Contains (dues_of units) time → ⊥) → units ≡ []
 no_units [] none = refl
 no_units (unit ∷ units) none = absurd (none unit.due (0, omega arith, refl))
-
-no_time : (time : ℕ) → Contains [] time → ⊥
-no_time time (k, within, is) = omega arith
 
 pub single-none : (table : Table) (fixed : List (Option ℕ)) (steps : List CostStep) (place : ℕ) → length steps ≤ place → AreStepsOf table fixed [] steps
     → IsBestValued table fixed (times_of (take place steps)) None → IsBestSingle table fixed []

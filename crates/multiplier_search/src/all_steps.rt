@@ -1,15 +1,12 @@
-ghost use Rattle.std.specs.Prelude.{◌≡◌, ◌+◌, ◌≤◌, All, IfOk, OnOk};
+ghost use Rattle.std.specs.Prelude.{◌≡◌, All, IfOk, OnOk};
 ghost use Rattle.std.specs.List.{AllZip};
 ghost use Rattle.version_table.specs.Table.{IsValidTable, IsValidUnit};
 ghost use Rattle.dual_bounds.specs.Fixed.{FixesVersions, NamesVersion};
-ghost use Rattle.dual_bounds.specs.declared.constants.TheConstants.{LAMBDA_MOST};
-ghost use Rattle.dual_bounds.specs.Values.{charge, price};
-ghost use Rattle.cost_steps.specs.declared.constants.TheConstants.{PRICE_MOST};
 ghost use Rattle.multiplier_search.specs.Private.UnitSteps.{AddSteps, AddUnit, AreStepsOf, IsSweepOf, LeaveRoom};
 
 use cost_steps::add_steps_above;
 use cost_sweep::{CostStep, CostSweep};
-use dual_bounds::{Fixed, Window};
+use dual_bounds::{Fixed, Window, price};
 use list_types::OutOfMemory;
 use std::alloc::Global;
 use version_table::{Table, Unit};
@@ -93,33 +90,9 @@ fn add_unit(
     requires room { LeaveRoom windows.now }
     ensures { OnOk result (AddUnit windows.now unit.now fixed steps.old.items steps.new.items) }
 {
-    let base = price_of(windows, unit.due);
+    let base = price(windows, unit.due);
     match fixed {
         Some(k) => add_steps_above(steps, unit.due, base, &[unit.versions[usize::from(k)]]),
         None => add_steps_above(steps, unit.due, base, unit.versions.as_slice()),
-    }
-}
-
-/// What a packet that is due at a time is charged.
-fn price_of(windows: &[Window], time: u64) -> u64
-    requires { LeaveRoom windows.now }
-    ensures value { result ≡ price windows.now time }
-    ensures room { result + LAMBDA_MOST ≤ PRICE_MOST }
-{
-    let mut total = 0;
-    for window in windows {
-        total += charge_of(*window, time);
-    }
-    total
-}
-
-/// What a window charges for a packet that is due at a time.
-fn charge_of(window: Window, time: u64) -> u64
-    ensures { result ≡ charge time window }
-{
-    if window.from <= time && time <= window.due {
-        window.lambda
-    } else {
-        0
     }
 }

@@ -8,8 +8,8 @@ ghost use Rattle.multiplier_search.specs.Turns.{BeatChanges};
 ghost use Rattle.multiplier_search.specs.Windows.{AreSearched};
 
 use crate::lambda::best_lambda;
-use crate::lists::{copied, replaced};
-use dual_bounds::{Fixed, Window, Windows, window_value};
+use crate::lists::replaced;
+use dual_bounds::{Fixed, Window, Windows, copied, window_value};
 use version_table::Table;
 
 /// The windows with the one lambda changed that gains most.

@@ -6,19 +6,7 @@ ghost use Rattle.dual_bounds.specs.Values.{from_start};
 ghost use Rattle.multiplier_search.specs.Windows.{Precedes};
 ghost use Rattle.multiplier_search.specs.Private.Turns.{AreFromStart, IsPlace};
 
-use dual_bounds::{Multiplier, Multipliers, Window, Windows};
-
-/// The same windows.
-pub fn copied(windows: &[Window]) -> Windows
-    requires { length windows.now ≤ WINDOWS_MOST }
-    ensures { result.items ≡ windows.now }
-{
-    let mut copy = Windows::new();
-    for window in windows {
-        copy.push(*window);
-    }
-    copy
-}
+use dual_bounds::{Multiplier, Multipliers, Window, Windows, copied};
 
 /// The same windows with another one at this place.
 pub fn replaced(windows: &[Window], place: usize, window: Window) -> Windows

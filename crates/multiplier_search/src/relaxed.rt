@@ -10,8 +10,7 @@ mod slack;
 mod slack_tree;
 
 use crate::changes::of_greater_value;
-use crate::lists::copied;
-use dual_bounds::{Fixed, Windows};
+use dual_bounds::{Fixed, Windows, copied};
 use hull::MixedTable;
 use list_types::OutOfMemory;
 use slack::Slack;

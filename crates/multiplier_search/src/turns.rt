@@ -10,9 +10,9 @@ ghost use Rattle.multiplier_search.specs.Windows.{AreSearched};
 
 use crate::additions::best_addition;
 use crate::changes::{best_change, of_greater_value};
-use crate::lists::{copied, multipliers_of};
+use crate::lists::multipliers_of;
 use dual_bounds::constants::WINDOWS_MOST;
-use dual_bounds::{Fixed, Multipliers, Window, Windows, window_value, windows_of};
+use dual_bounds::{Fixed, Multipliers, Window, Windows, copied, window_value, windows_of};
 use list_types::OutOfMemory;
 use std::alloc::Global;
 use version_table::Table;

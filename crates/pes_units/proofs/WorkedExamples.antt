@@ -17,7 +17,7 @@ use Rattle.pes_units.specs.VideoHeader.{written_header}
 abbrev only_pts : Times
 only_pts = record { pts = Some 90000; dts = None }
 
-abbrev only_pts_bytes : List ℕ
+abbrev pub only_pts_bytes : List ℕ
 only_pts_bytes = 0x00 ∷ 0x00 ∷ 0x01 ∷ 0xE0 ∷ 0x00 ∷ 0x00 ∷ 0x80 ∷ 0x80 ∷ 0x05 ∷ 0x21 ∷ 0x00 ∷ 0x05 ∷ 0xBF ∷ 0x21 ∷ []
 
 only_pts-written : written_header only_pts ≡ only_pts_bytes

@@ -48,7 +48,7 @@ use Rattle.bit_lists.specs.Bits.{bits_of}
 use Rattle.bit_lists.specs.Fields.{flag}
 use Rattle.prefix_codes.specs.declared.symbol.TheConstants.{END_OF_BLOCK, ESCAPE}
 use Rattle.prefix_codes.specs.declared.table_name.TableName.{TableName}
-use Rattle.prefix_codes.specs.TableName.{code_in, coefficient_code}
+use Rattle.prefix_codes.specs.TableName.{code_in, coefficient_code, code_for}
 use Rattle.syntax_types.specs.declared.block.BlockWay.{BlockWay}
 use Rattle.syntax_types.specs.declared.block.Block.{Block}
 use Rattle.syntax_types.specs.declared.block.Dc.{Dc}
@@ -73,7 +73,7 @@ use Rattle.picture_grammar.specs.Block.{
   block,
 }
 use Rattle.picture_grammar.specs.Block.Coefficient.{end_of_block, run_size, escape}
-use Rattle.picture_grammar.specs.Written.{code_for, if_any, written_dc, level_bits, written_escape, written_coefficient, written_coefficients, written_block}
+use Rattle.picture_grammar.specs.Written.{if_any, written_dc, level_bits, written_escape, written_coefficient, written_coefficients, written_block}
 
 -- ---- signs and levels
 

@@ -23,7 +23,8 @@ use Rattle.picture_grammar.specs.Refusal.Refusal.{BadHeader, NotMpeg2, Profile}
 use Rattle.picture_grammar.specs.Grammar.{Grammar, done, ◌>>=◌, ◌>>◌, optional, when, if_next, at_bits, ahead, many, Next, one_item_more}
 use Rattle.picture_grammar.specs.Grammar.Next.{more, last}
 use Rattle.picture_grammar.specs.Element.{uimsbf, rule}
-use Rattle.picture_grammar.specs.StartCode.{start_code_prefix, start_code, zero_bits, StartCodeComes, is_slice}
+use Rattle.picture_grammar.specs.StartCode.{start_code_prefix, start_code, zero_bits, StartCodeComes}
+use Rattle.stream_constants.specs.SliceCodes.{is_slice}
 use Rattle.picture_grammar.specs.Headers.{Loaded, sequence_header, sequence_extension, group_header, picture_header, picture_coding_extension, quant_matrix_extension, with_loaded}
 
 -- ---- extension_and_user_data() (6.2.2.2)

@@ -16,7 +16,8 @@ use Rattle.picture_grammar.specs.Refusal.{Refusal}
 use Rattle.picture_grammar.specs.Refusal.Refusal.{BadHeader, Uncovered}
 use Rattle.picture_grammar.specs.Grammar.{Grammar, done, ◌>>=◌, ◌>>◌, optional, if_next, many, Next, with_spelling}
 use Rattle.picture_grammar.specs.Grammar.Next.{more, last}
-use Rattle.picture_grammar.specs.StartCode.{start_code, zero_bits, only_zero_bytes, is_slice}
+use Rattle.picture_grammar.specs.StartCode.{start_code, zero_bits, only_zero_bytes}
+use Rattle.stream_constants.specs.SliceCodes.{is_slice}
 use Rattle.picture_grammar.specs.Macroblock.{is_frame, f_codes}
 use Rattle.picture_grammar.specs.Slice.{slice, columns}
 use Rattle.picture_grammar.specs.Head.{head}

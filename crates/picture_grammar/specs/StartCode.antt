@@ -1,7 +1,7 @@
 -- Start codes, and the zero bits and bytes before them (ISO/IEC 13818-2, 5.2.1, 5.2.3 and 6.2.1).
-use Rattle.std.specs.Prelude.{◌≡◌, ◌<◌, ◌*◌, ◌%◌, ◌^◌, ◌==◌, ◌&&◌, ℕ, nat_le, List, [], ◌∷◌, ◌++◌, length, replicate, Bool, true, false}
+use Rattle.std.specs.Prelude.{◌≡◌, ◌<◌, ◌*◌, ◌%◌, ◌^◌, ◌==◌, ℕ, List, [], ◌∷◌, ◌++◌, length, replicate, Bool, true, false}
 use Rattle.bit_lists.specs.Bits.{IsPrefix, bits_of}
-use Rattle.stream_constants.specs.declared.start_codes.TheConstants.{PREFIX_BITS, FIRST_SLICE, LAST_SLICE}
+use Rattle.stream_constants.specs.declared.start_codes.TheConstants.{PREFIX_BITS}
 use Rattle.picture_grammar.specs.Refusal.{Refusal}
 use Rattle.picture_grammar.specs.Refusal.Refusal.{BadHeader}
 use Rattle.picture_grammar.specs.Grammar.{Grammar, done, ◌>>=◌, ◌>>◌, if_next, at_bits, many}
@@ -42,10 +42,6 @@ pub record StartCodeComes (may_come : ℕ → Bool) (bits : List ℕ) : Type 0 w
   pub is_byte : byte < 2 ^ 8
   pub is_one : may_come byte ≡ true
   pub stands : bits ≡ replicate (8 * zeros) 0 ++ start_code_bits byte ++ rest
-
--- slice_start_code: the bytes 01 to AF (Table 6-1)
-abbrev pub is_slice : ℕ → Bool
-is_slice byte = nat_le FIRST_SLICE byte && nat_le byte LAST_SLICE
 
 -- zero bytes to the unit's end
 abbrev pub only_zero_bytes : Grammar (List ℕ × Unit {0})

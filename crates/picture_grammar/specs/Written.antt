@@ -19,7 +19,6 @@ use Rattle.std.specs.Prelude.{
   Option,
   Some,
   None,
-  unwrap_or,
   List,
   [],
   ◌∷◌,
@@ -37,7 +36,7 @@ use Rattle.bit_lists.specs.Fields.{AreBytes, bit_list, flag}
 use Rattle.prefix_codes.specs.declared.symbol.TheConstants.{ADDRESS_ESCAPE, END_OF_BLOCK, ESCAPE}
 use Rattle.prefix_codes.specs.declared.table_name.TableName.{TableName}
 use Rattle.prefix_codes.specs.declared.table_name.TableName.TheVariants.{Address, Motion, Pattern}
-use Rattle.prefix_codes.specs.TableName.{code_in, coefficient_code}
+use Rattle.prefix_codes.specs.TableName.{code_for, coefficient_code}
 use Rattle.syntax_types.specs.declared.block.Block.{Block}
 use Rattle.syntax_types.specs.declared.block.BlockWay.{BlockWay}
 use Rattle.syntax_types.specs.declared.block.Dc.{Dc}
@@ -55,10 +54,6 @@ use Rattle.picture_grammar.specs.Block.{dc_table, coefficient_table, first_place
 use Rattle.picture_grammar.specs.Motion.{has_residual, dmvector_code}
 use Rattle.picture_grammar.specs.Macroblock.{escape_increment, type_table, type_symbol, has_motion_type, has_dct_type, has_concealment, f_codes, is_coded, block_way, no_block}
 use Rattle.picture_grammar.specs.StartCode.{start_code_bits}
-
--- the code of a symbol that the table has
-abbrev pub code_for : TableName → ℕ → List ℕ
-code_for table symbol = unwrap_or (code_in table symbol) []
 
 -- a part that may be missing
 abbrev pub if_any : {A : Type 0} → (A → List ℕ) → Option A → List ℕ

@@ -1,5 +1,7 @@
 //! What stands in a macroblock, by its picture and its type (6.2.5).
-ghost use Rattle.std.specs.Prelude.{◌≡◌, ◌<◌};
+ghost use Rattle.std.specs.Prelude.{◌≡◌, ◌<◌, IsTrue};
+ghost use Rattle.prefix_codes.specs.TableName.{is_sizes};
+ghost use Rattle.picture_grammar.specs.Block.{dc_table};
 ghost use Rattle.picture_grammar.specs.Macroblock.{is_frame as is_frame_picture, has_motion_type as motion_type_stands, has_dct_type as dct_type_stands, has_concealment as concealment_stands, is_coded as is_block_coded, block_way as way_of_block, type_table as table_of_types};
 
 use prefix_codes::TableName;
@@ -25,6 +27,19 @@ pub fn type_table(coding: &PicCoding) -> TableName
         TableName::TypeP
     } else {
         TableName::TypeB
+    }
+}
+
+/// The table of the DC coefficient's size (7.2.1).
+#[inline]
+pub fn size_table(way: BlockWay) -> TableName
+    ensures table { result ≡ dc_table way.luma }
+    ensures sizes { IsTrue (is_sizes result) }
+{
+    if way.luma {
+        TableName::DcLuma
+    } else {
+        TableName::DcChroma
     }
 }
 

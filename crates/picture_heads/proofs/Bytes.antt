@@ -80,7 +80,7 @@ pub bytes-are : (xs : List ℕ) → ((i : ℕ) → Fits w8 (get_or xs i 0)) → 
 bytes-are [] fits = tt
 bytes-are (x ∷ xs) fits = ((let first : Fits w8 x = fits 0 in omega (arith, first)), bytes-are xs (λ i. fits (suc i)))
 
-byte-at : (xs : List ℕ) (i : ℕ) → AreBytes xs → get_or xs i 0 < 2 ^ 8
+pub byte-at : (xs : List ℕ) (i : ℕ) → AreBytes xs → get_or xs i 0 < 2 ^ 8
 byte-at [] i are = omega arith
 byte-at (x ∷ xs) zero are = are.0
 byte-at (x ∷ xs) (suc i) are = byte-at xs i are.1

@@ -10,6 +10,7 @@ use Rattle.picture_laws.proofs.StartCodes.{zeros_before, opened, opened-zeros, p
 use Rattle.picture_laws.proofs.Tails.{suffix-one, led}
 use Rattle.picture_laws.proofs.ZeroRuns.{AreShort, zeros_behind, short-behind, short-zeros}
 use Rattle.picture_heads.specs.Private.Walk.{IsFirstCode}
+use Rattle.picture_laws.proofs.ShortSlices.{no_run}
 
 -- no start code at a whole byte begins before these last bits
 pub record IsClear (bits end : List ℕ) : Type 0 where
@@ -67,13 +68,6 @@ prefix_zeros-most k rest =
 zeros_before-behind : (p : ℕ) (bits : List ℕ) → zeros_before (replicate p 0 ++ bits) ≡ p + zeros_before bits
 zeros_before-behind zero bits = omega arith
 zeros_before-behind (suc p) bits = omega (arith, zeros_before-behind p bits)
-
-no_run : (before after : List ℕ) → AreShort 0 (before ++ start_code_prefix ++ after) → ⊥
-no_run before after short =
-    let bits = subst (AreShort 0) (append_assoc before start_code_prefix after) short in
-    let run : AreShort (zeros_behind 0 before) (replicate 23 0 ++ 1 ∷ after) =
-    subst (AreShort (zeros_behind 0 before)) (ap (λ (x : List ℕ). x ++ after) prefix-zeros ∙ append_assoc (replicate 23 0) (1 ∷ []) after) (short-behind 0 before (start_code_prefix ++ after) bits) in
-    omega (arith, short-zeros (zeros_behind 0 before) 22 (1 ∷ after) run)
 
 -- behind bits with no run of zeros, and zeros, none begins before 23 zeros
 module _ (inner : List ℕ) (p : ℕ) (m : List ℕ) (short : AreShort 0 inner) (many : 23 ≤ zeros_before m) where

@@ -12,6 +12,7 @@ use Rattle.picture_laws.proofs.Decided.{decided-then}
 use Rattle.picture_laws.proofs.DecidedElements.{decided-uimsbf}
 use Rattle.picture_laws.proofs.DecidedHeads.{decided-start_code, decided-sequence_part, decided-group_part}
 use Rattle.picture_heads.specs.Heads.{before_vbv_delay, IsHeadWithoutDelay}
+use Rattle.picture_laws.proofs.ExampleUnits.{sequence_extension_bytes, coding_extension_bytes, picture_header_bytes}
 
 decided-before : (before : Option SeqState) → IsDecided (before_vbv_delay before)
 decided-before before =
@@ -27,12 +28,6 @@ state = record { width = 16; height = 16; rate_code = 3; vbv = 112; progressive 
 abbrev sequence_header_bytes : List ℕ
 sequence_header_bytes = 0x00 ∷ 0x00 ∷ 0x01 ∷ 0xB3 ∷ 0x01 ∷ 0x00 ∷ 0x10 ∷ 0x13 ∷ 0x24 ∷ 0x9F ∷ 0x23 ∷ 0x80 ∷ []
 
-abbrev sequence_extension_bytes : List ℕ
-sequence_extension_bytes = 0x00 ∷ 0x00 ∷ 0x01 ∷ 0xB5 ∷ 0x14 ∷ 0x8A ∷ 0x00 ∷ 0x01 ∷ 0x00 ∷ 0x00 ∷ []
-
-abbrev coding_extension_bytes : List ℕ
-coding_extension_bytes = 0x00 ∷ 0x00 ∷ 0x01 ∷ 0xB5 ∷ 0x8F ∷ 0xFF ∷ 0xF3 ∷ 0x41 ∷ 0x80 ∷ []
-
 -- a group of pictures header whose time_code looks like a picture start code
 abbrev group_bytes : List ℕ
 group_bytes = 0x00 ∷ 0x00 ∷ 0x01 ∷ 0xB8 ∷ 0x00 ∷ 0x00 ∷ 0x01 ∷ 0x00 ∷ []
@@ -40,9 +35,6 @@ group_bytes = 0x00 ∷ 0x00 ∷ 0x01 ∷ 0xB8 ∷ 0x00 ∷ 0x00 ∷ 0x01 ∷ 0x0
 -- an I-picture with temporal_reference 0 and vbv_delay 1234 in hexadecimal, and with all ones
 abbrev picture_bytes : List ℕ
 picture_bytes = 0x00 ∷ 0x00 ∷ 0x01 ∷ 0x00 ∷ 0x00 ∷ 0x08 ∷ 0x91 ∷ 0xA0 ∷ []
-
-abbrev picture_without : List ℕ
-picture_without = 0x00 ∷ 0x00 ∷ 0x01 ∷ 0x00 ∷ 0x00 ∷ 0x0F ∷ 0xFF ∷ 0xF8 ∷ []
 
 abbrev bits_before : List ℕ → List ℕ
 bits_before bytes = bit_list bytes ++ bit_list (0x00 ∷ 0x00 ∷ 0x01 ∷ 0x00 ∷ 0x00 ∷ []) ++ 0 ∷ 0 ∷ 0 ∷ 0 ∷ 1 ∷ []
@@ -58,7 +50,7 @@ group_place : (before_vbv_delay (Some state)).Spells 1 (bit_list (group_bytes ++
 unfolding answers decided-before
 group_place = (said (decided-before (Some state)) (bit_list (group_bytes ++ picture_bytes ++ coding_extension_bytes) ++ []) refl).0
 
-pub behind_group : IsHeadWithoutDelay (group_bytes ++ picture_bytes ++ coding_extension_bytes) (group_bytes ++ picture_without ++ coding_extension_bytes)
+pub behind_group : IsHeadWithoutDelay (group_bytes ++ picture_bytes ++ coding_extension_bytes) (group_bytes ++ picture_header_bytes ++ coding_extension_bytes)
 unfolding bits_of
 behind_group = record {
   front = bits_before group_bytes;
@@ -74,7 +66,7 @@ behind_group = record {
     delay_bits = refl;
     place = group_place;
   };
-  bytes = by_test (group_bytes ++ picture_without ++ coding_extension_bytes) refl;
+  bytes = by_test (group_bytes ++ picture_header_bytes ++ coding_extension_bytes) refl;
   without = refl;
 }
 
@@ -86,7 +78,7 @@ unfolding answers decided-before
 sequence_place = (said (decided-before None) (bit_list (sequence_header_bytes ++ sequence_extension_bytes ++ 0x00 ∷ picture_bytes ++ coding_extension_bytes) ++ []) refl).0
 
 behind_sequence : IsHeadWithoutDelay (sequence_header_bytes ++ sequence_extension_bytes ++ 0x00 ∷ picture_bytes ++ coding_extension_bytes)
-    (sequence_header_bytes ++ sequence_extension_bytes ++ 0x00 ∷ picture_without ++ coding_extension_bytes)
+    (sequence_header_bytes ++ sequence_extension_bytes ++ 0x00 ∷ picture_header_bytes ++ coding_extension_bytes)
 unfolding bits_of
 behind_sequence = record {
   front = bits_before (sequence_header_bytes ++ sequence_extension_bytes ++ 0x00 ∷ []);
@@ -102,6 +94,6 @@ behind_sequence = record {
     delay_bits = refl;
     place = sequence_place;
   };
-  bytes = by_test (sequence_header_bytes ++ sequence_extension_bytes ++ 0x00 ∷ picture_without ++ coding_extension_bytes) refl;
+  bytes = by_test (sequence_header_bytes ++ sequence_extension_bytes ++ 0x00 ∷ picture_header_bytes ++ coding_extension_bytes) refl;
   without = refl;
 }

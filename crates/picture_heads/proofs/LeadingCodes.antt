@@ -60,6 +60,7 @@ use Rattle.picture_heads.specs.Heads.{before_vbv_delay}
 use Rattle.picture_heads.specs.Private.Walk.{IsFirstCode, GoesOn, LeadsIn}
 use Rattle.picture_heads.proofs.Clear.{IsClear, clear-self, clear-then, first-then, clear-short, first-code}
 use Rattle.picture_heads.proofs.ShortHeaders.{short-sequence_header, short-sequence_extension}
+use Rattle.picture_laws.proofs.Steady.{unread_item}
 
 -- the walk comes from these bits to those behind the picture's start code; a start code comes here
 pub record Leads (bits rest : List ℕ) : Type 0 where
@@ -82,7 +83,7 @@ leads-behind refusal may_come byte bits m middle rest s whole no_picture no_grou
 clash : (code other byte : ℕ) → (byte == code) ≡ true → byte ≡ other → (code == other) ≡ false → ⊥
 clash code other byte is same apart = let both : true ≡ false = sym (eq-eqb code other (sym (eqb-true byte code is) ∙ same)) ∙ apart in cc
 
-prefix-run : (rest : List ℕ) → zeros_before (start_code_prefix ++ rest) ≡ 23
+pub prefix-run : (rest : List ℕ) → zeros_before (start_code_prefix ++ rest) ≡ 23
 prefix-run rest = ap zeros_before (ap (λ (x : List ℕ). x ++ rest) prefix-zeros ∙ append_assoc (replicate 23 0) (1 ∷ []) rest) ∙ zeros_before-one 23 rest
 
 -- ---- bits up to a whole byte
@@ -97,9 +98,6 @@ padding refusal number bits rest (code, (fits, is), passing, split) =
     let count : length bits ≡ length bits % 8 + length rest =
     ap length all ∙ length-append (replicate (length bits % 8) 0) rest ∙ ap (λ (k : ℕ). k + length rest) (length-replicate {A = ℕ} (length bits % 8) 0) in
     (length bits % 8, all, omega (arith, count), refl)
-
-abbrev unread_item : List ℕ → Grammar (Next ℕ (Unit {0}))
-unread_item before = if_next (IsPrefix start_code_prefix) (done (last tt)) (one_item_more (uimsbf 8 []))
 
 -- of whole bytes that nobody reads none begins a start code
 unread_clear : (before values bits rest : List ℕ) → SpellsList unread_item before values tt bits rest → length bits % 8 ≡ 0 → IsClear bits rest × (length rest % 8 ≡ 0)

@@ -92,7 +92,7 @@ unfolding answers written_macroblock
 written-field_dct = refl
 
 -- four blocks of luminance, whose DC size 0 is 100, and two of chrominance, where it is 00
-abbrev gray : Macroblock
+abbrev pub gray : Macroblock
 gray = record {
   skipped_before = 0;
   kind = intra_kind;

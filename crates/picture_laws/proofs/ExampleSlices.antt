@@ -15,7 +15,7 @@ abbrev row_0 : ℕ → Option SliceInfo → List Macroblock → Slice
 row_0 code info macroblocks = record { row = 0; code = code; info = info; macroblocks = macroblocks }
 
 -- vectors of codes 0 in a frame
-abbrev forward : ℕ → Macroblock
+abbrev pub forward : ℕ → Macroblock
 forward skipped = moved skipped 2 (still None None ∷ [])
 
 -- ---- forward, one pair without vectors, forward; and coarser, with the one between skipped

@@ -15,23 +15,24 @@ use Rattle.picture_laws.proofs.Computing.{said, answers}
 use Rattle.picture_laws.proofs.DecidedHeads.{decided-head}
 use Rattle.picture_laws.proofs.DecidedUnits.{right-unit}
 use Rattle.picture_laws.proofs.ExampleValues.{flat, intra_kind}
+use Rattle.picture_laws.proofs.ExampleMacroblocks.{gray}
 
 -- ---- parts: a sequence header of 16 columns and a height below 256, its extension, an I-picture, and one slice
 
 abbrev sequence_header_bytes : ℕ → List ℕ
 sequence_header_bytes height = 0x00 ∷ 0x00 ∷ 0x01 ∷ 0xB3 ∷ 0x01 ∷ 0x00 ∷ height ∷ 0x13 ∷ 0x24 ∷ 0x9F ∷ 0x23 ∷ 0x80 ∷ []
 
-abbrev sequence_extension_bytes : List ℕ
+abbrev pub sequence_extension_bytes : List ℕ
 sequence_extension_bytes = 0x00 ∷ 0x00 ∷ 0x01 ∷ 0xB5 ∷ 0x14 ∷ 0x8A ∷ 0x00 ∷ 0x01 ∷ 0x00 ∷ 0x00 ∷ []
 
-abbrev picture_header_bytes : List ℕ
+abbrev pub picture_header_bytes : List ℕ
 picture_header_bytes = 0x00 ∷ 0x00 ∷ 0x01 ∷ 0x00 ∷ 0x00 ∷ 0x0F ∷ 0xFF ∷ 0xF8 ∷ []
 
-abbrev coding_extension_bytes : List ℕ
+abbrev pub coding_extension_bytes : List ℕ
 coding_extension_bytes = 0x00 ∷ 0x00 ∷ 0x01 ∷ 0xB5 ∷ 0x8F ∷ 0xFF ∷ 0xF3 ∷ 0x41 ∷ 0x80 ∷ []
 
 -- one intra macroblock whose blocks are flat
-abbrev slice_bytes : List ℕ
+abbrev pub slice_bytes : List ℕ
 slice_bytes = 0x00 ∷ 0x00 ∷ 0x01 ∷ 0x01 ∷ 0x0B ∷ 0x94 ∷ 0xA5 ∷ 0x22 ∷ 0x20 ∷ []
 
 abbrev sequence_end_bytes : List ℕ
@@ -105,19 +106,6 @@ unfolding answers decided-head
 mpeg_1 = said (decided-head None) (bit_list (sequence_header_bytes 16 ++ picture_header_bytes)) refl
 
 -- ---- a unit of one macroblock, whole
-
-abbrev gray : Macroblock
-gray = record {
-  skipped_before = 0;
-  kind = intra_kind;
-  motion_type = 2;
-  field_dct = false;
-  code = None;
-  forward = record { items = [] };
-  backward = record { items = [] };
-  pattern = 0;
-  blocks = replicate 6 flat;
-}
 
 abbrev head_bytes : ℕ → List ℕ
 head_bytes height = sequence_header_bytes height ++ sequence_extension_bytes ++ picture_header_bytes ++ coding_extension_bytes

@@ -149,7 +149,7 @@ local-each (i ∷ is) grammar local =
     local-bind (grammar i) (λ value. each is grammar >>= λ values. done (value ∷ values)) (local i)
     (λ value. local-bind (each is grammar) (λ values. done (value ∷ values)) (local-each is grammar local) (λ values. local-done (value ∷ values)))
 
-local-address : (most : ℕ) → IsLocal (address_increment most)
+pub local-address : (most : ℕ) → IsLocal (address_increment most)
 local-address most = local-bind _ _ (local-many (address_code most) (λ escapes. local-bind _ _ (local-element _ _ _) (λ symbol. local-done _))) (λ codes. local-done _)
 
 local-part : (f_code : ℕ) (dual : Bool) → IsLocal (vector_part f_code dual)

@@ -77,7 +77,7 @@ short_b = refl
 pub short_types : (coding : PicCoding) → list_all (is_short_entry 5 (λ _. 1)) (entries (type_table coding)) ≡ true
 short_types coding = by_type (λ t. list_all (is_short_entry 5 (λ _. 1)) (entries t) ≡ true) coding (λ _. short_i) (λ _. short_p) (λ _ _. short_b)
 
-or_cases : (a b : Bool) → (a || b) ≡ true → (a ≡ true) ⊎ (b ≡ true)
+pub or_cases : (a b : Bool) → (a || b) ≡ true → (a ≡ true) ⊎ (b ≡ true)
 or_cases true b e = inl refl
 or_cases false b e = inr e
 

@@ -8,7 +8,8 @@ use Rattle.picture_grammar.specs.Refusal.{Refusal}
 use Rattle.picture_grammar.specs.Grammar.{Grammar, done, ◌>>=◌, optional, when, repeated, each, many, SpellsList, Next}
 use Rattle.picture_grammar.specs.Grammar.Next.{more, last}
 use Rattle.picture_grammar.specs.Element.{Rule, passes, element, vlclbf, uimsbf, flag_where}
-use Rattle.picture_grammar.specs.Written.{code_for, if_any}
+use Rattle.picture_grammar.specs.Written.{if_any}
+use Rattle.prefix_codes.specs.TableName.{code_for}
 use Rattle.picture_laws.specs.Spellable.{IsSpellable}
 
 -- the bits spell the value, whatever follows

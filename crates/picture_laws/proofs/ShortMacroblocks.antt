@@ -95,7 +95,7 @@ use Rattle.picture_laws.proofs.ZeroRuns.{
   short-vlclbf,
 }
 use Rattle.picture_laws.proofs.ShortBlocks.{some-number, short-block}
-use Rattle.picture_laws.proofs.MacroblockKinds.{HasKind, kind-of, short_types}
+use Rattle.picture_laws.proofs.MacroblockKinds.{HasKind, kind-of, short_types, or_cases}
 
 -- ---- elements
 
@@ -217,12 +217,8 @@ short-blocks coding kind pattern from le few none = by_flags kind.intra kind.pat
 
 -- ---- the whole macroblock
 
-or_true : (a b : Bool) → (a || b) ≡ true → (a ≡ true) ⊎ (b ≡ true)
-or_true true b e = inl refl
-or_true false b e = inr e
-
 forward_codes : (coding : PicCoding) (kind : Kind) → IsCoding coding → HasKind coding kind → has_forward coding kind ≡ true → AllByRecursion IsFCode (f_codes coding 0)
-forward_codes coding kind is has stands = is.forward (elim (or_true kind.forward (has_concealment coding kind) stands) [
+forward_codes coding kind is has stands = is.forward (elim (or_cases kind.forward (has_concealment coding kind) stands) [
   | inl forward ↦ inl (has.forward forward)
   | inr conceals ↦ inr (and_parts kind.intra coding.concealment conceals).1
 ])

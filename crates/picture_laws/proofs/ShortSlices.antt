@@ -136,7 +136,7 @@ zeros_before-more : (n : ℕ) (bits : List ℕ) → n ≤ zeros_before (replicat
 zeros_before-more zero bits = omega arith
 zeros_before-more (suc n) bits = omega (arith, zeros_before-more n bits)
 
-zeros_before-all : (n : ℕ) → zeros_before (replicate n 0) ≡ n
+pub zeros_before-all : (n : ℕ) → zeros_before (replicate n 0) ≡ n
 zeros_before-all zero = refl
 zeros_before-all (suc n) = ap suc (zeros_before-all n)
 
@@ -158,7 +158,7 @@ none_soon k end after rest closes is split lt =
       )
     ]
 
-no_run : (before after : List ℕ) → AreShort 0 (before ++ start_code_prefix ++ after) → ⊥
+pub no_run : (before after : List ℕ) → AreShort 0 (before ++ start_code_prefix ++ after) → ⊥
 no_run before after short =
     let bits = subst (AreShort 0) (append_assoc before start_code_prefix after) short in
     let run : AreShort (zeros_behind 0 before) (replicate 23 0 ++ 1 ∷ after) =

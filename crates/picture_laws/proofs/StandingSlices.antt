@@ -45,7 +45,8 @@ use Rattle.stream_constants.specs.declared.start_codes.TheConstants.{SEQUENCE_EN
 use Rattle.picture_grammar.specs.Refusal.Refusal.{BadHeader}
 use Rattle.picture_grammar.specs.Grammar.{optional, SpellsList}
 use Rattle.picture_grammar.specs.Grammar.Next.{more, last}
-use Rattle.picture_grammar.specs.StartCode.{start_code_prefix, start_code_bits, only_zero_bytes, is_slice}
+use Rattle.picture_grammar.specs.StartCode.{start_code_prefix, start_code_bits, only_zero_bytes}
+use Rattle.stream_constants.specs.SliceCodes.{is_slice}
 use Rattle.picture_grammar.specs.Slice.{slice}
 use Rattle.picture_grammar.specs.Picture.{whole_slice, slice_or_end, next_slice, picture_unit, IsCoding, SpellsPicture}
 use Rattle.picture_grammar.proofs.MacroblockLaws.{exact-slice}

@@ -33,7 +33,8 @@ use Rattle.std.proofs.Common.{
 use Rattle.std.proofs.lemmas.Bool.{and_parts, eqb-true}
 use Rattle.std.proofs.lemmas.List.{length-replicate, replicate-append-replicate}
 use Rattle.bit_lists.specs.Bits.{IsPrefix, bits_of}
-use Rattle.bit_lists.proofs.JoinedLemmas.{bits_of-zero}
+use Rattle.bit_lists.specs.Fields.{bit_list}
+use Rattle.bit_lists.proofs.JoinedLemmas.{bits_of-put, bits_of-zero}
 use Rattle.bit_lists.proofs.PrefixLemmas.{IsPrefix-append}
 use Rattle.picture_grammar.specs.Refusal.{Refusal}
 use Rattle.picture_grammar.specs.Grammar.{Grammar, done, ◌>>=◌, if_next, SpellsList, Next}
@@ -52,6 +53,15 @@ zeros_before (suc n ∷ bits) = 0
 pub zeros_before-one : (n : ℕ) (bits : List ℕ) → zeros_before (replicate n 0 ++ 1 ∷ bits) ≡ n
 zeros_before-one zero bits = refl
 zeros_before-one (suc n) bits = ap suc (zeros_before-one n bits)
+
+-- three bytes are the prefix's bits
+pub prefix_bits : bit_list (0 ∷ 0 ∷ 1 ∷ []) ≡ start_code_prefix
+unfolding bits_of
+prefix_bits = refl
+
+-- a start code as a number of 32 bits
+pub code_bits : (byte n : ℕ) → byte < 2 ^ 8 → n ≡ byte → bits_of 32 (256 + n) ≡ start_code_bits byte
+code_bits byte n small is = ap (λ (k : ℕ). bits_of 32 (256 + k)) is ∙ bits_of-put 24 8 1 byte small
 
 -- a start code behind zeros begins with as many zeros and 23
 pub opened : (n byte : ℕ) (rest : List ℕ) → replicate n 0 ++ (start_code_bits byte ++ rest) ≡ replicate (n + 23) 0 ++ 1 ∷ (bits_of 8 byte ++ rest)
@@ -98,7 +108,7 @@ end-zeros (suc n) (x ∷ front) end e = end-zeros n front end (let e' : 0 ∷ re
 abbrev zero_item : Refusal → List ℕ → Grammar (Next ℕ (Unit {0}))
 zero_item refusal before = if_next (IsPrefix start_code_prefix) (done (last tt)) (zero_byte refusal >>= λ byte. done (more byte))
 
-more_zeros : (n : ℕ) → replicate {A = ℕ} (8 * suc n) 0 ≡ replicate 8 0 ++ replicate (8 * n) 0
+pub more_zeros : (n : ℕ) → replicate {A = ℕ} (8 * suc n) 0 ≡ replicate 8 0 ++ replicate (8 * n) 0
 more_zeros n = ap (λ (k : ℕ). replicate {A = ℕ} k 0) (let e : 8 * suc n ≡ 8 + 8 * n = omega arith in e) ∙ sym (replicate-append-replicate 8 (8 * n) 0)
 
 zeros-taken : (refusal : Refusal) (before values : List ℕ) (bits rest : List ℕ) → SpellsList (zero_item refusal) before values tt bits rest → bits ≡ replicate (8 * length values) 0 ++ rest

@@ -131,7 +131,7 @@ steady-comes {is_last} {A} refusal codes next absent none each = record { moved 
 
 -- ---- bits that nobody reads
 
-abbrev unread_item : List ℕ → Grammar (Next ℕ (Unit {0}))
+abbrev pub unread_item : List ℕ → Grammar (Next ℕ (Unit {0}))
 unread_item before = if_next (IsPrefix start_code_prefix) (done (last tt)) (one_item_more (uimsbf 8 []))
 
 unread_steady : (is_last : ℕ → Bool) (before values bits rest : List ℕ) → SpellsList unread_item before values tt bits rest

@@ -6,7 +6,8 @@ use Rattle.syntax_types.specs.declared.picture.SeqState.{SeqState}
 use Rattle.stream_constants.specs.declared.start_codes.TheConstants.{USER_DATA, SEQUENCE_HEADER, EXTENSION, GROUP}
 use Rattle.picture_grammar.specs.Refusal.Refusal.{BadHeader}
 use Rattle.picture_grammar.specs.Grammar.{◌>>◌, many}
-use Rattle.picture_grammar.specs.StartCode.{start_code, is_slice}
+use Rattle.picture_grammar.specs.StartCode.{start_code}
+use Rattle.stream_constants.specs.SliceCodes.{is_slice}
 use Rattle.picture_grammar.specs.Headers.{Loaded}
 use Rattle.picture_grammar.specs.Head.{extension, extension_or_user_data, user_data_only, sequence_headers, sequence_part, group_part, picture_part, head}
 use Rattle.picture_grammar.proofs.LocalLaws.{local-element}

@@ -12,7 +12,8 @@ use Rattle.picture_grammar.specs.Refusal.Refusal.{BadHeader}
 use Rattle.picture_grammar.specs.Grammar.{Grammar, done, ◌>>=◌, ◌>>◌, optional, when, if_next, Next, one_item_more}
 use Rattle.picture_grammar.specs.Grammar.Next.{more, last}
 use Rattle.picture_grammar.specs.Element.{uimsbf}
-use Rattle.picture_grammar.specs.StartCode.{start_code_prefix, zero_byte, start_code, StartCodeComes, is_slice}
+use Rattle.picture_grammar.specs.StartCode.{start_code_prefix, zero_byte, start_code, StartCodeComes}
+use Rattle.stream_constants.specs.SliceCodes.{is_slice}
 use Rattle.picture_grammar.specs.Headers.{Loaded}
 use Rattle.picture_grammar.specs.Head.{no_matrix, unread, extension, extension_or_user_data}
 use Rattle.picture_grammar.specs.Picture.{whole_slice, later_slice, next_slice}

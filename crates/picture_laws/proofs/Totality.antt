@@ -49,7 +49,8 @@ use Rattle.picture_grammar.specs.Refusal.{Refusal}
 use Rattle.picture_grammar.specs.Refusal.Refusal.{BadHeader, Uncovered}
 use Rattle.picture_grammar.specs.Grammar.{Grammar, done, ◌>>=◌, ◌>>◌, optional, if_next, SpellsList, Next}
 use Rattle.picture_grammar.specs.Grammar.Next.{more, last}
-use Rattle.picture_grammar.specs.StartCode.{start_code_prefix, start_code, zero_byte, only_zero_bytes, is_slice}
+use Rattle.picture_grammar.specs.StartCode.{start_code_prefix, start_code, zero_byte, only_zero_bytes}
+use Rattle.stream_constants.specs.SliceCodes.{is_slice}
 use Rattle.picture_grammar.specs.Picture.{later_slice, slice_or_end, next_slice, whole_slice, picture_unit, rows, addresses, IsCovered, SpellsPicture, RefusesPicture}
 use Rattle.picture_grammar.specs.Slice.{columns}
 use Rattle.picture_grammar.proofs.HeaderLaws.{exact-picture_unit}
@@ -62,7 +63,7 @@ use Rattle.picture_laws.proofs.DecidedUnits.{unit_answer, right-unit}
 -- ---- what spells a unit leaves nothing
 
 -- one more zero byte, or the end of the bits
-abbrev next_zero : List ℕ → Grammar (Next ℕ (Unit {0}))
+abbrev pub next_zero : List ℕ → Grammar (Next ℕ (Unit {0}))
 next_zero before = if_next (λ bits. bits ≡ []) (done (last tt))
     (if_next (IsPrefix start_code_prefix) (start_code BadHeader (λ _. false) >> done (last tt)) (zero_byte BadHeader >>= λ byte. done (more byte)))
 

@@ -48,7 +48,7 @@ use Rattle.prefix_codes.specs.declared.symbol.TheConstants.{ADDRESS_ESCAPE, ESCA
 use Rattle.prefix_codes.specs.declared.table_name.TableName.{TableName}
 use Rattle.prefix_codes.specs.declared.table_name.TableName.TheVariants.{Address, TypeI, TypeP, TypeB, Pattern, Motion, DcLuma, DcChroma, CoeffZero, CoeffFirst, CoeffOne}
 use Rattle.prefix_codes.specs.Entry.{Entry}
-use Rattle.prefix_codes.specs.TableName.{entries, code_in, coefficient_code}
+use Rattle.prefix_codes.specs.TableName.{entries, code_in, coefficient_code, code_for}
 use Rattle.prefix_codes.proofs.Computing.{tables}
 use Rattle.prefix_codes.proofs.TableLemmas.{code_in-passes}
 use Rattle.syntax_types.specs.declared.block.Block.{Block}
@@ -67,27 +67,7 @@ use Rattle.picture_grammar.specs.StartCode.{start_code_prefix, start_code_bits}
 use Rattle.picture_grammar.specs.Block.{dc_table, coefficient_table, first_place}
 use Rattle.picture_grammar.specs.Motion.{has_residual, dmvector_code}
 use Rattle.picture_grammar.specs.Macroblock.{type_table, type_symbol, has_motion_type, has_dct_type, has_concealment, f_codes, is_coded, block_way, no_block}
-use Rattle.picture_grammar.specs.Written.{
-  code_for,
-  if_any,
-  written_dc,
-  level_bits,
-  written_escape,
-  written_coefficient,
-  written_coefficients,
-  written_block,
-  written_increment,
-  written_part,
-  written_vector_part,
-  written_vector,
-  written_coded_block,
-  written_macroblock,
-  written_slice_info,
-  written_slice,
-  to_whole_bytes,
-  written_picture,
-  IsWritten,
-}
+use Rattle.picture_grammar.specs.Written.{if_any, written_dc, level_bits, written_escape, written_coefficient, written_coefficients, written_block, written_increment, written_part, written_vector_part, written_vector, written_coded_block, written_macroblock, written_slice_info, written_slice, to_whole_bytes, written_picture, IsWritten}
 use Rattle.picture_grammar.proofs.Codes.{coefficient_code-listed}
 use Rattle.picture_laws.proofs.WholeBytes.{bytes_of, bytes_of-right}
 

@@ -64,7 +64,8 @@ use Rattle.picture_grammar.specs.Macroblock.{
   blocks,
   macroblock,
 }
-use Rattle.picture_grammar.specs.Written.{code_for, if_any, written_increment, written_vector, written_coded_block, written_block, written_macroblock}
+use Rattle.picture_grammar.specs.Written.{if_any, written_increment, written_vector, written_coded_block, written_block, written_macroblock}
+use Rattle.prefix_codes.specs.TableName.{code_for}
 use Rattle.picture_grammar.proofs.WrittenBlock.{block_written, code_for-listed}
 use Rattle.picture_laws.specs.Spellable.{IsSpellable, HasSpellableParts}
 use Rattle.picture_laws.proofs.ReadBack.{

@@ -50,7 +50,7 @@ use Rattle.bit_lists.specs.Fields.{flag}
 use Rattle.prefix_codes.specs.declared.symbol.TheConstants.{ADDRESS_ESCAPE}
 use Rattle.prefix_codes.specs.declared.table_name.TableName.TheVariants.{Address, Motion}
 use Rattle.prefix_codes.specs.Entry.{Entry}
-use Rattle.prefix_codes.specs.TableName.{entries, code_in}
+use Rattle.prefix_codes.specs.TableName.{entries, code_in, code_for}
 use Rattle.prefix_codes.proofs.Computing.{tables}
 use Rattle.prefix_codes.proofs.TableLemmas.{code_in-passes}
 use Rattle.syntax_types.specs.declared.macroblock.Vector.{Vector}
@@ -61,7 +61,7 @@ use Rattle.picture_grammar.specs.Element.{vlclbf, uimsbf, one_flag, rule}
 use Rattle.picture_grammar.specs.Block.{signed}
 use Rattle.picture_grammar.specs.Motion.{MotionFormat, Part, dmvector, dmvector_code, has_residual, vector_part, motion_vector, motion_vectors}
 use Rattle.picture_grammar.specs.Macroblock.{escape_increment, address_code, address_increment}
-use Rattle.picture_grammar.specs.Written.{code_for, if_any, written_increment, written_part, written_vector}
+use Rattle.picture_grammar.specs.Written.{if_any, written_increment, written_part, written_vector}
 use Rattle.picture_grammar.proofs.WrittenBlock.{unsigned_abs-signed}
 use Rattle.picture_laws.specs.Spellable.{IsSpellable}
 use Rattle.picture_laws.proofs.ReadBack.{

@@ -56,7 +56,8 @@ use Rattle.stream_constants.specs.declared.start_codes.TheConstants.{SEQUENCE_EN
 use Rattle.picture_grammar.specs.Refusal.Refusal.{BadHeader}
 use Rattle.picture_grammar.specs.Grammar.{optional, SpellsList}
 use Rattle.picture_grammar.specs.Grammar.Next.{more, last}
-use Rattle.picture_grammar.specs.StartCode.{start_code_prefix, start_code_bits, zero_bits, only_zero_bytes, is_slice}
+use Rattle.picture_grammar.specs.StartCode.{start_code_prefix, start_code_bits, zero_bits, only_zero_bytes}
+use Rattle.stream_constants.specs.SliceCodes.{is_slice}
 use Rattle.picture_grammar.specs.Slice.{ClosesSlice, slice}
 use Rattle.picture_grammar.specs.Head.{head}
 use Rattle.picture_grammar.specs.Picture.{whole_slice, slice_or_end, next_slice, picture_unit, SpellsPicture}
@@ -67,6 +68,7 @@ use Rattle.picture_laws.proofs.StartCodes.{zeros_before, opened, opened-zeros, c
 use Rattle.picture_laws.proofs.Tails.{IsNewTail}
 use Rattle.picture_laws.proofs.SteadyHead.{head-moved}
 use Rattle.picture_laws.proofs.WrittenSlice.{slice-written, macroblocks-of_slice}
+use Rattle.picture_laws.proofs.ShortSlices.{zeros_before-all}
 
 -- ---- what follows a slice
 
@@ -75,11 +77,7 @@ record Follows (bits : List ℕ) : Type 0 where
   whole : length bits % 8 ≡ 0
   none_or_code : (bits ≡ []) ⊎ ((byte : ℕ) × (rest : List ℕ) × (bits ≡ start_code_bits byte ++ rest))
 
-zeros_before-all : (n : ℕ) → zeros_before (replicate n 0) ≡ n
-zeros_before-all zero = refl
-zeros_before-all (suc n) = ap suc (zeros_before-all n)
-
-length-start_code : (byte : ℕ) → length (start_code_bits byte) ≡ 32
+pub length-start_code : (byte : ℕ) → length (start_code_bits byte) ≡ 32
 length-start_code byte = length-append start_code_prefix (bits_of 8 byte) ∙ ap₂ (λ (a b : ℕ). a + b) (length-bits_of 24 1) (length-bits_of 8 byte)
 
 closes : (n : ℕ) (bits : List ℕ) → Follows bits → ClosesSlice (replicate n 0 ++ bits)

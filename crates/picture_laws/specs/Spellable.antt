@@ -36,7 +36,7 @@ use Rattle.picture_grammar.specs.Macroblock.{
   blocks,
 }
 use Rattle.picture_grammar.specs.Slice.{slice_info, columns_left}
-use Rattle.picture_grammar.specs.StartCode.{is_slice}
+use Rattle.stream_constants.specs.SliceCodes.{is_slice}
 use Rattle.picture_grammar.specs.Head.{head}
 
 -- some bits spell the value

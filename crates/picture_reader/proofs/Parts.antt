@@ -53,7 +53,8 @@ use Rattle.picture_grammar.specs.Refusal.{Refusal}
 use Rattle.picture_grammar.specs.Refusal.Refusal.{BadHeader, End}
 use Rattle.picture_grammar.specs.Grammar.{optional}
 use Rattle.picture_grammar.specs.Grammar.Next.{last}
-use Rattle.picture_grammar.specs.StartCode.{start_code_bits, start_code, only_zero_bytes, is_slice}
+use Rattle.picture_grammar.specs.StartCode.{start_code_bits, start_code, only_zero_bytes}
+use Rattle.stream_constants.specs.SliceCodes.{is_slice}
 use Rattle.picture_grammar.specs.Picture.{whole_slice, next_slice}
 use Rattle.picture_laws.proofs.StartCodes.{code-made}
 use Rattle.picture_laws.proofs.WrittenPicture.{code_other}

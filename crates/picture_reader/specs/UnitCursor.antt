@@ -11,7 +11,7 @@ use Rattle.picture_grammar.specs.Grammar.Next.{more}
 use Rattle.picture_grammar.specs.Head.{head}
 use Rattle.picture_grammar.specs.Picture.{next_slice, whole_slice}
 use Rattle.picture_grammar.specs.Slice.{slice}
-use Rattle.picture_grammar.specs.StartCode.{is_slice}
+use Rattle.stream_constants.specs.SliceCodes.{is_slice}
 use Rattle.grammar_reading.specs.Several.{SpellsFront}
 use Rattle.video_headers.specs.declared.head.Headers.{Headers}
 use Rattle.picture_reader.specs.declared.coverage.Span.{Span}

@@ -3,14 +3,11 @@ ghost use Rattle.std.specs.Prelude.{◌≡◌, ◌↔◌, ◌+◌, ◌*◌, ◌^
 ghost use Rattle.std.specs.List.{flat_map, range_with_len};
 ghost use Rattle.syntax_types.specs.declared.slice.Slice.{Slice};
 ghost use Rattle.syntax_types.specs.declared.picture.SeqState.{SeqState};
-ghost use Rattle.picture_grammar.specs.Picture.{addresses, rows as rows_of};
+ghost use Rattle.picture_grammar.specs.Picture.{addresses};
 ghost use Rattle.picture_grammar.specs.Slice.{columns as columns_of};
 ghost use Rattle.picture_reader.specs.Coverage.{Covers, IsSpan};
 ghost use Rattle.picture_reader.specs.Coverage.{IsSpanSoFar};
 ghost use Rattle.syntax_types.specs.declared.macroblock.Macroblock.{Macroblock};
-
-use picture_grammar::limits::MACROBLOCK_SIZE;
-use syntax_types::{FRAME_PICTURE, PicCoding, SeqState};
 
 /// The columns of its row that a slice holds, from the first one to behind the last one.
 #[derive(Clone, Copy)]
@@ -105,31 +102,4 @@ fn row_start(row: u8, columns: usize) -> usize
     ensures few { result ≤ 2 ^ 20 }
 {
     usize::from(row) * columns
-}
-
-/// mb_width (6.3.3).
-pub fn columns(seq: &SeqState) -> usize
-    ensures value { result ≡ columns_of seq.now }
-    ensures few { result ≤ 4096 }
-{
-    let size = usize::from(MACROBLOCK_SIZE);
-    (usize::from(seq.width) + (size - 1)) / size
-}
-
-/// mb_height (6.3.3).
-pub fn rows(seq: &SeqState, coding: &PicCoding) -> usize
-    ensures value { result ≡ rows_of seq.now coding.now }
-    ensures few { result ≤ 4098 }
-{
-    let height = usize::from(seq.height);
-    let size = usize::from(MACROBLOCK_SIZE);
-    let field = (height + (2 * size - 1)) / (2 * size);
-    if coding.structure != FRAME_PICTURE {
-        return field;
-    }
-    if seq.progressive {
-        (height + (size - 1)) / size
-    } else {
-        2 * field
-    }
 }

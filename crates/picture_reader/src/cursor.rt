@@ -8,11 +8,12 @@ ghost use Rattle.picture_reader.specs.Picture.{IsRefusedAs};
 ghost use Rattle.picture_reader.specs.Told.{IsInside, RefusesTold};
 ghost use Rattle.picture_reader.specs.UnitCursor.{IsNextPart, SliceBegins, SliceStands, StandsBehindSlices, bits_from};
 
-use crate::coverage::{Coverage, Span, columns, rows};
+use crate::coverage::{Coverage, Span};
 use crate::fault::{PictureFault, fault_of_slice};
 use crate::head::head_of;
 use crate::part::{Part, bit_place, next_part};
 use macroblock_reader::SliceFault;
+use picture_grammar::grid::{columns, rows};
 use stream_constants::start_codes::FIRST_SLICE;
 use syntax_types::SeqState;
 use video_headers::Headers;

@@ -16,7 +16,7 @@ mod picture;
 mod slice;
 mod unit;
 
-pub use coverage::{Span, columns};
+pub use coverage::Span;
 pub use cursor::{UnitCursor, UnitPart};
 pub use fault::PictureFault;
 pub use picture::{check_picture, read_picture};

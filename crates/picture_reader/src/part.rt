@@ -3,7 +3,8 @@ ghost use Rattle.std.specs.Prelude.{◌≡◌, ◌≤◌, ◌<◌, ◌+◌, ◌*
 ghost use Rattle.syntax_types.specs.declared.picture.PicCoding.{PicCoding};
 ghost use Rattle.syntax_types.specs.declared.picture.SeqState.{SeqState};
 ghost use Rattle.syntax_types.specs.declared.slice.Slice.{Slice};
-ghost use Rattle.picture_grammar.specs.StartCode.{only_zero_bytes, is_slice as is_slice_of};
+ghost use Rattle.picture_grammar.specs.StartCode.{only_zero_bytes};
+ghost use Rattle.stream_constants.specs.SliceCodes.{is_slice as is_slice_of};
 ghost use Rattle.picture_grammar.specs.Picture.{next_slice};
 ghost use Rattle.picture_reader.specs.PictureFault.{refusal_told};
 ghost use Rattle.picture_reader.specs.Private.Parts.{IsSeen, IsSeenWithin, IsWithin, PartRead, ZerosTo};

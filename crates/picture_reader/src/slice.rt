@@ -13,11 +13,12 @@ ghost use Rattle.picture_reader.specs.Private.Reading.{AllRead, SliceRead};
 ghost use Rattle.picture_reader.specs.Told.{RefusesTold};
 ghost use Rattle.picture_reader.specs.Private.Reading.{HasLeft};
 
-use crate::coverage::{Span, columns};
+use crate::coverage::Span;
 use crate::keep::Keep;
 use bit_cursor::BitReader;
 use list_types::{ListOf, OutOfMemory};
 use macroblock_reader::{SliceCursor, SliceFault, read_slice_head};
+use picture_grammar::grid::columns;
 use shelf_io::{Fault, SliceSource, Source};
 use std::alloc::Global;
 use std::mem;

@@ -8,10 +8,7 @@ use Rattle.prefix_codes.specs.Entry.{printed_bits}
 use Rattle.picture_grammar.specs.Written.{written_macroblock, written_slice, written_picture}
 use Rattle.picture_laws.proofs.Computing.{answers}
 use Rattle.picture_laws.proofs.ExampleValues.{coded, moved, small, still}
-
--- forward prediction with a vector of codes 0, so many macroblocks skipped before it
-abbrev forward : ℕ → Macroblock
-forward skipped = moved skipped 2 (still None None ∷ [])
+use Rattle.picture_laws.proofs.ExampleSlices.{forward}
 
 abbrev whole : Slice
 whole = record { row = 0; code = 2; info = None; macroblocks = forward 0 ∷ forward 0 ∷ forward 0 ∷ [] }

@@ -46,12 +46,7 @@ use Rattle.bit_cursor.specs.declared.bit_writer.BitWriter.{BitWriter}
 use Rattle.bit_cursor.specs.BitWriter.{AddsBits, GetsFront, Writes, told_by, waiting_in, sink_of}
 use Rattle.bit_cursor.proofs.Composed.{gets_then_front}
 use Rattle.picture_writer.specs.WrittenPicture.{AddsFront}
-
-rose_behind : (a b c : ℕ) → a ≤ b → b ≤ c → Rose b c → Rose a c
-rose_behind a b c first then rose small = elim (cases_lt b (2 ^ 64 - 1)) [
-  | inl below ↦ let more : b < c = rose below in omega arith
-  | inr full ↦ omega arith
-]
+use Rattle.shelf_io.proofs.Counted.{rose_later}
 
 -- ---- the exit of a `?`
 
@@ -78,7 +73,7 @@ same_causes e q (Err f) was is causes = record {
 
 pub causes_behind : {K : Type 0} {faults : K → ℕ} {F G M N : Type 0} {first mid last : K} → SinkCauses faults F M first mid → SinkCauses faults G N mid last → SinkCauses faults G N first last
 causes_behind {faults} {first} {mid} {last} a b = record {
-  failed_rose = λ failed. rose_behind (faults first) (faults mid) (faults last) a.faults_grow b.faults_grow (b.failed_rose failed);
+  failed_rose = λ failed. rose_later (faults first) (faults mid) (faults last) a.faults_grow b.faults_grow (b.failed_rose failed);
   never_missing = b.never_missing;
   faults_grow = omega (arith, a.faults_grow, b.faults_grow);
 }
@@ -107,7 +102,7 @@ module _ {K : Type 0} {written : K → Told} {faults : K → ℕ} {keeps : K →
       → Writes written faults keeps a b (Ok x) bits
       → (IsErrOf r Failed → Rose (faults (sink_of b).now) (faults out)) → r ≢ Err Missing → faults (sink_of b).now ≤ faults out → SinkCauses faults (IsErrOf r Failed) (IsErrOf r Missing) first last
   finish_causes {a} {b} r first out is back call failed never counts = rw (back, ← is) (record {
-    failed_rose = λ e. rose_behind (faults (sink_of a).now) (faults (sink_of b).now) (faults out) call.counts counts (failed e);
+    failed_rose = λ e. rose_later (faults (sink_of a).now) (faults (sink_of b).now) (faults out) call.counts counts (failed e);
     never_missing = never;
     faults_grow = omega (arith, call.counts, counts);
   })

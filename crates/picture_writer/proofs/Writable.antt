@@ -10,7 +10,7 @@ use Rattle.syntax_types.specs.declared.slice.Slice.{Slice}
 use Rattle.stream_constants.specs.declared.start_codes.TheConstants.{FIRST_SLICE}
 use Rattle.picture_grammar.specs.Picture.{IsCoding, IsLawful}
 use Rattle.picture_grammar.specs.Slice.{slice}
-use Rattle.picture_grammar.specs.StartCode.{is_slice}
+use Rattle.stream_constants.specs.SliceCodes.{is_slice}
 use Rattle.picture_grammar.specs.Written.{written_slice}
 use Rattle.picture_laws.specs.Spellable.{HasSpellableMacroblocks, HasSpellableSlices}
 use Rattle.picture_laws.proofs.Codings.{coding-of_unit}

@@ -1,5 +1,5 @@
 -- The code tables by name (ISO/IEC 13818-2, Annex B).
-use Rattle.std.specs.Prelude.{◌≡◌, ℕ, Bool, true, false, ◌&&◌, nat_eq, nat_lt, Option, Some, None, List, length, if◌then◌else◌}
+use Rattle.std.specs.Prelude.{◌≡◌, ℕ, Bool, true, false, ◌&&◌, nat_eq, nat_lt, Option, Some, None, unwrap_or, List, [], length, if◌then◌else◌}
 use Rattle.std.specs.Map.{lookup}
 use Rattle.prefix_codes.specs.declared.symbol.TheConstants.{LEVELS_PER_RUN, RUNS}
 use Rattle.prefix_codes.specs.declared.table_name.TableName.{TableName}
@@ -32,6 +32,20 @@ entries CoeffZero = dct_coefficients_zero
 entries CoeffFirst = dct_coefficients_first
 entries CoeffOne = dct_coefficients_one
 
+-- the tables of sizes of DC coefficients, B-12 and B-13
+abbrev pub is_sizes : TableName → Bool
+is_sizes Address = false
+is_sizes TypeI = false
+is_sizes TypeP = false
+is_sizes TypeB = false
+is_sizes Pattern = false
+is_sizes Motion = false
+is_sizes DcLuma = true
+is_sizes DcChroma = true
+is_sizes CoeffZero = false
+is_sizes CoeffFirst = false
+is_sizes CoeffOne = false
+
 -- the tables of coefficients, B-14 and B-15
 abbrev pub is_coefficients : TableName → Bool
 is_coefficients Address = false
@@ -49,6 +63,10 @@ is_coefficients CoeffOne = true
 -- the code of a symbol, if the table has one
 unfoldable pub code_in : TableName → ℕ → Option (List ℕ)
 code_in table symbol = lookup (nat_eq symbol) (entries table)
+
+-- the code of a symbol that the table has
+abbrev pub code_for : TableName → ℕ → List ℕ
+code_for table symbol = unwrap_or (code_in table symbol) []
 
 -- the code of a run and the size of a level, if the table has one: past these limits the sum would be another symbol
 unfoldable pub coefficient_code : TableName → ℕ → ℕ → Option (List ℕ)

@@ -1,6 +1,6 @@
-ghost use Rattle.std.specs.Prelude.{◌≡◌, ◌-◌, ◌/◌, ◌%◌, ◌<◌, ◌≤◌, ◌^◌, ◌↔◌, ℕ, IfSome, IfNone, IsTrue, slice_index};
+ghost use Rattle.std.specs.Prelude.{◌≡◌, ◌-◌, ◌/◌, ◌%◌, ◌<◌, ◌≤◌, ◌^◌, ◌↔◌, ℕ, IfSome, IfNone, IsTrue, length as count, slice_index};
 ghost use Rattle.bit_lists.specs.Bits.{bits_of, front_of};
-ghost use Rattle.prefix_codes.specs.TableName.{code_in, coefficient_code as code_of_coefficient, is_coefficients, Begins};
+ghost use Rattle.prefix_codes.specs.TableName.{code_for, code_in, coefficient_code as code_of_coefficient, is_coefficients, Begins};
 ghost use Rattle.prefix_codes.specs.Private.Words.{number_in, length_in};
 ghost use Rattle.prefix_codes.specs.Private.Levels.{first_of, Answers};
 ghost use Rattle.prefix_codes.specs.Private.Codes.{coefficient_place as place_of_coefficient, place_of as place_of_symbol, code_word, run_place as first_place};
@@ -81,6 +81,18 @@ pub fn code_of(table: TableName, symbol: u16) -> Option<Code>
     ensures none { IfNone result (code_in table symbol ≡ None) }
 {
     in_word(word_of(table, place_of(table, symbol)))
+}
+
+/// The bits of the code of a symbol, none where the table lacks it.
+#[inline]
+pub fn code_bits(table: TableName, symbol: u16) -> u32
+    ensures value { result ≡ count (code_for table symbol) }
+    ensures few { result ≤ 24 }
+{
+    match code_of(table, symbol) {
+        Some(code) => u32::from(code.len),
+        None => 0,
+    }
 }
 
 /// The code of a run and the size of a level without its sign bit, by a table of coefficients. None where the table lacks

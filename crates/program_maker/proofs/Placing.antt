@@ -46,6 +46,7 @@ use Rattle.program_maker.specs.Pictures.{AreWritten}
 use Rattle.program_maker.specs.Program.{is_behind, frames_behind, frame_packets, packets_at}
 use Rattle.program_maker.specs.Streams.{drawn_frame, drawn_frames, frame_pes, picture_pes}
 use Rattle.program_maker.specs.Private.Program.{frames_state, frames_packets, first_frame}
+use Rattle.list_types.proofs.Lists.{range-last}
 
 -- ---- lists over numbers, one number more
 
@@ -63,10 +64,6 @@ flat-same f g a zero same = refl
 flat-same f g a (suc n) same =
     ap (λ xs. xs ++ flat_map f (range_with_len (a + 1) n)) (same a (omega arith) (omega arith))
     ∙ ap (λ xs. g a ++ xs) (flat-same f g (a + 1) n (λ j least most. same j (omega (arith, least)) (omega (arith, most))))
-
-range-last : (a n : ℕ) → range_with_len a (suc n) ≡ range_with_len a n ++ (a + n) ∷ []
-range-last a zero = ap (λ x. x ∷ []) (let e : a ≡ a + 0 = omega arith in e)
-range-last a (suc n) = ap (λ (xs : List ℕ). a ∷ xs) (range-last (a + 1) n ∙ ap (λ x. range_with_len (a + 1) n ++ x ∷ []) (let e : a + 1 + n ≡ a + suc n = omega arith in e))
 
 -- ---- the numbers within bounds
 

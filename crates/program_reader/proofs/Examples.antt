@@ -16,6 +16,7 @@ use Rattle.program_reader.specs.Units.{role_behind, frame_period, share_of, IsTi
 use Rattle.program_reader.specs.Packets.{taken, packets_dropped}
 use Rattle.program_reader.specs.PictureTimes.{begins_picture}
 use Rattle.program_reader.specs.Audio.{IsDue, payload_place, piece_places, piece_size}
+use Rattle.pes_units.proofs.WorkedExamples.{only_pts_bytes}
 
 -- ---- decoding times 2^33 - 3,600 and 0: the second is one frame period later, and due 1,080,000 ticks later
 
@@ -70,14 +71,11 @@ last_unpaired es packets before unit seq coding coded role frame = IsUnitRefused
 
 -- ---- the last PES packet of a stream: 14 bytes of a video header with a PTS, and no length stated
 
-abbrev cut_video : List ℕ
-cut_video = 0x00 ∷ 0x00 ∷ 0x01 ∷ 0xE0 ∷ 0x00 ∷ 0x00 ∷ 0x80 ∷ 0x80 ∷ 0x05 ∷ 0x21 ∷ 0x00 ∷ 0x05 ∷ 0xBF ∷ 0x21 ∷ []
-
 abbrev unit_of : List ℕ → List PesUnit
 unit_of bytes = record { at = 0; bytes = bytes } ∷ []
 
 -- with its header whole it is taken, also where nothing follows; with a byte less it is dropped and counted
-cut_header : (taken true (unit_of cut_video) ≡ unit_of cut_video) × (taken true (unit_of (take 13 cut_video)) ≡ []) × (packets_dropped true (unit_of (take 13 cut_video)) ≡ 1)
+cut_header : (taken true (unit_of only_pts_bytes) ≡ unit_of only_pts_bytes) × (taken true (unit_of (take 13 only_pts_bytes)) ≡ []) × (packets_dropped true (unit_of (take 13 only_pts_bytes)) ≡ 1)
 unfolding bit bits
 cut_header = (refl, refl, refl)
 

@@ -54,7 +54,8 @@ use Rattle.audio_frames.specs.declared.frame.Frame.{Frame}
 use Rattle.audio_frames.specs.declared.pes_start.PesStart.{PesStart}
 use Rattle.audio_frames.specs.FrameHeader.{id, sampling_index, bit_rate_index, padding_bit, sampling_rate, frame_length, is_header}
 use Rattle.audio_frames.specs.Frames.{is_audio_frame, goes_on, end_of, is_first, first_frame, AreFrames, AreAllFrames}
-use Rattle.audio_frames.specs.Times.{pes_packet_of, is_first_in, given_time, frame_ticks, IsTimeOf, spans, rate_of, AreFramesOf}
+use Rattle.audio_frames.specs.Times.{pes_packet_of, is_first_in, given_time, frame_ticks, IsTimeOf, rate_of, AreFramesOf}
+use Rattle.list_types.specs.Spans.{spans}
 use Rattle.audio_frames.proofs.Chains.{some_frame}
 use Rattle.audio_frames.proofs.Formats.{frame_header}
 use Rattle.audio_frames.proofs.Places.{found_passes}

@@ -58,7 +58,8 @@ use Rattle.audio_frames.specs.declared.frame.Frame.{Frame}
 use Rattle.audio_frames.specs.declared.pes_start.PesStart.{PesStart}
 use Rattle.audio_frames.specs.FrameHeader.{syncword}
 use Rattle.audio_frames.specs.Frames.{is_audio_frame, goes_on, end_of, is_near_end, is_rest, first_frame, AreFrames, FramesUpTo, AreAllFrames, BreaksAt}
-use Rattle.audio_frames.specs.Times.{given_time, frame_ticks, frame_time_at, IsTimeOf, AreTimes, AreRising, spans, rate_of, AreFramesOf, IsUntimed, IsOutOfOrder, IsAudioRefused}
+use Rattle.audio_frames.specs.Times.{given_time, frame_ticks, frame_time_at, IsTimeOf, AreTimes, AreRising, rate_of, AreFramesOf, IsUntimed, IsOutOfOrder, IsAudioRefused}
+use Rattle.list_types.specs.Spans.{spans}
 use Rattle.audio_frames.proofs.Chains.{some_frame}
 use Rattle.audio_frames.proofs.Formats.{header_long, goes_on_header}
 use Rattle.pes_units.specs.TimeAxis.{IsUnwrapped}
@@ -66,6 +67,7 @@ use Rattle.program_reader.specs.declared.pes_packets.PlacedPacket.{PlacedPacket}
 use Rattle.program_reader.specs.Packets.{decoding_time}
 use Rattle.program_reader.specs.Audio.{IsPlacedTime, AreStartsOf}
 use Rattle.program_reader.proofs.OneUnits.{unwrapped_one}
+use Rattle.audio_frames.proofs.Timed.{span}
 
 -- ---- where PES packets begin
 
@@ -181,17 +183,14 @@ times_at_one starts places rate k xs ys are are' lt lt' = time_one starts places
 
 -- ---- all frames
 
-abbrev span_of : Frame → ℕ × ℕ
-span_of frame = (frame.at, frame.at + frame.len)
-
-same_frames : (fs gs : List Frame) → map span_of fs ≡ map span_of gs →
+same_frames : (fs gs : List Frame) → map span fs ≡ map span gs →
     ((k : ℕ) → k < length fs → frame_time_at (map (λ frame. frame.time) fs) k ≡ frame_time_at (map (λ frame. frame.time) gs) k) → fs ≡ gs
 same_frames [] [] spans_are times_are = refl
 same_frames [] (g ∷ gs) spans_are times_are = absurd cc
 same_frames (f ∷ fs) [] spans_are times_are = absurd cc
 same_frames (f ∷ fs) (g ∷ gs) spans_are times_are =
-    let head : span_of f ≡ span_of g = cc in
-    let tail : map span_of fs ≡ map span_of gs = cc in
+    let head : span f ≡ span g = cc in
+    let tail : map span fs ≡ map span gs = cc in
     let ats : f.at ≡ g.at = ap (λ (s : ℕ × ℕ). s.0) head in
     let ends : f.at + f.len ≡ g.at + g.len = ap (λ (s : ℕ × ℕ). s.1) head in
     let lens : f.len ≡ g.len = omega (arith, ats, ends) in
@@ -201,8 +200,8 @@ same_frames (f ∷ fs) (g ∷ gs) spans_are times_are =
 
 count_of : (payload : List ℕ) (starts : List PesStart) (frames : List Frame) (are : AreFramesOf payload starts frames) → length frames ≡ suc (length (drop 1 are.places))
 count_of payload starts frames are =
-    let count : length (map span_of frames) ≡ length (spans 0 (drop 1 are.places) (length payload)) = ap (λ (xs : List (ℕ × ℕ)). length xs) are.cover in
-    sym (length-map frames span_of) ∙ count ∙ spans_count 0 (drop 1 are.places) (length payload)
+    let count : length (map span frames) ≡ length (spans 0 (drop 1 are.places) (length payload)) = ap (λ (xs : List (ℕ × ℕ)). length xs) are.cover in
+    sym (length-map frames span) ∙ count ∙ spans_count 0 (drop 1 are.places) (length payload)
   where
     spans_count : (from : ℕ) (places : List ℕ) (end : ℕ) → length (spans from places end) ≡ suc (length places)
     spans_count from [] end = refl
@@ -216,8 +215,8 @@ times_by payload starts frames places are same = subst (λ (ps : List ℕ). AreT
 pub frames_one : (payload : List ℕ) (starts : List PesStart) (fs gs : List Frame) → AreFramesOf payload starts fs → AreFramesOf payload starts gs → fs ≡ gs
 frames_one payload starts fs gs are are' =
     let places : are.places ≡ are'.places = places_one payload are.places are'.places are.all are'.all in
-    let cover : map span_of fs ≡ map span_of gs = are.cover ∙ ap (λ (ps : List ℕ). spans 0 (drop 1 ps) (length payload)) places ∙ sym are'.cover in
-    let count : length fs ≡ length gs = sym (length-map fs span_of) ∙ ap (λ (xs : List (ℕ × ℕ)). length xs) cover ∙ length-map gs span_of in
+    let cover : map span fs ≡ map span gs = are.cover ∙ ap (λ (ps : List ℕ). spans 0 (drop 1 ps) (length payload)) places ∙ sym are'.cover in
+    let count : length fs ≡ length gs = sym (length-map fs span) ∙ ap (λ (xs : List (ℕ × ℕ)). length xs) cover ∙ length-map gs span in
     same_frames fs gs cover (λ k lt. times_at_one starts are'.places (rate_of payload are'.places) k (map (λ (frame : Frame). frame.time) fs) (map (λ (frame : Frame). frame.time) gs)
     (times_by payload starts fs are'.places are places) are'.times (omega (arith, lt, length-map fs (λ (frame : Frame). frame.time)))
     (omega (arith, lt, count, length-map gs (λ (frame : Frame). frame.time))))

@@ -54,7 +54,8 @@ use Rattle.std.proofs.lemmas.Grind.{flat_map-append}
 use Rattle.std.proofs.Math.ListN as lists
 use Rattle.audio_frames.specs.declared.frame.Frame.{Frame}
 use Rattle.es_units.specs.declared.units.Units.{Units}
-use Rattle.es_units.specs.Units.{first_sequence, spans, cuts_up_to, cuts_behind, cut_units}
+use Rattle.es_units.specs.Units.{first_sequence, cuts_up_to, cuts_behind, cut_units}
+use Rattle.list_types.specs.Spans.{spans}
 use Rattle.pes_units.specs.PesPackets.{is_dropped}
 use Rattle.ts_demux.specs.declared.demuxed.AudioStream.{AudioStream}
 use Rattle.ts_demux.specs.declared.demuxed.Demuxed.{Demuxed}

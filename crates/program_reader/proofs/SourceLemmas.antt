@@ -43,7 +43,7 @@ use Rattle.std.proofs.lemmas.Bool.{lt-ltb}
 use Rattle.std.proofs.lemmas.List.{take_more, take_all, map-append, length-append}
 use Rattle.std.proofs.lemmas.List.Elements.{All-cons, All-tail, All-nil}
 use Rattle.audio_frames.specs.declared.frame.Frame.{Frame}
-use Rattle.audio_frames.specs.Times.{spans}
+use Rattle.list_types.specs.Spans.{spans}
 use Rattle.pes_units.specs.PesPackets.{is_dropped}
 use Rattle.ts_demux.specs.declared.demuxed.AudioStream.{AudioStream}
 use Rattle.ts_demux.specs.declared.demuxed.PesUnit.{PesUnit}
@@ -58,28 +58,25 @@ use Rattle.program_reader.specs.Private.Pieces.{Follow, HasTimes}
 use Rattle.program_reader.specs.Private.Sources.{IsStreamFrom, AreStreamsFrom}
 use Rattle.program_reader.proofs.StreamLemmas.{placed_count, taken_count, bytes_in, taken_bytes, HasPayload, taken_payloads}
 use Rattle.program_reader.proofs.TakenLemmas.{placed_at}
+use Rattle.audio_frames.proofs.Timed.{span}
 
 -- ---- each payload byte has a frame
 
 cons_parts : {A : Type 0} (x y : A) (xs ys : List A) → x ∷ xs ≡ y ∷ ys → (x ≡ y) × (xs ≡ ys)
 cons_parts x y xs ys is = let head : x ≡ y = cc in let tail : xs ≡ ys = cc in (head, tail)
 
--- where the bytes of a frame stand
-abbrev span_of : Frame → ℕ × ℕ
-span_of frame = (frame.at, frame.at + frame.len)
-
 byte_late : (earliest : ℤ) (from size place : ℕ) (places : List ℕ) (frames : List Frame) → All (λ frame. IsTimeFrom earliest frame.time) frames →
-    map span_of frames ≡ spans from places size → place < size → IsTimeFrom earliest (time_of_byte frames place)
+    map span frames ≡ spans from places size → place < size → IsTimeFrom earliest (time_of_byte frames place)
 byte_late earliest from size place [] [] all cover lt = absurd cc
 byte_late earliest from size place (p ∷ ps) [] all cover lt = absurd cc
 byte_late earliest from size place [] (f ∷ fs) all cover lt =
-    let end : f.at + f.len ≡ size = ap (λ (s : ℕ × ℕ). s.1) (cons_parts (span_of f) (from, size) (map span_of fs) [] cover).0 in
+    let end : f.at + f.len ≡ size = ap (λ (s : ℕ × ℕ). s.1) (cons_parts (span f) (from, size) (map span fs) [] cover).0 in
     let inside : nat_lt place (f.at + f.len) ≡ true = lt-ltb place (f.at + f.len) (omega (arith, end, lt)) in
     rw inside (all 0 f (omega arith))
 byte_late earliest from size place (p ∷ ps) (f ∷ fs) all cover lt =
     by_test (nat_lt place (f.at + f.len)) (all 0 f (omega arith))
     (byte_late earliest p size place ps fs (All-tail (λ (frame : Frame). IsTimeFrom earliest frame.time) f fs all)
-    (cons_parts (span_of f) (from, p) (map span_of fs) (spans p ps size) cover).1 lt)
+    (cons_parts (span f) (from, p) (map span fs) (spans p ps size) cover).1 lt)
   where
     by_test : (here : Bool) → IsTimeFrom earliest f.time → IsTimeFrom earliest (time_of_byte fs place) →
         IsTimeFrom earliest (option_map_or (λ (frame : Frame). frame.time) (cond here (Some f) (find (λ (frame : Frame). nat_lt place (frame.at + frame.len)) fs)) (pos 0))
@@ -90,7 +87,7 @@ place_inside : (from end len byte size : ℕ) → from < end → end ≤ size �
 place_inside from end len byte size some le lt = omega arith
 
 has_times : (earliest : ℤ) (frames : List Frame) (size : ℕ) (places : List ℕ) (packet : PlacedPacket) → All (λ frame. IsTimeFrom earliest frame.time) frames →
-    map span_of frames ≡ spans 0 places size → packet.from < packet.end → packet.end ≤ size → HasTimes earliest frames packet
+    map span frames ≡ spans 0 places size → packet.from < packet.end → packet.end ≤ size → HasTimes earliest frames packet
 has_times earliest frames size places packet all cover some le =
     λ byte lt. byte_late earliest 0 size (payload_place packet byte) places frames all cover (place_inside packet.from packet.end packet.header.len byte size some le lt)
 

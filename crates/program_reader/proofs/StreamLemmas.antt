@@ -104,7 +104,7 @@ placed_times from (p ∷ ps) =
 abbrev pub HasPayload : PesUnit → Type 0
 HasPayload packet = 0 < length (payload_of packet)
 
-passes : (found : Option PesFault) (sound : Bool) → (if is_some found then found else if sound then None else Some BadLength) ≡ None → found ≡ None
+pub passes : (found : Option PesFault) (sound : Bool) → (if is_some found then found else if sound then None else Some BadLength) ≡ None → found ≡ None
 passes None sound is = refl
 passes (Some fault) sound is = absurd cc
 

@@ -3,7 +3,8 @@
 //! All that it promises stands on `command_line`.
 #![tactic(auto)]
 
-use command_line::{HELP, VERSION, command, share_one_file, told};
+use command_line::{command, share_one_file};
+use help_text::{HELP, VERSION, told};
 use remux_core::Status;
 use std::process::ExitCode;
 use std::rt::{Env, Files};

@@ -27,7 +27,7 @@ pub fn end_with(alloc: Global, status: Status, report: &Report) -> Option<Ended>
 pub fn end_unread(alloc: Global, name: &str) -> Option<Ended>
     ensures { IfSome result (EndsBy statuses.ReadFault (reports.ReadFault name.now)) }
 {
-    let name = text_of(alloc, name).ok()?;
+    let name = Text::of(alloc, name).ok()?;
     end_with(alloc, Status::ReadFault, &Report::ReadFault { name })
 }
 
@@ -35,7 +35,7 @@ pub fn end_unread(alloc: Global, name: &str) -> Option<Ended>
 pub fn end_unwritten(alloc: Global, name: &str) -> Option<Ended>
     ensures { IfSome result (EndsBy statuses.WriteFault (reports.WriteFault name.now)) }
 {
-    let name = text_of(alloc, name).ok()?;
+    let name = Text::of(alloc, name).ok()?;
     end_with(alloc, Status::WriteFault, &Report::WriteFault { name })
 }
 
@@ -43,15 +43,6 @@ pub fn end_unwritten(alloc: Global, name: &str) -> Option<Ended>
 pub fn end_missing(alloc: Global, name: &str) -> Option<Ended>
     ensures { IfSome result (EndsBy statuses.Missing (reports.Missing name.now)) }
 {
-    let name = text_of(alloc, name).ok()?;
+    let name = Text::of(alloc, name).ok()?;
     end_with(alloc, Status::Missing, &Report::Missing { name })
-}
-
-/// A name as a text of its own. Fails only for want of memory.
-fn text_of(alloc: Global, name: &str) -> Result<Text, OutOfMemory>
-    ensures { IfOk result (λ text. text ≡ name.now) }
-{
-    let mut text = Text::new(alloc);
-    text.push_str(name)?;
-    Ok(text)
 }

@@ -22,7 +22,7 @@ ghost use Rattle.remux_core.specs.Status.{IsSameStatus, TellsStatus};
 use crate::jobs_call::jobs_call_for_one;
 use crate::status::Status;
 use crate::top_call::run;
-use shelf_io::{CalmShelf, CalmSink};
+use shelf_io::{CalmShelf, VecSink};
 use slot_rule::{first_miss_is_one, no_miss_where_scheduled};
 use std::alloc::Global;
 use version_table::{one_reading, smallest_choice_is_one, spelling_is_read};
@@ -67,7 +67,7 @@ pub fn calm_run(
     alloc: Global,
     words: &[String],
     shelf: &mut CalmShelf,
-    out: &mut CalmSink,
+    out: &mut VecSink,
 ) -> Status
     ensures called_for { (status : AnyStatus) → WordsCallFor (map string_bytes words.now) shelf.old.files status
         → IsSameStatus result status ⊎ (result ≡ Status.OutOfMemory) }

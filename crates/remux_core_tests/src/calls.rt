@@ -1,5 +1,5 @@
 use remux_core::run;
-use shelf_io::{CalmSink, MemSink, Shelf};
+use shelf_io::{MemSink, Shelf, VecSink};
 use std::alloc::{AllocError, Global};
 
 /// The words of a command.
@@ -20,7 +20,7 @@ pub fn ends_so<K: Shelf>(
     line: &str,
 ) -> Result<bool, AllocError> {
     let words = words_of(alloc, words)?;
-    let mut out = CalmSink::new(alloc);
+    let mut out = VecSink::new(alloc);
     let status = run(alloc, words.as_slice(), shelf, &mut out);
     Ok(status.code() == code && out.bytes() == line.as_bytes())
 }

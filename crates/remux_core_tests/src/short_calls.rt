@@ -4,7 +4,7 @@ ghost use Rattle.std.specs.Prelude.{◌≤◌};
 use crate::calls::words_of;
 use program_maker::make_program;
 use remux_core::run;
-use shelf_io::{CalmShelf, CalmSink, Shelf, ShortShelf};
+use shelf_io::{CalmShelf, Shelf, ShortShelf, VecSink};
 use std::alloc::Global;
 use std::test::Fail;
 
@@ -20,15 +20,15 @@ fn shelf_of(alloc: Global) -> Result<CalmShelf, Fail> {
 }
 
 /// The exit status of a run over a shelf, and its line.
-fn run_over<K: Shelf>(alloc: Global, shelf: &mut K) -> Result<(u8, CalmSink), Fail> {
+fn run_over<K: Shelf>(alloc: Global, shelf: &mut K) -> Result<(u8, VecSink), Fail> {
     let words = words_of(alloc, &["run", "j", "o", "c"])?;
-    let mut out = CalmSink::new(alloc);
+    let mut out = VecSink::new(alloc);
     let status = run(alloc, words.as_slice(), shelf, &mut out);
     Ok((status.code(), out))
 }
 
 /// Whether a run with at most so many bytes a call ends as the whole one, with the same line and files.
-fn is_same(alloc: Global, limit: u32, whole: &CalmShelf, line: &CalmSink) -> Result<bool, Fail>
+fn is_same(alloc: Global, limit: u32, whole: &CalmShelf, line: &VecSink) -> Result<bool, Fail>
     requires { 1 ≤ limit }
 {
     let mut shelf = ShortShelf::new(shelf_of(alloc)?, limit);

@@ -115,7 +115,7 @@ no_zeros-coarsened new waiting place (pair ∷ pairs) =
     by_level waits behind (inl gone) = rw (gone, coarsened_pairs) waits
     by_level waits behind (inr stays) = rw (stays, coarsened_pairs) (λ zero. absurd (eqb-false _ _ stays (ap unsigned_abs zero)), behind)
 
-zero_product : (n : ℕ) → pos 0 *ℤ pos n ≡ pos 0
+pub zero_product : (n : ℕ) → pos 0 *ℤ pos n ≡ pos 0
 zero_product n = omega (arith, ints)
 
 -- level 0 stays

@@ -12,11 +12,8 @@ use Rattle.syntax_types.specs.declared.picture.PicCoding.{PicCoding}
 use Rattle.syntax_types.specs.declared.picture.SeqState.{SeqState}
 use Rattle.requantiser.specs.Levels.{coefficient_at, level_at, place_of, scale_of, weight_at}
 use Rattle.requantiser.specs.Private.Shapes.{AreCoefficients}
-use Rattle.requantiser.proofs.Blocks.{level_from, level_here, level_there, level_before}
+use Rattle.requantiser.proofs.Blocks.{level_from, level_here, level_there, level_before, zero_product}
 use Rattle.requantiser.proofs.Scans.{index_of, are_others, one_place}
-
-zero_product : (n : ℕ) → pos 0 *ℤ pos n ≡ pos 0
-zero_product n = omega (arith, ints)
 
 product : (weight scale : ℕ) → (pos 2 *ℤ pos 0 +ℤ pos 0) *ℤ pos weight *ℤ pos scale ≡ pos 0
 product weight scale =

@@ -14,11 +14,11 @@ use Rattle.prefix_codes.specs.declared.table_name.TableName.{TableName}
 use Rattle.prefix_codes.specs.declared.table_name.TableName.TheVariants.{CoeffZero, CoeffFirst, CoeffOne}
 use Rattle.prefix_codes.specs.Entry.{Entry, coefficient_entry, coefficient_symbol, entry}
 use Rattle.prefix_codes.specs.CoefficientTables.{dct_coefficients_first, dct_coefficients_zero, shared_coefficients}
-use Rattle.prefix_codes.specs.TableName.{code_in, coefficient_code}
+use Rattle.prefix_codes.specs.TableName.{code_in, coefficient_code, code_for}
 use Rattle.syntax_types.specs.declared.block.BlockWay.{BlockWay}
 use Rattle.syntax_types.specs.declared.block.RunLevel.{RunLevel}
 use Rattle.picture_grammar.specs.Block.{coefficient_table, first_place}
-use Rattle.picture_grammar.specs.Written.{code_for, level_bits, written_coefficient, written_coefficients, written_escape}
+use Rattle.picture_grammar.specs.Written.{level_bits, written_coefficient, written_coefficients, written_escape}
 use Rattle.quant_math.specs.Scales.{IsMappedCode}
 use Rattle.syntax_types.specs.declared.macroblock.Macroblock.{Macroblock}
 use Rattle.syntax_types.specs.declared.picture.PicCoding.{PicCoding}
@@ -36,7 +36,8 @@ use Rattle.requantiser.specs.Private.Lengths.{AreLengths, length_by, table_numbe
 use Rattle.requantiser.specs.Private.Changes.{pair_changes}
 use Rattle.requantiser.specs.Private.Tallies.{IsCounted, IsCountedBlock, IsEnded, IsTallied, bits_at, has_none}
 use Rattle.requantiser.specs.Private.Walk.{coarsened_pairs}
-use Rattle.requantiser.proofs.Tallies.{block_counted, three_parts}
+use Rattle.requantiser.proofs.Tallies.{block_counted}
+use Rattle.list_types.proofs.Lists.{three_parts}
 
 -- ---- the lengths of codes
 

@@ -14,13 +14,13 @@ use Rattle.picture_grammar.specs.Grammar.{with_spelling}
 use Rattle.picture_grammar.specs.Head.{head}
 use Rattle.picture_grammar.specs.Picture.{IsLawful, IsCovered, MayPrecede, SpellsPicture, addresses, rows}
 use Rattle.picture_grammar.specs.Slice.{columns}
-use Rattle.picture_grammar.specs.StartCode.{is_slice}
+use Rattle.stream_constants.specs.SliceCodes.{is_slice}
 use Rattle.picture_laws.specs.Spellable.{HasSpellableParts, HasSpellableMacroblocks, HasSpellableSlices}
 use Rattle.picture_laws.proofs.WrittenPicture.{slices-of_picture, picture-read}
 use Rattle.picture_laws.proofs.WrittenBits.{written-bytes}
 use Rattle.picture_heads.specs.declared.TheConstants.{NO_DELAY}
 use Rattle.picture_heads.proofs.DelayPlaces.{has-without}
-use Rattle.picture_heads.proofs.ReadHeads.{without-read}
+use Rattle.picture_heads.proofs.ReadHeads.{without-read, without_delay}
 use Rattle.requantiser.specs.Version.{IsLawfulBehind, IsVersion}
 use Rattle.requantiser.specs.Private.Shapes.{IsWalkableSlice}
 use Rattle.requantiser.specs.Private.Walk.{coarsened_slice}
@@ -30,10 +30,7 @@ use Rattle.requantiser.proofs.Versions.{lawful-delay, one_list}
 
 -- ---- vbv_delay plays no part in macroblocks
 
-abbrev without : PicCoding → PicCoding
-without coding = record coding { vbv_delay = NO_DELAY }
-
-parts-without : (coding : PicCoding) (first : Bool) (left : ℕ) (m : Macroblock) → HasSpellableParts coding first left m → HasSpellableParts (without coding) first left m
+parts-without : (coding : PicCoding) (first : Bool) (left : ℕ) (m : Macroblock) → HasSpellableParts coding first left m → HasSpellableParts (without_delay coding) first left m
 parts-without coding first left m p = record {
   increment = p.increment;
   kind = p.kind;
@@ -46,7 +43,7 @@ parts-without coding first left m p = record {
   blocks = p.blocks;
 }
 
-slice-without : (seq : SeqState) (coding : PicCoding) (s : Slice) → HasSpellableMacroblocks seq coding s → HasSpellableMacroblocks seq (without coding) s
+slice-without : (seq : SeqState) (coding : PicCoding) (s : Slice) → HasSpellableMacroblocks seq coding s → HasSpellableMacroblocks seq (without_delay coding) s
 slice-without seq coding s has = record {
   code = has.code;
   info = has.info;
@@ -63,7 +60,7 @@ module _ (seq : SeqState) (coding : PicCoding) (m : ℕ) where
 
   slices-spelled : (slices : List Slice) → AllByRecursion (λ s. HasSpellableMacroblocks seq coding s × (is_slice (s.row + FIRST_SLICE) ≡ true)) slices
       → AllByRecursion (IsWalkableSlice (columns seq)) slices
-      → AllByRecursion (λ s. HasSpellableMacroblocks seq (without coding) s × (is_slice (s.row + FIRST_SLICE) ≡ true)) (map (coarsened_slice seq coding m) slices)
+      → AllByRecursion (λ s. HasSpellableMacroblocks seq (without_delay coding) s × (is_slice (s.row + FIRST_SLICE) ≡ true)) (map (coarsened_slice seq coding m) slices)
   slices-spelled [] are walkable = tt
   slices-spelled (s ∷ ss) are walkable =
       let one = slice-spelled seq coding m s are.0.0 walkable.0.macroblocks in (
@@ -94,7 +91,7 @@ version-spelled m from to lawful version =
     let head' : (with_spelling (head lawful.before)).Spells ((to.seq, to.coding), to.head) (bit_list to.head ++ is.rest) is.rest =
     subst (λ (s : SeqState). (with_spelling (head lawful.before)).Spells ((s, to.coding), to.head) (bit_list to.head ++ is.rest) is.rest) (sym version.seq)
     (subst (λ (c : PicCoding). (with_spelling (head lawful.before)).Spells ((from.seq, c), to.head) (bit_list to.head ++ is.rest) is.rest) (sym version.coding) read) in
-    let each' = subst (AllByRecursion (λ s. HasSpellableMacroblocks from.seq (without from.coding) s × (is_slice (s.row + FIRST_SLICE) ≡ true))) (sym made)
+    let each' = subst (AllByRecursion (λ s. HasSpellableMacroblocks from.seq (without_delay from.coding) s × (is_slice (s.row + FIRST_SLICE) ≡ true))) (sym made)
     (slices-spelled from.seq from.coding m from.slices is.each walkable.slices) in (
       record {
         rest = is.rest;
@@ -132,6 +129,6 @@ some-version m from lawful =
     let walkable = lawful-walkable from lawful in
     let (front, delay, back, h) = lawful-delay from lawful in
     let (head', is_head) = has-without from.head front delay back h in (
-      record { seq = from.seq; coding = without from.coding; head = head'; slices = map (coarsened_slice from.seq from.coding m) from.slices; sequence_end = from.sequence_end },
+      record { seq = from.seq; coding = without_delay from.coding; head = head'; slices = map (coarsened_slice from.seq from.coding m) from.slices; sequence_end = from.sequence_end },
       record { seq = refl; coding = refl; head = is_head; slices = coarsened_slices-are from.seq from.coding m (columns from.seq) from.slices walkable.slices; sequence_end = refl },
     )

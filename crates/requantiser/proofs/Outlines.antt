@@ -19,7 +19,8 @@ use Rattle.syntax_types.specs.declared.picture.PicCoding.{PicCoding}
 use Rattle.syntax_types.specs.declared.picture.SeqState.{SeqState}
 use Rattle.picture_grammar.specs.Block.{coefficient_table, first_place}
 use Rattle.picture_grammar.specs.Macroblock.{block_way, f_codes, has_concealment, has_dct_type, has_motion_type, no_block, type_symbol, type_table}
-use Rattle.picture_grammar.specs.Written.{code_for, if_any, written_block, written_coded_block, written_coefficient, written_coefficients, written_dc, written_increment, written_macroblock, written_vector}
+use Rattle.picture_grammar.specs.Written.{if_any, written_block, written_coded_block, written_coefficient, written_coefficients, written_dc, written_increment, written_macroblock, written_vector}
+use Rattle.prefix_codes.specs.TableName.{code_for}
 use Rattle.requantiser.specs.declared.head.Head.{Head}
 use Rattle.requantiser.specs.declared.outline.Outline.{Outline}
 use Rattle.requantiser.specs.declared.outline.Outline.TheVariants.{Coded, Skipped}

@@ -61,6 +61,7 @@ use Rattle.picture_laws.specs.Spellable.{IsSpellable, HasSpellableCoefficients, 
 use Rattle.requantiser.specs.Macroblocks.{is_empty_block, pattern_of}
 use Rattle.requantiser.specs.Private.Shapes.{FitBlock}
 use Rattle.requantiser.proofs.Macroblocks.{empty_block}
+use Rattle.requantiser.proofs.PairSteps.{first_place-most}
 
 -- ---- coefficients
 
@@ -79,10 +80,6 @@ fit-levels : (start : ℕ) (pairs : List RunLevel) → FitBlock start pairs → 
 fit-levels start [] fit some = tt
 fit-levels start (pair ∷ pairs) fit some = ((size_some pair.level some.0, fit.1), fit-levels (start + pair.run + 1) pairs fit.2 some.1)
 
-one-or-zero : (intra : Bool) → (if intra then 1 else 0) ≤ 1
-one-or-zero true = omega arith
-one-or-zero false = omega arith
-
 -- a block whose parts are such
 pub record IsFine (way : BlockWay) (b : Block) : Type 0 where
   pub dc : IsSpellable (optional way.intra (dc_coefficient way)) b.dc
@@ -92,7 +89,7 @@ pub record IsFine (way : BlockWay) (b : Block) : Type 0 where
 fine-coefficients : (way : BlockWay) (b : Block) → IsFine way b → (way.intra ≡ true) ⊎ (0 < length b.pairs.items) → HasSpellableCoefficients way b
 fine-coefficients way b fine some = record {
   dc = fine.dc;
-  places = fit-places (first_place way) b.pairs.items (omega (arith, one-or-zero way.intra)) fine.fit;
+  places = fit-places (first_place way) b.pairs.items (omega (arith, first_place-most way.intra)) fine.fit;
   levels = fit-levels (first_place way) b.pairs.items fine.fit fine.levels;
   some = some;
 }

@@ -13,7 +13,7 @@ use Rattle.picture_grammar.specs.Grammar.{SpellsList, optional}
 use Rattle.picture_grammar.specs.Grammar.Next.{more, last}
 use Rattle.picture_grammar.specs.Picture.{whole_slice, slice_or_end, next_slice, picture_unit, IsLawful, MayPrecede}
 use Rattle.picture_grammar.specs.Slice.{columns}
-use Rattle.picture_grammar.specs.StartCode.{is_slice}
+use Rattle.stream_constants.specs.SliceCodes.{is_slice}
 use Rattle.requantiser.specs.Slices.{IsCoarserSlice}
 use Rattle.requantiser.specs.Private.Shapes.{HasShape, AreWalkable, IsWalkableSlice}
 use Rattle.requantiser.specs.Private.Walk.{coarsened_slice}

@@ -6,19 +6,16 @@ use Rattle.std.proofs.lemmas.List.{drop_all, get_or-set_same, get_or-set_other}
 use Rattle.bit_lists.specs.Fields.{flag}
 use Rattle.prefix_codes.specs.declared.symbol.TheConstants.{END_OF_BLOCK}
 use Rattle.prefix_codes.specs.declared.table_name.TableName.TheVariants.{CoeffZero, CoeffFirst, CoeffOne}
-use Rattle.prefix_codes.specs.TableName.{code_in}
+use Rattle.prefix_codes.specs.TableName.{code_in, code_for}
 use Rattle.syntax_types.specs.declared.block.BlockWay.{BlockWay}
 use Rattle.syntax_types.specs.declared.block.RunLevel.{RunLevel}
 use Rattle.picture_grammar.specs.Block.{coefficient_table, first_place}
-use Rattle.picture_grammar.specs.Written.{code_for, written_coefficient, written_coefficients}
+use Rattle.picture_grammar.specs.Written.{written_coefficient, written_coefficients}
 use Rattle.requantiser.specs.declared.tally.Tally.{Tally}
 use Rattle.requantiser.specs.Private.Changes.{pair_changes}
 use Rattle.requantiser.specs.Private.Tallies.{IsCounted, IsCountedBlock, IsEnded, IsBlockTallied, IsTallied, bits_at, has_none, next_at}
 use Rattle.requantiser.specs.Private.Walk.{coarsened_pairs}
 use Rattle.requantiser.proofs.Spelled.{no_end_first}
-
-pub three_parts : (a b c : List ℕ) → length (a ++ b ++ c) ≡ length a + length b + length c
-three_parts a b c = omega (arith, length-append (a ++ b) c, length-append a b)
 
 -- ---- one item of a list after another
 

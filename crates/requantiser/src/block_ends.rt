@@ -3,7 +3,7 @@ ghost use Rattle.std.specs.Prelude.{◌≡◌, ◌<◌, ◌≤◌, ◌+◌, ◌*
 ghost use Rattle.bit_lists.specs.Fields.{flag};
 ghost use Rattle.prefix_codes.specs.declared.symbol.TheConstants.{END_OF_BLOCK};
 ghost use Rattle.prefix_codes.specs.declared.table_name.TableName.TheVariants.{CoeffZero};
-ghost use Rattle.picture_grammar.specs.Written.{code_for};
+ghost use Rattle.prefix_codes.specs.TableName.{code_for};
 
 use crate::code_lengths::end_bits;
 use crate::tally::VERSIONS_AT_ONCE;

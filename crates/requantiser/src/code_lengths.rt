@@ -1,14 +1,13 @@
 //! How many bits the codes of coefficients have.
 ghost use Rattle.std.specs.Prelude.{◌≡◌, ◌<◌, ◌≤◌, length, IsTrue, if◌then◌else◌};
-ghost use Rattle.prefix_codes.specs.TableName.{is_coefficients};
+ghost use Rattle.prefix_codes.specs.TableName.{is_coefficients, code_for};
 ghost use Rattle.prefix_codes.specs.declared.symbol.TheConstants.{END_OF_BLOCK};
 ghost use Rattle.prefix_codes.specs.declared.table_name.TableName.TheVariants.{CoeffZero};
-ghost use Rattle.picture_grammar.specs.Written.{code_for};
 ghost use Rattle.syntax_types.specs.declared.block.BlockWay.{BlockWay as WayOf};
 ghost use Rattle.requantiser.specs.Private.Lengths.{length_by, table_number as number_of, table_numbered};
 
 use picture_grammar::escape::{LEVEL_BITS, RUN_BITS};
-use prefix_codes::{TableName, code_of, coefficient_code, symbol};
+use prefix_codes::{TableName, code_bits, coefficient_code, symbol};
 use syntax_types::BlockWay;
 
 /// Tables of coefficients.
@@ -37,18 +36,6 @@ pub fn end_bits(intra: bool) -> u32
         0
     } else {
         code_bits(TableName::CoeffZero, symbol::END_OF_BLOCK)
-    }
-}
-
-/// The bits of the code of a symbol, none where the table lacks it.
-#[inline]
-fn code_bits(table: TableName, symbol: u16) -> u32
-    ensures value { result ≡ length (code_for table symbol) }
-    ensures few { result ≤ 24 }
-{
-    match code_of(table, symbol) {
-        Some(code) => u32::from(code.len),
-        None => 0,
     }
 }
 

@@ -5,10 +5,10 @@ ghost use Rattle.picture_grammar.specs.Slice.{columns as columns_of};
 ghost use Rattle.requantiser.specs.Distortion.{coefficient_of_macroblock, difference_of, distortion_between};
 ghost use Rattle.requantiser.specs.Private.Shapes.{IsSide};
 
-use crate::cursor::{Found, columns, find_at, start};
+use crate::cursor::{Found, find_at, start};
 use crate::difference::{Side, difference_of_one, difference_of_two};
-use picture_grammar::limits::MACROBLOCK_SIZE;
-use syntax_types::{FRAME_PICTURE, PicCoding, Picture, SeqState};
+use picture_grammar::grid::{columns, rows};
+use syntax_types::Picture;
 
 /// The sum of the squares of the differences of all coefficients of two pictures with the same macroblocks, but the DC
 /// coefficients of intra blocks.
@@ -73,23 +73,5 @@ fn difference(from: &Picture, to: &Picture, a: Found<'_>, b: Found<'_>) -> u64
             }),
             None => 0,
         },
-    }
-}
-
-/// mb_height (ISO/IEC 13818-2, 6.3.3).
-fn rows(seq: &SeqState, coding: &PicCoding) -> usize
-    ensures value { result ≡ rows_of seq.now coding.now }
-    ensures few { result ≤ 4098 }
-{
-    let height = usize::from(seq.height);
-    let size = usize::from(MACROBLOCK_SIZE);
-    let field = (height + (2 * size - 1)) / (2 * size);
-    if coding.structure != FRAME_PICTURE {
-        return field;
-    }
-    if seq.progressive {
-        (height + (size - 1)) / size
-    } else {
-        2 * field
     }
 }

@@ -7,8 +7,8 @@ ghost use Rattle.requantiser.specs.Private.Cursor.{StandsAt};
 ghost use Rattle.requantiser.specs.Private.Shapes.{IsSide};
 
 use crate::step::code_in_force;
-use picture_grammar::limits::MACROBLOCK_SIZE;
-use syntax_types::{Macroblock, Picture, SeqState, Slice};
+use picture_grammar::grid::columns;
+use syntax_types::{Macroblock, Picture, Slice};
 
 /// The code before the first slice, where none is in force.
 const ANY_CODE: u8 = 1;
@@ -105,12 +105,4 @@ fn opened<'a>(picture: &Picture, cursor: Cursor<'a>) -> Cursor<'a>
             slices,
         },
     }
-}
-
-/// mb_width (ISO/IEC 13818-2, 6.3.3).
-pub fn columns(seq: &SeqState) -> usize
-    ensures value { result ≡ columns_of seq.now }
-    ensures few { result ≤ 2 ^ 13 }
-{
-    (usize::from(seq.width) + usize::from(MACROBLOCK_SIZE - 1)) / usize::from(MACROBLOCK_SIZE)
 }

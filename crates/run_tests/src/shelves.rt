@@ -2,7 +2,7 @@
 
 use program_maker::make_program;
 use remux_core::run;
-use shelf_io::{CalmShelf, CalmSink, Fault, MemShelf, MemSink};
+use shelf_io::{CalmShelf, Fault, MemShelf, MemSink, VecSink};
 use std::alloc::{AllocError, Global};
 use std::test::Fail;
 
@@ -47,7 +47,7 @@ pub fn probe_over(alloc: Global, file: &[u8]) -> Result<Probed, Fail> {
     }
     let mut shelf = CalmShelf::new(alloc);
     shelf.put_file("a.ts", file)?;
-    let mut out = CalmSink::new(alloc);
+    let mut out = VecSink::new(alloc);
     let status = run(alloc, words.as_slice(), &mut shelf, &mut out);
     Ok(Probed {
         code: status.code(),
@@ -69,7 +69,7 @@ pub fn run_over(alloc: Global, job: &str, file: &[u8]) -> Result<Ran, Fail> {
     let mut shelf = CalmShelf::new(alloc);
     shelf.put_file("job.toml", job.as_bytes())?;
     shelf.put_file("a.ts", file)?;
-    let mut out = CalmSink::new(alloc);
+    let mut out = VecSink::new(alloc);
     let status = run(alloc, words.as_slice(), &mut shelf, &mut out);
     Ok(Ran {
         code: status.code(),

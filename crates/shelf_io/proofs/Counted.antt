@@ -1,5 +1,5 @@
 -- An object that counts each fault once meets what a shelf and a sink promise of their counts.
-use Rattle.std.proofs.Common.{◌≡◌, ◌≢◌, ℕ, List, Result, Ok, Err, IfOk, OnErr, IsErrOf, ◌≤◌, refl, arith}
+use Rattle.std.proofs.Common.{◌≡◌, ◌≢◌, ℕ, List, Result, Ok, Err, IfOk, OnErr, IsErrOf, ◌<◌, ◌≤◌, refl, arith}
 use Rattle.std.proofs.lemmas.Bool.Decides.{nat_tests}
 use Rattle.shelf_io.specs.declared.fault.Fault.{Fault}
 use Rattle.shelf_io.specs.declared.fault.Fault.TheVariants.{Failed, Missing, OutOfMemory}
@@ -70,3 +70,7 @@ put_causes faults (Err OutOfMemory) old new never is = record { failed_rose = λ
 -- a count that rose in a later call rose over both
 pub rose_later : (old middle new : ℕ) → old ≤ middle → middle ≤ new → Rose middle new → Rose old new
 rose_later old middle new before after rose = λ below. grind (arith, rose)
+
+-- no count rose from none to none
+pub none-rose : Rose 0 0 → ⊥
+none-rose r = let lt : 0 < 0 = r (omega arith) in omega (arith, lt)

@@ -6,7 +6,7 @@ use Rattle.std.specs.Option.{option_map}
 abbrev pub source_bytes_most : ℕ
 source_bytes_most = 2 ^ 60
 
--- what a source tells after n bytes were taken
+-- what is told of bytes, or of bits, after the first n were taken
 abbrev pub without_front : Option (List ℕ) → ℕ → Option (List ℕ)
 without_front told n = option_map (drop n) told
 

@@ -11,7 +11,6 @@
 
 mod buffer;
 mod calm_shelf;
-mod calm_sink;
 mod count_sink;
 mod fault;
 mod file_shelf;
@@ -30,8 +29,8 @@ mod vec_sink;
 mod whole_file;
 mod writing;
 
+pub use buffer::copy_front;
 pub use calm_shelf::CalmShelf;
-pub use calm_sink::CalmSink;
 pub use count_sink::CountSink;
 pub use fault::Fault;
 pub use file_shelf::FileShelf;

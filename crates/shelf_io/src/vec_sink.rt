@@ -5,7 +5,8 @@ use crate::sink::Sink;
 use std::alloc::Global;
 use std::marker::Model;
 
-/// A sink into a vector, to be emptied and used again or handed out. Contracts see what was written.
+/// A sink into a vector, to be emptied and used again or handed out: only want of memory stops a call. Contracts see what
+/// was written.
 #[derive(Drop)]
 pub struct VecSink {
     bytes: Vec<u8>,

@@ -17,12 +17,9 @@ use Rattle.slot_rule.specs.Private.QueueState.{KeepsPlace, packets_at}
 use Rattle.slot_rule.proofs.Resume.{SameSoFar}
 use Rattle.slot_rule.proofs.RuleUnits.{get_or-unit_rest}
 use Rattle.slot_rule.proofs.RuleVideo.{packets_from}
+use Rattle.slot_rule.proofs.Places.{slice_get-append_left}
 
 -- ---- the element at a place of two lists
-slice_get-append_left : {X : Type 0} (xs ys : List X) (k : ℕ) → k < length xs → slice_get (xs ++ ys) k ≡ slice_get xs k
-slice_get-append_left [] ys k within = absurd (omega arith)
-slice_get-append_left (x ∷ xs) ys zero within = refl
-slice_get-append_left (x ∷ xs) ys (suc k) within = slice_get-append_left xs ys k (omega arith)
 
 slice_get-append_right : {X : Type 0} (xs ys : List X) (k : ℕ) → length xs ≤ k → slice_get (xs ++ ys) k ≡ slice_get ys (k - length xs)
 slice_get-append_right [] ys k past = ap (λ n. slice_get ys n) (sym (sub-zero k))

@@ -7,7 +7,7 @@ use Rattle.version_table.specs.declared.table.Table.{Table}
 use Rattle.version_table.specs.Table.{IsValidTable}
 use Rattle.version_table.specs.Choice.{Fits}
 use Rattle.stream_constants.specs.declared.clock.TheConstants.{SUBTICKS_PER_TICK}
-use Rattle.slot_rule.specs.Constants.{margin_subticks}
+use Rattle.slot_rule.specs.declared.constants.TheConstants.{MARGIN_SUBTICKS}
 use Rattle.slot_rule.specs.declared.run_state.RunState.{RunState}
 use Rattle.slot_rule.specs.Buffers.{Empty}
 use Rattle.slot_rule.specs.Private.Heads.{IsFirst, IsFirstHead, Passes, PassesAt}
@@ -28,7 +28,7 @@ below_div m a b below =
 
 -- a slot that ends before anything can happen
 pub IsIdle-from : (run : RunState) (slot m overdue going stream : ℕ) (packet : QueuedPacket) → 1 ≤ slot
-    → IsFirst Passes run.states.items stream packet → overdue ≡ SUBTICKS_PER_TICK * packet.due - margin_subticks
+    → IsFirst Passes run.states.items stream packet → overdue ≡ SUBTICKS_PER_TICK * packet.due - MARGIN_SUBTICKS
     → ((start : ℕ) → SUBTICKS_PER_TICK * start < going → IsFirstHead (PassesAt start) run.states.items None)
     → m < overdue / (SUBTICKS_PER_TICK * slot) → m < going / (SUBTICKS_PER_TICK * slot) → m < run.first_gone / slot → IsIdle slot run m
 IsIdle-from run slot m overdue going stream packet some first overdue_is none before_overdue before_going before_gone =

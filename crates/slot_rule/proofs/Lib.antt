@@ -14,6 +14,7 @@ pub mod MissLaws
 pub mod PeriodLaws
 pub mod Places
 pub mod Resume
+pub mod RuleEdges
 pub mod RuleEnd
 pub mod RuleExamples
 pub mod RuleFirst

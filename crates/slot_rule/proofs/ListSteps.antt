@@ -4,18 +4,7 @@ use Rattle.std.proofs.lemmas.Bool.{cases_lt}
 use Rattle.std.proofs.lemmas.Option.{same_Some, slice_get-get_or, slice_get_within}
 use Rattle.slot_rule.specs.declared.queue_state.QueueState.{QueueState}
 use Rattle.slot_rule.specs.Private.States.{ChangesEach}
-
-pub slice_get-set_same : {X : Type 0} (xs : List X) (n : ℕ) (x : X) → n < length xs → slice_get (set xs n x) n ≡ Some x
-slice_get-set_same [] n x within = absurd (omega arith)
-slice_get-set_same (y ∷ xs) zero x within = refl
-slice_get-set_same (y ∷ xs) (suc n) x within = slice_get-set_same xs n x (omega arith)
-
-pub slice_get-set_other : {X : Type 0} (xs : List X) (n k : ℕ) (x : X) → (k ≡ n → ⊥) → slice_get (set xs n x) k ≡ slice_get xs k
-slice_get-set_other [] n k x apart = refl
-slice_get-set_other (y ∷ xs) zero zero x apart = absurd (apart refl)
-slice_get-set_other (y ∷ xs) zero (suc k) x apart = refl
-slice_get-set_other (y ∷ xs) (suc n) zero x apart = refl
-slice_get-set_other (y ∷ xs) (suc n) (suc k) x apart = slice_get-set_other xs n k x (λ e. apart (ap suc e))
+use Rattle.list_types.proofs.Lists.{slice_get-set_same, slice_get-set_other}
 
 -- the first n states are changed, and the others are as they were
 pub record ChangesFirst (R : QueueState → QueueState → Type 0) (n : ℕ) (olds news : List QueueState) : Type 0 where

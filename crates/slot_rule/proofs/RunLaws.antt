@@ -16,7 +16,7 @@ use Rattle.slot_rule.specs.Private.States.{ChangesEach, IsPlaced, ReleasesAll, T
 use Rattle.slot_rule.specs.Private.Turns.{AreTurns, IsTurnOrder, PassesTurn, turn_of}
 use Rattle.slot_rule.proofs.BringLaws.{pcr_cases}
 use Rattle.slot_rule.proofs.Places.{All-at_place}
-use Rattle.slot_rule.proofs.ListSteps.{slice_get-set_same}
+use Rattle.list_types.proofs.Lists.{slice_get-set_same}
 use Rattle.slot_rule.proofs.SendLaws.{All-over, SendsOne-set, released_placed, released_ready}
 use Rattle.slot_rule.proofs.TurnLaws.{AreTurns-kept, AreTurns-passed, NoneGoneBefore-kept, refill_all}
 

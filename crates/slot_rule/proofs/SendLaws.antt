@@ -9,7 +9,7 @@ use Rattle.slot_rule.specs.Private.QueueItems.{IsPlace}
 use Rattle.slot_rule.specs.Private.States.{ChangesEach, IsPlaced, ReleasesAll, queue_of}
 use Rattle.slot_rule.specs.Private.QueueState.{IsKind, IsNumbered, IsReady, KeepsPlace, packets_at}
 use Rattle.slot_rule.specs.Queues.{QueueKind, QueuedPacket}
-use Rattle.slot_rule.proofs.ListSteps.{slice_get-set_same, slice_get-set_other}
+use Rattle.list_types.proofs.Lists.{slice_get-set_same, slice_get-set_other}
 
 pub released_placed : (table : Table) (choice : List ℕ) (start : ℕ) (old new : QueueState) → ReleasesAll table choice start old new
     → IsPlaced table choice old → IsPlaced table choice new

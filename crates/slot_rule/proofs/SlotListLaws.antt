@@ -39,7 +39,7 @@ use Rattle.std.proofs.lemmas.List.{get_or_at, length_push, length-take-le, map-a
 use Rattle.std.proofs.lemmas.Option.{same_Some, slice_get_within, slice_get-get_or}
 use Rattle.version_table.specs.declared.table.Table.{Table}
 use Rattle.version_table.specs.Table.{IsValidTable}
-use Rattle.slot_rule.specs.Constants.{period_ticks}
+use Rattle.slot_rule.specs.declared.constants.TheConstants.{PERIOD_TICKS}
 use Rattle.slot_rule.specs.declared.sent.Sent.{Sent}
 use Rattle.slot_rule.specs.declared.slot_list.SlotList.{SlotList}
 use Rattle.slot_rule.specs.declared.queue_state.QueueState.{QueueState}
@@ -90,7 +90,7 @@ carries_last queues rows Empty left sent =
 
 -- a valid table's period has a slot
 pub some_period : (table : Table) → IsValidTable table → 1 ≤ period table.slot
-some_period table valid = le-div 1 period_ticks table.slot (omega (arith, valid.slot_least)) (omega (arith, valid.slot_most))
+some_period table valid = le-div 1 PERIOD_TICKS table.slot (omega (arith, valid.slot_least)) (omega (arith, valid.slot_most))
 
 -- the period that ends after the last sent slot ends at the count of slots
 pub IsSlotCount-at : (period slots : ℕ) (before : List Row) (row : Row) (more : List Row) → 1 ≤ period → slots ≡ (length before / period + 1) * period

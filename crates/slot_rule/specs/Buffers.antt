@@ -1,6 +1,6 @@
 -- What waits in a decoder's buffers after some slots: greatest values and sums over the whole list of rows.
 use Rattle.std.specs.Prelude.{ℕ, ◌+◌, ◌-◌, ◌*◌, ◌≤◌, ◌==◌, nat_lt, List, [], ◌∷◌, length, map, max, sum, sum_by, Bool, false, ◌&&◌, if◌then◌else◌}
-use Rattle.slot_rule.specs.Constants.{video_tb_gate, audio_tb_gate, mb_spare_bytes}
+use Rattle.slot_rule.specs.declared.constants.TheConstants.{VIDEO_TB_GATE, AUDIO_TB_GATE, MB_SPARE_BYTES}
 use Rattle.stream_constants.specs.declared.clock.TheConstants.{SUBTICKS_PER_TICK}
 use Rattle.stream_constants.specs.declared.decoder.TheConstants.{VIDEO_TB_SUBTICKS, AUDIO_TB_SUBTICKS, MB_SUBTICKS, EB_UNIT_BYTES, VIDEO_BYTES, AUDIO_BYTES}
 use Rattle.stream_constants.specs.declared.packets.TheConstants.{PACKET_BYTES}
@@ -74,12 +74,12 @@ eb_or_b_bytes Audio = AUDIO_BYTES
 
 -- the work that may wait in TB where a packet goes
 abbrev pub tb_gate : QueueKind → ℕ
-tb_gate (Video program vbv) = video_tb_gate * VIDEO_TB_SUBTICKS
-tb_gate Audio = audio_tb_gate * AUDIO_TB_SUBTICKS
+tb_gate (Video program vbv) = VIDEO_TB_GATE * VIDEO_TB_SUBTICKS
+tb_gate Audio = AUDIO_TB_GATE * AUDIO_TB_SUBTICKS
 
 -- the work that may wait in MB where a packet goes: MB's bytes less some that stay free
 abbrev pub mb_gate : (vbv : ℕ) → ℕ
-mb_gate vbv = (VIDEO_BYTES - EB_UNIT_BYTES * vbv - mb_spare_bytes) * MB_SUBTICKS
+mb_gate vbv = (VIDEO_BYTES - EB_UNIT_BYTES * vbv - MB_SPARE_BYTES) * MB_SUBTICKS
 
 -- a packet may go where so much work waits in MB; audio has none
 abbrev pub MbPermits : QueueKind → (work : ℕ) → Type 0

@@ -1,5 +1,4 @@
 pub mod Buffers
-pub mod Constants
 pub mod Private
 pub mod Queues
 pub mod Schedule

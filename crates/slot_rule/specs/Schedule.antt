@@ -1,7 +1,7 @@
 -- The slot rule: a relation between a table, a choice and the rows of the slots, and what misses.
 use Rattle.std.specs.Prelude.{◌≡◌, ℕ, ◌+◌, ◌*◌, ◌<◌, ◌≤◌, ◌⊎◌, List, [], ◌∷◌, ◌++◌, length, count_by, slice_get, Some, None}
 use Rattle.version_table.specs.declared.table.Table.{Table}
-use Rattle.slot_rule.specs.Constants.{margin_subticks}
+use Rattle.slot_rule.specs.declared.constants.TheConstants.{MARGIN_SUBTICKS}
 use Rattle.stream_constants.specs.declared.clock.TheConstants.{SUBTICKS_PER_TICK}
 use Rattle.stream_constants.specs.declared.decoder.TheConstants.{HOLD_TICKS}
 use Rattle.slot_rule.specs.declared.sent.Miss.{Miss}
@@ -56,7 +56,7 @@ FollowRule table choice rows =
 
 -- the time after the last of the rows, with the margin, in subticks
 abbrev pub end_with_margin : ℕ → List Row → ℕ
-end_with_margin slot rows = SUBTICKS_PER_TICK * (length rows * slot) + margin_subticks
+end_with_margin slot rows = SUBTICKS_PER_TICK * (length rows * slot) + MARGIN_SUBTICKS
 
 -- the work that waits for a packet of the queue which has come: in MB, or in TB of audio
 abbrev pub mb_or_tb_work : (slot stream : ℕ) → QueueKind → List Row → ℕ

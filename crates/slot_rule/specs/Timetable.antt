@@ -1,12 +1,12 @@
 -- Which slots are reserved, and for whom.
 use Rattle.std.specs.Prelude.{ℕ, ◌-◌, ◌*◌, ◌/◌, ◌%◌, ◌==◌, nat_le, Option, Some, None, if◌then◌else◌}
-use Rattle.slot_rule.specs.Constants.{period_ticks}
+use Rattle.slot_rule.specs.declared.constants.TheConstants.{PERIOD_TICKS}
 use Rattle.slot_rule.specs.declared.sent.Sent.{Sent}
 use Rattle.slot_rule.specs.declared.sent.Sent.TheVariants.{Pat, Pmt, Pcr}
 
 -- slots after which the timetable begins again, where a slot lasts this many ticks
 abbrev pub period : ℕ → ℕ
-period slot = period_ticks / slot
+period slot = PERIOD_TICKS / slot
 
 -- what a slot at this offset within the period is reserved for: the PAT, then the PMTs, then the PCRs
 abbrev pub reserved_at : (programs offset : ℕ) → Option Sent

@@ -13,11 +13,14 @@ use crate::run_state::RunState;
 use crate::sent::Miss;
 use crate::slots::run_slots;
 use version_table::Table;
+use version_table::limits::TIME_SLOTS_MOST;
 
 /// Slots from one checkpoint to the next.
 pub const SLOTS_APART: u32 = 4_096;
 /// Checkpoints of a run, at most: no packet is due in a slot after 1,024 times as many.
 pub const CHECKPOINTS_MOST: usize = 1_024;
+
+const _: () = prove!(CHECKPOINTS_MOST as u64 * SLOTS_APART as u64 == TIME_SLOTS_MOST);
 
 /// Leaves those checkpoints of one choice that stand under another one too, from the first on; `first` is what is kept
 /// before the first slot under the other.

@@ -1,7 +1,7 @@
 ghost use Rattle.std.specs.Prelude.{◌≡◌, ℕ, ◌<◌, ◌≤◌, None, length};
 ghost use Rattle.version_table.specs.declared.limits.TheConstants.{SLOT_LEAST, SLOT_MOST, PROGRAMS_MOST, TIME_SLOTS_MOST};
 ghost use Rattle.version_table.specs.Table.{IsValidTable};
-ghost use Rattle.slot_rule.specs.Constants.{period_ticks};
+ghost use Rattle.slot_rule.specs.declared.constants.TheConstants.{PERIOD_TICKS};
 ghost use Rattle.slot_rule.specs.Timetable.{period, reserved};
 
 use crate::constants::PERIOD_TICKS;
@@ -69,7 +69,7 @@ impl Timetable {
         requires most { self.now.slot ≤ SLOT_MOST }
         ensures value { result ≡ period self.now.slot }
         ensures some { 1 ≤ result }
-        ensures few { result ≤ period_ticks }
+        ensures few { result ≤ PERIOD_TICKS }
     {
         PERIOD_TICKS / self.slot
     }

@@ -1,7 +1,7 @@
 -- Start codes of a video stream (ISO/IEC 13818-2, 6.2.1).
-use Rattle.std.specs.Prelude.{ℕ, ◌+◌, ◌==◌, nat_lt, nat_le, Bool, false, ◌&&◌, ◌||◌, List, length, slice_index, Option, Some, None, if◌then◌else◌}
+use Rattle.std.specs.Prelude.{ℕ, ◌+◌, ◌==◌, nat_lt, Bool, false, ◌&&◌, ◌||◌, List, length, slice_index, Option, Some, None, if◌then◌else◌}
 use Rattle.std.specs.Option.{option_map_or}
-use Rattle.stream_constants.specs.declared.start_codes.TheConstants.{PICTURE, FIRST_SLICE, LAST_SLICE, SEQUENCE_HEADER, GROUP}
+use Rattle.stream_constants.specs.declared.start_codes.TheConstants.{PICTURE, SEQUENCE_HEADER, GROUP}
 
 -- the bytes 00 00 01 and a value behind them stand at the place
 abbrev pub is_start_code_at : List ℕ → ℕ → Bool
@@ -11,10 +11,6 @@ is_start_code_at es at =
 -- the value of the start code at the place, if one stands there
 abbrev pub start_code_at : List ℕ → ℕ → Option ℕ
 start_code_at es at = if is_start_code_at es at then Some (slice_index es (at + 3)) else None
-
--- values of slices (Table 6-1: slice_start_code)
-abbrev pub is_slice : ℕ → Bool
-is_slice value = nat_le FIRST_SLICE value && nat_le value LAST_SLICE
 
 -- the value of a sequence header (Table 6-1: sequence_header_code)
 abbrev pub is_sequence_header : ℕ → Bool

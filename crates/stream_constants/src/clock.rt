@@ -4,6 +4,9 @@ use crate::packets::PACKET_BYTES;
 /// Ticks in a second (system_clock_frequency).
 pub const TICKS_PER_SECOND: u64 = 27_000_000;
 
+// a frame of 30,000/1,001 a second lasts 900,900 ticks
+const _: () = prove!(TICKS_PER_SECOND * 1_001 == 900_900 * 30_000);
+
 /// Ticks in a unit of 1/90,000 s, in which a PTS, a DTS and the base of a PCR count (2.4.2.2).
 pub const TICKS_PER_TIME_UNIT: u64 = 300;
 

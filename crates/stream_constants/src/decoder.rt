@@ -1,7 +1,7 @@
 //! The buffers of the system target decoder and their rates, at Main level, by the leak method (13818-1, 2.4.2.3).
 //!
 //! A rate is kept as the subticks that one byte takes at it: `8 * SUBTICKS_PER_SECOND` over bits per second.
-use crate::clock::SUBTICKS_PER_SECOND;
+use crate::clock::{SUBTICKS_PER_SECOND, TICKS_PER_SECOND};
 use crate::main_level::{BITS_PER_SECOND_MOST, VBV_MOST};
 
 /// Bytes of a transport buffer TB, of each elementary stream and of system data.
@@ -22,6 +22,8 @@ const _: () = prove!(MB_SUBTICKS * BITS_PER_SECOND_MOST == 8 * SUBTICKS_PER_SECO
 /// Bytes of EB in each unit of vbv_buffer_size, 16,384 bits (13818-2, 6.3.3).
 pub const EB_UNIT_BYTES: u64 = 2_048;
 
+const _: () = prove!(8 * EB_UNIT_BYTES == 16_384);
+
 /// Bytes of a video stream's MB and EB together. MB has BSmux, 0.004 s of the level's bit rate, and BSoh, 1/750 s of
 /// it, and what EB leaves of the level's greatest vbv buffer.
 pub const VIDEO_BYTES: u64 = 239_376;
@@ -40,8 +42,10 @@ pub const AUDIO_TB_SUBTICKS: u64 = 101_520;
 
 const _: () = prove!(AUDIO_TB_SUBTICKS * 2_000_000 == 8 * SUBTICKS_PER_SECOND);
 
-/// Bytes of an audio stream's main buffer B: BSmux, BSdec and BSoh together.
+/// Bytes of an audio stream's main buffer B: BSmux, 736 bytes, and BSdec and BSoh together, 2,848.
 pub const AUDIO_BYTES: u64 = 3_584;
+
+const _: () = prove!(AUDIO_BYTES == 736 + 2_848);
 
 // ---- system data: the PAT and a program's PMT
 
@@ -63,3 +67,5 @@ pub const SYSTEM_BYTES: u64 = 1_536;
 
 /// Ticks that a byte may stay in the decoder, at most: one second (2.4.2.6).
 pub const HOLD_TICKS: u64 = 27_000_000;
+
+const _: () = prove!(HOLD_TICKS == TICKS_PER_SECOND);

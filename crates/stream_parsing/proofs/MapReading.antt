@@ -61,6 +61,7 @@ use Rattle.ts_demux.specs.Tables.{
   IsMapOf,
   IsPmtSection,
   IsSection,
+  Names,
   Stop,
   StopsAt,
   TakesPat,
@@ -81,7 +82,7 @@ use Rattle.mux_writer.specs.Layout.{map_pid}
 use Rattle.mux_writer.specs.Output.{sent_in}
 use Rattle.mux_writer.specs.Tables.{pat_section, pmt_section, programs_from}
 use Rattle.output_reading.specs.SentOn.{is_sent_on}
-use Rattle.stream_parsing.specs.TakenOut.{BeginWithTables, IsNumberedIn}
+use Rattle.stream_parsing.specs.TakenOut.{BeginWithTables, IsNumberedIn, LeadsToMap}
 use Rattle.stream_parsing.proofs.SectionReading.{SectionsAre, first-added, only-added, sent_there}
 
 -- no packet on a PID but that of the null packets has a fault
@@ -127,20 +128,23 @@ module _ (file : List ℕ) (layout : Layout) (rows : List Sent) (program : ℕ) 
   pmt_sent : sent_there layout (map_pid program) rows (program + 1) ≡ true
   pmt_sent = ap (λ (sent : Sent). is_sent_on layout (map_pid program) sent) (pmt_row program r.place) ∙ eq-eqb (map_pid program) (map_pid program) refl
 
-  takes : TakesPat file program_map.number 0 0 (map_pid program)
-  takes = record {
+  takes_by : (pid : ℕ) → Names program_map.number (Ok (pat_section layout)) pid → TakesPat file program_map.number 0 0 pid
+  takes_by pid named = record {
     found = Ok (pat_section layout);
     section = record {
       within = omega (arith, last, r.count);
       stands = first-added file layout rows 0 (Ok (pat_section layout)) r.pats 0 0 (omega arith) (omega (arith, last)) pat_sent;
     };
-    names = (programs_from 0 layout.maps.items, r.says, r.leads);
+    names = named;
     first = λ n k other before earlier section names. never n k earlier;
   }
     where
       never : (n k : ℕ) → IsBefore n k 0 0 → ⊥
       never n k (inl less) = omega (arith, less)
       never n k (inr both) = omega (arith, both.1)
+
+  takes : TakesPat file program_map.number 0 0 (map_pid program)
+  takes = takes_by (map_pid program) (programs_from 0 layout.maps.items, r.says, r.leads)
 
   from_is : pmt_from 0 (map_pid program) ≡ 1
   from_is = ap (λ (zero : Bool). cond {A = ℕ} zero 0 (0 + 1)) (ne_eqb (map_pid program) 0 (λ same. omega (arith, same)))
@@ -170,6 +174,17 @@ module _ (file : List ℕ) (layout : Layout) (rows : List Sent) (program : ℕ) 
   pat_found : (n k : ℕ) (found : Found) → IsSection file 0 0 n k found → found ≡ Ok (pat_section layout)
   pat_found n k found there =
       (only-added file layout rows 0 (Ok (pat_section layout)) r.pats 0 n k found (omega arith) (omega (arith, there.within, r.count)) there.stands).0
+
+  -- the PAT leads to the map's PID, wherever it stands
+  pub leads-to-map : LeadsToMap file program_map.number (map_pid program)
+  leads-to-map = record {
+    packet = 0;
+    index = 0;
+    taken = takes;
+    only = λ n k other found there named.
+        (one_pat file program_map.number 0 0 other 0 0 (map_pid program)
+        (takes_by other (subst (λ (f : Found). Names program_map.number f other) (pat_found n k found there) named)) takes).1;
+  }
 
   no_fault : (pid from n : ℕ) (fault : PidFault) → pid ≢ 0x1FFF → HasPidFault file pid from n fault → ⊥
   no_fault pid from n fault other has = none-some fault (sym (r.sound pid from n other has.behind (omega (arith, has.within, r.count)) has.of_pid) ∙ has.fault_is)

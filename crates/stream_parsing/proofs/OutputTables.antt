@@ -60,9 +60,9 @@ use Rattle.mux_writer.specs.Pieces.{IsPayload, Pieces}
 use Rattle.mux_writer.specs.Tables.{pat_section, pmt_section, programs_from}
 use Rattle.output_reading.specs.Fields.{HaveNumbersInRange, IsMapInRange}
 use Rattle.output_reading.specs.SentOn.{AreRowsOf, slots_between}
-use Rattle.stream_parsing.specs.TakenOut.{BeginWithTables, HasStreams, IsNumberedIn, taken_out}
+use Rattle.stream_parsing.specs.TakenOut.{BeginWithTables, HasStreams, IsNumberedIn, LeadsToMap, taken_out}
 use Rattle.stream_parsing.proofs.CarriedStreams.{all-carried, among-range}
-use Rattle.stream_parsing.proofs.MapReading.{ReadsTables, map-read}
+use Rattle.stream_parsing.proofs.MapReading.{ReadsTables, leads-to-map, map-read}
 use Rattle.stream_parsing.proofs.SectionReading.{synced}
 
 -- ---- the laws below, as this crate calls them
@@ -142,10 +142,10 @@ map-in-range layout program program_map range there =
 pub maps-are-read : CountsPackets → StandInOrder → ReadAsWritten → SoundAsSent → PatAgain → PmtAgain → PatSays → PatLeads → PmtSays
     → (layout : Layout) (slot : ℕ) (pieces : Pieces) (rows : List Sent) (program : ℕ) (program_map : ProgramMap) → AreRowsOf layout pieces rows
     → BeginWithTables (length layout.maps.items) rows → IsNumberedIn layout.maps.items program program_map
-    → HasMap (output_stream layout slot pieces rows) program_map.number (without_dropped program_map)
+    → HasMap (output_stream layout slot pieces rows) program_map.number (without_dropped program_map) × LeadsToMap (output_stream layout slot pieces rows) program_map.number (map_pid program)
 maps-are-read counts order written sound pat pmt says leads tells layout slot pieces rows program program_map are begin numbered =
     let goes = are.is_layout.maps program program_map numbered.there in
-    map-read (output_stream layout slot pieces rows) layout rows program program_map (record {
+    let reads : ReadsTables (output_stream layout slot pieces rows) layout rows program program_map = record {
       count = as-many counts order written layout slot pieces rows are;
       synced = each-synced counts order written layout slot pieces rows are;
       sound = λ pid from n other begun within of. sound layout slot pieces rows pid from n are other begun within of;
@@ -157,7 +157,8 @@ maps-are-read counts order written sound pat pmt says leads tells layout slot pi
       begin = begin;
       place = slice_get_within layout.maps.items program program_map numbered.there;
       few = are.few;
-    })
+    } in
+    (map-read (output_stream layout slot pieces rows) layout rows program program_map reads, leads-to-map (output_stream layout slot pieces rows) layout rows program program_map reads)
 
 -- ---- all that is taken out
 

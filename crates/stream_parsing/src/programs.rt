@@ -8,21 +8,25 @@ ghost use Rattle.psi_tables.specs.Pmt.{without_dropped};
 ghost use Rattle.ts_demux.specs.Demux.{IsDemuxed};
 ghost use Rattle.ts_demux.specs.Tables.{HasMap};
 ghost use Rattle.mux_writer.specs.declared.layout.Layout.{Layout};
+ghost use Rattle.mux_writer.specs.Layout.{map_pid};
 ghost use Rattle.mux_writer.specs.Output.{output_stream};
 ghost use Rattle.mux_writer.specs.Pieces.{Pieces};
 ghost use Rattle.output_reading.specs.SentOn.{AreRowsOf};
-ghost use Rattle.stream_parsing.specs.TakenOut.{BeginWithTables, HasStreams, IsNumberedIn, taken_out};
+ghost use Rattle.stream_parsing.specs.TakenOut.{BeginWithTables, HasStreams, IsNumberedIn, LeadsToMap, taken_out};
 
 use layer_laws::packets::packets_stand_in_order;
 use mux_writer::laws::read_as_written;
 use output_reading::pids::{pids_read_as_sent, tables_read_again_and_again};
 use output_reading::tables::{pat_read_as_written, pmt_read_as_written};
 
-/// The tables of each program of an output stream are read: the first PAT leads to its map, which is the one that was written.
+/// The tables of each program of an output stream are read: the first PAT leads to its map, which is the one that was written, and no PAT leads to another one.
 pub fn maps_are_read()
-    ensures { (layout : Layout) (slot : ℕ) (pieces : Pieces) (rows : List Sent) (program : ℕ) (program_map : ProgramMap) → AreRowsOf layout pieces rows
+    ensures read { (layout : Layout) (slot : ℕ) (pieces : Pieces) (rows : List Sent) (program : ℕ) (program_map : ProgramMap) → AreRowsOf layout pieces rows
         → BeginWithTables (length layout.maps.items) rows → IsNumberedIn layout.maps.items program program_map
         → HasMap (output_stream layout slot pieces rows) program_map.number (without_dropped program_map) }
+    ensures leads { (layout : Layout) (slot : ℕ) (pieces : Pieces) (rows : List Sent) (program : ℕ) (program_map : ProgramMap) → AreRowsOf layout pieces rows
+        → BeginWithTables (length layout.maps.items) rows → IsNumberedIn layout.maps.items program program_map
+        → LeadsToMap (output_stream layout slot pieces rows) program_map.number (map_pid program) }
 {
     packets_stand_in_order();
     read_as_written();

@@ -33,8 +33,9 @@ use Rattle.version_maker.specs.declared.version.UnitVersion.{UnitVersion}
 use Rattle.version_source.specs.Versions.{AreAllVersions, AreVideoVersions, ratios_of}
 use Rattle.program_table.specs.Table.{audio_row, program_row, program_rows, unit_rows}
 use Rattle.job_programs.specs.Programs.{AreNextPrograms, IsNextProgram, last_time}
-use Rattle.mux_writer.specs.Layout.{video_pid, with_output_pids, with_pids_from}
+use Rattle.mux_writer.specs.Layout.{map_pid, video_pid, with_output_pids, with_pids_from}
 use Rattle.stream_parsing.specs.Parsed.{AreReadAs, bytes_of}
+use Rattle.stream_parsing.specs.TakenOut.{LeadsToMap}
 use Rattle.job_reading.specs.ParsesTo.{ParsesTo, ParsesToProgram, sent_units}
 use Rattle.stream_times.specs.Carried.{CarriesTimes}
 use Rattle.stream_times.specs.Clock.{IsClock}
@@ -125,8 +126,8 @@ module _ (laws : SpellingLaws) (one : OneDemuxed) (wherever : WhereverItStands) 
   carries-one : (n : ℕ) (job : ProgramJob) (content : List ℕ) (p : Program) (coarser : List ℕ) (v : List (List UnitVersion)) (choice : List ℕ) (more : List CodedUnit) (contents : List (List ℕ))
       (programs : List Program) → IsNextProgram slot start contents programs job content p → AreVideoVersions p.video coarser None p.units v
       → AllZip HasVersion (unit_rows job.weight p.units v ++ more) choice → ParsesToProgram bytes content job (with_output_pids n job.number p.map) (sent_units p.units v choice)
-      → IsClock stream slot (video_pid n) p.base → CarriesTimes bytes stream slot n job.number (program_row job.weight p v) choice
-  carries-one n job content p coarser v choice more contents programs next versions fits read clock =
+      → LeadsToMap bytes job.number (map_pid n) → IsClock stream slot (video_pid n) p.base → CarriesTimes bytes stream slot n job.number (program_row job.weight p v) choice
+  carries-one n job content p coarser v choice more contents programs next versions fits read leads clock =
       let of = next.holds in
       let es : List ℕ = video_bytes of.demuxed in
       let placed : List PlacedPacket = video_packets of.demuxed in
@@ -162,6 +163,7 @@ module _ (laws : SpellingLaws) (one : OneDemuxed) (wherever : WhereverItStands) 
       record {
         demuxed = read.demuxed;
         taken_out = read.taken_out;
+        map_pid_is = leads;
         pids = ap pids_of read.map_is ∙ pids-in-a-row (video_pid n) streams ∙ ap (range_with_len (video_pid n)) many;
         base = p.base;
         clock = subst (λ (pid : ℕ). IsClock stream slot pid p.base) (sym (ap (λ (m : ProgramMap). m.pcr_pid) read.map_is)) clock;
@@ -219,26 +221,28 @@ module _ (laws : SpellingLaws) (one : OneDemuxed) (wherever : WhereverItStands) 
   pub carries-each : (n : ℕ) (jobs : List ProgramJob) (programs : List Program) (versions : List (List (List UnitVersion))) (choice : List ℕ) (read : List (List ℕ)) (done : List Program)
       (further : List (List ℕ)) → AreNextPrograms slot start read done jobs further programs → AreAllVersions programs (ratios_of jobs) versions
       → AllZip HasVersion (flat_map (λ (row : ProgramRow). row.units) (program_rows jobs programs versions)) choice → ParsesTo bytes n jobs further programs versions choice
+      → ((place number : ℕ) → slice_get (map (λ (job : ProgramJob). job.number) jobs) place ≡ Some number → LeadsToMap bytes number (map_pid (n + place)))
       → ((place : ℕ) (p : Program) → slice_get programs place ≡ Some p → IsClock stream slot (video_pid (n + place)) p.base)
       → (place number : ℕ) (row : ProgramRow) → slice_get (map (λ (job : ProgramJob). job.number) jobs) place ≡ Some number → slice_get (program_rows jobs programs versions) place ≡ Some row
       → CarriesTimes bytes stream slot (n + place) number row (choice_from (program_rows jobs programs versions) place choice)
-  carries-each n [] programs versions choice read done further next are_versions fits back clock zero number row there found = absurd (none-some number there)
-  carries-each n [] programs versions choice read done further next are_versions fits back clock (suc place) number row there found = absurd (none-some number there)
-  carries-each n (j ∷ js) [] versions choice read done further next are_versions fits back clock zero number row there found = absurd (none-some row found)
-  carries-each n (j ∷ js) [] versions choice read done further next are_versions fits back clock (suc place) number row there found = absurd (none-some row found)
-  carries-each n (j ∷ js) (p ∷ ps) [] choice read done further next are_versions fits back clock zero number row there found = absurd (none-some row found)
-  carries-each n (j ∷ js) (p ∷ ps) [] choice read done further next are_versions fits back clock (suc place) number row there found = absurd (none-some row found)
-  carries-each n (j ∷ js) (p ∷ ps) (v ∷ vs) choice read done [] next are_versions fits back clock place number row there found = absurd next
-  carries-each n (j ∷ js) (p ∷ ps) (v ∷ vs) choice read done (c ∷ cs) next are_versions fits back clock zero number row there found =
+  carries-each n [] programs versions choice read done further next are_versions fits back leads clock zero number row there found = absurd (none-some number there)
+  carries-each n [] programs versions choice read done further next are_versions fits back leads clock (suc place) number row there found = absurd (none-some number there)
+  carries-each n (j ∷ js) [] versions choice read done further next are_versions fits back leads clock zero number row there found = absurd (none-some row found)
+  carries-each n (j ∷ js) [] versions choice read done further next are_versions fits back leads clock (suc place) number row there found = absurd (none-some row found)
+  carries-each n (j ∷ js) (p ∷ ps) [] choice read done further next are_versions fits back leads clock zero number row there found = absurd (none-some row found)
+  carries-each n (j ∷ js) (p ∷ ps) [] choice read done further next are_versions fits back leads clock (suc place) number row there found = absurd (none-some row found)
+  carries-each n (j ∷ js) (p ∷ ps) (v ∷ vs) choice read done [] next are_versions fits back leads clock place number row there found = absurd next
+  carries-each n (j ∷ js) (p ∷ ps) (v ∷ vs) choice read done (c ∷ cs) next are_versions fits back leads clock zero number row there found =
       let later : List CodedUnit = flat_map (λ (r : ProgramRow). r.units) (program_rows js ps vs) in
       let at : n ≡ n + 0 = omega arith in
       let here : CarriesTimes bytes stream slot n j.number (program_row j.weight p v) choice =
       carries-one n j c p j.coarser.items v choice later read done next.0 are_versions.0 fits back.0
+      (subst (λ (k : ℕ). LeadsToMap bytes j.number (map_pid k)) (sym at) (leads 0 j.number refl))
       (subst (λ (k : ℕ). IsClock stream slot (video_pid k) p.base) (sym at) (clock 0 p refl)) in
       subst (λ (r : ProgramRow). CarriesTimes bytes stream slot (n + 0) number r choice) (same_Some (program_row j.weight p v) row found)
       (subst (λ (k : ℕ). CarriesTimes bytes stream slot (n + 0) k (program_row j.weight p v) choice) (same_Some j.number number there)
       (subst (λ (k : ℕ). CarriesTimes bytes stream slot k j.number (program_row j.weight p v) choice) at here))
-  carries-each n (j ∷ js) (p ∷ ps) (v ∷ vs) choice read done (c ∷ cs) next are_versions fits back clock (suc place) number row there found =
+  carries-each n (j ∷ js) (p ∷ ps) (v ∷ vs) choice read done (c ∷ cs) next are_versions fits back leads clock (suc place) number row there found =
       let later : List CodedUnit = flat_map (λ (r : ProgramRow). r.units) (program_rows js ps vs) in
       let own : List CodedUnit = unit_rows j.weight p.units v in
       let before : List CodedUnit = flat_map (λ (r : ProgramRow). r.units) (take place (program_rows js ps vs)) in
@@ -250,4 +254,5 @@ module _ (laws : SpellingLaws) (one : OneDemuxed) (wherever : WhereverItStands) 
       subst (λ (k : ℕ). CarriesTimes bytes stream slot k number row (drop (length (own ++ before)) choice)) (at place)
       (subst (λ (c : List ℕ). CarriesTimes bytes stream slot (n + 1 + place) number row c) part
       (carries-each (n + 1) js ps vs (drop (length p.units) choice) (read ++ c ∷ []) (done ++ p ∷ []) cs next.1 are_versions.1 behind back.1
+      (λ k other stands. subst (λ (m : ℕ). LeadsToMap bytes other (map_pid m)) (sym (at k)) (leads (suc k) other stands))
       (λ k q stands. subst (λ (m : ℕ). IsClock stream slot (video_pid m) q.base) (sym (at k)) (clock (suc k) q stands)) place number row there found))

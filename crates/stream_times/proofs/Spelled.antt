@@ -15,7 +15,8 @@ use Rattle.requantiser.specs.Version.{IsLawfulBehind, IsVersion}
 use Rattle.version_maker.specs.declared.version.UnitVersion.{UnitVersion}
 use Rattle.version_maker.specs.Versions.{AreVersions, IsCoarserVersion, IsSourceVersion}
 use Rattle.version_source.specs.Versions.{chosen_bytes}
-use Rattle.stream_times.proofs.WithoutDelay.{HeadIsRead, covered-without, spelled-without, with_head, without}
+use Rattle.stream_times.proofs.WithoutDelay.{HeadIsRead, covered-without, spelled-without, with_head}
+use Rattle.picture_heads.proofs.ReadHeads.{without_delay}
 
 -- ---- the laws below, as this proof calls them
 
@@ -43,7 +44,7 @@ pub record SpellsAlike (before : Option SeqState) (picture : Picture) (bytes : L
   pub spelled : Picture
   pub whole : IsPictureOf before bytes spelled
   pub seq_is : spelled.seq ≡ picture.seq
-  pub coding_is : spelled.coding ≡ without picture.coding
+  pub coding_is : spelled.coding ≡ without_delay picture.coding
 
 source-alike : SpellingLaws → (before : Option SeqState) (picture : Picture) (unit : List ℕ) (version : UnitVersion) → IsPictureOf before unit picture → IsSourceVersion picture unit version
     → SpellsAlike before picture version.bytes
@@ -51,8 +52,8 @@ source-alike laws before picture unit version whole is = record {
   spelled = with_head picture is.head;
   whole = record {
     spelled = subst (SpellsPicture before (with_head picture is.head)) (sym is.bytes)
-        (spelled-without laws.head before picture is.head is.behind is.without (subst (SpellsPicture before picture) is.source whole.spelled));
-    covered = covered-without picture is.head whole.covered;
+        (spelled-without_delay laws.head before picture is.head is.behind is.without (subst (SpellsPicture before picture) is.source whole.spelled));
+    covered = covered-without_delay picture is.head whole.covered;
   };
   seq_is = refl;
   coding_is = refl;

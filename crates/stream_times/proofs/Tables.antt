@@ -21,10 +21,11 @@ use Rattle.version_source.specs.Versions.{AreAllVersions, ratios_of}
 use Rattle.program_table.specs.Table.{program_rows}
 use Rattle.job_programs.specs.Programs.{ArePrograms}
 use Rattle.mux_writer.specs.declared.layout.Layout.{Layout}
-use Rattle.mux_writer.specs.Layout.{video_pid}
+use Rattle.mux_writer.specs.Layout.{map_pid, video_pid}
 use Rattle.mux_writer.specs.Output.{output_packets, output_stream}
 use Rattle.mux_writer.specs.Pieces.{Pieces}
 use Rattle.job_stream.specs.Stream.{layout_of}
+use Rattle.stream_parsing.specs.TakenOut.{LeadsToMap}
 use Rattle.job_reading.specs.ParsesTo.{ParsesTo}
 use Rattle.stream_times.specs.Carried.{CarriesTable, CarriesTimes}
 use Rattle.stream_times.specs.Clock.{IsClock}
@@ -54,8 +55,10 @@ pub times-carried : SpellingLaws → OneDemuxed → WhereverItStands → (job : 
     → All (λ (base : ℕ). base < 2576980377600) (map (λ (program : Program). program.base) programs)
     → packets (output_stream (layout_of job programs) job.slot pieces slots.rows) ≡ map Some (output_packets (layout_of job programs) job.slot pieces slots.rows)
     → ParsesTo (output_stream (layout_of job programs) job.slot pieces slots.rows) 0 job.programs contents programs versions choice
+    → ((place number : ℕ) → slice_get (map (λ (program : ProgramJob). program.number) job.programs) place ≡ Some number
+    → LeadsToMap (output_stream (layout_of job programs) job.slot pieces slots.rows) number (map_pid place))
     → CarriesTable table choice (map (λ (program : ProgramJob). program.number) job.programs) (output_stream (layout_of job programs) job.slot pieces slots.rows)
-times-carried laws one wherever job contents programs table choice slots pieces versions valid are slot_is rows_are are_versions table_valid fits list bases read back = record {
+times-carried laws one wherever job contents programs table choice slots pieces versions valid are slot_is rows_are are_versions table_valid fits list bases read back leads = record {
   stream = output_packets layout job.slot pieces slots.rows;
   read = read;
   as_many = length-map job.programs (λ (program : ProgramJob). program.number) ∙ many.1 ∙ sym (ap length rows_are);
@@ -72,7 +75,7 @@ times-carried laws one wherever job contents programs table choice slots pieces 
       (choice_from (program_rows job.programs programs versions) place choice))
       (let e : 0 + place ≡ place = omega arith in e)
       (carries-each laws one wherever (output_stream layout job.slot pieces slots.rows) (output_packets layout job.slot pieces slots.rows) job.slot job.start (omega (arith, valid.slot_most)) 0
-      job.programs programs versions choice [] [] contents are are_versions fit back clocks place number row there
+      job.programs programs versions choice [] [] contents are are_versions fit back led clocks place number row there
       (sym (ap (λ (rows : List ProgramRow). slice_get rows place) rows_are) ∙ found))));
 }
   where
@@ -84,6 +87,11 @@ times-carried laws one wherever job contents programs table choice slots pieces 
 
     fit : AllZip HasVersion (flat_map (λ (row : ProgramRow). row.units) (program_rows job.programs programs versions)) choice
     fit = subst (λ (rows : List ProgramRow). AllZip HasVersion (flat_map (λ (row : ProgramRow). row.units) rows) choice) rows_are fits
+
+    led : (place number : ℕ) → slice_get (map (λ (program : ProgramJob). program.number) job.programs) place ≡ Some number
+        → LeadsToMap (output_stream layout job.slot pieces slots.rows) number (map_pid (0 + place))
+    led place number there =
+        subst (λ (k : ℕ). LeadsToMap (output_stream layout job.slot pieces slots.rows) number (map_pid k)) (let e : place ≡ 0 + place = omega arith in e) (leads place number there)
 
     clocks : (place : ℕ) (p : Program) → slice_get programs place ≡ Some p → IsClock (output_packets layout job.slot pieces slots.rows) job.slot (video_pid (0 + place)) p.base
     clocks place p there =

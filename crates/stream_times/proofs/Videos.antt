@@ -43,7 +43,8 @@ use Rattle.job_reading.specs.ParsesTo.{sent_units}
 use Rattle.stream_times.specs.Video.{AreDecoded, DecodedPicture, IsDecodedWhen, stated_time}
 use Rattle.stream_times.proofs.Spelled.{SpellingLaws, SpellsAlike, chosen-alike, one-picture}
 use Rattle.stream_times.proofs.Ticks.{due-behind, due-shown, stated-shown}
-use Rattle.stream_times.proofs.WithoutDelay.{without}
+use Rattle.picture_heads.proofs.ReadHeads.{without_delay}
+use Rattle.program_reader.proofs.StreamLemmas.{passes}
 
 -- ---- times
 
@@ -61,7 +62,7 @@ read-time packet times payload read =
 
 -- the picture that goes out: that of the source, but for its vbv_delay, with the time at which its unit is due
 abbrev pub outgoing : TimedPicture → UnitSource → DecodedPicture
-outgoing picture unit = record { seq = picture.seq; coding = without picture.coding; role = picture.role; at = unit.due }
+outgoing picture unit = record { seq = picture.seq; coding = without_delay picture.coding; role = picture.role; at = unit.due }
 
 abbrev pub all_outgoing : List TimedPicture → List UnitSource → List DecodedPicture
 all_outgoing (picture ∷ pictures) (unit ∷ units) = outgoing picture unit ∷ all_outgoing pictures units
@@ -71,7 +72,7 @@ all_outgoing pictures units = []
 abbrev pub IsLike : (start : ℕ) → (earliest : ℤ) → Option TimedPicture → Option DecodedPicture → Type 0
 IsLike start earliest None None = Unit {0}
 IsLike start earliest (Some before) (Some earlier) =
-    (earlier.seq ≡ before.seq) × (earlier.coding ≡ without before.coding) × (earlier.role ≡ before.role) × IsDue start earliest before.ticks earlier.at
+    (earlier.seq ≡ before.seq) × (earlier.coding ≡ without_delay before.coding) × (earlier.role ≡ before.role) × IsDue start earliest before.ticks earlier.at
 IsLike start earliest before earlier = ⊥
 
 like-state : (start : ℕ) (earliest : ℤ) (before : Option TimedPicture) (earlier : Option DecodedPicture) → IsLike start earliest before earlier
@@ -138,7 +139,7 @@ module _ (laws : SpellingLaws) (es coarser : List ℕ) (placed : List PlacedPack
       let same : here.picture ≡ next.coded.picture = one-picture state unit here.picture next.coded.picture here.whole own in
       let left : leaves.picture ≡ next.coded.picture = one-picture state unit leaves.picture next.coded.picture leaves.whole own in
       let seq : alike.spelled.seq ≡ p.seq = alike.seq_is ∙ ap (λ (x : Picture). x.seq) same ∙ next.coded.seq_is in
-      let coding : alike.spelled.coding ≡ without p.coding = alike.coding_is ∙ ap (λ (x : Picture). without x.coding) same ∙ ap without next.coded.coding_is in
+      let coding : alike.spelled.coding ≡ without_delay p.coding = alike.coding_is ∙ ap (λ (x : Picture). without_delay x.coding) same ∙ ap without_delay next.coded.coding_is in
       let behind : after ≡ p.seq = sym leaves.after_is ∙ ap (λ (x : Picture). x.seq) left ∙ next.coded.seq_is in
       let payload : payload_of o ≡ chosen_bytes v n = read.0.payload_is in
       let time : stated_time o ≡ decoding_time p.times = read-time o u.times (chosen_bytes v n) read.0 ∙ ap decoding_time are.2 in
@@ -172,10 +173,6 @@ dues-are es coarser weight start earliest state (k ∷ ks) (p ∷ ps) (u ∷ us)
     ap (λ (dues : List ℕ). u.due ∷ dues) (dues-are es coarser weight start earliest (Some after) ks ps us vs are.4 rest)
 
 -- ---- sizes
-
-passes : (found : Option PesFault) (sound : Bool) → (if is_some found then found else if sound then None else Some BadLength) ≡ None → found ≡ None
-passes None sound is = refl
-passes (Some fault) sound is = absurd cc
 
 -- a PES packet that is read with a payload is as long as the header that was written and the payload
 whole-length : (times : Times) (payload bytes : List ℕ) → IsReadAsVideo times payload bytes → length bytes ≡ length (written_header times) + length payload

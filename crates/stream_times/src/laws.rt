@@ -18,7 +18,7 @@ ghost use Rattle.stream_times.specs.Carried.{CarriesTable, IsCleanByItsTimes};
 ghost use Rattle.stream_times.specs.Clock.{IsClock, IsFirstShown};
 
 use clean_stream::laws::stream_is_clean;
-use job_reading::programs::programs_are_read_back;
+use job_reading::programs::{pat_leads_to_the_maps, programs_are_read_back};
 use job_reading::streams::slots_are_rows;
 use layer_laws::pes::audio_packet_wherever_it_stands;
 use mux_writer::laws::read_as_written;
@@ -38,6 +38,7 @@ pub fn stream_carries_its_times()
         → CarriesTable table choice (map (λ program. program.number) job.programs) stream }
 {
     programs_are_read_back();
+    pat_leads_to_the_maps();
     slots_are_rows();
     audio_packet_wherever_it_stands();
     read_as_written();

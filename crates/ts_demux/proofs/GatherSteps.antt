@@ -53,18 +53,7 @@ use Rattle.ts_demux.specs.Tables.{HasPidFault}
 use Rattle.ts_demux.specs.Demux.{IsStreamFault, AreStreamsSound, packets_of}
 use Rattle.ts_demux.specs.Private.PesGatherer.{Gathers, AllGather, gatherer_pids, AllGatherMore, stream_gathered}
 use Rattle.ts_demux.specs.Private.StreamWalk.{IsGatherFault}
-
-slice_get-set_same : {X : Type 0} (xs : List X) (n : ℕ) (x : X) → n < length xs → slice_get (set xs n x) n ≡ Some x
-slice_get-set_same [] n x within = absurd (omega arith)
-slice_get-set_same (y ∷ xs) zero x within = refl
-slice_get-set_same (y ∷ xs) (suc n) x within = slice_get-set_same xs n x (omega arith)
-
-slice_get-set_other : {X : Type 0} (xs : List X) (n k : ℕ) (x : X) → (k ≡ n → ⊥) → slice_get (set xs n x) k ≡ slice_get xs k
-slice_get-set_other [] n k x apart = refl
-slice_get-set_other (y ∷ xs) zero zero x apart = absurd (apart refl)
-slice_get-set_other (y ∷ xs) zero (suc k) x apart = refl
-slice_get-set_other (y ∷ xs) (suc n) zero x apart = refl
-slice_get-set_other (y ∷ xs) (suc n) (suc k) x apart = slice_get-set_other xs n k x (λ e. apart (ap suc e))
+use Rattle.list_types.proofs.Lists.{slice_get-set_same, slice_get-set_other}
 
 pids_same : (xs : List PesGatherer) (n : ℕ) (d x : PesGatherer) → n < length xs → x.pid ≡ (get_or xs n d).pid → gatherer_pids (set xs n x) ≡ gatherer_pids xs
 pids_same [] n d x within same = absurd (omega arith)

@@ -1,4 +1,5 @@
 pub mod PayloadLemmas
+mod PidTests
 pub mod Readings
 pub mod SectionLemmas
 pub mod TableLemmas

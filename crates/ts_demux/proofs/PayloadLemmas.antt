@@ -47,10 +47,7 @@ use Rattle.ts_packets.specs.TransportStream.{Piece, piece_at, piece_count, is_of
 use Rattle.ts_packets.specs.Carried.{PlacedPacket, placed, has_payload, payload_packets, is_repeat, not_repeated, carried_by}
 use Rattle.ts_demux.specs.Payloads.{not_repeated_behind, payload_behind}
 use Rattle.ts_demux.specs.Private.PayloadWalk.{with_payload, payload_packet, repeats}
-
--- a packet at a place
-abbrev placed_at : ℕ → PacketRecord → PlacedPacket
-placed_at at packet = record { at = at; packet = packet }
+use Rattle.ts_packets.proofs.CarriedLemmas.{placed_at}
 
 -- the n-th packet as a piece
 abbrev piece : List ℕ → ℕ → Piece

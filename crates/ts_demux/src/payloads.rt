@@ -5,7 +5,7 @@ ghost use Rattle.ts_demux.specs.Payloads.{payload_behind};
 ghost use Rattle.ts_demux.specs.Private.PayloadWalk.{IsRefilled};
 
 use crate::payload_walk::{Added, PayloadWalk};
-use shelf_io::{Fault, Source};
+use shelf_io::{Fault, Source, copy_front};
 use std::marker::Model;
 
 /// A source over the joined payload of one PID, which never fails. A packet that is sent twice is taken once, and what
@@ -57,15 +57,6 @@ fn refilled<'a>(walk: &mut PayloadWalk<'a>, current: &'a [u8]) -> &'a [u8]
         }
     }
     payload
-}
-
-/// Copies as many bytes as fit into the front of a buffer, and answers how many.
-fn copy_front(bytes: &[u8], buf: &mut [u8]) -> usize
-    ensures { CopiesFront bytes.now buf.old buf.new result }
-{
-    let count = bytes.len().min(buf.len());
-    buf[..count].copy_from_slice(&bytes[..count]);
-    count
 }
 
 impl<'a> Source for Payloads<'a> {

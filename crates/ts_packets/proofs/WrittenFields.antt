@@ -16,11 +16,7 @@ use Rattle.ts_packets.specs.AdaptationField.{
   written_field_bytes,
 }
 use Rattle.ts_packets.proofs.Elements.{discontinuity_indicator-is, pcr_flag-is, program_clock_reference_base-is, program_clock_reference_extension-is}
-
--- a flag is one bit, and says what it was written from
-pub flag_below : (is_set : Bool) → flag is_set < 2
-flag_below true = omega arith
-flag_below false = omega arith
+use Rattle.bit_lists.proofs.FieldLemmas.{flag_below}
 
 pub flag_tells : (is_set : Bool) → (flag is_set == 1) ≡ is_set
 flag_tells true = refl

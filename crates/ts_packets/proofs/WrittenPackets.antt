@@ -38,7 +38,8 @@ use Rattle.ts_packets.proofs.Elements.{
 }
 use Rattle.ts_packets.proofs.Refusals.{allowed, same_record}
 use Rattle.ts_packets.proofs.Writing.{length-written_field_bytes}
-use Rattle.ts_packets.proofs.WrittenFields.{flag_below, flag_tells, field_of-written, pcr-written}
+use Rattle.ts_packets.proofs.WrittenFields.{flag_tells, field_of-written, pcr-written}
+use Rattle.bit_lists.proofs.FieldLemmas.{flag_below}
 
 -- what the first four bytes of a packet say
 record IsFront (packet : PacketRecord) (bytes : List ℕ) : Type 0 where

@@ -3,7 +3,7 @@ use Rattle.std.proofs.Common.{◌≡◌, ℕ, ◌+◌, ◌-◌, ◌*◌, ◌/◌
 use Rattle.std.proofs.lemmas.Bool.{cases_lt, eqb-true, eqb-false, leb-true}
 use Rattle.std.proofs.lemmas.Nat.{div-add-mod', mod-mul-add, mod_below}
 use Rattle.std.proofs.lemmas.Option.{none-some}
-use Rattle.slot_rule.specs.Constants.{period_ticks}
+use Rattle.slot_rule.specs.declared.constants.TheConstants.{PERIOD_TICKS}
 use Rattle.slot_rule.specs.Timetable.{period, reserved_at}
 use Rattle.slot_rule.specs.declared.sent.Sent.{Sent}
 use Rattle.slot_rule.specs.declared.sent.Sent.TheVariants.{Null, Pat, Pmt, Pcr, Video as VideoPiece, Audio as AudioPiece}
@@ -25,10 +25,10 @@ next_place n period some =
     ]
 
 -- a period lasts its ticks, but for a part of a slot
-pub long_period : (slot : ℕ) → 0 < slot → period_ticks < period slot * slot + slot
+pub long_period : (slot : ℕ) → 0 < slot → PERIOD_TICKS < period slot * slot + slot
 long_period slot some =
-    let whole : period_ticks / slot * slot + period_ticks % slot ≡ period_ticks = div-add-mod' period_ticks slot in
-    let below : period_ticks % slot < slot = mod_below period_ticks slot some in
+    let whole : PERIOD_TICKS / slot * slot + PERIOD_TICKS % slot ≡ PERIOD_TICKS = div-add-mod' PERIOD_TICKS slot in
+    let below : PERIOD_TICKS % slot < slot = mod_below PERIOD_TICKS slot some in
     omega (arith, whole, below)
 
 pub pat_place : (programs offset : ℕ) → reserved_at programs offset ≡ Some Pat → offset ≡ 0

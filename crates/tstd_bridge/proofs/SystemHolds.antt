@@ -7,7 +7,7 @@ use Rattle.stream_constants.specs.declared.decoder.TheConstants.{TB_BYTES, SYSTE
 use Rattle.version_table.specs.declared.limits.TheConstants.{PROGRAMS_MOST, SLOT_MOST}
 use Rattle.version_table.specs.declared.table.Table.{Table}
 use Rattle.version_table.specs.Table.{IsValidTable}
-use Rattle.slot_rule.specs.Constants.{period_ticks}
+use Rattle.slot_rule.specs.declared.constants.TheConstants.{PERIOD_TICKS}
 use Rattle.slot_rule.specs.Timetable.{period}
 use Rattle.slot_rule.specs.declared.row.Row.{Row}
 use Rattle.slot_rule.specs.declared.row.Row.TheVariants.{Reserved, Carries, Empty}
@@ -34,10 +34,10 @@ record IsLong (slot : ℕ) : Type 0 where
   pub work : period_work ≤ period slot * slot_subticks slot
   pub slots : PROGRAMS_MOST + 1 < period slot
 
-long_work : (p slot : ℕ) → period_ticks < p * slot + slot → slot ≤ SLOT_MOST → period_work ≤ p * slot_subticks slot
+long_work : (p slot : ℕ) → PERIOD_TICKS < p * slot + slot → slot ≤ SLOT_MOST → period_work ≤ p * slot_subticks slot
 long_work p slot long short = omega (arith, long, short)
 
-long_slots : (p slot : ℕ) → period_ticks < p * slot + slot → slot ≤ SLOT_MOST → PROGRAMS_MOST + 1 < p
+long_slots : (p slot : ℕ) → PERIOD_TICKS < p * slot + slot → slot ≤ SLOT_MOST → PROGRAMS_MOST + 1 < p
 long_slots p slot long short = elim (cases_lt (PROGRAMS_MOST + 1) p) as (λ _. PROGRAMS_MOST + 1 < p) [
   | inl more ↦ more
   | inr few ↦ absurd (omega (arith, long, short, mul-le p slot (PROGRAMS_MOST + 1) slot few (le_refl slot)))

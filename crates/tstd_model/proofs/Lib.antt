@@ -5,6 +5,7 @@ pub mod CursorSteps
 pub mod DecoderWalks
 pub mod Examples
 pub mod FaultLaws
+pub mod HeaderExamples
 pub mod LateLaws
 pub mod Limits
 pub mod OldLaws

@@ -85,9 +85,6 @@ impl<'a> Instants for RemovedBytes<'a> {
     ghost left = { λ bytes. map (λ byte. byte.at) bytes };
 
     fn next(&mut self) -> Option<u64> {
-        match self.next_byte() {
-            Some(byte) => Some(byte.at),
-            None => None,
-        }
+        self.next_byte().map(|byte| byte.at)
     }
 }

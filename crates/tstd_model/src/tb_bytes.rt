@@ -62,10 +62,7 @@ impl<'a> Instants for TbBytes<'a> {
     ghost left = { λ bytes. instants_of bytes };
 
     fn next(&mut self) -> Option<u64> {
-        match self.next_byte() {
-            Some(byte) => Some(byte.at),
-            None => None,
-        }
+        self.next_byte().map(|byte| byte.at)
     }
 }
 
@@ -73,9 +70,6 @@ impl<'a> Instants for PacketBytes<'a> {
     ghost left = { λ bytes. instants_of bytes };
 
     fn next(&mut self) -> Option<u64> {
-        match self.next_byte() {
-            Some(byte) => Some(byte.at),
-            None => None,
-        }
+        self.next_byte().map(|byte| byte.at)
     }
 }

@@ -10,14 +10,14 @@ use Rattle.bit_lists.specs.Fields.{flag}
 use Rattle.bit_lists.proofs.BitLemmas.{length-bits_of}
 use Rattle.prefix_codes.specs.declared.symbol.TheConstants.{END_OF_BLOCK, ESCAPE}
 use Rattle.prefix_codes.specs.declared.table_name.TableName.{TableName}
-use Rattle.prefix_codes.specs.TableName.{coefficient_code}
+use Rattle.prefix_codes.specs.TableName.{coefficient_code, code_for}
 use Rattle.syntax_types.specs.declared.block.Block.{Block}
 use Rattle.syntax_types.specs.declared.block.BlockWay.{BlockWay}
 use Rattle.syntax_types.specs.declared.block.Dc.{Dc}
 use Rattle.syntax_types.specs.declared.block.RunLevel.{RunLevel}
 use Rattle.picture_grammar.specs.Block.{coefficient_table, dc_coefficient, dc_table, first_place}
 use Rattle.picture_grammar.specs.Grammar.{optional}
-use Rattle.picture_grammar.specs.Written.{code_for, if_any, level_bits, written_block, written_coefficient, written_coefficients, written_dc, written_escape}
+use Rattle.picture_grammar.specs.Written.{if_any, level_bits, written_block, written_coefficient, written_coefficients, written_dc, written_escape}
 use Rattle.picture_laws.specs.Spellable.{HasSpellableCoefficients, IsSpellableBlock}
 use Rattle.version_bounds.proofs.Codes.{code-short, coefficient_code-short, dc_size-small}
 

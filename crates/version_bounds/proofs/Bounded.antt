@@ -22,7 +22,7 @@ use Rattle.picture_grammar.specs.StartCode.{start_code_bits}
 use Rattle.picture_grammar.specs.Written.{written_picture, written_slice, written_slice_info}
 use Rattle.picture_laws.proofs.Codings.{coding-of_unit}
 use Rattle.picture_laws.proofs.SpelledStates.{state-of_unit}
-use Rattle.picture_laws.proofs.WrittenPicture.{slices-of_picture}
+use Rattle.picture_laws.proofs.WrittenPicture.{slices-of_picture, length-start_code}
 use Rattle.requantiser.specs.Slices.{IsCoarserSlice}
 use Rattle.requantiser.proofs.LawfulVersions.{version-lawful, version-spelled}
 use Rattle.requantiser.proofs.MacroblockSteps.{span_of}
@@ -33,18 +33,15 @@ use Rattle.version_maker.specs.declared.version.UnitVersion.{UnitVersion}
 use Rattle.version_maker.specs.declared.version.VersionSize.{VersionSize}
 use Rattle.version_maker.specs.Versions.{AreSizes, AreVersions, IsCoarserVersion, IsSourceVersion, size_of}
 use Rattle.version_maker.specs.Private.Counts.{written_whole}
-use Rattle.version_maker.proofs.Counts.{few-macroblocks, slice-length, start_code-length}
+use Rattle.version_maker.proofs.Counts.{few-macroblocks, slice-length}
 use Rattle.version_maker.proofs.Lists.{head-length, source-length}
 use Rattle.version_maker.proofs.Units.{lawful-unit}
 use Rattle.version_bounds.proofs.SliceBits.{coded, info-some, info_bits, slices-short}
 use Rattle.version_bounds.proofs.Steps.{HaveMakings, have-makings, makings-most}
 use Rattle.version_bounds.proofs.UnitBits.{unit-told}
+use Rattle.version_maker.proofs.UnitSizes.{held}
 
 -- ---- how many macroblocks a picture has
-
-held : (ms : List Macroblock) → length ms ≤ sum_by span_of ms - first_column ms
-held [] = omega arith
-held (m ∷ ms) = omega (arith, sum_by-cons span_of m ms, few-macroblocks ms)
 
 slice-held : (seq : SeqState) (s : Slice) → coded s ≤ length (addresses seq s)
 slice-held seq s = omega (
@@ -100,7 +97,7 @@ distortion-most picture m version lawful is =
 -- ---- its bytes
 
 end-length : (sequence_end : Bool) → length (if sequence_end then start_code_bits SEQUENCE_END else []) ≤ 32
-end-length true = omega (arith, start_code-length SEQUENCE_END)
+end-length true = omega (arith, length-start_code SEQUENCE_END)
 end-length false = omega arith
 
 written-length : (made : Picture) → length (written_picture made) ≤ 8 * length made.head + length (flat_map (written_whole made.coding) made.slices) + 32

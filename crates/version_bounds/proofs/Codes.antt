@@ -8,11 +8,11 @@ use Rattle.prefix_codes.specs.declared.table_name.TableName.{TableName}
 use Rattle.prefix_codes.specs.declared.table_name.TableName.TheVariants.{Address, TypeI, TypeP, TypeB, Pattern, Motion, DcLuma, DcChroma, CoeffZero, CoeffFirst, CoeffOne}
 use Rattle.prefix_codes.specs.declared.symbol.TheConstants.{LEVELS_PER_RUN, RUNS}
 use Rattle.prefix_codes.specs.Entry.{Entry, coefficient_symbol}
-use Rattle.prefix_codes.specs.TableName.{entries, code_in, coefficient_code}
+use Rattle.prefix_codes.specs.TableName.{entries, code_in, coefficient_code, code_for}
 use Rattle.prefix_codes.proofs.Computing.{tables}
 use Rattle.prefix_codes.proofs.TableLemmas.{code_in-passes}
 use Rattle.picture_grammar.specs.Block.{dc_table}
-use Rattle.picture_grammar.specs.Written.{code_for, if_any}
+use Rattle.picture_grammar.specs.Written.{if_any}
 
 -- ---- codes
 

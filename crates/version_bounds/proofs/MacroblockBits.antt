@@ -17,7 +17,8 @@ use Rattle.picture_grammar.specs.Grammar.{Grammar, repeated, when}
 use Rattle.picture_grammar.specs.Macroblock.{block_way, f_codes, has_concealment, has_dct_type, has_motion_type, is_coded, is_frame, motion_format, no_block, type_symbol, type_table}
 use Rattle.picture_grammar.specs.Motion.{MotionFormat, dmvector_code, field_motion, frame_motion, has_residual, motion_vector, motion_vectors}
 use Rattle.picture_grammar.specs.Picture.{IsCoding}
-use Rattle.picture_grammar.specs.Written.{code_for, if_any, written_coded_block, written_increment, written_macroblock, written_part, written_vector, written_vector_part}
+use Rattle.picture_grammar.specs.Written.{if_any, written_coded_block, written_increment, written_macroblock, written_part, written_vector, written_vector_part}
+use Rattle.prefix_codes.specs.TableName.{code_for}
 use Rattle.picture_laws.specs.Spellable.{AreSpellableBlocks, HasSpellableParts}
 use Rattle.picture_laws.proofs.WrittenBlocks.{blocks-of}
 use Rattle.version_bounds.proofs.BlockBits.{coded-short}

@@ -12,7 +12,8 @@ use Rattle.syntax_types.specs.declared.slice.SliceInfo.{SliceInfo}
 use Rattle.stream_constants.specs.declared.start_codes.TheConstants.{FIRST_SLICE}
 use Rattle.picture_grammar.specs.Picture.{IsCoding}
 use Rattle.picture_grammar.specs.Slice.{columns, columns_left}
-use Rattle.picture_grammar.specs.StartCode.{is_slice, start_code_bits}
+use Rattle.picture_grammar.specs.StartCode.{start_code_bits}
+use Rattle.stream_constants.specs.SliceCodes.{is_slice}
 use Rattle.picture_grammar.specs.Written.{written_macroblock, written_slice, written_slice_info}
 use Rattle.picture_laws.specs.Spellable.{HasSpellableMacroblocks}
 use Rattle.requantiser.specs.Private.Shapes.{IsWalkableSlice}

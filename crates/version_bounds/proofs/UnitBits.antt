@@ -20,7 +20,8 @@ use Rattle.picture_grammar.specs.Grammar.{Grammar, SpellsList, many, more_of, op
 use Rattle.picture_grammar.specs.Grammar.Next.{more, last}
 use Rattle.picture_grammar.specs.Picture.{SpellsPicture, next_slice, picture_unit, slice_or_end, whole_slice}
 use Rattle.picture_grammar.specs.Slice.{extra_information, next_macroblock, slice, slice_extension, slice_info}
-use Rattle.picture_grammar.specs.StartCode.{is_slice, only_zero_bytes, start_code, zero_bits}
+use Rattle.picture_grammar.specs.StartCode.{only_zero_bytes, start_code, zero_bits}
+use Rattle.stream_constants.specs.SliceCodes.{is_slice}
 use Rattle.picture_grammar.specs.Written.{written_slice_info}
 use Rattle.picture_grammar.proofs.GrammarLaws.{exact-many, exact-optional}
 use Rattle.picture_grammar.proofs.HeaderLaws.{exact-next_slice, exact-only_zero_bytes, exact-start_code, exact-zero_bits}

@@ -30,6 +30,7 @@ use Rattle.version_maker.specs.declared.slice_count.VersionCount.{VersionCount}
 use Rattle.version_maker.specs.declared.slice_read.SliceRead.{SliceRead}
 use Rattle.version_maker.specs.Private.Counts.{AreCounted, CanCount, CanCountBehind, IsCountedMacroblock, IsCountedSlice, IsStartCount, MayBeAll}
 use Rattle.version_maker.specs.Private.Read.{IsSliceCounted}
+use Rattle.picture_laws.proofs.WrittenPicture.{length-start_code}
 
 pub state-behind : (start : VersionState) (steps : List Step) (step : Step) → state_behind start (steps ++ step ∷ []) ≡ step.behind
 state-behind start [] step = refl
@@ -110,9 +111,6 @@ info-length info =
     let bytes : List ℕ = flat_map (λ byte. 1 ∷ bits_of 8 byte) info.bytes in
     omega (arith, length-append (bits_of 7 info.reserved ++ bytes) (0 ∷ []), length-append (bits_of 7 info.reserved) bytes, length-bits_of 7 info.reserved, info-bytes info.bytes)
 
-pub start_code-length : (byte : ℕ) → length (start_code_bits byte) ≡ 32
-start_code-length byte = length-append start_code_prefix (bits_of 8 byte) ∙ ap₂ (λ (a b : ℕ). a + b) (length-bits_of 24 1) (length-bits_of 8 byte)
-
 pub whole-length : (bits : List ℕ) (n : ℕ) → n ≡ length bits → 8 * ((n + 7) / 8) ≡ length (to_whole_bytes bits)
 whole-length bits n is =
     let fill : ℕ = (8 - length bits % 8) % 8 in
@@ -126,7 +124,7 @@ slice-length coding slice =
     omega (
       arith,
       length-append (start_code_bits (slice.row + FIRST_SLICE)) (bits_of 5 slice.code ++ written_slice_info slice.info ++ macroblocks),
-      start_code-length (slice.row + FIRST_SLICE),
+      length-start_code (slice.row + FIRST_SLICE),
       length-append (bits_of 5 slice.code ++ written_slice_info slice.info) macroblocks,
       length-append (bits_of 5 slice.code) (written_slice_info slice.info),
       length-bits_of 5 slice.code,

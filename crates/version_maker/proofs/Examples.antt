@@ -7,6 +7,7 @@ use Rattle.syntax_types.specs.declared.slice.Slice.{Slice}
 use Rattle.picture_heads.proofs.Examples.{behind_group}
 use Rattle.version_maker.specs.declared.version.UnitVersion.{UnitVersion}
 use Rattle.version_maker.specs.Versions.{IsSourceVersion, size_of}
+use Rattle.picture_laws.proofs.ExampleUnits.{slice_bytes}
 
 -- a group of pictures header, an I-picture with vbv_delay 1234 in hexadecimal, and its coding extension
 abbrev head_bytes : List ℕ
@@ -19,10 +20,6 @@ abbrev head_without : List ℕ
 head_without = 0x00 ∷ 0x00 ∷ 0x01 ∷ 0xB8 ∷ 0x00 ∷ 0x00 ∷ 0x01 ∷ 0x00
     ∷ 0x00 ∷ 0x00 ∷ 0x01 ∷ 0x00 ∷ 0x00 ∷ 0x0F ∷ 0xFF ∷ 0xF8
     ∷ 0x00 ∷ 0x00 ∷ 0x01 ∷ 0xB5 ∷ 0x8F ∷ 0xFF ∷ 0xF3 ∷ 0x41 ∷ 0x80 ∷ []
-
--- one intra macroblock whose blocks are flat
-abbrev slice_bytes : List ℕ
-slice_bytes = 0x00 ∷ 0x00 ∷ 0x01 ∷ 0x01 ∷ 0x0B ∷ 0x94 ∷ 0xA5 ∷ 0x22 ∷ 0x20 ∷ []
 
 abbrev source_version : UnitVersion
 source_version = record { bytes = head_without ++ slice_bytes; distortion = 0 }

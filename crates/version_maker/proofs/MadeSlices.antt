@@ -32,6 +32,7 @@ use Rattle.requantiser.proofs.Steps.{one-more-step}
 use Rattle.version_maker.specs.Private.Counts.{written_whole}
 use Rattle.version_maker.specs.Private.Making.{AreInOrder, GoesOn}
 use Rattle.version_maker.proofs.Counts.{made-more}
+use Rattle.macroblock_writer.proofs.WritableSlices.{info_fits}
 
 -- ---- bits that were put
 
@@ -133,15 +134,9 @@ module _ (seq : SeqState) (coding : PicCoding) where
 
 -- ---- the head of a slice
 
-info-fits : (extended : Bool) (info : Option SliceInfo) (bits rest : List ℕ) → (optional extended slice_extension).Spells info bits rest → IfSome info (λ info. info.reserved < 2 ^ 7)
-info-fits true info bits rest (made, m, (intra, m1, s1, (reserved, m2, (code, (fits, same), passing, split), (found, m3, s3, (d, d')))), (e, f)) =
-    let here : made.reserved < 2 ^ 7 = subst (λ (n : ℕ). n < 2 ^ 7) (sym (ap (λ (i : SliceInfo). i.reserved) d)) fits in
-    subst (λ (found : Option SliceInfo). IfSome found (λ info. info.reserved < 2 ^ 7)) (sym e) here
-info-fits false info bits rest (e, f) = subst (λ (found : Option SliceInfo). IfSome found (λ info. info.reserved < 2 ^ 7)) (sym e) tt
-
 pub head-fits : (head : SliceHead) (bits rest : List ℕ) → slice_head.Spells head bits rest → IfSome head.info (λ info. info.reserved < 2 ^ 7)
 head-fits head bits rest (code, m, s, (info, m', (extended, m'', s', t), (e, f))) =
-    subst (λ (found : Option SliceInfo). IfSome found (λ info. info.reserved < 2 ^ 7)) (ap (λ (h : SliceHead). h.info) (sym e)) (info-fits extended info m'' m' t)
+    subst (λ (found : Option SliceInfo). IfSome found (λ info. info.reserved < 2 ^ 7)) (ap (λ (h : SliceHead). h.info) (sym e)) (info_fits extended info m'' m' t)
 
 -- ---- a whole slice
 

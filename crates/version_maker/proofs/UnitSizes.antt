@@ -37,13 +37,14 @@ use Rattle.version_maker.specs.declared.version.VersionSize.{VersionSize}
 use Rattle.version_maker.specs.Versions.{AreSizes, IsCoarserVersion, size_of}
 use Rattle.version_maker.specs.Private.Counts.{written_whole}
 use Rattle.version_maker.specs.Private.Sized.{AreSized, IsSized, first_size, with_bytes}
-use Rattle.version_maker.proofs.Counts.{few-macroblocks, start_code-length}
+use Rattle.version_maker.proofs.Counts.{few-macroblocks}
+use Rattle.picture_laws.proofs.WrittenPicture.{length-start_code}
 use Rattle.version_maker.proofs.Lists.{head-length, source-size, source-version}
 use Rattle.version_maker.proofs.Units.{head-begins, lawful-unit}
 
 -- ---- how many macroblocks a picture has
 
-held : (ms : List Macroblock) → length ms ≤ sum_by span_of ms - first_column ms
+pub held : (ms : List Macroblock) → length ms ≤ sum_by span_of ms - first_column ms
 held [] = omega arith
 held (m ∷ ms) = omega (arith, sum_by-cons span_of m ms, few-macroblocks ms)
 
@@ -110,7 +111,7 @@ abbrev end_bytes : Bool → ℕ
 end_bytes sequence_end = if sequence_end then 4 else 0
 
 end-length : (sequence_end : Bool) → length (if sequence_end then start_code_bits SEQUENCE_END else []) ≡ 8 * end_bytes sequence_end
-end-length true = start_code-length SEQUENCE_END
+end-length true = length-start_code SEQUENCE_END
 end-length false = refl
 
 written-length : (made : Picture) → length (written_picture made) ≡ 8 * length made.head + length (flat_map (written_whole made.coding) made.slices) + 8 * end_bytes made.sequence_end

@@ -18,7 +18,8 @@ ghost use Rattle.version_maker.specs.Private.Read.{AreMacroblocksRead, IsSliceRe
 use crate::slice_count::{VersionCount, count_macroblock, info_bits, is_inner, start_counts};
 use bit_cursor::BitReader;
 use macroblock_reader::{SliceCursor, SliceFault, read_slice_head};
-use picture_reader::{Span, columns};
+use picture_grammar::grid::columns;
+use picture_reader::Span;
 use quant_math::WHOLE_RATIO;
 use requantiser::{Ladder, Tally, VERSIONS_AT_ONCE, tally_macroblock};
 use shelf_io::{Fault, SliceSource, Source};

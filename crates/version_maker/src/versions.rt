@@ -17,7 +17,7 @@ use picture_heads::without_delay;
 use picture_reader::{PictureFault, UnitCursor, check_picture, read_picture};
 use picture_writer::write_picture;
 use requantiser::{coarsen, distortion};
-use shelf_io::{CalmSink, Fault};
+use shelf_io::{Fault, VecSink};
 use std::alloc::Global;
 use syntax_types::{Picture, SeqState};
 
@@ -167,7 +167,7 @@ fn written(alloc: Global, picture: &Picture) -> Result<ListOf<u8>, OutOfMemory>
     requires lawful { IsLawful picture.now }
     ensures { IfOk result (IsWritten picture.now) }
 {
-    let mut sink = CalmSink::new(alloc);
+    let mut sink = VecSink::new(alloc);
     match write_picture(&mut sink, picture) {
         Ok(()) => {
             let bytes = sink.bytes().to_vec(alloc)?;

@@ -21,12 +21,9 @@ use Rattle.version_units.specs.OwnCodes.{begins_code, codes_from, own_codes}
 use Rattle.version_units.proofs.Codes.{is-code}
 use Rattle.version_units.proofs.SliceCodes.{AtEnd, PrefixStands, at_end, no_prefix, one_code, one_slice, slice_ends, slice_prefix, only_zeros, end_code}
 use Rattle.version_units.proofs.WholeVersions.{HasParts}
+use Rattle.picture_laws.proofs.StartCodes.{prefix_bits}
 
 -- ---- three bytes
-
-prefix-bits : bit_list (0 ∷ 0 ∷ 1 ∷ []) ≡ start_code_prefix
-unfolding bits_of
-prefix-bits = refl
 
 inside-item : (es : List ℕ) (at : ℕ) → get_or es at 0 ≡ 1 → at < length es
 inside-item es at is = elim (cases_lt at (length es)) [
@@ -52,7 +49,7 @@ prefix-at es from at le is =
     ∙ ap₂ (λ (x : ℕ) (xs : List ℕ). x ∷ xs) (eqb-true _ 0 more.0)
     (ap (λ (k : ℕ). drop k es) (omega arith) ∙ drop_more es (at + 2) 0 within ∙ ap₂ (λ (x : ℕ) (xs : List ℕ). x ∷ xs) (eqb-true _ 1 more.1) (ap (λ (k : ℕ). drop k es) (omega arith)))) in
     let bits : bit_list (drop at es) ≡ start_code_prefix ++ bit_list (drop (at + 3) es) =
-    ap bit_list three ∙ bit_list-append (0 ∷ 0 ∷ 1 ∷ []) (drop (at + 3) es) ∙ ap (λ (x : List ℕ). x ++ bit_list (drop (at + 3) es)) prefix-bits in
+    ap bit_list three ∙ bit_list-append (0 ∷ 0 ∷ 1 ∷ []) (drop (at + 3) es) ∙ ap (λ (x : List ℕ). x ++ bit_list (drop (at + 3) es)) prefix_bits in
     let k : ℕ = at - from in
     let back : from + k ≡ at = omega (arith, le) in (
       within,

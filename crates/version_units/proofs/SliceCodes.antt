@@ -51,15 +51,18 @@ use Rattle.stream_constants.specs.declared.start_codes.TheConstants.{FIRST_SLICE
 use Rattle.picture_grammar.specs.Refusal.Refusal.{BadHeader}
 use Rattle.picture_grammar.specs.Grammar.{Grammar, done, ◌>>=◌, ◌>>◌, if_next, optional, SpellsList, Next}
 use Rattle.picture_grammar.specs.Grammar.Next.{more, last}
-use Rattle.picture_grammar.specs.StartCode.{start_code_prefix, start_code_bits, start_code, only_zero_bytes, is_slice, zero_bits, zero_byte}
+use Rattle.picture_grammar.specs.StartCode.{start_code_prefix, start_code_bits, start_code, only_zero_bytes, zero_bits, zero_byte}
+use Rattle.stream_constants.specs.SliceCodes.{is_slice}
 use Rattle.picture_grammar.specs.Slice.{slice}
 use Rattle.picture_grammar.specs.Picture.{whole_slice, slice_or_end, next_slice, IsCoding}
 use Rattle.picture_grammar.proofs.MacroblockLaws.{exact-slice}
-use Rattle.picture_laws.proofs.StartCodes.{zeros_before, zeros_before-one, opened-zeros, parted, end-zeros, code-taken}
+use Rattle.picture_laws.proofs.StartCodes.{zeros_before, zeros_before-one, opened-zeros, parted, end-zeros, code-taken, more_zeros}
 use Rattle.picture_laws.proofs.Tested.{prefix-zeros}
 use Rattle.picture_laws.proofs.WrittenPicture.{code_bounds, code_other}
 use Rattle.picture_laws.proofs.WrittenSlice.{macroblocks-of_slice}
 use Rattle.picture_laws.proofs.ShortSlices.{no-code-in-slice}
+use Rattle.picture_laws.proofs.Totality.{next_zero}
+use Rattle.picture_heads.proofs.LeadingCodes.{prefix-run}
 
 -- the value of a slice's start code, or the sequence end code's
 abbrev pub is_slice_or_end : ℕ → Bool
@@ -92,9 +95,6 @@ behind_front f m before rest e le = by_parts (parted f m before rest e)
         ([], sym (append-nil before) ∙ ap (λ (x : List ℕ). before ++ x) (sym none) ∙ sym p ∙ sym (append-nil f), sym (q ∙ ap (λ (x : List ℕ). x ++ m) none))
 
 -- ---- one start code
-
-prefix-run : (rest : List ℕ) → zeros_before (start_code_prefix ++ rest) ≡ 23
-prefix-run rest = ap zeros_before (ap (λ (x : List ℕ). x ++ rest) prefix-zeros ∙ append_assoc (replicate 23 0) (1 ∷ []) rest) ∙ zeros_before-one 23 rest
 
 length-prefix : length start_code_prefix ≡ 24
 length-prefix = length-bits_of 24 1
@@ -217,17 +217,9 @@ padding number bits rest (code, (fits, is), passing, split) =
     ap length all ∙ length-append (replicate (length bits % 8) 0) rest ∙ ap (λ (k : ℕ). k + length rest) (length-replicate {A = ℕ} (length bits % 8) 0) in
     (all, omega (arith, count))
 
--- one more zero byte, or the end of the bits
-abbrev next_zero : List ℕ → Grammar (Next ℕ (Unit {0}))
-next_zero before = if_next (λ bits. bits ≡ []) (done (last tt))
-    (if_next (IsPrefix start_code_prefix) (start_code BadHeader (λ _. false) >> done (last tt)) (zero_byte BadHeader >>= λ byte. done (more byte)))
-
 both_ways : (b : Bool) → b ≡ false → b && true ≡ true → ⊥
 both_ways true e p = cc
 both_ways false e p = cc
-
-more_zeros : (n : ℕ) → replicate {A = ℕ} (8 * suc n) 0 ≡ replicate 8 0 ++ replicate (8 * n) 0
-more_zeros n = ap (λ (k : ℕ). replicate {A = ℕ} k 0) (let e : 8 * suc n ≡ 8 + 8 * n = omega arith in e) ∙ sym (replicate-append-replicate 8 (8 * n) 0)
 
 zero-bytes : (before values bits rest : List ℕ) → SpellsList next_zero before values tt bits rest → bits ≡ replicate (8 * length values) 0
 zero-bytes before [] bits rest (inl (none, (e, f))) = none

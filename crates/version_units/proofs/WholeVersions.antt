@@ -14,16 +14,17 @@ use Rattle.syntax_types.specs.declared.picture.Picture.{Picture}
 use Rattle.syntax_types.specs.declared.picture.SeqState.{SeqState}
 use Rattle.syntax_types.specs.declared.slice.Slice.{Slice}
 use Rattle.stream_constants.specs.declared.start_codes.TheConstants.{GROUP, PICTURE, SEQUENCE_END, SEQUENCE_HEADER}
-use Rattle.start_codes.specs.StartCodes.{is_slice, is_sequence_header, is_unit_start, has_code}
+use Rattle.start_codes.specs.StartCodes.{is_sequence_header, is_unit_start, has_code}
+use Rattle.stream_constants.specs.SliceCodes.{is_slice}
 use Rattle.layer_laws.specs.WholeUnits.{IsWholeUnit}
 use Rattle.picture_grammar.specs.Grammar.{SpellsList}
 use Rattle.picture_grammar.specs.StartCode.{start_code_prefix, start_code_bits}
 use Rattle.picture_grammar.specs.Picture.{next_slice, picture_unit, IsCoding, SpellsPicture}
 use Rattle.picture_laws.proofs.Codings.{coding-of_unit}
-use Rattle.picture_laws.proofs.StartCodes.{opened}
+use Rattle.picture_laws.proofs.StartCodes.{opened, prefix_bits}
 use Rattle.picture_laws.proofs.WrittenPicture.{code_bounds}
 use Rattle.picture_heads.specs.Heads.{IsHeadWithoutDelay}
-use Rattle.picture_heads.proofs.Bytes.{bits-code, same_parts}
+use Rattle.picture_heads.proofs.Bytes.{bits-code, same_parts, byte-at}
 use Rattle.version_units.proofs.Codes.{Code, CodeOf, code-has, has-code, is-code, not-code, prefix-there}
 use Rattle.version_units.proofs.HeadCodes.{IsSetHead, kept-code, set-head}
 use Rattle.version_units.proofs.SliceCodes.{IsOwnCode, OneSlice, PrefixStands, first_slice, is_slice_or_end, list_codes}
@@ -82,11 +83,6 @@ AreBytes-drop (suc k) (x ∷ xs) are = AreBytes-drop k xs are.1
 pub AreBytes-behind : (front rest : List ℕ) → AreBytes (front ++ rest) → AreBytes rest
 AreBytes-behind [] rest are = are
 AreBytes-behind (x ∷ front) rest are = AreBytes-behind front rest are.1
-
-byte-of : (xs : List ℕ) (i : ℕ) → AreBytes xs → get_or xs i 0 < 2 ^ 8
-byte-of [] i are = omega arith
-byte-of (x ∷ xs) zero are = are.0
-byte-of (x ∷ xs) (suc i) are = byte-of xs i are.1
 
 two-zeros : bit_list (0 ∷ 0 ∷ []) ≡ replicate 16 0
 two-zeros = refl
@@ -230,10 +226,6 @@ own-code value bits fits own =
     let same : value ≡ own.byte = bits_of_byte-same value own.byte fits own.fits (front ∙ bits_of-byte own.byte) in
     ap is_slice_or_end same ∙ own.is
 
-prefix-bits : bit_list (0 ∷ 0 ∷ 1 ∷ []) ≡ start_code_prefix
-unfolding bits_of
-prefix-bits = refl
-
 -- ---- a version
 
 module _ (picture made : Picture) (unit version : List ℕ) (source : IsSourceUnit unit) (u : HasParts picture unit) (v : HasParts made version) (are_unit : AreBytes unit) (are : AreBytes version)
@@ -270,7 +262,7 @@ module _ (picture made : Picture) (unit version : List ℕ) (source : IsSourceUn
       let there = prefix-there version (length made.head) at value le code in
       let rest : drop (length made.head) version ≡ v.behind = ap (drop (length made.head)) v.split ∙ drop_at made.head v.behind (length made.head) refl in
       let sizes : length version ≡ length made.head + length v.behind = version-size in
-      let fits : value < 2 ^ 8 = subst (λ (n : ℕ). n < 2 ^ 8) code.last (byte-of version (at + 3) are) in
+      let fits : value < 2 ^ 8 = subst (λ (n : ℕ). n < 2 ^ 8) code.last (byte-at version (at + 3) are) in
       own-code value (bit_list (drop (at + 4) version)) fits
       (list_codes made.seq made.coding v.coded [] made.slices made.sequence_end (bit_list v.behind) [] _ v.spelled (omega (arith, length-bit_list v.behind))
       (subst (λ (es : List ℕ). PrefixStands (bit_list es) (bits_of_byte value ++ bit_list (drop (at + 4) version))) rest there))
@@ -313,7 +305,7 @@ module _ (picture made : Picture) (unit version : List ℕ) (source : IsSourceUn
       ∙ drop_at (take k front) (cut ++ 0x00 ∷ 0x00 ∷ 0x01 ∷ []) k (length-take k front ∙ omega (arith, within, version-size, sizes)) in
       let own = list_codes made.seq made.coding v.coded [] made.slices made.sequence_end (bit_list v.behind) [] [] v.spelled (omega (arith, length-bit_list v.behind)) (record {
         front = bit_list cut;
-        split = ap bit_list parts ∙ bit_list-append cut (0x00 ∷ 0x00 ∷ 0x01 ∷ []) ∙ ap (λ (x : List ℕ). bit_list cut ++ x) (prefix-bits ∙ sym (append-nil start_code_prefix));
+        split = ap bit_list parts ∙ bit_list-append cut (0x00 ∷ 0x00 ∷ 0x01 ∷ []) ∙ ap (λ (x : List ℕ). bit_list cut ++ x) (prefix_bits ∙ sym (append-nil start_code_prefix));
         whole = omega (arith, length-bit_list cut);
       }) in
       omega (arith, ap length own.split, length-append (bits_of 8 own.byte) own.rest, length-bits_of 8 own.byte)

@@ -49,9 +49,7 @@ use Rattle.video_headers.specs.Private.Why.{refusal_of}
 use Rattle.video_headers.specs.Private.Limits.{AreRules, IsFlagRule}
 use Rattle.video_headers.specs.Private.Reading.{Goes, Stops, AnswersBits}
 use Rattle.video_headers.proofs.Limited.{NumberCode}
-
-abbrev FlagCode : Bool → List ℕ → Type 0
-FlagCode is_set code = code ≡ flag is_set ∷ []
+use Rattle.grammar_reading.proofs.ReadElements.{FlagCode}
 
 -- the same rules for bits and for flags
 abbrev AreSame : List (Rule ℕ) → List (Rule Bool) → Type 0

@@ -8,7 +8,8 @@ use Rattle.syntax_types.specs.declared.picture.SeqState.{SeqState}
 use Rattle.syntax_types.specs.declared.picture.PicCoding.{PicCoding}
 use Rattle.picture_grammar.specs.Refusal.Refusal.{BadHeader}
 use Rattle.picture_grammar.specs.Grammar.{Grammar, ahead}
-use Rattle.picture_grammar.specs.StartCode.{start_code, is_slice}
+use Rattle.picture_grammar.specs.StartCode.{start_code}
+use Rattle.stream_constants.specs.SliceCodes.{is_slice}
 use Rattle.picture_grammar.specs.Head.{head}
 use Rattle.picture_grammar.proofs.HeaderLaws.{exact-head}
 use Rattle.grammar_reading.specs.BitsRead.{PlacedRefusal, Explains, ExplainsFrom}

@@ -40,7 +40,8 @@ use Rattle.bit_lists.proofs.BitLemmas.{length-bits_of}
 use Rattle.bit_lists.proofs.PrefixLemmas.{IsPrefix-append}
 use Rattle.bit_cursor.specs.Shown.{IsFirstNumber}
 use Rattle.bit_cursor.specs.declared.bit_reader.BitReader.{BitReader}
-use Rattle.bit_cursor.specs.BitReader.{bits_left, place, without_bits}
+use Rattle.bit_cursor.specs.BitReader.{bits_left, place}
+use Rattle.shelf_io.specs.Source.{without_front}
 use Rattle.picture_grammar.specs.Refusal.Refusal.{End, Profile, BadHeader}
 use Rattle.picture_grammar.specs.Element.{rule}
 use Rattle.picture_grammar.specs.Head.{is_scalable}
@@ -56,14 +57,14 @@ use Rattle.video_headers.proofs.Looks.{look-goes}
 use Rattle.video_headers.proofs.NextCodes.{front-short, look-refused}
 use Rattle.video_headers.proofs.Reading.{runs-none}
 use Rattle.video_headers.proofs.ToldFields.{told-of}
-use Rattle.video_headers.proofs.Windows.{nothing_left}
+use Rattle.grammar_reading.proofs.ReadElements.{none_left}
 use Rattle.video_headers.proofs.ZeroBytes.{rests-passed}
 
 abbrev FourBits : ℕ → List ℕ → Type 0
 FourBits number code = (number < 2 ^ 4) × (code ≡ bits_of 4 number)
 
 pub four-taken : {S : Type 0} {g : Ghosts S} (number : ℕ) (old new : BitReader S g) → IfSome (bits_left old) (λ bits. IsFirstNumber 4 bits number)
-    → number < 2 ^ 4 → bits_left new ≡ without_bits (bits_left old) 4 → place new ≡ place old + 4
+    → number < 2 ^ 4 → bits_left new ≡ without_front (bits_left old) 4 → place new ≡ place old + 4
     → (end : ℕ) (bits : List ℕ) → Wholes old end bits → FourTaken (Some number) new end bits
 four-taken number old new front fits left moved end bits here =
     let is = told-of (λ bits. IsFirstNumber 4 bits number) (bits_left old) bits here.rests.told front in
@@ -73,7 +74,7 @@ four-taken number old new front fits left moved end bits here =
 pub four-missing : {S : Type 0} {g : Ghosts S} (old new : BitReader S g) → IfSome (bits_left old) (λ bits. length bits < 4)
     → (end : ℕ) (bits : List ℕ) → Wholes old end bits → FourTaken None new end bits
 four-missing old new short end bits here =
-    let few = told-of (λ bits. length bits < 4) (bits_left old) bits here.rests.told short in nothing_left bits (omega (arith, here.whole, few))
+    let few = told-of (λ bits. length bits < 4) (bits_left old) bits here.rests.told short in none_left bits (omega (arith, here.whole, few))
 
 pub some-identifier : (part : Part) → has_extensions part ≡ true → (number : ℕ) × (number < 2 ^ 4) × (is_scalable number ≡ false) × (identifiers_of part number ≡ true)
 some-identifier Sequence is = (2, omega arith, refl, refl)

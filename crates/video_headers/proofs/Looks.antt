@@ -10,7 +10,8 @@ use Rattle.video_headers.specs.declared.fault.HeadFault.TheVariants as fault
 use Rattle.video_headers.specs.HeadFault.{refusal_told}
 use Rattle.video_headers.specs.Runs.{Runs}
 use Rattle.video_headers.specs.Private.Reading.{Goes, Stops, Answers, AnswersLook}
-use Rattle.video_headers.proofs.Reading.{runs-none, runs-then, rose_later}
+use Rattle.video_headers.proofs.Reading.{runs-none, runs-then}
+use Rattle.shelf_io.proofs.Counted.{rose_later}
 
 -- what a look says of the bits that may be left
 pub looked : {V : Type 0} {v : V} {S : Type 0} {g : Ghosts S} {from : ℕ → List ℕ → Type 0} {to : V → ℕ → List ℕ → Type 0} {old new : BitReader S g}

@@ -17,6 +17,7 @@ use Rattle.video_headers.specs.declared.fault.HeadFault.TheVariants.{Outside}
 use Rattle.video_headers.specs.HeadFault.{refusal_told}
 use Rattle.video_headers.specs.Runs.{Runs}
 use Rattle.video_headers.specs.Private.Reading.{Goes, Stops, Answers}
+use Rattle.shelf_io.proofs.Counted.{rose_later}
 
 pub goes-done : {A : Type 0} (value : A) (from : ℕ → List ℕ → Type 0) → Goes (done value) value from from
 goes-done value from = record { on = λ end bits left. (bits, (refl, refl), left) }
@@ -70,12 +71,6 @@ runs-none {g = g} reader itself = record {
 taken-twice : (told middle after : Option (List ℕ)) (m n : ℕ) → middle ≡ without_front told m → after ≡ without_front middle n → after ≡ without_front told (m + n)
 taken-twice None middle after m n e f = f ∙ ap (λ t. without_front t n) e
 taken-twice (Some bytes) middle after m n e f = f ∙ ap (λ t. without_front t n) e ∙ ap Some (drop-drop n m bytes)
-
-pub rose_later : (a b c : ℕ) → a ≤ b → b ≤ c → Rose b c → Rose a c
-rose_later a b c first then rose small = elim (cases_lt b (2 ^ 64 - 1)) [
-  | inl below ↦ let more : b < c = rose below in omega arith
-  | inr full ↦ omega arith
-]
 
 gives-bind : {A B W : Type 0} {first : Grammar A} (next : A → Grammar B) (a : A) (value : W → B) (result : Result W HeadFault)
     {from : ℕ → List ℕ → Type 0} (to : ℕ → List ℕ → Type 0) (last : W → ℕ → List ℕ → Type 0)

@@ -7,7 +7,8 @@ use Rattle.shelf_io.specs.declared.source.Source.{Ghosts}
 use Rattle.bit_lists.specs.Bits.{IsPrefix, bits_of}
 use Rattle.bit_lists.proofs.BitLemmas.{length-bits_of}
 use Rattle.bit_cursor.specs.declared.bit_reader.BitReader.{BitReader}
-use Rattle.bit_cursor.specs.BitReader.{bits_left, place, without_bits}
+use Rattle.bit_cursor.specs.BitReader.{bits_left, place}
+use Rattle.shelf_io.specs.Source.{without_front}
 use Rattle.bit_cursor.specs.Shown.{IsFirstNumber, IsWindow}
 use Rattle.picture_grammar.specs.Refusal.Refusal.{End}
 use Rattle.picture_grammar.specs.Grammar.{Grammar}
@@ -91,7 +92,7 @@ module _ (n : ℕ) {S : Type 0} {g : Ghosts S} (reader : BitReader S g) (number 
         );
   }
 
-  pub limited-goes : first_broken number last limits ≡ None → n ≤ known → {after : BitReader S g} → bits_left after ≡ without_bits (bits_left reader) n → place after ≡ place reader + n
+  pub limited-goes : first_broken number last limits ≡ None → n ≤ known → {after : BitReader S g} → bits_left after ≡ without_front (bits_left reader) n → place after ≡ place reader + n
       → (rules : List (Rule ℕ)) → AreRules n limits rules → Goes (uimsbf n rules) number (Rests reader) (Rests after)
   limited-goes found ge {after} left moved rules are = record {
     on = λ end bits here.
@@ -125,7 +126,7 @@ pub stops-nothing : {A : Type 0} (grammar : Grammar A) (from : ℕ → List ℕ 
 stops-nothing grammar from = record { why = λ end bits left. tt }
 
 pub bits-goes : (n number : ℕ) {S : Type 0} {g : Ghosts S} (reader after : BitReader S g) → IfSome (bits_left reader) (λ bits. IsFirstNumber n bits number) → number < 2 ^ n
-    → bits_left after ≡ without_bits (bits_left reader) n → place after ≡ place reader + n → Goes (uimsbf n []) number (Rests reader) (Rests after)
+    → bits_left after ≡ without_front (bits_left reader) n → place after ≡ place reader + n → Goes (uimsbf n []) number (Rests reader) (Rests after)
 bits-goes n number reader after front below left moved = record {
   on = λ end bits here.
       let is = told-of (λ bits. IsFirstNumber n bits number) (bits_left reader) bits here.told front in

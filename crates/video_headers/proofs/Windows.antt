@@ -8,10 +8,7 @@ use Rattle.bit_lists.proofs.BitLemmas.{length-bits_of, bits_of-one, front_of-tak
 use Rattle.bit_cursor.specs.Shown.{IsWindow}
 use Rattle.picture_grammar.specs.StartCode.{start_code_prefix}
 use Rattle.video_headers.specs.Private.Stands.{BeginsByte, shows_prefix}
-
-pub nothing_left : (bits : List ℕ) → length bits < 1 → bits ≡ []
-nothing_left [] lt = refl
-nothing_left (bit ∷ bits) lt = absurd (omega arith)
+use Rattle.grammar_reading.proofs.ReadElements.{none_left}
 
 pub window-prefix : (bits : List ℕ) (window known : ℕ) → IsWindow 24 bits window known → shows_prefix window known ≡ true → IsPrefix start_code_prefix bits
 window-prefix bits window known shows is =
@@ -32,7 +29,7 @@ window-none bits window known shows below not first =
     both_ways (shows_prefix window known) not (ap₂ (λ (x y : Bool). x && y) (eq-eqb known 24 all) (eq-eqb window 1 one))
 
 pub window-end : (bits : List ℕ) (window known : ℕ) → IsWindow 24 bits window known → length bits % 8 ≡ 0 → known < 8 → bits ≡ []
-window-end bits window known shows whole few = nothing_left bits (omega (arith, shows.known, whole, few))
+window-end bits window known shows whole few = none_left bits (omega (arith, shows.known, whole, few))
 
 pub window-byte : (bits : List ℕ) (window known : ℕ) → IsWindow 24 bits window known → window < 2 ^ 24 → 8 ≤ known → (IsPrefix start_code_prefix bits → ⊥) → BeginsByte (window / 2 ^ 16) bits
 window-byte bits window known shows below enough none =

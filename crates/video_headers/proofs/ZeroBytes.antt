@@ -40,7 +40,8 @@ use Rattle.bit_lists.proofs.BitLemmas.{length-bits_of}
 use Rattle.bit_lists.proofs.PrefixLemmas.{IsPrefix-split}
 use Rattle.bit_cursor.specs.Shown.{IsFirstNumber}
 use Rattle.bit_cursor.specs.declared.bit_reader.BitReader.{BitReader}
-use Rattle.bit_cursor.specs.BitReader.{bits_left, place, without_bits}
+use Rattle.bit_cursor.specs.BitReader.{bits_left, place}
+use Rattle.shelf_io.specs.Source.{without_front}
 use Rattle.picture_grammar.specs.Refusal.{Refusal}
 use Rattle.picture_grammar.specs.StartCode.{start_code_prefix}
 use Rattle.grammar_reading.specs.Several.{several}
@@ -54,10 +55,10 @@ use Rattle.video_headers.specs.Private.Stands.{StandsAt, StandsNext, BeginsByte,
 use Rattle.video_headers.specs.Private.Wholes.{Wholes}
 use Rattle.video_headers.proofs.Looks.{looked}
 use Rattle.video_headers.proofs.ToldFields.{told-of}
-use Rattle.video_headers.proofs.Windows.{nothing_left}
+use Rattle.grammar_reading.proofs.ReadElements.{none_left}
 
 -- n bits were passed
-pub rests-passed : {S : Type 0} {g : Ghosts S} (n : ℕ) (old new : BitReader S g) → bits_left new ≡ without_bits (bits_left old) n → place new ≡ place old + n
+pub rests-passed : {S : Type 0} {g : Ghosts S} (n : ℕ) (old new : BitReader S g) → bits_left new ≡ without_front (bits_left old) n → place new ≡ place old + n
     → (end : ℕ) (bits : List ℕ) → n ≤ length bits → Rests old end bits → Rests new end (drop n bits)
 rests-passed n old new left moved end bits enough here =
     record { told = left ∙ ap (option_map (drop n)) here.told; ends = omega (arith, here.ends, moved, length-drop n bits, enough) }
@@ -107,7 +108,7 @@ zeros-more {old = old} {new = new} stands is passed end bits behind =
 -- ---- what comes behind zeros
 
 pub byte-taken : {S : Type 0} {g : Ghosts S} (byte : ℕ) (old new : BitReader S g) → IfSome (bits_left old) (λ bits. IsFirstNumber 8 bits byte)
-    → byte < 2 ^ 8 → bits_left new ≡ without_bits (bits_left old) 8 → place new ≡ place old + 8
+    → byte < 2 ^ 8 → bits_left new ≡ without_front (bits_left old) 8 → place new ≡ place old + 8
     → (end : ℕ) (bits : List ℕ) → Wholes old end bits → ByteTaken (Some byte) new end bits
 byte-taken byte old new front fits left moved end bits here =
     let is = told-of (λ bits. IsFirstNumber 8 bits byte) (bits_left old) bits here.rests.told front in
@@ -123,7 +124,7 @@ pub byte-missing : {S : Type 0} {g : Ghosts S} (old new : BitReader S g) → IfS
     → (end : ℕ) (bits : List ℕ) → Wholes old end bits → ByteTaken None new end bits
 byte-missing old new short same stays end bits here =
     let few = told-of (λ bits. length bits < 8) (bits_left old) bits here.rests.told short in (
-      nothing_left bits (omega (arith, here.whole, few)),
+      none_left bits (omega (arith, here.whole, few)),
       record { rests = record { told = same ∙ here.rests.told; ends = omega (arith, here.rests.ends, stays) }; whole = here.whole; ends = here.ends },
     )
 

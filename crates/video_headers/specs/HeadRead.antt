@@ -8,7 +8,8 @@ use Rattle.bit_cursor.specs.BitReader.{bits_left, place}
 use Rattle.syntax_types.specs.declared.picture.SeqState.{SeqState}
 use Rattle.picture_grammar.specs.Refusal.Refusal.{BadHeader}
 use Rattle.picture_grammar.specs.Head.{head}
-use Rattle.picture_grammar.specs.StartCode.{start_code, is_slice}
+use Rattle.picture_grammar.specs.StartCode.{start_code}
+use Rattle.stream_constants.specs.SliceCodes.{is_slice}
 use Rattle.video_headers.specs.declared.head.Headers.{Headers}
 use Rattle.video_headers.specs.declared.head.HeadEnd.{HeadEnd}
 

@@ -1,7 +1,7 @@
 //! Start codes, and the zero bytes before them (5.2.3, 6.2.1).
 ghost use Rattle.std.specs.Prelude.{◌≡◌, ◌≤◌, ◌<◌, ◌==◌, ℕ, Bool, false, true, IfOk};
 ghost use Rattle.bit_cursor.specs.BitReader.{place, bits_held};
-ghost use Rattle.picture_grammar.specs.StartCode.{is_slice};
+ghost use Rattle.stream_constants.specs.SliceCodes.{is_slice};
 ghost use Rattle.video_headers.specs.declared.stands.Stands.TheVariants.{Prefix};
 ghost use Rattle.video_headers.specs.Private.NextCode.{BehindZeros, ComesNext, NextRests, ByteTaken, comes_of, is_one, byte_of, refused_code};
 ghost use Rattle.video_headers.specs.Private.Reading.{AnswersLook};

@@ -1,7 +1,6 @@
 -- What is found at the front of a window, where a DC coefficient must stand (ISO/IEC 13818-2, 7.2.1).
-use Rattle.std.specs.Prelude.{◌≡◌, ◌≤◌, ℕ, Some, Bool, true, false, List, [], drop}
+use Rattle.std.specs.Prelude.{◌≡◌, ◌≤◌, ℕ, Some, List, [], drop}
 use Rattle.prefix_codes.specs.declared.table_name.TableName.{TableName}
-use Rattle.prefix_codes.specs.declared.table_name.TableName.TheVariants.{Address, TypeI, TypeP, TypeB, Pattern, Motion, DcLuma, DcChroma, CoeffZero, CoeffFirst, CoeffOne}
 use Rattle.prefix_codes.specs.TableName.{code_in}
 use Rattle.syntax_types.specs.declared.block.Dc.{Dc}
 use Rattle.picture_grammar.specs.Refusal.Refusal.{NoCode}
@@ -13,20 +12,6 @@ use Rattle.block_coeffs.specs.declared.dc_standing.DcStanding.{DcStanding}
 use Rattle.block_coeffs.specs.declared.dc_standing.DcStanding.TheVariants.{Coefficient, Refused}
 use Rattle.block_coeffs.specs.Private.Why.{refusal_of}
 use Rattle.grammar_reading.specs.Window.{seen, ShowsFront}
-
--- the tables of sizes of DC coefficients, B-12 and B-13
-abbrev pub is_sizes : TableName → Bool
-is_sizes Address = false
-is_sizes TypeI = false
-is_sizes TypeP = false
-is_sizes TypeB = false
-is_sizes Pattern = false
-is_sizes Motion = false
-is_sizes DcLuma = true
-is_sizes DcChroma = true
-is_sizes CoeffZero = false
-is_sizes CoeffFirst = false
-is_sizes CoeffOne = false
 
 -- a DC coefficient by a table of sizes
 abbrev pub dc_by : TableName → Grammar Dc

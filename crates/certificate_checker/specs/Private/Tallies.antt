@@ -15,7 +15,8 @@ use Rattle.certificate_checker.specs.declared.tally.Tally.{Tally}
 use Rattle.certificate_checker.specs.Private.Neighbours.{AreLinked, HasLinkRoom, KeepsLinkRoom}
 use Rattle.certificate_checker.specs.Private.Order.{IsDueOrder, unit_of}
 use Rattle.certificate_checker.specs.Private.Paths.{unfix}
-use Rattle.certificate_checker.specs.Private.PlaceSums.{AreSums, number_at, sum_from}
+use Rattle.certificate_checker.specs.Private.PlaceSums.{AreSums, number_at}
+use Rattle.sum_tree.specs.Nodes.{sum_from}
 
 -- the number of the unit at a place
 abbrev pub unit_at : List DueUnit → (place : ℕ) → ℕ

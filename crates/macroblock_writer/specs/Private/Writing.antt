@@ -12,7 +12,8 @@ use Rattle.syntax_types.specs.declared.slice.Slice.{Slice}
 use Rattle.syntax_types.specs.declared.slice.SliceInfo.{SliceInfo}
 use Rattle.picture_grammar.specs.Block.{block}
 use Rattle.picture_grammar.specs.Macroblock.{type_table, type_symbol, has_motion_type, has_dct_type, has_concealment, f_codes, block_way, is_coded, no_block}
-use Rattle.picture_grammar.specs.Written.{code_for, if_any, written_vector, written_coded_block}
+use Rattle.picture_grammar.specs.Written.{if_any, written_vector, written_coded_block}
+use Rattle.prefix_codes.specs.TableName.{code_for}
 use Rattle.picture_laws.specs.Spellable.{IsSpellable}
 
 -- motion_residual fits its bits in both parts (6.2.5.2.1)

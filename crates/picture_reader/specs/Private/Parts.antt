@@ -6,7 +6,7 @@ use Rattle.syntax_types.specs.declared.picture.SeqState.{SeqState}
 use Rattle.syntax_types.specs.declared.slice.Slice.{Slice}
 use Rattle.picture_grammar.specs.Refusal.{Refusal}
 use Rattle.picture_grammar.specs.Grammar.Next.{more, last}
-use Rattle.picture_grammar.specs.StartCode.{is_slice}
+use Rattle.stream_constants.specs.SliceCodes.{is_slice}
 use Rattle.picture_grammar.specs.Picture.{whole_slice, next_slice}
 use Rattle.picture_reader.specs.UnitCursor.{bits_from, SliceComes}
 use Rattle.picture_reader.specs.declared.part.Part.{Part}

@@ -5,7 +5,7 @@ use Rattle.prefix_codes.specs.declared.symbol.TheConstants.{END_OF_BLOCK}
 use Rattle.prefix_codes.specs.declared.table_name.TableName.TheVariants.{CoeffZero}
 use Rattle.syntax_types.specs.declared.block.BlockWay.{BlockWay}
 use Rattle.picture_grammar.specs.Block.{coefficient_table, first_place}
-use Rattle.picture_grammar.specs.Written.{code_for}
+use Rattle.prefix_codes.specs.TableName.{code_for}
 use Rattle.requantiser.specs.declared.counts.Counts.{Counts}
 use Rattle.requantiser.specs.declared.tally.Tally.{Tally}
 use Rattle.requantiser.specs.declared.targets.Targets.{Targets}

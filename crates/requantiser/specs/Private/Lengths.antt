@@ -4,10 +4,9 @@ use Rattle.std.specs.Option.{option_map_or}
 use Rattle.prefix_codes.specs.declared.symbol.TheConstants.{ESCAPE}
 use Rattle.prefix_codes.specs.declared.table_name.TableName.{TableName}
 use Rattle.prefix_codes.specs.declared.table_name.TableName.TheVariants.{CoeffZero, CoeffFirst, CoeffOne}
-use Rattle.prefix_codes.specs.TableName.{coefficient_code}
+use Rattle.prefix_codes.specs.TableName.{coefficient_code, code_for}
 use Rattle.syntax_types.specs.declared.block.BlockWay.{BlockWay}
 use Rattle.picture_grammar.specs.declared.escape.TheConstants.{RUN_BITS, LEVEL_BITS}
-use Rattle.picture_grammar.specs.Written.{code_for}
 
 -- the bits of a coefficient: the table's code and a sign bit where there is such a code, else an escape
 abbrev pub length_by : TableName → ℕ → ℕ → ℕ

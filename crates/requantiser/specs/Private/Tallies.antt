@@ -10,7 +10,8 @@ use Rattle.syntax_types.specs.declared.macroblock.Kind.{Kind}
 use Rattle.syntax_types.specs.declared.picture.PicCoding.{PicCoding}
 use Rattle.syntax_types.specs.declared.picture.SeqState.{SeqState}
 use Rattle.picture_grammar.specs.Block.{coefficient_table, first_place}
-use Rattle.picture_grammar.specs.Written.{code_for, written_coefficient, written_coefficients}
+use Rattle.picture_grammar.specs.Written.{written_coefficient, written_coefficients}
+use Rattle.prefix_codes.specs.TableName.{code_for}
 use Rattle.picture_grammar.specs.Macroblock.{block_way, no_block}
 use Rattle.requantiser.specs.declared.tally.Tally.{Tally}
 use Rattle.requantiser.specs.Distortion.{squared_difference}

@@ -6,7 +6,7 @@ use Rattle.slot_rule.specs.declared.after.After.TheVariants.{Missed, AllSent, Wa
 use Rattle.stream_constants.specs.declared.clock.TheConstants.{SUBTICKS_PER_TICK}
 use Rattle.stream_constants.specs.declared.decoder.TheConstants.{MB_SUBTICKS}
 use Rattle.stream_constants.specs.declared.packets.TheConstants.{PACKET_BYTES}
-use Rattle.slot_rule.specs.Constants.{margin_subticks}
+use Rattle.slot_rule.specs.declared.constants.TheConstants.{MARGIN_SUBTICKS}
 use Rattle.slot_rule.specs.declared.sent.Sent.{Sent}
 use Rattle.slot_rule.specs.declared.sent.Sent.TheVariants.{Null, Pat, Pmt, Pcr, Video as VideoPiece, Audio as AudioPiece}
 use Rattle.slot_rule.specs.declared.queue_state.QueueState.{QueueState}
@@ -107,7 +107,7 @@ pub record ComesLate (states : List QueueState) (end : ℕ) (row : Row) (stream 
   pub state : QueueState
   pub there : slice_get states stream ≡ Some state
   pub went : row ≡ Carries stream packet
-  pub late : SUBTICKS_PER_TICK * packet.due < (end + margin_subticks) + mb_or_tb_of_state state end
+  pub late : SUBTICKS_PER_TICK * packet.due < (end + MARGIN_SUBTICKS) + mb_or_tb_of_state state end
 
 -- the packet that stands in the row, if there is one, doesn't come late
 abbrev pub NoneLate : List QueueState → (end : ℕ) → Row → Type 0
@@ -115,13 +115,13 @@ NoneLate states end row = (stream : ℕ) (packet : QueuedPacket) → ComesLate s
 
 -- the first of the packets that aren't sent is overdue
 abbrev pub FirstOverdue : List QueueState → (end : ℕ) → (stream : ℕ) → QueuedPacket → Type 0
-FirstOverdue states end stream packet = IsFirst Passes states stream packet × (SUBTICKS_PER_TICK * packet.due < end + margin_subticks)
+FirstOverdue states end stream packet = IsFirst Passes states stream packet × (SUBTICKS_PER_TICK * packet.due < end + MARGIN_SUBTICKS)
 
 -- no packet that isn't sent is overdue
 abbrev pub NoneOverdue : List QueueState → (end : ℕ) → Type 0
 NoneOverdue states end =
     (stream : ℕ) (state : QueueState) (packet : QueuedPacket) → slice_get states stream ≡ Some state → state.head ≡ Some packet
-    → end + margin_subticks ≤ SUBTICKS_PER_TICK * packet.due
+    → end + MARGIN_SUBTICKS ≤ SUBTICKS_PER_TICK * packet.due
 
 -- what is found after slot n, which ends at this subtick and in which the row stood
 abbrev pub TellsAfter : List QueueState → (end : ℕ) → Row → (n : ℕ) → After → Type 0

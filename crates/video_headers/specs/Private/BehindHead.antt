@@ -3,7 +3,8 @@ use Rattle.std.specs.Prelude.{◌≡◌, ◌+◌, ◌*◌, ℕ, List, length}
 use Rattle.shelf_io.specs.declared.source.Source.{Ghosts}
 use Rattle.bit_cursor.specs.declared.bit_reader.BitReader.{BitReader}
 use Rattle.picture_grammar.specs.Refusal.Refusal.{BadHeader}
-use Rattle.picture_grammar.specs.StartCode.{start_code, is_slice}
+use Rattle.picture_grammar.specs.StartCode.{start_code}
+use Rattle.stream_constants.specs.SliceCodes.{is_slice}
 use Rattle.video_headers.specs.declared.head.HeadEnd.{HeadEnd}
 use Rattle.video_headers.specs.Private.Wholes.{Wholes}
 

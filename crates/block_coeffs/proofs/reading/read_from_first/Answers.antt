@@ -2,7 +2,8 @@ use Rattle.std.specs.Option.{option_map}
 use Rattle.std.proofs.Common.{rules, ℤ, w16, SFits, to_z, of_z, ◌≡◌, ◌+◌, drop, IfSome, ap, subst, ◌∙◌, arith}
 use Rattle.std.proofs.lemmas.Int.{to_z-of_z}
 use Rattle.prefix_codes.specs.declared.table_name.TableName.TheVariants.{CoeffFirst}
-use Rattle.bit_cursor.specs.BitReader.{bits_left, bits_held, without_bits, place}
+use Rattle.bit_cursor.specs.BitReader.{bits_left, bits_held, place}
+use Rattle.shelf_io.specs.Source.{without_front}
 use Rattle.grammar_reading.specs.Window.{ShowsFront}
 use Rattle.block_coeffs.specs.Private.Pairs.{IsBehind}
 use Rattle.block_coeffs.specs.Private.ShortCodes.{level_of}
@@ -57,7 +58,7 @@ returns-in-Pair-clause-ok g c =
     let fits : SFits w16 c.level_in.result = search rules in
     let held : ℤ = to_z w16 (of_z w16 c.level_in.result) in
     let level : held ≡ level_of c.in-Pair.word = to_z-of_z w16 c.level_in.result fits ∙ c.level_in.ensures in
-    let left : bits_left after ≡ without_bits (bits_left here) len = c.skip-in-Pair.ensures.left ∙ ap (λ told. option_map (drop len) told) c.in_ok-standing.ensures.left in
+    let left : bits_left after ≡ without_front (bits_left here) len = c.skip-in-Pair.ensures.left ∙ ap (λ told. option_map (drop len) told) c.in_ok-standing.ensures.left in
     let moved : place after ≡ place here + len = c.skip-in-Pair.ensures.place ∙ ap (λ n. n + len) c.in_ok-standing.ensures.stays in
     c.read_others.ensures.ok (bits_left here) (place here)
     (pair-read way items CoeffFirst 0 (inter-first way c.requires.way) behind.is window (bits_left here) (bits_left after) (place here)
@@ -79,7 +80,7 @@ returns-in-Pair-clause-refused g c =
     let fits : SFits w16 c.level_in.result = search rules in
     let held : ℤ = to_z w16 (of_z w16 c.level_in.result) in
     let level : held ≡ level_of c.in-Pair.word = to_z-of_z w16 c.level_in.result fits ∙ c.level_in.ensures in
-    let left : bits_left after ≡ without_bits (bits_left here) len = c.skip-in-Pair.ensures.left ∙ ap (λ told. option_map (drop len) told) c.in_ok-standing.ensures.left in
+    let left : bits_left after ≡ without_front (bits_left here) len = c.skip-in-Pair.ensures.left ∙ ap (λ told. option_map (drop len) told) c.in_ok-standing.ensures.left in
     let moved : place after ≡ place here + len = c.skip-in-Pair.ensures.place ∙ ap (λ n. n + len) c.in_ok-standing.ensures.stays in
     c.read_others.ensures.refused (bits_left here) (place here)
     (pair-read way items CoeffFirst 0 (inter-first way c.requires.way) behind.is window (bits_left here) (bits_left after) (place here)
@@ -98,7 +99,7 @@ returns-in-Pair-clause-advances g c =
     let shows : IfSome (bits_left here) (ShowsKnown window) = subst (λ told. IfSome told (ShowsKnown window)) c.in_ok-standing.ensures.left stands.shows in
     let behind : IsBehind way 0 items = none-behind way items 0 (inter-place way c.requires.way) (omega arith) c.requires.none in
     let len = c.length_in.result in
-    let left : bits_left after ≡ without_bits (bits_left here) len = c.skip-in-Pair.ensures.left ∙ ap (λ told. option_map (drop len) told) c.in_ok-standing.ensures.left in
+    let left : bits_left after ≡ without_front (bits_left here) len = c.skip-in-Pair.ensures.left ∙ ap (λ told. option_map (drop len) told) c.in_ok-standing.ensures.left in
     let moved : place after ≡ place here + len = c.skip-in-Pair.ensures.place ∙ ap (λ n. n + len) c.in_ok-standing.ensures.stays in
     advances-result (bits_left here) (bits_left after) (bits_left c.read_others.new.from) (place here) (place after)
     (place c.read_others.new.from) c.read_others.result (advances-known (bits_left here) (bits_left after) window len (place here)

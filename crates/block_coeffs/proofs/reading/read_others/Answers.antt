@@ -1,7 +1,8 @@
 use Rattle.std.specs.Option.{option_map}
 use Rattle.std.proofs.Common.{rules, ℤ, w16, SFits, to_z, of_z, ◌≡◌, ◌+◌, drop, IfSome, sym, ap, subst, ◌∙◌, refl, arith}
 use Rattle.std.proofs.lemmas.Int.{to_z-of_z}
-use Rattle.bit_cursor.specs.BitReader.{bits_left, bits_held, without_bits, place}
+use Rattle.bit_cursor.specs.BitReader.{bits_left, bits_held, place}
+use Rattle.shelf_io.specs.Source.{without_front}
 use Rattle.bit_cursor.proofs.Source.{keeps_then}
 use Rattle.picture_grammar.specs.Block.{coefficient_table}
 use Rattle.grammar_reading.specs.Window.{ShowsFront}
@@ -40,7 +41,7 @@ coefficients-preserved g c =
     let fits : SFits w16 c.level_in.result = search rules in
     let held : ℤ = to_z w16 (of_z w16 c.level_in.result) in
     let level : held ≡ level_of c.in-Pair.word = to_z-of_z w16 c.level_in.result fits ∙ c.level_in.ensures in
-    let left : bits_left after ≡ without_bits (bits_left here) len = c.skip-in-Pair.ensures.left ∙ ap (λ told. option_map (drop len) told) c.in_ok-standing.ensures.left in
+    let left : bits_left after ≡ without_front (bits_left here) len = c.skip-in-Pair.ensures.left ∙ ap (λ told. option_map (drop len) told) c.in_ok-standing.ensures.left in
     let moved : place after ≡ place here + len = c.skip-in-Pair.ensures.place ∙ ap (λ n. n + len) c.in_ok-standing.ensures.stays in
     let kept = keeps_then g.met.S.Source.keeps_on c.coefficients.invariant.keeps c.in_ok-standing.ensures.keeps in
     record {

@@ -7,6 +7,7 @@ use Rattle.grammar_reading.specs.declared.window.BitWindow.{BitWindow}
 use Rattle.grammar_reading.specs.Window.{seen}
 use Rattle.block_coeffs.proofs.Pairs.{end-found}
 use Rattle.block_coeffs.proofs.Symbols.{coefficients-is, past-end, shorter-code}
+use Rattle.grammar_reading.proofs.Cuts.{begun-whole}
 use Rattle.block_coeffs.proofs.standing.what_stands_whole.Goals as goal
 
 pub why_none-requires-clause-none : goal.why_none-requires-clause-none
@@ -15,27 +16,21 @@ why_none-requires-clause-none c = λ s n b. none-some _ (sym c.in_default.is ∙
 pub returns-in_default : goal.returns-in_default
 returns-in_default c = (omega arith, λ bits shows. inl (refl, c.why_none.ensures bits shows))
 
--- what begins a whole window, as a look-up found it
-begun : {found : Option (ℕ × ℕ)} (table : TableName) (window : BitWindow) (symbol len n : ℕ) → window.known ≡ 24
-    → ((s k : ℕ) → (found ≡ Some (s, k)) ↔ Begins table (seen window 24) s k) → found ≡ Some (symbol, len) → n ≡ len → Begins table (seen window window.known) symbol n
-begun table window symbol len n whole front is same =
-    subst (λ k. Begins table (seen window k) symbol n) (sym whole) ((front symbol n).0 (is ∙ ap (λ k. Some (symbol, k)) (sym same)))
-
 pub with_sign_behind-requires-clause-sign : goal.with_sign_behind-requires-clause-sign
 with_sign_behind-requires-clause-sign c =
-    let b = begun c.args.table c.args.window c.in-Some.symbol c.in-Some.len c.from-len.result c.requires.whole c.find_whole.ensures.front c.in-Some.is c.from-len.ensures in
+    let b = begun-whole c.args.table c.args.window c.in-Some.symbol c.in-Some.len c.from-len.result c.requires.whole c.find_whole.ensures.front c.in-Some.is c.from-len.ensures in
     let short = shorter-code c.in-Some.symbol b.code (coefficients-is c.args.table c.requires.table) b.listed in
     let counted = b.counted in
     omega arith
 
 pub returns-then-symbol-lt-END_OF_BLOCK : goal.returns-then-symbol-lt-END_OF_BLOCK
 returns-then-symbol-lt-END_OF_BLOCK c =
-    let b = begun c.args.table c.args.window c.in-Some.symbol c.in-Some.len c.from-len.result c.requires.whole c.find_whole.ensures.front c.in-Some.is c.from-len.ensures in
+    let b = begun-whole c.args.table c.args.window c.in-Some.symbol c.in-Some.len c.from-len.result c.requires.whole c.find_whole.ensures.front c.in-Some.is c.from-len.ensures in
     c.with_sign_behind.ensures c.args.table c.requires.table (λ end. omega arith) (λ escape. omega arith) b
 
 pub returns-then-symbol-eq-END_OF_BLOCK : goal.returns-then-symbol-eq-END_OF_BLOCK
 returns-then-symbol-eq-END_OF_BLOCK c =
-    let b = begun c.args.table c.args.window c.in-Some.symbol c.in-Some.len c.from-len.result c.requires.whole c.find_whole.ensures.front c.in-Some.is c.from-len.ensures in
+    let b = begun-whole c.args.table c.args.window c.in-Some.symbol c.in-Some.len c.from-len.result c.requires.whole c.find_whole.ensures.front c.in-Some.is c.from-len.ensures in
     let found = end-found c.args.table c.args.place c.args.window c.args.window.within c.from-len.result
     (subst (λ s. Begins c.args.table (seen c.args.window c.args.window.known) s c.from-len.result) c.if-symbol-eq-END_OF_BLOCK.true b) in
     (found.0, found.1)
@@ -44,7 +39,7 @@ pub returns-else-symbol-eq-END_OF_BLOCK : goal.returns-else-symbol-eq-END_OF_BLO
 returns-else-symbol-eq-END_OF_BLOCK c =
     let symbol = c.in-Some.symbol in
     let len = c.from-len.result in
-    let b = begun c.args.table c.args.window symbol c.in-Some.len len c.requires.whole c.find_whole.ensures.front c.in-Some.is c.from-len.ensures in
+    let b = begun-whole c.args.table c.args.window symbol c.in-Some.len len c.requires.whole c.find_whole.ensures.front c.in-Some.is c.from-len.ensures in
     let past : END_OF_BLOCK < symbol = let other = c.if-symbol-eq-END_OF_BLOCK.false in omega arith in
     let is : symbol ≡ ESCAPE = past-end symbol b.code (coefficients-is c.args.table c.requires.table) b.listed past in
     c.escaped.ensures c.args.table len c.requires.table (subst (λ s. Begins c.args.table (seen c.args.window c.args.window.known) s len) is b)

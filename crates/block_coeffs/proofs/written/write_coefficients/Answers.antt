@@ -3,7 +3,8 @@ use Rattle.prefix_codes.specs.declared.symbol.TheConstants.{END_OF_BLOCK}
 use Rattle.prefix_codes.specs.declared.table_name.TableName.{TableName}
 use Rattle.syntax_types.specs.declared.block.RunLevel.{RunLevel}
 use Rattle.bit_cursor.proofs.Composed.{writes_none, writes_then, writes_exit}
-use Rattle.picture_grammar.specs.Written.{code_for, written_coefficient, written_coefficients}
+use Rattle.picture_grammar.specs.Written.{written_coefficient, written_coefficients}
+use Rattle.prefix_codes.specs.TableName.{code_for}
 use Rattle.picture_grammar.specs.Block.{first_place}
 use Rattle.block_coeffs.specs.Private.Writing.{CanFollow}
 use Rattle.block_coeffs.proofs.Blocks.{later-table}

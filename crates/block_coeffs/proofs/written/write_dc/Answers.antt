@@ -1,7 +1,7 @@
 use Rattle.std.proofs.Common.{◌++◌, ap₂}
 use Rattle.bit_lists.specs.Bits.{bits_of}
 use Rattle.bit_cursor.proofs.Composed.{writes_then}
-use Rattle.picture_grammar.specs.Written.{code_for}
+use Rattle.prefix_codes.specs.TableName.{code_for}
 use Rattle.block_coeffs.proofs.Writing.{writes_as}
 use Rattle.block_coeffs.proofs.written.write_dc.Goals as goal
 

@@ -3,7 +3,8 @@ use Rattle.bit_lists.specs.Bits.{bits_of}
 use Rattle.bit_lists.proofs.JoinedLemmas.{bits_of-put}
 use Rattle.bit_cursor.proofs.Composed.{writes_then}
 use Rattle.prefix_codes.specs.declared.symbol.TheConstants.{ESCAPE}
-use Rattle.picture_grammar.specs.Written.{code_for, level_bits}
+use Rattle.picture_grammar.specs.Written.{level_bits}
+use Rattle.prefix_codes.specs.TableName.{code_for}
 use Rattle.block_coeffs.proofs.Writing.{writes_as, held_level}
 use Rattle.block_coeffs.proofs.written.write_escape.Goals as goal
 

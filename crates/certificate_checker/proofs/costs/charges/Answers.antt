@@ -1,7 +1,7 @@
 use Rattle.std.proofs.Common.{◌≡◌, ℕ, ◌+◌, ◌*◌, length, get_or, refl, ap₂, arith}
 use Rattle.dual_bounds.specs.declared.windows.Window.{Window}
 use Rattle.certificate_checker.specs.Private.FixedCosts.{packets_within}
-use Rattle.certificate_checker.specs.Private.PlaceSums.{sum_from}
+use Rattle.sum_tree.specs.Nodes.{sum_from}
 use Rattle.certificate_checker.proofs.FixedCosts.{no_window, one_window_more, windows_less}
 use Rattle.certificate_checker.proofs.costs.charges.Goals as goal
 

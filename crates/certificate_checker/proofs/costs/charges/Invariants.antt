@@ -1,6 +1,6 @@
 use Rattle.std.proofs.Common.{◌≡◌, length, take}
 use Rattle.certificate_checker.specs.Private.FixedCosts.{charged_at}
-use Rattle.certificate_checker.specs.Private.PlaceSums.{sum_from}
+use Rattle.sum_tree.specs.Nodes.{sum_from}
 use Rattle.certificate_checker.proofs.costs.charges.Given as goal
 
 -- what the windows before this one charge

@@ -5,7 +5,7 @@ use Rattle.dual_bounds.proofs.LeastCosts.{names_length}
 use Rattle.certificate_checker.specs.declared.order.DueUnit.{DueUnit}
 use Rattle.certificate_checker.specs.Private.Tallies.{free_cost}
 use Rattle.certificate_checker.specs.Private.Order.{IsPlaced}
-use Rattle.certificate_checker.specs.Private.PlaceSums.{sum_from}
+use Rattle.sum_tree.specs.Nodes.{sum_from}
 use Rattle.certificate_checker.specs.Private.Prices.{HasPassed}
 use Rattle.certificate_checker.proofs.FixedCosts.{free_at, on_to, one_place, parts_small, so_far}
 use Rattle.certificate_checker.proofs.OrderCosts.{cost_of_number, no_place, placed_at, priced}

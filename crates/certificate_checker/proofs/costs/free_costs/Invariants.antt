@@ -1,7 +1,7 @@
 use Rattle.std.proofs.Common.{◌≡◌, ℕ, ◌+◌, ◌-◌, ◌<◌, ◌≤◌, false, length, get_or}
 use Rattle.certificate_checker.specs.declared.order.DueUnit.{DueUnit}
 use Rattle.certificate_checker.specs.Private.Tallies.{free_cost}
-use Rattle.certificate_checker.specs.Private.PlaceSums.{sum_from}
+use Rattle.sum_tree.specs.Nodes.{sum_from}
 use Rattle.certificate_checker.specs.Private.Prices.{HasPassed}
 use Rattle.certificate_checker.specs.Private.Tallies.{is_out}
 use Rattle.certificate_checker.proofs.costs.free_costs.Given as goal

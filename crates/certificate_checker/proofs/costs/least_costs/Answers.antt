@@ -1,6 +1,7 @@
 use Rattle.std.proofs.Common.{◌≡◌, ℕ, ◌-◌, ◌*◌, length, ap, ap₂, ◌∙◌, arith}
 use Rattle.dual_bounds.specs.declared.constants.TheConstants.{DISTORTION_PARTS}
-use Rattle.certificate_checker.specs.Private.PlaceSums.{number_at, sum_from}
+use Rattle.certificate_checker.specs.Private.PlaceSums.{number_at}
+use Rattle.sum_tree.specs.Nodes.{sum_from}
 use Rattle.certificate_checker.proofs.FixedCosts.{parts_small}
 use Rattle.certificate_checker.proofs.costs.least_costs.Goals as goal
 

@@ -18,6 +18,7 @@ returns c job contents programs table choice slots stream valid are of table-val
         sendable = ready.sendable;
         slots = list;
         clean = c.schedules_are_clean.ensures table choice list.rows table-valid fits list.schedule;
+        when_wanted = c.removals_when_wanted_are_allowed.ensures;
         as_queued = c.pieces_are_as_queued.ensures;
         in_order = c.packets_stand_in_order.ensures;
       };

@@ -1,5 +1,6 @@
 use Rattle.std.proofs.Common.{◌≡◌, false, ◌++◌, ◌+◌, ◌-◌, ◌^◌, ◌≤◌, min, length, filter, nat_lt, nat_le, ◌&&◌}
-use Rattle.es_units.specs.Units.{places, is_behind_slice, is_unit_cut, spans, cuts_up_to, cuts_behind}
+use Rattle.es_units.specs.Units.{places, is_behind_slice, is_unit_cut, cuts_up_to, cuts_behind}
+use Rattle.list_types.specs.Spans.{spans}
 use Rattle.es_units.proofs.units.split_units.Given as goal
 
 abbrev pub invariant-loop-cut : goal.invariant-loop-cut

@@ -1,5 +1,4 @@
-use Rattle.grammar_reading.proofs.Cuts.{symbol-found}
-use Rattle.macroblock_reader.proofs.WholeParts.{begun-whole}
+use Rattle.grammar_reading.proofs.Cuts.{symbol-found, begun-whole}
 use Rattle.macroblock_reader.proofs.elements.whole_symbol.Goals as goal
 
 pub returns : goal.returns

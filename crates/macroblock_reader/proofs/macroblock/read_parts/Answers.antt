@@ -23,29 +23,8 @@ use Rattle.picture_grammar.specs.Macroblock.{
 use Rattle.macroblock_reader.specs.Private.Answers.{Answers}
 use Rattle.macroblock_reader.proofs.Courses.{course-on, course-err, course-end}
 use Rattle.macroblock_reader.proofs.Sixes.{local-blocks}
-use Rattle.macroblock_reader.proofs.Macroblocks.{
-  from_1,
-  from_2,
-  from_3,
-  from_4,
-  from_5,
-  from_6,
-  from_7,
-  from_8,
-  from_9,
-  from_10,
-  macroblock-start,
-  local-increment,
-  local-kind,
-  local-motion_type,
-  local-dct_type,
-  local-code,
-  local-vectors,
-  local-marker,
-  local-pattern,
-  vectors-as,
-  marker-as,
-}
+use Rattle.macroblock_reader.proofs.Macroblocks.{from_1, from_2, from_3, from_4, from_5, from_6, from_7, from_8, from_9, from_10, macroblock-start, local-kind, local-motion_type, local-dct_type, local-code, local-vectors, local-marker, local-pattern, vectors-as, marker-as}
+use Rattle.picture_laws.proofs.LocalHeaders.{local-address}
 use Rattle.macroblock_reader.proofs.macroblock.read_parts.Goals as goal
 
 pub returns-in_err-increment-clause-answers : goal.returns-in_err-increment-clause-answers
@@ -71,7 +50,7 @@ returns-in_err-kind-clause-answers g c =
     let start = macroblock-start coding first left c.args.from.now keeps in
     let increment = c.in_ok-increment.increment in
     let course_1 = course-on on (address_increment (most_increment coding first left)) (from_1 coding)
-    (local-increment (most_increment coding first left)) start
+    (local-address (most_increment coding first left)) start
     (subst (λ n. Answers ⊥ (address_increment n) (Ok c.in_ok-increment.increment) c.args.from.now c.read_increment.new.from)
     c.most_increment.ensures.value c.in_ok-increment.ensures.answers) in
     let p = err_from_is_err_and c.from_residual-in_err-kind.result c.from_residual-in_err-kind.ensures.1 in
@@ -87,7 +66,7 @@ returns-in_err-motion_type-clause-answers g c =
     let start = macroblock-start coding first left c.args.from.now keeps in
     let increment = c.in_ok-increment.increment in
     let course_1 = course-on on (address_increment (most_increment coding first left)) (from_1 coding)
-    (local-increment (most_increment coding first left)) start
+    (local-address (most_increment coding first left)) start
     (subst (λ n. Answers ⊥ (address_increment n) (Ok c.in_ok-increment.increment) c.args.from.now c.read_increment.new.from)
     c.most_increment.ensures.value c.in_ok-increment.ensures.answers) in
     let kind = c.in_ok-kind.kind in
@@ -105,7 +84,7 @@ returns-in_err-field_dct-clause-answers g c =
     let start = macroblock-start coding first left c.args.from.now keeps in
     let increment = c.in_ok-increment.increment in
     let course_1 = course-on on (address_increment (most_increment coding first left)) (from_1 coding)
-    (local-increment (most_increment coding first left)) start
+    (local-address (most_increment coding first left)) start
     (subst (λ n. Answers ⊥ (address_increment n) (Ok c.in_ok-increment.increment) c.args.from.now c.read_increment.new.from)
     c.most_increment.ensures.value c.in_ok-increment.ensures.answers) in
     let kind = c.in_ok-kind.kind in
@@ -127,7 +106,7 @@ returns-in_err-code-clause-answers g c =
     let start = macroblock-start coding first left c.args.from.now keeps in
     let increment = c.in_ok-increment.increment in
     let course_1 = course-on on (address_increment (most_increment coding first left)) (from_1 coding)
-    (local-increment (most_increment coding first left)) start
+    (local-address (most_increment coding first left)) start
     (subst (λ n. Answers ⊥ (address_increment n) (Ok c.in_ok-increment.increment) c.args.from.now c.read_increment.new.from)
     c.most_increment.ensures.value c.in_ok-increment.ensures.answers) in
     let kind = c.in_ok-kind.kind in
@@ -151,7 +130,7 @@ returns-in_err-read_vectors_where-clause-answers g c =
     let start = macroblock-start coding first left c.args.from.now keeps in
     let increment = c.in_ok-increment.increment in
     let course_1 = course-on on (address_increment (most_increment coding first left)) (from_1 coding)
-    (local-increment (most_increment coding first left)) start
+    (local-address (most_increment coding first left)) start
     (subst (λ n. Answers ⊥ (address_increment n) (Ok c.in_ok-increment.increment) c.args.from.now c.read_increment.new.from)
     c.most_increment.ensures.value c.in_ok-increment.ensures.answers) in
     let kind = c.in_ok-kind.kind in
@@ -180,7 +159,7 @@ returns-in_err-read_vectors_where-2-clause-answers g c =
     let start = macroblock-start coding first left c.args.from.now keeps in
     let increment = c.in_ok-increment.increment in
     let course_1 = course-on on (address_increment (most_increment coding first left)) (from_1 coding)
-    (local-increment (most_increment coding first left)) start
+    (local-address (most_increment coding first left)) start
     (subst (λ n. Answers ⊥ (address_increment n) (Ok c.in_ok-increment.increment) c.args.from.now c.read_increment.new.from)
     c.most_increment.ensures.value c.in_ok-increment.ensures.answers) in
     let kind = c.in_ok-kind.kind in
@@ -215,7 +194,7 @@ returns-in_err-read_marker_where-clause-answers g c =
     let start = macroblock-start coding first left c.args.from.now keeps in
     let increment = c.in_ok-increment.increment in
     let course_1 = course-on on (address_increment (most_increment coding first left)) (from_1 coding)
-    (local-increment (most_increment coding first left)) start
+    (local-address (most_increment coding first left)) start
     (subst (λ n. Answers ⊥ (address_increment n) (Ok c.in_ok-increment.increment) c.args.from.now c.read_increment.new.from)
     c.most_increment.ensures.value c.in_ok-increment.ensures.answers) in
     let kind = c.in_ok-kind.kind in
@@ -255,7 +234,7 @@ returns-in_err-pattern-clause-answers g c =
     let start = macroblock-start coding first left c.args.from.now keeps in
     let increment = c.in_ok-increment.increment in
     let course_1 = course-on on (address_increment (most_increment coding first left)) (from_1 coding)
-    (local-increment (most_increment coding first left)) start
+    (local-address (most_increment coding first left)) start
     (subst (λ n. Answers ⊥ (address_increment n) (Ok c.in_ok-increment.increment) c.args.from.now c.read_increment.new.from)
     c.most_increment.ensures.value c.in_ok-increment.ensures.answers) in
     let kind = c.in_ok-kind.kind in
@@ -296,7 +275,7 @@ returns-in_err-read_blocks-clause-answers g c =
     let start = macroblock-start coding first left c.args.from.now keeps in
     let increment = c.in_ok-increment.increment in
     let course_1 = course-on on (address_increment (most_increment coding first left)) (from_1 coding)
-    (local-increment (most_increment coding first left)) start
+    (local-address (most_increment coding first left)) start
     (subst (λ n. Answers ⊥ (address_increment n) (Ok c.in_ok-increment.increment) c.args.from.now c.read_increment.new.from)
     c.most_increment.ensures.value c.in_ok-increment.ensures.answers) in
     let kind = c.in_ok-kind.kind in
@@ -340,7 +319,7 @@ returns-clause-answers g c =
     let start = macroblock-start coding first left c.args.from.now keeps in
     let increment = c.in_ok-increment.increment in
     let course_1 = course-on on (address_increment (most_increment coding first left)) (from_1 coding)
-    (local-increment (most_increment coding first left)) start
+    (local-address (most_increment coding first left)) start
     (subst (λ n. Answers ⊥ (address_increment n) (Ok c.in_ok-increment.increment) c.args.from.now c.read_increment.new.from)
     c.most_increment.ensures.value c.in_ok-increment.ensures.answers) in
     let kind = c.in_ok-kind.kind in

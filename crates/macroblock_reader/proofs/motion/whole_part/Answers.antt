@@ -3,7 +3,8 @@ use Rattle.std.proofs.lemmas.Int.{to_z-of_z}
 use Rattle.std.proofs.lemmas.Nat.{one_shl}
 use Rattle.prefix_codes.specs.declared.table_name.TableName.TheVariants.{Motion}
 use Rattle.picture_grammar.specs.Block.{signed}
-use Rattle.macroblock_reader.proofs.WholeParts.{begun-whole, motion-most, residual-fits, still-found, moving-found}
+use Rattle.macroblock_reader.proofs.WholeParts.{motion-most, residual-fits, still-found, moving-found}
+use Rattle.grammar_reading.proofs.Cuts.{begun-whole}
 use Rattle.macroblock_reader.proofs.motion.whole_part.Goals as goal
 
 pub returns-then-size-eq0 : goal.returns-then-size-eq0

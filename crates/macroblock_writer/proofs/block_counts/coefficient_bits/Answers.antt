@@ -6,9 +6,9 @@ use Rattle.bit_lists.specs.Bits.{bits_of}
 use Rattle.bit_lists.specs.Fields.{flag}
 use Rattle.bit_lists.proofs.BitLemmas.{length-bits_of}
 use Rattle.prefix_codes.specs.declared.symbol.TheConstants.{ESCAPE}
-use Rattle.prefix_codes.specs.TableName.{coefficient_code}
-use Rattle.picture_grammar.specs.Written.{code_for, level_bits, written_escape}
-use Rattle.macroblock_writer.proofs.Counts.{three_parts}
+use Rattle.prefix_codes.specs.TableName.{coefficient_code, code_for}
+use Rattle.picture_grammar.specs.Written.{level_bits, written_escape}
+use Rattle.list_types.proofs.Lists.{three_parts}
 use Rattle.macroblock_writer.proofs.block_counts.coefficient_bits.Goals as goal
 
 pub returns-in-Some-clause-value : goal.returns-in-Some-clause-value

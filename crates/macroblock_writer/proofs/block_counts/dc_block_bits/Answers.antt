@@ -2,7 +2,8 @@ use Rattle.std.proofs.Common.{[], ◌+◌, ◌∙◌, length, ap, ap₂, sym}
 use Rattle.std.proofs.lemmas.List.{length-append}
 use Rattle.prefix_codes.specs.declared.symbol.TheConstants.{END_OF_BLOCK}
 use Rattle.picture_grammar.specs.Block.{first_place}
-use Rattle.picture_grammar.specs.Written.{code_for, if_any, written_block, written_coefficients, written_dc}
+use Rattle.picture_grammar.specs.Written.{if_any, written_block, written_coefficients, written_dc}
+use Rattle.prefix_codes.specs.TableName.{code_for}
 use Rattle.macroblock_writer.proofs.block_counts.dc_block_bits.Goals as goal
 
 pub returns-clause-value : goal.returns-clause-value

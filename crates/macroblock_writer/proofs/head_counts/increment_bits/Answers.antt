@@ -3,7 +3,7 @@ use Rattle.std.proofs.lemmas.List.{length-append}
 use Rattle.std.specs.List.{flat_map, range_with_len}
 use Rattle.prefix_codes.specs.declared.symbol.TheConstants.{ADDRESS_ESCAPE}
 use Rattle.prefix_codes.specs.declared.table_name.TableName.TheVariants.{Address}
-use Rattle.picture_grammar.specs.Written.{code_for}
+use Rattle.prefix_codes.specs.TableName.{code_for}
 use Rattle.macroblock_writer.proofs.Counts.{over_and_over}
 use Rattle.macroblock_writer.proofs.head_counts.increment_bits.Goals as goal
 

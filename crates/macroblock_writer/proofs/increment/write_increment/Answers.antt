@@ -4,7 +4,8 @@ use Rattle.bit_cursor.proofs.Composed.{writes_none, writes_then, writes_exit}
 use Rattle.block_coeffs.proofs.Writing.{writes_as}
 use Rattle.prefix_codes.specs.declared.symbol.TheConstants.{ADDRESS_ESCAPE}
 use Rattle.prefix_codes.specs.declared.table_name.TableName.TheVariants.{Address}
-use Rattle.picture_grammar.specs.Written.{code_for, written_increment}
+use Rattle.picture_grammar.specs.Written.{written_increment}
+use Rattle.prefix_codes.specs.TableName.{code_for}
 use Rattle.macroblock_writer.proofs.increment.write_increment.Goals as goal
 
 -- the same code for each number of a range, wherever it begins

@@ -6,7 +6,8 @@ use Rattle.block_coeffs.proofs.Writing.{writes_as}
 use Rattle.syntax_types.specs.declared.macroblock.Macroblock.{Macroblock}
 use Rattle.syntax_types.specs.declared.picture.PicCoding.{PicCoding}
 use Rattle.picture_grammar.specs.Macroblock.{has_motion_type, has_dct_type}
-use Rattle.picture_grammar.specs.Written.{code_for, if_any}
+use Rattle.picture_grammar.specs.Written.{if_any}
+use Rattle.prefix_codes.specs.TableName.{code_for}
 use Rattle.macroblock_writer.proofs.Writing.{writes_beyond}
 use Rattle.macroblock_writer.proofs.macroblock.write_modes.Goals as goal
 

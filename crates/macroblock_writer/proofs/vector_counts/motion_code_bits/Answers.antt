@@ -6,8 +6,8 @@ use Rattle.bit_lists.specs.Fields.{flag}
 use Rattle.bit_lists.proofs.BitLemmas.{length-bits_of}
 use Rattle.prefix_codes.specs.declared.table_name.TableName.TheVariants.{Motion}
 use Rattle.picture_grammar.specs.Motion.{has_residual}
-use Rattle.picture_grammar.specs.Written.{code_for}
-use Rattle.macroblock_writer.proofs.Counts.{three_parts}
+use Rattle.prefix_codes.specs.TableName.{code_for}
+use Rattle.list_types.proofs.Lists.{three_parts}
 use Rattle.macroblock_writer.proofs.vector_counts.motion_code_bits.Goals as goal
 
 -- the residual stands in f_code - 1 bits, which are none where it doesn't stand

@@ -8,7 +8,7 @@ use Rattle.bit_cursor.proofs.Composed.{writes_then, writes_exit}
 use Rattle.block_coeffs.proofs.Writing.{writes_as, as_flag, sign_bit}
 use Rattle.prefix_codes.specs.declared.table_name.TableName.TheVariants.{Motion}
 use Rattle.picture_grammar.specs.Motion.{has_residual}
-use Rattle.picture_grammar.specs.Written.{code_for}
+use Rattle.prefix_codes.specs.TableName.{code_for}
 use Rattle.macroblock_writer.proofs.Writing.{writes_beyond}
 use Rattle.macroblock_writer.proofs.vectors.write_motion_code.Goals as goal
 

@@ -11,10 +11,8 @@ use Rattle.macroblock_reader.specs.SliceFault.{refusal_told}
 use Rattle.picture_reader.specs.Private.Reading.{HasLeft}
 use Rattle.picture_reader.proofs.Told.{reads-told, explains-told}
 use Rattle.picture_reader.proofs.Slices.{inside-when, rest-dropped, head-told, rest-told, slice-spelled}
+use Rattle.shelf_io.proofs.Counted.{none-rose}
 use Rattle.picture_reader.proofs.slice.walk_slice.Goals as goal
-
-none-rose : Rose 0 0 → ⊥
-none-rose r = let lt : 0 < 0 = r (omega arith) in omega (arith, lt)
 
 pub returns-in_err-head-clause-gives : goal.returns-in_err-head-clause-gives
 returns-in_err-head-clause-gives c =

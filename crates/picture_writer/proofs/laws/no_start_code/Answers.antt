@@ -10,12 +10,8 @@ use Rattle.picture_grammar.specs.StartCode.{start_code_prefix}
 use Rattle.picture_laws.specs.SliceStands.{SliceStands}
 use Rattle.picture_laws.proofs.StandingSlices.{slices-stand}
 use Rattle.picture_writer.specs.SliceBytes.{NoCodeInside}
+use Rattle.picture_laws.proofs.StartCodes.{prefix_bits}
 use Rattle.picture_writer.proofs.laws.no_start_code.Goals as goal
-
--- three bytes are the prefix's bits
-prefix_bits : bit_list (0 ∷ 0 ∷ 1 ∷ []) ≡ start_code_prefix
-unfolding bits_of
-prefix_bits = refl
 
 in_bits : (unit : List ℕ) (place : ℕ) → IsPrefix (0 ∷ 0 ∷ 1 ∷ []) (drop place unit) → bit_list unit ≡ bit_list (take place unit) ++ start_code_prefix ++ bit_list (drop 3 (drop place unit))
 in_bits unit place is =

@@ -3,10 +3,8 @@ use Rattle.bit_lists.specs.Bits.{bits_of}
 use Rattle.bit_lists.proofs.JoinedLemmas.{bits_of-put}
 use Rattle.block_coeffs.proofs.Writing.{writes_as}
 use Rattle.picture_grammar.specs.StartCode.{start_code_bits}
+use Rattle.picture_laws.proofs.StartCodes.{code_bits}
 use Rattle.picture_writer.proofs.slices.write_start_code.Goals as goal
-
-code_bits : (byte n : ℕ) → byte < 2 ^ 8 → n ≡ byte → bits_of 32 (256 + n) ≡ start_code_bits byte
-code_bits byte n small is = ap (λ (k : ℕ). bits_of 32 (256 + k)) is ∙ bits_of-put 24 8 1 byte small
 
 pub returns-clause-writes : goal.returns-clause-writes
 returns-clause-writes g c =

@@ -3,10 +3,8 @@ use Rattle.bit_lists.specs.Bits.{bits_of}
 use Rattle.bit_lists.proofs.JoinedLemmas.{bits_of-put}
 use Rattle.picture_grammar.specs.StartCode.{start_code_bits}
 use Rattle.program_maker.proofs.Writing.{goes-as, goes-from, goes-on_ok}
+use Rattle.picture_laws.proofs.StartCodes.{code_bits}
 use Rattle.program_maker.proofs.pictures.put_slice_header.Goals as goal
-
-code_bits : (byte n : ℕ) → byte < 2 ^ 8 → n ≡ byte → bits_of 32 (256 + n) ≡ start_code_bits byte
-code_bits byte n small is = ap (λ (k : ℕ). bits_of 32 (256 + k)) is ∙ bits_of-put 24 8 1 byte small
 
 behind_code : (n : ℕ) → n ≡ 4 → bits_of 6 (2 * n) ≡ bits_of 5 4 ++ 0 ∷ []
 unfolding bits_of

@@ -2,7 +2,7 @@ use Rattle.std.proofs.Common.{◌+◌, ◌∙◌, ap, sym, length}
 use Rattle.std.specs.Option.{option_map_or}
 use Rattle.bit_lists.proofs.BitLemmas.{length-bits_of}
 use Rattle.prefix_codes.specs.declared.symbol.TheConstants.{ESCAPE}
-use Rattle.picture_grammar.specs.Written.{code_for}
+use Rattle.prefix_codes.specs.TableName.{code_for}
 use Rattle.requantiser.proofs.code_lengths.coefficient_bits.Goals as goal
 
 pub returns-in-Some-clause-value : goal.returns-in-Some-clause-value

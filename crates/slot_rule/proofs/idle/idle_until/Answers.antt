@@ -19,10 +19,10 @@ returns-clause-idle c m from upto =
     let both : m < c.min-2.result = omega (arith, c.min-until.ensures) in
     let gone : m < c.args.run.now.first_gone / c.from-slot.result = omega (arith, c.min-2.ensures) in
     let low : m < c.min.result = omega (arith, c.min-2.ensures) in
-    let overdue : m < c.saturating_sub.result / (940 * c.from-slot.result) = omega (arith, c.min.ensures) in
-    let going : m < c.may_go_from.result / (940 * c.from-slot.result) = omega (arith, c.min.ensures) in
+    let overdue : m < c.saturating_sub.result / (SUBTICKS_PER_TICK * c.from-slot.result) = omega (arith, c.min.ensures) in
+    let going : m < c.may_go_from.result / (SUBTICKS_PER_TICK * c.from-slot.result) = omega (arith, c.min.ensures) in
     IsIdle-from c.args.run.now c.args.slot m c.saturating_sub.result c.may_go_from.result c.in-Some.head.stream c.in-Some.head.packet (omega (arith, c.requires.least))
     (subst (λ (states : List QueueState). IsFirst Passes states c.in-Some.head.stream c.in-Some.head.packet) same c.in-Some.ensures) c.saturating_sub.ensures
     (subst (λ (states : List QueueState). (start : ℕ) → SUBTICKS_PER_TICK * start < c.may_go_from.result → IsFirstHead (PassesAt start) states None) same c.may_go_from.ensures)
-    (subst (λ (k : ℕ). m < c.saturating_sub.result / (940 * k)) slot overdue) (subst (λ (k : ℕ). m < c.may_go_from.result / (940 * k)) slot going)
+    (subst (λ (k : ℕ). m < c.saturating_sub.result / (SUBTICKS_PER_TICK * k)) slot overdue) (subst (λ (k : ℕ). m < c.may_go_from.result / (SUBTICKS_PER_TICK * k)) slot going)
     (subst (λ (k : ℕ). m < c.args.run.now.first_gone / k) slot gone)

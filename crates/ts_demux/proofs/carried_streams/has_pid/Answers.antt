@@ -2,17 +2,8 @@ use Rattle.std.proofs.Common.{◌≡◌, ◌==◌, ℕ, true, false, Bool, refl,
 use Rattle.std.proofs.lemmas.Bool.Decides.{nat_tests}
 use Rattle.psi_tables.specs.declared.stream.Stream.{Stream}
 use Rattle.ts_demux.proofs.CarrySteps.{among_more, among_here, among_none}
+use Rattle.ts_demux.proofs.PidTests.{no_test, yes_test}
 use Rattle.ts_demux.proofs.carried_streams.has_pid.Goals as goal
-
-no_test : (pid other : ℕ) → (pid ≡ other → ⊥) → (pid == other) ≡ false
-no_test pid other apart = by_test (pid == other) refl
-  where
-    by_test : (is : Bool) → (pid == other) ≡ is → is ≡ false
-    by_test true is = let same : pid ≡ other = grind (arith, nat_tests) in absurd (apart same)
-    by_test false is = refl
-
-yes_test : (pid other : ℕ) → pid ≡ other → (pid == other) ≡ true
-yes_test pid other same = grind (arith, nat_tests)
 
 pub returns-then-stream-pid : goal.returns-then-stream-pid
 returns-then-stream-pid c =

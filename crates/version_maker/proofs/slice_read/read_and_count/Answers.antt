@@ -15,10 +15,8 @@ use Rattle.picture_reader.proofs.Slices.{inside-when, rest-dropped, head-told, r
 use Rattle.picture_reader.specs.Told.{RefusesTold}
 use Rattle.version_maker.specs.declared.slice_count.VersionCount.{VersionCount}
 use Rattle.version_maker.proofs.Infos.{head-code, head-info-few}
+use Rattle.shelf_io.proofs.Counted.{none-rose}
 use Rattle.version_maker.proofs.slice_read.read_and_count.Goals as goal
-
-none-rose : Rose 0 0 → ⊥
-none-rose r = let lt : 0 < 0 = r (omega arith) in omega (arith, lt)
 
 pub returns-in_err-head-clause-gives : goal.returns-in_err-head-clause-gives
 returns-in_err-head-clause-gives c = λ row.

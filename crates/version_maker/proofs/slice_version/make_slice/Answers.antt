@@ -13,10 +13,8 @@ use Rattle.picture_reader.proofs.Slices.{inside-when, rest-dropped, head-told, r
 use Rattle.version_maker.specs.Private.Making.{slice_of}
 use Rattle.version_maker.proofs.Infos.{head-code}
 use Rattle.version_maker.proofs.MadeSlices.{head-fits}
+use Rattle.shelf_io.proofs.Counted.{none-rose}
 use Rattle.version_maker.proofs.slice_version.make_slice.Goals as goal
-
-none-rose : Rose 0 0 → ⊥
-none-rose r = let lt : 0 < 0 = r (omega arith) in omega (arith, lt)
 
 pub returns-in_err-head-clause-gives : goal.returns-in_err-head-clause-gives
 returns-in_err-head-clause-gives g c =

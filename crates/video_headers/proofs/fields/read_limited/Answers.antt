@@ -1,5 +1,5 @@
 use Rattle.std.proofs.Common.{rules, ◌≡◌, ◌+◌, ◌-◌, ◌*◌, ◌%◌, ◌^◌, sym, ap, ◌∙◌, arith}
-use Rattle.bit_cursor.specs.BitReader.{without_bits}
+use Rattle.shelf_io.specs.Source.{without_front}
 use Rattle.video_headers.specs.Private.Limits.{first_broken}
 use Rattle.std.proofs.lemmas.Result.{err_from_is_err_and}
 use Rattle.video_headers.proofs.Reading.{answers-of}
@@ -29,7 +29,7 @@ returns-clause-answers g c = λ rs are.
     let known = c.in_ok-number.known in
     answers-of (limited-goes c.args.n c.args.reader.now number known _ c.place-at.result c.args.limits.now c.in_ok-number.ensures.window c.in_ok-number.ensures.below c.in_ok-number.ensures.unknown
     (ap (λ k. number + (k - 1)) (one-shifted (c.args.n - known) (omega arith))) c.place-at.ensures (sym c.first_broken.ensures ∙ c.in_default.is) c.if-known-n.false
-    (c.skip.ensures.left ∙ ap (λ told. without_bits told c.args.n) c.in_ok-number.ensures.left)
+    (c.skip.ensures.left ∙ ap (λ told. without_front told c.args.n) c.in_ok-number.ensures.left)
     (c.skip.ensures.place ∙ ap (λ k. k + c.args.n) c.in_ok-number.ensures.place) rs are) (search rules) (search rules) (search rules)
 
 pub returns-in_err-number-clause-answers : goal.returns-in_err-number-clause-answers

@@ -1,5 +1,5 @@
 use Rattle.std.proofs.Common.{◌≡◌, ◌+◌, ◌-◌, ◌*◌, ◌<◌, ◌≤◌, get_or}
-use Rattle.certificate_checker.specs.Private.PlaceSums.{sum_from}
+use Rattle.sum_tree.specs.Nodes.{sum_from}
 use Rattle.certificate_checker.proofs.sums.PlaceSums.between.Given as goal
 
 -- what is summed, and the sum from one node up to the other

@@ -7,17 +7,8 @@ use Rattle.ts_packets.specs.PidReader.{carried_at}
 use Rattle.ts_demux.specs.Faults.{of_pid}
 use Rattle.ts_demux.proofs.WalkSteps.{is_of}
 use Rattle.ts_demux.proofs.Gathering.{gathers_other, gathers_nothing, gathers_more, gathers_fault, gathers_sound, other_sound}
+use Rattle.ts_demux.proofs.PidTests.{no_test, yes_test}
 use Rattle.ts_demux.proofs.pes_gatherer.PesGatherer.take.Goals as goal
-
-no_test : (pid other : ℕ) → (pid ≡ other → ⊥) → (pid == other) ≡ false
-no_test pid other apart = by_test (pid == other) refl
-  where
-    by_test : (is : Bool) → (pid == other) ≡ is → is ≡ false
-    by_test true is = let same : pid ≡ other = grind (arith, nat_tests) in absurd (apart same)
-    by_test false is = refl
-
-yes_test : (pid other : ℕ) → pid ≡ other → (pid == other) ≡ true
-yes_test pid other same = grind (arith, nat_tests)
 
 pub returns-then-pid-self : goal.returns-then-pid-self
 returns-then-pid-self c =

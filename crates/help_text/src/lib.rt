@@ -1,0 +1,10 @@
+//! What the program prints for `--help` and `--version`, and the printing of it.
+//!
+//! Apart from what runs commands, so that a small program of the gate can print it.
+#![tactic(auto)]
+
+mod print;
+mod texts;
+
+pub use crate::print::told;
+pub use crate::texts::{HELP, VERSION};
