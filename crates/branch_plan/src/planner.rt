@@ -37,7 +37,7 @@ pub struct Planned {
 /// What ended a search.
 #[derive(Clone, Copy, Debug, PartialEq, Eq)]
 pub enum Search {
-    /// The bound has come up to the distortion: no choice that can be sent in time has less.
+    /// The bound has come up to the distortion: no choice that the slot rule schedules has less.
     Optimal,
     /// A budget ended it before.
     Budget,
