@@ -72,13 +72,13 @@ abbrev pub pes_packet_of : List PesStart → ℕ → Option PesStart
 pes_packet_of starts at = last_or None (filter (λ start. nat_le start.at at) starts)
 
 -- the frame before the k-th one begins before the packet's payload
-abbrev pub is_first_in : List ℕ → ℕ → PesStart → Bool
-is_first_in places k packet = (k == 0) || nat_lt (slice_index places (k - 1)) packet.at
+abbrev pub is_first_frame_in : List ℕ → ℕ → PesStart → Bool
+is_first_frame_in places k packet = (k == 0) || nat_lt (slice_index places (k - 1)) packet.at
 
 -- the time that the k-th frame is given: that of the PES packet in which it is the first one to begin
 abbrev pub given_time : List PesStart → List ℕ → ℕ → Option ℤ
 given_time starts places k =
-    option_and_then (λ packet. if is_first_in places k packet then packet.time else None) (pes_packet_of starts (slice_index places k))
+    option_and_then (λ packet. if is_first_frame_in places k packet then packet.time else None) (pes_packet_of starts (slice_index places k))
 
 -- The time of the k-th frame in ticks: it is the given time of the last frame up to it that has one, and the ticks of the
 -- frames from that one on.

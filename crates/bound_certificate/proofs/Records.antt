@@ -43,7 +43,7 @@ use Rattle.dual_bounds.specs.declared.windows.Multiplier.{Multiplier}
 use Rattle.dual_bounds.specs.declared.windows.Window.{Window as PricedWindow}
 use Rattle.bound_certificate.specs.declared.cert.Node.{Node}
 use Rattle.bound_certificate.specs.declared.cert.Node.TheVariants.{Branch, Dual, Run, Open, Window}
-use Rattle.bound_certificate.specs.Cert.{IsStatedMultiplier, IsStatedWindow, IsOfVersion, HasRoom, MayStand}
+use Rattle.bound_certificate.specs.Cert.{IsStatedMultiplier, IsStatedWindow, IsOfVersion, HasRoom, NodeMayStand}
 use Rattle.bound_certificate.specs.Spelling.{bytes_of_multiplier, bytes_of_window, bytes_of_node}
 use Rattle.bound_certificate.specs.Private.Texts.{Then, IsOneOf, IsBlock, IsByte, AreTexts, IsKind, IsCount, count_of, AreCounted, IsBody, IsNode}
 use Rattle.bound_certificate.proofs.Refusals.{same_parts, are_bytes_front, are_bytes_behind}
@@ -197,7 +197,7 @@ flag_text : (scheduled : Bool) → IsByte 0 1 (flag scheduled ∷ [])
 flag_text true = is_byte 0 1 1 (omega arith) (omega arith) (lit< tt)
 flag_text false = is_byte 0 1 0 (omega arith) (omega arith) (lit< tt)
 
-pub node_text : (version : ℕ) (node : Node) → MayStand version node → IsNode version (bytes_of_node node)
+pub node_text : (version : ℕ) (node : Node) → NodeMayStand version node → IsNode version (bytes_of_node node)
 unfolding bytes_of_node
 node_text version (Branch unit) stands =
     record { front = 1 ∷ []; behind = to_be_bytes w32 unit; joined = refl; first_is = one_of (IsKind version) 1 tt (lit< tt); second_is = block_4 unit }
@@ -224,7 +224,7 @@ flag_of bytes zero few is = (false, is)
 flag_of bytes (suc zero) few is = (true, is)
 flag_of bytes (suc (suc n)) few is = absurd (omega (arith, few))
 
-node_of_kind : (version kind : ℕ) (behind : List ℕ) → IsKind version kind → IsBody kind behind → (node : Node) × MayStand version node × (kind ∷ behind ≡ bytes_of_node node)
+node_of_kind : (version kind : ℕ) (behind : List ℕ) → IsKind version kind → IsBody kind behind → (node : Node) × NodeMayStand version node × (kind ∷ behind ≡ bytes_of_node node)
 unfolding bytes_of_node
 node_of_kind version zero behind is body = absurd is
 node_of_kind version (suc zero) behind is body =
@@ -242,7 +242,7 @@ node_of_kind version (suc (suc (suc (suc (suc zero))))) behind is body =
     (Window (record { items = items.0 }), (is, (items.1, items.2)), ap (λ (xs : List ℕ). 5 ∷ xs) items.3)
 node_of_kind version (suc (suc (suc (suc (suc (suc kind)))))) behind is body = absurd is
 
-pub node_of_text : (version : ℕ) (bytes : List ℕ) → IsNode version bytes → (node : Node) × MayStand version node × (bytes ≡ bytes_of_node node)
+pub node_of_text : (version : ℕ) (bytes : List ℕ) → IsNode version bytes → (node : Node) × NodeMayStand version node × (bytes ≡ bytes_of_node node)
 node_of_text version bytes text =
     let kind = text.first_is in
     let body : IsBody kind.byte text.behind = subst (λ (xs : List ℕ). IsBody (slice_index xs 0) text.behind) kind.is text.second_is in
@@ -251,7 +251,7 @@ node_of_text version bytes text =
 
 -- ---- all nodes
 
-pub nodes_text : (version : ℕ) (nodes : List Node) → AllByRecursion (MayStand version) nodes → AreTexts (length nodes) (IsNode version) (flat_map bytes_of_node nodes)
+pub nodes_text : (version : ℕ) (nodes : List Node) → AllByRecursion (NodeMayStand version) nodes → AreTexts (length nodes) (IsNode version) (flat_map bytes_of_node nodes)
 nodes_text version [] stand = refl
 nodes_text version (node ∷ nodes) stand = record {
   front = bytes_of_node node;
@@ -262,7 +262,7 @@ nodes_text version (node ∷ nodes) stand = record {
 }
 
 pub nodes_of_text : (version n : ℕ) (bytes : List ℕ) → AreTexts n (IsNode version) bytes
-    → (nodes : List Node) × (length nodes ≡ n) × AllByRecursion (MayStand version) nodes × (bytes ≡ flat_map bytes_of_node nodes)
+    → (nodes : List Node) × (length nodes ≡ n) × AllByRecursion (NodeMayStand version) nodes × (bytes ≡ flat_map bytes_of_node nodes)
 nodes_of_text version zero bytes text = ([], refl, tt, text)
 nodes_of_text version (suc n) bytes text =
     let first = node_of_text version text.front text.first_is in
@@ -309,7 +309,7 @@ node_same (Window a) (Window b) first second same =
     let rest = behind_first 5 5 (to_be_bytes w16 (length a.items) ++ flat_map bytes_of_window a.items) (to_be_bytes w16 (length b.items) ++ flat_map bytes_of_window b.items) same in
     ap (λ (xs : List PricedWindow). Window (record { items = xs })) (counted_same bytes_of_window IsStatedWindow 24 are_windows a.items b.items first.0 second.0 first.1 second.1 rest)
 
-pub nodes_same : (version : ℕ) (xs ys : List Node) → length xs ≡ length ys → AllByRecursion (MayStand version) xs → AllByRecursion (MayStand version) ys
+pub nodes_same : (version : ℕ) (xs ys : List Node) → length xs ≡ length ys → AllByRecursion (NodeMayStand version) xs → AllByRecursion (NodeMayStand version) ys
     → flat_map bytes_of_node xs ≡ flat_map bytes_of_node ys → xs ≡ ys
 nodes_same version [] [] count first second same = refl
 nodes_same version [] (y ∷ ys) count first second same = absurd (omega (arith, count))

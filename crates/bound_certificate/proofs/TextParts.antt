@@ -8,7 +8,7 @@ use Rattle.bound_certificate.specs.declared.fault.Stop.{Stop}
 use Rattle.bound_certificate.specs.declared.fault.Stop.TheVariants.{At, OutOfMemory}
 use Rattle.version_table.specs.declared.limits.TheConstants.{NODES_MOST}
 use Rattle.bound_certificate.specs.declared.cert.Cert.{Cert}
-use Rattle.bound_certificate.specs.Cert.{IsCert, MayStand}
+use Rattle.bound_certificate.specs.Cert.{IsCert, NodeMayStand}
 use Rattle.bound_certificate.specs.Spelling.{mark}
 use Rattle.bound_certificate.specs.Private.Texts.{Then, IsBlock, IsByte, IsMark, IsChoice, IsNodeCount, IsNode, AreTexts, IsTree, IsText, IsStop}
 use Rattle.bound_certificate.proofs.Refusals.{stop_first, stop_next, stop_next_bytes, are_bytes_behind, are_bytes_front}
@@ -128,7 +128,7 @@ stop_tree bytes rest numbers left choice last version stop head size same few le
 -- what is put together from the parts of a text is a certificate, where the text has bytes
 pub cert_in : (bytes rest numbers left last : List ℕ) (cert : Cert) → HasHead bytes rest cert.version → cert.bound < 2 ^ 64 → cert.distortion < 2 ^ 64 → rest ≡ numbers ++ left
     → length cert.choice < 2 ^ 32 → left ≡ to_be_bytes w32 (length cert.choice) ++ (cert.choice ++ last) → 1 ≤ length cert.nodes → length cert.nodes ≤ NODES_MOST
-    → AllByRecursion (MayStand cert.version) cert.nodes → AreBytes bytes → IsCert cert
+    → AllByRecursion (NodeMayStand cert.version) cert.nodes → AreBytes bytes → IsCert cert
 cert_in bytes rest numbers left last cert head bound distortion numbers_are few choice_is some most stand are =
     let behind : AreBytes head.behind = are_bytes_behind mark head.behind (subst AreBytes head.mark_is are) in
     let from_version : AreBytes (cert.version ∷ rest) = subst AreBytes head.version_is behind in

@@ -5,7 +5,7 @@ use Rattle.std.proofs.lemmas.Grind.{flat_map-append}
 use Rattle.std.proofs.lemmas.List.{append-nil, length_push}
 use Rattle.bound_certificate.specs.declared.cert.Node.{Node}
 use Rattle.bound_certificate.specs.declared.fault.Stop.{Stop}
-use Rattle.bound_certificate.specs.Cert.{MayStand}
+use Rattle.bound_certificate.specs.Cert.{NodeMayStand}
 use Rattle.bound_certificate.specs.Spelling.{bytes_of_node}
 use Rattle.bound_certificate.specs.Private.Texts.{AreTexts, IsNode, IsStop}
 use Rattle.bound_certificate.proofs.Refusals.{stop_first, stop_texts}
@@ -16,17 +16,17 @@ use Rattle.bound_certificate.proofs.Records.{nodes_text}
 -- these nodes were read, and this is left
 pub record HasRead (version : ℕ) (start rest : List ℕ) (nodes : List Node) (i : ℕ) : Type 0 where
   pub count : length nodes ≡ i
-  pub stand : AllByRecursion (MayStand version) nodes
+  pub stand : AllByRecursion (NodeMayStand version) nodes
   pub bytes : start ≡ flat_map bytes_of_node nodes ++ rest
 
 pub read_none : (version : ℕ) (start : List ℕ) → HasRead version start start [] 0
 read_none version start = record { count = refl; stand = tt; bytes = refl }
 
-pub read_more : (version : ℕ) (start rest left : List ℕ) (nodes : List Node) (i : ℕ) (node : Node) → HasRead version start rest nodes i → MayStand version node
+pub read_more : (version : ℕ) (start rest left : List ℕ) (nodes : List Node) (i : ℕ) (node : Node) → HasRead version start rest nodes i → NodeMayStand version node
     → rest ≡ bytes_of_node node ++ left → HasRead version start left (nodes ++ node ∷ []) (i + 1)
 read_more version start rest left nodes i node read stands next = record {
   count = length_push nodes node ∙ ap (λ (n : ℕ). n + 1) read.count;
-  stand = AllByRecursion-push (MayStand version) nodes node read.stand stands;
+  stand = AllByRecursion-push (NodeMayStand version) nodes node read.stand stands;
   bytes =
       read.bytes
       ∙ ap (λ (xs : List ℕ). flat_map bytes_of_node nodes ++ xs) next

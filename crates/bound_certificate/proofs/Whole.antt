@@ -43,9 +43,9 @@ use Rattle.bound_certificate.specs.declared.cert.Node.{Node}
 use Rattle.bound_certificate.specs.declared.cert.Cert.{Cert}
 use Rattle.bound_certificate.specs.declared.fault.Stop.{Stop}
 use Rattle.bound_certificate.specs.declared.fault.Stop.TheVariants.{At, OutOfMemory}
-use Rattle.bound_certificate.specs.Cert.{IsCert, MayStand}
-use Rattle.bound_certificate.specs.Spelling.{mark, bytes_of_node, spelling}
-use Rattle.bound_certificate.specs.Reading.{IsSyntaxRefusal}
+use Rattle.bound_certificate.specs.Cert.{IsCert, NodeMayStand}
+use Rattle.bound_certificate.specs.Spelling.{mark, bytes_of_node, cert_spelling}
+use Rattle.bound_certificate.specs.Reading.{IsCertSyntaxRefusal}
 use Rattle.bound_certificate.specs.Private.Texts.{Then, IsBlock, IsByte, IsMark, IsChoice, IsNodeCount, IsNode, AreTexts, IsTree, IsText, IsRefused, IsStop, IsWholeStop}
 use Rattle.bound_certificate.proofs.Refusals.{Ends, ends_then, same_parts}
 use Rattle.bound_certificate.proofs.Parts.{ends_byte, ends_block, ends_mark, ends_choice, ends_tree}
@@ -94,7 +94,7 @@ choice_text choice few are = record {
   second_is = record { size = sym (from_be_bytes-to_be_bytes_4 (length choice) few); are_bytes = are };
 }
 
-pub tree_text : (version : ℕ) (nodes : List Node) → 1 ≤ length nodes → length nodes ≤ 1048576 → AllByRecursion (MayStand version) nodes
+pub tree_text : (version : ℕ) (nodes : List Node) → 1 ≤ length nodes → length nodes ≤ 1048576 → AllByRecursion (NodeMayStand version) nodes
     → IsTree version (to_be_bytes w32 (length nodes) ++ flat_map bytes_of_node nodes)
 tree_text version nodes some few stand =
     let count : from_be_bytes w32 (to_be_bytes w32 (length nodes)) ≡ length nodes = from_be_bytes-to_be_bytes_4 (length nodes) (omega (arith, few)) in
@@ -113,8 +113,8 @@ version_byte : (version : ℕ) → (version ≡ 1) ⊎ (version ≡ 2) → IsByt
 version_byte version (inl is) = is_byte 1 2 version (omega (arith, is)) (omega (arith, is)) (lit< tt)
 version_byte version (inr is) = is_byte 1 2 version (omega (arith, is)) (omega (arith, is)) (lit< tt)
 
-pub cert_text : (cert : Cert) → IsCert cert → IsText (spelling cert)
-unfolding spelling
+pub cert_text : (cert : Cert) → IsCert cert → IsText (cert_spelling cert)
+unfolding cert_spelling
 cert_text cert is =
     let nodes : List ℕ = to_be_bytes w32 (length cert.nodes) ++ flat_map bytes_of_node cert.nodes in
     let choice : List ℕ = to_be_bytes w32 (length cert.choice) ++ cert.choice in
@@ -159,7 +159,7 @@ choice_of_text bytes text =
     )
 
 tree_of_text : (version : ℕ) (bytes : List ℕ) → IsTree version bytes
-    → (nodes : List Node) × (1 ≤ length nodes) × (length nodes ≤ 1048576) × AllByRecursion (MayStand version) nodes × (bytes ≡ to_be_bytes w32 (length nodes) ++ flat_map bytes_of_node nodes)
+    → (nodes : List Node) × (1 ≤ length nodes) × (length nodes ≤ 1048576) × AllByRecursion (NodeMayStand version) nodes × (bytes ≡ to_be_bytes w32 (length nodes) ++ flat_map bytes_of_node nodes)
 tree_of_text version bytes text =
     let count = count_of_text text.front text.first_is in
     let count_is : from_be_bytes w32 text.front ≡ count.0 = ap (from_be_bytes w32) count.3 ∙ from_be_bytes-to_be_bytes_4 count.0 (omega (arith, count.2)) in
@@ -192,8 +192,8 @@ one_or_two (suc zero) some few = inl refl
 one_or_two (suc (suc zero)) some few = inr refl
 one_or_two (suc (suc (suc n))) some few = absurd (omega (arith, few))
 
-pub cert_of_text : (bytes : List ℕ) → IsText bytes → (cert : Cert) × IsCert cert × (spelling cert ≡ bytes)
-unfolding spelling
+pub cert_of_text : (bytes : List ℕ) → IsText bytes → (cert : Cert) × IsCert cert × (cert_spelling cert ≡ bytes)
+unfolding cert_spelling
 cert_of_text bytes text =
     let version_text = text.second_is.first_is in
     let version : ℕ = version_text.byte in
@@ -233,8 +233,8 @@ ends_text = ends_then IsMark (λ _. AfterMark) ends_mark
     (λ version _. ends_then (IsBlock 16) (λ _. AfterNumbers version) (ends_block 16)
     (λ _ _. ends_then IsChoice (λ _. IsTree (slice_index version 0)) ends_choice (λ _ _. ends_tree (slice_index version 0)))))
 
-pub one_cert : (a b : Cert) → IsCert a → IsCert b → spelling a ≡ spelling b → a ≡ b
-unfolding spelling
+pub one_cert : (a b : Cert) → IsCert a → IsCert b → cert_spelling a ≡ cert_spelling b → a ≡ b
+unfolding cert_spelling
 one_cert a b first second same =
     let nodes_a : List ℕ = to_be_bytes w32 (length a.nodes) ++ flat_map bytes_of_node a.nodes in
     let nodes_b : List ℕ = to_be_bytes w32 (length b.nodes) ++ flat_map bytes_of_node b.nodes in
@@ -250,7 +250,7 @@ one_cert a b first second same =
     let choices = same_parts a.choice nodes_a b.choice nodes_b counts.1 units in
     let sizes = same_parts (to_be_bytes w32 (length a.nodes)) (flat_map bytes_of_node a.nodes) (to_be_bytes w32 (length b.nodes)) (flat_map bytes_of_node b.nodes) choices.1 refl in
     let size : length a.nodes ≡ length b.nodes = one_number_4 (length a.nodes) (length b.nodes) (omega (arith, first.few_nodes)) (omega (arith, second.few_nodes)) sizes.0 in
-    let stand : AllByRecursion (MayStand a.version) b.nodes = subst (λ (v : ℕ). AllByRecursion (MayStand v) b.nodes) (sym version) second.nodes in
+    let stand : AllByRecursion (NodeMayStand a.version) b.nodes = subst (λ (v : ℕ). AllByRecursion (NodeMayStand v) b.nodes) (sym version) second.nodes in
     let nodes : a.nodes ≡ b.nodes = nodes_same a.version a.nodes b.nodes size first.nodes stand sizes.1 in
     let bound : a.bound ≡ b.bound = one_number_8 a.bound b.bound first.bound second.bound bounds.0 in
     let distortion : a.distortion ≡ b.distortion = one_number_8 a.distortion b.distortion first.distortion second.distortion distortions.0 in
@@ -264,7 +264,7 @@ pub stop_whole : (bytes : List ℕ) (stop : Stop) → IsStop IsText bytes stop �
 stop_whole bytes OutOfMemory refused = tt
 stop_whole bytes (At left) refused = λ are. whole_of (refused are)
   where
-    whole_of : IsRefused IsText bytes left → (n : ℕ) × (n + left ≡ length bytes) × IsSyntaxRefusal bytes n
+    whole_of : IsRefused IsText bytes left → (n : ℕ) × (n + left ≡ length bytes) × IsCertSyntaxRefusal bytes n
     whole_of r =
         let cert = cert_of_text (r.before ++ r.more) r.begun in (
           length r.before,
@@ -281,30 +281,30 @@ stop_whole bytes (At left) refused = λ are. whole_of (refused are)
         )
 
 -- what stands behind a certificate
-pub stop_behind : (bytes rest : List ℕ) (cert : Cert) → (AreBytes bytes → IsCert cert) → bytes ≡ spelling cert ++ rest → 0 < length rest → IsWholeStop bytes (At (length rest))
+pub stop_behind : (bytes rest : List ℕ) (cert : Cert) → (AreBytes bytes → IsCert cert) → bytes ≡ cert_spelling cert ++ rest → 0 < length rest → IsWholeStop bytes (At (length rest))
 stop_behind bytes rest cert is same some = λ are. (
-  length (spelling cert),
-  omega (arith, ap length same, length-append (spelling cert) rest),
+  length (cert_spelling cert),
+  omega (arith, ap length same, length-append (cert_spelling cert) rest),
   record {
-    before = spelling cert;
+    before = cert_spelling cert;
     rest = rest;
     parts = same;
     place = refl;
-    begun = (cert, [], is are, sym (append-nil (spelling cert)));
+    begun = (cert, [], is are, sym (append-nil (cert_spelling cert)));
     byte = λ next behind more other at other_is spelled. longer_than (is are) other (next ∷ more) other_is spelled (omega arith);
     ended = λ other other_is spelled. longer_than (is are) other rest other_is (spelled ∙ same) some;
   },
 )
   where
-    longer_than : IsCert cert → (other : Cert) (more : List ℕ) → IsCert other → spelling other ≡ spelling cert ++ more → 0 < length more → ⊥
+    longer_than : IsCert cert → (other : Cert) (more : List ℕ) → IsCert other → cert_spelling other ≡ cert_spelling cert ++ more → 0 < length more → ⊥
     longer_than cert_is other more other_is spelled some_more =
-        let size : length (spelling other) ≡ length (spelling cert) = ends_text (spelling other) (spelling cert) [] more (append-nil (spelling other) ∙ spelled) (cert_text other other_is)
+        let size : length (cert_spelling other) ≡ length (cert_spelling cert) = ends_text (cert_spelling other) (cert_spelling cert) [] more (append-nil (cert_spelling other) ∙ spelled) (cert_text other other_is)
         (cert_text cert cert_is) in
-        omega (arith, size, ap length spelled, length-append (spelling cert) more, some_more)
+        omega (arith, size, ap length spelled, length-append (cert_spelling cert) more, some_more)
 
 -- a certificate that isn't too long has few units
-pub units_fit : (cert : Cert) → length (spelling cert) ≤ 67108864 → length cert.choice < 2 ^ 32
-unfolding spelling
+pub units_fit : (cert : Cert) → length (cert_spelling cert) ≤ 67108864 → length cert.choice < 2 ^ 32
+unfolding cert_spelling
 units_fit cert few =
     let nodes : List ℕ = to_be_bytes w32 (length cert.nodes) ++ flat_map bytes_of_node cert.nodes in
     omega (arith, few, length-append cert.choice nodes)

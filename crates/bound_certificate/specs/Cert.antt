@@ -35,8 +35,8 @@ HasRoom Open = Unit {0}
 HasRoom (Window priced) = (length priced.items ≤ WINDOWS_MOST) × AllByRecursion IsStatedWindow priced.items
 
 -- a node that may stand in a certificate of this version
-abbrev pub MayStand : (version : ℕ) → Node → Type 0
-MayStand version node = IsOfVersion version node × HasRoom node
+abbrev pub NodeMayStand : (version : ℕ) → Node → Type 0
+NodeMayStand version node = IsOfVersion version node × HasRoom node
 
 -- a certificate: of version 1 or 2, with 1 to 1,048,576 nodes of that version, and numbers that have room in their bytes
 pub record IsCert (cert : Cert) : Type 0 where
@@ -47,4 +47,4 @@ pub record IsCert (cert : Cert) : Type 0 where
   pub choice : AreBytes cert.choice
   pub some_nodes : 1 ≤ length cert.nodes
   pub few_nodes : length cert.nodes ≤ NODES_MOST
-  pub nodes : AllByRecursion (MayStand cert.version) cert.nodes
+  pub nodes : AllByRecursion (NodeMayStand cert.version) cert.nodes

@@ -7,18 +7,18 @@ use Rattle.bound_certificate.specs.declared.fault.CertFormat.{CertFormat}
 use Rattle.bound_certificate.specs.declared.fault.CertFormat.TheVariants.{CertSyntax, OutOfMemory}
 use Rattle.bound_certificate.specs.declared.cert.Cert.{Cert}
 use Rattle.bound_certificate.specs.Cert.{IsCert, IsOfVersion}
-use Rattle.bound_certificate.specs.Spelling.{spelling}
+use Rattle.bound_certificate.specs.Spelling.{cert_spelling}
 
 -- Byte n is the first that no certificate has there. Some certificate, however long, begins with the n bytes before it; where a
 -- byte stands there, none begins with that one too; where the bytes end there, they are no certificate's.
-pub record IsSyntaxRefusal (bytes : List ℕ) (n : ℕ) : Type 0 where
+pub record IsCertSyntaxRefusal (bytes : List ℕ) (n : ℕ) : Type 0 where
   pub before : List ℕ
   pub rest : List ℕ
   pub parts : bytes ≡ before ++ rest
   pub place : n ≡ length before
-  pub begun : (cert : Cert) × (more : List ℕ) × IsCert cert × (spelling cert ≡ before ++ more)
-  pub byte : (next : ℕ) (behind more : List ℕ) (cert : Cert) → rest ≡ next ∷ behind → IsCert cert → spelling cert ≢ before ++ next ∷ more
-  pub ended : (cert : Cert) → IsCert cert → spelling cert ≢ bytes
+  pub begun : (cert : Cert) × (more : List ℕ) × IsCert cert × (cert_spelling cert ≡ before ++ more)
+  pub byte : (next : ℕ) (behind more : List ℕ) (cert : Cert) → rest ≡ next ∷ behind → IsCert cert → cert_spelling cert ≢ before ++ next ∷ more
+  pub ended : (cert : Cert) → IsCert cert → cert_spelling cert ≢ bytes
 
 -- what bytes can be
 pub data CertReading : Type 0 where
@@ -26,13 +26,13 @@ pub data CertReading : Type 0 where
   RefusedAt : ℕ → CertReading
 
 -- bytes are read so; those that are too many are refused at their limit before all else
-abbrev pub IsRead : List ℕ → CertReading → Type 0
-IsRead bytes (Holds cert) = (length bytes ≤ CERT_BYTES_MOST) × IsCert cert × (bytes ≡ spelling cert)
-IsRead bytes (RefusedAt n) = ((CERT_BYTES_MOST < length bytes) × (n ≡ CERT_BYTES_MOST)) ⊎ ((length bytes ≤ CERT_BYTES_MOST) × IsSyntaxRefusal bytes n)
+abbrev pub IsCertRead : List ℕ → CertReading → Type 0
+IsCertRead bytes (Holds cert) = (length bytes ≤ CERT_BYTES_MOST) × IsCert cert × (bytes ≡ cert_spelling cert)
+IsCertRead bytes (RefusedAt n) = ((CERT_BYTES_MOST < length bytes) × (n ≡ CERT_BYTES_MOST)) ⊎ ((length bytes ≤ CERT_BYTES_MOST) × IsCertSyntaxRefusal bytes n)
 
 -- a fault is a reading of the bytes, or want of memory
 abbrev pub IsFaultOf : List ℕ → CertFormat → Type 0
-IsFaultOf bytes (CertSyntax n) = IsRead bytes (RefusedAt n)
+IsFaultOf bytes (CertSyntax n) = IsCertRead bytes (RefusedAt n)
 IsFaultOf bytes OutOfMemory = Unit {0}
 
 -- an answer is this reading, unless memory was wanted
@@ -48,4 +48,4 @@ pub record IsWritable (cert : Cert) : Type 0 where
   pub some_nodes : 1 ≤ length cert.nodes
   pub few_nodes : length cert.nodes ≤ NODES_MOST
   pub nodes : AllByRecursion (IsOfVersion cert.version) cert.nodes
-  pub bytes : length (spelling cert) ≤ CERT_BYTES_MOST
+  pub bytes : length (cert_spelling cert) ≤ CERT_BYTES_MOST

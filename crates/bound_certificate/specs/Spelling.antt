@@ -31,8 +31,8 @@ bytes_of_node (Window priced) = 0x05 ∷ (to_be_bytes w16 (length priced.items) 
 
 -- a certificate: mark, version, bound and distortion; how many units there are and the version that is sent of each; how many nodes
 -- there are and each of them
-unfoldable pub spelling : Cert → List ℕ
-spelling cert =
+unfoldable pub cert_spelling : Cert → List ℕ
+cert_spelling cert =
     mark
     ++ (cert.version ∷ (to_be_bytes w64 cert.bound
     ++ (to_be_bytes w64 cert.distortion

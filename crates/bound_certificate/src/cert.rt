@@ -10,7 +10,7 @@ pub enum Node {
     Branch { unit: u32 },
     /// The bound of these multipliers.
     Dual { with: Multipliers },
-    /// All pictures that have a choice are fixed, and that choice can be sent in time or not.
+    /// All pictures that have a choice are fixed, and the slot rule schedules that choice or doesn't.
     Run { scheduled: bool },
     /// The bound without multipliers.
     Open,
@@ -23,7 +23,7 @@ pub enum Node {
 pub struct Cert {
     /// The version of the format, 1 or 2: multipliers stand in 1 alone, windows in 2 alone.
     pub version: u8,
-    /// No choice that can be sent in time has less distortion.
+    /// No choice that the slot rule schedules has less distortion.
     pub bound: u64,
     /// The distortion of the choice.
     pub distortion: u64,

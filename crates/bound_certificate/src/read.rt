@@ -2,10 +2,10 @@ ghost use Rattle.std.specs.Prelude.{◌≡◌, ◌<◌, ◌≤◌, ◌^◌, ◌�
 ghost use Rattle.std.specs.List.{flat_map, AllByRecursion};
 ghost use Rattle.std.specs.Int.{w32, to_be_bytes};
 ghost use Rattle.bit_lists.specs.Fields.{AreBytes};
-ghost use Rattle.bound_certificate.specs.Cert.{IsCert, MayStand};
+ghost use Rattle.bound_certificate.specs.Cert.{IsCert, NodeMayStand};
 ghost use Rattle.bound_certificate.specs.Private.Texts.{AreTexts, IsChoice, IsMark, IsNode, IsNodeCount, IsStop, IsText, IsTree, IsWholeStop, last_least, last_most};
-ghost use Rattle.bound_certificate.specs.Reading.{CertReading, Holds, IsFaultOf, IsRead, Says};
-ghost use Rattle.bound_certificate.specs.Spelling.{bytes_of_node, mark, spelling};
+ghost use Rattle.bound_certificate.specs.Reading.{CertReading, Holds, IsFaultOf, IsCertRead, Says};
+ghost use Rattle.bound_certificate.specs.Spelling.{bytes_of_node, mark, cert_spelling};
 
 use crate::cert::{Cert, Node};
 use crate::cursor::{Cursor, number_at};
@@ -23,11 +23,11 @@ use version_table::limits::NODES_MOST;
 /// bytes are refused at that place before all else. `OutOfMemory` may come at any time.
 pub fn read_cert(alloc: Global, bytes: &[u8]) -> Result<Cert, CertFormat>
     // What is answered is so.
-    ensures cert { IfOk result (λ cert. IsRead bytes.now (Holds cert)) }
+    ensures cert { IfOk result (λ cert. IsCertRead bytes.now (Holds cert)) }
     ensures refusal { IfErr result (IsFaultOf bytes.now) }
 
     // What is so is answered, unless memory is wanted.
-    ensures only { (reading : CertReading) → IsRead bytes.now reading → Says result reading }
+    ensures only { (reading : CertReading) → IsCertRead bytes.now reading → Says result reading }
 {
     if bytes.len() > CERT_BYTES_MOST {
         return Err(CertFormat::CertSyntax(CERT_BYTES_MOST as u64));
@@ -38,7 +38,7 @@ pub fn read_cert(alloc: Global, bytes: &[u8]) -> Result<Cert, CertFormat>
 /// Reads bytes that aren't too many.
 fn read_within(alloc: Global, bytes: &[u8]) -> Result<Cert, CertFormat>
     requires { length bytes.now ≤ CERT_BYTES_MOST }
-    ensures cert { IfOk result (λ cert. IsRead bytes.now (Holds cert)) }
+    ensures cert { IfOk result (λ cert. IsCertRead bytes.now (Holds cert)) }
     ensures refusal { IfErr result (IsFaultOf bytes.now) }
 {
     match read_whole(alloc, bytes) {
@@ -53,7 +53,7 @@ fn read_within(alloc: Global, bytes: &[u8]) -> Result<Cert, CertFormat>
 /// A certificate and nothing behind it.
 fn read_whole(alloc: Global, bytes: &[u8]) -> Result<Cert, Stop>
     ensures cert { IfOk result (λ cert. AreBytes bytes.now → IsCert cert) }
-    ensures bytes { IfOk result (λ cert. bytes.now ≡ spelling cert) }
+    ensures bytes { IfOk result (λ cert. bytes.now ≡ cert_spelling cert) }
     ensures stop { IfErr result (IsWholeStop bytes.now) }
 {
     let mut cursor = Cursor::new(bytes);
@@ -66,10 +66,10 @@ fn read_whole(alloc: Global, bytes: &[u8]) -> Result<Cert, Stop>
 }
 
 /// A certificate.
-#[tactic(auto, unfolding(crate::specs::Spelling::spelling))]
+#[tactic(auto, unfolding(crate::specs::Spelling::cert_spelling))]
 fn read_text(alloc: Global, cursor: &mut Cursor<'_>) -> Result<Cert, Stop>
     ensures cert { IfOk result (λ cert. AreBytes cursor.old → IsCert cert) }
-    ensures bytes { IfOk result (λ cert. cursor.old ≡ spelling cert ++ cursor.new) }
+    ensures bytes { IfOk result (λ cert. cursor.old ≡ cert_spelling cert ++ cursor.new) }
     ensures stop { IfErr result (IsStop IsText cursor.old) }
 {
     read_mark(cursor)?;
@@ -123,7 +123,7 @@ fn read_tree(alloc: Global, cursor: &mut Cursor<'_>, version: u8) -> Result<List
     requires { (version ≡ 1) ⊎ (version ≡ 2) }
     ensures some { IfOk result (λ nodes. 1 ≤ length nodes) }
     ensures few { IfOk result (λ nodes. length nodes ≤ NODES_MOST) }
-    ensures stand { IfOk result (AllByRecursion (MayStand version)) }
+    ensures stand { IfOk result (AllByRecursion (NodeMayStand version)) }
     ensures next { IfOk result (λ nodes. cursor.old ≡ to_be_bytes w32 (length nodes) ++ (flat_map bytes_of_node nodes ++ cursor.new)) }
     ensures stop { IfErr result (IsStop (IsTree version) cursor.old) }
 {
@@ -140,7 +140,7 @@ fn read_nodes(
 ) -> Result<ListOf<Node>, Stop>
     requires { (version ≡ 1) ⊎ (version ≡ 2) }
     ensures count { IfOk result (λ nodes. length nodes ≡ count) }
-    ensures stand { IfOk result (AllByRecursion (MayStand version)) }
+    ensures stand { IfOk result (AllByRecursion (NodeMayStand version)) }
     ensures next { IfOk result (λ nodes. cursor.old ≡ flat_map bytes_of_node nodes ++ cursor.new) }
     ensures stop { IfErr result (IsStop (AreTexts count (IsNode version)) cursor.old) }
 {

@@ -1,7 +1,7 @@
 ghost use Rattle.std.specs.Prelude.{◌≡◌, ◌+◌, ◌*◌, ◌≤◌, ◌⊎◌, ◌++◌, ◌∷◌, length, take, drop, IfOk, IfErr, MatchOption};
 ghost use Rattle.std.specs.List.{flat_map, AllByRecursion};
 ghost use Rattle.std.specs.Int.{w32, to_be_bytes, from_be_bytes};
-ghost use Rattle.bound_certificate.specs.Cert.{IsStatedMultiplier, IsStatedWindow, MayStand};
+ghost use Rattle.bound_certificate.specs.Cert.{IsStatedMultiplier, IsStatedWindow, NodeMayStand};
 ghost use Rattle.bound_certificate.specs.Private.Texts.{AreCounted, IsBody, IsCount, IsKind, IsNode, IsOneOf, IsOfKind, IsStop, code_of};
 ghost use Rattle.bound_certificate.specs.Spelling.{bytes_of_multiplier, bytes_of_node, bytes_of_window};
 
@@ -29,7 +29,7 @@ pub(crate) enum Kind {
 /// The next node, of a certificate of this version.
 pub(crate) fn read_node(cursor: &mut Cursor<'_>, version: u8) -> Result<Node, Stop>
     requires { (version ≡ 1) ⊎ (version ≡ 2) }
-    ensures stands { IfOk result (MayStand version) }
+    ensures stands { IfOk result (NodeMayStand version) }
     ensures bytes { IfOk result (λ node. cursor.old ≡ bytes_of_node node ++ cursor.new) }
     ensures stop { IfErr result (IsStop (IsNode version) cursor.old) }
 {

@@ -3,8 +3,8 @@ ghost use Rattle.std.specs.List.{flat_map};
 ghost use Rattle.std.specs.Int.{w16, w32, w64, to_be_bytes};
 ghost use Rattle.bit_lists.specs.Fields.{flag};
 ghost use Rattle.bound_certificate.specs.Cert.{IsCert};
-ghost use Rattle.bound_certificate.specs.Reading.{Holds, IsRead, IsWritable};
-ghost use Rattle.bound_certificate.specs.Spelling.{bytes_of_multiplier, bytes_of_node, bytes_of_window, spelling};
+ghost use Rattle.bound_certificate.specs.Reading.{Holds, IsCertRead, IsWritable};
+ghost use Rattle.bound_certificate.specs.Spelling.{bytes_of_multiplier, bytes_of_node, bytes_of_window, cert_spelling};
 
 use crate::cert::{Cert, Node};
 use dual_bounds::constants::WINDOWS_MOST;
@@ -13,12 +13,12 @@ use list_types::{ListOf, OutOfMemory};
 use std::alloc::Global;
 
 /// The bytes of a certificate, in its one spelling. Fails only for want of memory.
-#[tactic(auto, unfolding(crate::specs::Spelling::spelling))]
+#[tactic(auto, unfolding(crate::specs::Spelling::cert_spelling))]
 pub fn write_cert(alloc: Global, cert: &Cert) -> Result<ListOf<u8>, OutOfMemory>
     requires { IsWritable cert.now }
-    ensures bytes { IfOk result (λ bytes. bytes ≡ spelling cert.now) }
+    ensures bytes { IfOk result (λ bytes. bytes ≡ cert_spelling cert.now) }
     // What is written is read as this certificate, whose numbers have room in their bytes by their types.
-    ensures read { IfOk result (λ bytes. IsCert cert.now → IsRead bytes (Holds cert.now)) }
+    ensures read { IfOk result (λ bytes. IsCert cert.now → IsCertRead bytes (Holds cert.now)) }
 {
     let mut out = Vec::new(alloc);
     out.extend_from_slice(b"RMXC")?;

@@ -18,7 +18,7 @@ use Rattle.bound_certificate.specs.declared.cert.Node.{Node}
 use Rattle.bound_certificate.specs.declared.cert.Node.TheVariants.{Branch, Dual, Run, Open, Window}
 use Rattle.bound_certificate.specs.Cert.{IsOfVersion}
 use Rattle.bound_certificate.specs.Reading.{IsWritable}
-use Rattle.bound_certificate.specs.Spelling.{bytes_of_node, bytes_of_window, spelling}
+use Rattle.bound_certificate.specs.Spelling.{bytes_of_node, bytes_of_window, cert_spelling}
 use Rattle.certificate_checker.specs.Shown.{unfixed, windows_in}
 use Rattle.certificate_checker.specs.Walk.{Shows, Walks, leaf, branch}
 use Rattle.branch_plan.specs.declared.limits.TheConstants.{FEW_WINDOWS_MOST, NODES_WITH_MANY_WINDOWS_MOST}
@@ -129,8 +129,8 @@ tree_bytes table most nodes limit few each (inr low) =
     (weaker (MayStand table most) (λ (node : Node). IsOfVersion 2 node × (length (windows_in node) ≤ 64)) nodes (λ node is. (is.version, is.windows)) each) in
     omega (arith, bytes, few, low)
 
-few_bytes : (cert : Cert) → length (flat_map bytes_of_node cert.nodes) ≤ 60000000 → length cert.choice ≤ UNITS_MOST → length (spelling cert) ≤ CERT_BYTES_MOST
-unfolding spelling
+few_bytes : (cert : Cert) → length (flat_map bytes_of_node cert.nodes) ≤ 60000000 → length cert.choice ≤ UNITS_MOST → length (cert_spelling cert) ≤ CERT_BYTES_MOST
+unfolding cert_spelling
 few_bytes cert tree units =
     let rest : List ℕ = to_be_bytes w32 (length cert.nodes) ++ flat_map bytes_of_node cert.nodes in
     omega (arith, tree, units, length-append cert.choice rest)

@@ -7,7 +7,7 @@ use Rattle.version_table.specs.Choice.{IsSmallestChoice, distortion_of_choice}
 use Rattle.version_table.specs.Table.{IsValidTable}
 use Rattle.version_table.proofs.Chosen.{levels_end, smallest_is_one}
 use Rattle.slot_rule.specs.Schedule.{IsScheduled}
-use Rattle.branch_plan.specs.Plan.{IsNoWorse, SmallestIsScheduled}
+use Rattle.branch_plan.specs.Plan.{IsNoWorseThanLevels, SmallestIsScheduled}
 use Rattle.branch_plan.specs.Private.Known.{IsNoWorseThanLevel}
 
 -- what is no worse than the levels below the most versions is no worse than any
@@ -22,7 +22,7 @@ no_worse_than_any table best valid levels level =
     ]
 
 pub no_worse : (table : Table) (smallest : List ℕ) (start best : ℕ) → IsValidTable table → IsSmallestChoice table smallest → start ≡ distortion_of_choice table smallest → best ≤ start
-    → ((level : ℕ) → level < VERSIONS_MOST → IsNoWorseThanLevel table level best) → IsNoWorse table best
+    → ((level : ℕ) → level < VERSIONS_MOST → IsNoWorseThanLevel table level best) → IsNoWorseThanLevels table best
 no_worse table smallest start best valid is same most levels premise (inl other) scheduled =
     subst (λ (choice : List ℕ). best ≤ distortion_of_choice table choice) (smallest_is_one table smallest premise is other) (subst (λ (n : ℕ). best ≤ n) same most)
 no_worse table smallest start best valid is same most levels premise (inr level) scheduled =

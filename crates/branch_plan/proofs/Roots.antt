@@ -13,7 +13,7 @@ use Rattle.dual_bounds.specs.declared.windows.Window.{Window as PricedWindow}
 use Rattle.dual_bounds.specs.Bounds.{bound_of_value}
 use Rattle.dual_bounds.specs.Values.{from_start, value_of_multipliers, value_of_windows}
 use Rattle.dual_bounds.proofs.ValueLaws.{bounds_rise}
-use Rattle.multiplier_search.specs.Single.{IsBestSingle, IsFirstBest, IsNoWorse, dues_of}
+use Rattle.multiplier_search.specs.Single.{IsBestSingle, IsFirstBest, IsNoWorseMultiplier, dues_of}
 use Rattle.multiplier_search.specs.Turns.{BeatAdditions}
 use Rattle.multiplier_search.specs.Windows.{AreSearched, BeatEachTried}
 use Rattle.bound_certificate.specs.declared.cert.Cert.{Cert}
@@ -68,7 +68,7 @@ pair_bounds table windows bound beaten same first other best is differs =
 same_multiplier : (a b : Multiplier) → a.due ≡ b.due → a.lambda ≡ b.lambda → a ≡ b
 same_multiplier a b due lambda = ap₂ (λ (d l : ℕ). record { due = d; lambda = l }) due lambda
 
-no_worse_both : (table : Table) (fixed : List (Option ℕ)) (a b : Multiplier) → IsNoWorse table fixed a b → IsNoWorse table fixed b a → a ≡ b
+no_worse_both : (table : Table) (fixed : List (Option ℕ)) (a b : Multiplier) → IsNoWorseMultiplier table fixed a b → IsNoWorseMultiplier table fixed b a → a ≡ b
 no_worse_both table fixed a b (inl more) (inl less) = absurd (omega (arith, ints, more, less))
 no_worse_both table fixed a b (inl more) (inr same) = absurd (omega (arith, ints, more, same.0))
 no_worse_both table fixed a b (inr same) (inl more) = absurd (omega (arith, ints, more, same.0))

@@ -13,7 +13,7 @@ use Rattle.branch_plan.specs.declared.known.Known.{Known}
 use Rattle.branch_plan.specs.declared.changes.Tried.{Tried}
 use Rattle.branch_plan.specs.declared.changes.Tried.TheVariants.{Better, Nothing, Spent}
 use Rattle.branch_plan.specs.Changes.{GainsByRounds, IsBestAlone}
-use Rattle.branch_plan.specs.Plan.{IsNoWorse}
+use Rattle.branch_plan.specs.Plan.{IsNoWorseThanLevels}
 use Rattle.branch_plan.specs.Private.Changes.{FailBetween, FailsBelow, GainsOver, IsTriedFrom, changes_before}
 use Rattle.branch_plan.proofs.Counting.{before_rises}
 
@@ -52,7 +52,7 @@ best_alone table choice fail changed (change, scheduled) =
     fail place (omega arith) within change.version there less (subst (λ (xs : List ℕ). IsScheduled table xs) change.is scheduled)
 
 -- what is gained over a choice that is no worse than the smallest and the level choices is gained over these
-pub gains : (table : Table) (evaluations : ℕ) (choice : List ℕ) (distortion start : ℕ) → GainsOver table evaluations choice distortion start → IsNoWorse table start
+pub gains : (table : Table) (evaluations : ℕ) (choice : List ℕ) (distortion start : ℕ) → GainsOver table evaluations choice distortion start → IsNoWorseThanLevels table start
     → GainsByRounds table evaluations choice distortion
 gains table evaluations choice distortion start over worse changed some helps premise is scheduled =
     omega (arith, over changed some helps, worse premise is scheduled)

@@ -37,5 +37,5 @@ abbrev pub IsPremise : Table → (choice : List ℕ) → Type 0
 IsPremise table choice = IsSmallestChoice table choice ⊎ ((level : ℕ) × (choice ≡ level_choice table level))
 
 -- a distortion is at most that of the smallest choice and of each level choice, where they are scheduled
-abbrev pub IsNoWorse : Table → (distortion : ℕ) → Type 0
-IsNoWorse table distortion = (premise : List ℕ) → IsPremise table premise → IsScheduled table premise → distortion ≤ distortion_of_choice table premise
+abbrev pub IsNoWorseThanLevels : Table → (distortion : ℕ) → Type 0
+IsNoWorseThanLevels table distortion = (premise : List ℕ) → IsPremise table premise → IsScheduled table premise → distortion ≤ distortion_of_choice table premise

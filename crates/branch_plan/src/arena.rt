@@ -92,7 +92,9 @@ fn copy_of(node: &Node) -> Node
             scheduled: *scheduled,
         },
         Node::Open => Node::Open,
-        Node::Window { with } => Node::Window { with: copied(with.as_slice()) },
+        Node::Window { with } => Node::Window {
+            with: copied(with.as_slice()),
+        },
     }
 }
 

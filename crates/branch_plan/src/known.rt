@@ -3,7 +3,7 @@ ghost use Rattle.slot_rule.specs.Schedule.{IsScheduled};
 ghost use Rattle.version_table.specs.Choice.{Fits, distortion_of_choice};
 ghost use Rattle.version_table.specs.Table.{IsValidTable};
 ghost use Rattle.version_table.specs.declared.limits.TheConstants.{VERSIONS_MOST};
-ghost use Rattle.branch_plan.specs.Plan.{IsMissOfSmallest, IsNoWorse, SmallestIsScheduled};
+ghost use Rattle.branch_plan.specs.Plan.{IsMissOfSmallest, IsNoWorseThanLevels, SmallestIsScheduled};
 ghost use Rattle.branch_plan.specs.Private.Known.{IsKnown, IsNoWorseThanLevel};
 
 use crate::planner::PlanFault;
@@ -31,7 +31,7 @@ pub(crate) fn best_premise(
     requires run { run.old.table ≡ table.now }
     ensures run { run.new.table ≡ table.now }
     ensures known { IfOk result (IsKnown table.now) }
-    ensures no_worse { IfOk result (λ best. IsNoWorse table.now best.distortion) }
+    ensures no_worse { IfOk result (λ best. IsNoWorseThanLevels table.now best.distortion) }
     ensures possible { OnOk result (SmallestIsScheduled table.now) }
     ensures missed { IfErr result (IsMissOfSmallest table.now) }
 {

@@ -1,6 +1,6 @@
 //! Plans: of each coded picture the version that is sent, and a certificate of how far a plan can be from the best one.
 //!
-//! A plan is a choice that can be sent in time. Its certificate holds a tree whose bound no such choice falls below. Stands
+//! A plan is a choice that the slot rule schedules. Its certificate holds a tree whose bound no such choice falls below. Stands
 //! on `multiplier_search`, `certificate_checker` and those below them.
 #![tactic(auto)]
 

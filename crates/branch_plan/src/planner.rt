@@ -7,7 +7,7 @@ ghost use Rattle.certificate_checker.specs.Faults.{IsHeadRight};
 ghost use Rattle.branch_plan.specs.Bound.{HaveFewWindows, IsAtLeastEachPair, IsAtLeastEachTried};
 ghost use Rattle.branch_plan.specs.Changes.{EndsBestAlone, GainsByRounds};
 ghost use Rattle.branch_plan.specs.declared.planner.Search.TheVariants.{Budget, Optimal};
-ghost use Rattle.branch_plan.specs.Plan.{BoundsAll, IsMissOfSmallest, IsNoWorse, SaysOptimal, ShowsItsBound, SmallestIsScheduled};
+ghost use Rattle.branch_plan.specs.Plan.{BoundsAll, IsMissOfSmallest, IsNoWorseThanLevels, SaysOptimal, ShowsItsBound, SmallestIsScheduled};
 ghost use Rattle.branch_plan.specs.Tree.{AreEnough, BranchesOnMany, IsSpent};
 
 use crate::arena::in_order;
@@ -37,7 +37,7 @@ pub struct Planned {
 /// What ended a search.
 #[derive(Clone, Copy, Debug, PartialEq, Eq)]
 pub enum Search {
-    /// The bound has come up to the distortion: no choice that can be sent in time has less.
+    /// The bound has come up to the distortion: no choice that the slot rule schedules has less.
     Optimal,
     /// A budget ended it before.
     Budget,
@@ -100,7 +100,7 @@ pub fn plan(
     // How good bound and choice are at least.
     ensures tried { IfOk result (λ planned. IsAtLeastEachTried table.now planned.cert.bound) }
     ensures pairs { IfOk result (λ planned. IsAtLeastEachPair table.now planned.cert.bound) }
-    ensures no_worse { IfOk result (λ planned. IsNoWorse table.now planned.cert.distortion) }
+    ensures no_worse { IfOk result (λ planned. IsNoWorseThanLevels table.now planned.cert.distortion) }
     ensures alone { IfOk result (λ planned. EndsBestAlone table.now evaluations planned.cert.choice) }
     ensures rounds { IfOk result (λ planned. GainsByRounds table.now evaluations planned.cert.choice planned.cert.distortion) }
 {

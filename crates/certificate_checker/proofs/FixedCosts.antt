@@ -12,7 +12,7 @@ use Rattle.dual_bounds.specs.declared.windows.Window.{Window as PricedWindow}
 use Rattle.dual_bounds.specs.Fixed.{FixesVersions}
 use Rattle.dual_bounds.specs.Private.Costs.{AreCharging}
 use Rattle.dual_bounds.specs.Room.{is_within}
-use Rattle.dual_bounds.specs.Values.{charge, least_cost, least_costs, packets_of, price}
+use Rattle.dual_bounds.specs.Values.{charge, least_cost, least_costs, packet_count, price}
 use Rattle.dual_bounds.proofs.LeastCosts.{all_costs-fit}
 use Rattle.certificate_checker.specs.declared.order.DueUnit.{DueUnit}
 use Rattle.certificate_checker.specs.declared.tally.Tally.{Tally}
@@ -53,11 +53,11 @@ by_places f order (suc n) within =
 -- ---- the parts of what a unit costs
 cost_parts : (windows : List PricedWindow) (unit : CodedUnit) (entry : Option ℕ)
     → least_cost windows unit entry
-    ≡ where_free entry (least_cost windows unit None) + DISTORTION_PARTS * (version_fixed unit entry).distortion + packets_of (version_fixed unit entry) * price windows unit.due
+    ≡ where_free entry (least_cost windows unit None) + DISTORTION_PARTS * (version_fixed unit entry).distortion + packet_count (version_fixed unit entry) * price windows unit.due
 unfolding least_cost
 cost_parts windows unit None =
-    let none : packets_of (record { bytes = 0; distortion = 0 }) ≡ 0 = refl in
-    let uncharged : packets_of (record { bytes = 0; distortion = 0 }) * price windows unit.due ≡ 0 * price windows unit.due = ap (λ (n : ℕ). n * price windows unit.due) none in
+    let none : packet_count (record { bytes = 0; distortion = 0 }) ≡ 0 = refl in
+    let uncharged : packet_count (record { bytes = 0; distortion = 0 }) * price windows unit.due ≡ 0 * price windows unit.due = ap (λ (n : ℕ). n * price windows unit.due) none in
     omega (arith, uncharged)
 cost_parts windows unit (Some k) = omega arith
 
@@ -97,7 +97,7 @@ costs_apart table fixed innermost tally windows is fixes =
         let unit : ℕ = unit_at order p in
         let distortion = is.distortions.each p within in
         let due : due_at order p ≡ (unit_of table unit).due = (is.order.placed p no_place within).due in
-        let charged : packets_of (fixed_of table fixed unit) * price windows (unit_of table unit).due ≡ charged_at tally windows p =
+        let charged : packet_count (fixed_of table fixed unit) * price windows (unit_of table unit).due ≡ charged_at tally windows p =
         ap (λ (c : ℕ). c * price windows (unit_of table unit).due) (sym (is.packets.each p within)) ∙ ap (λ (t : ℕ). number_at tally.packets p * price windows t) (sym due) in
         omega (arith, cost_parts windows (unit_of table unit) (get_or fixed unit None), distortion, charged)
 

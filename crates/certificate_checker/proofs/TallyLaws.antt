@@ -12,7 +12,7 @@ use Rattle.version_table.specs.declared.table.Version.{Version}
 use Rattle.version_table.specs.declared.table.Table.{Table}
 use Rattle.version_table.specs.Table.{units_of}
 use Rattle.certificate_checker.specs.declared.order.DueUnit.{DueUnit}
-use Rattle.dual_bounds.specs.Values.{packets_of}
+use Rattle.dual_bounds.specs.Values.{packet_count}
 use Rattle.certificate_checker.specs.declared.links.Links.{Links}
 use Rattle.certificate_checker.specs.declared.sums.PlaceSums.{PlaceSums}
 use Rattle.certificate_checker.specs.declared.tally.Tally.{Tally}
@@ -269,10 +269,10 @@ told table fixed before after unit place entry version old links new least is wi
     let at = has_place table order places unit is.order is.places within in
     let order_is : new.order.items ≡ order = ap (λ v. v.items) put.order in
     let places_are : new.places.items ≡ places = ap (λ v. v.items) put.places in
-    let packets : HasAmounts table order (set fixed unit entry) packets_of new.packets =
-    amounts_put table order places fixed unit entry packets_of old.packets new.packets is.packets is.places at fixed_within
-    (subst (λ (p : ℕ). IsNumberPut p (packets_of (version_fixed (unit_of table unit) entry)) old.packets new.packets) place_is
-    (subst (λ (v : Version). IsNumberPut place (packets_of v) old.packets new.packets) version_is put.packets)) in
+    let packets : HasAmounts table order (set fixed unit entry) packet_count new.packets =
+    amounts_put table order places fixed unit entry packet_count old.packets new.packets is.packets is.places at fixed_within
+    (subst (λ (p : ℕ). IsNumberPut p (packet_count (version_fixed (unit_of table unit) entry)) old.packets new.packets) place_is
+    (subst (λ (v : Version). IsNumberPut place (packet_count v) old.packets new.packets) version_is put.packets)) in
     let distortions : HasAmounts table order (set fixed unit entry) (λ v. v.distortion) new.distortions =
     amounts_put table order places fixed unit entry (λ (v : Version). v.distortion) old.distortions new.distortions is.distortions is.places at fixed_within
     (subst (λ (p : ℕ). IsNumberPut p (version_fixed (unit_of table unit) entry).distortion old.distortions new.distortions) place_is
@@ -319,7 +319,7 @@ started table tally count order count_is size places row packets packets_count n
   places = places;
   chain = linked_row (is_out tally.order.items (unfixed table)) (length tally.order.items) tally.links (none_out table tally.order.items)
       (subst (λ (n : ℕ). IsRow (n + 2) tally.links) count_is row);
-  packets = no_amounts table tally.order.items packets_of tally.packets refl packets (packets_count ∙ count_is) no_packets;
+  packets = no_amounts table tally.order.items packet_count tally.packets refl packets (packets_count ∙ count_is) no_packets;
   distortions = no_amounts table tally.order.items (λ (v : Version). v.distortion) tally.distortions refl distortions (distortions_count ∙ count_is) no_distortions;
   least = least;
 }

@@ -16,12 +16,12 @@ use Rattle.certificate_checker.specs.declared.why.Why.TheVariants as whys
 use Rattle.certificate_checker.specs.Shown.{choice_left, windows_in}
 
 -- one window goes before another: it is due earlier, or at the same time and begins earlier
-abbrev pub GoesBefore : PricedWindow → PricedWindow → Type 0
-GoesBefore a b = (a.due < b.due) ⊎ ((a.due ≡ b.due) × (a.from < b.from))
+abbrev pub WindowGoesBefore : PricedWindow → PricedWindow → Type 0
+WindowGoesBefore a b = (a.due < b.due) ⊎ ((a.due ≡ b.due) × (a.from < b.from))
 
 -- each window goes before the next
 abbrev pub Rise : List PricedWindow → Type 0
-Rise windows = (k : ℕ) (d : PricedWindow) → k + 1 < length windows → GoesBefore (slice_index_or windows k d) (slice_index_or windows (k + 1) d)
+Rise windows = (k : ℕ) (d : PricedWindow) → k + 1 < length windows → WindowGoesBefore (slice_index_or windows k d) (slice_index_or windows (k + 1) d)
 
 -- no window begins behind its due time
 abbrev pub NoneEmpty : List PricedWindow → Type 0

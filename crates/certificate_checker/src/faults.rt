@@ -6,7 +6,7 @@ ghost use Rattle.version_table.specs.Table.{IsValidTable};
 ghost use Rattle.slot_rule.specs.Schedule.{IsScheduled};
 ghost use Rattle.dual_bounds.specs.Fixed.{FixesVersions};
 ghost use Rattle.bound_certificate.specs.declared.cert.Node.TheVariants.{Branch};
-ghost use Rattle.certificate_checker.specs.Faults.{AreRight, GoesBefore, IsFirstOfBranch, IsFirstOfRun, IsFirstOfWindows, IsFlagOf, IsRight, IsSettled, KeepLimit, LeavesOne, NoneEmpty, Rise};
+ghost use Rattle.certificate_checker.specs.Faults.{AreRight, WindowGoesBefore, IsFirstOfBranch, IsFirstOfRun, IsFirstOfWindows, IsFlagOf, IsRight, IsSettled, KeepLimit, LeavesOne, NoneEmpty, Rise};
 ghost use Rattle.certificate_checker.specs.Shown.{bound_of_run, choice_left};
 ghost use Rattle.certificate_checker.specs.Private.Order.{IsDueOrder};
 ghost use Rattle.certificate_checker.specs.Private.Paths.{IsPath};
@@ -15,8 +15,8 @@ use crate::costs::distortion_of_all;
 use crate::order::DueUnit;
 use crate::path::{Path, versions_of};
 use crate::why::Why;
-use dual_bounds::constants::LAMBDA_MOST;
 use dual_bounds::Window;
+use dual_bounds::constants::LAMBDA_MOST;
 use slot_rule::first_miss_of;
 use version_table::Table;
 
@@ -63,7 +63,7 @@ fn rise(windows: &[Window]) -> bool
 
 /// Whether a window is due before another, or at the same time and begins before it.
 fn goes_before(a: Window, b: Window) -> bool
-    ensures { IsTrue result ↔ GoesBefore a b }
+    ensures { IsTrue result ↔ WindowGoesBefore a b }
 {
     a.due < b.due || (a.due == b.due && a.from < b.from)
 }

@@ -13,8 +13,8 @@ use crate::path::{Next, OpenBranch, Path, versions_of};
 use crate::tally::Tally;
 use crate::why::{CertFault, Why};
 use bound_certificate::Node;
-use dual_bounds::{Window, windows_of};
 use dual_bounds::constants::WINDOWS_MOST;
+use dual_bounds::{Window, windows_of};
 use version_table::Table;
 
 /// What the tree that nodes begin with shows.

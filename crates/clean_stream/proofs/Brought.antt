@@ -20,7 +20,7 @@ use Rattle.tstd_bridge.specs.Arrivals.{Headers, arrival_in, arrivals_from}
 use Rattle.mux_writer.specs.declared.layout.Layout.{Layout}
 use Rattle.mux_writer.specs.declared.packets.TheConstants.{NULL_PID, PAT_PID}
 use Rattle.mux_writer.specs.Layout.{map_pid, stream_pid, video_pid}
-use Rattle.mux_writer.specs.Output.{packet_of}
+use Rattle.mux_writer.specs.Output.{output_packet}
 use Rattle.mux_writer.specs.Pieces.{Pieces}
 use Rattle.clean_stream.specs.Arrivals.{arrival_of, arrivals_of, header_bytes, payload_of}
 use Rattle.clean_stream.proofs.Slots.{IsQueuePacket, IsReserved, IsRowPacket}
@@ -115,12 +115,12 @@ pub record CarriesPiece (layout : Layout) (other : ℕ) (payload : Payload) (pac
   pub payload_is : payload_of packet ≡ payload
 
 pub carries : (layout : Layout) (slot : ℕ) (pieces : Pieces) (count n other : ℕ) (kind : QueueKind) (queued : QueuedPacket) → IsFirstPiece kind queued
-    → CarriesPiece layout other (pieces other queued.item queued.piece) (packet_of layout slot pieces count n (piece_sent kind other queued))
+    → CarriesPiece layout other (pieces other queued.item queued.piece) (output_packet layout slot pieces count n (piece_sent kind other queued))
 carries layout slot pieces count n other (Video program vbv) queued first = record { pid = refl; payload_is = refl }
 carries layout slot pieces count n other Audio queued first = record { pid = refl; payload_is = ap (λ (k : ℕ). pieces other queued.item k) (sym first) }
 
 pub pid-of : (layout : Layout) (slot : ℕ) (pieces : Pieces) (count n other : ℕ) (kind : QueueKind) (queued : QueuedPacket)
-    → (packet_of layout slot pieces count n (piece_sent kind other queued)).pid ≡ stream_pid layout other
+    → (output_packet layout slot pieces count n (piece_sent kind other queued)).pid ≡ stream_pid layout other
 pid-of layout slot pieces count n other (Video program vbv) queued = refl
 pid-of layout slot pieces count n other Audio queued = refl
 
@@ -143,7 +143,7 @@ module _ (queues : List Queue) (layout : Layout) (slot programs : ℕ) (pieces :
   HaveTheirPieces kind = (place : ℕ) (packet : QueuedPacket) → slice_get packets place ≡ Some packet → HasItsPiece pieces headers stream kind packet
 
   reserved-brings : (kind : QueueKind) (sent : Sent) (n count at : ℕ) → IsPidOf queues layout programs stream pid kind → IsReserved programs sent
-      → on_pid n (packet_of layout slot pieces count at sent) ≡ arrival_in stream kind headers n (Reserved sent)
+      → on_pid n (output_packet layout slot pieces count at sent) ≡ arrival_in stream kind headers n (Reserved sent)
   unfolding arrival_in
   reserved-brings (Video program vbv) Pat n count at is named = none-there (eqb PAT_PID pid) n _ _ (ne_eqb PAT_PID pid is.no_pat)
   reserved-brings Audio Pat n count at is named = none-there (eqb PAT_PID pid) n _ _ (ne_eqb PAT_PID pid is.no_pat)
@@ -156,7 +156,7 @@ module _ (queues : List Queue) (layout : Layout) (slot programs : ℕ) (pieces :
   reserved-brings kind (VideoPiece s item piece) n count at is named = absurd named
   reserved-brings kind (AudioPiece s item) n count at is named = absurd named
 
-  empty-brings : (kind : QueueKind) (n count at : ℕ) → IsPidOf queues layout programs stream pid kind → on_pid n (packet_of layout slot pieces count at Null) ≡ arrival_in stream kind headers n Empty
+  empty-brings : (kind : QueueKind) (n count at : ℕ) → IsPidOf queues layout programs stream pid kind → on_pid n (output_packet layout slot pieces count at Null) ≡ arrival_in stream kind headers n Empty
   unfolding arrival_in
   empty-brings (Video program vbv) n count at is = none-there (eqb NULL_PID pid) n _ _ (ne_eqb NULL_PID pid is.no_null)
   empty-brings Audio n count at is = none-there (eqb NULL_PID pid) n _ _ (ne_eqb NULL_PID pid is.no_null)
@@ -164,15 +164,15 @@ module _ (queues : List Queue) (layout : Layout) (slot programs : ℕ) (pieces :
   -- the packet is as long as the queue's, with as much of a PES header
   abbrev Facts : (own : QueueKind) → (other : ℕ) → (queued : QueuedPacket) → (count at : ℕ) → Type 0
   Facts own other queued count at =
-      (length (packet_of layout slot pieces count at (piece_sent own other queued)).payload ≡ queued.payload)
-      × (header_bytes (payload_of (packet_of layout slot pieces count at (piece_sent own other queued))) ≡ headers queued)
+      (length (output_packet layout slot pieces count at (piece_sent own other queued)).payload ≡ queued.payload)
+      × (header_bytes (payload_of (output_packet layout slot pieces count at (piece_sent own other queued))) ≡ headers queued)
 
   -- a packet of a queue of any kind
   queued-brings : (kind own : QueueKind) (other : ℕ) (queued : QueuedPacket) (n count at : ℕ) → IsPidOf queues layout programs stream pid kind → IsThis kind → HaveTheirPieces kind
       → (named : IsQueuePacket queues other queued) → own ≡ named.kind
-      → on_pid n (packet_of layout slot pieces count at (piece_sent own other queued)) ≡ arrival_in stream kind headers n (Carries other queued)
+      → on_pid n (output_packet layout slot pieces count at (piece_sent own other queued)) ≡ arrival_in stream kind headers n (Carries other queued)
   queued-brings kind own other queued n count at is this have named own-is =
-      let packet : PacketRecord = packet_of layout slot pieces count at (piece_sent own other queued) in
+      let packet : PacketRecord = output_packet layout slot pieces count at (piece_sent own other queued) in
       let within : other < length queues = slice_get_within queues other _ named.queue in
       let pid-is : packet.pid ≡ stream_pid layout other = pid-of layout slot pieces count at other own queued in
       let test : eqb packet.pid pid ≡ eqb other stream =
@@ -190,7 +190,7 @@ module _ (queues : List Queue) (layout : Layout) (slot programs : ℕ) (pieces :
           let has : HasItsPiece pieces headers stream kind queued = have named.place queued found in
           let first : IsFirstPiece own queued = subst (λ (k : QueueKind). IsFirstPiece k queued) (sym kinds) has.first in
           let piece = carries layout slot pieces count at other own queued first in
-          let own-piece : payload_of (packet_of layout slot pieces count at (piece_sent own other queued)) ≡ pieces stream queued.item queued.piece =
+          let own-piece : payload_of (output_packet layout slot pieces count at (piece_sent own other queued)) ≡ pieces stream queued.item queued.piece =
           piece.payload_is ∙ ap (λ (k : ℕ). pieces k queued.item queued.piece) e in
           (ap (λ (p : Payload). length p.bytes) own-piece ∙ has.size, ap header_bytes own-piece ∙ has.header)
 

@@ -18,7 +18,7 @@ use Rattle.slot_rule.specs.SlotList.{is_sent_of, kind_at, piece_sent, sent_of}
 use Rattle.mux_writer.specs.declared.layout.Layout.{Layout}
 use Rattle.mux_writer.specs.declared.packets.TheConstants.{NULL_PID, PAT_PID}
 use Rattle.mux_writer.specs.Layout.{map_pid, stream_pid, video_pid}
-use Rattle.mux_writer.specs.Output.{packet_of}
+use Rattle.mux_writer.specs.Output.{output_packet}
 use Rattle.mux_writer.specs.Pieces.{Pieces}
 use Rattle.clean_stream.specs.Arrivals.{is_payload_on, payload_of, payloads_on}
 use Rattle.clean_stream.proofs.Slots.{IsQueuePacket, IsReserved, IsRowPacket}
@@ -108,7 +108,7 @@ module _ (queues : List Queue) (layout : Layout) (slot programs : ℕ) (pieces :
   of-reserved (AudioPiece s item) named = absurd named
 
   reserved-agrees : (kind : QueueKind) (sent : Sent) (count at : ℕ) → IsPidOf queues layout programs stream pid kind → IsReserved programs sent
-      → is_payload_on pid (packet_of layout slot pieces count at sent) ≡ false
+      → is_payload_on pid (output_packet layout slot pieces count at sent) ≡ false
   reserved-agrees kind Pat count at is named = and-false (eqb PAT_PID pid) _ (ne_eqb PAT_PID pid is.no_pat)
   reserved-agrees kind (Pmt p) count at is named = and-false (eqb (map_pid p) pid) _ (ne_eqb (map_pid p) pid (is.no_map p named))
   reserved-agrees kind (Pcr p) count at is named = no-payload (eqb (video_pid p) pid)
@@ -118,7 +118,7 @@ module _ (queues : List Queue) (layout : Layout) (slot programs : ℕ) (pieces :
 
   -- what a packet with a piece carries
   piece-carried : (kind : QueueKind) (other : ℕ) (queued : QueuedPacket) (count at : ℕ)
-      → payload_of (packet_of layout slot pieces count at (piece_sent kind other queued)) ≡ piece_of_sent pieces (piece_sent kind other queued)
+      → payload_of (output_packet layout slot pieces count at (piece_sent kind other queued)) ≡ piece_of_sent pieces (piece_sent kind other queued)
   piece-carried (Video program vbv) other queued count at = refl
   piece-carried Audio other queued count at = refl
 
@@ -135,13 +135,13 @@ module _ (queues : List Queue) (layout : Layout) (slot programs : ℕ) (pieces :
       own = kind_at queues other
 
       sent-packet : PacketRecord
-      sent-packet = packet_of layout slot pieces of.stands.count of.stands.slot_no (piece_sent (kind_at queues other) other queued)
+      sent-packet = output_packet layout slot pieces of.stands.count of.stands.slot_no (piece_sent (kind_at queues other) other queued)
 
-      pid-is : (packet_of layout slot pieces of.stands.count of.stands.slot_no (piece_sent (kind_at queues other) other queued)).pid ≡ stream_pid layout other
+      pid-is : (output_packet layout slot pieces of.stands.count of.stands.slot_no (piece_sent (kind_at queues other) other queued)).pid ≡ stream_pid layout other
       pid-is = pid-of layout slot pieces of.stands.count of.stands.slot_no other (kind_at queues other) queued
 
       by_stream : (other ≡ stream) ⊎ (other ≡ stream → ⊥)
-          → is_payload_on pid (packet_of layout slot pieces of.stands.count of.stands.slot_no (piece_sent (kind_at queues other) other queued)) ≡ eqb other stream
+          → is_payload_on pid (output_packet layout slot pieces of.stands.count of.stands.slot_no (piece_sent (kind_at queues other) other queued)) ≡ eqb other stream
       by_stream (inr apart) =
           let named : IsQueuePacket queues other queued = of.named in
           let within : other < length queues = slice_get_within queues other _ named.queue in
@@ -153,7 +153,7 @@ module _ (queues : List Queue) (layout : Layout) (slot programs : ℕ) (pieces :
           let found : slice_get packets named.place ≡ Some queued = ap (λ (q : Queue). slice_get q.packets named.place) (sym same) ∙ named.there in
           let some : 1 ≤ length (piece_of_sent pieces (piece_sent (kind_at queues other) stream queued)).bytes =
           have named.place queued found (kind_at queues other) (ap (kind_at queues) (sym e)) in
-          let long : 1 ≤ length (packet_of layout slot pieces of.stands.count of.stands.slot_no (piece_sent (kind_at queues other) other queued)).payload =
+          let long : 1 ≤ length (output_packet layout slot pieces of.stands.count of.stands.slot_no (piece_sent (kind_at queues other) other queued)).payload =
           subst (λ (n : ℕ). 1 ≤ n)
           (sym (ap (λ (p : Payload). length p.bytes) (piece-carried (kind_at queues other) other queued of.stands.count of.stands.slot_no
           ∙ ap (λ (k : ℕ). piece_of_sent pieces (piece_sent (kind_at queues other) k queued)) e))) some in

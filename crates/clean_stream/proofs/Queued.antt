@@ -10,7 +10,7 @@ use Rattle.bit_lists.specs.Fields.{bit, bits}
 use Rattle.payload_lists.specs.Payload.{Payload}
 use Rattle.pes_units.specs.declared.times.Times.{Times}
 use Rattle.pes_units.specs.PesHeader.{header_length}
-use Rattle.pes_units.specs.VideoHeader.{spelled, written_dts, written_header}
+use Rattle.pes_units.specs.VideoHeader.{spelled, written_dts, written_pes_header}
 use Rattle.version_table.specs.Choice.{version_at}
 use Rattle.slot_rule.specs.declared.queued_packet.QueuedPacket.{QueuedPacket}
 use Rattle.slot_rule.specs.Private.QueueItems.{HasSizes}
@@ -77,15 +77,15 @@ first-data pts dts version some =
     less h l n v told size short has = omega (arith, told, size, short, has)
 
 -- each piece of a PES packet has data behind its header
-piece-data : (times : Times) (version : List ℕ) (k : ℕ) → 1 ≤ length version → k < packets_for (length (written_header times ++ version))
-    → header_bytes (piece_of (written_header times ++ version) k) < length (piece_of (written_header times ++ version) k).bytes
+piece-data : (times : Times) (version : List ℕ) (k : ℕ) → 1 ≤ length version → k < packets_for (length (written_pes_header times ++ version))
+    → header_bytes (piece_of (written_pes_header times ++ version) k) < length (piece_of (written_pes_header times ++ version) k).bytes
 piece-data times version zero some within = first-data times.pts (written_dts times.pts times.dts) version some
 piece-data times version (suc k) some within =
-    let packet : List ℕ = written_header times ++ version in
+    let packet : List ℕ = written_pes_header times ++ version in
     let size : length (take 184 (drop (184 * suc k) packet)) ≡ min 184 (length packet - 184 * suc k) =
     length-take 184 (drop (184 * suc k) packet) ∙ ap (min 184) (length-drop (184 * suc k) packet) in
-    let none : header_bytes (piece_of (written_header times ++ version) (suc k)) ≡ 0 =
-    ap (λ (b : Bool). if b then min (header_length (take 184 (drop (184 * suc k) (written_header times ++ version)))) (length (take 184 (drop (184 * suc k) (written_header times ++ version)))) else 0)
+    let none : header_bytes (piece_of (written_pes_header times ++ version) (suc k)) ≡ 0 =
+    ap (λ (b : Bool). if b then min (header_length (take 184 (drop (184 * suc k) (written_pes_header times ++ version)))) (length (take 184 (drop (184 * suc k) (written_pes_header times ++ version)))) else 0)
     (ne_eqb (suc k) 0 (λ e. absurd (omega (arith, e)))) in
     omega (arith, none, size, within)
 
@@ -123,17 +123,17 @@ get-at (y ∷ ys) zero x d there = same_Some y x there
 get-at (y ∷ ys) (suc k) x d there = get-at ys k x d there
 
 unit-packets-zip : PiecesAreAsQueued → (f : ItemPieces) (item due : ℕ) (times : Times) (version : List ℕ) → 1 ≤ length version
-    → ((k : ℕ) → f item k ≡ slice_index_or (pes_pieces (written_header times ++ version)) k no_piece)
-    → AllZip (IsVideoPiece f) (unit_packets item due (length (written_header times ++ version))) (pes_pieces (written_header times ++ version))
+    → ((k : ℕ) → f item k ≡ slice_index_or (pes_pieces (written_pes_header times ++ version)) k no_piece)
+    → AllZip (IsVideoPiece f) (unit_packets item due (length (written_pes_header times ++ version))) (pes_pieces (written_pes_header times ++ version))
 unit-packets-zip queued f item due times version some found =
-    let packet : List ℕ = written_header times ++ version in
-    subst (λ (sizes : List ℕ). AllZip (IsVideoPiece f) (packets_of_sizes item due 0 sizes) (pes_pieces (written_header times ++ version)))
-    (queued (written_header times ++ version) (omega (arith, some, length-append (written_header times) version)))
-    (unit-zip f item due 0 (pes_pieces (written_header times ++ version))
+    let packet : List ℕ = written_pes_header times ++ version in
+    subst (λ (sizes : List ℕ). AllZip (IsVideoPiece f) (packets_of_sizes item due 0 sizes) (pes_pieces (written_pes_header times ++ version)))
+    (queued (written_pes_header times ++ version) (omega (arith, some, length-append (written_pes_header times) version)))
+    (unit-zip f item due 0 (pes_pieces (written_pes_header times ++ version))
     (λ k payload there.
-    let at = along (piece_of (written_header times ++ version)) (packets_for (length (written_header times ++ version))) 0 k payload there in
-    let place : piece_of (written_header times ++ version) k ≡ payload = ap (piece_of (written_header times ++ version)) (let e : k ≡ 0 + k = omega arith in e) ∙ at.0 in (
-      ap (f item) (let e : 0 + k ≡ k = omega arith in e) ∙ found k ∙ get-at (pes_pieces (written_header times ++ version)) k payload no_piece there,
+    let at = along (piece_of (written_pes_header times ++ version)) (packets_for (length (written_pes_header times ++ version))) 0 k payload there in
+    let place : piece_of (written_pes_header times ++ version) k ≡ payload = ap (piece_of (written_pes_header times ++ version)) (let e : k ≡ 0 + k = omega arith in e) ∙ at.0 in (
+      ap (f item) (let e : 0 + k ≡ k = omega arith in e) ∙ found k ∙ get-at (pes_pieces (written_pes_header times ++ version)) k payload no_piece there,
       subst (λ (p : Payload). header_bytes p < length p.bytes) place (piece-data times version k some at.1),
     )))
 
@@ -149,7 +149,7 @@ chosen : (weight : ℕ) (unit : UnitSource) (versions : List UnitVersion) (index
     → IsChosen unit versions (slice_index_or (map (row_version weight unit) versions) index (record { bytes = 0; distortion = 0 })).bytes index
 chosen weight unit [] index all some = absurd (omega (arith, some))
 chosen weight unit (v ∷ vs) zero all some =
-    record { size = sym (length-append (written_header unit.times) v.bytes); some = All-head HasBytes v vs all }
+    record { size = sym (length-append (written_pes_header unit.times) v.bytes); some = All-head HasBytes v vs all }
 chosen weight unit (v ∷ vs) (suc index) all some =
     let rest = chosen weight unit vs index (All-tail HasBytes v vs all) some in record { size = rest.size; some = rest.some }
 

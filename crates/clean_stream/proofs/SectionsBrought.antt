@@ -16,7 +16,7 @@ use Rattle.tstd_bridge.specs.Sections.{section_packets, sections_from}
 use Rattle.mux_writer.specs.declared.layout.Layout.{Layout}
 use Rattle.mux_writer.specs.declared.packets.TheConstants.{NULL_PID, PAT_PID}
 use Rattle.mux_writer.specs.Layout.{map_pid, stream_pid, video_pid}
-use Rattle.mux_writer.specs.Output.{packet_of}
+use Rattle.mux_writer.specs.Output.{output_packet}
 use Rattle.mux_writer.specs.Pieces.{Pieces}
 use Rattle.mux_writer.specs.Tables.{pat_payload, pmt_payloads}
 use Rattle.clean_stream.specs.Arrivals.{arrival_of, arrivals_of}
@@ -68,7 +68,7 @@ module _ (queues : List Queue) (layout : Layout) (slot programs : ℕ) (pieces :
         | inr apart ↦ ne_eqb (map_pid p) (map_pid program) (λ e. apart (omega (arith, e))) ∙ sym (ne_eqb p program apart)
       ]
 
-  reserved-brings : (sent : Sent) (n count at : ℕ) → AreSections queues layout programs → IsReserved programs sent → to_sections n (packet_of layout slot pieces count at sent) ≡ of_row n (Reserved sent)
+  reserved-brings : (sent : Sent) (n count at : ℕ) → AreSections queues layout programs → IsReserved programs sent → to_sections n (output_packet layout slot pieces count at sent) ≡ of_row n (Reserved sent)
   reserved-brings Pat n count at are named = ap (λ (p : ℕ). if_there true n 0 p) are.pat
   reserved-brings (Pmt p) n count at are named =
       let size : ℕ = length (slice_index_or (pmt_payloads layout) p []) in

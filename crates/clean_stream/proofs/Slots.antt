@@ -20,7 +20,7 @@ use Rattle.slot_rule.specs.SlotList.{sent_of}
 use Rattle.slot_rule.specs.Timetable.{period, reserved_at}
 use Rattle.ts_packets.specs.Packet.{PacketRecord}
 use Rattle.mux_writer.specs.declared.layout.Layout.{Layout}
-use Rattle.mux_writer.specs.Output.{packet_in, packet_of, payload_count, pid_of, sent_in}
+use Rattle.mux_writer.specs.Output.{packet_in, output_packet, payload_count, pid_of, sent_in}
 use Rattle.mux_writer.specs.Pieces.{Pieces}
 
 -- ---- what rows name
@@ -82,7 +82,7 @@ row-named slot programs queues before Empty is = tt
 pub record StandsIn (layout : Layout) (slot : ℕ) (pieces : Pieces) (sent : Sent) (packet : PacketRecord) : Type 0 where
   pub count : ℕ
   pub slot_no : ℕ
-  pub packet_is : packet ≡ packet_of layout slot pieces count slot_no sent
+  pub packet_is : packet ≡ output_packet layout slot pieces count slot_no sent
 
 -- the row names what it has, and the packet is that of its slot
 pub record IsRowPacket (programs : ℕ) (queues : List Queue) (layout : Layout) (slot : ℕ) (pieces : Pieces) (row : Row) (packet : PacketRecord) : Type 0 where
@@ -105,8 +105,8 @@ rows-from table choice layout slot pieces all before (row ∷ rest) n split long
     let queues = queues_of table choice in
     let sents : List Sent = map (sent_of queues) all in
     let count : ℕ = payload_count layout (pid_of layout (sent_in sents n)) (take n sents) in
-    let here : packet_in layout slot pieces sents n ≡ packet_of layout slot pieces count n (sent_of queues row) =
-    ap (packet_of layout slot pieces count n) (sent-there queues all before rest row n split long) in (
+    let here : packet_in layout slot pieces sents n ≡ output_packet layout slot pieces count n (sent_of queues row) =
+    ap (output_packet layout slot pieces count n) (sent-there queues all before rest row n split long) in (
       record {
         named = row-named table.slot (length table.programs) queues before row (follows before row rest split);
         stands = record { count = count; slot_no = n; packet_is = here };

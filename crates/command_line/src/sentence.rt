@@ -17,7 +17,7 @@ pub fn print_sentence<R: Eprint>(rt: &R, words: &[String], status: &Status) -> i
         Status::JobRefused(refusal) => print_refusal(rt, first, refusal),
         Status::SourceRefused(fault) => print_source(rt, words, fault),
         Status::Unschedulable(miss) => eprintln!(rt;
-            "remux: {first}: the smallest versions can't all be sent in time: unit {} of stream {}, due at tick {}, misses in \
+            "remux: {first}: not even the smallest versions are scheduled: unit {} of stream {}, due at tick {}, misses in \
              slot {}; a shorter slot, smaller versions or later times may help",
             miss.unit, miss.stream, miss.due, miss.slot
         ),

@@ -3,7 +3,7 @@ use Rattle.std.proofs.Common.{◌≡◌, ℕ, ◌+◌, ◌-◌, ◌*◌, ◌/◌
 use Rattle.std.proofs.lemmas.Bool.{cases_lt}
 use Rattle.std.proofs.lemmas.List.{get_or_default}
 use Rattle.version_table.specs.declared.table.Version.{Version}
-use Rattle.dual_bounds.specs.Values.{cost, packets_of}
+use Rattle.dual_bounds.specs.Values.{cost, packet_count}
 use Rattle.cost_steps.specs.declared.constants.TheConstants.{PRICE_MOST}
 use Rattle.cost_steps.specs.declared.steps.Line.{Line}
 use Rattle.cost_steps.specs.Private.Lines.{CostsLess, IsLineOf, line_cost}
@@ -34,7 +34,7 @@ rises_by rise packets rise' packets' price base le fewer low = by_steps (packets
 -- what the line of a version costs
 pub line-cost : (version : Version) (line : Line) (price : ℕ) → IsLineOf version line → line_cost line price ≡ cost price version
 line-cost version line price is =
-    let spread : line.packets * price ≡ packets_of version * price = ap (λ n. n * price) is.packets in
+    let spread : line.packets * price ≡ packet_count version * price = ap (λ n. n * price) is.packets in
     omega (arith, is.rise, spread)
 
 module _ (versions : List Version) (line other : Line) (i next0 cross next : ℕ) (d0 : Version) (within : i < length versions) (is : IsLineOf (get_or versions i d0) other)
@@ -42,9 +42,9 @@ module _ (versions : List Version) (line other : Line) (i next0 cross next : ℕ
   line_at : (d : Version) → IsLineOf (get_or versions i d) other
   line_at d = subst (λ (v : Version). IsLineOf v other) (get_or_default versions i d0 d within) is
 
-  pub before-more : ((price : ℕ) → price < next0 → (k : ℕ) (d : Version) → k < i → packets_of (get_or versions k d) < line.packets → line_cost line price ≤ cost price (get_or versions k d))
+  pub before-more : ((price : ℕ) → price < next0 → (k : ℕ) (d : Version) → k < i → packet_count (get_or versions k d) < line.packets → line_cost line price ≤ cost price (get_or versions k d))
       → ((price : ℕ) → price < cross → other.packets < line.packets → line_cost line price ≤ line_cost other price)
-      → (price : ℕ) → price < next → (k : ℕ) (d : Version) → k < i + 1 → packets_of (get_or versions k d) < line.packets → line_cost line price ≤ cost price (get_or versions k d)
+      → (price : ℕ) → price < next → (k : ℕ) (d : Version) → k < i + 1 → packet_count (get_or versions k d) < line.packets → line_cost line price ≤ cost price (get_or versions k d)
   before-more earlier own price less k d low fewer = elim (cases_lt k i) as (λ _. line_cost line price ≤ cost price (get_or versions k d)) [
     | inl before ↦ earlier price (omega arith) k d before fewer
     | inr last ↦

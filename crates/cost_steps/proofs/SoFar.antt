@@ -9,7 +9,7 @@ use Rattle.version_table.specs.Choice.{least}
 use Rattle.version_table.specs.Table.{IsValidVersion}
 use Rattle.version_table.proofs.Least.{least-le}
 use Rattle.dual_bounds.specs.declared.constants.TheConstants.{DISTORTION_PARTS}
-use Rattle.dual_bounds.specs.Values.{cost, packets_of}
+use Rattle.dual_bounds.specs.Values.{cost, packet_count}
 use Rattle.cost_sweep.specs.declared.step.CostStep.{CostStep}
 use Rattle.cost_sweep.specs.Steps.{paid, spared}
 use Rattle.cost_steps.specs.declared.constants.TheConstants.{PRICE_MOST}
@@ -101,9 +101,9 @@ module _ (due : ℕ) (versions : List Version) (valid : All IsValidVersion versi
       → All (λ version. line_cost line p ≤ cost p version) versions
   least-between price p line next is is_next from low k d within =
       let version = get_or versions k d in
-      elim (cases_lt (packets_of version) line.packets) as (λ _. line_cost line p ≤ cost p version) [
+      elim (cases_lt (packet_count version) line.packets) as (λ _. line_cost line p ≤ cost p version) [
         | inl fewer ↦ is_next.before p low k d within fewer
-        | inr most ↦ stays_below line.rise line.packets (DISTORTION_PARTS * version.distortion) (packets_of version) price p most from (is.least k d within)
+        | inr most ↦ stays_below line.rise line.packets (DISTORTION_PARTS * version.distortion) (packet_count version) price p most from (is.least k d within)
       ]
 
   line-packets : (price : ℕ) (line : Line) → IsLeastLine versions price line → line.packets < 2 ^ 15
@@ -137,7 +137,7 @@ module _ (due : ℕ) (versions : List Version) (valid : All IsValidVersion versi
         let none : Version = record { bytes = 0; distortion = 0 } in
         let other = is_next.at limit in
         let less = other.2 none in
-        crosses_behind line.rise line.packets (DISTORTION_PARTS * (get_or versions other.0 none).distortion) (packets_of (get_or versions other.0 none)) price next less.fewer
+        crosses_behind line.rise line.packets (DISTORTION_PARTS * (get_or versions other.0 none).distortion) (packet_count (get_or versions other.0 none)) price next less.fewer
         (so_far.line_is.least other.0 none other.1) less.less
 
     lower-before : line_cost line (next - 1) ≤ line_cost line' (next - 1)

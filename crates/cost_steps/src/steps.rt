@@ -1,7 +1,7 @@
 ghost use Rattle.std.specs.Prelude.{◌≡◌, ℕ, ◌+◌, ◌-◌, ◌*◌, ◌<◌, ◌≤◌, ◌^◌, ◌⊎◌, ◌++◌, List, length, All, OnOk};
 ghost use Rattle.version_table.specs.Table.{IsValidVersion};
 ghost use Rattle.dual_bounds.specs.declared.constants.TheConstants.{DISTORTION_PARTS};
-ghost use Rattle.dual_bounds.specs.Values.{cost, packets_of};
+ghost use Rattle.dual_bounds.specs.Values.{cost, packet_count};
 ghost use Rattle.cost_sweep.specs.declared.step.CostStep.{CostStep as Step};
 ghost use Rattle.cost_steps.specs.declared.constants.TheConstants.{PRICE_MOST};
 ghost use Rattle.cost_steps.specs.Private.Lines.{IsLeastLine, IsLineOf, IsNext, first_step, line_cost, step_between};

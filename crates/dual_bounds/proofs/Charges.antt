@@ -53,7 +53,7 @@ use Rattle.dual_bounds.specs.declared.windows.Window.{Window}
 use Rattle.dual_bounds.specs.Bounds.{bound_of_value}
 use Rattle.dual_bounds.specs.Fixed.{Takes}
 use Rattle.dual_bounds.specs.Room.{is_within, free_slots, audio_due, room}
-use Rattle.dual_bounds.specs.Values.{charge, cost, least_cost, least_costs, packets_of, price, worth}
+use Rattle.dual_bounds.specs.Values.{charge, cost, least_cost, least_costs, packet_count, price, worth}
 use Rattle.version_table.proofs.Least.{least-le}
 use Rattle.dual_bounds.proofs.UnitPackets.{Chosen, packets_due}
 
@@ -72,7 +72,7 @@ least_cost-le windows unit (Some fixed) k has takes =
 
 -- what the packets of a unit in its version are charged
 abbrev pub charged : List Window → Chosen → ℕ
-charged windows chosen = packets_of (version_at chosen.0 chosen.1) * price windows chosen.0.due
+charged windows chosen = packet_count (version_at chosen.0 chosen.1) * price windows chosen.0.due
 
 pub least_costs-le : (windows : List Window) (units : List CodedUnit) (fixed : List (Option ℕ)) (choice : List ℕ) → AllZip HasVersion units choice → AllZip Takes fixed choice
     → least_costs windows units fixed ≤ DISTORTION_PARTS * sum (chosen_distortions units choice) + sum_by (charged windows) (zip units choice)
@@ -95,7 +95,7 @@ charged-none : (chosen : List Chosen) → sum_by (charged []) chosen ≡ 0
 unfolding price
 charged-none [] = refl
 charged-none (one ∷ chosen) =
-    omega (arith, sum_by-cons (charged []) one chosen, charged-none chosen, mul-zero (packets_of (version_at one.0 one.1)))
+    omega (arith, sum_by-cons (charged []) one chosen, charged-none chosen, mul-zero (packet_count (version_at one.0 one.1)))
 
 one_more : (packets lambda others : ℕ) (within : Bool) → packets * (cond within lambda 0 + others) ≡ lambda * cond within packets 0 + packets * others
 one_more packets lambda others true = mul-add packets lambda others ∙ ap (λ n. n + packets * others) (let turned : packets * lambda ≡ lambda * packets = mul_comm packets lambda in turned)
@@ -109,7 +109,7 @@ charged-more : (window : Window) (windows : List Window) (chosen : List Chosen)
     → sum_by (charged (window ∷ windows)) chosen ≡ window.lambda * sum_by (packets_due window.from window.due) chosen + sum_by (charged windows) chosen
 charged-more window windows [] = omega (arith, mul-zero window.lambda)
 charged-more window windows (one ∷ chosen) =
-    let packets = packets_of (version_at one.0 one.1) in
+    let packets = packet_count (version_at one.0 one.1) in
     let others = price windows one.0.due in
     let here : charged (window ∷ windows) one ≡ window.lambda * packets_due window.from window.due one + packets * others =
     ap (λ n. packets * n) (price-more window windows one.0.due) ∙ one_more packets window.lambda others (is_within window.from window.due one.0.due) in

@@ -49,7 +49,7 @@ use Rattle.version_table.specs.Table.{units_of}
 use Rattle.dual_bounds.specs.declared.windows.Window.{Window}
 use Rattle.dual_bounds.specs.Fixed.{allowed}
 use Rattle.dual_bounds.specs.Room.{is_within, room}
-use Rattle.dual_bounds.specs.Values.{cost, least_cost, least_costs, packets_of, price, value_of_windows}
+use Rattle.dual_bounds.specs.Values.{cost, least_cost, least_costs, packet_count, price, value_of_windows}
 use Rattle.version_table.proofs.Least.{least-le}
 use Rattle.dual_bounds.proofs.Charges.{price-more, worth-more}
 
@@ -73,7 +73,7 @@ least-is n numbers = elim (fold-min-is n numbers) as (λ _. (k : ℕ) × (k < su
 
 -- ---- the least cost of some versions
 cost_steps : (p : ℕ) (version : Version) → cost p version + cost (suc (suc p)) version ≡ cost (suc p) version + cost (suc p) version
-cost_steps p version = omega (arith, mul-suc (packets_of version) p, mul-suc (packets_of version) (suc p))
+cost_steps p version = omega (arith, mul-suc (packet_count version) p, mul-suc (packet_count version) (suc p))
 
 least-concave : (p : ℕ) (versions : List Version) → least (map (cost p) versions) + least (map (cost (suc (suc p))) versions) ≤ least (map (cost (suc p)) versions) + least
     (map (cost (suc p)) versions)

@@ -51,7 +51,7 @@ use Rattle.dual_bounds.specs.declared.windows.Window.{Window}
 use Rattle.dual_bounds.specs.Fixed.{FixesVersions, NamesVersion}
 use Rattle.dual_bounds.specs.Private.Costs.{AreCharging}
 use Rattle.dual_bounds.specs.Room.{is_within}
-use Rattle.dual_bounds.specs.Values.{charge, cost, least_cost, least_costs, packets_of, price}
+use Rattle.dual_bounds.specs.Values.{charge, cost, least_cost, least_costs, packet_count, price}
 use Rattle.version_table.proofs.Least.{least-le}
 
 -- ---- prices
@@ -153,8 +153,8 @@ entries_in windows programs i program fixed within is names units n front back u
 -- ---- bounds
 cost-le : (charged : ℕ) (version : Version) → charged ≤ 2 ^ 46 → IsValidVersion version → cost charged version ≤ 2 ^ 62
 cost-le charged version small valid =
-    let packets : packets_of version ≤ 2 ^ 15 = omega (arith, valid.bytes) in
-    let product : packets_of version * charged ≤ 2 ^ 15 * 2 ^ 46 = mul-le-mul packets small in
+    let packets : packet_count version ≤ 2 ^ 15 = omega (arith, valid.bytes) in
+    let product : packet_count version * charged ≤ 2 ^ 15 * 2 ^ 46 = mul-le-mul packets small in
     omega (arith, valid.distortion)
 
 least_cost-fits : (windows : List Window) (slot : ℕ) (unit : CodedUnit) (entry : Option ℕ) → AreCharging windows → IsValidUnit slot unit → NamesVersion unit entry

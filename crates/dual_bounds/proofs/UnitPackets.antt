@@ -18,7 +18,7 @@ use Rattle.slot_rule.proofs.RuleQueues.{audio_packet, units_in}
 use Rattle.slot_rule.proofs.RuleUnits.{length-payloads}
 use Rattle.slot_rule.proofs.RuleVideo.{packets_from}
 use Rattle.dual_bounds.specs.Room.{is_within, audio_due}
-use Rattle.dual_bounds.specs.Values.{packets_of}
+use Rattle.dual_bounds.specs.Values.{packet_count}
 use Rattle.dual_bounds.proofs.Carried.{due_in, due_in_queues}
 
 -- a unit with the number of its version
@@ -27,7 +27,7 @@ Chosen = CodedUnit × ℕ
 
 -- the packets of a unit in its version, where it is due in the window
 abbrev pub packets_due : (from due : ℕ) → Chosen → ℕ
-packets_due from due chosen = cond (is_within from due chosen.0.due) (packets_of (version_at chosen.0 chosen.1)) 0
+packets_due from due chosen = cond (is_within from due chosen.0.due) (packet_count (version_at chosen.0 chosen.1)) 0
 
 -- ---- the packets of one unit
 -- elements that all give one answer

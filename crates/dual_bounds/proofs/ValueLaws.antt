@@ -54,7 +54,7 @@ use Rattle.dual_bounds.specs.declared.windows.Window.{Window}
 use Rattle.dual_bounds.specs.Bounds.{IsBound, bound_of_value}
 use Rattle.dual_bounds.specs.Fixed.{allowed, FixesNone, FixesVersions, KeepsFixed, NamesVersion, TakesFixed}
 use Rattle.dual_bounds.specs.Room.{is_within, room}
-use Rattle.dual_bounds.specs.Values.{charge, cost, least_cost, least_costs, packets_of, price, value_of_windows, worth}
+use Rattle.dual_bounds.specs.Values.{charge, cost, least_cost, least_costs, packet_count, price, value_of_windows, worth}
 use Rattle.dual_bounds.proofs.Charges.{bound-le, least_cost-le, worth-more}
 
 -- ---- bounds and values
@@ -164,7 +164,7 @@ no_lambda table fixed from due windows =
 least_free : (a : ℕ) (versions : List Version) → fold min (DISTORTION_PARTS * a) (map (cost 0) versions) ≡ DISTORTION_PARTS * fold min a (map (λ version. version.distortion) versions)
 least_free a [] = refl
 least_free a (version ∷ versions) =
-    let free : packets_of version * 0 ≡ 0 = mul-zero (packets_of version) in
+    let free : packet_count version * 0 ≡ 0 = mul-zero (packet_count version) in
     let first : min (DISTORTION_PARTS * a) (cost 0 version) ≡ DISTORTION_PARTS * min a version.distortion = omega arith in
     ap (λ n. fold min n (map (cost 0) versions)) first ∙ least_free (min a version.distortion) versions
 
@@ -175,7 +175,7 @@ unit_free unit = of_versions unit.versions.items
     of_versions : (versions : List Version) → least (map (cost 0) versions) ≡ DISTORTION_PARTS * least (map (λ version. version.distortion) versions)
     of_versions [] = refl
     of_versions (version ∷ versions) =
-        let free : packets_of version * 0 ≡ 0 = mul-zero (packets_of version) in
+        let free : packet_count version * 0 ≡ 0 = mul-zero (packet_count version) in
         let first : cost 0 version ≡ DISTORTION_PARTS * version.distortion = omega arith in
         ap (λ n. fold min n (map (cost 0) versions)) first ∙ least_free version.distortion versions
 

@@ -25,12 +25,12 @@ unfoldable pub price : List Window → (time : ℕ) → ℕ
 price windows time = sum_by (charge time) windows
 
 -- how many packets carry a version: its bytes over the payload of a packet, rounded up
-abbrev pub packets_of : Version → ℕ
-packets_of version = div_ceil version.bytes PAYLOAD_BYTES
+abbrev pub packet_count : Version → ℕ
+packet_count version = div_ceil version.bytes PAYLOAD_BYTES
 
 -- what a version costs at this price of a packet
 abbrev pub cost : (price : ℕ) → Version → ℕ
-cost price version = DISTORTION_PARTS * version.distortion + packets_of version * price
+cost price version = DISTORTION_PARTS * version.distortion + packet_count version * price
 
 -- what a unit costs at least, over its versions that may be chosen
 unfoldable pub least_cost : List Window → CodedUnit → Option ℕ → ℕ

@@ -11,7 +11,7 @@ use Rattle.program_reader.specs.declared.program_fault.ProgramFault.{ProgramFaul
 use Rattle.program_reader.specs.declared.program_fault.ProgramFault.TheVariants.{Refused, OutOfMemory}
 use Rattle.program_reader.specs.declared.program_fault.SourceKind.{SourceKind}
 use Rattle.program_reader.specs.declared.program_fault.SourceKind.TheVariants.{ProgramLimit}
-use Rattle.program_reader.specs.Programs.{IsProgramOf, IsProgramRefused}
+use Rattle.program_reader.specs.Programs.{IsProgramOfFile, IsProgramRefused}
 use Rattle.job_programs.specs.Programs.{bytes_of_files, units_of_programs}
 use Rattle.job_programs.specs.Private.Behind.{AreProgramsOf, HoldPrograms, IsProgramBehind, IsRefusedBehind, KeepsTime, many_bytes, file, many_units, late}
 
@@ -19,7 +19,7 @@ use Rattle.job_programs.specs.Private.Behind.{AreProgramsOf, HoldPrograms, IsPro
 
 -- a file has one program
 abbrev pub OneProgram : Type 0
-OneProgram = (file : List ℕ) (number : ℕ) (drop : List ℕ) (start : ℕ) (one other : Program) → IsProgramOf file number drop start one → IsProgramOf file number drop start other → one ≡ other
+OneProgram = (file : List ℕ) (number : ℕ) (drop : List ℕ) (start : ℕ) (one other : Program) → IsProgramOfFile file number drop start one → IsProgramOfFile file number drop start other → one ≡ other
 
 -- a file has one refusal
 abbrev pub OneRefusal : Type 0
@@ -29,7 +29,7 @@ OneRefusal = (file : List ℕ) (number : ℕ) (drop : List ℕ) (one other : Pro
 -- a file doesn't have both
 abbrev pub NeverBoth : Type 0
 NeverBoth = (file : List ℕ) (number : ℕ) (drop : List ℕ) (start : ℕ) (program : Program) (fault : ProgramFault)
-    → IsProgramOf file number drop start program → IsProgramRefused file number drop fault → fault ≡ OutOfMemory
+    → IsProgramOfFile file number drop start program → IsProgramRefused file number drop fault → fault ≡ OutOfMemory
 
 is-no-memory : (kind : SourceKind) (at : ℕ) → Refused kind at ≢ OutOfMemory
 is-no-memory kind at e = cc
@@ -118,7 +118,7 @@ count-of start (j ∷ js) (c ∷ cs) (p ∷ ps) h = let rest = count-of start js
 through : OneProgram → (start : ℕ) (before : List ProgramJob) (read : List (List ℕ)) (ps : List Program) → HoldPrograms start before read ps
     → (job : ProgramJob) (after : List ProgramJob) (content : List ℕ) (further : List (List ℕ)) (programs : List Program)
     → HoldPrograms start (before ++ job ∷ after) (read ++ content ∷ further) programs
-    → (p : Program) × (more : List Program) × (programs ≡ ps ++ p ∷ more) × IsProgramOf content job.program job.drop.items start p
+    → (p : Program) × (more : List Program) × (programs ≡ ps ++ p ∷ more) × IsProgramOfFile content job.program job.drop.items start p
 through one start [] [] [] h job after content further [] all = absurd all
 through one start [] [] [] h job after content further (p ∷ more) all = (p, more, refl, all.0)
 through one start [] [] (p ∷ ps) h job after content further programs all = absurd h

@@ -13,12 +13,12 @@ use Rattle.version_table.specs.declared.limits.TheConstants.{UNITS_MOST}
 use Rattle.program_reader.specs.declared.limits.TheConstants.{FILE_BYTES_MOST}
 use Rattle.program_reader.specs.declared.program.Program.{Program}
 use Rattle.program_reader.specs.declared.program_fault.SourceKind.{SourceKind}
-use Rattle.program_reader.specs.Programs.{IsProgramOf}
+use Rattle.program_reader.specs.Programs.{IsProgramOfFile}
 use Rattle.job_programs.specs.declared.source_fault.SourceFault.{SourceFault}
 use Rattle.job_programs.specs.declared.source_fault.ProgramsFault.{ProgramsFault}
 use Rattle.job_programs.specs.declared.source_fault.ProgramsFault.TheVariants.{Refused, Failed, Missing, OutOfMemory}
 use Rattle.job_programs.specs.Programs.{bytes_of_files, units_of_programs}
-use Rattle.job_programs.specs.Told.{AreProgramsOn, CountReads, HasReadCause, HoldContents, HoldsContent, IsRefusedOn, StopsAt}
+use Rattle.job_programs.specs.Told.{AreProgramsOn, CountReads, HasReadCause, HoldContents, HoldsContent, IsRefusedOn, StopsAtProgram}
 use Rattle.job_programs.specs.Private.Behind.{AreProgramsOf, HoldPrograms, IsProgramBehind, IsRefusedBehind, KeepsTime}
 use Rattle.job_programs.specs.Private.Next.{HasNextCause, IsNextOn, IsNextRefusedOn}
 use Rattle.job_programs.specs.Private.ReadSoFar.{ReadSoFar}
@@ -27,7 +27,7 @@ use Rattle.job_programs.proofs.Forms.{next-of, refused-of}
 -- ---- lists
 
 hold-more : (start : ℕ) (jobs : List ProgramJob) (contents : List (List ℕ)) (programs : List Program) (job : ProgramJob) (content : List ℕ) (program : Program)
-    → HoldPrograms start jobs contents programs → IsProgramOf content job.program job.drop.items start program
+    → HoldPrograms start jobs contents programs → IsProgramOfFile content job.program job.drop.items start program
     → HoldPrograms start (jobs ++ job ∷ []) (contents ++ content ∷ []) (programs ++ program ∷ [])
 hold-more start [] [] [] job content program held is = (is, tt)
 hold-more start [] [] (p ∷ ps) job content program held is = absurd held
@@ -153,7 +153,7 @@ refused-on told job i wanted programs bytes units fault within is read refused =
 
 stops-at : (told : Option Files) (job : Job) (i : ℕ) (wanted : ProgramJob) (programs : List Program) (bytes units number : ℕ)
     → i < length job.programs → wanted ≡ get_or job.programs i wanted → ReadSoFar told job.slot job.start (take i job.programs) programs bytes units
-    → number ≡ i → StopsAt told job number wanted
+    → number ≡ i → StopsAtProgram told job number wanted
 stops-at told job i wanted programs bytes units number within is read number_is = record {
   before = take i job.programs;
   after = drop (i + 1) job.programs;

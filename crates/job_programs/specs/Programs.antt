@@ -9,7 +9,7 @@ use Rattle.program_reader.specs.declared.program.Program.{Program}
 use Rattle.program_reader.specs.declared.program_fault.ProgramFault.TheVariants.{Refused}
 use Rattle.program_reader.specs.declared.program_fault.SourceKind.{SourceKind}
 use Rattle.program_reader.specs.declared.program_fault.SourceKind.TheVariants.{ProgramLimit}
-use Rattle.program_reader.specs.Programs.{IsProgramOf, IsProgramRefused}
+use Rattle.program_reader.specs.Programs.{IsProgramOfFile, IsProgramRefused}
 use Rattle.job_programs.specs.declared.source_fault.SourceFault.{SourceFault}
 
 -- ---- limits that the programs of a job share
@@ -36,7 +36,7 @@ pub record IsWithinTime (slot : ℕ) (program : Program) : Type 0 where
 
 -- the content of a file holds this program of a job, by itself
 abbrev pub HoldsProgram : (start : ℕ) → ProgramJob → (content : List ℕ) → Program → Type 0
-HoldsProgram start job content program = IsProgramOf content job.program job.drop.items start program
+HoldsProgram start job content program = IsProgramOfFile content job.program job.drop.items start program
 
 -- The content of a file holds this program of a job, and with the files and programs before it the limits that they share are kept.
 pub record IsNextProgram (slot start : ℕ) (contents : List (List ℕ)) (programs : List Program) (job : ProgramJob) (content : List ℕ) (program : Program) : Type 0 where

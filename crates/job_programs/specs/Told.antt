@@ -40,7 +40,7 @@ pub record IsRefusedOn (told : Option Files) (job : Job) (fault : SourceFault) :
   pub refused : IsFirstRefused job contents fault
 
 -- the file of the program of this number wasn't read: those before it hold programs
-pub record StopsAt (told : Option Files) (job : Job) (number : ℕ) (stopped : ProgramJob) : Type 0 where
+pub record StopsAtProgram (told : Option Files) (job : Job) (number : ℕ) (stopped : ProgramJob) : Type 0 where
   pub before : List ProgramJob
   pub after : List ProgramJob
   pub split : job.programs ≡ before ++ stopped ∷ after
@@ -53,7 +53,7 @@ pub record StopsAt (told : Option Files) (job : Job) (number : ℕ) (stopped : P
 -- the file of the program of this number isn't held: those before it hold programs
 pub record IsMissingOn (files : Files) (job : Job) (number : ℕ) : Type 0 where
   pub stopped : ProgramJob
-  pub stops : StopsAt (Some files) job number stopped
+  pub stops : StopsAtProgram (Some files) job number stopped
   pub lacks : get files stopped.file ≡ None
 
 -- Why the programs of a job weren't read: the first refusal; a read that failed, where the count of faults rose, or a file that
@@ -61,9 +61,9 @@ pub record IsMissingOn (files : Files) (job : Job) (number : ℕ) : Type 0 where
 abbrev pub HasReadCause : Option Files → Job → (old new : ShelfCounts) → (since_fault : ℕ) → ProgramsFault → Type 0
 HasReadCause told job old new since_fault (Refused fault) = IsRefusedOn told job fault
 HasReadCause told job old new since_fault (Failed number) =
-    (stopped : ProgramJob) × StopsAt told job number stopped × Rose old.faults new.faults × (since_fault ≡ 0)
+    (stopped : ProgramJob) × StopsAtProgram told job number stopped × Rose old.faults new.faults × (since_fault ≡ 0)
 HasReadCause told job old new since_fault (Missing number) =
-    (stopped : ProgramJob) × StopsAt told job number stopped × Lacks told stopped.file × Rose old.absences new.absences × (since_fault ≡ 0)
+    (stopped : ProgramJob) × StopsAtProgram told job number stopped × Lacks told stopped.file × Rose old.absences new.absences × (since_fault ≡ 0)
 HasReadCause told job old new since_fault OutOfMemory = Unit {0}
 
 -- ---- a file that is probed

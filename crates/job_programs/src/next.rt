@@ -4,7 +4,7 @@ ghost use Rattle.std.specs.Prelude.{◌≡◌, ◌+◌, ◌≤◌, ◌<◌, true
 ghost use Rattle.job_report.specs.declared.limits.TheConstants.{START_MOST};
 ghost use Rattle.shelf_io.specs.Asked.{AsksUpTo};
 ghost use Rattle.version_table.specs.declared.limits.TheConstants.{SLOT_MOST};
-ghost use Rattle.program_reader.specs.Programs.{IsProgramOf, IsProgramRefused};
+ghost use Rattle.program_reader.specs.Programs.{IsProgramOfFile, IsProgramRefused};
 ghost use Rattle.program_reader.specs.Sizes.{AreProgramSizes};
 ghost use Rattle.job_programs.specs.Told.{CountReads};
 ghost use Rattle.job_programs.specs.Private.Behind.{IsProgramBehind};
@@ -151,7 +151,7 @@ fn wanted_program(
 ) -> Result<SizedProgram, ProgramFault>
     requires start { wanted.now.start ≤ START_MOST }
     requires coarser { length wanted.now.coarser.now < VERSIONS_MOST }
-    ensures program { MatchResult result (λ sized. IsProgramOf content.now wanted.now.number wanted.now.drop.now wanted.now.start sized.program)
+    ensures program { MatchResult result (λ sized. IsProgramOfFile content.now wanted.now.number wanted.now.drop.now wanted.now.start sized.program)
         (IsProgramRefused content.now wanted.now.number wanted.now.drop.now) }
     ensures sizes { IfOk result (λ sized. wanted.now.is_sized ≡ true → AreProgramSizes sized.program wanted.now.coarser.now sized.sizes) }
 {

@@ -7,7 +7,7 @@ use Rattle.payload_lists.specs.Payload.{CarriedPayload, Payload}
 use Rattle.audio_frames.specs.declared.frame.Frame.{Frame}
 use Rattle.pes_units.specs.PesHeader.{header_length}
 use Rattle.psi_tables.specs.declared.stream.Stream.{Stream}
-use Rattle.ts_packets.specs.TransportStream.{piece_count, pieces_of as packets_on}
+use Rattle.ts_packets.specs.TransportStream.{piece_count, pid_pieces as packets_on}
 use Rattle.ts_packets.specs.Carried.{carried}
 use Rattle.ts_demux.specs.declared.demuxed.AudioStream.{AudioStream}
 use Rattle.ts_demux.specs.declared.demuxed.PesUnit.{PesUnit}
@@ -17,11 +17,11 @@ use Rattle.program_reader.specs.Audio.{AreAudioSources, HaveFrames, IsAudioSourc
 use Rattle.program_reader.proofs.StreamLemmas.{HasPayload, taken_payloads}
 use Rattle.version_source.specs.Pieces.{audio_items, audio_payload, pes_pieces}
 use Rattle.layer_laws.specs.PesPieces.{CarryAll}
-use Rattle.stream_parsing.specs.Parsed.{CarriesPackets, CarryPackets, bytes_of}
+use Rattle.stream_parsing.specs.Parsed.{CarriesPackets, CarryPackets, bytes_of_packets}
 use Rattle.job_reading.proofs.SentAudios.{all-pieces}
 use Rattle.job_reading.proofs.SentVideos.{AllCarry, PiecesCarry}
 
-packets-carry : PiecesCarry → (packets : List PesUnit) → All HasPayload packets → CarryAll (bytes_of packets) (map pes_pieces (bytes_of packets))
+packets-carry : PiecesCarry → (packets : List PesUnit) → All HasPayload packets → CarryAll (bytes_of_packets packets) (map pes_pieces (bytes_of_packets packets))
 packets-carry law [] some = tt
 packets-carry law (p ∷ ps) some =
     let here : HasPayload p = All-head HasPayload p ps some in
@@ -32,13 +32,13 @@ singles : (bytes : List ℕ) (pieces : List AudioPiece)
 singles bytes [] = refl
 singles bytes (p ∷ ps) = ap (λ (rest : List Payload). audio_payload bytes p ∷ rest) (singles bytes ps)
 
-joined-cuts : (packets : List PesUnit) → flat_map (λ (packet : PesUnit). pes_pieces packet.bytes) packets ≡ flat_map (λ (payloads : List Payload). payloads) (map pes_pieces (bytes_of packets))
+joined-cuts : (packets : List PesUnit) → flat_map (λ (packet : PesUnit). pes_pieces packet.bytes) packets ≡ flat_map (λ (payloads : List Payload). payloads) (map pes_pieces (bytes_of_packets packets))
 joined-cuts [] = refl
 joined-cuts (p ∷ ps) = ap (λ (rest : List Payload). pes_pieces p.bytes ++ rest) (joined-cuts ps)
 
 pub audios-carry : PiecesCarry → (file : List ℕ) (packets : ℕ) → piece_count file ≡ packets → (start : ℕ) (earliest first : ℤ) (streams : List AudioStream) (frames : List (List Frame))
     (sources : List AudioSource) (audios : List Stream) → HaveFrames first streams frames → AreAudioSources start earliest streams frames sources
-    → AllCarry file packets (map (λ (stream : Stream). stream.pid) audios) (map audio_items sources) → CarryPackets file audios (map (λ (stream : AudioStream). bytes_of (taken_of stream)) streams)
+    → AllCarry file packets (map (λ (stream : Stream). stream.pid) audios) (map audio_items sources) → CarryPackets file audios (map (λ (stream : AudioStream). bytes_of_packets (taken_of stream)) streams)
 audios-carry law file packets count start earliest first [] [] [] [] have are carry = tt
 audios-carry law file packets count start earliest first [] [] [] (a ∷ more) have are carry = absurd carry
 audios-carry law file packets count start earliest first [] [] (s ∷ ss) audios have are carry = absurd are
@@ -52,8 +52,8 @@ audios-carry law file packets count start earliest first (x ∷ xs) (f ∷ fs) (
     let some : All HasPayload taken = taken_payloads x.units have.0.sound in
     let payloads : map (audio_payload s.bytes) s.pieces ≡ flat_map (λ (packet : PesUnit). pes_pieces packet.bytes) taken =
     all-pieces start earliest f s.bytes taken 0 0 [] s.pieces some is.bytes refl is.pieces in
-    let one : CarriesPackets file a.pid (bytes_of taken) = record {
-      cuts = map pes_pieces (bytes_of taken);
+    let one : CarriesPackets file a.pid (bytes_of_packets taken) = record {
+      cuts = map pes_pieces (bytes_of_packets taken);
       each = packets-carry law taken some;
       carried_are = ap (λ (k : ℕ). map (λ (c : CarriedPayload). c.payload) (carried (packets_on file a.pid 0 k))) count ∙ carry.0 ∙ singles s.bytes s.pieces ∙ payloads ∙ joined-cuts taken;
     } in

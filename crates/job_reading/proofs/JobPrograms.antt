@@ -6,7 +6,7 @@ use Rattle.std.proofs.lemmas.List.{length-map}
 use Rattle.std.proofs.lemmas.List.Elements.{All-append, All-cons, All-from_get_or, All-head, All-nil, All-tail, All-weaker}
 use Rattle.payload_lists.specs.Payload.{CarriedPayload}
 use Rattle.bit_lists.specs.Fields.{AreBytes}
-use Rattle.ts_packets.specs.TransportStream.{piece_count, pieces_of as packets_on}
+use Rattle.ts_packets.specs.TransportStream.{piece_count, pid_pieces as packets_on}
 use Rattle.ts_packets.specs.Carried.{carried}
 use Rattle.psi_tables.specs.declared.program_map.ProgramMap.{ProgramMap}
 use Rattle.psi_tables.specs.declared.stream.Stream.{Stream}
@@ -20,7 +20,7 @@ use Rattle.job_report.specs.declared.job.ProgramJob.{ProgramJob}
 use Rattle.job_report.specs.ValidJob.{HaveNumbersApart, IsValidProgramJob}
 use Rattle.program_reader.specs.declared.program.Program.{Program}
 use Rattle.program_reader.specs.Audio.{taken_of}
-use Rattle.program_reader.specs.Programs.{IsProgramOf}
+use Rattle.program_reader.specs.Programs.{IsProgramOfFile}
 use Rattle.version_maker.specs.declared.version.UnitVersion.{UnitVersion}
 use Rattle.version_source.specs.Pieces.{audio_items, stream_items, video_items}
 use Rattle.version_source.specs.Versions.{AreAllVersions, AreVideoVersions, ratios_of}
@@ -33,7 +33,7 @@ use Rattle.job_programs.specs.Programs.{AreNextPrograms}
 use Rattle.job_stream.proofs.ReadPrograms.{ReadIsSendable}
 use Rattle.job_stream.specs.Stream.{output_maps}
 use Rattle.output_reading.specs.SentOn.{AreRowsOf}
-use Rattle.stream_parsing.specs.Parsed.{AreReadAs, CarriesPackets, bytes_of, sent_packet}
+use Rattle.stream_parsing.specs.Parsed.{AreReadAs, CarriesPackets, bytes_of_packets, sent_packet}
 use Rattle.stream_parsing.specs.TakenOut.{BeginWithTables, HasStreams, IsNumberedIn, taken_out}
 use Rattle.stream_parsing.proofs.ProgramParts.{GatheredAgain, VideoAsWritten, audio-packets, stream-packets, units-read}
 use Rattle.job_reading.specs.ParsesTo.{ParsesTo, ParsesToProgram, sent_units}
@@ -113,7 +113,7 @@ module _ (law : ReadIsSendable) (taken : TakenOutLaw) (gathered : GatheredAgain)
   one-read : (n : ℕ) (job : ProgramJob) (jobs : List ProgramJob) (p : Program) (coarser : List ℕ) (v : List (List UnitVersion)) (choice : List ℕ) (before rest : List ProgramMap)
       (more : List CodedUnit)
       → layout.maps.items ≡ before ++ with_output_pids n job.number p.map ∷ rest → length before ≡ n → 1 ≤ job.number → All (IsOtherNumber (job ∷ jobs)) before → (content : List ℕ) (start : ℕ)
-      → IsProgramOf content job.program job.drop.items start p → AreBytes p.video
+      → IsProgramOfFile content job.program job.drop.items start p → AreBytes p.video
       → AreVideoVersions p.video coarser None p.units v → AllZip HasVersion (unit_rows job.weight p.units v ++ more) choice
       → AllCarry file (length rows) (pids_of (with_output_pids n job.number p.map)) (video_items p.units v choice ∷ map audio_items p.audios)
       → ParsesToProgram file content job (with_output_pids n job.number p.map) (sent_units p.units v choice)
@@ -129,7 +129,7 @@ module _ (law : ReadIsSendable) (taken : TakenOutLaw) (gathered : GatheredAgain)
         each = items-carry cut p.units v choice;
         carried_are = ap (λ (k : ℕ). map (λ (c : CarriedPayload). c.payload) (carried (packets_on file goes.video.pid 0 k))) count ∙ carry_streams.0;
       } in
-      let read : AreReadAs (sent_units p.units v choice) (bytes_of (taken_out file program_map goes.video goes.audios).video) =
+      let read : AreReadAs (sent_units p.units v choice) (bytes_of_packets (taken_out file program_map goes.video goes.audios).video) =
       subst (λ (bytes : List (List ℕ)). AreReadAs (sent_units p.units v choice) bytes) (sym (stream-packets gathered file goes.video (map sent_packet (sent_units p.units v choice)) carries))
       (units-read written (sent_units p.units v choice)
       (units-said job.weight p.video p.units v choice more ready.sendable.units (video-versions-some p.video coarser None p.units v versions) fits)) in
@@ -141,13 +141,13 @@ module _ (law : ReadIsSendable) (taken : TakenOutLaw) (gathered : GatheredAgain)
         whole = refl;
         video = read;
         units =
-            again (sent_units p.units v choice) (bytes_of (taken_out file program_map goes.video goes.audios).video) read
+            again (sent_units p.units v choice) (bytes_of_packets (taken_out file program_map goes.video goes.audios).video) read
             (sent-led job.weight p.video coarser None p.units v choice more versions (led content job.program job.drop.items start p coarser v bytes of versions) fits)
             (sent-whole job.weight None p.units v choice more (whole content job.program job.drop.items start p coarser v bytes of versions) fits);
         slices = sent-slices job.weight None p.units v choice more (whole content job.program job.drop.items start p coarser v bytes of versions) fits;
         source = of.demuxed;
         source_is = of.demuxed_is;
-        audio = audio-packets gathered file goes.audios (map (λ (stream : AudioStream). bytes_of (taken_of stream)) of.demuxed.audios)
+        audio = audio-packets gathered file goes.audios (map (λ (stream : AudioStream). bytes_of_packets (taken_of stream)) of.demuxed.audios)
             (audios-carry cut file (length rows) count start is.earliest is.first.stated of.demuxed.audios is.frames p.audios goes.audios is.have_frames is.audios_are carry_streams.1);
       }
 

@@ -2,7 +2,7 @@
 use Rattle.std.proofs.Common.{◌≡◌, ℕ, suc, List, [], ◌∷◌, length, refl, sym, ap, subst}
 use Rattle.job_report.specs.declared.job.ProgramJob.{ProgramJob}
 use Rattle.program_reader.specs.declared.program.Program.{Program}
-use Rattle.program_reader.specs.Programs.{IsProgramOf}
+use Rattle.program_reader.specs.Programs.{IsProgramOfFile}
 use Rattle.version_maker.specs.declared.version.UnitVersion.{UnitVersion}
 use Rattle.version_source.specs.Sendable.{IsSendable}
 use Rattle.version_source.specs.Versions.{AreAllVersions, ratios_of}
@@ -17,7 +17,7 @@ pub record IsReady (program : Program) : Type 0 where
   pub out : CanGoOut program
   pub sendable : IsSendable program
 
-pub ready-one : ReadIsSendable → (file : List ℕ) (number : ℕ) (dropped : List ℕ) (start : ℕ) (program : Program) → IsProgramOf file number dropped start program → IsReady program
+pub ready-one : ReadIsSendable → (file : List ℕ) (number : ℕ) (dropped : List ℕ) (start : ℕ) (program : Program) → IsProgramOfFile file number dropped start program → IsReady program
 ready-one law file number dropped start program of = record {
   kinds = subst HasKinds (sym of.program_is.map_is) (carried-kinds-are file number dropped of.demuxed.map of.demuxed.not_carried of.demuxed_is.tables);
   out = goes-out file number dropped start program of;

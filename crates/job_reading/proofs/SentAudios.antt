@@ -12,7 +12,7 @@ use Rattle.ts_demux.specs.declared.demuxed.PesUnit.{PesUnit}
 use Rattle.program_reader.specs.declared.pes_packets.PlacedPacket.{PlacedPacket}
 use Rattle.program_reader.specs.declared.program.AudioPiece.{AudioPiece}
 use Rattle.program_reader.specs.Audio.{ArePieces, IsPiece, packet_size, piece_size, placed_pieces}
-use Rattle.program_reader.specs.Packets.{payload_of, placed_from}
+use Rattle.program_reader.specs.Packets.{pes_payload_of, placed_from}
 use Rattle.program_reader.proofs.StreamLemmas.{HasPayload}
 use Rattle.program_reader.proofs.TakenLemmas.{placed_at}
 use Rattle.version_source.specs.Pieces.{audio_payload, pes_pieces, piece_of}
@@ -88,10 +88,10 @@ module _ (start : ℕ) (earliest : ℤ) (frames : List Frame) (bytes : List ℕ)
       let placed : PlacedPacket = placed_at from p in
       let here : HasPayload p = All-head HasPayload p ps some in
       let whole : packet_size placed ≡ length p.bytes = omega (arith, here, length-drop (header_length p.bytes) p.bytes) in
-      let later : List (PlacedPacket × ℕ × ℕ) = placed_pieces (at + packet_size placed) (placed_from (from + length (payload_of p)) ps) in
+      let later : List (PlacedPacket × ℕ × ℕ) = placed_pieces (at + packet_size placed) (placed_from (from + length (pes_payload_of p)) ps) in
       let turned = subst (λ (n : ℕ). ArePieces start earliest frames (map (λ (byte : ℕ). (placed, at, byte)) (map (λ (i : ℕ). 184 * i) (range_with_len 0 ((n + 183) / 184))) ++ later) pieces)
       whole are in
       let cut = packet-pieces p placed front (flat_map (λ (packet : PesUnit). packet.bytes) ps) at later split size whole ((length p.bytes + 183) / 184) 0 (omega arith) pieces turned in
-      let next = all-pieces ps (at + packet_size placed) (from + length (payload_of p)) (front ++ p.bytes) cut.rest (All-tail HasPayload p ps some)
+      let next = all-pieces ps (at + packet_size placed) (from + length (pes_payload_of p)) (front ++ p.bytes) cut.rest (All-tail HasPayload p ps some)
       (split ∙ sym (append_assoc front p.bytes (flat_map (λ (packet : PesUnit). packet.bytes) ps))) (omega (arith, size, whole, length-append front p.bytes)) cut.are in
       cut.payloads_are ∙ ap (λ (xs : List Payload). pes_pieces p.bytes ++ xs) next

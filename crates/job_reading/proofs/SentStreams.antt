@@ -6,7 +6,7 @@ use Rattle.std.specs.Option.{option_map_or}
 use Rattle.std.proofs.lemmas.List.{get_or-map, length-map}
 use Rattle.std.proofs.lemmas.Option.{slice_get-get_or}
 use Rattle.payload_lists.specs.Payload.{Payload}
-use Rattle.pes_units.specs.VideoHeader.{written_header}
+use Rattle.pes_units.specs.VideoHeader.{written_pes_header}
 use Rattle.version_table.specs.declared.table.AudioPacket.{AudioPacket}
 use Rattle.version_table.specs.declared.table.ProgramRow.{ProgramRow}
 use Rattle.version_table.specs.declared.table.Table.{Table}
@@ -41,8 +41,8 @@ packet-size weight unit versions k within =
     ap (λ found. option_map_or (λ (version : UnitVersion). version.bytes) found []) (slice_get-get_or versions k no_version within) in
     let row : version_at (unit_row weight unit versions) k ≡ row_version weight unit (get_or versions k no_version) =
     get_or-map (row_version weight unit) versions k no_version (record { bytes = 0; distortion = 0 }) within in
-    length-append (written_header unit.times) (chosen_bytes versions k)
-    ∙ ap (λ (bytes : List ℕ). length (written_header unit.times) + length bytes) chosen ∙ sym (ap (λ version. version.bytes) row)
+    length-append (written_pes_header unit.times) (chosen_bytes versions k)
+    ∙ ap (λ (bytes : List ℕ). length (written_pes_header unit.times) + length bytes) chosen ∙ sym (ap (λ version. version.bytes) row)
 
 unit-pieces : AsQueued → (weight : ℕ) (unit : UnitSource) (versions : List UnitVersion) (k : ℕ) → k < length (map (row_version weight unit) versions)
     → length (pes_pieces (pes_packet unit (chosen_bytes versions k))) ≡ length (payloads (version_at (unit_row weight unit versions) k).bytes)

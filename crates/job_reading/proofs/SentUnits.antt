@@ -14,7 +14,7 @@ use Rattle.version_table.specs.declared.table.Unit.{Unit as CodedUnit}
 use Rattle.version_table.specs.Choice.{HasVersion}
 use Rattle.program_reader.specs.declared.program.Program.{Program}
 use Rattle.program_reader.specs.declared.program.UnitSource.{UnitSource}
-use Rattle.program_reader.specs.Programs.{IsProgramOf}
+use Rattle.program_reader.specs.Programs.{IsProgramOfFile}
 use Rattle.version_maker.specs.declared.version.UnitVersion.{UnitVersion}
 use Rattle.version_source.specs.Versions.{AreVideoVersions, chosen_bytes}
 use Rattle.version_units.specs.OwnCodes.{HasNoCodeInSlices, HaveNoCodeInSlices, codes_from, own_codes}
@@ -29,12 +29,12 @@ use Rattle.job_reading.specs.ParsesTo.{sent_units}
 abbrev pub VersionsAreWhole : Type 0
 VersionsAreWhole =
     (content : List ℕ) (number : ℕ) (dropped : List ℕ) (start : ℕ) (program : Program) (coarser : List ℕ) (versions : List (List UnitVersion)) → AreBytes program.video
-    → IsProgramOf content number dropped start program → AreVideoVersions program.video coarser None program.units versions → AreWholeVersions None versions
+    → IsProgramOfFile content number dropped start program → AreVideoVersions program.video coarser None program.units versions → AreWholeVersions None versions
 
 abbrev pub VersionsAreLed : Type 0
 VersionsAreLed =
     (content : List ℕ) (number : ℕ) (dropped : List ℕ) (start : ℕ) (program : Program) (coarser : List ℕ) (versions : List (List UnitVersion)) → AreBytes program.video
-    → IsProgramOf content number dropped start program → AreVideoVersions program.video coarser None program.units versions → BeginWithSequence versions
+    → IsProgramOfFile content number dropped start program → AreVideoVersions program.video coarser None program.units versions → BeginWithSequence versions
 
 abbrev pub bytes_sent : List SentUnit → List (List ℕ)
 bytes_sent units = map (λ (unit : SentUnit). unit.bytes) units

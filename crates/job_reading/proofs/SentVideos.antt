@@ -6,9 +6,9 @@ use Rattle.std.proofs.lemmas.List.{length-map}
 use Rattle.std.proofs.lemmas.List.Elements.{All-cons, All-get_or, All-head, All-nil, All-tail}
 use Rattle.std.proofs.lemmas.Option.{slice_get-get_or}
 use Rattle.payload_lists.specs.Payload.{Payload, CarriedPayload}
-use Rattle.ts_packets.specs.TransportStream.{pieces_of as packets_on}
+use Rattle.ts_packets.specs.TransportStream.{pid_pieces as packets_on}
 use Rattle.ts_packets.specs.Carried.{carried}
-use Rattle.pes_units.specs.VideoHeader.{written_header}
+use Rattle.pes_units.specs.VideoHeader.{written_pes_header}
 use Rattle.version_table.specs.declared.table.Unit.{Unit as CodedUnit}
 use Rattle.version_table.specs.Choice.{HasVersion}
 use Rattle.program_reader.specs.declared.program.UnitSource.{UnitSource}
@@ -62,7 +62,7 @@ items-carry law [] versions choice = tt
 items-carry law (u ∷ us) [] choice = tt
 items-carry law (u ∷ us) (v ∷ vs) [] = tt
 items-carry law (u ∷ us) (v ∷ vs) (k ∷ choice) =
-    (law (pes_packet u (chosen_bytes v k)) (omega (arith, length-append (written_header u.times) (chosen_bytes v k))), items-carry law us vs choice)
+    (law (pes_packet u (chosen_bytes v k)) (omega (arith, length-append (written_pes_header u.times) (chosen_bytes v k))), items-carry law us vs choice)
 
 no_version : UnitVersion
 no_version = record { bytes = []; distortion = 0 }

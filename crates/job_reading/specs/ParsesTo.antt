@@ -14,7 +14,7 @@ use Rattle.version_source.specs.Versions.{chosen_bytes}
 use Rattle.version_units.specs.OwnCodes.{HaveNoCodeInSlices}
 use Rattle.mux_writer.specs.Layout.{with_output_pids}
 use Rattle.layer_laws.specs.WholeUnits.{placed_units}
-use Rattle.stream_parsing.specs.Parsed.{AreReadAs, SentUnit, bytes_of, joined_payloads}
+use Rattle.stream_parsing.specs.Parsed.{AreReadAs, SentUnit, bytes_of_packets, joined_payloads}
 
 -- units of a video as they go out: each with its times, in the version that the choice names
 abbrev pub sent_units : List UnitSource → List (List UnitVersion) → (choice : List ℕ) → List SentUnit
@@ -30,13 +30,13 @@ pub record ParsesToProgram (stream content : List ℕ) (job : ProgramJob) (progr
   pub taken_out : IsDemuxed stream program_map.number [] demuxed
   pub map_is : demuxed.map ≡ without_dropped program_map
   pub whole : demuxed.not_carried ≡ []
-  pub video : AreReadAs sent (bytes_of demuxed.video)
-  pub units : cut_units (joined_payloads (bytes_of demuxed.video))
+  pub video : AreReadAs sent (bytes_of_packets demuxed.video)
+  pub units : cut_units (joined_payloads (bytes_of_packets demuxed.video))
       ≡ Some (record { dropped = 0; cuts = placed_units 0 (map (λ unit. unit.bytes) sent) })
   pub slices : HaveNoCodeInSlices None (map (λ unit. unit.bytes) sent)
   pub source : Demuxed
   pub source_is : IsDemuxed content job.program job.drop.items source
-  pub audio : map (λ audio. bytes_of audio.units) demuxed.audios ≡ map (λ audio. bytes_of (taken_of audio)) source.audios
+  pub audio : map (λ audio. bytes_of_packets audio.units) demuxed.audios ≡ map (λ audio. bytes_of_packets (taken_of audio)) source.audios
 
 -- A stream parses to the programs of a job, whose files have these contents; the first program has this number from 0. Each is there under the number that the
 -- job gives it, each of its pictures in the version that its part of the choice names.

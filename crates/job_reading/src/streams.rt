@@ -7,7 +7,7 @@ ghost use Rattle.version_table.specs.Choice.{Fits};
 ghost use Rattle.version_table.specs.Table.{IsValidTable};
 ghost use Rattle.slot_rule.specs.declared.slot_list.SlotList.{SlotList};
 ghost use Rattle.slot_rule.specs.SlotList.{IsSlotList};
-ghost use Rattle.ts_packets.specs.TransportStream.{pieces_of as packets_on};
+ghost use Rattle.ts_packets.specs.TransportStream.{pid_pieces as packets_on};
 ghost use Rattle.ts_packets.specs.Carried.{carried};
 ghost use Rattle.job_report.specs.declared.job.Job.{Job};
 ghost use Rattle.job_report.specs.ValidJob.{IsValidJob};

@@ -5,7 +5,7 @@ use Rattle.std.specs.Prelude.{IfOk, IfErr}
 use Rattle.toml.specs.Data.{Data, string, Members}
 use Rattle.job_report.specs.declared.job.Job.{Job as JobValue}
 use Rattle.job_report.specs.declared.job.ProgramJob.{ProgramJob}
-use Rattle.job_report.specs.Job.{integer_of, array_of, IsProgramOf, AreProgramsOf, IsJobOf}
+use Rattle.job_report.specs.Job.{integer_of, array_of, StatesProgram, AreProgramsOf, IsJobOf}
 use Rattle.job_report.specs.Field.{natural_of, values_in}
 use Rattle.job_report.specs.JobText.{IsDocument, SpellsJob, IsRefusedDocument, JobAnswer, Spelled, NoDocument, Refused, HasAnswer, IsJobFaultOf, Gives}
 use Rattle.job_report.specs.declared.fault.JobFault.{JobFault}
@@ -48,7 +48,7 @@ same_program p q file program number weight coarser drop = λ i. record {
   drop = record { items = drop i };
 }
 
-one_program : (stated : Members) (p q : ProgramJob) → IsProgramOf stated p → IsProgramOf stated q → p ≡ q
+one_program : (stated : Members) (p q : ProgramJob) → StatesProgram stated p → StatesProgram stated q → p ≡ q
 one_program stated p q a b = same_program p q
     (one_text _ _ (same_Some _ _ (sym a.file ∙ b.file)))
     (one_stated _ _ a.program b.program)

@@ -8,7 +8,7 @@ use Rattle.toml.specs.declared.value.Value.{Value}
 use Rattle.job_report.specs.declared.fault.JobFault.{JobFault}
 use Rattle.job_report.specs.declared.job.ProgramJob.{ProgramJob}
 use Rattle.job_report.specs.Field.{program_fields, number_of_program}
-use Rattle.job_report.specs.Job.{IsProgramOf, AreProgramsOf}
+use Rattle.job_report.specs.Job.{StatesProgram, AreProgramsOf}
 use Rattle.job_report.specs.Refusal.{refusals_of_table, refusals_of_programs, place_of_program, tables_among}
 use Rattle.job_report.specs.Private.Fault.{TellsFirst}
 use Rattle.job_report.specs.Private.Programs.{AreReadSoFar, numbers_of_programs}
@@ -16,7 +16,7 @@ use Rattle.job_report.proofs.Firsts.{tells_here}
 
 -- one table more, and its program
 pub are_programs-push : (tables : List Members) (programs : List ProgramJob) (stated : Members) (program : ProgramJob) → AreProgramsOf tables programs
-    → IsProgramOf stated program → AreProgramsOf (tables ++ stated ∷ []) (programs ++ program ∷ [])
+    → StatesProgram stated program → AreProgramsOf (tables ++ stated ∷ []) (programs ++ program ∷ [])
 are_programs-push [] [] stated program h is = (is, tt)
 are_programs-push (t ∷ tables) (p ∷ programs) stated program h is = (h.0, are_programs-push tables programs stated program h.1 is)
 are_programs-push [] (p ∷ programs) stated program h is = absurd h
@@ -59,7 +59,7 @@ rest-table values i value stated programs h within at some =
 pub so_far-table : (values : List Data) (i : ℕ) (value : Data) (stated : Members) (programs : List ProgramJob) (program : ProgramJob)
     → AreReadSoFar values i programs → i < length values → get_or values i value ≡ value → as_table value ≡ Some stated
     → refusals_of_table (place_of_program (length programs)) stated (program_fields (numbers_of_programs programs)) ≡ []
-    → IsProgramOf stated program → AreReadSoFar values (i + 1) (programs ++ program ∷ [])
+    → StatesProgram stated program → AreReadSoFar values (i + 1) (programs ++ program ∷ [])
 so_far-table values i value stated programs program h within at some right is = record {
   few = omega (arith, h.few, length-append programs (program ∷ []));
   stated = rw (tables-take values i value within at, some) (are_programs-push (tables_among (take i values)) programs stated program h.stated is);
@@ -70,7 +70,7 @@ so_far-table values i value stated programs program h within at some right is = 
     map-push [] program = refl
     map-push (p ∷ programs) program = ap (λ ns. p.number ∷ ns) (map-push programs program)
 
-    number : {stated : Members} {program : ProgramJob} → IsProgramOf stated program → number_of_program stated ≡ program.number
+    number : {stated : Members} {program : ProgramJob} → StatesProgram stated program → number_of_program stated ≡ program.number
     number is = rw is.number refl
 
 -- a table with which something is wrong

@@ -89,7 +89,7 @@ use Rattle.job_report.specs.Refusal.{
   tables_among,
   stated_tables,
 }
-use Rattle.job_report.specs.Job.{integer_of, array_of, IsProgramOf, AreProgramsOf, IsJobOf}
+use Rattle.job_report.specs.Job.{integer_of, array_of, StatesProgram, AreProgramsOf, IsJobOf}
 use Rattle.job_report.specs.JobText.{SpellsJob}
 use Rattle.job_report.specs.declared.fault.JobFault.{JobFault}
 use Rattle.job_report.specs.ValidJob.{IsCoarseness, IsValidProgramJob, HaveNumbersApart, IsValidJob}
@@ -138,7 +138,7 @@ default_drop = record { of_type = refl; within = refl }
 
 -- a program with which nothing is wrong
 pub valid_program : (place : List ℕ) (taken : List ℕ) (members : Members) (job : ProgramJob)
-    → refusals_of_table place members (program_fields taken) ≡ [] → IsProgramOf members job
+    → refusals_of_table place members (program_fields taken) ≡ [] → StatesProgram members job
     → IsValidProgramJob job × (list_any (λ n. n == job.number) taken ≡ false)
 valid_program place taken members job none is =
     let six = six_right _ _ _ _ _ _ (none_before (flat_map (refusals_of_field place members) (program_fields taken)) (refusals_of_names place members (program_fields taken)) none) in

@@ -24,7 +24,7 @@ abbrev pub stated_or : Data → List ℕ → Members → Data
 stated_or default name members = unwrap_or (get_member name members) default
 
 -- a table states this program
-pub record IsProgramOf (members : Members) (job : ProgramJob) : Type 0 where
+pub record StatesProgram (members : Members) (job : ProgramJob) : Type 0 where
   pub file : get_member (codes "file") members ≡ Some (string job.file)
   pub program : get_member (codes "program") members ≡ Some (integer_of job.program)
   pub number : get_member (codes "number") members ≡ Some (integer_of job.number)
@@ -35,7 +35,7 @@ pub record IsProgramOf (members : Members) (job : ProgramJob) : Type 0 where
 -- tables state these programs, one each, in order
 abbrev pub AreProgramsOf : List Members → List ProgramJob → Type 0
 AreProgramsOf [] [] = Unit {0}
-AreProgramsOf (members ∷ tables) (program ∷ programs) = IsProgramOf members program × AreProgramsOf tables programs
+AreProgramsOf (members ∷ tables) (program ∷ programs) = StatesProgram members program × AreProgramsOf tables programs
 AreProgramsOf tables programs = ⊥
 
 -- a document states this job

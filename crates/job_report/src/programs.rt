@@ -4,7 +4,7 @@ ghost use Rattle.std.specs.Prelude.{◌≡◌, ◌<◌, ◌≤◌, [], length, m
 ghost use Rattle.toml.specs.View.{view, table_view};
 ghost use Rattle.job_report.specs.Field.{program_fields};
 ghost use Rattle.job_report.specs.Refusal.{refusals_of_table, refusals_of_programs, place_of_program, tables_among};
-ghost use Rattle.job_report.specs.Job.{IsProgramOf, AreProgramsOf};
+ghost use Rattle.job_report.specs.Job.{StatesProgram, AreProgramsOf};
 ghost use Rattle.job_report.specs.Private.Fault.{TellsFirst};
 
 use crate::fault::JobFault;
@@ -42,7 +42,7 @@ pub(crate) fn read_programs(alloc: Global, values: &[Value]) -> Result<ListOf<Pr
 fn read_program(alloc: Global, table: &Table, before: &[ProgramJob]) -> Result<ProgramJob, JobFault>
     requires { length before.now < PROGRAMS_MOST }
     ensures right { IfOk result (λ job. refusals_of_table (place_of_program (length before.now)) (table_view table.now) (program_fields (map (λ program. program.number) before.now)) ≡ []) }
-    ensures program { IfOk result (IsProgramOf (table_view table.now)) }
+    ensures program { IfOk result (StatesProgram (table_view table.now)) }
     ensures wrong { IfErr result (TellsFirst (refusals_of_table (place_of_program (length before.now)) (table_view table.now) (program_fields (map (λ program. program.number) before.now)))) }
 {
     let place = Place::Program(before.len() as u8);

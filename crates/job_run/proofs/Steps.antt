@@ -9,10 +9,10 @@ use Rattle.shelf_io.proofs.Counted.{rose_later}
 use Rattle.job_report.specs.declared.job.Job.{Job}
 use Rattle.job_report.specs.declared.job.ProgramJob.{ProgramJob}
 use Rattle.job_report.specs.ValidJob.{IsValidJob}
-use Rattle.job_programs.specs.Told.{AreProgramsOn, CountReads, StopsAt}
+use Rattle.job_programs.specs.Told.{AreProgramsOn, CountReads, StopsAtProgram}
 use Rattle.job_programs.specs.Programs.{AreNextPrograms, ArePrograms}
 use Rattle.program_reader.specs.declared.program.Program.{Program}
-use Rattle.program_reader.specs.Programs.{IsProgramOf}
+use Rattle.program_reader.specs.Programs.{IsProgramOfFile}
 use Rattle.version_source.specs.Sendable.{IsSendable}
 use Rattle.program_table.specs.Table.{IsTableOf}
 use Rattle.version_table.specs.declared.table.Table.{Table}
@@ -28,7 +28,7 @@ use Rattle.job_run.specs.Private.Texts.{IsTextStop}
 
 -- a program that a file holds can be sent
 abbrev pub HeldIsSendable : Type 0
-HeldIsSendable = (file : List ℕ) (number : ℕ) (dropped : List ℕ) (start : ℕ) (program : Program) → IsProgramOf file number dropped start program → IsSendable program
+HeldIsSendable = (file : List ℕ) (number : ℕ) (dropped : List ℕ) (start : ℕ) (program : Program) → IsProgramOfFile file number dropped start program → IsSendable program
 
 -- so the programs of jobs can be
 pub can_be_sent : HeldIsSendable → (slot start : ℕ) (contents : List (List ℕ)) (programs : List Program) (jobs : List ProgramJob) (further : List (List ℕ)) (more : List Program)
@@ -139,12 +139,12 @@ missing_stops told name named file old new since (Unread other) next lacks rose 
 missing_stops told name named file old new since OutOfMemory next lacks rose last is = tt
 
 -- a program at which reading stopped
-pub program_at : (told : Option Files) (job : Job) (number : ℕ) (stopped : ProgramJob) → StopsAt told job number stopped → IsProgramAt job number stopped
+pub program_at : (told : Option Files) (job : Job) (number : ℕ) (stopped : ProgramJob) → StopsAtProgram told job number stopped → IsProgramAt job number stopped
 program_at told job number stopped stops = record { before = stops.before; after = stops.after; split = stops.split; number_is = stops.number_is }
 
 -- its file couldn't be read
 pub unread_program : (told : Option Files) (job : Job) (number : ℕ) (stopped : ProgramJob) (file : List ℕ) (old new : ShelfCounts) (since : ℕ) (stop : JobStop)
-    → StopsAt told job number stopped → Rose old.faults new.faults → since ≡ 0 → file ≡ stopped.file → IsUnread file stop → StopsJob told job old new since stop
+    → StopsAtProgram told job number stopped → Rose old.faults new.faults → since ≡ 0 → file ≡ stopped.file → IsUnread file stop → StopsJob told job old new since stop
 unread_program told job number stopped file old new since (Unread other) stops rose last is unread =
     (record { number = number; program = stopped; stops = stops; file_is = unread ∙ is }, rose, last)
 unread_program told job number stopped file old new since (Text refusal) stops rose last is unread = absurd unread
@@ -154,7 +154,7 @@ unread_program told job number stopped file old new since OutOfMemory stops rose
 
 -- or isn't there
 pub missing_program : (told : Option Files) (job : Job) (number : ℕ) (stopped : ProgramJob) (file : List ℕ) (old new : ShelfCounts) (since : ℕ) (stop : JobStop)
-    → StopsAt told job number stopped → Lacks told stopped.file → Rose old.absences new.absences → since ≡ 0 → file ≡ stopped.file → IsMissing file stop
+    → StopsAtProgram told job number stopped → Lacks told stopped.file → Rose old.absences new.absences → since ≡ 0 → file ≡ stopped.file → IsMissing file stop
     → StopsJob told job old new since stop
 missing_program told job number stopped file old new since (Missing other) stops lacks rose last is missing = (
   record { number = number; program = stopped; stops = stops; file_is = missing ∙ is },

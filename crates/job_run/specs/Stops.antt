@@ -6,7 +6,7 @@ use Rattle.job_report.specs.declared.limits.TheConstants.{JOB_TEXT_MOST}
 use Rattle.job_report.specs.declared.job.Job.{Job}
 use Rattle.job_report.specs.declared.job.ProgramJob.{ProgramJob}
 use Rattle.job_programs.specs.declared.source_fault.SourceFault.{SourceFault}
-use Rattle.job_programs.specs.Told.{IsRefusedOn, StopsAt}
+use Rattle.job_programs.specs.Told.{IsRefusedOn, StopsAtProgram}
 use Rattle.program_reader.specs.declared.limits.TheConstants.{FILE_BYTES_MOST}
 use Rattle.job_run.specs.declared.job_stop.JobStop.{JobStop}
 use Rattle.job_run.specs.declared.job_stop.JobStop.TheVariants.{Text, Source, Unread, Missing, OutOfMemory}
@@ -24,7 +24,7 @@ pub record IsNextProgramFile (told : Option Files) (name : List ℕ) (named : Li
   pub holds : HoldsJob told name named job
   pub number : ℕ
   pub program : ProgramJob
-  pub stops : StopsAt told job number program
+  pub stops : StopsAtProgram told job number program
   pub file_is : file ≡ program.file
 
 -- the next file that is read for the job in a file: its own, or that of a program

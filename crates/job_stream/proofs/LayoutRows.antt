@@ -9,7 +9,7 @@ use Rattle.slot_rule.specs.declared.slot_list.SlotList.{SlotList}
 use Rattle.job_report.specs.declared.job.Job.{Job}
 use Rattle.job_report.specs.declared.job.ProgramJob.{ProgramJob}
 use Rattle.program_reader.specs.declared.program.Program.{Program}
-use Rattle.program_reader.specs.Programs.{IsProgramOf}
+use Rattle.program_reader.specs.Programs.{IsProgramOfFile}
 use Rattle.version_maker.specs.declared.version.UnitVersion.{UnitVersion}
 use Rattle.version_source.specs.Pieces.{HasPiece, pieces_of, stream_items}
 use Rattle.version_source.specs.Versions.{AreAllVersions, ratios_of}
@@ -36,7 +36,7 @@ layout-is-one job programs few ready =
 abbrev HasKinds : Program → Type 0
 HasKinds program = All (λ (stream : Stream). stream.kind < 2 ^ 8) program.map.streams.items
 
-kinds-of : (file : List ℕ) (number : ℕ) (dropped : List ℕ) (start : ℕ) (program : Program) → IsProgramOf file number dropped start program → HasKinds program
+kinds-of : (file : List ℕ) (number : ℕ) (dropped : List ℕ) (start : ℕ) (program : Program) → IsProgramOfFile file number dropped start program → HasKinds program
 kinds-of file number dropped start program of =
     subst (λ (m : ProgramMap). All (λ (stream : Stream). stream.kind < 2 ^ 8) m.streams.items) (sym of.program_is.map_is)
     (carried-kinds file number dropped of.demuxed.map of.demuxed.not_carried of.demuxed_is.tables)

@@ -14,7 +14,7 @@ use Rattle.program_reader.specs.declared.program.Program.{Program}
 use Rattle.program_reader.specs.declared.program.UnitSource.{UnitSource}
 use Rattle.version_maker.specs.declared.version.UnitVersion.{UnitVersion}
 use Rattle.version_maker.specs.Versions.{AreVersions}
-use Rattle.version_source.specs.Sendable.{bytes_of}
+use Rattle.version_source.specs.Sendable.{bytes_of_unit}
 use Rattle.version_source.specs.Versions.{AreAllVersions, AreVideoVersions, NamesVersions, ratios_of}
 use Rattle.program_table.specs.Table.{IsTableOf, program_rows, row_version, unit_rows}
 
@@ -69,7 +69,7 @@ own-named weight es coarser before [] (v ∷ vs) own are fits = absurd are
 own-named weight es coarser before (u ∷ us) [] own are fits = absurd are
 own-named weight es coarser before (u ∷ us) (v ∷ vs) [] are fits = absurd fits
 own-named weight es coarser before (u ∷ us) (v ∷ vs) (o ∷ os) (after, leaves, here, rest) (has, more) =
-    let count : length v ≡ suc (length coarser) = versions-count before (bytes_of es u) coarser v here in
+    let count : length v ≡ suc (length coarser) = versions-count before (bytes_of_unit es u) coarser v here in
     let same : length (map (row_version weight u) v) ≡ length v = length-map v (row_version weight u) in
     let within : o ≤ length coarser = omega (arith, has, same, count) in
     All-cons (λ index. index ≤ length coarser) o os within (own-named weight es coarser (Some after) us vs os rest more)

@@ -8,7 +8,7 @@ use Rattle.std.proofs.lemmas.List.FromFn.{length-range_with_len}
 use Rattle.std.proofs.lemmas.List.Sums.{sum_by-cons}
 use Rattle.std.proofs.lemmas.Option.{none-some, same_Some}
 use Rattle.payload_lists.specs.Payload.{Payload}
-use Rattle.pes_units.specs.VideoHeader.{written_header}
+use Rattle.pes_units.specs.VideoHeader.{written_pes_header}
 use Rattle.job_report.specs.declared.job.ProgramJob.{ProgramJob}
 use Rattle.version_table.specs.declared.table.AudioPacket.{AudioPacket}
 use Rattle.version_table.specs.declared.table.ProgramRow.{ProgramRow}
@@ -41,7 +41,7 @@ piece-within packet k within =
 version-bytes : (weight : ℕ) (unit : UnitSource) (versions : List UnitVersion) (k n : ℕ) → n < (slice_index_or (map (row_version weight unit) versions) k (record { bytes = 0; distortion = 0 })).bytes
     → n < length (pes_packet unit (chosen_bytes versions k))
 version-bytes weight unit [] k n below = absurd (omega (arith, below))
-version-bytes weight unit (v ∷ vs) zero n below = omega (arith, below, length-append (written_header unit.times) v.bytes)
+version-bytes weight unit (v ∷ vs) zero n below = omega (arith, below, length-append (written_pes_header unit.times) v.bytes)
 version-bytes weight unit (v ∷ vs) (suc k) n below = version-bytes weight unit vs k n below
 
 -- a piece of a unit that a row has

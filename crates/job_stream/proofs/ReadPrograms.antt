@@ -7,13 +7,13 @@ use Rattle.psi_tables.specs.declared.program_map.ProgramMap.{ProgramMap}
 use Rattle.psi_tables.specs.Pmt.{IsWritableMap, pmt_length}
 use Rattle.ts_demux.specs.declared.demuxed.AudioStream.{AudioStream}
 use Rattle.ts_demux.specs.declared.demuxed.Demuxed.{Demuxed}
-use Rattle.ts_demux.specs.Demux.{IsDemuxed, packets_of}
+use Rattle.ts_demux.specs.Demux.{IsDemuxed, pes_packets_on}
 use Rattle.job_report.specs.declared.job.Job.{Job}
 use Rattle.job_report.specs.declared.job.ProgramJob.{ProgramJob}
 use Rattle.program_reader.specs.declared.program.AudioSource.{AudioSource}
 use Rattle.program_reader.specs.declared.program.Program.{Program}
 use Rattle.program_reader.specs.Audio.{AreAudioSources}
-use Rattle.program_reader.specs.Programs.{IsProgram, IsProgramOf}
+use Rattle.program_reader.specs.Programs.{IsProgram, IsProgramOfFile}
 use Rattle.version_source.specs.Sendable.{IsSendable}
 use Rattle.job_programs.specs.Programs.{AreNextPrograms, ArePrograms}
 use Rattle.job_stream.specs.Private.Outgoing.{CanGoOut}
@@ -30,12 +30,12 @@ as-many-audios start earliest (x ∷ xs) (f ∷ fs) [] are = absurd are
 as-many-audios start earliest (x ∷ xs) (f ∷ fs) (s ∷ ss) are = ap suc (as-many-audios start earliest xs fs ss are.1)
 
 -- a program that was read can go out
-pub goes-out : (file : List ℕ) (number : ℕ) (dropped : List ℕ) (start : ℕ) (program : Program) → IsProgramOf file number dropped start program → CanGoOut program
+pub goes-out : (file : List ℕ) (number : ℕ) (dropped : List ℕ) (start : ℕ) (program : Program) → IsProgramOfFile file number dropped start program → CanGoOut program
 goes-out file number dropped start program of =
     let is : IsProgram start of.demuxed program = of.program_is in
     let demuxed : IsDemuxed file number dropped of.demuxed = of.demuxed_is in
     let audios : length of.demuxed.audios ≡ length program.audios = as-many-audios start is.earliest of.demuxed.audios is.frames program.audios is.audios_are in
-    let streams : length of.demuxed.audios ≡ length demuxed.audios = ap length demuxed.audio_packets ∙ length-map demuxed.audios (packets_of file) in
+    let streams : length of.demuxed.audios ≡ length demuxed.audios = ap length demuxed.audio_packets ∙ length-map demuxed.audios (pes_packets_on file) in
     let carried : length of.demuxed.map.streams.items ≡ length demuxed.audios + 1 = omega (arith, ap length demuxed.streams) in
     let one : length program.map.streams.items ≡ length of.demuxed.map.streams.items = ap (λ (m : ProgramMap). length m.streams.items) is.map_is in record {
       writable = subst IsWritableMap (sym is.map_is) (carried-writable file number dropped of.demuxed.map of.demuxed.not_carried demuxed.tables);

@@ -51,8 +51,8 @@ use Rattle.stream_constants.specs.declared.packets.TheConstants.{PACKET_BYTES}
 use Rattle.payload_lists.specs.Payload.{Payload, CarriedPayload}
 use Rattle.ts_packets.specs.declared.packet_fault.PacketFault.{PacketFault}
 use Rattle.ts_packets.specs.declared.pid_fault.PidFault.TheVariants.{Refused}
-use Rattle.ts_packets.specs.Packet.{PacketRecord, fields_of, packet_identifier, packet_of, refusal}
-use Rattle.ts_packets.specs.TransportStream.{Piece, is_of_pid, packets, piece_at, piece_count, pieces_of}
+use Rattle.ts_packets.specs.Packet.{PacketRecord, fields_of, packet_identifier, packet_of, transport_refusal}
+use Rattle.ts_packets.specs.TransportStream.{Piece, is_of_pid, packets, piece_at, piece_count, pid_pieces}
 use Rattle.ts_packets.specs.Carried.{
   PlacedPacket,
   carried,
@@ -140,15 +140,15 @@ module _ (file : List ℕ) (list : List PacketRecord) (read : packets file ≡ m
 
 -- what is kept of bytes that are a packet
 record IsOf (packet : PacketRecord) (bytes : List ℕ) : Type 0 where
-  pub passes : refusal bytes ≡ None
+  pub passes : transport_refusal bytes ≡ None
   pub is : packet_of bytes ≡ Some packet
   pub fields : fields_of bytes ≡ packet
   pub pid : packet_identifier bytes ≡ packet.pid
 
 is_of : (packet : PacketRecord) (bytes : List ℕ) → packet_of bytes ≡ Some packet → IsOf packet bytes
-is_of packet bytes is = by_refusal (refusal bytes) refl
+is_of packet bytes is = by_refusal (transport_refusal bytes) refl
   where
-    by_refusal : (found : Option PacketFault) → refusal bytes ≡ found → IsOf packet bytes
+    by_refusal : (found : Option PacketFault) → transport_refusal bytes ≡ found → IsOf packet bytes
     by_refusal None none =
         let same : Some (fields_of bytes) ≡ Some packet = sym (let e : packet_of bytes ≡ Some (fields_of bytes) = rw none refl in e) ∙ is in
         let fields : fields_of bytes ≡ packet = cc in
@@ -210,9 +210,9 @@ module _ (file : List ℕ) (list : List PacketRecord) (pid : ℕ) (read : packet
       (rise-behind (filter test (take from list)) _ (subst RiseByOne split rise))
 
   pub carried-are : (from to : ℕ) → AreCounted pid list → from ≤ to → to ≤ length list
-      → map (λ (carried : CarriedPayload). carried.payload) (carried (pieces_of file pid from to)) ≡ payloads_on pid (take (to - from) (drop from list))
+      → map (λ (carried : CarriedPayload). carried.payload) (carried (pid_pieces file pid from to)) ≡ payloads_on pid (take (to - from) (drop from list))
   carried-are from to counted begun within =
-      let found : List PlacedPacket = payload_packets (pieces_of file pid from to) in
+      let found : List PlacedPacket = payload_packets (pid_pieces file pid from to) in
       let are : records found ≡ filter (has_payload_on pid) (take (to - from) (drop from list)) = in_range (to - from) from (omega (arith, begun, within)) in
       ap (λ (packets : List PlacedPacket). map (λ (carried : CarriedPayload). carried.payload) (map carried_by packets))
       (all_carried found (subst RiseByOne (sym are) (part_rises (to - from) from counted.counters)))
@@ -232,13 +232,13 @@ module _ (file : List ℕ) (list : List PacketRecord) (pid : ℕ) (read : packet
       ∙ ap (λ (packet : PacketRecord). take (n - from) (drop from list) ++ packet ∷ []) (get_or-drop from list (n - from) no_packet ∙ ap (λ (k : ℕ). get_or list k no_packet) place)
 
   no_gap : (from n : ℕ) → AreCounted pid list → from ≤ n → n < length list → is_of_pid file pid n ≡ true → (some : Bool) → nat_lt 0 (length (get_or list n no_packet).payload) ≡ some
-      → has_gap (pieces_of file pid from n) (get_or list n no_packet) ≡ false
+      → has_gap (pid_pieces file pid from n) (get_or list n no_packet) ≡ false
   no_gap from n counted begun within of false is = and_left _ _ is
   no_gap from n counted begun within of true is =
       let packet : PacketRecord = get_or list n no_packet in
       let test : PacketRecord → Bool = has_payload_on pid in
       let is_packet : IsOf packet (piece_at file n) = is_of packet (piece_at file n) (packet_at file list read n within) in
-      let found : List PlacedPacket = payload_packets (pieces_of file pid from n) in
+      let found : List PlacedPacket = payload_packets (pid_pieces file pid from n) in
       let same : (packet.pid == pid) ≡ true = ap (λ (k : ℕ). k == pid) (sym is_packet.pid) ∙ of in
       let kept : filter test (packet ∷ []) ≡ packet ∷ [] = rw (same, is) refl in
       let all : filter test (take (suc (n - from)) (drop from list)) ≡ records found ++ packet ∷ [] =
@@ -257,11 +257,11 @@ module _ (file : List ℕ) (list : List PacketRecord) (pid : ℕ) (read : packet
       → option_or (option_map Refused found) (option_and_then (order_fault before) made) ≡ order_fault before packet
   in_turn before packet found made none is = rw (none, is) refl
 
-  pub sound-are : (from n : ℕ) → AreCounted pid list → from ≤ n → n < length list → is_of_pid file pid n ≡ true → pid_fault (pieces_of file pid from n) (piece_of file n) ≡ None
+  pub sound-are : (from n : ℕ) → AreCounted pid list → from ≤ n → n < length list → is_of_pid file pid n ≡ true → pid_fault (pid_pieces file pid from n) (piece_of file n) ≡ None
   sound-are from n counted begun within of =
       let packet : PacketRecord = get_or list n no_packet in
       let is_packet : IsOf packet (piece_at file n) = is_of packet (piece_at file n) (packet_at file list read n within) in
-      let order : order_fault (pieces_of file pid from n) packet ≡ None =
-      in_order (pieces_of file pid from n) packet (not_late (pieces_of file pid from n) packet (counted.continuous n no_packet within))
+      let order : order_fault (pid_pieces file pid from n) packet ≡ None =
+      in_order (pid_pieces file pid from n) packet (not_late (pid_pieces file pid from n) packet (counted.continuous n no_packet within))
       (no_gap from n counted begun within of (nat_lt 0 (length packet.payload)) refl) in
-      in_turn (pieces_of file pid from n) packet (refusal (piece_at file n)) (packet_of (piece_at file n)) is_packet.passes is_packet.is ∙ order
+      in_turn (pid_pieces file pid from n) packet (transport_refusal (piece_at file n)) (packet_of (piece_at file n)) is_packet.passes is_packet.is ∙ order

@@ -9,10 +9,10 @@ use Rattle.pes_units.specs.declared.pes_fault.PesFault.{PesFault}
 use Rattle.pes_units.specs.declared.pes_fault.PesFault.TheVariants.{BadPrefix, Short, Scrambled, BadMarker, BadLength}
 use Rattle.pes_units.specs.declared.pes_header.PesHeader.{PesHeader}
 use Rattle.pes_units.specs.declared.times.Times.{Times}
-use Rattle.pes_units.specs.PesHeader.{IsPesHeader, fields_of, has_fault, has_prefix, header_length, is_header_whole, pes_packet_length, refusal}
+use Rattle.pes_units.specs.PesHeader.{IsPesHeader, pes_fields_of, has_pes_fault, has_prefix, header_length, is_header_whole, pes_packet_length, pes_refusal}
 use Rattle.pes_units.specs.PesPackets.{is_cut, is_dropped, is_length_sound, last_refusal, packet_refusal}
 use Rattle.pes_units.specs.Times.{HasTimes, IsTimeAt, are_times_sound, has_markers, times_of}
-use Rattle.pes_units.specs.VideoHeader.{AreInRange, IsBesidePts, written_dts, written_fields, written_header}
+use Rattle.pes_units.specs.VideoHeader.{AreInRange, IsBesidePts, written_dts, written_fields, written_pes_header}
 use Rattle.pes_units.proofs.Refusals.{passes-header}
 use Rattle.pes_units.proofs.RoundTrip.{written-read}
 use Rattle.layer_laws.specs.VideoPackets.{first_of, decoding_time, IsReadAsVideo}
@@ -40,23 +40,23 @@ module _ (header : PesHeader) (bytes : List ℕ) (is : IsPesHeader true header b
   whole : is_header_whole bytes ≡ true
   whole = and_from _ _ (le-leb 9 (length bytes) (omega (arith, is.followed, is.len))) (le-leb (header_length bytes) (length bytes) (omega (arith, is.followed, is.len)))
 
-  long : has_fault true bytes Short ≡ false
+  long : has_pes_fault true bytes Short ≡ false
   long = lt-leb (length bytes) (header_length bytes) (omega (arith, is.followed, is.len))
 
-  clear : has_fault true bytes Scrambled ≡ false
+  clear : has_pes_fault true bytes Scrambled ≡ false
   clear = rw is.scrambling refl
 
-  marks : has_fault true bytes BadMarker ≡ false
+  marks : has_pes_fault true bytes BadMarker ≡ false
   marks = rw (is.fixed, sound-times header.times.pts header.times.dts bytes is.times) refl
 
-  fields-are : fields_of bytes ≡ header
+  fields-are : pes_fields_of bytes ≡ header
   fields-are =
       rw (sym is.stream_id, sym is.stated, sym is.len, times-read header.times.pts header.times.dts bytes is.times) refl
 
-  none-found : has_prefix true bytes ≡ true → refusal true bytes ≡ None
+  none-found : has_prefix true bytes ≡ true → pes_refusal true bytes ≡ None
   none-found prefix = rw (prefix, long, clear, marks) refl
 
-  none-found-last : has_prefix true bytes ≡ true → find (has_fault true bytes) (BadPrefix ∷ Scrambled ∷ BadMarker ∷ []) ≡ None
+  none-found-last : has_prefix true bytes ≡ true → find (has_pes_fault true bytes) (BadPrefix ∷ Scrambled ∷ BadMarker ∷ []) ≡ None
   none-found-last prefix = rw (prefix, clear, marks) refl
 
 -- ---- a video packet
@@ -68,10 +68,10 @@ cut_any false c = refl
 never_stated : (bytes : List ℕ) → pes_packet_length bytes ≡ 0 → is_cut true bytes ≡ true
 never_stated bytes none = rw none (cut_any (nat_lt (length bytes) 6) (nat_lt (length bytes) 6))
 
-packet-sound : (bytes : List ℕ) → refusal true bytes ≡ None → pes_packet_length bytes ≡ 0 → packet_refusal true bytes ≡ None
+packet-sound : (bytes : List ℕ) → pes_refusal true bytes ≡ None → pes_packet_length bytes ≡ 0 → packet_refusal true bytes ≡ None
 packet-sound bytes none unstated = rw (none, unstated) refl
 
-last-sound : (bytes : List ℕ) → is_cut true bytes ≡ true → is_header_whole bytes ≡ true → find (has_fault true bytes) (BadPrefix ∷ Scrambled ∷ BadMarker ∷ []) ≡ None → last_refusal true bytes ≡ None
+last-sound : (bytes : List ℕ) → is_cut true bytes ≡ true → is_header_whole bytes ≡ true → find (has_pes_fault true bytes) (BadPrefix ∷ Scrambled ∷ BadMarker ∷ []) ≡ None → last_refusal true bytes ≡ None
 last-sound bytes cut whole none = rw (cut, whole) none
 
 kept-whole : (bytes : List ℕ) → is_header_whole bytes ≡ true → is_dropped true bytes ≡ false
@@ -88,16 +88,16 @@ decoded-same (Some pts) (Some dts) beside = by_test (dts == pts) refl
     by_test true same = ap (λ (time : ℕ). Some time) (sym (eqb-true dts pts same))
     by_test false other = refl
 
-pub video-read : (times : Times) (payload : List ℕ) → AreInRange times → IsBesidePts times → 0 < length payload → IsReadAsVideo times payload (written_header times ++ payload)
+pub video-read : (times : Times) (payload : List ℕ) → AreInRange times → IsBesidePts times → 0 < length payload → IsReadAsVideo times payload (written_pes_header times ++ payload)
 unfolding bit bits
 video-read times payload in_range beside some =
-    let header : List ℕ = written_header times in
+    let header : List ℕ = written_pes_header times in
     let bytes : List ℕ = header ++ payload in
     let is : IsPesHeader true (written_fields times) bytes =
     subst (λ (front : List ℕ). IsPesHeader true (written_fields times) (front ++ payload)) (take_at header (drop (length header) []) (length header) refl)
     (written-read times in_range beside (length header) [] (header ++ drop (length header) []) refl refl payload some) in
     let prefix : has_prefix true bytes ≡ true = or_right (nat_le (length bytes) 3) true refl in
-    let fields : fields_of bytes ≡ written_fields times = fields-are (written_fields times) bytes is in
+    let fields : pes_fields_of bytes ≡ written_fields times = fields-are (written_fields times) bytes is in
     let unstated : pes_packet_length bytes ≡ 0 = sym is.stated in
     record {
       sound = packet-sound bytes (none-found (written_fields times) bytes is prefix) unstated;
@@ -123,7 +123,7 @@ as_stated false same is = is
 
 not_cut : (bytes : List ℕ) → packet_refusal false bytes ≡ None → is_cut false bytes ≡ false
 not_cut bytes none =
-    let parts = sound-parts (refusal false bytes) (is_length_sound false bytes) none in
+    let parts = sound-parts (pes_refusal false bytes) (is_length_sound false bytes) none in
     let header = passes-header false bytes parts.0 in
     let size : length bytes ≡ 6 + pes_packet_length bytes = eqb-true _ _ (as_stated (pes_packet_length bytes == 0) (length bytes == 6 + pes_packet_length bytes) parts.1) in
     rw (le-ltb (length bytes) 6 (omega (arith, header.followed, header.len)), le-ltb (length bytes) (6 + pes_packet_length bytes) (omega (arith, size))) refl

@@ -4,7 +4,7 @@ ghost use Rattle.std.specs.Prelude.{◌≡◌, ℕ, ◌+◌, ◌-◌, ◌*◌, �
 ghost use Rattle.stream_constants.specs.declared.packets.TheConstants.{PACKET_BYTES};
 ghost use Rattle.payload_lists.specs.Payload.{Payload};
 ghost use Rattle.ts_packets.specs.Packet.{PacketRecord, packet_identifier, packet_of};
-ghost use Rattle.ts_packets.specs.TransportStream.{is_of_pid, packets, piece_at, piece_count, pieces_of};
+ghost use Rattle.ts_packets.specs.TransportStream.{is_of_pid, packets, piece_at, piece_count, pid_pieces};
 ghost use Rattle.ts_packets.specs.Carried.{carried, pid_fault};
 ghost use Rattle.psi_tables.specs.Sections.{found_at, is_read, sections_of, stuffing_byte};
 ghost use Rattle.psi_tables.specs.declared.section.TheConstants.{SECTION_LENGTH_MOST};
@@ -24,10 +24,10 @@ pub fn packets_stand_in_order()
 pub fn counted_payloads_are_carried()
     ensures carried { (file : List ℕ) (list : List PacketRecord) (pid from to : ℕ) →
         packets file ≡ map Some list → AreCounted pid list → from ≤ to → to ≤ length list →
-        map (λ carried. carried.payload) (carried (pieces_of file pid from to)) ≡ payloads_on pid (take (to - from) (drop from list)) }
+        map (λ carried. carried.payload) (carried (pid_pieces file pid from to)) ≡ payloads_on pid (take (to - from) (drop from list)) }
     ensures sound { (file : List ℕ) (list : List PacketRecord) (pid from n : ℕ) →
         packets file ≡ map Some list → AreCounted pid list → from ≤ n → n < length list → is_of_pid file pid n ≡ true →
-        pid_fault (pieces_of file pid from n) (record { at = PACKET_BYTES * n; bytes = piece_at file n }) ≡ None }
+        pid_fault (pid_pieces file pid from n) (record { at = PACKET_BYTES * n; bytes = piece_at file n }) ≡ None }
 {}
 
 /// A whole section of a PAT or a PMT, no longer than such a section may be and with a right CRC, is found as it is. A section that is

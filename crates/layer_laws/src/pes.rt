@@ -5,7 +5,7 @@ ghost use Rattle.std.specs.List.{flat_map};
 ghost use Rattle.payload_lists.specs.Payload.{CarriedPayload, Payload};
 ghost use Rattle.pes_units.specs.declared.times.Times.{Times};
 ghost use Rattle.pes_units.specs.PesPackets.{gathered, is_dropped, last_refusal, packet_refusal};
-ghost use Rattle.pes_units.specs.VideoHeader.{AreInRange, IsBesidePts, written_header};
+ghost use Rattle.pes_units.specs.VideoHeader.{AreInRange, IsBesidePts, written_pes_header};
 ghost use Rattle.layer_laws.specs.PesPieces.{Carries, CarryAll, pes_pieces};
 ghost use Rattle.layer_laws.specs.VideoPackets.{IsReadAsVideo};
 
@@ -22,7 +22,7 @@ pub fn packets_gathered_again()
 /// A written header with any payload behind it is a video PES packet of the times that were written.
 pub fn video_packet_read_as_written()
     ensures { (times : Times) (payload : List ℕ) → AreInRange times → IsBesidePts times → 0 < length payload →
-        IsReadAsVideo times payload (written_header times ++ payload) }
+        IsReadAsVideo times payload (written_pes_header times ++ payload) }
 {}
 
 /// An audio PES packet that is taken as the last one is one that is taken among others, and the other way round: where the

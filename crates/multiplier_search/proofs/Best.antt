@@ -11,7 +11,7 @@ use Rattle.dual_bounds.specs.declared.windows.Window.{Window}
 use Rattle.dual_bounds.specs.Values.{value_of_multipliers}
 use Rattle.dual_bounds.proofs.Concave.{value-concave}
 use Rattle.multiplier_search.specs.Private.Lambda.{BetterOf, EndsRise, RisesTo, value_at, value_beside}
-use Rattle.multiplier_search.specs.Single.{IsFirstBest, IsNoWorse, value_alone}
+use Rattle.multiplier_search.specs.Single.{IsFirstBest, IsNoWorseMultiplier, value_alone}
 use Rattle.multiplier_search.proofs.Rises.{less_below, no_greater_behind}
 
 -- along the lambdas of one window beside others, each rise of the value is at most the one before
@@ -20,7 +20,7 @@ pub values_concave : (table : Table) (fixed : List (Option ℕ)) (windows : List
     ≤ℤ (value_beside table fixed windows from due (suc k) +ℤ value_beside table fixed windows from due (suc k))
 values_concave table fixed windows from due k = value-concave table fixed from due k windows
 
-pub no_worse_twice : (table : Table) (fixed : List (Option ℕ)) (a b c : Multiplier) → IsNoWorse table fixed a b → IsNoWorse table fixed b c → IsNoWorse table fixed a c
+pub no_worse_twice : (table : Table) (fixed : List (Option ℕ)) (a b c : Multiplier) → IsNoWorseMultiplier table fixed a b → IsNoWorseMultiplier table fixed b c → IsNoWorseMultiplier table fixed a c
 no_worse_twice table fixed a b c (inl more) (inl more') = inl (omega (arith, ints))
 no_worse_twice table fixed a b c (inl more) (inr same) = inl (subst (λ (z : ℤ). z <ℤ value_alone table fixed a) (sym same.0) more)
 no_worse_twice table fixed a b c (inr same) (inl more) = inl (subst (λ (z : ℤ). value_alone table fixed c <ℤ z) same.0 more)
@@ -34,21 +34,21 @@ no_worse_twice table fixed a b c (inr same) (inr same') = inr (same'.0 ∙ same.
     order (inr like) (inr like') = inr (like.0 ∙ like'.0, omega (arith, like.1, like'.1))
 
 -- one of two lists' first best that is no worse than the other is the first best of both lists
-best_left : (table : Table) (fixed : List (Option ℕ)) (dues more : List ℕ) (a b : Multiplier) → IsFirstBest table fixed dues a → IsFirstBest table fixed more b → IsNoWorse table fixed a b
+best_left : (table : Table) (fixed : List (Option ℕ)) (dues more : List ℕ) (a b : Multiplier) → IsFirstBest table fixed dues a → IsFirstBest table fixed more b → IsNoWorseMultiplier table fixed a b
     → IsFirstBest table fixed (dues ++ more) a
 best_left table fixed dues more a b best best' no_worse = record {
   candidate = record { due = Contains-append_left dues more a.due best.candidate.due; lambda = best.candidate.lambda };
-  first = λ other is. elim (Contains-append_cases dues more other.due is.due) as (λ _. IsNoWorse table fixed a other) [
+  first = λ other is. elim (Contains-append_cases dues more other.due is.due) as (λ _. IsNoWorseMultiplier table fixed a other) [
     | inl here ↦ best.first other (record { due = here; lambda = is.lambda })
     | inr there ↦ no_worse_twice table fixed a b other no_worse (best'.first other (record { due = there; lambda = is.lambda }))
   ];
 }
 
-best_right : (table : Table) (fixed : List (Option ℕ)) (dues more : List ℕ) (a b : Multiplier) → IsFirstBest table fixed dues a → IsFirstBest table fixed more b → IsNoWorse table fixed b a
+best_right : (table : Table) (fixed : List (Option ℕ)) (dues more : List ℕ) (a b : Multiplier) → IsFirstBest table fixed dues a → IsFirstBest table fixed more b → IsNoWorseMultiplier table fixed b a
     → IsFirstBest table fixed (dues ++ more) b
 best_right table fixed dues more a b best best' no_worse = record {
   candidate = record { due = Contains-append_right dues more b.due best'.candidate.due; lambda = best'.candidate.lambda };
-  first = λ other is. elim (Contains-append_cases dues more other.due is.due) as (λ _. IsNoWorse table fixed b other) [
+  first = λ other is. elim (Contains-append_cases dues more other.due is.due) as (λ _. IsNoWorseMultiplier table fixed b other) [
     | inl here ↦ no_worse_twice table fixed b a other no_worse (best.first other (record { due = here; lambda = is.lambda }))
     | inr there ↦ best'.first other (record { due = there; lambda = is.lambda })
   ];
@@ -72,11 +72,11 @@ Contains-one x y (k, within, is) =
     there
 
 beside : (table : Table) (fixed : List (Option ℕ)) (due lambda : ℕ) → RisesTo (value_at table fixed 0 due) lambda → EndsRise (value_at table fixed 0 due) lambda → (k : ℕ) → k ≤ LAMBDA_MOST
-    → IsNoWorse table fixed (record { due = due; lambda = lambda }) (record { due = due; lambda = k })
+    → IsNoWorseMultiplier table fixed (record { due = due; lambda = lambda }) (record { due = due; lambda = k })
 unfolding value_alone value_of_multipliers
 beside table fixed due lambda rises ends k limit =
     let value : ℕ → ℤ = value_at table fixed 0 due in
-    elim (cases_lt k lambda) as (λ _. IsNoWorse table fixed (record { due = due; lambda = lambda }) (record { due = due; lambda = k })) [
+    elim (cases_lt k lambda) as (λ _. IsNoWorseMultiplier table fixed (record { due = due; lambda = lambda }) (record { due = due; lambda = k })) [
       | inl below ↦ inl (less_below value (values_concave table fixed [] 0 due) lambda k rises below)
       | inr from ↦
           (let most : value k ≤ℤ value lambda = no_greater_behind value (values_concave table fixed [] 0 due) lambda k ends from limit in
@@ -89,6 +89,6 @@ pub best_at_due : (table : Table) (fixed : List (Option ℕ)) (due lambda : ℕ)
 best_at_due table fixed due lambda most rises ends = record {
   candidate = record { due = (0, omega arith, refl); lambda = most };
   first = λ other is. (let same : due ≡ other.due = Contains-one due other.due is.due in
-      subst (λ d. IsNoWorse table fixed (record { due = due; lambda = lambda }) (record { due = d; lambda = other.lambda })) same
+      subst (λ d. IsNoWorseMultiplier table fixed (record { due = due; lambda = lambda }) (record { due = d; lambda = other.lambda })) same
       (beside table fixed due lambda rises ends other.lambda is.lambda));
 }

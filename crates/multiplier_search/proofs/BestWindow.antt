@@ -18,7 +18,7 @@ use Rattle.multiplier_search.specs.declared.window.ValuedWindow.{ValuedWindow}
 use Rattle.multiplier_search.specs.Private.Lambda.{value_at}
 use Rattle.multiplier_search.specs.Private.Lengths.{HasItsValue, Outdoes}
 use Rattle.multiplier_search.specs.Private.UnitSteps.{AreStepsOf, times_of}
-use Rattle.multiplier_search.specs.Single.{dues_of, IsBestSingle, IsFirstBest, IsNoWorse, value_alone}
+use Rattle.multiplier_search.specs.Single.{dues_of, IsBestSingle, IsFirstBest, IsNoWorseMultiplier, value_alone}
 use Rattle.multiplier_search.specs.Windows.{BeatEachTried, IsBeginning}
 use Rattle.multiplier_search.proofs.Best.{Contains-one, no_time}
 use Rattle.multiplier_search.proofs.FirstBest.{front-back}
@@ -89,7 +89,7 @@ pub alone-is : (table : Table) (fixed : List (Option ℕ)) (due lambda : ℕ) �
 unfolding value_alone value_of_multipliers
 alone-is table fixed due lambda = refl
 
-no_worse-le : (table : Table) (fixed : List (Option ℕ)) (a b : Multiplier) → IsNoWorse table fixed a b → value_alone table fixed b ≤ℤ value_alone table fixed a
+no_worse-le : (table : Table) (fixed : List (Option ℕ)) (a b : Multiplier) → IsNoWorseMultiplier table fixed a b → value_alone table fixed b ≤ℤ value_alone table fixed a
 no_worse-le table fixed a b (inl less) = omega (arith, ints)
 no_worse-le table fixed a b (inr same) = (let equal = same.0 in omega (arith, ints))
 

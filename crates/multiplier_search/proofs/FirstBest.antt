@@ -21,7 +21,7 @@ use Rattle.cost_sweep.specs.Sweep.{IsSweep, WentOn}
 use Rattle.multiplier_search.specs.declared.single.Valued.{Valued}
 use Rattle.multiplier_search.specs.Private.Lambda.{EndsRise, RisesTo, value_at, value_beside}
 use Rattle.multiplier_search.specs.Private.UnitSteps.{AreStepsOf, beside, IsBestValued, IsBetterValued, IsNoWorseValued, IsValued, times_of}
-use Rattle.multiplier_search.specs.Single.{dues_of, IsBestSingle, IsFirstBest, IsNoWorse, value_alone}
+use Rattle.multiplier_search.specs.Single.{dues_of, IsBestSingle, IsFirstBest, IsNoWorseMultiplier, value_alone}
 use Rattle.multiplier_search.proofs.Best.{best_at_due, best_of_both, Contains-one, no_time}
 
 -- ---- values
@@ -52,7 +52,7 @@ unfolding value_alone value_of_multipliers
 best-at table fixed due lambda value limit rises ends is = (best_at_due table fixed due lambda limit rises ends, is)
 
 -- ---- the first best of two
-no_worse : (table : Table) (fixed : List (Option ℕ)) (a b : Valued) → IsValued table fixed a → IsValued table fixed b → IsNoWorseValued a b → IsNoWorse table fixed a.multiplier b.multiplier
+no_worse : (table : Table) (fixed : List (Option ℕ)) (a b : Valued) → IsValued table fixed a → IsValued table fixed b → IsNoWorseValued a b → IsNoWorseMultiplier table fixed a.multiplier b.multiplier
 no_worse table fixed a b first second (inl less) =
     inl (subst (λ (z : ℤ). z <ℤ value_alone table fixed a.multiplier) second (subst (λ (z : ℤ). b.value <ℤ z) first less))
 no_worse table fixed a b first second (inr same) = inr (sym second ∙ same.0 ∙ first, same.1)

@@ -27,8 +27,8 @@ unfoldable pub value_alone : Table → List (Option ℕ) → Multiplier → ℤ
 value_alone table fixed multiplier = value_of_multipliers table fixed (multiplier ∷ [])
 
 -- a multiplier alone has a greater value than another; or the same, and is due earlier; or both the same, and its lambda is no greater
-abbrev pub IsNoWorse : Table → List (Option ℕ) → Multiplier → (other : Multiplier) → Type 0
-IsNoWorse table fixed multiplier other =
+abbrev pub IsNoWorseMultiplier : Table → List (Option ℕ) → Multiplier → (other : Multiplier) → Type 0
+IsNoWorseMultiplier table fixed multiplier other =
     (value_alone table fixed other <ℤ value_alone table fixed multiplier)
     ⊎ ((value_alone table fixed other ≡ value_alone table fixed multiplier)
     × ((multiplier.due < other.due) ⊎ ((multiplier.due ≡ other.due) × (multiplier.lambda ≤ other.lambda))))
@@ -36,7 +36,7 @@ IsNoWorse table fixed multiplier other =
 -- the first best of all multipliers at these due times: the greatest value, then the least due time, then the least lambda
 pub record IsFirstBest (table : Table) (fixed : List (Option ℕ)) (dues : List ℕ) (multiplier : Multiplier) : Type 0 where
   pub candidate : IsCandidate dues multiplier
-  pub first : (other : Multiplier) → IsCandidate dues other → IsNoWorse table fixed multiplier other
+  pub first : (other : Multiplier) → IsCandidate dues other → IsNoWorseMultiplier table fixed multiplier other
 
 -- the first best multiplier at a unit's due time, alone; none where there is no unit
 abbrev pub IsBestSingle : Table → List (Option ℕ) → List Multiplier → Type 0

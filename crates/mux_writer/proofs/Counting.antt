@@ -13,7 +13,7 @@ use Rattle.slot_rule.specs.declared.sent.Sent.TheVariants.{Null, Pat, Pmt, Pcr, 
 use Rattle.mux_writer.specs.declared.counters.TheConstants.{PIDS}
 use Rattle.mux_writer.specs.declared.layout.Layout.{Layout}
 use Rattle.mux_writer.specs.Layout.{map_pid, stream_pid, stream_pids}
-use Rattle.mux_writer.specs.Output.{IsOfLayout, packet_in, packet_of, payload_count, pid_of}
+use Rattle.mux_writer.specs.Output.{IsOfLayout, packet_in, output_packet, payload_count, pid_of}
 use Rattle.mux_writer.specs.Pieces.{Pieces}
 use Rattle.mux_writer.specs.Private.Writer.{CountersAre, counted, one_more}
 
@@ -85,8 +85,8 @@ counters-more layout rows (Audio stream packet) counters are =
 -- what a packet is behind each count that its PID's number stands for, it is behind the count of the slots before
 pub packet-counted : (layout : Layout) (has : (stream item piece : ℕ) → Type 0) (slot : ℕ) (pieces : Pieces) (rows : List Sent) (n : ℕ) (sent : Sent) (counters bytes : List ℕ)
     → length layout.maps.items ≤ 8 → All (λ (pid : ℕ). pid < PIDS) (stream_pids layout) → IsOfLayout layout has sent → CountersAre layout rows counters
-    → ((count : ℕ) → slice_index counters (pid_of layout sent) ≡ count % 256 → bytes ≡ written (packet_of layout slot pieces count n sent))
-    → bytes ≡ written (packet_of layout slot pieces (payload_count layout (pid_of layout sent) rows) n sent)
+    → ((count : ℕ) → slice_index counters (pid_of layout sent) ≡ count % 256 → bytes ≡ written (output_packet layout slot pieces count n sent))
+    → bytes ≡ written (output_packet layout slot pieces (payload_count layout (pid_of layout sent) rows) n sent)
 packet-counted layout has slot pieces rows n Null counters bytes few all is are made = made 0 (get_or_past counters 0x1FFF 0 (omega (arith, are.size)))
 packet-counted layout has slot pieces rows n Pat counters bytes few all is are made = made _ (are.at 0 (omega arith))
 packet-counted layout has slot pieces rows n (Pmt program) counters bytes few all is are made = made _ (are.at (map_pid program) (omega (arith, few, is)))
@@ -101,7 +101,7 @@ pub told-packet : (layout : Layout) (has : (stream item piece : ℕ) → Type 0)
     → length layout.maps.items ≤ 8 → All (λ (pid : ℕ). pid < PIDS) (stream_pids layout) → All (IsOfLayout layout has) rows → n < length rows
     → CountersAre layout (take n rows) counters
     → IfSome told (λ pieces. (count : ℕ) → slice_index counters (pid_of layout (get_or rows n Null)) ≡ count % 256
-    → bytes ≡ written (packet_of layout slot pieces count n (get_or rows n Null)))
+    → bytes ≡ written (output_packet layout slot pieces count n (get_or rows n Null)))
     → IfSome told (λ pieces. bytes ≡ written (packet_in layout slot pieces rows n))
 told-packet layout has slot told rows n counters bytes few counted all within are made =
     IfSome_then told made

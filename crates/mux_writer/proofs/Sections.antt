@@ -6,7 +6,7 @@ use Rattle.std.proofs.lemmas.List.{at_drop_more, drop-replicate}
 use Rattle.std.proofs.lemmas.List.Elements.{All-cons, All-nil}
 use Rattle.psi_tables.specs.declared.program_map.ProgramMap.{ProgramMap}
 use Rattle.psi_tables.specs.Pat.{written_pat, written_program}
-use Rattle.psi_tables.specs.Section.{IsWithCrc, written_header}
+use Rattle.psi_tables.specs.Section.{IsWithCrc, written_section_header}
 use Rattle.psi_tables.proofs.CrcDivision.{crc_over-only}
 use Rattle.psi_tables.proofs.WrittenPat.{length-written_programs}
 use Rattle.mux_writer.specs.Layout.{map_pid}
@@ -49,6 +49,6 @@ pat-fits stream_id programs bytes few is =
       few,
       ap length is.joined,
       length-append (written_pat stream_id programs) (to_be_bytes w32 is.crc),
-      length-append (written_header 0 (9 + 4 * length programs) stream_id) (flat_map written_program programs),
+      length-append (written_section_header 0 (9 + 4 * length programs) stream_id) (flat_map written_program programs),
       length-written_programs programs,
     )

@@ -11,7 +11,7 @@ use Rattle.std.proofs.lemmas.List.FromFn.{length-map-range_with_len, get_or-map-
 use Rattle.psi_tables.specs.declared.program_map.ProgramMap.{ProgramMap}
 use Rattle.psi_tables.specs.Pat.{written_pat, written_program}
 use Rattle.psi_tables.specs.Pmt.{pmt_length, written_pmt}
-use Rattle.psi_tables.specs.Section.{written_header}
+use Rattle.psi_tables.specs.Section.{written_section_header}
 use Rattle.psi_tables.specs.Sections.{crc_over}
 use Rattle.psi_tables.proofs.WrittenPat.{length-written_programs}
 use Rattle.slot_rule.specs.declared.sent.Sent.{Sent}
@@ -22,7 +22,7 @@ use Rattle.ts_packets.proofs.FileLemmas.{packets-written}
 use Rattle.mux_writer.specs.declared.counters.TheConstants.{PIDS}
 use Rattle.mux_writer.specs.declared.layout.Layout.{Layout}
 use Rattle.mux_writer.specs.Layout.{IsLayout, IsOutputMap, map_pid, stream_pid, stream_pids}
-use Rattle.mux_writer.specs.Output.{IsOfLayout, full_record, output_packets, output_stream, packet_in, packet_of, piece_record, stuffing_field}
+use Rattle.mux_writer.specs.Output.{IsOfLayout, full_record, output_packets, output_stream, packet_in, output_packet, piece_record, stuffing_field}
 use Rattle.mux_writer.specs.Pieces.{HasPayloadSize, Pieces}
 use Rattle.mux_writer.specs.Tables.{pat_payload, pat_section, pmt_payloads, pmt_section, programs_from, section_payload, with_crc}
 use Rattle.mux_writer.proofs.Pids.{layout-counted, map-of, no_map}
@@ -45,7 +45,7 @@ pat-size layout few =
       arith,
       few,
       length-programs_from 0 layout.maps.items,
-      length-append (written_header 0 (9 + 4 * length programs) layout.stream_id) (flat_map written_program programs),
+      length-append (written_section_header 0 (9 + 4 * length programs) layout.stream_id) (flat_map written_program programs),
       length-written_programs programs,
     ) in
     payload-size (pat_section layout) (omega (arith, size, crc-size (written_pat layout.stream_id programs)))
@@ -89,7 +89,7 @@ piece-writable pid counter payload low small size =
 -- each packet of a slot can be written
 pub packet-writable : (layout : Layout) (has : (stream item piece : ℕ) → Type 0) (slot : ℕ) (pieces : Pieces) (count n : ℕ) (sent : Sent) → IsLayout layout → length layout.maps.items ≤ 8
     → ((stream item piece : ℕ) → has stream item piece → HasPayloadSize (length (pieces stream item piece).bytes)) → IsOfLayout layout has sent
-    → IsWritable (packet_of layout slot pieces count n sent)
+    → IsWritable (output_packet layout slot pieces count n sent)
 packet-writable layout has slot pieces count n Null is few sized of = record { pid = lit< tt; counter = lit< tt; pcr = tt; payload = refl }
 packet-writable layout has slot pieces count n Pat is few sized of = full-writable 0 true (count % 16) (pat_payload layout) (omega arith) (omega arith) (pat-size layout few)
 packet-writable layout has slot pieces count n (Pmt program) is few sized of =

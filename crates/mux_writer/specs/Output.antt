@@ -35,13 +35,13 @@ pid_of layout (Video stream unit piece) = stream_pid layout stream
 pid_of layout (Audio stream packet) = stream_pid layout stream
 
 -- its packet has payload, which a packet with a PCR alone has not
-abbrev pub has_payload : Sent → Bool
-has_payload (Pcr program) = false
-has_payload _ = true
+abbrev pub carries_payload : Sent → Bool
+carries_payload (Pcr program) = false
+carries_payload _ = true
 
 -- how many packets with payload a PID has in some slots
 abbrev pub payload_count : Layout → (pid : ℕ) → List Sent → ℕ
-payload_count layout pid rows = count_by (λ sent. has_payload sent && (pid_of layout sent == pid)) rows
+payload_count layout pid rows = count_by (λ sent. carries_payload sent && (pid_of layout sent == pid)) rows
 
 -- ---- its packet
 
@@ -69,13 +69,13 @@ piece_record pid counter payload = record {
 
 -- The packet of slot n, behind `count` packets with payload of its PID: the first of these has the counter 0, and a packet
 -- with a PCR alone the counter of the last of them, 15 before the first.
-abbrev pub packet_of : Layout → (slot : ℕ) → Pieces → (count n : ℕ) → Sent → PacketRecord
-packet_of layout slot pieces count n Null = null_record
-packet_of layout slot pieces count n Pat = full_record PAT_PID true (count % 16) (pat_payload layout)
-packet_of layout slot pieces count n (Pmt program) = full_record (map_pid program) true (count % 16) (slice_index_or (pmt_payloads layout) program [])
-packet_of layout slot pieces count n (Pcr program) = pcr_record (video_pid program) ((count + 15) % 16) (pcr_at (slice_index layout.bases.items program) n slot)
-packet_of layout slot pieces count n (Video stream unit piece) = piece_record (stream_pid layout stream) (count % 16) (pieces stream unit piece)
-packet_of layout slot pieces count n (Audio stream packet) = piece_record (stream_pid layout stream) (count % 16) (pieces stream packet 0)
+abbrev pub output_packet : Layout → (slot : ℕ) → Pieces → (count n : ℕ) → Sent → PacketRecord
+output_packet layout slot pieces count n Null = null_record
+output_packet layout slot pieces count n Pat = full_record PAT_PID true (count % 16) (pat_payload layout)
+output_packet layout slot pieces count n (Pmt program) = full_record (map_pid program) true (count % 16) (slice_index_or (pmt_payloads layout) program [])
+output_packet layout slot pieces count n (Pcr program) = pcr_record (video_pid program) ((count + 15) % 16) (pcr_at (slice_index layout.bases.items program) n slot)
+output_packet layout slot pieces count n (Video stream unit piece) = piece_record (stream_pid layout stream) (count % 16) (pieces stream unit piece)
+output_packet layout slot pieces count n (Audio stream packet) = piece_record (stream_pid layout stream) (count % 16) (pieces stream packet 0)
 
 -- ---- the stream
 
@@ -85,7 +85,7 @@ sent_in rows n = slice_index_or rows n Null
 
 -- the packet in slot n, its counter a count over the slots before
 abbrev pub packet_in : Layout → (slot : ℕ) → Pieces → List Sent → ℕ → PacketRecord
-packet_in layout slot pieces rows n = packet_of layout slot pieces (payload_count layout (pid_of layout (sent_in rows n)) (take n rows)) n (sent_in rows n)
+packet_in layout slot pieces rows n = output_packet layout slot pieces (payload_count layout (pid_of layout (sent_in rows n)) (take n rows)) n (sent_in rows n)
 
 -- the packets of the first n slots
 abbrev pub packets_of_first : Layout → (slot : ℕ) → Pieces → List Sent → ℕ → List PacketRecord

@@ -5,7 +5,7 @@ ghost use Rattle.shelf_io.specs.Sink.{with_bytes, AddsPrefix};
 ghost use Rattle.ts_packets.specs.Packet.{written};
 ghost use Rattle.pcr_writer.specs.PcrPacket.{pcr_at, pcr_record};
 ghost use Rattle.mux_writer.specs.Layout.{IsLayout, map_pid, video_pid};
-ghost use Rattle.mux_writer.specs.Output.{IsOfLayout, full_record, output_stream, packet_of, pid_of, piece_record};
+ghost use Rattle.mux_writer.specs.Output.{IsOfLayout, full_record, output_stream, output_packet, pid_of, piece_record};
 ghost use Rattle.mux_writer.specs.Private.Writer.{IsPrepared, counted, one_more};
 ghost use Rattle.mux_writer.specs.Causes.{StreamCauses};
 
@@ -92,7 +92,7 @@ fn slot_packet<P: PieceSource>(
     requires slot { slot ≤ SLOT_MOST }
     requires sent { IsOfLayout layout.now (P.has pieces.old) sent }
     ensures packet { OnOk result (IfSome (P.told pieces.old) (λ told. (count : ℕ) →
-        slice_index counters.old (pid_of layout.now sent) ≡ count % 256 → into.new ≡ written (packet_of layout.now slot told count n sent))) }
+        slice_index counters.old (pid_of layout.now sent) ≡ count % 256 → into.new ≡ written (output_packet layout.now slot told count n sent))) }
     ensures counters { OnOk result (counters.new ≡ counted layout.now sent counters.old) }
 
     ensures causes { SinkCauses P.faults (IsErrOf result Fault.Failed) (IsErrOf result Fault.Missing) pieces.old pieces.new }

@@ -52,7 +52,7 @@ use Rattle.slot_rule.specs.declared.sent.Sent.{Sent}
 use Rattle.slot_rule.specs.declared.sent.Sent.TheVariants.{Null, Pat, Pmt, Pcr, Video, Audio}
 use Rattle.mux_writer.specs.declared.layout.Layout.{Layout}
 use Rattle.mux_writer.specs.Layout.{stream_pid}
-use Rattle.mux_writer.specs.Output.{IsOfLayout, has_payload, output_packets, packet_in, packet_of, payload_count, pid_of, piece_record, sent_in, stuffing_field}
+use Rattle.mux_writer.specs.Output.{IsOfLayout, carries_payload, output_packets, packet_in, output_packet, payload_count, pid_of, piece_record, sent_in, stuffing_field}
 use Rattle.mux_writer.specs.Pieces.{HasPayloadSize, IsPayload, Pieces}
 use Rattle.mux_writer.specs.Tables.{pmt_payloads, pmt_section, section_payload}
 use Rattle.layer_laws.specs.Counted.{AreCounted, RiseByOne, has_payload_on, payload_of, payloads_on}
@@ -63,9 +63,9 @@ use Rattle.output_reading.specs.SentOn.{is_sent_on, payload_sent, payloads_sent_
 -- the packet is what goes in the slot, its counter a count modulo 16
 record IsSentAs (layout : Layout) (pieces : Pieces) (count : ℕ) (sent : Sent) (packet : PacketRecord) : Type 0 where
   pub pid : packet.pid ≡ pid_of layout sent
-  pub some : nat_lt 0 (length packet.payload) ≡ has_payload sent
+  pub some : nat_lt 0 (length packet.payload) ≡ carries_payload sent
   pub payload : payload_of packet ≡ payload_sent layout pieces sent
-  pub counter : has_payload sent ≡ true → pid_of layout sent ≢ 0x1FFF → packet.counter ≡ count % 16
+  pub counter : carries_payload sent ≡ true → pid_of layout sent ≢ 0x1FFF → packet.counter ≡ count % 16
   pub continuous : is_discontinuous packet ≡ false
 
 piece-continuous : (pid counter : ℕ) (payload : Payload) → is_discontinuous (piece_record pid counter payload) ≡ false
@@ -76,7 +76,7 @@ piece-continuous pid counter payload = by_size (length payload.bytes == 184)
     by_size false = refl
 
 piece-sent : (layout : Layout) (pieces : Pieces) (count pid : ℕ) (payload : Payload) (sent : Sent) → HasPayloadSize (length payload.bytes) → pid ≡ pid_of layout sent
-    → has_payload sent ≡ true → payload ≡ payload_sent layout pieces sent → IsSentAs layout pieces count sent (piece_record pid (count % 16) payload)
+    → carries_payload sent ≡ true → payload ≡ payload_sent layout pieces sent → IsSentAs layout pieces count sent (piece_record pid (count % 16) payload)
 piece-sent layout pieces count pid payload sent size same some is = record {
   pid = same;
   some = lt-ltb 0 (length payload.bytes) (omega (arith, size.some)) ∙ sym some;
@@ -95,7 +95,7 @@ pmt-some layout program within =
     lt-ltb 0 _ (omega (arith, ap length is))
 
 packet-sent : (layout : Layout) (slot : ℕ) (pieces : Pieces) (count n : ℕ) (sent : Sent) → IsOfLayout layout (IsPayload pieces) sent
-    → IsSentAs layout pieces count sent (packet_of layout slot pieces count n sent)
+    → IsSentAs layout pieces count sent (output_packet layout slot pieces count n sent)
 packet-sent layout slot pieces count n Null is = record { pid = refl; some = refl; payload = refl; counter = λ has other. absurd (other refl); continuous = refl }
 packet-sent layout slot pieces count n Pat is = record { pid = refl; some = lt-ltb 0 _ (omega arith); payload = refl; counter = λ has other. refl; continuous = refl }
 packet-sent layout slot pieces count n (Pmt program) is = record { pid = refl; some = pmt-some layout program is; payload = refl; counter = λ has other. refl; continuous = refl }
@@ -108,7 +108,7 @@ packet-sent layout slot pieces count n (Audio stream packet) is =
 -- it is on a PID where the slot sends payload there
 sent-on : (layout : Layout) (pieces : Pieces) (pid count : ℕ) (sent : Sent) (packet : PacketRecord) → IsSentAs layout pieces count sent packet → has_payload_on pid packet ≡ is_sent_on layout pid sent
 sent-on layout pieces pid count sent packet is =
-    ap₂ (λ (k : ℕ) (some : Bool). (k == pid) && some) is.pid is.some ∙ turned (pid_of layout sent == pid) (has_payload sent)
+    ap₂ (λ (k : ℕ) (some : Bool). (k == pid) && some) is.pid is.some ∙ turned (pid_of layout sent == pid) (carries_payload sent)
   where
     turned : (a b : Bool) → (a && b) ≡ (b && a)
     turned true true = refl
@@ -152,7 +152,7 @@ module _ (layout : Layout) (slot : ℕ) (pieces : Pieces) (rows : List Sent) (al
   counter_on : (pid n : ℕ) → pid ≢ 0x1FFF → n < length rows → has_payload_on pid (packet_at n) ≡ true → (packet_at n).counter ≡ payload_count layout pid (take n rows) % 16
   counter_on pid n other within on =
       let is = row_at n within in
-      let tests = and_parts (has_payload (sent_in rows n)) (pid_of layout (sent_in rows n) == pid) (sym (sent-on layout pieces pid _ (sent_in rows n) (packet_at n) is) ∙ on) in
+      let tests = and_parts (carries_payload (sent_in rows n)) (pid_of layout (sent_in rows n) == pid) (sym (sent-on layout pieces pid _ (sent_in rows n) (packet_at n) is) ∙ on) in
       let same : pid_of layout (sent_in rows n) ≡ pid = eqb-true (pid_of layout (sent_in rows n)) pid tests.1 in
       is.counter tests.0 (λ null. other (sym same ∙ null)) ∙ ap (λ (k : ℕ). payload_count layout k (take n rows) % 16) same
 

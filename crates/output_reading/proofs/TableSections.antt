@@ -8,10 +8,10 @@ use Rattle.std.proofs.lemmas.Bool.{eq-eqb, ne_eqb, or_right}
 use Rattle.std.proofs.lemmas.Option.{slice_get_within}
 use Rattle.std.proofs.lemmas.List.Elements.{All-cons, All-head, All-nil, All-tail}
 use Rattle.psi_tables.specs.declared.program_map.ProgramMap.{ProgramMap}
-use Rattle.psi_tables.specs.Pat.{IsPat, map_pid as said_pid, written_pat, written_program}
+use Rattle.psi_tables.specs.Pat.{IsPat, pat_map_pid as said_pid, written_pat, written_program}
 use Rattle.psi_tables.specs.Pmt.{HasRoom, IsPmt, IsWritableMap, pmt_length, without_dropped, written_pmt, written_streams}
 use Rattle.psi_tables.specs.PmtOf.{pmt_of}
-use Rattle.psi_tables.specs.Section.{IsWholeSection, IsWithCrc, table_id, written_header}
+use Rattle.psi_tables.specs.Section.{IsWholeSection, IsWithCrc, table_id, written_section_header}
 use Rattle.psi_tables.specs.Sections.{crc_over, found_at, is_read}
 use Rattle.psi_tables.proofs.CrcDivision.{crc_over-is}
 use Rattle.psi_tables.proofs.CrcLaws.{with_crc_is_right}
@@ -73,7 +73,7 @@ pat-found layout few range =
       arith,
       few,
       as_many 0 layout.maps.items,
-      length-append (written_header 0 (9 + 4 * length programs) layout.stream_id) (flat_map written_program programs),
+      length-append (written_section_header 0 (9 + 4 * length programs) layout.stream_id) (flat_map written_program programs),
       length-written_programs programs,
     ) in
     found (written_pat layout.stream_id programs) (pat_is_read (pat_section layout) is.current.table_is) is.whole short

@@ -7,7 +7,7 @@ use Rattle.slot_rule.specs.declared.sent.Sent.TheVariants.{Null, Pat, Pmt, Pcr, 
 use Rattle.mux_writer.specs.declared.layout.Layout.{Layout}
 use Rattle.version_table.specs.declared.limits.TheConstants.{PROGRAMS_MOST}
 use Rattle.mux_writer.specs.Layout.{IsLayout}
-use Rattle.mux_writer.specs.Output.{IsOfLayout, has_payload, pid_of}
+use Rattle.mux_writer.specs.Output.{IsOfLayout, carries_payload, pid_of}
 use Rattle.mux_writer.specs.Pieces.{IsPayload, Pieces}
 use Rattle.mux_writer.specs.Tables.{pat_payload, pmt_payloads}
 use Rattle.output_reading.specs.Fields.{HaveNumbersInRange}
@@ -23,7 +23,7 @@ payload_sent layout pieces (Audio stream packet) = pieces stream packet 0
 
 -- the slot sends payload on the PID
 abbrev pub is_sent_on : Layout → (pid : ℕ) → Sent → Bool
-is_sent_on layout pid sent = has_payload sent && (pid_of layout sent == pid)
+is_sent_on layout pid sent = carries_payload sent && (pid_of layout sent == pid)
 
 -- the payloads that slots send on a PID, in order
 abbrev pub payloads_sent_on : Layout → Pieces → (pid : ℕ) → List Sent → List Payload

@@ -4,7 +4,7 @@ ghost use Rattle.std.specs.Prelude.{◌≡◌, ◌≢◌, ℕ, ◌*◌, ◌≤�
 ghost use Rattle.stream_constants.specs.declared.packets.TheConstants.{PACKET_BYTES};
 ghost use Rattle.slot_rule.specs.declared.sent.Sent.{Sent};
 ghost use Rattle.slot_rule.specs.SlotList.{is_sent_of};
-ghost use Rattle.ts_packets.specs.TransportStream.{is_of_pid, piece_at, pieces_of};
+ghost use Rattle.ts_packets.specs.TransportStream.{is_of_pid, piece_at, pid_pieces};
 ghost use Rattle.ts_packets.specs.Carried.{carried, pid_fault};
 ghost use Rattle.psi_tables.specs.declared.program_map.ProgramMap.{ProgramMap};
 ghost use Rattle.psi_tables.specs.Sections.{sections_of};
@@ -32,11 +32,11 @@ pub fn packets_are_counted()
 pub fn pids_read_as_sent()
     ensures sound { (layout : Layout) (slot : ℕ) (pieces : Pieces) (rows : List Sent) (pid from n : ℕ) → AreRowsOf layout pieces rows → pid ≢ NULL_PID →
         from ≤ n → n < length rows → is_of_pid (output_stream layout slot pieces rows) pid n ≡ true →
-        pid_fault (pieces_of (output_stream layout slot pieces rows) pid from n)
+        pid_fault (pid_pieces (output_stream layout slot pieces rows) pid from n)
         (record { at = PACKET_BYTES * n; bytes = piece_at (output_stream layout slot pieces rows) n }) ≡ None }
     ensures carried { (layout : Layout) (slot : ℕ) (pieces : Pieces) (rows : List Sent) (pid from to : ℕ) → AreRowsOf layout pieces rows → pid ≢ NULL_PID →
         from ≤ to → to ≤ length rows →
-        map (λ carried. carried.payload) (carried (pieces_of (output_stream layout slot pieces rows) pid from to)) ≡ payloads_sent_on layout pieces pid (slots_between rows from to) }
+        map (λ carried. carried.payload) (carried (pid_pieces (output_stream layout slot pieces rows) pid from to)) ≡ payloads_sent_on layout pieces pid (slots_between rows from to) }
 {
     packets_are_counted();
     read_as_written();
@@ -47,11 +47,11 @@ pub fn pids_read_as_sent()
 /// PID of a program's map are that program's PMT's. So nothing else is found there, and no error.
 pub fn tables_read_again_and_again()
     ensures pat { (layout : Layout) (slot : ℕ) (pieces : Pieces) (rows : List Sent) (from to : ℕ) → AreRowsOf layout pieces rows → from ≤ to → to ≤ length rows →
-        sections_of (map (λ carried. carried.payload) (carried (pieces_of (output_stream layout slot pieces rows) PAT_PID from to)))
+        sections_of (map (λ carried. carried.payload) (carried (pid_pieces (output_stream layout slot pieces rows) PAT_PID from to)))
         ≡ replicate (payload_count layout PAT_PID (slots_between rows from to)) (Ok (pat_section layout)) }
     ensures pmt { (layout : Layout) (slot : ℕ) (pieces : Pieces) (rows : List Sent) (program from to : ℕ) (program_map : ProgramMap) → AreRowsOf layout pieces rows →
         slice_get layout.maps.items program ≡ Some program_map → from ≤ to → to ≤ length rows →
-        sections_of (map (λ carried. carried.payload) (carried (pieces_of (output_stream layout slot pieces rows) (map_pid program) from to)))
+        sections_of (map (λ carried. carried.payload) (carried (pid_pieces (output_stream layout slot pieces rows) (map_pid program) from to)))
         ≡ replicate (payload_count layout (map_pid program) (slots_between rows from to)) (Ok (pmt_section program_map)) }
 {
     pids_read_as_sent();

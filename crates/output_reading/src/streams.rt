@@ -10,7 +10,7 @@ ghost use Rattle.version_table.specs.Choice.{version_at};
 ghost use Rattle.slot_rule.specs.declared.slot_list.SlotList.{SlotList};
 ghost use Rattle.slot_rule.specs.Queues.{Queue, audio_of, payloads, queues_of, video_queue};
 ghost use Rattle.slot_rule.specs.SlotList.{IsSlotList};
-ghost use Rattle.ts_packets.specs.TransportStream.{pieces_of};
+ghost use Rattle.ts_packets.specs.TransportStream.{pid_pieces};
 ghost use Rattle.ts_packets.specs.Carried.{carried};
 ghost use Rattle.pes_units.specs.PesPackets.{gathered};
 ghost use Rattle.mux_writer.specs.declared.layout.Layout.{Layout};
@@ -41,13 +41,13 @@ pub fn streams_read_as_sent()
     ensures carried { (table : Table) (choice : List ℕ) (list : SlotList) (layout : Layout) (slot : ℕ) (pieces : Pieces) (stream : ℕ) (queue : Queue) (items : List (List Payload)) →
         IsSlotList table choice list → slice_get (queues_of table choice) stream ≡ Some queue → AreRowsOf layout pieces list.rows → stream < length (stream_pids layout) →
         Sends queue items → GivesPieces items (pieces stream) →
-        map (λ carried. carried.payload) (carried (pieces_of (output_stream layout slot pieces list.rows) (stream_pid layout stream) 0 (length list.rows)))
+        map (λ carried. carried.payload) (carried (pid_pieces (output_stream layout slot pieces list.rows) (stream_pid layout stream) 0 (length list.rows)))
         ≡ flat_map (λ pieces. pieces) items }
     ensures gathered { (table : Table) (choice : List ℕ) (list : SlotList) (layout : Layout) (slot : ℕ) (pieces : Pieces) (stream : ℕ) (queue : Queue) (items : List (List Payload))
         (packets : List (List ℕ)) (cuts : List (List Payload)) →
         IsSlotList table choice list → slice_get (queues_of table choice) stream ≡ Some queue → AreRowsOf layout pieces list.rows → stream < length (stream_pids layout) →
         Sends queue items → GivesPieces items (pieces stream) → CarryAll packets cuts → flat_map (λ pieces. pieces) cuts ≡ flat_map (λ pieces. pieces) items →
-        map (λ packet. packet.bytes) (gathered (carried (pieces_of (output_stream layout slot pieces list.rows) (stream_pid layout stream) 0 (length list.rows)))) ≡ packets }
+        map (λ packet. packet.bytes) (gathered (carried (pid_pieces (output_stream layout slot pieces list.rows) (stream_pid layout stream) 0 (length list.rows)))) ≡ packets }
 {
     pids_read_as_sent();
     stream_pids_are_their_own();

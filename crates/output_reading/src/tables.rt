@@ -3,7 +3,7 @@
 ghost use Rattle.std.specs.Prelude.{◌≡◌, ◌≢◌, ℕ, ◌≤◌, ◌<◌, List, [], ◌∷◌, Some, Ok, length, slice_get};
 ghost use Rattle.psi_tables.specs.declared.pmt.TheConstants.{PACKET_SECTION_BYTES};
 ghost use Rattle.psi_tables.specs.declared.program_map.ProgramMap.{ProgramMap};
-ghost use Rattle.psi_tables.specs.Pat.{IsPat, map_pid as said_pid};
+ghost use Rattle.psi_tables.specs.Pat.{IsPat, pat_map_pid as said_pid};
 ghost use Rattle.psi_tables.specs.Pmt.{IsWritableMap, pmt_length, without_dropped};
 ghost use Rattle.psi_tables.specs.PmtOf.{pmt_of};
 ghost use Rattle.psi_tables.specs.Sections.{found_at};

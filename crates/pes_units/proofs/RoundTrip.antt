@@ -8,7 +8,7 @@ use Rattle.pes_units.specs.declared.pes_header.PesHeader.{PesHeader}
 use Rattle.pes_units.specs.declared.times.Times.{Times}
 use Rattle.pes_units.specs.PesHeader.{IsPesHeader}
 use Rattle.pes_units.specs.Times.{IsTimeAt}
-use Rattle.pes_units.specs.VideoHeader.{AreInRange, IsBesidePts, spelled, time_word, written_dts, written_fields, written_header}
+use Rattle.pes_units.specs.VideoHeader.{AreInRange, IsBesidePts, spelled, time_word, written_dts, written_fields, written_pes_header}
 use Rattle.pes_units.proofs.TimeFields.{word_at, time_in, time_at-word}
 
 -- the five bytes of a number
@@ -106,8 +106,8 @@ spelled-read (Some pts) (Some dts) payload pts_fits dts_fits beside behind =
     ]
 
 -- what stands in the buffer is read
-pub written-read : (times : Times) → AreInRange times → IsBesidePts times → (n : ℕ) (old new : List ℕ) → n ≡ length (written_header times) → new ≡ written_header times ++ drop n old →
+pub written-read : (times : Times) → AreInRange times → IsBesidePts times → (n : ℕ) (old new : List ℕ) → n ≡ length (written_pes_header times) → new ≡ written_pes_header times ++ drop n old →
     (payload : List ℕ) → 0 < length payload → IsPesHeader true (written_fields times) (take n new ++ payload)
 written-read times in_range beside n old new size bytes payload behind =
-    let taken : take n new ≡ written_header times = ap (take n) bytes ∙ ap (λ k. take k (written_header times ++ drop n old)) size ∙ take-append_seam (written_header times) (drop n old) in
+    let taken : take n new ≡ written_pes_header times = ap (take n) bytes ∙ ap (λ k. take k (written_pes_header times ++ drop n old)) size ∙ take-append_seam (written_pes_header times) (drop n old) in
     rw taken (spelled-read times.pts times.dts payload in_range.0 in_range.1 beside behind)

@@ -6,11 +6,11 @@ use Rattle.payload_lists.specs.Payload.{CarriedPayload}
 use Rattle.pes_units.specs.declared.pes_fault.PesFault.TheVariants.{BadPrefix, Short, Scrambled, BadMarker, BadLength}
 use Rattle.pes_units.specs.declared.pes_header.PesHeader.{PesHeader}
 use Rattle.pes_units.specs.declared.times.Times.{Times}
-use Rattle.pes_units.specs.PesHeader.{header_of, refusal}
+use Rattle.pes_units.specs.PesHeader.{header_of, pes_refusal}
 use Rattle.pes_units.specs.PesPackets.{gathered, is_dropped, is_length_sound, packet_refusal, last_refusal}
 use Rattle.pes_units.specs.Private.PesPackets.{pes_packets}
 use Rattle.pes_units.specs.TimeAxis.{IsUnwrapped}
-use Rattle.pes_units.specs.VideoHeader.{written_header}
+use Rattle.pes_units.specs.VideoHeader.{written_pes_header}
 
 -- ---- a video header with a PTS of 90,000 alone
 
@@ -20,11 +20,11 @@ only_pts = record { pts = Some 90000; dts = None }
 abbrev pub only_pts_bytes : List ℕ
 only_pts_bytes = 0x00 ∷ 0x00 ∷ 0x01 ∷ 0xE0 ∷ 0x00 ∷ 0x00 ∷ 0x80 ∷ 0x80 ∷ 0x05 ∷ 0x21 ∷ 0x00 ∷ 0x05 ∷ 0xBF ∷ 0x21 ∷ []
 
-only_pts-written : written_header only_pts ≡ only_pts_bytes
+only_pts-written : written_pes_header only_pts ≡ only_pts_bytes
 only_pts-written = refl
 
 -- a DTS that is the PTS isn't written
-equal_times-written : written_header (record { pts = Some 90000; dts = Some 90000 }) ≡ only_pts_bytes
+equal_times-written : written_pes_header (record { pts = Some 90000; dts = Some 90000 }) ≡ only_pts_bytes
 equal_times-written = refl
 
 only_pts-read : header_of true (only_pts_bytes ++ 0xFF ∷ []) ≡ Some (record { stream_id = 0xE0; stated = 0; times = only_pts; len = 14 })
@@ -32,12 +32,12 @@ unfolding bit bits
 only_pts-read = refl
 
 -- nothing follows it
-only_pts-short : refusal true only_pts_bytes ≡ Some Short
+only_pts-short : pes_refusal true only_pts_bytes ≡ Some Short
 unfolding bit bits
 only_pts-short = refl
 
 -- an audio stream has other ids
-only_pts-audio : refusal false (only_pts_bytes ++ 0xFF ∷ []) ≡ Some BadPrefix
+only_pts-audio : pes_refusal false (only_pts_bytes ++ 0xFF ∷ []) ≡ Some BadPrefix
 unfolding bit bits
 only_pts-audio = refl
 
@@ -51,7 +51,7 @@ both_bytes =
     0x00 ∷ 0x00 ∷ 0x01 ∷ 0xE0 ∷ 0x00 ∷ 0x00 ∷ 0x80 ∷ 0xC0 ∷ 0x0A
     ∷ 0x31 ∷ 0x00 ∷ 0x05 ∷ 0xBF ∷ 0x21 ∷ 0x1F ∷ 0xFF ∷ 0xFF ∷ 0xFF ∷ 0xFF ∷ []
 
-both-written : written_header both ≡ both_bytes
+both-written : written_pes_header both ≡ both_bytes
 both-written = refl
 
 both-read : header_of true (both_bytes ++ 0xFF ∷ []) ≡ Some (record { stream_id = 0xE0; stated = 0; times = both; len = 19 })
@@ -60,7 +60,7 @@ both-read = refl
 
 -- ---- no time
 
-none-written : written_header (record { pts = None; dts = None }) ≡ 0x00 ∷ 0x00 ∷ 0x01 ∷ 0xE0 ∷ 0x00 ∷ 0x00 ∷ 0x80 ∷ 0x00 ∷ 0x00 ∷ []
+none-written : written_pes_header (record { pts = None; dts = None }) ≡ 0x00 ∷ 0x00 ∷ 0x01 ∷ 0xE0 ∷ 0x00 ∷ 0x00 ∷ 0x80 ∷ 0x00 ∷ 0x00 ∷ []
 none-written = refl
 
 -- ---- the first of several faults, of an audio header with these bytes 6 to 8
@@ -68,48 +68,48 @@ none-written = refl
 abbrev audio : ℕ → ℕ → ℕ → List ℕ
 audio fixed flags data_length = 0x00 ∷ 0x00 ∷ 0x01 ∷ 0xC0 ∷ 0x00 ∷ 0x00 ∷ fixed ∷ flags ∷ data_length ∷ []
 
-nothing : refusal false [] ≡ Some Short
+nothing : pes_refusal false [] ≡ Some Short
 unfolding bit bits
 nothing = refl
 
-two_bytes : refusal false (0x00 ∷ 0x00 ∷ []) ≡ Some Short
+two_bytes : pes_refusal false (0x00 ∷ 0x00 ∷ []) ≡ Some Short
 unfolding bit bits
 two_bytes = refl
 
-bad_second_byte : refusal false (0x00 ∷ 0x01 ∷ []) ≡ Some BadPrefix
+bad_second_byte : pes_refusal false (0x00 ∷ 0x01 ∷ []) ≡ Some BadPrefix
 unfolding bit bits
 bad_second_byte = refl
 
-nine_bytes_without_fixed_bits : refusal false (audio 0x00 0x00 0x00) ≡ Some Short
+nine_bytes_without_fixed_bits : pes_refusal false (audio 0x00 0x00 0x00) ≡ Some Short
 unfolding bit bits
 nine_bytes_without_fixed_bits = refl
 
-past_the_packet : refusal false (audio 0x30 0x40 0x02 ++ 0xFF ∷ 0xFF ∷ []) ≡ Some Short
+past_the_packet : pes_refusal false (audio 0x30 0x40 0x02 ++ 0xFF ∷ 0xFF ∷ []) ≡ Some Short
 unfolding bit bits
 past_the_packet = refl
 
-scrambled_without_fixed_bits : refusal false (audio 0x30 0x40 0x00 ++ 0xFF ∷ []) ≡ Some Scrambled
+scrambled_without_fixed_bits : pes_refusal false (audio 0x30 0x40 0x00 ++ 0xFF ∷ []) ≡ Some Scrambled
 unfolding bit bits
 scrambled_without_fixed_bits = refl
 
-without_fixed_bits : refusal false (audio 0x40 0x00 0x00 ++ 0xFF ∷ []) ≡ Some BadMarker
+without_fixed_bits : pes_refusal false (audio 0x40 0x00 0x00 ++ 0xFF ∷ []) ≡ Some BadMarker
 unfolding bit bits
 without_fixed_bits = refl
 
-flags_01 : refusal false (audio 0x80 0x40 0x05 ++ 0x21 ∷ 0x00 ∷ 0x05 ∷ 0xBF ∷ 0x21 ∷ 0xFF ∷ []) ≡ Some BadMarker
+flags_01 : pes_refusal false (audio 0x80 0x40 0x05 ++ 0x21 ∷ 0x00 ∷ 0x05 ∷ 0xBF ∷ 0x21 ∷ 0xFF ∷ []) ≡ Some BadMarker
 unfolding bit bits
 flags_01 = refl
 
-too_short_for_a_time : refusal false (audio 0x80 0x80 0x04 ++ 0x21 ∷ 0x00 ∷ 0x05 ∷ 0xBF ∷ 0x21 ∷ 0xFF ∷ []) ≡ Some BadMarker
+too_short_for_a_time : pes_refusal false (audio 0x80 0x80 0x04 ++ 0x21 ∷ 0x00 ∷ 0x05 ∷ 0xBF ∷ 0x21 ∷ 0xFF ∷ []) ≡ Some BadMarker
 unfolding bit bits
 too_short_for_a_time = refl
 
-last_marker_0 : refusal false (audio 0x80 0x80 0x05 ++ 0x21 ∷ 0x00 ∷ 0x05 ∷ 0xBF ∷ 0x20 ∷ 0xFF ∷ []) ≡ Some BadMarker
+last_marker_0 : pes_refusal false (audio 0x80 0x80 0x05 ++ 0x21 ∷ 0x00 ∷ 0x05 ∷ 0xBF ∷ 0x20 ∷ 0xFF ∷ []) ≡ Some BadMarker
 unfolding bit bits
 last_marker_0 = refl
 
 -- the four bits before a time may be anything
-any_bits_before_a_time : refusal false (audio 0x80 0x80 0x05 ++ 0xF1 ∷ 0x00 ∷ 0x05 ∷ 0xBF ∷ 0x21 ∷ 0xFF ∷ []) ≡ None
+any_bits_before_a_time : pes_refusal false (audio 0x80 0x80 0x05 ++ 0xF1 ∷ 0x00 ∷ 0x05 ∷ 0xBF ∷ 0x21 ∷ 0xFF ∷ []) ≡ None
 unfolding bit bits
 any_bits_before_a_time = refl
 

@@ -45,8 +45,8 @@ is_stream_id false id = nat_le 0xC0 id && nat_le id 0xDF
 -- ---- what is kept of it
 
 -- what the elements say
-abbrev pub fields_of : List ℕ → PesHeader
-fields_of bytes = record {
+abbrev pub pes_fields_of : List ℕ → PesHeader
+pes_fields_of bytes = record {
   stream_id = stream_id bytes;
   stated = pes_packet_length bytes;
   times = times_of bytes;
@@ -74,17 +74,17 @@ has_prefix video bytes = starts_with nat_eq (0 ∷ 0 ∷ 1 ∷ []) (take 3 bytes
 
 -- The bytes have a fault: a wrong prefix; no byte behind the header; scrambling; other bits than `10`, or times that don't
 -- stand as announced. Bits past the end are 0, so fewer than nine bytes are short too. A bad length is no fault of a header.
-abbrev pub has_fault : Bool → List ℕ → PesFault → Bool
-has_fault video bytes BadPrefix = not (has_prefix video bytes)
-has_fault video bytes Short = nat_le (length bytes) (header_length bytes)
-has_fault video bytes Scrambled = not (pes_scrambling_control bytes == 0)
-has_fault video bytes BadMarker = not ((fixed_bits bytes == 2) && are_times_sound bytes)
-has_fault video bytes BadLength = false
+abbrev pub has_pes_fault : Bool → List ℕ → PesFault → Bool
+has_pes_fault video bytes BadPrefix = not (has_prefix video bytes)
+has_pes_fault video bytes Short = nat_le (length bytes) (header_length bytes)
+has_pes_fault video bytes Scrambled = not (pes_scrambling_control bytes == 0)
+has_pes_fault video bytes BadMarker = not ((fixed_bits bytes == 2) && are_times_sound bytes)
+has_pes_fault video bytes BadLength = false
 
 -- the first fault that the bytes have
-abbrev pub refusal : Bool → List ℕ → Option PesFault
-refusal video bytes = find (has_fault video bytes) (BadPrefix ∷ Short ∷ Scrambled ∷ BadMarker ∷ [])
+abbrev pub pes_refusal : Bool → List ℕ → Option PesFault
+pes_refusal video bytes = find (has_pes_fault video bytes) (BadPrefix ∷ Short ∷ Scrambled ∷ BadMarker ∷ [])
 
 -- what is kept of bytes that nothing refuses
 abbrev pub header_of : Bool → List ℕ → Option PesHeader
-header_of video bytes = if is_none (refusal video bytes) then Some (fields_of bytes) else None
+header_of video bytes = if is_none (pes_refusal video bytes) then Some (pes_fields_of bytes) else None

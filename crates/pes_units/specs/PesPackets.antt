@@ -5,7 +5,7 @@ use Rattle.payload_lists.specs.Payload.{CarriedPayload, is_start}
 use Rattle.pes_units.specs.declared.pes_fault.PesFault.{PesFault}
 use Rattle.pes_units.specs.declared.pes_fault.PesFault.TheVariants.{BadPrefix, Scrambled, BadMarker, BadLength}
 use Rattle.pes_units.specs.declared.pes_header.PesHeader.{PesHeader}
-use Rattle.pes_units.specs.PesHeader.{pes_packet_length, header_length, fields_of, has_fault, is_header_whole, refusal}
+use Rattle.pes_units.specs.PesHeader.{pes_packet_length, header_length, pes_fields_of, has_pes_fault, is_header_whole, pes_refusal}
 
 -- ---- how they are gathered
 
@@ -53,14 +53,14 @@ is_length_sound video bytes = if pes_packet_length bytes == 0 then video else le
 
 -- the first fault of a packet that isn't cut: its header's, or a length that it doesn't have
 abbrev pub packet_refusal : Bool → List ℕ → Option PesFault
-packet_refusal video bytes = if is_some (refusal video bytes) then refusal video bytes else if is_length_sound video bytes then None else Some BadLength
+packet_refusal video bytes = if is_some (pes_refusal video bytes) then pes_refusal video bytes else if is_length_sound video bytes then None else Some BadLength
 
 -- what refuses a last packet: where it is cut, that it is short or not as long as it states is no fault
 abbrev pub last_refusal : Bool → List ℕ → Option PesFault
 last_refusal video bytes =
     if not (is_cut video bytes) then packet_refusal video bytes
-    else if is_header_whole bytes then find (has_fault video bytes) (BadPrefix ∷ Scrambled ∷ BadMarker ∷ [])
-    else find (has_fault video bytes) (BadPrefix ∷ [])
+    else if is_header_whole bytes then find (has_pes_fault video bytes) (BadPrefix ∷ Scrambled ∷ BadMarker ∷ [])
+    else find (has_pes_fault video bytes) (BadPrefix ∷ [])
 
 -- a cut packet is dropped, but in video it is taken as it is where its header is whole
 abbrev pub is_dropped : Bool → List ℕ → Bool

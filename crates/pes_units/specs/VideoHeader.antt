@@ -32,10 +32,10 @@ abbrev pub time_bytes : ℕ → ℕ → List ℕ
 time_bytes which time = drop 3 (to_be_bytes w64 (time_word which time))
 
 -- PTS_DTS_flags
-abbrev pub written_flags : Option ℕ → Option ℕ → ℕ
-written_flags None dts = 0
-written_flags (Some pts) None = 2
-written_flags (Some pts) (Some dts) = 3
+abbrev pub written_pes_flags : Option ℕ → Option ℕ → ℕ
+written_pes_flags None dts = 0
+written_pes_flags (Some pts) None = 2
+written_pes_flags (Some pts) (Some dts) = 3
 
 -- the times behind the ninth byte: `0010` before a PTS alone, `0011` and `0001` before both
 abbrev pub time_fields : Option ℕ → Option ℕ → List ℕ
@@ -49,11 +49,11 @@ first_bytes flags data_length = 0x00 ∷ 0x00 ∷ 0x01 ∷ 0xE0 ∷ 0x00 ∷ 0x0
 
 -- a whole header with these times
 abbrev pub spelled : Option ℕ → Option ℕ → List ℕ
-spelled pts dts = first_bytes (written_flags pts dts) (length (time_fields pts dts)) ++ time_fields pts dts
+spelled pts dts = first_bytes (written_pes_flags pts dts) (length (time_fields pts dts)) ++ time_fields pts dts
 
 -- the header that is written for these times
-abbrev pub written_header : Times → List ℕ
-written_header times = spelled times.pts (written_dts times.pts times.dts)
+abbrev pub written_pes_header : Times → List ℕ
+written_pes_header times = spelled times.pts (written_dts times.pts times.dts)
 
 -- what is read of it
 abbrev pub written_fields : Times → PesHeader
@@ -61,5 +61,5 @@ written_fields times = record {
   stream_id = 0xE0;
   stated = 0;
   times = written_times times;
-  len = length (written_header times);
+  len = length (written_pes_header times);
 }

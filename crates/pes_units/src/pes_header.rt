@@ -1,7 +1,7 @@
 ghost use Rattle.std.specs.Prelude.{◌≡◌, ◌≤◌, [], ◌∷◌, length, true, IfOk, IsTrue, if◌then◌else◌};
 ghost use Rattle.std.specs.List.{find};
 ghost use Rattle.std.specs.Result.{result_err, result_ok};
-ghost use Rattle.pes_units.specs.PesHeader.{IsPesHeader, fields_of, has_fault, has_prefix, header_length, header_of, is_header_whole, is_stream_id, pes_packet_length, refusal};
+ghost use Rattle.pes_units.specs.PesHeader.{IsPesHeader, pes_fields_of, has_pes_fault, has_prefix, header_length, header_of, is_header_whole, is_stream_id, pes_packet_length, pes_refusal};
 ghost use Rattle.pes_units.specs.PesPackets.{is_cut, is_dropped, is_length_sound, packet_refusal, last_refusal};
 
 use crate::pes_fault::PesFault;
@@ -46,7 +46,7 @@ impl PesHeader {
         ensures header { IfOk result (λ header. IsPesHeader video header bytes.now) }
         ensures only { (header : PesHeader) → IsPesHeader video header bytes.now → result ≡ Ok header }
         // What is answered is the first fault, and where there is none the header.
-        ensures fault { result_err result ≡ refusal video bytes.now }
+        ensures fault { result_err result ≡ pes_refusal video bytes.now }
         ensures exact { result_ok result ≡ header_of video bytes.now }
     {
         if !has_prefix(bytes, video) {
@@ -63,7 +63,7 @@ impl PesHeader {
     #[tactic(auto, using(crate::proofs::Elements::elements))]
     pub fn read_packet(bytes: &[u8], video: bool) -> Result<PesHeader, PesFault>
         ensures fault { result_err result ≡ packet_refusal video bytes.now }
-        ensures header { IfOk result (λ header. header ≡ fields_of bytes.now) }
+        ensures header { IfOk result (λ header. header ≡ pes_fields_of bytes.now) }
         ensures is_header { IfOk result (λ header. IsPesHeader video header bytes.now) }
     {
         let header = Self::read(bytes, video)?;
@@ -79,7 +79,7 @@ impl PesHeader {
     #[tactic(auto, using(crate::proofs::Elements::elements))]
     pub fn read_last(bytes: &[u8], video: bool) -> Result<Option<PesHeader>, PesFault>
         ensures fault { result_err result ≡ last_refusal video bytes.now }
-        ensures header { IfOk result (λ header. header ≡ (if is_dropped video bytes.now then None else Some (fields_of bytes.now))) }
+        ensures header { IfOk result (λ header. header ≡ (if is_dropped video bytes.now then None else Some (pes_fields_of bytes.now))) }
     {
         if !is_cut(bytes, video) {
             return Ok(Some(Self::read_packet(bytes, video)?));
@@ -98,8 +98,8 @@ impl PesHeader {
     #[tactic(auto, using(crate::proofs::Elements::elements))]
     fn read_whole(bytes: &[u8]) -> Result<PesHeader, PesFault>
         requires { IsTrue (is_header_whole bytes.now) }
-        ensures fault { result_err result ≡ find (has_fault true bytes.now) (PesFault.Scrambled ∷ PesFault.BadMarker ∷ []) }
-        ensures header { IfOk result (λ header. header ≡ fields_of bytes.now) }
+        ensures fault { result_err result ≡ find (has_pes_fault true bytes.now) (PesFault.Scrambled ∷ PesFault.BadMarker ∷ []) }
+        ensures header { IfOk result (λ header. header ≡ pes_fields_of bytes.now) }
     {
         if bytes[6] & SCRAMBLING_CONTROL != 0 {
             return Err(PesFault::Scrambled);

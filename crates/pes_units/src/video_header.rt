@@ -1,6 +1,6 @@
 ghost use Rattle.std.specs.Prelude.{◌≡◌, ◌<◌, ℕ, List, true, ◌++◌, length, take, drop};
 ghost use Rattle.pes_units.specs.PesHeader.{IsPesHeader};
-ghost use Rattle.pes_units.specs.VideoHeader.{AreInRange, IsBesidePts, first_bytes, written_dts, written_fields, written_header};
+ghost use Rattle.pes_units.specs.VideoHeader.{AreInRange, IsBesidePts, first_bytes, written_dts, written_fields, written_pes_header};
 
 use crate::pes_header::FIRST_BYTES;
 use crate::times::{TIME_BYTES, Times, time_field};
@@ -23,8 +23,8 @@ const FIXED_BYTE: u8 = 0x80;
 pub fn write_video_header(times: &Times, into: &mut [u8; MOST_HEADER_BYTES]) -> u8
     requires in_range { AreInRange times.now }
     requires beside { IsBesidePts times.now }
-    ensures bytes { into.new ≡ written_header times.now ++ drop result into.old }
-    ensures length { result ≡ length (written_header times.now) }
+    ensures bytes { into.new ≡ written_pes_header times.now ++ drop result into.old }
+    ensures length { result ≡ length (written_pes_header times.now) }
     // With any payload behind it, it is read as the same times.
     ensures header { (payload : List ℕ) → 0 < length payload → IsPesHeader true (written_fields times.now) (take result into.new ++ payload) }
 {

@@ -4,7 +4,7 @@ use Rattle.std.proofs.lemmas.Bool.{and_parts, ltb-true, ne_eqb, cases_Bool, eqb-
 use Rattle.std.specs.List.{list_all}
 use Rattle.std.proofs.lemmas.Nat.{mod_below}
 use Rattle.bit_lists.specs.Fields.{AreBytes}
-use Rattle.program_maker.specs.Heads.{coding_of, headers_before, picture_header, picture_coding_extension, head_of}
+use Rattle.program_maker.specs.Heads.{coding_of, headers_before, generated_picture_header, generated_picture_coding_extension, head_of}
 
 -- the head of a P-picture by its temporal reference
 abbrev pub p_bytes : ℕ → List ℕ
@@ -13,7 +13,7 @@ p_bytes r =
     ∷ 0x00 ∷ 0x00 ∷ 0x01 ∷ 0xB5 ∷ 0x81 ∷ 0x1F ∷ 0xF3 ∷ 0x41 ∷ 0x80 ∷ []
 
 abbrev pub p_fields : ℕ → List ℕ
-p_fields r = picture_header true r ++ picture_coding_extension (coding_of true)
+p_fields r = generated_picture_header true r ++ generated_picture_coding_extension (coding_of true)
 
 pub p-head : (r : ℕ) → r < 12 → p_bytes r ≡ p_fields r
 p-head zero lt = refl
@@ -31,10 +31,10 @@ p-head (suc (suc (suc (suc (suc (suc (suc (suc (suc (suc (suc zero))))))))))) lt
 p-head (suc (suc (suc (suc (suc (suc (suc (suc (suc (suc (suc (suc n)))))))))))) lt = absurd (omega (arith, lt))
 
 abbrev pub i_fields : List ℕ
-i_fields = headers_before false ++ picture_header false 0 ++ picture_coding_extension (coding_of false)
+i_fields = headers_before false ++ generated_picture_header false 0 ++ generated_picture_coding_extension (coding_of false)
 
 abbrev fields : Bool → ℕ → List ℕ
-fields first r = headers_before (not first) ++ picture_header (not first) r ++ picture_coding_extension (coding_of (not first))
+fields first r = headers_before (not first) ++ generated_picture_header (not first) r ++ generated_picture_coding_extension (coding_of (not first))
 
 -- the head of an I-picture
 pub i-head : (k : ℕ) → k % 12 ≡ 0 → i_fields ≡ head_of k

@@ -40,7 +40,7 @@ use Rattle.std.proofs.lemmas.List.Elements.{filter-append}
 use Rattle.picture_grammar.specs.Written.{IsWritten}
 use Rattle.syntax_types.specs.declared.picture.Picture.{Picture}
 use Rattle.ts_packets.specs.Packet.{PacketRecord}
-use Rattle.program_maker.specs.Draws.{Drawn, each}
+use Rattle.program_maker.specs.Draws.{Drawn, draw_each}
 use Rattle.program_maker.specs.Packets.{pcr_packet, pes_packets}
 use Rattle.program_maker.specs.Pictures.{AreWritten}
 use Rattle.program_maker.specs.Program.{is_behind, frames_behind, frame_packets, packets_at}
@@ -117,12 +117,12 @@ behind-are pictures k = within (is_behind k) (first_frame k) (first_frame (k + 1
 -- ---- the frame of a number
 
 thing-of : {A : Type 0} (thing : ℕ → Drawn A) (n a i start : ℕ) (default : A) → i < n
-    → slice_index_or (each (range_with_len a n) thing start).0 i default ≡ (thing (a + i) (each (range_with_len a i) thing start).1).0
+    → slice_index_or (draw_each (range_with_len a n) thing start).0 i default ≡ (thing (a + i) (draw_each (range_with_len a i) thing start).1).0
 thing-of thing zero a i start default lt = absurd (omega (arith, lt))
 thing-of thing (suc n) a zero start default lt = ap (λ k. (thing k start).0) (let e : a ≡ a + 0 = omega arith in e)
 thing-of thing (suc n) a (suc i) start default lt =
     thing-of thing n (a + 1) i (thing a start).1 default (omega (arith, lt))
-    ∙ ap (λ k. (thing k (each (range_with_len (a + 1) i) thing (thing a start).1).1).0) (let f : a + 1 + i ≡ a + suc i = omega arith in f)
+    ∙ ap (λ k. (thing k (draw_each (range_with_len (a + 1) i) thing (thing a start).1).1).0) (let f : a + 1 + i ≡ a + suc i = omega arith in f)
 
 -- the packets of the frames behind picture k
 pub frames-of : (pictures start k end : ℕ) → end ≡ min (first_frame (k + 1)) (5 * pictures / 3)

@@ -81,7 +81,7 @@ use Rattle.picture_laws.proofs.DecidedPictures.{decided-vectors, decided-dc}
 use Rattle.picture_laws.proofs.ReadBack.{spellable}
 use Rattle.picture_laws.proofs.WrittenBlocks.{of_blocks}
 use Rattle.picture_laws.proofs.WrittenMacroblock.{anywhere-macroblock}
-use Rattle.program_maker.specs.Draws.{Drawn, state_after, pick, each}
+use Rattle.program_maker.specs.Draws.{Drawn, state_after, pick, draw_each}
 use Rattle.program_maker.specs.Heads.{coding_of}
 use Rattle.program_maker.specs.Macroblocks.{
   run_level,
@@ -129,7 +129,7 @@ small state =
       most = omega (arith, is, below);
     }
 
-smalls : (n a state : ℕ) → AllByRecursion IsSmall (each (range_with_len a n) (λ _. run_level) state).0
+smalls : (n a state : ℕ) → AllByRecursion IsSmall (draw_each (range_with_len a n) (λ _. run_level) state).0
 smalls zero a state = tt
 smalls (suc n) a state = (small state, smalls n (a + 1) (run_level state).1)
 
@@ -174,7 +174,7 @@ unfolding coded_block
 block-spelled intra luma state =
     let number = (number_of_pairs intra state).0 in
     let behind = (number_of_pairs intra state).1 in
-    let pairs : List RunLevel = (each (range_with_len 0 number) (λ _. run_level) behind).0 in
+    let pairs : List RunLevel = (draw_each (range_with_len 0 number) (λ _. run_level) behind).0 in
     let are : AllByRecursion IsSmall pairs = smalls number 0 behind in
     let count : length pairs ≡ number = number-each (λ _. run_level) number behind in
     let least = few intra state in
@@ -199,7 +199,7 @@ at-spelled predicted kind pattern i state = where_coded predicted (is_coded kind
 
 -- the thing at a place is drawn from some state
 thing-at : {A : Type 0} (thing : ℕ → Drawn A) (n a i start : ℕ) (default : A) → i < n
-    → (state : ℕ) × (slice_index_or (each (range_with_len a n) thing start).0 i default ≡ (thing (a + i) state).0)
+    → (state : ℕ) × (slice_index_or (draw_each (range_with_len a n) thing start).0 i default ≡ (thing (a + i) state).0)
 thing-at thing zero a i start default lt = absurd (omega (arith, lt))
 thing-at thing (suc n) a zero start default lt = (start, ap (λ k. (thing k start).0) (let e : a ≡ a + 0 = omega arith in e))
 thing-at thing (suc n) a (suc i) start default lt =

@@ -12,7 +12,7 @@ use Rattle.bit_cursor.specs.declared.bit_writer.BitWriter.{BitWriter}
 use Rattle.bit_cursor.specs.BitWriter.{Gets, AddsBits, Writes, is_stopped, told_by, waiting_in}
 use Rattle.bit_cursor.proofs.Gets.{gets_none}
 use Rattle.bit_cursor.proofs.Composed.{gets_twice, gets_whole}
-use Rattle.program_maker.specs.Draws.{Drawn, each}
+use Rattle.program_maker.specs.Draws.{Drawn, draw_each}
 use Rattle.program_maker.specs.Heads.{coding_of, is_predicted, head_of}
 use Rattle.program_maker.specs.Pictures.{drawn_slices, drawn_picture}
 use Rattle.program_maker.specs.Private.Writing.{GoesOn, written_whole_slice}
@@ -51,11 +51,11 @@ on_ok (Err e) p = tt
 module _ {A : Type 0} (thing : ℕ → Drawn A) (bits : A → List ℕ) where
   -- the bits of one more thing stand behind those of the others
   pub bits-more : (n start : ℕ)
-      → flat_map bits (each (range_with_len 0 n) thing start).0 ++ bits (thing n (each (range_with_len 0 n) thing start).1).0
-      ≡ flat_map bits (each (range_with_len 0 (n + 1)) thing start).0
+      → flat_map bits (draw_each (range_with_len 0 n) thing start).0 ++ bits (thing n (draw_each (range_with_len 0 n) thing start).1).0
+      ≡ flat_map bits (draw_each (range_with_len 0 (n + 1)) thing start).0
   bits-more n start =
-      let before = (each (range_with_len 0 n) thing start).0 in
-      let x = (thing n (each (range_with_len 0 n) thing start).1).0 in
+      let before = (draw_each (range_with_len 0 n) thing start).0 in
+      let x = (thing n (draw_each (range_with_len 0 n) thing start).1).0 in
       sym (ap (flat_map bits) (each-more thing n start) ∙ flat_map-append bits before (x ∷ []) ∙ ap (λ ys. flat_map bits before ++ ys) (append-nil (bits x)))
 
 -- ---- a whole picture

@@ -14,8 +14,8 @@ abbrev pub Drawn : Type 0 → Type 0
 Drawn A = ℕ → A × ℕ
 
 -- a thing for which nothing is drawn
-abbrev pub done : {A : Type 0} → A → Drawn A
-done thing state = (thing, state)
+abbrev pub nothing_drawn : {A : Type 0} → A → Drawn A
+nothing_drawn thing state = (thing, state)
 
 -- what is drawn behind a thing that was drawn
 abbrev pub behind : {A B : Type 0} → (A → Drawn B) → A × ℕ → B × ℕ
@@ -31,9 +31,9 @@ unfoldable pub pick : ℕ → Drawn ℕ
 pick n state = (draw state % n, state_after state)
 
 -- a thing for each of these, in order
-abbrev pub each : {I A : Type 0} → List I → (I → Drawn A) → Drawn (List A)
-each [] thing = done []
-each (i ∷ is) thing = do
+abbrev pub draw_each : {I A : Type 0} → List I → (I → Drawn A) → Drawn (List A)
+draw_each [] thing = nothing_drawn []
+draw_each (i ∷ is) thing = do
   first ← thing i
-  others ← each is thing
-  done (first ∷ others)
+  others ← draw_each is thing
+  nothing_drawn (first ∷ others)

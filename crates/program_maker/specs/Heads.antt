@@ -66,31 +66,31 @@ abbrev pub header : ℕ → ℕ → List (ℕ × ℕ) → List ℕ
 header code size fields = 0 ∷ 0 ∷ 1 ∷ code ∷ drop (8 - size) (to_be_bytes w64 (fields_behind 0 fields))
 
 -- sequence_header() (6.2.2.1): size, aspect ratio 4:3, 15 Mbit/s in units of 400 bit/s, marker, vbv, constrained and load flags 0
-abbrev pub sequence_header : List ℕ
-sequence_header = header SEQUENCE_HEADER 8
+abbrev pub generated_sequence_header : List ℕ
+generated_sequence_header = header SEQUENCE_HEADER 8
     ((12, WIDTH) ∷ (12, HEIGHT) ∷ (4, 2) ∷ (4, RATE_CODE) ∷ (18, 37500) ∷ (1, 1) ∷ (10, VBV) ∷ (1, 0) ∷ (1, 0) ∷ (1, 0) ∷ [])
 
 -- sequence_extension() (6.2.2.3): Main profile at Main level, progressive, 4:2:0, no more bits of sizes and rates, marker, low_delay 0
-abbrev pub sequence_extension : List ℕ
-sequence_extension = header EXTENSION 6
+abbrev pub generated_sequence_extension : List ℕ
+generated_sequence_extension = header EXTENSION 6
     ((4, SEQUENCE_EXTENSION) ∷ (8, 0x48) ∷ (1, 1) ∷ (2, 1) ∷ (2, 0) ∷ (2, 0) ∷ (12, 0) ∷ (1, 1) ∷ (8, 0) ∷ (1, 0) ∷ (2, 0) ∷ (5, 0) ∷ [])
 
 -- group_of_pictures_header() (6.2.2.6): time code 0 with its marker, closed_gop, not broken
-abbrev pub group_header : List ℕ
-group_header = header GROUP 4 ((25, 0x001000) ∷ (1, 1) ∷ (1, 0) ∷ (5, 0) ∷ [])
+abbrev pub generated_group_header : List ℕ
+generated_group_header = header GROUP 4 ((25, 0x001000) ∷ (1, 1) ∷ (1, 0) ∷ (5, 0) ∷ [])
 
 -- picture_header() (6.2.3): in P-pictures full_pel_forward_vector 0 and forward_f_code 7; extra_bit_picture 0, zero bits
-abbrev pub picture_header : Bool → ℕ → List ℕ
-picture_header false reference = header PICTURE 4 ((10, reference) ∷ (3, I_PICTURE) ∷ (16, 0xFFFF) ∷ (1, 0) ∷ (2, 0) ∷ [])
-picture_header true reference = header PICTURE 5 ((10, reference) ∷ (3, P_PICTURE) ∷ (16, 0xFFFF) ∷ (1, 0) ∷ (3, 7) ∷ (1, 0) ∷ (6, 0) ∷ [])
+abbrev pub generated_picture_header : Bool → ℕ → List ℕ
+generated_picture_header false reference = header PICTURE 4 ((10, reference) ∷ (3, I_PICTURE) ∷ (16, 0xFFFF) ∷ (1, 0) ∷ (2, 0) ∷ [])
+generated_picture_header true reference = header PICTURE 5 ((10, reference) ∷ (3, P_PICTURE) ∷ (16, 0xFFFF) ∷ (1, 0) ∷ (3, 7) ∷ (1, 0) ∷ (6, 0) ∷ [])
 
 -- an f_code of a coding, forward 0 or backward 1, horizontal 0 or vertical 1
 abbrev pub f_code_at : PicCoding → ℕ → ℕ → ℕ
 f_code_at coding direction part = slice_index (f_codes coding direction) part
 
 -- picture_coding_extension() (6.2.3.1), with chroma_420_type 1 and composite_display_flag 0, and zero bits
-abbrev pub picture_coding_extension : PicCoding → List ℕ
-picture_coding_extension coding = header EXTENSION 5
+abbrev pub generated_picture_coding_extension : PicCoding → List ℕ
+generated_picture_coding_extension coding = header EXTENSION 5
     ((4, PICTURE_CODING) ∷ (4, f_code_at coding 0 0) ∷ (4, f_code_at coding 0 1) ∷ (4, f_code_at coding 1 0) ∷ (4, f_code_at coding 1 1)
     ∷ (2, coding.dc_precision) ∷ (2, coding.structure) ∷ (1, flag coding.top_field_first) ∷ (1, flag coding.frame_pred_frame_dct)
     ∷ (1, flag coding.concealment) ∷ (1, flag coding.q_scale_type) ∷ (1, flag coding.intra_vlc_format) ∷ (1, flag coding.alternate_scan)
@@ -99,8 +99,8 @@ picture_coding_extension coding = header EXTENSION 5
 -- what stands before an I-picture: a sequence and a group begin
 abbrev pub headers_before : Bool → List ℕ
 headers_before true = []
-headers_before false = sequence_header ++ sequence_extension ++ group_header
+headers_before false = generated_sequence_header ++ generated_sequence_extension ++ generated_group_header
 
 -- the head of picture k
 unfoldable pub head_of : ℕ → List ℕ
-head_of k = headers_before (is_predicted k) ++ picture_header (is_predicted k) (temporal_reference k) ++ picture_coding_extension (coding_of (is_predicted k))
+head_of k = headers_before (is_predicted k) ++ generated_picture_header (is_predicted k) (temporal_reference k) ++ generated_picture_coding_extension (coding_of (is_predicted k))

@@ -9,7 +9,7 @@ use Rattle.syntax_types.specs.declared.macroblock.Macroblock.{Macroblock}
 use Rattle.syntax_types.specs.declared.macroblock.Vector.{Vector}
 use Rattle.picture_grammar.specs.Block.{signed}
 use Rattle.picture_grammar.specs.Macroblock.{is_coded, no_block}
-use Rattle.program_maker.specs.Draws.{Drawn, done, ◌>>=◌, pick, each}
+use Rattle.program_maker.specs.Draws.{Drawn, nothing_drawn, ◌>>=◌, pick, draw_each}
 
 -- ---- blocks
 
@@ -19,25 +19,25 @@ run_level = do
   run ← pick 4
   size ← pick 6
   negative ← pick 2
-  done (record { run = run; level = signed (1 + size) (negative == 1) })
+  nothing_drawn (record { run = run; level = signed (1 + size) (negative == 1) })
 
 -- how many: up to 7, and in a non-intra block at least one
 abbrev pub number_of_pairs : Bool → Drawn ℕ
 number_of_pairs true = pick 8
 number_of_pairs false = do
   more ← pick 7
-  done (1 + more)
+  nothing_drawn (1 + more)
 
 -- a coded block; the DC coefficient of an intra block has size 0
 unfoldable pub coded_block : Bool → Drawn Block
 coded_block intra = do
   number ← number_of_pairs intra
-  pairs ← each (range_with_len 0 number) (λ _. run_level)
-  done (record { dc = if intra then Some (record { size = 0; bits = 0 }) else None; pairs = record { items = pairs } })
+  pairs ← draw_each (range_with_len 0 number) (λ _. run_level)
+  nothing_drawn (record { dc = if intra then Some (record { size = 0; bits = 0 }) else None; pairs = record { items = pairs } })
 
 -- block i, where it is coded
 unfoldable pub block_at : Kind → ℕ → ℕ → Drawn Block
-block_at kind pattern i = if is_coded kind pattern i then coded_block kind.intra else done no_block
+block_at kind pattern i = if is_coded kind pattern i then coded_block kind.intra else nothing_drawn no_block
 
 -- ---- macroblocks
 
@@ -50,8 +50,8 @@ abbrev pub predicted : Bool → Bool → Kind
 predicted forward pattern = record { quant = false; forward = forward; backward = false; pattern = pattern; intra = false }
 
 -- the four types of a P-picture's macroblocks
-abbrev pub kind_of : ℕ → Kind
-kind_of choice =
+abbrev pub p_kind : ℕ → Kind
+p_kind choice =
     if choice == 0 then predicted true false
     else if choice == 1 then predicted false true
     else if choice == 2 then predicted true true
@@ -61,29 +61,29 @@ kind_of choice =
 unfoldable pub drawn_kind : Bool → Drawn Kind
 drawn_kind true = do
   choice ← pick 4
-  done (kind_of choice)
-drawn_kind false = done intra_kind
+  nothing_drawn (p_kind choice)
+drawn_kind false = nothing_drawn intra_kind
 
 -- one in eight has a quantiser_scale_code, from 1 to 31
 abbrev pub code_by_chance : ℕ → Drawn (Option ℕ)
 code_by_chance chance = if chance == 0 then (do
   code ← pick 31
-  done (Some (1 + code))) else done None
+  nothing_drawn (Some (1 + code))) else nothing_drawn None
 
 -- drawn only where there are coefficients
 unfoldable pub quantiser_code : Kind → Drawn (Option ℕ)
-quantiser_code kind = if kind.intra || kind.pattern then pick 8 >>= code_by_chance else done None
+quantiser_code kind = if kind.intra || kind.pattern then pick 8 >>= code_by_chance else nothing_drawn None
 
 -- coded_block_pattern, from 1 to 63, where it stands
 unfoldable pub coded_pattern : Bool → Drawn ℕ
 coded_pattern true = do
   pattern ← pick 63
-  done (1 + pattern)
-coded_pattern false = done 0
+  nothing_drawn (1 + pattern)
+coded_pattern false = nothing_drawn 0
 
 -- the six blocks in order
 abbrev pub drawn_blocks : Kind → ℕ → Drawn (List Block)
-drawn_blocks kind pattern = each (range_with_len 0 BLOCKS) (block_at kind pattern)
+drawn_blocks kind pattern = draw_each (range_with_len 0 BLOCKS) (block_at kind pattern)
 
 -- the vector of motion codes 0
 abbrev pub still : Vector
@@ -110,4 +110,4 @@ drawn_macroblock predicted = do
   code ← quantiser_code kind
   pattern ← coded_pattern kind.pattern
   blocks ← drawn_blocks kind pattern
-  done (macroblock_of kind code pattern blocks)
+  nothing_drawn (macroblock_of kind code pattern blocks)

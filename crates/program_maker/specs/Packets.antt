@@ -28,16 +28,16 @@ abbrev pub section_packet : ℕ → List ℕ → PacketRecord
 section_packet pid section = payload_packet pid true (section_payload section)
 
 -- packets that the bytes of a PES packet fill
-abbrev pub packets_of : ℕ → ℕ
-packets_of size = (size + (PAYLOAD_BYTES - 1)) / PAYLOAD_BYTES
+abbrev pub pes_packet_count : ℕ → ℕ
+pes_packet_count size = (size + (PAYLOAD_BYTES - 1)) / PAYLOAD_BYTES
 
 -- the n-th packet of a PES packet; the first one has the start flag
-abbrev pub pes_packet : ℕ → List ℕ → ℕ → PacketRecord
-pes_packet pid bytes n = payload_packet pid (n == 0) (slice_chunk bytes PAYLOAD_BYTES n)
+abbrev pub pes_piece : ℕ → List ℕ → ℕ → PacketRecord
+pes_piece pid bytes n = payload_packet pid (n == 0) (slice_chunk bytes PAYLOAD_BYTES n)
 
 -- the bytes of a PES packet in transport packets
 unfoldable pub pes_packets : ℕ → List ℕ → List PacketRecord
-pes_packets pid bytes = map (pes_packet pid bytes) (range_with_len 0 (packets_of (length bytes)))
+pes_packets pid bytes = map (pes_piece pid bytes) (range_with_len 0 (pes_packet_count (length bytes)))
 
 -- the PCR before picture k, half a second before it is decoded, in a packet of the video's PID without payload
 abbrev pub pcr_packet : ℕ → PacketRecord

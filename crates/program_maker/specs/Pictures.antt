@@ -6,23 +6,23 @@ use Rattle.syntax_types.specs.declared.picture.Picture.{Picture}
 use Rattle.syntax_types.specs.declared.slice.Slice.{Slice}
 use Rattle.picture_grammar.specs.Written.{IsWritten}
 use Rattle.program_maker.specs.declared.format.TheConstants.{COLUMNS, ROWS, SLICE_CODE}
-use Rattle.program_maker.specs.Draws.{Drawn, done, ◌>>=◌, each}
+use Rattle.program_maker.specs.Draws.{Drawn, nothing_drawn, ◌>>=◌, draw_each}
 use Rattle.program_maker.specs.Macroblocks.{drawn_macroblock}
 use Rattle.program_maker.specs.Heads.{sequence_state, coding_of, is_predicted, head_of}
 
 -- the macroblocks of a row, of a P-picture or an I-picture
 unfoldable pub drawn_row : Bool → Drawn (List Macroblock)
-drawn_row predicted = each (range_with_len 0 COLUMNS) (λ _. drawn_macroblock predicted)
+drawn_row predicted = draw_each (range_with_len 0 COLUMNS) (λ _. drawn_macroblock predicted)
 
 -- a slice is a whole macroblock row
 unfoldable pub drawn_slice : Bool → ℕ → Drawn Slice
 drawn_slice predicted row = do
   macroblocks ← drawn_row predicted
-  done (record { row = row; code = SLICE_CODE; info = None; macroblocks = macroblocks })
+  nothing_drawn (record { row = row; code = SLICE_CODE; info = None; macroblocks = macroblocks })
 
 -- the slices of a picture in order
 unfoldable pub drawn_slices : Bool → Drawn (List Slice)
-drawn_slices predicted = each (range_with_len 0 ROWS) (drawn_slice predicted)
+drawn_slices predicted = draw_each (range_with_len 0 ROWS) (drawn_slice predicted)
 
 -- picture k with its slices
 abbrev pub picture_of : ℕ → List Slice → Picture
@@ -38,11 +38,11 @@ picture_of k slices = record {
 unfoldable pub drawn_picture : ℕ → Drawn Picture
 drawn_picture k = do
   slices ← drawn_slices (is_predicted k)
-  done (picture_of k slices)
+  nothing_drawn (picture_of k slices)
 
 -- the first n pictures
 abbrev pub drawn_pictures : ℕ → Drawn (List Picture)
-drawn_pictures n = each (range_with_len 0 n) drawn_picture
+drawn_pictures n = draw_each (range_with_len 0 n) drawn_picture
 
 -- the bytes of these pictures, one list for each
 abbrev pub AreWritten : List Picture → List (List ℕ) → Type 0

@@ -15,15 +15,15 @@ use Rattle.program_maker.specs.Packets.{section_packet, pes_packets, pcr_packet,
 -- ---- tables
 
 -- an elementary stream without descriptors
-abbrev pub stream_of : ℕ → ℕ → Stream
-stream_of type pid = record { kind = type; pid = pid; descriptors = record { items = [] } }
+abbrev pub plain_stream : ℕ → ℕ → Stream
+plain_stream type pid = record { kind = type; pid = pid; descriptors = record { items = [] } }
 
 -- the video, which carries the clock, and the audio
 abbrev pub program_map : ProgramMap
 program_map = record {
   number = PROGRAM;
   pcr_pid = VIDEO_PID;
-  streams = record { items = stream_of VIDEO_TYPE VIDEO_PID ∷ stream_of AUDIO_TYPE AUDIO_PID ∷ [] };
+  streams = record { items = plain_stream VIDEO_TYPE VIDEO_PID ∷ plain_stream AUDIO_TYPE AUDIO_PID ∷ [] };
   dropped = 0;
 }
 
@@ -55,7 +55,7 @@ program_packets pat pmt pictures frames =
 -- ---- the program
 
 -- The bytes are the program of a seed with so many pictures: the pictures are drawn first, from the seed on, then the frames.
-pub record IsProgram (seed number : ℕ) (bytes : List ℕ) : Type 0 where
+pub record IsGeneratedProgram (seed number : ℕ) (bytes : List ℕ) : Type 0 where
   pub pat : List ℕ
   pub pat_is : IsWithCrc (written_pat STREAM_ID ((PROGRAM, PMT_PID) ∷ [])) pat
   pub pmt : List ℕ

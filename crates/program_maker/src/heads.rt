@@ -1,7 +1,7 @@
 //! What stands before the slices of a picture (ISO/IEC 13818-2, 6.2.2 and 6.2.3).
 ghost use Rattle.std.specs.Prelude.{◌≡◌, ◌<◌, ◌++◌, true, OnOk};
 ghost use Rattle.shelf_io.specs.Sink.{with_bytes};
-ghost use Rattle.program_maker.specs.Heads.{both, coding_of, is_predicted as is_predicted_by, head_of, picture_header, picture_coding_extension};
+ghost use Rattle.program_maker.specs.Heads.{both, coding_of, is_predicted as is_predicted_by, head_of, generated_picture_header, generated_picture_coding_extension};
 
 use crate::format::GROUP_PICTURES;
 use shelf_io::{Fault, Sink, put_all};
@@ -60,7 +60,7 @@ pub fn write_head<K: Sink>(to: &mut K, k: u32) -> Result<(), Fault>
 // picture_header() and picture_coding_extension() of a P-picture.
 fn p_head(reference: u8) -> [u8; 18]
     requires { reference < GROUP_PICTURES }
-    ensures { result ≡ picture_header true reference ++ picture_coding_extension (coding_of true) }
+    ensures { result ≡ generated_picture_header true reference ++ generated_picture_coding_extension (coding_of true) }
 {
     [
         0x00,

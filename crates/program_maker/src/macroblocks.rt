@@ -2,8 +2,8 @@
 ghost use Rattle.std.specs.Prelude.{◌≡◌, ◌<◌, ◌≤◌, ◌+◌, [], ◌∷◌, ◌++◌, length, if◌then◌else◌};
 ghost use Rattle.std.specs.List.{range_with_len};
 ghost use Rattle.picture_grammar.specs.Macroblock.{is_coded as is_block_coded, no_block};
-ghost use Rattle.program_maker.specs.Draws.{each};
-ghost use Rattle.program_maker.specs.Macroblocks.{run_level, number_of_pairs, coded_block, block_at, intra_kind, predicted as predicted_of, kind_of, drawn_kind, quantiser_code, coded_pattern, drawn_blocks, drawn_macroblock, still};
+ghost use Rattle.program_maker.specs.Draws.{draw_each};
+ghost use Rattle.program_maker.specs.Macroblocks.{run_level, number_of_pairs, coded_block, block_at, intra_kind, predicted as predicted_of, p_kind, drawn_kind, quantiser_code, coded_pattern, drawn_blocks, drawn_macroblock, still};
 
 use crate::draws::Draws;
 use arrayvec::ArrayVec;
@@ -65,7 +65,7 @@ fn predicted(forward: bool, pattern: bool) -> Kind
 
 // The flags by the number that is drawn.
 fn kind_by(choice: u32) -> Kind
-    ensures { result ≡ kind_of choice }
+    ensures { result ≡ p_kind choice }
 {
     if choice == 0 {
         predicted(true, false)
@@ -185,8 +185,8 @@ fn draw_number(draws: &mut Draws, intra: bool) -> u32
 
 fn draw_pairs(draws: &mut Draws, number: u32, into: &mut ArrayVec<RunLevel, BLOCK_PLACES>)
     requires { number ≤ BLOCK_PLACES }
-    ensures drawn { into.new.items ≡ (each (range_with_len 0 number) (λ _. run_level) draws.old.state).0 }
-    ensures state { draws.new.state ≡ (each (range_with_len 0 number) (λ _. run_level) draws.old.state).1 }
+    ensures drawn { into.new.items ≡ (draw_each (range_with_len 0 number) (λ _. run_level) draws.old.state).0 }
+    ensures state { draws.new.state ≡ (draw_each (range_with_len 0 number) (λ _. run_level) draws.old.state).1 }
 {
     into.clear();
     for _i in 0..number {

@@ -6,7 +6,7 @@ ghost use Rattle.psi_tables.specs.Section.{IsWithCrc};
 ghost use Rattle.ts_packets.specs.Packet.{PacketRecord};
 ghost use Rattle.program_maker.specs.Packets.{pcr_packet, pes_packets};
 ghost use Rattle.program_maker.specs.Pictures.{drawn_pictures, AreWritten};
-ghost use Rattle.program_maker.specs.Program.{program_map, stream_of, packets_at, IsProgram};
+ghost use Rattle.program_maker.specs.Program.{program_map, plain_stream, packets_at, IsGeneratedProgram};
 ghost use Rattle.program_maker.specs.Streams.{drawn_frames, picture_pes};
 ghost use Rattle.program_maker.specs.Private.Output.{IsBehind};
 ghost use Rattle.program_maker.specs.Private.Program.{IsBehindTables, frames_state, frames_packets, first_frame};
@@ -28,7 +28,7 @@ use syntax_types::Macroblock;
 /// The program of a seed with so many pictures, at most 4,096: the bytes of a transport stream (ISO/IEC 13818-1, 2.4.3).
 pub fn make_program(alloc: Global, seed: u64, pictures: u32) -> Result<ListOf<u8>, OutOfMemory>
     requires { pictures ≤ PICTURES_MOST }
-    ensures { IfOk result (IsProgram seed pictures) }
+    ensures { IfOk result (IsGeneratedProgram seed pictures) }
 {
     let mut draws = Draws::new(seed);
     let units = make_pictures(alloc, &mut draws, pictures)?;
@@ -87,7 +87,7 @@ fn write_map(into: &mut Section)
 
 // A stream without descriptors.
 fn stream(kind: u8, pid: u16) -> Stream
-    ensures { result ≡ stream_of kind pid }
+    ensures { result ≡ plain_stream kind pid }
 {
     Stream {
         kind,

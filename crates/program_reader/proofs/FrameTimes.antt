@@ -54,7 +54,7 @@ use Rattle.audio_frames.specs.declared.frame.Frame.{Frame}
 use Rattle.audio_frames.specs.declared.pes_start.PesStart.{PesStart}
 use Rattle.audio_frames.specs.FrameHeader.{id, sampling_index, bit_rate_index, padding_bit, sampling_rate, frame_length, is_header}
 use Rattle.audio_frames.specs.Frames.{is_audio_frame, goes_on, end_of, is_first, first_frame, AreFrames, AreAllFrames}
-use Rattle.audio_frames.specs.Times.{pes_packet_of, is_first_in, given_time, frame_ticks, IsTimeOf, rate_of, AreFramesOf}
+use Rattle.audio_frames.specs.Times.{pes_packet_of, is_first_frame_in, given_time, frame_ticks, IsTimeOf, rate_of, AreFramesOf}
 use Rattle.list_types.specs.Spans.{spans}
 use Rattle.audio_frames.proofs.Chains.{some_frame}
 use Rattle.audio_frames.proofs.Formats.{frame_header}
@@ -155,9 +155,9 @@ given_near starts places k given near is =
     by_packet (pes_packet_of starts (slice_index places k)) (last_near (λ start. nat_le start.at (slice_index places k)) None starts tt near) is
   where
     by_packet : (packet : Option PesStart) → IfSome packet IsNearStart →
-        option_and_then (λ packet. if is_first_in places k packet then packet.time else None) packet ≡ Some given → IsNear 2855696 given
+        option_and_then (λ packet. if is_first_frame_in places k packet then packet.time else None) packet ≡ Some given → IsNear 2855696 given
     by_packet None near is = absurd cc
-    by_packet (Some packet) near is = near_of (is_first_in places k packet) packet.time given near is
+    by_packet (Some packet) near is = near_of (is_first_frame_in places k packet) packet.time given near is
 
 ticks_most : (rate count : ℕ) → 16000 ≤ rate → count ≤ 1073741824 → frame_ticks rate count ≤ 2087354105856000
 ticks_most rate count least few =

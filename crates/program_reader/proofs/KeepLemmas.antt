@@ -68,8 +68,8 @@ use Rattle.program_reader.specs.declared.timed_picture.Role.{Role}
 use Rattle.program_reader.specs.declared.timed_picture.Role.TheVariants.{Frame, FirstField, SecondField}
 use Rattle.program_reader.specs.declared.timed_picture.TimedPicture.{TimedPicture}
 use Rattle.program_reader.specs.declared.unit_picture.TimedUnit.{TimedUnit}
-use Rattle.program_reader.specs.Packets.{decoding_time, payload_of, joined, placed_from}
-use Rattle.program_reader.specs.PictureTimes.{first_picture, is_first_in, no_times, times_at, times_of_unit}
+use Rattle.program_reader.specs.Packets.{decoding_time, pes_payload_of, joined, placed_from}
+use Rattle.program_reader.specs.PictureTimes.{first_picture, is_first_picture_in, no_times, times_at, times_of_unit}
 use Rattle.program_reader.specs.Units.{unit_bytes, state_behind, frame_period, share_of, ticks_behind, IsTimed, IsNext, IsBroken, IsUnitRefused}
 use Rattle.program_reader.specs.Units.{AreInOrder, last_of, is_none_left, IsUnitsFault, AreKept}
 use Rattle.program_reader.specs.Private.AudioStarts.{IsNear}
@@ -296,9 +296,9 @@ possible_before es packets cuts i left kept lt few so_far = by_last kept.last so
 pub range_at : (es : List ℕ) (packets : List PlacedPacket) (at : ℕ) → All (λ packet. IsInRange (decoding_time packet.header.times)) packets → IsInRange (decoding_time (times_at es packets at))
 range_at es [] at all = tt
 range_at es (p ∷ ps) at all =
-    by_test (is_first_in es at p) refl (all 0 p (omega arith)) (range_at es ps at (All-tail (λ (packet : PlacedPacket). IsInRange (decoding_time packet.header.times)) p ps all))
+    by_test (is_first_picture_in es at p) refl (all 0 p (omega arith)) (range_at es ps at (All-tail (λ (packet : PlacedPacket). IsInRange (decoding_time packet.header.times)) p ps all))
   where
-    by_test : (here : Bool) → is_first_in es at p ≡ here → IsInRange (decoding_time p.header.times) → IsInRange (decoding_time (times_at es ps at)) →
+    by_test : (here : Bool) → is_first_picture_in es at p ≡ here → IsInRange (decoding_time p.header.times) → IsInRange (decoding_time (times_at es ps at)) →
         IsInRange (decoding_time (times_at es (p ∷ ps) at))
     by_test true is first rest = rw is first
     by_test false is first rest = rw is rest
@@ -442,9 +442,9 @@ kept_but_last es packets cuts i unit left old new refusal at is_last lt is last 
 placed_ends : (from size : ℕ) (packets : List PesUnit) → from + length (joined packets) ≤ size → All (λ packet. packet.end ≤ size) (placed_from from packets)
 placed_ends from size [] le = All-nil (λ (packet : PlacedPacket). packet.end ≤ size)
 placed_ends from size (p ∷ ps) le =
-    let sum : length (joined (p ∷ ps)) ≡ length (payload_of p) + length (joined ps) = length-append (payload_of p) (joined ps) in
-    All-cons (λ (packet : PlacedPacket). packet.end ≤ size) (placed_at from p) (placed_from (from + length (payload_of p)) ps) (omega (arith, sum, le))
-    (placed_ends (from + length (payload_of p)) size ps (omega (arith, sum, le)))
+    let sum : length (joined (p ∷ ps)) ≡ length (pes_payload_of p) + length (joined ps) = length-append (pes_payload_of p) (joined ps) in
+    All-cons (λ (packet : PlacedPacket). packet.end ≤ size) (placed_at from p) (placed_from (from + length (pes_payload_of p)) ps) (omega (arith, sum, le))
+    (placed_ends (from + length (pes_payload_of p)) size ps (omega (arith, sum, le)))
 
 pub video_ends : (video : TakenPackets) (es : List ℕ) (packets : List PlacedPacket) → es ≡ video.payload.items → packets ≡ video.packets.items → IsVideo video →
     All (λ packet. packet.end ≤ length es) packets

@@ -61,7 +61,7 @@ use Rattle.ts_demux.specs.declared.demux_fault.DemuxFault.TheVariants as demux_f
 use Rattle.ts_demux.specs.declared.demuxed.AudioStream.{AudioStream}
 use Rattle.ts_demux.specs.declared.demuxed.Demuxed.{Demuxed}
 use Rattle.ts_demux.specs.declared.demuxed.PesUnit.{PesUnit}
-use Rattle.ts_demux.specs.Demux.{IsDemuxed, IsRefused}
+use Rattle.ts_demux.specs.Demux.{IsDemuxed, IsDemuxRefused}
 use Rattle.ts_demux.proofs.OneAnswer as demux_answers
 use Rattle.program_reader.specs.declared.pes_packets.PlacedPacket.{PlacedPacket}
 use Rattle.program_reader.specs.declared.program.AudioPiece.{AudioPiece}
@@ -103,7 +103,7 @@ use Rattle.program_reader.specs.Programs.{
   IsBase,
   AreUnitSources,
   IsProgram,
-  IsProgramOf,
+  IsProgramOfFile,
   IsDemuxedRefused,
   IsProgramRefused,
 }
@@ -508,7 +508,7 @@ known_demux : (fault : ProgramFault) (found : DemuxFault) → fault ≢ OutOfMem
 known_demux fault found some is none = some (is ∙ ap of_demux none)
 
 module _ (file : List ℕ) (number : ℕ) (drop : List ℕ) where
-  pub one_program : (start : ℕ) (a b : Program) → IsProgramOf file number drop start a → IsProgramOf file number drop start b → a ≡ b
+  pub one_program : (start : ℕ) (a b : Program) → IsProgramOfFile file number drop start a → IsProgramOfFile file number drop start b → a ≡ b
   one_program start a b is is' =
       let same : is.demuxed ≡ is'.demuxed = demux_answers.one_demuxed file number drop is.demuxed is'.demuxed is.demuxed_is is'.demuxed_is in
       program_one start is'.demuxed a b (subst (λ (d : Demuxed). IsProgram start d a) same is.program_is) is'.program_is
@@ -531,7 +531,7 @@ module _ (file : List ℕ) (number : ℕ) (drop : List ℕ) where
       let same : demuxed ≡ demuxed' = demux_answers.one_demuxed file number drop demuxed demuxed' is is' in
       demuxed_refused_one demuxed' a b some some' (subst (λ (d : Demuxed). IsDemuxedRefused d a) same refused) refused'
 
-  either : (start : ℕ) (program : Program) (fault : ProgramFault) → fault ≢ OutOfMemory → IsProgramOf file number drop start program → IsProgramRefused file number drop fault → ⊥
+  either : (start : ℕ) (program : Program) (fault : ProgramFault) → fault ≢ OutOfMemory → IsProgramOfFile file number drop start program → IsProgramRefused file number drop fault → ⊥
   either start program fault some is (programs.memory e) = some e
   either start program fault some is (programs.long far e) = omega (arith, far, is.within)
   either start program fault some is (programs.stream found within is' e) = known_demux fault found some e (demux_answers.never_both file number drop is.demuxed found is.demuxed_is is')
@@ -539,6 +539,6 @@ module _ (file : List ℕ) (number : ℕ) (drop : List ℕ) where
       let same : demuxed ≡ is.demuxed = demux_answers.one_demuxed file number drop demuxed is.demuxed is' is.demuxed_is in
       refused_or_program is.demuxed start program fault some (subst (λ (d : Demuxed). IsDemuxedRefused d fault) same refused) is.program_is
 
-  pub never_both : (start : ℕ) (program : Program) (fault : ProgramFault) → IsProgramOf file number drop start program → IsProgramRefused file number drop fault → fault ≡ OutOfMemory
+  pub never_both : (start : ℕ) (program : Program) (fault : ProgramFault) → IsProgramOfFile file number drop start program → IsProgramRefused file number drop fault → fault ≡ OutOfMemory
   never_both start program OutOfMemory is refused = refl
   never_both start program (Refused kind at) is refused = absurd (either start program (Refused kind at) (λ same. (let both : Refused kind at ≡ OutOfMemory = same in cc)) is refused)

@@ -47,7 +47,7 @@ use Rattle.program_reader.specs.declared.program_fault.ProgramFault.{ProgramFaul
 use Rattle.program_reader.specs.declared.program_fault.ProgramFault.TheVariants.{Refused}
 use Rattle.program_reader.specs.declared.timed_picture.Role.{Role}
 use Rattle.program_reader.specs.declared.timed_picture.TimedPicture.{TimedPicture}
-use Rattle.program_reader.specs.Faults.{kind_of}
+use Rattle.program_reader.specs.Faults.{source_kind_of}
 use Rattle.program_reader.specs.Packets.{decoding_time}
 use Rattle.program_reader.specs.PictureTimes.{times_of_unit}
 use Rattle.program_reader.specs.Units.{
@@ -133,7 +133,7 @@ module _ (es : List ℕ) (packets : List PlacedPacket) where
   pub refusal_one : (before : Option TimedPicture) (unit : ℕ × ℕ) (is_last : Bool) (a b : ProgramFault) → IsUnitRefused es packets before unit is_last a →
       IsUnitRefused es packets before unit is_last b → a ≡ b
   refusal_one before unit is_last a b (broken r at mid is e) (broken r' at' mid' is' e') =
-      let same = broken_one es before unit r r' at at' is is' in e ∙ ap₂ (λ (s : Refusal) (n : ℕ). Refused (kind_of s) n) same.0 same.1 ∙ sym e'
+      let same = broken_one es before unit r r' at at' is is' in e ∙ ap₂ (λ (s : Refusal) (n : ℕ). Refused (source_kind_of s) n) same.0 same.1 ∙ sym e'
   refusal_one before unit is_last a b (broken r at mid is e) (unpaired seq coding coded unp e') = absurd (coded_or_broken es before unit seq coding r at coded is)
   refusal_one before unit is_last a b (broken r at mid is e) (long seq coding coded paired far e') = absurd (coded_or_broken es before unit seq coding r at coded is)
   refusal_one before unit is_last a b (broken r at mid is e) (no_time seq coding coded paired short none e') = absurd (coded_or_broken es before unit seq coding r at coded is)

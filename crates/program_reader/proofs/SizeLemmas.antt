@@ -46,10 +46,10 @@ use Rattle.pes_units.specs.PesPackets.{Gathered, up_to_start, gathered}
 use Rattle.psi_tables.specs.declared.stream.Stream.{Stream}
 use Rattle.ts_demux.specs.declared.demuxed.AudioStream.{AudioStream}
 use Rattle.ts_demux.specs.declared.demuxed.PesUnit.{PesUnit}
-use Rattle.ts_demux.specs.Demux.{units_in, packets_of}
+use Rattle.ts_demux.specs.Demux.{units_in, pes_packets_on}
 use Rattle.ts_packets.specs.Carried.{PlacedPacket, placed, has_payload, payload_packets, is_repeat, not_repeated, without_repeats, carried_by, carried}
-use Rattle.ts_packets.specs.Packet.{PacketRecord, packet_of, refusal, fields_of, has_field, adaptation_field_length}
-use Rattle.ts_packets.specs.TransportStream.{Piece, piece_at, piece_count, is_of_pid, pieces_of}
+use Rattle.ts_packets.specs.Packet.{PacketRecord, packet_of, transport_refusal, fields_of, has_field, adaptation_field_length}
+use Rattle.ts_packets.specs.TransportStream.{Piece, piece_at, piece_count, is_of_pid, pid_pieces}
 
 -- ---- PES packets of payloads
 
@@ -120,7 +120,7 @@ filter_less (p ∷ ps) = by_test (has_payload p) (filter_less ps)
 -- ---- packets of pieces of at most 188 bytes
 
 payload_less : (bytes : List ℕ) (packet : PacketRecord) → packet_of bytes ≡ Some packet → length packet.payload ≤ length bytes
-payload_less bytes packet is = by_refusal (is_none (refusal bytes)) is
+payload_less bytes packet is = by_refusal (is_none (transport_refusal bytes)) is
   where
     by_field : (some : Bool) (n : ℕ) → length (cond some (drop (5 + n) bytes) (drop 4 bytes)) ≤ length bytes
     by_field true n = omega (arith, length-drop (5 + n) bytes)
@@ -187,9 +187,9 @@ units_count (g ∷ gs) = ap suc (units_count gs)
 abbrev pub IsSmall : List PesUnit → Type 0
 IsSmall units = (length units ≤ 2855696) × (sum_by (λ packet. length packet.bytes) units < 1073741824)
 
-pub stream_small : (file : List ℕ) (stream : Stream) → length file ≤ 536870912 → IsSmall (packets_of file stream).units
+pub stream_small : (file : List ℕ) (stream : Stream) → length file ≤ 536870912 → IsSmall (pes_packets_on file stream).units
 stream_small file stream within =
-    let pieces = pieces_of file stream.pid 0 (piece_count file) in
+    let pieces = pid_pieces file stream.pid 0 (piece_count file) in
     let ks = filter (is_of_pid file stream.pid) (range_with_len 0 (piece_count file - 0)) in
     let count : piece_count file ≡ length file / 188 = refl in
     let same : length pieces ≡ length ks = map_count file ks in
@@ -203,6 +203,6 @@ stream_small file stream within =
     let cs_bytes : payload_bytes cs ≤ 188 * piece_count file = omega (arith, carried_bytes (without_repeats (payload_packets pieces)), once.1, full.1, all.1, few) in
     (omega (arith, units_count (gathered cs), gathered_count cs, cs_few, count, within), omega (arith, units_bytes (gathered cs), gathered_size cs, cs_bytes, count, within))
 
-pub audios_small : (file : List ℕ) (streams : List Stream) → length file ≤ 536870912 → All (λ (stream : AudioStream). IsSmall stream.units) (map (packets_of file) streams)
+pub audios_small : (file : List ℕ) (streams : List Stream) → length file ≤ 536870912 → All (λ (stream : AudioStream). IsSmall stream.units) (map (pes_packets_on file) streams)
 audios_small file streams within =
-    All-map (λ (stream : AudioStream). IsSmall stream.units) (packets_of file) streams (λ k d lt. stream_small file (get_or streams k d) within)
+    All-map (λ (stream : AudioStream). IsSmall stream.units) (pes_packets_on file) streams (λ k d lt. stream_small file (get_or streams k d) within)

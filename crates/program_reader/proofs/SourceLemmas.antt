@@ -51,7 +51,7 @@ use Rattle.program_reader.specs.declared.audio_stream.ReadStream.{ReadStream}
 use Rattle.program_reader.specs.declared.pes_packets.PlacedPacket.{PlacedPacket}
 use Rattle.program_reader.specs.declared.program.AudioPiece.{AudioPiece}
 use Rattle.program_reader.specs.declared.program.AudioSource.{AudioSource}
-use Rattle.program_reader.specs.Packets.{taken, payload_of, joined, placed_from}
+use Rattle.program_reader.specs.Packets.{taken, pes_payload_of, joined, placed_from}
 use Rattle.program_reader.specs.Audio.{time_of_byte, payload_place, packet_size, placed_pieces, ArePieces, IsAudioSource, AreAudioSources}
 use Rattle.program_reader.specs.Private.Dues.{IsTimeFrom}
 use Rattle.program_reader.specs.Private.Pieces.{Follow, HasTimes}
@@ -101,16 +101,16 @@ placed_inside : (from size : ℕ) (packets : List PesUnit) → All HasPayload pa
 placed_inside from size [] all le = All-nil (IsInside size)
 placed_inside from size (p ∷ ps) all le =
     let some : HasPayload p = all 0 p (omega arith) in
-    let sum : length (joined (p ∷ ps)) ≡ length (payload_of p) + length (joined ps) = length-append (payload_of p) (joined ps) in
-    All-cons (IsInside size) (placed_at from p) (placed_from (from + length (payload_of p)) ps) (omega (arith, some), omega (arith, sum, le))
-    (placed_inside (from + length (payload_of p)) size ps (All-tail HasPayload p ps all) (omega (arith, sum, le)))
+    let sum : length (joined (p ∷ ps)) ≡ length (pes_payload_of p) + length (joined ps) = length-append (pes_payload_of p) (joined ps) in
+    All-cons (IsInside size) (placed_at from p) (placed_from (from + length (pes_payload_of p)) ps) (omega (arith, some), omega (arith, sum, le))
+    (placed_inside (from + length (pes_payload_of p)) size ps (All-tail HasPayload p ps all) (omega (arith, sum, le)))
 
 follow_of : (from : ℕ) (packets : List PesUnit) → All HasPayload packets → from + length (joined packets) < 4294967296 → Follow from (placed_from from packets)
 follow_of from [] all lt = tt
 follow_of from (p ∷ ps) all lt =
     let some : HasPayload p = all 0 p (omega arith) in
-    let sum : length (joined (p ∷ ps)) ≡ length (payload_of p) + length (joined ps) = length-append (payload_of p) (joined ps) in
-    (omega arith, omega (arith, some), omega (arith, sum, lt), follow_of (from + length (payload_of p)) ps (All-tail HasPayload p ps all) (omega (arith, sum, lt)))
+    let sum : length (joined (p ∷ ps)) ≡ length (pes_payload_of p) + length (joined ps) = length-append (pes_payload_of p) (joined ps) in
+    (omega arith, omega (arith, some), omega (arith, sum, lt), follow_of (from + length (pes_payload_of p)) ps (All-tail HasPayload p ps all) (omega (arith, sum, lt)))
 
 taken_front : (video : Bool) (packets : List PesUnit) → taken video packets ≡ take (length (taken video packets)) packets
 taken_front video [] = refl

@@ -7,7 +7,7 @@ use Rattle.audio_frames.proofs.Places.{found_passes}
 use Rattle.ts_demux.specs.declared.demuxed.PesUnit.{PesUnit}
 use Rattle.program_reader.specs.declared.pes_packets.PlacedPacket.{PlacedPacket}
 use Rattle.program_reader.specs.declared.picture_times.StampedPicture.{StampedPicture}
-use Rattle.program_reader.specs.Packets.{payload_of, placed_from}
+use Rattle.program_reader.specs.Packets.{pes_payload_of, placed_from}
 use Rattle.program_reader.specs.PictureTimes.{begins_picture, first_picture, no_times, times_at, times_of_unit}
 use Rattle.program_reader.specs.Private.StampedPictures.{stamp_at, stamps_of, times_of_stamp, AreRising, Leaves, LeavesFrom, TellTimes, IsCounted}
 use Rattle.program_reader.proofs.PlaceLemmas.{found_from}
@@ -44,7 +44,7 @@ within test from end at le is = (found_from test (end - from) from at is, omega 
 pub stamps_rise : (es : List ℕ) (from : ℕ) (packets : List PesUnit) → AreRising from (stamps_of es (placed_from from packets))
 stamps_rise es from [] = tt
 stamps_rise es from (p ∷ ps) =
-    let end : ℕ = from + length (payload_of p) in
+    let end : ℕ = from + length (pes_payload_of p) in
     rises from end (placed_at from p) (stamps_of es (placed_from end ps)) (first_picture es from end) (λ at is. within (begins_picture es) from end at (omega arith) is) (omega arith)
     (stamps_rise es end ps)
 

@@ -46,7 +46,7 @@ use Rattle.audio_frames.specs.declared.frame.Frame.{Frame}
 use Rattle.audio_frames.specs.Times.{AreStarts, AreFramesOf, IsAudioRefused}
 use Rattle.pes_units.specs.declared.pes_fault.PesFault.{PesFault}
 use Rattle.pes_units.specs.declared.pes_fault.PesFault.TheVariants.{BadLength}
-use Rattle.pes_units.specs.PesHeader.{header_length, refusal}
+use Rattle.pes_units.specs.PesHeader.{header_length, pes_refusal}
 use Rattle.pes_units.specs.PesPackets.{is_cut, is_dropped, is_length_sound, packet_refusal}
 use Rattle.pes_units.proofs.Refusals.{passes-header}
 use Rattle.ts_demux.specs.declared.demuxed.AudioStream.{AudioStream}
@@ -55,7 +55,7 @@ use Rattle.program_reader.specs.declared.pes_packets.PlacedPacket.{PlacedPacket}
 use Rattle.program_reader.specs.declared.pes_packets.TakenPackets.{TakenPackets}
 use Rattle.program_reader.specs.declared.program_fault.ProgramFault.{ProgramFault}
 use Rattle.program_reader.specs.Faults.{of_audio}
-use Rattle.program_reader.specs.Packets.{AreSound, taken, payload_of, joined, packets_dropped, placed_from, decoding_time}
+use Rattle.program_reader.specs.Packets.{AreSound, taken, pes_payload_of, joined, packets_dropped, placed_from, decoding_time}
 use Rattle.program_reader.specs.Audio.{AreStartsOf, IsStreamRefused}
 use Rattle.program_reader.specs.Private.AudioStarts.{IsNear, AreNear, IsStreamRead}
 use Rattle.program_reader.specs.Private.TakenPackets.{AreTaken}
@@ -67,7 +67,7 @@ use Rattle.program_reader.proofs.TimeRange.{IsInRange, decoding_in_range}
 
 pub placed_count : (from : ℕ) (packets : List PesUnit) → length (placed_from from packets) ≡ length packets
 placed_count from [] = refl
-placed_count from (p ∷ ps) = ap suc (placed_count (from + length (payload_of p)) ps)
+placed_count from (p ∷ ps) = ap suc (placed_count (from + length (pes_payload_of p)) ps)
 
 pub taken_count : (video : Bool) (packets : List PesUnit) → length (taken video packets) ≤ length packets
 taken_count video [] = omega arith
@@ -88,21 +88,21 @@ taken_bytes video (p ∷ []) = by_test (is_dropped video p.bytes)
   where
     by_test : (dropped : Bool) → length (joined (if dropped then [] else p ∷ [])) ≤ bytes_in (p ∷ [])
     by_test true = omega arith
-    by_test false = omega (arith, sum_by-cons (λ (packet : PesUnit). length packet.bytes) p [], length-append (payload_of p) [], length-drop (header_length p.bytes) p.bytes)
+    by_test false = omega (arith, sum_by-cons (λ (packet : PesUnit). length packet.bytes) p [], length-append (pes_payload_of p) [], length-drop (header_length p.bytes) p.bytes)
 taken_bytes video (p ∷ q ∷ ps) =
     let rest : length (joined (taken video (q ∷ ps))) ≤ bytes_in (q ∷ ps) = taken_bytes video (q ∷ ps) in
-    omega (arith, rest, sum_by-cons (λ (packet : PesUnit). length packet.bytes) p (q ∷ ps), length-append (payload_of p) (joined (taken video (q ∷ ps))), length-drop (header_length p.bytes) p.bytes)
+    omega (arith, rest, sum_by-cons (λ (packet : PesUnit). length packet.bytes) p (q ∷ ps), length-append (pes_payload_of p) (joined (taken video (q ∷ ps))), length-drop (header_length p.bytes) p.bytes)
 
 pub placed_times : (from : ℕ) (packets : List PesUnit) → All (λ packet. IsInRange (decoding_time packet.header.times)) (placed_from from packets)
 placed_times from [] = All-nil (λ (packet : PlacedPacket). IsInRange (decoding_time packet.header.times))
 placed_times from (p ∷ ps) =
-    All-cons (λ (packet : PlacedPacket). IsInRange (decoding_time packet.header.times)) _ (placed_from (from + length (payload_of p)) ps)
-    (decoding_in_range p.bytes) (placed_times (from + length (payload_of p)) ps)
+    All-cons (λ (packet : PlacedPacket). IsInRange (decoding_time packet.header.times)) _ (placed_from (from + length (pes_payload_of p)) ps)
+    (decoding_in_range p.bytes) (placed_times (from + length (pes_payload_of p)) ps)
 
 -- ---- each has a payload
 
 abbrev pub HasPayload : PesUnit → Type 0
-HasPayload packet = 0 < length (payload_of packet)
+HasPayload packet = 0 < length (pes_payload_of packet)
 
 pub passes : (found : Option PesFault) (sound : Bool) → (if is_some found then found else if sound then None else Some BadLength) ≡ None → found ≡ None
 passes None sound is = refl
@@ -110,7 +110,7 @@ passes (Some fault) sound is = absurd cc
 
 whole_payload : (packet : PesUnit) → packet_refusal false packet.bytes ≡ None → HasPayload packet
 whole_payload packet is =
-    let header = passes-header false packet.bytes (passes (refusal false packet.bytes) (is_length_sound false packet.bytes) is) in
+    let header = passes-header false packet.bytes (passes (pes_refusal false packet.bytes) (is_length_sound false packet.bytes) is) in
     omega (arith, header.followed, length-drop (header_length packet.bytes) packet.bytes)
 
 pub taken_payloads : (packets : List PesUnit) → AreSound false packets → All HasPayload (taken false packets)
@@ -143,8 +143,8 @@ places_rise from [] all k lt = absurd (omega arith)
 places_rise from (p ∷ []) all k lt = absurd (omega arith)
 places_rise from (p ∷ q ∷ ps) all zero lt = let some : HasPayload p = all 0 p (omega arith) in omega arith
 places_rise from (p ∷ q ∷ ps) all (suc k) lt =
-    subst (λ (n : ℕ). slice_index (places_of (from + length (payload_of p)) (q ∷ ps)) k < n) (sym (next_place from (places_of (from + length (payload_of p)) (q ∷ ps)) k))
-    (places_rise (from + length (payload_of p)) (q ∷ ps) (All-tail HasPayload p (q ∷ ps) all) k (omega arith))
+    subst (λ (n : ℕ). slice_index (places_of (from + length (pes_payload_of p)) (q ∷ ps)) k < n) (sym (next_place from (places_of (from + length (pes_payload_of p)) (q ∷ ps)) k))
+    (places_rise (from + length (pes_payload_of p)) (q ∷ ps) (All-tail HasPayload p (q ∷ ps) all) k (omega arith))
 
 pub starts_inside : (before : ℤ) (from : ℕ) (packets : List PesUnit) (starts : List PesStart) → AreStartsOf before (placed_from from packets) starts → All HasPayload packets →
     All (λ start. start.at < from + length (joined packets)) starts
@@ -153,10 +153,10 @@ starts_inside before from [] (s ∷ ss) are all = absurd are
 starts_inside before from (p ∷ ps) [] are all = absurd are
 starts_inside before from (p ∷ ps) (s ∷ ss) are all =
     let some : HasPayload p = all 0 p (omega arith) in
-    let size : (from + length (payload_of p)) + length (joined ps) ≡ from + length (joined (p ∷ ps)) = omega (arith, length-append (payload_of p) (joined ps)) in
-    let here : s.at < from + length (joined (p ∷ ps)) = omega (arith, are.0, length-append (payload_of p) (joined ps)) in
+    let size : (from + length (pes_payload_of p)) + length (joined ps) ≡ from + length (joined (p ∷ ps)) = omega (arith, length-append (pes_payload_of p) (joined ps)) in
+    let here : s.at < from + length (joined (p ∷ ps)) = omega (arith, are.0, length-append (pes_payload_of p) (joined ps)) in
     All-cons (λ (start : PesStart). start.at < from + length (joined (p ∷ ps))) s ss here
-    (subst (λ (n : ℕ). All (λ start. start.at < n) ss) size (starts_inside _ (from + length (payload_of p)) ps ss are.2 (All-tail HasPayload p ps all)))
+    (subst (λ (n : ℕ). All (λ start. start.at < n) ss) size (starts_inside _ (from + length (pes_payload_of p)) ps ss are.2 (All-tail HasPayload p ps all)))
 
 first_start : (before : ℤ) (packets : List PesUnit) (starts : List PesStart) → AreStartsOf before (placed_from 0 packets) starts → 0 < length (joined packets) →
     (0 < length starts) × (slice_index (map (λ start. start.at) starts) 0 ≡ 0)

@@ -36,14 +36,14 @@ use Rattle.std.proofs.lemmas.List.{append_assoc, append-nil, length-append}
 use Rattle.std.proofs.lemmas.List.Elements.{All-tail}
 use Rattle.std.proofs.lemmas.Grind.{flat_map-append}
 use Rattle.pes_units.specs.declared.pes_header.PesHeader.{PesHeader}
-use Rattle.pes_units.specs.PesHeader.{fields_of}
+use Rattle.pes_units.specs.PesHeader.{pes_fields_of}
 use Rattle.pes_units.specs.PesPackets.{packet_refusal, last_refusal}
 use Rattle.ts_demux.specs.declared.demuxed.PesUnit.{PesUnit}
 use Rattle.program_reader.specs.declared.pes_packets.PlacedPacket.{PlacedPacket}
 use Rattle.program_reader.specs.declared.pes_packets.TakenPackets.{TakenPackets}
 use Rattle.program_reader.specs.declared.program_fault.ProgramFault.{ProgramFault}
 use Rattle.program_reader.specs.declared.program_fault.ProgramFault.TheVariants.{OutOfMemory}
-use Rattle.program_reader.specs.Packets.{fault_before, IsPacketFault, AreSound, taken, packets_dropped, payload_of, joined, placed_from}
+use Rattle.program_reader.specs.Packets.{fault_before, IsPacketFault, AreSound, taken, packets_dropped, pes_payload_of, joined, placed_from}
 use Rattle.program_reader.specs.Private.TakenPackets.{Holds, IsFaultOf, AreTaken, last_taken}
 
 -- a packet that others follow has no fault
@@ -67,33 +67,33 @@ dropped_of video (x ∷ y ∷ ys) last = dropped_of video (y ∷ ys) last
 
 -- where a packet stands whose payload begins at a place
 abbrev pub placed_at : ℕ → PesUnit → PlacedPacket
-placed_at from packet = record { from = from; end = from + length (payload_of packet); header = fields_of packet.bytes }
+placed_at from packet = record { from = from; end = from + length (pes_payload_of packet); header = pes_fields_of packet.bytes }
 
 pub placed_push : (from : ℕ) (packets : List PesUnit) (packet : PesUnit) →
     placed_from from (packets ++ packet ∷ []) ≡ placed_from from packets ++ placed_at (from + length (joined packets)) packet ∷ []
 placed_push from [] packet = ap (λ (n : ℕ). placed_at n packet ∷ []) (omega arith)
 placed_push from (x ∷ xs) packet =
     ap (λ (placed : List PlacedPacket). placed_at from x ∷ placed) (
-    placed_push (from + length (payload_of x)) xs packet
-    ∙ ap (λ (n : ℕ). placed_from (from + length (payload_of x)) xs ++ placed_at n packet ∷ [])
-    (omega (arith, length-append (payload_of x) (joined xs)))
+    placed_push (from + length (pes_payload_of x)) xs packet
+    ∙ ap (λ (n : ℕ). placed_from (from + length (pes_payload_of x)) xs ++ placed_at n packet ∷ [])
+    (omega (arith, length-append (pes_payload_of x) (joined xs)))
     )
 
-pub joined_push : (packets : List PesUnit) (packet : PesUnit) → joined (packets ++ packet ∷ []) ≡ joined packets ++ payload_of packet
-joined_push packets packet = flat_map-append payload_of packets (packet ∷ []) ∙ ap (λ (bytes : List ℕ). joined packets ++ bytes) (append-nil (payload_of packet))
+pub joined_push : (packets : List PesUnit) (packet : PesUnit) → joined (packets ++ packet ∷ []) ≡ joined packets ++ pes_payload_of packet
+joined_push packets packet = flat_map-append pes_payload_of packets (packet ∷ []) ∙ ap (λ (bytes : List ℕ). joined packets ++ bytes) (append-nil (pes_payload_of packet))
 
 -- one more packet, whose payload goes behind those before
 pub held_more : (before : List PesUnit) (packet : PesUnit) (payload bytes : List ℕ) (placed : List PlacedPacket) (from end : ℕ) (header : PesHeader) →
-    payload ≡ joined before → placed ≡ placed_from 0 before → header ≡ fields_of packet.bytes → bytes ≡ drop header.len packet.bytes → from ≡ length payload →
+    payload ≡ joined before → placed ≡ placed_from 0 before → header ≡ pes_fields_of packet.bytes → bytes ≡ drop header.len packet.bytes → from ≡ length payload →
     end ≡ length (payload ++ bytes) →
     (payload ++ bytes ≡ joined (before ++ packet ∷ []))
     × (placed ++ record { from = from; end = end; header = header } ∷ [] ≡ placed_from 0 (before ++ packet ∷ []))
 held_more before packet payload bytes placed from end header ip il ih ib fe ie =
-    let is_payload : bytes ≡ payload_of packet = ib ∙ ap (λ (h : PesHeader). drop h.len packet.bytes) ih in
+    let is_payload : bytes ≡ pes_payload_of packet = ib ∙ ap (λ (h : PesHeader). drop h.len packet.bytes) ih in
     let size : length payload ≡ length (joined before) = ap (λ (xs : List ℕ). length xs) ip in
-    let more : length bytes ≡ length (payload_of packet) = ap (λ (xs : List ℕ). length xs) is_payload in
+    let more : length bytes ≡ length (pes_payload_of packet) = ap (λ (xs : List ℕ). length xs) is_payload in
     let f : from ≡ 0 + length (joined before) = omega arith in
-    let e : end ≡ (0 + length (joined before)) + length (payload_of packet) = omega (arith, length-append payload bytes) in (
+    let e : end ≡ (0 + length (joined before)) + length (pes_payload_of packet) = omega (arith, length-append payload bytes) in (
       ap (λ (xs : List ℕ). xs ++ bytes) ip ∙ ap (λ (xs : List ℕ). joined before ++ xs) is_payload ∙ sym (joined_push before packet),
       ap (λ (xs : List PlacedPacket). xs ++ record { from = from; end = end; header = header } ∷ []) il
           ∙ ap (λ (p : PlacedPacket). placed_from 0 before ++ p ∷ []) (same from end header f e ih) ∙ sym (placed_push 0 before packet),

@@ -40,20 +40,20 @@ of_pes at pes_faults.BadMarker = Refused kinds.BadMarker at
 of_pes at pes_faults.BadLength = Refused kinds.BadLength at
 
 -- what a unit is refused for, by its headers and by its picture
-abbrev pub kind_of : Refusal → SourceKind
-kind_of Refusal.NoCode = kinds.NoCode
-kind_of Refusal.TooMany = kinds.TooMany
-kind_of Refusal.BadEscape = kinds.BadEscape
-kind_of Refusal.BadType = kinds.BadType
-kind_of Refusal.BadAddress = kinds.BadAddress
-kind_of Refusal.BadPattern = kinds.BadPattern
-kind_of Refusal.End = kinds.End
-kind_of Refusal.Uncovered = kinds.Uncovered
-kind_of Refusal.BadHeader = kinds.BadHeader
-kind_of Refusal.NotMpeg2 = kinds.NotMpeg2
-kind_of Refusal.Profile = kinds.Profile
-kind_of Refusal.LowDelay = kinds.LowDelay
-kind_of Refusal.Size = kinds.Size
+abbrev pub source_kind_of : Refusal → SourceKind
+source_kind_of Refusal.NoCode = kinds.NoCode
+source_kind_of Refusal.TooMany = kinds.TooMany
+source_kind_of Refusal.BadEscape = kinds.BadEscape
+source_kind_of Refusal.BadType = kinds.BadType
+source_kind_of Refusal.BadAddress = kinds.BadAddress
+source_kind_of Refusal.BadPattern = kinds.BadPattern
+source_kind_of Refusal.End = kinds.End
+source_kind_of Refusal.Uncovered = kinds.Uncovered
+source_kind_of Refusal.BadHeader = kinds.BadHeader
+source_kind_of Refusal.NotMpeg2 = kinds.NotMpeg2
+source_kind_of Refusal.Profile = kinds.Profile
+source_kind_of Refusal.LowDelay = kinds.LowDelay
+source_kind_of Refusal.Size = kinds.Size
 
 -- what the frames of an audio stream are refused for
 abbrev pub of_audio : AudioFault → ProgramFault

@@ -4,7 +4,7 @@ use Rattle.std.specs.Prelude.{◌≡◌, ℕ, ◌+◌, Bool, List, [], ◌∷◌
 use Rattle.std.specs.List.{flat_map}
 use Rattle.pes_units.specs.declared.pes_fault.PesFault.{PesFault}
 use Rattle.pes_units.specs.declared.times.Times.{Times}
-use Rattle.pes_units.specs.PesHeader.{fields_of, header_length}
+use Rattle.pes_units.specs.PesHeader.{pes_fields_of, header_length}
 use Rattle.pes_units.specs.PesPackets.{packet_refusal, last_refusal, is_dropped}
 use Rattle.ts_demux.specs.declared.demuxed.PesUnit.{PesUnit}
 use Rattle.program_reader.specs.declared.pes_packets.PlacedPacket.{PlacedPacket}
@@ -49,18 +49,18 @@ packets_dropped video (packet ∷ []) = if is_dropped video packet.bytes then 1 
 packets_dropped video (packet ∷ next ∷ more) = packets_dropped video (next ∷ more)
 
 -- the bytes behind the header of a PES packet
-abbrev pub payload_of : PesUnit → List ℕ
-payload_of packet = drop (header_length packet.bytes) packet.bytes
+abbrev pub pes_payload_of : PesUnit → List ℕ
+pes_payload_of packet = drop (header_length packet.bytes) packet.bytes
 
 -- the payloads of PES packets, one behind the other
 abbrev pub joined : List PesUnit → List ℕ
-joined packets = flat_map payload_of packets
+joined packets = flat_map pes_payload_of packets
 
 -- where the payload of each PES packet stands in the joined one, whose part behind the packets before begins at this place
 abbrev pub placed_from : ℕ → List PesUnit → List PlacedPacket
 placed_from from [] = []
 placed_from from (packet ∷ more) =
-    record { from = from; end = from + length (payload_of packet); header = fields_of packet.bytes } ∷ placed_from (from + length (payload_of packet)) more
+    record { from = from; end = from + length (pes_payload_of packet); header = pes_fields_of packet.bytes } ∷ placed_from (from + length (pes_payload_of packet)) more
 
 -- ---- their times
 

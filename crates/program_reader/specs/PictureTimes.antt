@@ -21,8 +21,8 @@ abbrev pub first_picture : List ℕ → ℕ → ℕ → Option ℕ
 first_picture es from end = find (begins_picture es) (places from end)
 
 -- the first picture whose start code begins in the PES packet begins at the place
-abbrev pub is_first_in : List ℕ → ℕ → PlacedPacket → Bool
-is_first_in es at packet = option_map_or (λ first. first == at) (first_picture es packet.from packet.end) false
+abbrev pub is_first_picture_in : List ℕ → ℕ → PlacedPacket → Bool
+is_first_picture_in es at packet = option_map_or (λ first. first == at) (first_picture es packet.from packet.end) false
 
 -- no times
 abbrev pub no_times : Times
@@ -30,7 +30,7 @@ no_times = record { pts = None; dts = None }
 
 -- the times of the picture that begins at the place: those of the PES packet in which it is the first one to begin
 abbrev pub times_at : List ℕ → List PlacedPacket → ℕ → Times
-times_at es packets at = option_map_or (λ packet. packet.header.times) (find (is_first_in es at) packets) no_times
+times_at es packets at = option_map_or (λ packet. packet.header.times) (find (is_first_picture_in es at) packets) no_times
 
 -- the times of a unit: those of the picture that begins in it
 abbrev pub times_of_unit : List ℕ → List PlacedPacket → ℕ × ℕ → Times

@@ -8,7 +8,7 @@ use Rattle.es_units.specs.Units.{cut_units}
 use Rattle.picture_grammar.specs.Refusal.{Refusal}
 use Rattle.ts_demux.specs.declared.demux_fault.DemuxFault.{DemuxFault}
 use Rattle.ts_demux.specs.declared.demuxed.Demuxed.{Demuxed}
-use Rattle.ts_demux.specs.Demux.{IsDemuxed, IsRefused}
+use Rattle.ts_demux.specs.Demux.{IsDemuxed, IsDemuxRefused}
 use Rattle.version_table.specs.declared.limits.TheConstants.{UNITS_MOST}
 use Rattle.program_reader.specs.declared.limits.TheConstants.{FILE_BYTES_MOST}
 use Rattle.program_reader.specs.declared.pes_packets.PlacedPacket.{PlacedPacket}
@@ -111,7 +111,7 @@ pub record IsProgram (start : ℕ) (demuxed : Demuxed) (program : Program) : Typ
   pub not_carried_are : program.not_carried ≡ demuxed.not_carried
 
 -- the program of this number in a file, without the audio streams of some PIDs
-pub record IsProgramOf (file : List ℕ) (number : ℕ) (drop : List ℕ) (start : ℕ) (program : Program) : Type 0 where
+pub record IsProgramOfFile (file : List ℕ) (number : ℕ) (drop : List ℕ) (start : ℕ) (program : Program) : Type 0 where
   pub within : length file ≤ FILE_BYTES_MOST
   pub demuxed : Demuxed
   pub demuxed_is : IsDemuxed file number drop demuxed
@@ -135,7 +135,7 @@ pub data IsDemuxedRefused (demuxed : Demuxed) (fault : ProgramFault) : Type 0 wh
 -- at any time.
 pub data IsProgramRefused (file : List ℕ) (number : ℕ) (drop : List ℕ) (fault : ProgramFault) : Type 0 where
   long : FILE_BYTES_MOST < length file → fault ≡ Refused kinds.ProgramLimit 0 → IsProgramRefused file number drop fault
-  stream : (found : DemuxFault) → length file ≤ FILE_BYTES_MOST → IsRefused file number drop found → fault ≡ of_demux found
+  stream : (found : DemuxFault) → length file ≤ FILE_BYTES_MOST → IsDemuxRefused file number drop found → fault ≡ of_demux found
       → IsProgramRefused file number drop fault
   taken_out : (demuxed : Demuxed) → length file ≤ FILE_BYTES_MOST → IsDemuxed file number drop demuxed → IsDemuxedRefused demuxed fault
       → IsProgramRefused file number drop fault

@@ -20,7 +20,7 @@ use Rattle.program_reader.specs.declared.program_fault.SourceKind.TheVariants as
 use Rattle.program_reader.specs.declared.timed_picture.Role.{Role}
 use Rattle.program_reader.specs.declared.timed_picture.Role.TheVariants.{Frame, FirstField, SecondField}
 use Rattle.program_reader.specs.declared.timed_picture.TimedPicture.{TimedPicture}
-use Rattle.program_reader.specs.Faults.{kind_of}
+use Rattle.program_reader.specs.Faults.{source_kind_of}
 use Rattle.program_reader.specs.Packets.{decoding_time}
 use Rattle.program_reader.specs.PictureTimes.{times_of_unit}
 
@@ -122,7 +122,7 @@ pub record IsNext (es : List ℕ) (packets : List PlacedPacket) (before : Option
 -- What refuses a unit behind the one before, each of these where none above it does: a rule of headers or pictures, which
 -- a last unit may break; a field pair; its length; no time; no later time.
 pub data IsUnitRefused (es : List ℕ) (packets : List PlacedPacket) (before : Option TimedPicture) (unit : ℕ × ℕ) (is_last : Bool) (fault : ProgramFault) : Type 0 where
-  broken : (refusal : Refusal) (at : ℕ) → is_last ≡ false → IsBroken es before unit refusal at → fault ≡ Refused (kind_of refusal) at
+  broken : (refusal : Refusal) (at : ℕ) → is_last ≡ false → IsBroken es before unit refusal at → fault ≡ Refused (source_kind_of refusal) at
       → IsUnitRefused es packets before unit is_last fault
   unpaired : (seq : SeqState) (coding : PicCoding) → IsCoded es before unit seq coding → IsUnpaired before coding
       → fault ≡ Refused kinds.FieldPair unit.0 → IsUnitRefused es packets before unit is_last fault

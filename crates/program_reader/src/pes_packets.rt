@@ -1,6 +1,6 @@
 //! The PES packets of a stream that are taken (ISO/IEC 13818-1, 2.4.3.6).
 ghost use Rattle.std.specs.Prelude.{◌≡◌, ◌⊎◌, ◌∷◌, ◌++◌, [], List, drop, length, true, None, MatchResult, OnOk, IfErr, IfOk, if◌then◌else◌};
-ghost use Rattle.pes_units.specs.PesHeader.{fields_of};
+ghost use Rattle.pes_units.specs.PesHeader.{pes_fields_of};
 ghost use Rattle.ts_demux.specs.declared.demuxed.PesUnit.{PesUnit};
 ghost use Rattle.pes_units.specs.PesPackets.{is_dropped, packet_refusal, last_refusal};
 ghost use Rattle.program_reader.specs.declared.program_fault.ProgramFault.TheVariants.{OutOfMemory};
@@ -104,7 +104,7 @@ impl TakenPackets {
 
     /// Adds a PES packet with this header.
     fn add(&mut self, packet: &PesUnit, header: PesHeader) -> Result<(), AllocError>
-        requires { header ≡ fields_of packet.now.bytes }
+        requires { header ≡ pes_fields_of packet.now.bytes }
         ensures { OnOk result (Adds (packet.now ∷ []) self.old self.new) }
     {
         let payload = bytes_behind(packet.bytes.as_slice(), header.len as usize);

@@ -2,7 +2,7 @@
 ghost use Rattle.std.specs.Prelude.{◌≡◌, ◌⊎◌, ◌≤◌, ◌<◌, ◌^◌, [], true, length, All, IfOk, MatchResult};
 ghost use Rattle.std.specs.List.{sum_by};
 ghost use Rattle.program_reader.specs.declared.program_fault.ProgramFault.TheVariants.{OutOfMemory};
-ghost use Rattle.program_reader.specs.Programs.{IsProgram, IsDemuxedRefused, IsProgramOf, IsProgramRefused};
+ghost use Rattle.program_reader.specs.Programs.{IsProgram, IsDemuxedRefused, IsProgramOfFile, IsProgramRefused};
 ghost use Rattle.program_reader.specs.Sizes.{AreProgramSizes};
 
 use crate::audio_stream::read_streams;
@@ -46,7 +46,7 @@ pub fn read_program(
     start: u64,
 ) -> Result<Program, ProgramFault>
     requires start { start ≤ START_MOST }
-    ensures { MatchResult result (IsProgramOf file.now number drop.now start) (IsProgramRefused file.now number drop.now) }
+    ensures { MatchResult result (IsProgramOfFile file.now number drop.now start) (IsProgramRefused file.now number drop.now) }
 {
     let wanted = SizesWanted {
         are_wanted: false,
@@ -71,7 +71,7 @@ pub fn read_sized_program(
 ) -> Result<SizedProgram, ProgramFault>
     requires start { start ≤ START_MOST }
     requires coarser { length coarser.now < VERSIONS_MOST }
-    ensures program { MatchResult result (λ sized. IsProgramOf file.now number drop.now start sized.program) (IsProgramRefused file.now number drop.now) }
+    ensures program { MatchResult result (λ sized. IsProgramOfFile file.now number drop.now start sized.program) (IsProgramRefused file.now number drop.now) }
     ensures sizes { IfOk result (λ sized. AreProgramSizes sized.program coarser.now sized.sizes) }
 {
     let wanted = SizesWanted {
@@ -101,7 +101,7 @@ fn program_in(
     requires start { start ≤ START_MOST }
     requires coarser { length wanted.now.coarser.now < VERSIONS_MOST }
     requires none { sizes.old.items ≡ [] }
-    ensures program { MatchResult result (IsProgramOf file.now number drop.now start) (IsProgramRefused file.now number drop.now) }
+    ensures program { MatchResult result (IsProgramOfFile file.now number drop.now start) (IsProgramRefused file.now number drop.now) }
     ensures sizes { IfOk result (λ program. wanted.now.are_wanted ≡ true → AreProgramSizes program wanted.now.coarser.now sizes.new.items) }
 {
     if file.len() > FILE_BYTES_MOST {

@@ -18,7 +18,7 @@ use Rattle.program_reader.specs.declared.pes_packets.PlacedPacket.{PlacedPacket}
 use Rattle.program_reader.specs.declared.program.AudioPiece.{AudioPiece}
 use Rattle.program_reader.specs.declared.program.AudioSource.{AudioSource}
 use Rattle.program_reader.specs.Audio.{AreAudioSources, ArePieces, HasFrames, HaveFrames, IsAudioSource, packet_size, piece_places, placed_pieces, taken_of}
-use Rattle.program_reader.specs.Packets.{joined, payload_of, placed_from, taken}
+use Rattle.program_reader.specs.Packets.{joined, pes_payload_of, placed_from, taken}
 use Rattle.program_reader.proofs.SizeLemmas.{IsSmall}
 use Rattle.program_reader.proofs.StreamLemmas.{HasPayload, bytes_in, taken_count, taken_payloads}
 use Rattle.program_reader.proofs.TakenLemmas.{placed_at}
@@ -143,11 +143,11 @@ pieces-few at from (p ∷ ps) all =
     let some : HasPayload p = All-head HasPayload p ps all in
     let packet : PlacedPacket = placed_at from p in
     let size : packet_size packet ≡ length p.bytes = omega (arith, some, length-drop (header_length p.bytes) p.bytes) in
-    let rest : List (PlacedPacket × ℕ × ℕ) = placed_pieces (at + packet_size packet) (placed_from (from + length (payload_of p)) ps) in
+    let rest : List (PlacedPacket × ℕ × ℕ) = placed_pieces (at + packet_size packet) (placed_from (from + length (pes_payload_of p)) ps) in
     let own : List (PlacedPacket × ℕ × ℕ) = map (λ (byte : ℕ). (packet, at, byte)) (piece_places (packet_size packet)) in
     let count : length own ≡ (packet_size packet + 183) / 184 = length-map (piece_places (packet_size packet)) (λ (byte : ℕ). (packet, at, byte)) ∙ places-many (packet_size packet) in
     let more : 184 * length rest ≤ bytes_in ps + 183 * length ps =
-    pieces-few (at + packet_size packet) (from + length (payload_of p)) ps (All-tail HasPayload p ps all) in
+    pieces-few (at + packet_size packet) (from + length (pes_payload_of p)) ps (All-tail HasPayload p ps all) in
     let both : length (own ++ rest) ≡ length own + length rest = length-append own rest in
     let bytes : bytes_in (p ∷ ps) ≡ length p.bytes + bytes_in ps = sum_by-cons (λ (packet : PesUnit). length packet.bytes) p ps in
     few (length own) (length rest) (length (own ++ rest)) (packet_size packet) (length p.bytes) (bytes_in ps) (bytes_in (p ∷ ps)) (length ps) count size both bytes more

@@ -50,7 +50,7 @@ use Rattle.ts_demux.specs.declared.demuxed.PesUnit.{PesUnit}
 use Rattle.program_reader.specs.declared.pes_packets.PlacedPacket.{PlacedPacket}
 use Rattle.program_reader.specs.declared.program.AudioPiece.{AudioPiece}
 use Rattle.program_reader.specs.Audio.{ArePieces, IsDue, IsPiece, packet_size, payload_place, piece_size, placed_pieces, time_of_byte}
-use Rattle.program_reader.specs.Packets.{joined, payload_of, placed_from}
+use Rattle.program_reader.specs.Packets.{joined, pes_payload_of, placed_from}
 use Rattle.program_reader.proofs.StreamLemmas.{HasPayload}
 use Rattle.program_reader.proofs.TakenLemmas.{placed_at}
 
@@ -199,9 +199,9 @@ pub follow-of : (size low at from : ℕ) (packets : List PesUnit) → All HasPay
     → Follow size low (placed_pieces at (placed_from from packets))
 follow-of size low at from [] all order fits = tt
 follow-of size low at from (p ∷ ps) all order fits =
-    let end : ℕ = from + length (payload_of p) in
+    let end : ℕ = from + length (pes_payload_of p) in
     let some : HasPayload p = All-head HasPayload p ps all in
-    let both : length (joined (p ∷ ps)) ≡ length (payload_of p) + length (joined ps) = length-append (payload_of p) (joined ps) in
+    let both : length (joined (p ∷ ps)) ≡ length (pes_payload_of p) + length (joined ps) = length-append (pes_payload_of p) (joined ps) in
     let packet : PlacedPacket = placed_at from p in
     packet-follows size low at packet (placed_pieces (at + packet_size packet) (placed_from end ps)) 0 ((packet_size packet + 183) / 184) (omega (arith, some))
     (omega (arith, both, fits)) (omega arith) (omega (arith, order)) (omega (arith, order, some))

@@ -37,11 +37,11 @@ use Rattle.version_table.specs.declared.table.Unit.{Unit as CodedUnit}
 use Rattle.program_reader.specs.declared.program.Program.{Program}
 use Rattle.program_reader.specs.declared.program.UnitSource.{UnitSource}
 use Rattle.version_table.specs.declared.table.Version.{Version}
-use Rattle.pes_units.specs.VideoHeader.{written_header}
+use Rattle.pes_units.specs.VideoHeader.{written_pes_header}
 use Rattle.version_maker.specs.declared.version.UnitVersion.{UnitVersion}
 use Rattle.version_maker.specs.declared.version.VersionSize.{VersionSize}
 use Rattle.version_maker.specs.Versions.{AreSizes, AreVersions, size_of}
-use Rattle.version_source.specs.Sendable.{Leaves, SpellInOrder, bytes_of}
+use Rattle.version_source.specs.Sendable.{LeavesState, SpellInOrder, bytes_of_unit}
 use Rattle.version_source.specs.Versions.{AreAllVersions, ratios_of}
 use Rattle.program_table.specs.Table.{IsRowOf, IsTableOf, program_rows, row_version, unit_rows}
 use Rattle.program_table.specs.Private.Rows.{AreProgramRowsSoFar, AreUnitRows, AreUnitRowsSoFar, IsUnitRow, with_header}
@@ -54,7 +54,7 @@ left-from xs k d within = rw (add-one, drop-cons xs k d) refl
 -- ---- one unit
 
 pub rows-of-sizes : (weight : ℕ) (unit : UnitSource) (versions : List UnitVersion)
-    → map (with_header (length (written_header unit.times)) weight) (map size_of versions) ≡ map (row_version weight unit) versions
+    → map (with_header (length (written_pes_header unit.times)) weight) (map size_of versions) ≡ map (row_version weight unit) versions
 rows-of-sizes weight unit [] = refl
 rows-of-sizes weight unit (v ∷ vs) = ap (λ (rows : List Version). row_version weight unit v ∷ rows) (rows-of-sizes weight unit vs)
 
@@ -63,7 +63,7 @@ unit_with due items = record { due = due; versions = record { items = items } }
 
 -- versions of these sizes with a header before each are those of the unit
 pub unit-row-of : (es coarser : List ℕ) (before : Option SeqState) (weight : ℕ) (unit : UnitSource) (bytes : List ℕ) (sizes : List VersionSize) (header : ℕ) (made : List Version)
-    → bytes ≡ bytes_of es unit → AreSizes before bytes coarser sizes → header ≡ length (written_header unit.times) → made ≡ map (with_header header weight) sizes
+    → bytes ≡ bytes_of_unit es unit → AreSizes before bytes coarser sizes → header ≡ length (written_pes_header unit.times) → made ≡ map (with_header header weight) sizes
     → IsUnitRow es coarser before weight unit (unit_with unit.due made)
 unit-row-of es coarser before weight unit bytes sizes header made same are length_is made_is = record {
   versions = are.versions;
@@ -71,7 +71,7 @@ unit-row-of es coarser before weight unit bytes sizes header made same are lengt
   row_is = ap (unit_with unit.due) (
       made_is
       ∙ ap (λ (n : ℕ). map (with_header n weight) sizes) length_is
-      ∙ ap (λ (those : List VersionSize). map (with_header (length (written_header unit.times)) weight) those) are.each
+      ∙ ap (λ (those : List VersionSize). map (with_header (length (written_pes_header unit.times)) weight) those) are.each
       ∙ rows-of-sizes weight unit are.versions
       );
 }
@@ -80,14 +80,14 @@ unit-row-of es coarser before weight unit bytes sizes header made same are lengt
 
 more-units : (es coarser : List ℕ) (weight : ℕ) (units left rest : List UnitSource) (before : Option SeqState) (unit : UnitSource) (after : SeqState) (rows more : List CodedUnit) (row : CodedUnit)
     → left ≡ unit ∷ rest → more ≡ rows ++ row ∷ [] → AreUnitRowsSoFar es coarser weight units left before rows → IsUnitRow es coarser before weight unit row
-    → Leaves before (bytes_of es unit) after → AreUnitRowsSoFar es coarser weight units rest (Some after) more
+    → LeavesState before (bytes_of_unit es unit) after → AreUnitRowsSoFar es coarser weight units rest (Some after) more
 more-units es coarser weight units left rest before unit after rows more row split pushed far is leaves =
     let here : AreUnitRowsSoFar es coarser weight units (unit ∷ rest) before rows =
     subst (λ (those : List UnitSource). AreUnitRowsSoFar es coarser weight units those before rows) split far in
     let next : SpellInOrder es before (unit ∷ rest) = here.spelled in
     record {
-      may_precede = state-left before (bytes_of es unit) after here.may_precede leaves;
-      spelled = subst (λ (s : SeqState). SpellInOrder es (Some s) rest) (one-state before (bytes_of es unit) next.0 after next.1 leaves) next.2;
+      may_precede = state-left before (bytes_of_unit es unit) after here.may_precede leaves;
+      spelled = subst (λ (s : SeqState). SpellInOrder es (Some s) rest) (one-state before (bytes_of_unit es unit) next.0 after next.1 leaves) next.2;
       all = λ versions are.
           let (every, those, rows_are) = here.all (is.versions ∷ versions) (after, leaves, is.are_versions, are) in (
             every,
@@ -100,14 +100,14 @@ more-units es coarser weight units left rest before unit after rows more row spl
 -- one more unit, whose row and state were made behind copies of the state
 pub one-more-unit : (es coarser : List ℕ) (weight : ℕ) (units : List UnitSource) (k : ℕ) (d : UnitSource) (before first second : Option SeqState) (after : SeqState) (rows more : List CodedUnit)
     (row : CodedUnit) → k < length units → first ≡ before → second ≡ before → more ≡ rows ++ row ∷ [] → AreUnitRowsSoFar es coarser weight units (drop k units) before rows
-    → IsUnitRow es coarser first weight (get_or units k d) row → Leaves second (bytes_of es (get_or units k d)) after → AreUnitRowsSoFar es coarser weight units (drop (k + 1) units) (Some after) more
+    → IsUnitRow es coarser first weight (get_or units k d) row → LeavesState second (bytes_of_unit es (get_or units k d)) after → AreUnitRowsSoFar es coarser weight units (drop (k + 1) units) (Some after) more
 one-more-unit es coarser weight units k d before first second after rows more row within one two pushed far is leaves =
     more-units es coarser weight units (drop k units) (drop (k + 1) units) before (get_or units k d) after rows more row (left-from units k d within) pushed far
-    (subst (λ (s : Option SeqState). IsUnitRow es coarser s weight (get_or units k d) row) one is) (subst (λ (s : Option SeqState). Leaves s (bytes_of es (get_or units k d)) after) two leaves)
+    (subst (λ (s : Option SeqState). IsUnitRow es coarser s weight (get_or units k d) row) one is) (subst (λ (s : Option SeqState). LeavesState s (bytes_of_unit es (get_or units k d)) after) two leaves)
 
 -- the next unit spells a picture behind the state
 pub next-spells : (es : List ℕ) (before : Option SeqState) (units : List UnitSource) (k : ℕ) (d : UnitSource) → k < length units → SpellInOrder es before (drop k units)
-    → (after : SeqState) × Leaves before (bytes_of es (get_or units k d)) after
+    → (after : SeqState) × LeavesState before (bytes_of_unit es (get_or units k d)) after
 next-spells es before units k d within spelled =
     let here : SpellInOrder es before (get_or units k d ∷ drop (k + 1) units) = subst (SpellInOrder es before) (left-from units k d within) spelled in (here.0, here.1)
 

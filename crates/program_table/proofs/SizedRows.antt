@@ -39,7 +39,7 @@ use Rattle.picture_reader.proofs.Parts.{are-dropped}
 use Rattle.picture_grammar.specs.Picture.{MayPrecede}
 use Rattle.syntax_types.specs.declared.picture.SeqState.{SeqState}
 use Rattle.job_report.specs.declared.job.ProgramJob.{ProgramJob}
-use Rattle.pes_units.specs.VideoHeader.{written_header}
+use Rattle.pes_units.specs.VideoHeader.{written_pes_header}
 use Rattle.program_reader.specs.declared.program.Program.{Program}
 use Rattle.program_reader.specs.declared.program.UnitSource.{UnitSource}
 use Rattle.program_reader.specs.declared.unit_sizes.UnitSizes.{UnitSizes}
@@ -54,7 +54,7 @@ use Rattle.version_maker.specs.declared.limits.TheConstants.{UNIT_BYTES_MOST}
 use Rattle.version_maker.specs.declared.version.UnitVersion.{UnitVersion}
 use Rattle.version_maker.specs.declared.version.VersionSize.{VersionSize}
 use Rattle.version_maker.specs.Versions.{AreSizes, size_of}
-use Rattle.version_source.specs.Sendable.{IsUnitOf, Leaves, bytes_of}
+use Rattle.version_source.specs.Sendable.{IsUnitOf, LeavesState, bytes_of_unit}
 use Rattle.version_source.specs.Versions.{AreVideoVersions}
 use Rattle.program_table.specs.Table.{IsRowOf, audio_row, unit_rows}
 use Rattle.program_table.specs.Private.Rows.{AreBounded, AreUnitRows, CanBeSaid, IsBounded, sized_row, sized_rows, with_header}
@@ -78,10 +78,10 @@ sizes-many es coarser before (u ∷ us) [] are = absurd are
 sizes-many es coarser before (u ∷ us) (s ∷ ss) are = ap suc (sizes-many es coarser (Some are.0.are.picture.seq) us ss are.1)
 
 -- the state that a unit of told sizes leaves
-leaves-sized : (before : Option SeqState) (unit coarser : List ℕ) (sizes : List VersionSize) → (are : AreSizes before unit coarser sizes) → Leaves before unit are.are.picture.seq
+leaves-sized : (before : Option SeqState) (unit coarser : List ℕ) (sizes : List VersionSize) → (are : AreSizes before unit coarser sizes) → LeavesState before unit are.are.picture.seq
 leaves-sized before unit coarser sizes are = record { picture = are.are.picture; whole = are.are.whole; after_is = refl }
 
-unit-short : (es : List ℕ) (unit : UnitSource) → IsUnitOf es unit → length (bytes_of es unit) ≤ UNIT_BYTES_MOST
+unit-short : (es : List ℕ) (unit : UnitSource) → IsUnitOf es unit → length (bytes_of_unit es unit) ≤ UNIT_BYTES_MOST
 unit-short es unit is = omega (arith, length-of es unit.begin unit.end is.order is.inside, is.short)
   where
     length-of : (es : List ℕ) (begin end : ℕ) → begin ≤ end → end ≤ length es → length (take (end - begin) (drop begin es)) ≡ end - begin
@@ -98,10 +98,10 @@ all-bounded law es coarser before [] [] bytes may each are = All-nil AreBounded
 all-bounded law es coarser before [] (s ∷ ss) bytes may each are = absurd are
 all-bounded law es coarser before (u ∷ us) [] bytes may each are = absurd are
 all-bounded law es coarser before (u ∷ us) (s ∷ ss) bytes may each are =
-    let own : AreBytes (bytes_of es u) = AreBytes-take (u.end - u.begin) (drop u.begin es) (are-dropped u.begin es bytes) in
-    let here : AreSizes before (bytes_of es u) coarser s.versions.items = are.0 in
-    let after : MayPrecede (Some here.are.picture.seq) = state-left before (bytes_of es u) here.are.picture.seq may (leaves-sized before (bytes_of es u) coarser s.versions.items here) in
-    All-cons AreBounded s ss (law before (bytes_of es u) coarser s.versions.items may own (unit-short es u (All-head (IsUnitOf es) u us each)) here)
+    let own : AreBytes (bytes_of_unit es u) = AreBytes-take (u.end - u.begin) (drop u.begin es) (are-dropped u.begin es bytes) in
+    let here : AreSizes before (bytes_of_unit es u) coarser s.versions.items = are.0 in
+    let after : MayPrecede (Some here.are.picture.seq) = state-left before (bytes_of_unit es u) here.are.picture.seq may (leaves-sized before (bytes_of_unit es u) coarser s.versions.items here) in
+    All-cons AreBounded s ss (law before (bytes_of_unit es u) coarser s.versions.items may own (unit-short es u (All-head (IsUnitOf es) u us each)) here)
     (all-bounded law es coarser (Some here.are.picture.seq) us ss bytes after (All-tail (IsUnitOf es) u us each) are.1)
 
 pub all-said : (es : List ℕ) (units : List UnitSource) → All (IsUnitOf es) units → All CanBeSaid units
@@ -119,12 +119,12 @@ rows-sized es coarser before weight [] [] are = record { versions = []; are_vers
 rows-sized es coarser before weight [] (s ∷ ss) are = absurd are
 rows-sized es coarser before weight (u ∷ us) [] are = absurd are
 rows-sized es coarser before weight (u ∷ us) (s ∷ ss) are =
-    let here : AreSizes before (bytes_of es u) coarser s.versions.items = are.0 in
+    let here : AreSizes before (bytes_of_unit es u) coarser s.versions.items = are.0 in
     let others = rows-sized es coarser (Some here.are.picture.seq) weight us ss are.1 in
-    let items = ap (λ (those : List VersionSize). map (with_header (length (written_header u.times)) weight) those) here.each ∙ rows-of-sizes weight u here.versions in
+    let items = ap (λ (those : List VersionSize). map (with_header (length (written_pes_header u.times)) weight) those) here.each ∙ rows-of-sizes weight u here.versions in
     record {
       versions = here.versions ∷ others.versions;
-      are_versions = (here.are.picture.seq, leaves-sized before (bytes_of es u) coarser s.versions.items here, here.are, others.are_versions);
+      are_versions = (here.are.picture.seq, leaves-sized before (bytes_of_unit es u) coarser s.versions.items here, here.are, others.are_versions);
       rows_are = ap₂ (λ (row : CodedUnit) (rows : List CodedUnit). row ∷ rows) (ap (unit_with u.due) items) others.rows_are;
     }
 

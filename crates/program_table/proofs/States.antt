@@ -14,16 +14,16 @@ use Rattle.picture_reader.specs.Picture.{IsRefusedAs}
 use Rattle.picture_reader.specs.PictureFault.{refusal_told}
 use Rattle.version_maker.specs.declared.version.UnitVersion.{UnitVersion}
 use Rattle.version_maker.specs.Versions.{AreVersions, IsCoarserVersion}
-use Rattle.version_source.specs.Sendable.{Leaves}
+use Rattle.version_source.specs.Sendable.{LeavesState}
 
 -- a unit that spells a picture leaves one state alone
-pub one-state : (before : Option SeqState) (unit : List ℕ) (a b : SeqState) → Leaves before unit a → Leaves before unit b → a ≡ b
+pub one-state : (before : Option SeqState) (unit : List ℕ) (a b : SeqState) → LeavesState before unit a → LeavesState before unit b → a ≡ b
 one-state before unit a b p q =
     let same : p.picture ≡ q.picture = ((exact-picture_unit before).one_value p.picture q.picture (bit_list unit) [] [] p.whole.spelled q.whole.spelled).0 in
     sym p.after_is ∙ ap (λ (picture : Picture). picture.seq) same ∙ q.after_is
 
 -- and it may precede another unit
-pub state-left : (before : Option SeqState) (unit : List ℕ) (after : SeqState) → MayPrecede before → Leaves before unit after → IsState after
+pub state-left : (before : Option SeqState) (unit : List ℕ) (after : SeqState) → MayPrecede before → LeavesState before unit after → IsState after
 state-left before unit after may leaves = subst IsState leaves.after_is (state-of_unit before leaves.picture (bit_list unit) [] may leaves.whole.spelled)
 
 as-many : (picture : Picture) (coarser : List ℕ) (others : List UnitVersion) → AllZip (IsCoarserVersion picture) coarser others → length others ≡ length coarser
@@ -38,7 +38,7 @@ versions-many before unit coarser versions are =
     ap length are.of_picture.in_order ∙ ap suc (as-many are.picture coarser are.of_picture.others are.of_picture.coarser_ones)
 
 -- no refusal is told of a unit that spells a picture
-pub not-refused : (before : Option SeqState) (bytes unit : List ℕ) (fault : PictureFault) → bytes ≡ unit → (after : SeqState) × Leaves before unit after → IsRefusedAs before bytes fault
+pub not-refused : (before : Option SeqState) (bytes unit : List ℕ) (fault : PictureFault) → bytes ≡ unit → (after : SeqState) × LeavesState before unit after → IsRefusedAs before bytes fault
     → refusal_told fault ≡ None
 not-refused before bytes unit fault same (after, leaves) refused =
     by_told (refusal_told fault) (subst (λ (b : List ℕ). IsRefusedAs before b fault) same refused)

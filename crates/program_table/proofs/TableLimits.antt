@@ -9,7 +9,7 @@ use Rattle.bit_lists.specs.Fields.{AreBytes}
 use Rattle.picture_grammar.specs.Picture.{IsState}
 use Rattle.psi_tables.specs.declared.stream.Stream.{Stream}
 use Rattle.ts_demux.specs.declared.demuxed.AudioStream.{AudioStream}
-use Rattle.ts_demux.specs.Demux.{packets_of}
+use Rattle.ts_demux.specs.Demux.{pes_packets_on}
 use Rattle.job_report.specs.declared.job.Job.{Job}
 use Rattle.job_report.specs.declared.job.ProgramJob.{ProgramJob}
 use Rattle.job_report.specs.ValidJob.{IsValidJob, IsValidProgramJob}
@@ -18,7 +18,7 @@ use Rattle.version_table.specs.declared.table.ProgramRow.{ProgramRow}
 use Rattle.version_table.specs.declared.table.Table.{Table}
 use Rattle.version_table.specs.Table.{IsValidProgram, IsValidTable, audio_packets_of, units_of}
 use Rattle.program_reader.specs.declared.program.Program.{Program}
-use Rattle.program_reader.specs.Programs.{IsProgram, IsProgramOf, video_bytes, video_packets}
+use Rattle.program_reader.specs.Programs.{IsProgram, IsProgramOfFile, video_bytes, video_packets}
 use Rattle.program_reader.specs.Units.{AreInOrder}
 use Rattle.program_reader.proofs.SizeLemmas.{IsSmall, audios_small}
 use Rattle.job_programs.specs.Programs.{AreNextPrograms, ArePrograms, IsNextProgram, IsWithinTime, units_of_programs}
@@ -40,7 +40,7 @@ record IsFine (slot : ℕ) (row : ProgramRow) : Type 0 where
   pub few : length (audio_packets_in row) ≤ 69600000
 
 program-fine : HavePlaces → (slot start number weight : ℕ) (content drop coarser : List ℕ) (program : Program) (versions : List (List UnitVersion)) → weight ≤ 100 → length coarser ≤ 7
-    → IsProgramOf content number drop start program → IsWithinTime slot program → AreBytes program.video → AreVideoVersions program.video coarser None program.units versions
+    → IsProgramOfFile content number drop start program → IsWithinTime slot program → AreBytes program.video → AreVideoVersions program.video coarser None program.units versions
     → IsFine slot (program_row weight program versions)
 program-fine places slot start number weight content drop coarser program versions light few_ratios holds within are is =
     let demuxed = holds.demuxed in
@@ -61,7 +61,7 @@ program-fine places slot start number weight content drop coarser program versio
     let as_many : length program.audios ≡ length demuxed.audios = sources-as-many start read.earliest demuxed.audios read.frames program.audios read.audios_are in
     let streams : length demuxed.map.streams.items ≡ suc (length holds.demuxed_is.audios) = ap (λ (xs : List Stream). length xs) holds.demuxed_is.streams in
     let carried : length demuxed.audios ≡ length holds.demuxed_is.audios =
-    ap (λ (xs : List AudioStream). length xs) holds.demuxed_is.audio_packets ∙ length-map holds.demuxed_is.audios (packets_of content) in
+    ap (λ (xs : List AudioStream). length xs) holds.demuxed_is.audio_packets ∙ length-map holds.demuxed_is.audios (pes_packets_on content) in
     let few : length demuxed.map.streams.items ≤ 1 + 8 = holds.demuxed_is.few in
     let audios : length (map audio_row program.audios) ≡ length program.audios = length-map program.audios audio_row in
     let small : All (λ (stream : AudioStream). IsSmall stream.units) demuxed.audios =
@@ -83,7 +83,7 @@ program-fine places slot start number weight content drop coarser program versio
 
 -- a row has a place in a table: it keeps the limits, and its units and audio packets aren't too many
 pub row-valid : HavePlaces → (slot start number weight : ℕ) (content drop coarser : List ℕ) (program : Program) (row : ProgramRow) → weight ≤ 100 → length coarser ≤ 7
-    → IsProgramOf content number drop start program → IsWithinTime slot program → AreBytes program.video → IsRowOf program coarser weight row
+    → IsProgramOfFile content number drop start program → IsWithinTime slot program → AreBytes program.video → IsRowOf program coarser weight row
     → IsValidProgram slot row × (length row.units ≤ 32768) × (length (flat_map (λ packets. packets) row.audios) < 4294967296)
 row-valid places slot start number weight content drop coarser program row light few_ratios holds within are is =
     let fine : IsFine slot row =

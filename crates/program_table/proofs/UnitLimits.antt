@@ -12,7 +12,7 @@ use Rattle.picture_grammar.specs.Picture.{IsState, MayPrecede}
 use Rattle.picture_laws.proofs.SpelledStates.{state-of_unit}
 use Rattle.picture_reader.proofs.Parts.{are-dropped}
 use Rattle.pes_units.specs.declared.times.Times.{Times}
-use Rattle.pes_units.specs.VideoHeader.{spelled, written_dts, written_header}
+use Rattle.pes_units.specs.VideoHeader.{spelled, written_dts, written_pes_header}
 use Rattle.version_table.specs.Table.{IsValidUnit, IsValidVersion}
 use Rattle.program_reader.specs.declared.pes_packets.PlacedPacket.{PlacedPacket}
 use Rattle.program_reader.specs.declared.program.UnitSource.{UnitSource}
@@ -22,7 +22,7 @@ use Rattle.program_reader.specs.Programs.{AreUnitSources}
 use Rattle.program_reader.specs.Units.{AreInOrder, AreKept, IsLater, all, but_last}
 use Rattle.version_maker.specs.declared.version.UnitVersion.{UnitVersion}
 use Rattle.version_maker.specs.Versions.{AreVersions}
-use Rattle.version_source.specs.Sendable.{bytes_of}
+use Rattle.version_source.specs.Sendable.{bytes_of_unit}
 use Rattle.version_source.specs.Versions.{AreVideoVersions}
 use Rattle.program_table.specs.Table.{row_version, unit_row, unit_rows}
 use Rattle.program_table.proofs.States.{state-left, versions-many}
@@ -123,7 +123,7 @@ header-spelled None dts = omega arith
 header-spelled (Some pts) None = omega arith
 header-spelled (Some pts) (Some dts) = omega arith
 
-pub header-few : (times : Times) → length (written_header times) ≤ 19
+pub header-few : (times : Times) → length (written_pes_header times) ≤ 19
 header-few times = header-spelled times.pts (written_dts times.pts times.dts)
 
 -- a table has a place for each version of each unit
@@ -133,18 +133,18 @@ HavePlaces =
     → AreVersions before unit coarser versions → header ≤ 19 → 2609192632320 * weight < 281474976710656
     → All (λ version. IsValidVersion (record { bytes = header + length version.bytes; distortion = version.distortion * weight })) versions
 
-bytes-short : (es : List ℕ) (unit : UnitSource) → IsShortUnit unit → length (bytes_of es unit) ≤ 1048576
+bytes-short : (es : List ℕ) (unit : UnitSource) → IsShortUnit unit → length (bytes_of_unit es unit) ≤ 1048576
 bytes-short es unit short = omega (arith, short, length-take (unit.end - unit.begin) (drop unit.begin es))
 
 unit-valid : HavePlaces → (slot weight : ℕ) (es coarser : List ℕ) (before : Option SeqState) (unit : UnitSource) (versions : List UnitVersion) → weight ≤ 100 → length coarser ≤ 7 → AreBytes es
-    → MayPrecede before → IsShortUnit unit → unit.due ≤ 4194304 * slot → AreVersions before (bytes_of es unit) coarser versions → IsValidUnit slot (unit_row weight unit versions)
+    → MayPrecede before → IsShortUnit unit → unit.due ≤ 4194304 * slot → AreVersions before (bytes_of_unit es unit) coarser versions → IsValidUnit slot (unit_row weight unit versions)
 unit-valid places slot weight es coarser before unit versions light few are may short due is =
-    let count : length versions ≡ suc (length coarser) = versions-many before (bytes_of es unit) coarser versions is in
+    let count : length versions ≡ suc (length coarser) = versions-many before (bytes_of_unit es unit) coarser versions is in
     let same : length (map (row_version weight unit) versions) ≡ length versions = length-map versions (row_version weight unit) in
-    let bytes : AreBytes (bytes_of es unit) = AreBytes-take (unit.end - unit.begin) (drop unit.begin es) (are-dropped unit.begin es are) in
+    let bytes : AreBytes (bytes_of_unit es unit) = AreBytes-take (unit.end - unit.begin) (drop unit.begin es) (are-dropped unit.begin es are) in
     let room : 2609192632320 * weight < 281474976710656 = omega (arith, light) in
     let valid : All (λ version. IsValidVersion (row_version weight unit version)) versions =
-    places before (bytes_of es unit) coarser versions (length (written_header unit.times)) weight may bytes (bytes-short es unit short) is (header-few unit.times) room in
+    places before (bytes_of_unit es unit) coarser versions (length (written_pes_header unit.times)) weight may bytes (bytes-short es unit short) is (header-few unit.times) room in
     record {
       due = due;
       some_version = omega (arith, count, same);
@@ -161,7 +161,7 @@ rows-valid places slot weight es coarser before (u ∷ us) [] light few are may 
 rows-valid places slot weight es coarser before (unit ∷ units) (own ∷ more) light few are may short dues (after, leaves, here, rest) =
     All-cons (IsValidUnit slot) (unit_row weight unit own) (unit_rows weight units more)
     (unit-valid places slot weight es coarser before unit own light few are may (All-head IsShortUnit unit units short) (All-head (λ (u : UnitSource). u.due ≤ 4194304 * slot) unit units dues) here)
-    (rows-valid places slot weight es coarser (Some after) units more light few are (state-left before (bytes_of es unit) after may leaves) (All-tail IsShortUnit unit units short)
+    (rows-valid places slot weight es coarser (Some after) units more light few are (state-left before (bytes_of_unit es unit) after may leaves) (All-tail IsShortUnit unit units short)
     (All-tail (λ (u : UnitSource). u.due ≤ 4194304 * slot) unit units dues) rest)
 
 pub row-dues : (weight : ℕ) (es coarser : List ℕ) (before : Option SeqState) (units : List UnitSource) (versions : List (List UnitVersion)) → AreVideoVersions es coarser before units versions

@@ -7,7 +7,7 @@ use Rattle.version_table.specs.declared.table.Unit.{Unit as CodedUnit}
 use Rattle.version_table.specs.declared.table.AudioPacket.{AudioPacket}
 use Rattle.version_table.specs.declared.table.ProgramRow.{ProgramRow}
 use Rattle.version_table.specs.declared.table.Table.{Table}
-use Rattle.pes_units.specs.VideoHeader.{written_header}
+use Rattle.pes_units.specs.VideoHeader.{written_pes_header}
 use Rattle.program_reader.specs.declared.program.AudioSource.{AudioSource}
 use Rattle.program_reader.specs.declared.program.Program.{Program}
 use Rattle.program_reader.specs.declared.program.UnitSource.{UnitSource}
@@ -17,7 +17,7 @@ use Rattle.version_source.specs.Versions.{AreAllVersions, AreVideoVersions, rati
 -- a version of a unit: the bytes of its PES packet, header included, and its distortion as much as the program weighs
 abbrev pub row_version : (weight : ℕ) → UnitSource → UnitVersion → Version
 row_version weight unit version =
-    record { bytes = length (written_header unit.times) + length version.bytes; distortion = version.distortion * weight }
+    record { bytes = length (written_pes_header unit.times) + length version.bytes; distortion = version.distortion * weight }
 
 -- a unit: when it is decoded, and its versions
 abbrev pub unit_row : (weight : ℕ) → UnitSource → List UnitVersion → CodedUnit

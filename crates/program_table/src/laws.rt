@@ -5,7 +5,7 @@ ghost use Rattle.bit_lists.specs.Fields.{AreBytes};
 ghost use Rattle.job_report.specs.declared.job.Job.{Job};
 ghost use Rattle.job_report.specs.ValidJob.{IsValidJob};
 ghost use Rattle.program_reader.specs.declared.program.Program.{Program};
-ghost use Rattle.program_reader.specs.Programs.{IsProgramOf};
+ghost use Rattle.program_reader.specs.Programs.{IsProgramOfFile};
 ghost use Rattle.version_table.specs.declared.table.ProgramRow.{ProgramRow};
 ghost use Rattle.version_table.specs.declared.table.Table.{Table};
 ghost use Rattle.version_table.specs.Table.{IsValidProgram, IsValidTable};
@@ -35,7 +35,7 @@ pub fn table_is_valid()
 /// Where a file holds a program whose times lie within a slot length's limit, its row has a place in a table of such slots.
 pub fn row_is_valid()
     ensures { (slot start number weight : ℕ) (content drop coarser : List ℕ) (program : Program) (row : ProgramRow) → weight ≤ WEIGHT_MOST → length coarser ≤ COARSER_MOST
-        → IsProgramOf content number drop start program → IsWithinTime slot program → AreBytes program.video → IsRowOf program coarser weight row
+        → IsProgramOfFile content number drop start program → IsWithinTime slot program → AreBytes program.video → IsRowOf program coarser weight row
         → IsValidProgram slot row × (length row.units ≤ UNITS_MOST) × (length (flat_map (λ packets. packets) row.audios) < AUDIO_PACKETS_LIMIT) }
 {
     versions_have_places();

@@ -2,9 +2,9 @@
 ghost use Rattle.std.specs.Prelude.{◌≡◌, ◌<◌, ◌≤◌, length, map, All, IfOk};
 ghost use Rattle.std.specs.Option.{option_copied};
 ghost use Rattle.syntax_types.specs.declared.picture.SeqState.{SeqState};
-ghost use Rattle.pes_units.specs.VideoHeader.{AreInRange, IsBesidePts, written_header};
+ghost use Rattle.pes_units.specs.VideoHeader.{AreInRange, IsBesidePts, written_pes_header};
 ghost use Rattle.picture_grammar.specs.Picture.{MayPrecede};
-ghost use Rattle.version_source.specs.Sendable.{IsUnitOf, Leaves, bytes_of};
+ghost use Rattle.version_source.specs.Sendable.{IsUnitOf, LeavesState, bytes_of_unit};
 ghost use Rattle.program_table.specs.Private.Rows.{IsBounded, IsUnitRow, with_header};
 
 use arrayvec::ArrayVec;
@@ -30,7 +30,7 @@ pub fn row_of_unit(
 ) -> Result<Unit, OutOfMemory>
     requires unit { IsUnitOf es.now unit.now }
     requires before { MayPrecede (option_copied before) }
-    requires picture { (after : SeqState) × Leaves (option_copied before) (bytes_of es.now unit.now) after }
+    requires picture { (after : SeqState) × LeavesState (option_copied before) (bytes_of_unit es.now unit.now) after }
     requires coarser { length coarser.now < VERSIONS_MOST }
     ensures { IfOk result (IsUnitRow es.now coarser.now (option_copied before.entry) weight unit.now) }
 {
@@ -52,7 +52,7 @@ pub fn row_of_unit(
 pub fn header_bytes(times: &Times) -> u8
     requires in_range { AreInRange times.now }
     requires beside { IsBesidePts times.now }
-    ensures value { result ≡ length (written_header times.now) }
+    ensures value { result ≡ length (written_pes_header times.now) }
     ensures few { result ≤ MOST_HEADER_BYTES }
 {
     let mut header = [0; MOST_HEADER_BYTES];

@@ -6,7 +6,7 @@ use Rattle.bit_lists.specs.Fields.{bit, bits}
 use Rattle.psi_tables.specs.declared.program_map.ProgramMap.{ProgramMap}
 use Rattle.psi_tables.specs.Crc.{IsCrcOf, HasRightCrc}
 use Rattle.psi_tables.specs.Section.{IsWithCrc}
-use Rattle.psi_tables.specs.Pat.{IsPat, map_pid, written_pat}
+use Rattle.psi_tables.specs.Pat.{IsPat, pat_map_pid, written_pat}
 use Rattle.psi_tables.specs.Streams.{StreamInfo}
 use Rattle.psi_tables.specs.Pmt.{IsPmt, written_pmt}
 use Rattle.psi_tables.specs.PatOf.{pat_of}
@@ -46,14 +46,14 @@ pat-read = record {
   programs_are = (0x00 ∷ 0x01 ∷ 0xE1 ∷ 0x00 ∷ [], [], refl, record { size = refl; number = refl; pid = refl }, refl);
 }
 
-pat-found : map_pid 1 ((1, 0x100) ∷ []) ≡ Some 0x100
+pat-found : pat_map_pid 1 ((1, 0x100) ∷ []) ≡ Some 0x100
 pat-found = refl
 
-pat-other : map_pid 2 ((1, 0x100) ∷ []) ≡ None
+pat-other : pat_map_pid 2 ((1, 0x100) ∷ []) ≡ None
 pat-other = refl
 
 -- the network's PID is no program's
-pat-network : map_pid 0 ((0, 0x10) ∷ (1, 0x100) ∷ []) ≡ None
+pat-network : pat_map_pid 0 ((0, 0x10) ∷ (1, 0x100) ∷ []) ≡ None
 pat-network = refl
 
 -- ---- the PMT section of program 1 with a video stream, which has the clock, and an audio stream in English

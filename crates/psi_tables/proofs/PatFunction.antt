@@ -6,16 +6,16 @@ use Rattle.std.proofs.lemmas.Bool.Decides.{nat_tests}
 use Rattle.bit_lists.specs.Fields.{bits}
 use Rattle.psi_tables.specs.declared.section.TheConstants.{SECTION_LENGTH_LEAST}
 use Rattle.psi_tables.specs.Section.{table_id, section_length, current_next_indicator, content}
-use Rattle.psi_tables.specs.Pat.{IsProgram, IsPat}
+use Rattle.psi_tables.specs.Pat.{IsPatEntry, IsPat}
 use Rattle.psi_tables.specs.PatOf.{program_of, programs_in, is_pat, pat_of}
 use Rattle.psi_tables.proofs.PmtFunction.{IsReadBy, row_read, row_spelled}
 
-program_is : (front : List ℕ) (x : ℕ × ℕ) → length front ≡ 4 → program_of front ≡ Some x → IsProgram x front
+program_is : (front : List ℕ) (x : ℕ × ℕ) → length front ≡ 4 → program_of front ≡ Some x → IsPatEntry x front
 program_is front x size e =
     let same : (bits front 0 16, bits front 19 13) ≡ x = cc in
-    subst (λ (p : ℕ × ℕ). IsProgram p front) same (record { size = size; number = refl; pid = refl })
+    subst (λ (p : ℕ × ℕ). IsPatEntry p front) same (record { size = size; number = refl; pid = refl })
 
-programs_read : IsReadBy IsProgram (λ (front : List ℕ). 4) program_of
+programs_read : IsReadBy IsPatEntry (λ (front : List ℕ). 4) program_of
 programs_read = record {
   some = λ x front is. omega (arith, is.size);
   size_is = λ x front behind is. sym is.size;
@@ -27,7 +27,7 @@ pub pat_made : (section : List ℕ) (programs : List (ℕ × ℕ)) → IsPat pro
 pat_made section programs is =
     let frame : is_pat section ≡ true = grind (arith, nat_tests, is.current.table_is, is.current.current, is.whole.size, is.whole.room) in
     let row : programs_in (content section) ≡ Some programs =
-    row_read IsProgram (λ (front : List ℕ). 4) program_of programs_read programs (content section) (length (content section)) (omega arith) is.programs_are in
+    row_read IsPatEntry (λ (front : List ℕ). 4) program_of programs_read programs (content section) (length (content section)) (omega arith) is.programs_are in
     (rw frame) ∙ row
 
 chosen : (test : Bool) (found : Option (List (ℕ × ℕ))) (programs : List (ℕ × ℕ)) → cond test found None ≡ Some programs → (test ≡ true) × (found ≡ Some programs)
@@ -47,5 +47,5 @@ pat_is section programs e =
     record {
       current = record { table_is = eqb-true (table_id section) 0 s.0; current = eqb-true (current_next_indicator section) 1 s.1 };
       whole = record { size = eqb-true (length section) (3 + section_length section) q.1; room = leb-true SECTION_LENGTH_LEAST (section_length section) p.1 };
-      programs_are = row_spelled IsProgram (λ (front : List ℕ). 4) program_of programs_read (length (content section)) (content section) programs c.1;
+      programs_are = row_spelled IsPatEntry (λ (front : List ℕ). 4) program_of programs_read (length (content section)) (content section) programs c.1;
     }

@@ -4,8 +4,8 @@ use Rattle.std.specs.List.{flat_map}
 use Rattle.std.specs.Int.{w32, to_be_bytes}
 use Rattle.std.proofs.lemmas.List.{take_at}
 use Rattle.std.proofs.lemmas.List.Elements.{All-head, All-tail}
-use Rattle.psi_tables.specs.Section.{section_length, table_id_extension, IsCurrent, IsWholeSection, IsItemRow, content, IsWithCrc, written_header}
-use Rattle.psi_tables.specs.Pat.{IsProgram, IsPat, written_program, written_pat}
+use Rattle.psi_tables.specs.Section.{section_length, table_id_extension, IsCurrent, IsWholeSection, IsItemRow, content, IsWithCrc, written_section_header}
+use Rattle.psi_tables.specs.Pat.{IsPatEntry, IsPat, written_program, written_pat}
 use Rattle.psi_tables.proofs.Elements.{table_id-is, section_length-is, table_id_extension-is, current_next_indicator-is, program_number-is, program_map_PID-is}
 
 -- ---- headers
@@ -16,9 +16,9 @@ pub record HasHeader (table size extension : ℕ) (bytes : List ℕ) : Type 0 wh
   pub size_is : section_length bytes ≡ size
   pub extension_is : table_id_extension bytes ≡ extension
 
-header_says : (table size extension : ℕ) (rest : List ℕ) → table < 256 → size < 2 ^ 12 → extension < 2 ^ 16 → HasHeader table size extension (written_header table size extension ++ rest)
+header_says : (table size extension : ℕ) (rest : List ℕ) → table < 256 → size < 2 ^ 12 → extension < 2 ^ 16 → HasHeader table size extension (written_section_header table size extension ++ rest)
 header_says table size extension rest table_low size_low extension_low =
-    let bytes : List ℕ = written_header table size extension ++ rest in
+    let bytes : List ℕ = written_section_header table size extension ++ rest in
     record {
       current = record { table_is = omega (arith, table_id-is bytes); current = omega (arith, current_next_indicator-is bytes) };
       size_is = omega (arith, section_length-is bytes);
@@ -32,9 +32,9 @@ pub record IsSectionOf (table extension : ℕ) (body bytes : List ℕ) : Type 0 
   pub content_is : content bytes ≡ body
 
 pub section_says : (table extension : ℕ) (body bytes : List ℕ) → table < 256 → extension < 2 ^ 16 → length body ≤ 1000
-    → IsWithCrc (written_header table (9 + length body) extension ++ body) bytes → IsSectionOf table extension body bytes
+    → IsWithCrc (written_section_header table (9 + length body) extension ++ body) bytes → IsSectionOf table extension body bytes
 section_says table extension body bytes table_low extension_low small is =
-    let header : List ℕ = written_header table (9 + length body) extension in
+    let header : List ℕ = written_section_header table (9 + length body) extension in
     let crc : List ℕ = to_be_bytes w32 is.crc in
     let joined : bytes ≡ header ++ (body ++ crc) = is.joined ∙ append_assoc header body crc in
     let says : HasHeader table (9 + length body) extension bytes =
@@ -59,7 +59,7 @@ pub length-written_programs : (programs : List (ℕ × ℕ)) → length (flat_ma
 length-written_programs [] = refl
 length-written_programs (program ∷ programs) = omega (arith, length-written_programs programs)
 
-program_says : (program : ℕ × ℕ) → program.0 < 2 ^ 16 → program.1 < 2 ^ 13 → IsProgram program (written_program program)
+program_says : (program : ℕ × ℕ) → program.0 < 2 ^ 16 → program.1 < 2 ^ 13 → IsPatEntry program (written_program program)
 program_says program number_low pid_low = record {
   size = refl;
   number = omega (arith, program_number-is (written_program program));
@@ -72,10 +72,10 @@ pub written_pat_is : (stream_id : ℕ) (programs : List (ℕ × ℕ)) (bytes : L
 written_pat_is stream_id programs bytes id_low few numbers pids is =
     let body : List ℕ = flat_map written_program programs in
     let size : length body ≡ 4 * length programs = length-written_programs programs in
-    let says = section_says 0 stream_id body bytes (omega arith) id_low (omega (arith, size, few)) (subst (λ (n : ℕ). IsWithCrc (written_header 0 (9 + n) stream_id ++ body) bytes) (sym size) is) in
+    let says = section_says 0 stream_id body bytes (omega arith) id_low (omega (arith, size, few)) (subst (λ (n : ℕ). IsWithCrc (written_section_header 0 (9 + n) stream_id ++ body) bytes) (sym size) is) in
     record {
       current = says.header.current;
       whole = says.whole;
-      programs_are = subst (IsItemRow IsProgram programs) (sym says.content_is)
-          (row_written IsProgram written_program programs (λ k d within. program_says (get_or programs k d) (numbers k d within) (pids k d within)));
+      programs_are = subst (IsItemRow IsPatEntry programs) (sym says.content_is)
+          (row_written IsPatEntry written_program programs (λ k d within. program_says (get_or programs k d) (numbers k d within) (pids k d within)));
     }

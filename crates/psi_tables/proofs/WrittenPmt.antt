@@ -7,7 +7,7 @@ use Rattle.std.proofs.lemmas.List.Folds.{length-flat_map-take}
 use Rattle.std.proofs.lemmas.List.Sums.{sum_by-cons}
 use Rattle.psi_tables.specs.declared.stream.Stream.{Stream}
 use Rattle.psi_tables.specs.declared.program_map.ProgramMap.{ProgramMap}
-use Rattle.psi_tables.specs.Section.{IsItemRow, IsWithCrc, written_header, written_pid, written_length}
+use Rattle.psi_tables.specs.Section.{IsItemRow, IsWithCrc, written_section_header, written_pid, written_length}
 use Rattle.psi_tables.specs.Descriptors.{IsDescriptor, is_kept, kept_bytes, count_dropped}
 use Rattle.psi_tables.specs.Streams.{StreamInfo, IsStreamInfo, stream_of, IsStreamWritable, written_stream}
 use Rattle.psi_tables.specs.Pmt.{PCR_PID, program_info_length, IsMapContent, IsPmt, HasRoom, IsWritableMap, written_streams, written_pmt, without_dropped}
@@ -87,7 +87,7 @@ written_pmt_is program bytes number_low kinds writable room few is =
     let streams : List ℕ = written_streams program in
     let body : List ℕ = written_pid program.pcr_pid ++ written_length 0 ++ streams in
     let size : 13 + length streams ≡ 9 + length body = omega arith in
-    let says = section_says 2 program.number body bytes (omega arith) number_low (omega (arith, few)) (subst (λ (n : ℕ). IsWithCrc (written_header 2 n program.number ++ body) bytes) size is) in
+    let says = section_says 2 program.number body bytes (omega arith) number_low (omega (arith, few)) (subst (λ (n : ℕ). IsWithCrc (written_section_header 2 n program.number ++ body) bytes) size is) in
     let infos = streams_say program.streams.items (λ k d within. stream_says (get_or program.streams.items k d) (writable.streams k d within) (kinds k d within) (room.descriptors k d within)) in
     let none : program_info_length body ≡ 0 = omega (arith, program_info_length-is body) in
     let cut : IsCut body [] streams = record {

@@ -5,10 +5,10 @@ use Rattle.std.specs.Option.{option_map}
 use Rattle.std.specs.Int.{w16, to_be_bytes}
 use Rattle.psi_tables.specs.declared.section.TheConstants.{SECTION_LENGTH_LEAST}
 use Rattle.bit_lists.specs.Fields.{bits}
-use Rattle.psi_tables.specs.Section.{IsCurrent, IsWholeSection, IsItemRow, content, written_header, written_pid}
+use Rattle.psi_tables.specs.Section.{IsCurrent, IsWholeSection, IsItemRow, content, written_section_header, written_pid}
 
 -- four bytes: program_number, three bits that may be anything, program_map_PID
-pub record IsProgram (program : ℕ × ℕ) (bytes : List ℕ) : Type 0 where
+pub record IsPatEntry (program : ℕ × ℕ) (bytes : List ℕ) : Type 0 where
   pub size : length bytes ≡ 4
   pub number : program.0 ≡ bits bytes 0 16
   pub pid : program.1 ≡ bits bytes 19 13
@@ -17,11 +17,11 @@ pub record IsProgram (program : ℕ × ℕ) (bytes : List ℕ) : Type 0 where
 pub record IsPat (programs : List (ℕ × ℕ)) (bytes : List ℕ) : Type 0 where
   pub current : IsCurrent 0 bytes
   pub whole : IsWholeSection bytes
-  pub programs_are : IsItemRow IsProgram programs (content bytes)
+  pub programs_are : IsItemRow IsPatEntry programs (content bytes)
 
 -- the PID of the first program of this number; the number 0 is the network's and no program's
-abbrev pub map_pid : ℕ → List (ℕ × ℕ) → Option ℕ
-map_pid number programs = if number == 0 then None else option_map (λ program. program.1) (find (λ program. program.0 == number) programs)
+abbrev pub pat_map_pid : ℕ → List (ℕ × ℕ) → Option ℕ
+pat_map_pid number programs = if number == 0 then None else option_map (λ program. program.1) (find (λ program. program.0 == number) programs)
 
 -- how a program is written
 abbrev pub written_program : ℕ × ℕ → List ℕ
@@ -29,4 +29,4 @@ written_program program = to_be_bytes w16 program.0 ++ written_pid program.1
 
 -- a written PAT section before its CRC
 abbrev pub written_pat : ℕ → List (ℕ × ℕ) → List ℕ
-written_pat stream_id programs = written_header 0 (SECTION_LENGTH_LEAST + 4 * length programs) stream_id ++ flat_map written_program programs
+written_pat stream_id programs = written_section_header 0 (SECTION_LENGTH_LEAST + 4 * length programs) stream_id ++ flat_map written_program programs

@@ -4,7 +4,7 @@ use Rattle.std.specs.List.{flat_map, sum_by}
 use Rattle.bit_lists.specs.Fields.{bits}
 use Rattle.psi_tables.specs.declared.stream.TheConstants.{DESCRIPTOR_BYTES, STREAMS_MOST}
 use Rattle.psi_tables.specs.declared.program_map.ProgramMap.{ProgramMap}
-use Rattle.psi_tables.specs.Section.{table_id_extension, IsCurrent, IsWholeSection, IsItemRow, content, written_header, written_pid, written_length}
+use Rattle.psi_tables.specs.Section.{table_id_extension, IsCurrent, IsWholeSection, IsItemRow, content, written_section_header, written_pid, written_length}
 use Rattle.psi_tables.specs.Descriptors.{IsDescriptor, count_dropped}
 use Rattle.psi_tables.specs.Streams.{StreamInfo, IsStreamInfo, stream_of, IsStreamWritable, written_stream}
 
@@ -52,7 +52,7 @@ written_streams program = flat_map written_stream program.streams.items
 
 -- a written PMT section before its CRC
 abbrev pub written_pmt : ProgramMap → List ℕ
-written_pmt program = written_header 2 (13 + length (written_streams program)) program.number ++ written_pid program.pcr_pid ++ written_length 0 ++ written_streams program
+written_pmt program = written_section_header 2 (13 + length (written_streams program)) program.number ++ written_pid program.pcr_pid ++ written_length 0 ++ written_streams program
 
 -- a written PMT section's length in bytes
 abbrev pub pmt_length : ProgramMap → ℕ

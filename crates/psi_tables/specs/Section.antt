@@ -47,8 +47,8 @@ IsItemRow spells (item ∷ items) bytes = (front : List ℕ) × (behind : List �
 -- ---- how it is written
 
 -- section_syntax_indicator and reserved bits set, version 0, current, the only section of its table
-abbrev pub written_header : ℕ → ℕ → ℕ → List ℕ
-written_header table size extension = table ∷ to_be_bytes w16 (0xB000 + size) ++ to_be_bytes w16 extension ++ (0xC1 ∷ 0 ∷ 0 ∷ [])
+abbrev pub written_section_header : ℕ → ℕ → ℕ → List ℕ
+written_section_header table size extension = table ∷ to_be_bytes w16 (0xB000 + size) ++ to_be_bytes w16 extension ++ (0xC1 ∷ 0 ∷ 0 ∷ [])
 
 -- a PID behind three reserved bits, and a length behind four, all set
 abbrev pub written_pid : ℕ → List ℕ

@@ -3,7 +3,7 @@ ghost use Rattle.std.specs.List.{find, flat_map};
 ghost use Rattle.std.specs.Option.{option_map};
 ghost use Rattle.psi_tables.specs.Crc.{HasRightCrc};
 ghost use Rattle.psi_tables.specs.Section.{IsCurrent, IsItemRow, IsWithCrc};
-ghost use Rattle.psi_tables.specs.Pat.{IsProgram, IsPat, map_pid, written_pat, written_program};
+ghost use Rattle.psi_tables.specs.Pat.{IsPatEntry, IsPat, pat_map_pid, written_pat, written_program};
 
 use crate::section::{
     CRC_BYTES, HEADER_BYTES, PAT_TABLE, PID_HIGH, Section, SectionFault, UNCOUNTED_BYTES,
@@ -28,7 +28,7 @@ pub fn read_pat(section: &Section, number: u16) -> Result<Option<u16>, SectionFa
     // Another section names no program.
     ensures other { (IsCurrent 0 section.now.items → ⊥) → result ≡ Ok None }
     // A current PAT section is one of some programs, and what is answered is theirs; or it is none of any, and refused.
-    ensures pid { (programs : List (ℕ × ℕ)) → IsPat programs section.now.items → result ≡ Ok (map_pid number programs) }
+    ensures pid { (programs : List (ℕ × ℕ)) → IsPat programs section.now.items → result ≡ Ok (pat_map_pid number programs) }
     ensures ok { IfOk result (λ found. IsCurrent 0 section.now.items → (programs : List (ℕ × ℕ)) × IsPat programs section.now.items) }
     ensures bad { IfErr result (λ fault. (fault ≡ SectionFault.BadSection) × IsCurrent 0 section.now.items) }
 {
@@ -91,7 +91,7 @@ fn put_program(into: &mut Section, number: u16, pid: u16)
 
 /// The PID of the first program of this number.
 fn find_pid(content: &[u8], number: u16) -> Option<u16>
-    ensures { (programs : List (ℕ × ℕ)) → IsItemRow IsProgram programs content.now → result ≡ option_map (λ program. program.1) (find (λ program. program.0 == number) programs) }
+    ensures { (programs : List (ℕ × ℕ)) → IsItemRow IsPatEntry programs content.now → result ≡ option_map (λ program. program.1) (find (λ program. program.0 == number) programs) }
 {
     let mut rest = content;
     while let Some(([high, low, pid_high, pid_low], after)) = rest.split_first_chunk::<

@@ -1,6 +1,6 @@
 ghost use Rattle.std.specs.Prelude.{◌≡◌, ℕ, ◌+◌, ◌*◌, ◌^◌, ◌<◌, ◌≤◌, ◌↔◌, IsTrue, MatchOption, length, ◌++◌};
 ghost use Rattle.psi_tables.specs.Crc.{HasRightCrc};
-ghost use Rattle.psi_tables.specs.Section.{IsCurrent, IsWholeSection, IsWithCrc, content, written_header, written_pid, written_length};
+ghost use Rattle.psi_tables.specs.Section.{IsCurrent, IsWholeSection, IsWithCrc, content, written_section_header, written_pid, written_length};
 
 use crate::crc::crc32;
 use arrayvec::ArrayVec;
@@ -98,7 +98,7 @@ pub(crate) fn content_of(bytes: &[u8]) -> Option<&[u8]>
 /// Begins a section with its header.
 pub(crate) fn put_header(into: &mut Section, table: u8, section_length: u16, extension: u16)
     requires { section_length < 2 ^ 12 }
-    ensures bytes { into.new.items ≡ written_header table section_length extension }
+    ensures bytes { into.new.items ≡ written_section_header table section_length extension }
     ensures extension { extension < 2 ^ 16 }
 {
     let [length_high, length_low] = (SYNTAX_AND_RESERVED + section_length).to_be_bytes();

@@ -1,6 +1,6 @@
 ghost use Rattle.std.specs.Prelude.{◌≡◌, ℕ, ◌+◌, ◌*◌, ◌^◌, ◌<◌, ◌≤◌, true, length, All, Some, IfOk};
 ghost use Rattle.psi_tables.specs.Descriptors.{is_tag_kept};
-ghost use Rattle.psi_tables.specs.Pat.{map_pid};
+ghost use Rattle.psi_tables.specs.Pat.{pat_map_pid};
 ghost use Rattle.psi_tables.specs.Streams.{IsStreamWritable};
 ghost use Rattle.psi_tables.specs.Pmt.{IsWritableMap, without_dropped};
 
@@ -73,7 +73,7 @@ fn read_back(map: &ProgramMap) -> Result<Option<ProgramMap>, SectionFault>
 fn pid_read_back(programs: &[(u16, u16)], number: u16) -> Result<Option<u16>, SectionFault>
     requires few { length programs.now ≤ 8 }
     requires pids { All (λ program. program.1 < 2 ^ 13) programs.now }
-    ensures { result ≡ Ok (map_pid number programs.now) }
+    ensures { result ≡ Ok (pat_map_pid number programs.now) }
 {
     let mut section = Section::new();
     write_pat(1, programs, &mut section);

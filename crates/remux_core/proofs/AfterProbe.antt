@@ -3,7 +3,7 @@ use Rattle.std.proofs.Common.{◌≡◌, ℕ, List, ◌∙◌}
 use Rattle.shelf_io.specs.Files.{Files}
 use Rattle.program_reader.specs.declared.program.Program.{Program}
 use Rattle.version_table.specs.declared.table.Table.{Table}
-use Rattle.version_table.specs.Text.{Holds, IsRead, IsTextTable, spelling}
+use Rattle.version_table.specs.Text.{Holds, IsTableRead, IsTextTable, table_spelling}
 use Rattle.remux_core.specs.declared.status.JobRefusal.{JobRefusal}
 use Rattle.remux_core.specs.declared.status.Status.TheVariants.{JobRefused}
 use Rattle.remux_core.specs.PlanCommand.{HoldsTable, PlanCallsFor}
@@ -13,7 +13,7 @@ use Rattle.remux_core.proofs.One.{OneReading, table_or_refusal}
 
 -- the law that the spelling of a table is read as that table
 abbrev pub SpellingIsRead : Type 0
-SpellingIsRead = (table : Table) → IsTextTable table → IsRead (spelling table) (Holds table)
+SpellingIsRead = (table : Table) → IsTextTable table → IsTableRead (table_spelling table) (Holds table)
 
 -- TABLE holds the text of the program's table
 pub probed_is_read : SpellingIsRead → (file : List ℕ) (number : ℕ) (name : List ℕ) (files after : Files) (line : List ℕ) → ProbeDone file number name files line after
@@ -23,7 +23,7 @@ probed_is_read law file number name files after line (program, made, has, said, 
   made,
   has.holds,
   has.is_table,
-  record { text = spelling made; held = stays _ after name written ∙ get_own files name (spelling made); read = law made has.is_text },
+  record { text = table_spelling made; held = stays _ after name written ∙ get_own files name (table_spelling made); read = law made has.is_text },
 )
 
 -- so no text is refused

@@ -4,7 +4,7 @@ use Rattle.std.specs.List.{list_any}
 use Rattle.std.specs.Str.{bytes_eq}
 use Rattle.std.proofs.lemmas.Slice.Eq.{bytes_eq-Decides}
 use Rattle.std.specs.FinMap.{get, insert}
-use Rattle.bound_certificate.specs.Spelling.{spelling}
+use Rattle.bound_certificate.specs.Spelling.{cert_spelling}
 use Rattle.job_programs.specs.Told.{HoldContents}
 use Rattle.job_report.specs.declared.job.ProgramJob.{ProgramJob}
 use Rattle.job_report.specs.Refusal.{OfField, first_refusal, place_of_program}
@@ -103,10 +103,10 @@ run_is_accepted words job out certificate files after line said (work, is, says,
       };
       table = is.made.table;
     } in
-    let held : get after certificate ≡ Some (spelling work.cert) = stays _ after certificate written ∙ get_own (insert files out work.stream) certificate (spelling work.cert) in
+    let held : get after certificate ≡ Some (cert_spelling work.cert) = stays _ after certificate written ∙ get_own (insert files out work.stream) certificate (cert_spelling work.cert) in
     let plan = is.is_plan in (
       work.made,
       work.cert,
-      record { made_is = made_is; cert_is = record { bytes = spelling work.cert; held = held; read = (plan.writable.bytes, plan.is_cert, refl) } },
+      record { made_is = made_is; cert_is = record { bytes = cert_spelling work.cert; held = held; read = (plan.writable.bytes, plan.is_cert, refl) } },
       plan.faultless,
     )

@@ -7,7 +7,7 @@ use Rattle.std.specs.FinMap.{get, insert, get-insert, slice_cmp-IsAntisymmetric,
 use Rattle.shelf_io.specs.Files.{Files}
 use Rattle.remux_core.specs.declared.status.Status.{Status}
 use Rattle.remux_core.specs.declared.status.Status.TheVariants as statuses
-use Rattle.remux_core.specs.Answer.{Answer, CallsFor, IsDone, Leaves, EndsWithStatus, Decides, HasCause, AnswerHasCause}
+use Rattle.remux_core.specs.Answer.{Answer, CallsFor, IsDone, LeavesFiles, EndsWithStatus, Decides, HasCause, AnswerHasCause}
 use Rattle.remux_core.specs.Command.{Command, Plan, Gen, Run, Check, Probe, IsCommand, IsSaid}
 use Rattle.remux_core.specs.Outcome.{Outcome, BreaksOff, IsReported, WordsCallFor}
 use Rattle.remux_core.specs.Outside.{ShelfFacts, SinkFacts, OnFiles}
@@ -164,7 +164,7 @@ done_leaves_others (Some (Check job certificate)) files after line (made, cert, 
 done_leaves_others (Some (Probe file number table)) files after line (program, made, has, said, written) = λ name apart.
     stays _ after name written ∙ get_other files table _ name apart
 
-leaves_others : (command : Option Command) (files after : Files) → Leaves command files after → OthersStay command files after
+leaves_others : (command : Option Command) (files after : Files) → LeavesFiles command files after → OthersStay command files after
 leaves_others None files after same = λ name apart. stays files after name same
 leaves_others (Some (Plan table certificate)) files after (inl same) = λ name apart. stays files after name same
 leaves_others (Some (Plan table certificate)) files after (inr (plan, has, k, few, written)) = λ name apart.

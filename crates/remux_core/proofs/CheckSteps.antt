@@ -4,7 +4,7 @@ use Rattle.std.proofs.lemmas.List.{length-take}
 use Rattle.std.specs.FinMap.{get}
 use Rattle.bound_certificate.specs.declared.cert.Cert.{Cert}
 use Rattle.bound_certificate.specs.declared.limits.TheConstants.{CERT_BYTES_MOST}
-use Rattle.bound_certificate.specs.Reading.{CertReading, IsRead, Holds, RefusedAt}
+use Rattle.bound_certificate.specs.Reading.{CertReading, IsCertRead, Holds, RefusedAt}
 use Rattle.certificate_checker.specs.Checked.{IsFaultless, IsFirstFault}
 use Rattle.certificate_checker.specs.declared.why.CertFault.{CertFault}
 use Rattle.version_table.specs.declared.table.Table.{Table}
@@ -27,20 +27,20 @@ use Rattle.remux_core.specs.Report.{cert_report}
 use Rattle.remux_core.proofs.Held.{take_all_of}
 
 -- bytes are read as their front of one byte past the limit
-pub whole_cert : (bytes front : List ℕ) (reading : CertReading) → front ≡ take (CERT_BYTES_MOST + 1) bytes → IsRead front reading → IsRead bytes reading
+pub whole_cert : (bytes front : List ℕ) (reading : CertReading) → front ≡ take (CERT_BYTES_MOST + 1) bytes → IsCertRead front reading → IsCertRead bytes reading
 whole_cert bytes front (Holds cert) is (short, cert_is, spelled_so) =
     let whole : front ≡ bytes = take_all_of CERT_BYTES_MOST bytes front is short in
-    subst (λ (b : List ℕ). IsRead b (Holds cert)) whole (short, cert_is, spelled_so)
+    subst (λ (b : List ℕ). IsCertRead b (Holds cert)) whole (short, cert_is, spelled_so)
 whole_cert bytes front (RefusedAt n) is (inl (long, place)) =
     let cut : length front ≤ length bytes = subst (λ (b : List ℕ). length b ≤ length bytes) (sym is) (omega (arith, length-take (CERT_BYTES_MOST + 1) bytes)) in
     inl (omega arith, place)
 whole_cert bytes front (RefusedAt n) is (inr (short, refusal)) =
     let whole : front ≡ bytes = take_all_of CERT_BYTES_MOST bytes front is short in
-    subst (λ (b : List ℕ). IsRead b (RefusedAt n)) whole (inr (short, refusal))
+    subst (λ (b : List ℕ). IsCertRead b (RefusedAt n)) whole (inr (short, refusal))
 
 -- what becomes of a certificate of told files
 verdict_ends : (job certificate : List ℕ) (held : Files) (made : JobTable) (cert : Cert) (bytes : List ℕ) (ended : Ended)
-    → IsJobTable (Some held) job (files_of_check job certificate) made → get held certificate ≡ Some bytes → IsRead bytes (Holds cert)
+    → IsJobTable (Some held) job (files_of_check job certificate) made → get held certificate ≡ Some bytes → IsCertRead bytes (Holds cert)
     → IsVerdict made.table cert ended → EndsWithStatus (Some (Check job certificate)) held ended.status ended.line.items held
 verdict_ends job certificate held made cert bytes ended has stands read (accepted faultless ends) =
     subst (λ (s : Status). EndsWithStatus (Some (Check job certificate)) held s ended.line.items held) (sym ends.0)
@@ -87,13 +87,13 @@ verdict_caused job certificate old new made front None so = tt
 verdict_caused job certificate old new made front (Some ended) so = verdict_on_has_cause job certificate old new made front ended so
 
 -- bytes of a certificate
-pub verdict_spelled : (table : Table) (bytes : List ℕ) (cert : Cert) (result : Option Ended) → IsRead bytes (Holds cert)
+pub verdict_spelled : (table : Table) (bytes : List ℕ) (cert : Cert) (result : Option Ended) → IsCertRead bytes (Holds cert)
     → IfSome result (IsVerdict table cert) → IfSome result (IsVerdictOn table bytes)
 verdict_spelled table bytes cert None read so = tt
 verdict_spelled table bytes cert (Some ended) read so = spelled cert read so
 
 -- bytes of no certificate
-pub verdict_unspelled : (table : Table) (bytes : List ℕ) (byte : ℕ) (told : Report) (result : Option Ended) → IsRead bytes (RefusedAt byte)
+pub verdict_unspelled : (table : Table) (bytes : List ℕ) (byte : ℕ) (told : Report) (result : Option Ended) → IsCertRead bytes (RefusedAt byte)
     → IfSome result (EndsBy (statuses.CertRefused (Syntax byte)) told) → report_line told ≡ report_line (cert_report (Syntax byte))
     → IfSome result (IsVerdictOn table bytes)
 verdict_unspelled table bytes byte told None read so is = tt

@@ -4,16 +4,16 @@ use Rattle.std.proofs.lemmas.List.{length-take, take_all}
 use Rattle.std.specs.Option.{IsSomeAnd}
 use Rattle.std.specs.FinMap.{get}
 use Rattle.bound_certificate.specs.declared.cert.Cert.{Cert}
-use Rattle.bound_certificate.specs.Spelling.{spelling}
+use Rattle.bound_certificate.specs.Spelling.{cert_spelling}
 use Rattle.shelf_io.specs.Files.{Files}
 use Rattle.shelf_io.specs.WholeFile.{HoldsPrefix}
 use Rattle.version_table.specs.declared.limits.TheConstants.{TABLE_TEXT_MOST}
 use Rattle.version_table.specs.declared.fault.TableFault.{TableFault}
 use Rattle.version_table.specs.declared.fault.TableFault.TheVariants as faults
-use Rattle.version_table.specs.Text.{IsRead, IsFaultOf, TextReading, Holds, RefusedAt, RefusedFor}
+use Rattle.version_table.specs.Text.{IsTableRead, IsFaultOf, TextReading, Holds, RefusedAt, RefusedFor}
 use Rattle.remux_core.specs.declared.ended.Ended.{Ended}
 use Rattle.remux_core.specs.declared.status.Status.{Status}
-use Rattle.remux_core.specs.Answer.{Decides, EndsWithStatus, AnswerHasCause, HasCause, Leaves}
+use Rattle.remux_core.specs.Answer.{Decides, EndsWithStatus, AnswerHasCause, HasCause, LeavesFiles}
 use Rattle.remux_core.specs.PlanCommand.{HasPlan}
 use Rattle.remux_core.proofs.Told.{HoldsPart, on_prefix}
 use Rattle.remux_core.specs.Command.{Plan}
@@ -27,19 +27,19 @@ take_all_of n text front is short =
     is ∙ take_all (n + 1) text (omega arith)
 
 -- a text is read as its front of one byte past the limit
-pub read_whole : (text front : List ℕ) (reading : TextReading) → front ≡ take (TABLE_TEXT_MOST + 1) text → IsRead front reading → IsRead text reading
+pub read_whole : (text front : List ℕ) (reading : TextReading) → front ≡ take (TABLE_TEXT_MOST + 1) text → IsTableRead front reading → IsTableRead text reading
 read_whole text front (Holds table) is (short, valid, spelled) =
     let whole : front ≡ text = take_all_of TABLE_TEXT_MOST text front is short in
-    subst (λ (t : List ℕ). IsRead t (Holds table)) whole (short, valid, spelled)
+    subst (λ (t : List ℕ). IsTableRead t (Holds table)) whole (short, valid, spelled)
 read_whole text front (RefusedAt n) is (short, refused) =
     let whole : front ≡ text = take_all_of TABLE_TEXT_MOST text front is short in
-    subst (λ (t : List ℕ). IsRead t (RefusedAt n)) whole (short, refused)
+    subst (λ (t : List ℕ). IsTableRead t (RefusedAt n)) whole (short, refused)
 read_whole text front (RefusedFor limit) is (inl (long, bytes)) =
     let cut : length front ≤ length text = subst (λ (t : List ℕ). length t ≤ length text) (sym is) (omega (arith, length-take (TABLE_TEXT_MOST + 1) text)) in
     inl (omega arith, bytes)
 read_whole text front (RefusedFor limit) is (inr (short, refused)) =
     let whole : front ≡ text = take_all_of TABLE_TEXT_MOST text front is short in
-    subst (λ (t : List ℕ). IsRead t (RefusedFor limit)) whole (inr (short, refused))
+    subst (λ (t : List ℕ). IsTableRead t (RefusedFor limit)) whole (inr (short, refused))
 
 -- what a told file holds
 pub held_text : (told : Option Files) (held : Files) (name bytes : List ℕ) (n : ℕ) → told ≡ Some held
@@ -76,14 +76,14 @@ refused_cause table certificate old new (Some ended) faults.OutOfMemory so = abs
 
 -- a front of the certificate of a plan is what `plan` may leave
 pub plan_leaves : (table certificate : List ℕ) (plan : Cert) (files after : Files) → HasPlan files table plan
-    → HoldsPart certificate (spelling plan) files after → Leaves (Some (Plan table certificate)) files after
+    → HoldsPart certificate (cert_spelling plan) files after → LeavesFiles (Some (Plan table certificate)) files after
 plan_leaves table certificate plan files after has (inl same) = inl same
 plan_leaves table certificate plan files after has (inr (k, few, written)) = inr (plan, has, k, few, written)
 
 -- a call that wrote a front of some bytes, which are those of the certificate of a plan
-pub part_written : (old new : Option Files) (table certificate : List ℕ) (plan : Cert) (bytes : List ℕ) → bytes ≡ spelling plan
-    → HoldsPrefix old new certificate bytes → OnFiles old new (λ held after. HasPlan held table plan → Leaves (Some (Plan table certificate)) held after)
+pub part_written : (old new : Option Files) (table certificate : List ℕ) (plan : Cert) (bytes : List ℕ) → bytes ≡ cert_spelling plan
+    → HoldsPrefix old new certificate bytes → OnFiles old new (λ held after. HasPlan held table plan → LeavesFiles (Some (Plan table certificate)) held after)
 part_written old new table certificate plan bytes is holds =
-    on_prefix old new certificate (spelling plan) (λ held after. HasPlan held table plan → Leaves (Some (Plan table certificate)) held after)
+    on_prefix old new certificate (cert_spelling plan) (λ held after. HasPlan held table plan → LeavesFiles (Some (Plan table certificate)) held after)
     (subst (λ (b : List ℕ). HoldsPrefix old new certificate b) is holds)
     (λ held after part has. plan_leaves table certificate plan held after has part)

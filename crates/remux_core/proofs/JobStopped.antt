@@ -16,7 +16,7 @@ use Rattle.shelf_io.specs.Files.{Files}
 use Rattle.remux_core.specs.declared.ended.Ended.{Ended}
 use Rattle.remux_core.specs.declared.status.Status.{Status}
 use Rattle.remux_core.specs.declared.status.Status.TheVariants as statuses
-use Rattle.remux_core.specs.Answer.{CallsFor, Leaves, EndsWithStatus, Decides, HasCause, AnswerHasCause}
+use Rattle.remux_core.specs.Answer.{CallsFor, LeavesFiles, EndsWithStatus, Decides, HasCause, AnswerHasCause}
 use Rattle.remux_core.specs.CheckCommand.{CheckCallsFor}
 use Rattle.remux_core.specs.Command.{Command, Run, Check, ReadsFile, ReadsPrograms, MayRefuse, files_of_run, files_of_check}
 use Rattle.remux_core.specs.Outside.{ShelfFacts}
@@ -61,7 +61,7 @@ text_calls files name named (Limit field) holds = holds
 
 -- where the job has no table, a command decides as it is stopped, and leaves the files
 pub stop_decides : (command : Command) (name : List ℕ) (named : List (List ℕ)) (held : Files) (old new : ShelfCounts) (since : ℕ)
-    → ((status : Status) → JobCallsFor held name named status → CallsFor (Some command) held status) → Leaves (Some command) held held
+    → ((status : Status) → JobCallsFor held name named status → CallsFor (Some command) held status) → LeavesFiles (Some command) held held
     → (stop : JobStop) (result : Option Ended) → StopsFor (Some held) name named old new since stop → StopEnds stop result
     → Decides (Some command) held (answer_of result) held
 stop_decides command name named held old new since calls leaves (Text refusal) None stops ends = leaves

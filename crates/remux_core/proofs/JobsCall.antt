@@ -3,7 +3,7 @@ use Rattle.std.proofs.Common.{◌≡◌, ℕ, List, Some, None, refl, sym, ap, s
 use Rattle.std.proofs.lemmas.Option.{same_Some, none-some}
 use Rattle.std.specs.FinMap.{get}
 use Rattle.bound_certificate.specs.declared.cert.Cert.{Cert}
-use Rattle.bound_certificate.specs.Reading.{CertReading, IsRead, Holds, RefusedAt}
+use Rattle.bound_certificate.specs.Reading.{CertReading, IsCertRead, Holds, RefusedAt}
 use Rattle.certificate_checker.specs.declared.why.CertFault.{CertFault}
 use Rattle.certificate_checker.specs.Checked.{IsFaultless, IsFirstFault}
 use Rattle.job_programs.specs.declared.source_fault.SourceFault.{SourceFault}
@@ -37,7 +37,7 @@ pub record SlotLaws : Type 0 where
 
 -- the laws of certificates: bytes are read in one way, a certificate has no fault or one first fault
 pub record CertLaws : Type 0 where
-  pub reading : (bytes : List ℕ) (a b : CertReading) → IsRead bytes a → IsRead bytes b → a ≡ b
+  pub reading : (bytes : List ℕ) (a b : CertReading) → IsCertRead bytes a → IsCertRead bytes b → a ≡ b
   pub faultless : (table : Table) (cert : Cert) (fault : CertFault) → IsFaultless table cert → IsFirstFault table cert fault → ⊥
   pub fault : (table : Table) (cert : Cert) (a b : CertFault) → IsFirstFault table cert a → IsFirstFault table cert b → a ≡ b
 
@@ -187,15 +187,15 @@ run_calls_for_one slots jobs job out certificate files s t a b = stops_are_one j
 -- ---- check
 
 -- a file is read in one way
-one_reading_of : CertLaws → (files : Files) (name bytes other : List ℕ) (a b : CertReading) → get files name ≡ Some bytes → IsRead bytes a
-    → get files name ≡ Some other → IsRead other b → a ≡ b
+one_reading_of : CertLaws → (files : Files) (name bytes other : List ℕ) (a b : CertReading) → get files name ≡ Some bytes → IsCertRead bytes a
+    → get files name ≡ Some other → IsCertRead other b → a ≡ b
 one_reading_of laws files name bytes other a b held read has is =
     let same : bytes ≡ other = same_Some _ _ (sym held ∙ has) in
-    laws.reading other a b (subst (λ (x : List ℕ). IsRead x a) same read) is
+    laws.reading other a b (subst (λ (x : List ℕ). IsCertRead x a) same read) is
 
 -- a file that holds a certificate isn't refused
 cert_or_refused : CertLaws → (files : Files) (name bytes : List ℕ) (cert : Cert) (n : ℕ) → HoldsCert files name cert → get files name ≡ Some bytes
-    → IsRead bytes (RefusedAt n) → ⊥
+    → IsCertRead bytes (RefusedAt n) → ⊥
 cert_or_refused laws files name bytes cert n holds held read =
     let same : Holds cert ≡ RefusedAt n = one_reading_of laws files name holds.bytes bytes (Holds cert) (RefusedAt n) holds.held holds.read held read in
     cc
@@ -207,8 +207,8 @@ one_cert laws files name cert other a b =
     cc
 
 -- a file is refused at one byte
-one_byte : CertLaws → (files : Files) (name bytes other : List ℕ) (n m : ℕ) → get files name ≡ Some bytes → IsRead bytes (RefusedAt n)
-    → get files name ≡ Some other → IsRead other (RefusedAt m) → n ≡ m
+one_byte : CertLaws → (files : Files) (name bytes other : List ℕ) (n m : ℕ) → get files name ≡ Some bytes → IsCertRead bytes (RefusedAt n)
+    → get files name ≡ Some other → IsCertRead other (RefusedAt m) → n ≡ m
 one_byte laws files name bytes other n m held read has is =
     let same : RefusedAt n ≡ RefusedAt m = one_reading_of laws files name bytes other (RefusedAt n) (RefusedAt m) held read has is in
     cc

@@ -5,7 +5,7 @@ use Rattle.std.specs.FinMap.{get}
 use Rattle.shelf_io.specs.Files.{Files}
 use Rattle.version_table.specs.declared.table.Table.{Table}
 use Rattle.version_table.specs.Choice.{IsSmallestChoice}
-use Rattle.version_table.specs.Text.{IsRead, TextReading, Holds, RefusedAt, RefusedFor}
+use Rattle.version_table.specs.Text.{IsTableRead, TextReading, Holds, RefusedAt, RefusedFor}
 use Rattle.slot_rule.specs.declared.sent.Miss.{Miss}
 use Rattle.slot_rule.specs.Schedule.{IsScheduled, IsFirstMiss}
 use Rattle.remux_core.specs.declared.status.Status.{Status}
@@ -24,7 +24,7 @@ use Rattle.remux_core.specs.Status.{IsSameRefusal, IsSameStatus}
 
 -- the law that each text is read in one way
 abbrev pub OneReading : Type 0
-OneReading = (text : List ℕ) (a b : TextReading) → IsRead text a → IsRead text b → a ≡ b
+OneReading = (text : List ℕ) (a b : TextReading) → IsTableRead text a → IsTableRead text b → a ≡ b
 
 -- the laws that each text is read in one way, each table has one smallest choice, a choice is scheduled or has one first miss, and what a job
 -- or a file that is probed calls for is one
@@ -108,11 +108,11 @@ one_table laws files name s t a b =
     let x = a.held in
     let y = b.held in
     let texts : a.text ≡ b.text = cc in
-    let same : Holds s ≡ Holds t = laws.reading b.text (Holds s) (Holds t) (subst (λ (x : List ℕ). IsRead x (Holds s)) texts a.read) b.read in
+    let same : Holds s ≡ Holds t = laws.reading b.text (Holds s) (Holds t) (subst (λ (x : List ℕ). IsTableRead x (Holds s)) texts a.read) b.read in
     cc
 
 -- the text of a table isn't refused
-no_refusal : OneReading → (text : List ℕ) (table : Table) (refusal : JobRefusal) → IsRead text (Holds table) → IsTableRefused text refusal → ⊥
+no_refusal : OneReading → (text : List ℕ) (table : Table) (refusal : JobRefusal) → IsTableRead text (Holds table) → IsTableRefused text refusal → ⊥
 no_refusal reading text table (TableSyntax n) read refused =
     let same : Holds table ≡ RefusedAt n = reading text (Holds table) (RefusedAt n) read refused in
     cc
@@ -129,7 +129,7 @@ pub table_or_refusal : OneReading → (files : Files) (name : List ℕ) (table :
 table_or_refusal reading files name table refusal holds (text, held, refused) =
     let there = holds.held in
     let texts : holds.text ≡ text = cc in
-    no_refusal reading text table refusal (subst (λ (x : List ℕ). IsRead x (Holds table)) texts holds.read) refused
+    no_refusal reading text table refusal (subst (λ (x : List ℕ). IsTableRead x (Holds table)) texts holds.read) refused
 
 -- a text has one refusal
 one_refusal : Laws → (text : List ℕ) (a b : JobRefusal) → IsTableRefused text a → IsTableRefused text b → IsSameRefusal a b

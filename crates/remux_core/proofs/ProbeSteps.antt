@@ -13,7 +13,7 @@ use Rattle.job_programs.specs.Told.{IsProbedOn, IsProbeRefusedOn}
 use Rattle.job_report.specs.declared.limits.TheConstants.{COARSER_DEFAULT, COARSER_MOST, EVALUATIONS_DEFAULT, NODES_DEFAULT, PROBE_SLOT, START_DEFAULT, WEIGHT_DEFAULT, WEIGHT_MOST}
 use Rattle.program_reader.specs.declared.program.AudioSource.{AudioSource}
 use Rattle.program_reader.specs.declared.program.Program.{Program}
-use Rattle.program_reader.specs.Programs.{IsProgramOf}
+use Rattle.program_reader.specs.Programs.{IsProgramOfFile}
 use Rattle.program_table.specs.Table.{IsRowOf, audio_row}
 use Rattle.shelf_io.specs.Files.{Files, with_content}
 use Rattle.shelf_io.specs.WholeFile.{HoldsPrefix}
@@ -22,7 +22,7 @@ use Rattle.version_table.specs.declared.table.AudioPacket.{AudioPacket}
 use Rattle.version_table.specs.declared.table.ProgramRow.{ProgramRow}
 use Rattle.version_table.specs.declared.table.Table.{Table}
 use Rattle.version_table.specs.Table.{IsValidProgram}
-use Rattle.version_table.specs.Text.{IsTextTable, spelling}
+use Rattle.version_table.specs.Text.{IsTextTable, table_spelling}
 use Rattle.remux_core.specs.declared.ended.Ended.{Ended}
 use Rattle.remux_core.specs.declared.probe_command.Probed.{Probed}
 use Rattle.remux_core.specs.declared.status.Status.{Status}
@@ -51,7 +51,7 @@ row_packets (audio ∷ audios) =
 -- the law that the row of a program has a place in a table
 abbrev pub RowsArePlaced : Type 0
 RowsArePlaced = (slot start number weight : ℕ) (content drop coarser : List ℕ) (program : Program) (row : ProgramRow) → weight ≤ WEIGHT_MOST → length coarser ≤ COARSER_MOST
-    → IsProgramOf content number drop start program → IsWithinTime slot program → AreBytes program.video → IsRowOf program coarser weight row
+    → IsProgramOfFile content number drop start program → IsWithinTime slot program → AreBytes program.video → IsRowOf program coarser weight row
     → IsValidProgram slot row × (length row.units ≤ UNITS_MOST) × (length (flat_map (λ packets. packets) row.audios) < AUDIO_PACKETS_LIMIT)
 
 -- the table of a program that is probed

@@ -3,7 +3,7 @@ use Rattle.std.proofs.Common.{◌≡◌, ◌≤◌, ℕ, List, [], length, take,
 use Rattle.std.proofs.Math.Seq.{take-length}
 use Rattle.std.specs.FinMap.{insert}
 use Rattle.bound_certificate.specs.declared.cert.Cert.{Cert}
-use Rattle.bound_certificate.specs.Spelling.{spelling}
+use Rattle.bound_certificate.specs.Spelling.{cert_spelling}
 use Rattle.job_report.specs.Report.{report_line}
 use Rattle.job_run.specs.declared.job_table.JobTable.{JobTable}
 use Rattle.job_run.specs.JobTable.{IsJobTable}
@@ -44,13 +44,13 @@ is_work told job out certificate made cert slots stream has plan are stands = re
 -- both files were written whole
 pub run_done : (job out certificate : List ℕ) (old middle new : Option Files) (made : JobTable) (cert : Cert) (slots : SlotList) (bytes line : List ℕ)
     → IsPlan made.table cert → IsSlotList made.table cert.choice slots → HoldsStream old middle out made cert.choice slots
-    → bytes ≡ spelling cert → new ≡ with_content middle certificate bytes
+    → bytes ≡ cert_spelling cert → new ≡ with_content middle certificate bytes
     → line ≡ report_line (run_report made.job.programs made.programs cert slots.slots)
     → OnFiles old new (λ held after. IsJobTable (Some held) job (files_of_run job out certificate) made → RunDone job out certificate held line after)
 run_done job out certificate None middle new made cert slots bytes line plan are holds spelled written says = tt
 run_done job out certificate (Some held) middle new made cert slots bytes line plan are (stream, stands, first) spelled written says =
     let work = work_of made cert slots stream in
-    let whole : Some (insert (insert held out stream) certificate (spelling cert)) ≡ new =
+    let whole : Some (insert (insert held out stream) certificate (cert_spelling cert)) ≡ new =
     sym (written ∙ ap (λ (told : Option Files). with_content told certificate bytes) first ∙ ap (λ (b : List ℕ). Some (insert (insert held out stream) certificate b)) spelled) in
     subst (λ (n : Option Files). OnFiles (Some held) n (λ held after. IsJobTable (Some held) job (files_of_run job out certificate) made → RunDone job out certificate held line after))
     whole (λ has. (work, is_work (Some held) job out certificate made cert slots stream has plan are stands, says, refl))
@@ -80,7 +80,7 @@ stream_left job out certificate (Some held) new made cert slots plan are (inr (s
 -- the certificate was broken off
 pub certificate_left : (job out certificate : List ℕ) (old middle new : Option Files) (made : JobTable) (cert : Cert) (slots : SlotList) (bytes : List ℕ)
     → IsPlan made.table cert → IsSlotList made.table cert.choice slots → HoldsStream old middle out made cert.choice slots
-    → bytes ≡ spelling cert → HoldsPrefix middle new certificate bytes
+    → bytes ≡ cert_spelling cert → HoldsPrefix middle new certificate bytes
     → OnFiles old new (λ held after. IsJobTable (Some held) job (files_of_run job out certificate) made → RunLeaves job out certificate held after)
 certificate_left job out certificate None middle new made cert slots bytes plan are holds spelled part = tt
 certificate_left job out certificate (Some held) middle new made cert slots bytes plan are (stream, stands, first) spelled (inl same) =
@@ -90,7 +90,7 @@ certificate_left job out certificate (Some held) middle new made cert slots byte
     (λ has. inr (work, is_work (Some held) job out certificate made cert slots stream has plan are stands, inl (length stream, omega arith, refl)))
 certificate_left job out certificate (Some held) middle new made cert slots bytes plan are (stream, stands, first) spelled (inr (k, few, written)) =
     let work = work_of made cert slots stream in
-    let whole : new ≡ Some (insert (insert held out stream) certificate (take k (spelling cert))) =
+    let whole : new ≡ Some (insert (insert held out stream) certificate (take k (cert_spelling cert))) =
     written ∙ ap (λ (told : Option Files). with_content told certificate (take k bytes)) first
     ∙ ap (λ (b : List ℕ). Some (insert (insert held out stream) certificate (take k b))) spelled in
     subst (λ (n : Option Files). OnFiles (Some held) n (λ held after. IsJobTable (Some held) job (files_of_run job out certificate) made → RunLeaves job out certificate held after))

@@ -5,7 +5,7 @@ use Rattle.shelf_io.specs.Files.{Files, Lacks}
 use Rattle.bound_certificate.specs.declared.cert.Cert.{Cert}
 use Rattle.job_report.specs.Report.{report_line}
 use Rattle.job_report.specs.declared.report.Report.TheVariants as reports
-use Rattle.program_maker.specs.Program.{IsProgram}
+use Rattle.program_maker.specs.Program.{IsGeneratedProgram}
 use Rattle.program_reader.specs.declared.program.Program.{Program}
 use Rattle.run_report.specs.Report.{source_report}
 use Rattle.remux_core.specs.declared.status.Status.{Status}
@@ -44,26 +44,26 @@ IsDone (Some (Probe file number table)) files line after = ProbeDone file number
 IsDone None files line after = ⊥
 
 -- the files that a command leaves where it is broken off
-abbrev pub Leaves : Option Command → Files → (after : Files) → Type 0
-Leaves (Some (Plan table certificate)) files after = PlanLeaves table certificate files after
-Leaves (Some (Gen seed pictures out)) files after = GenLeaves seed pictures out files after
-Leaves (Some (Run job out certificate)) files after = RunLeaves job out certificate files after
-Leaves (Some (Check job certificate)) files after = after ≡ files
-Leaves (Some (Probe file number table)) files after = ProbeLeaves file number table files after
-Leaves None files after = after ≡ files
+abbrev pub LeavesFiles : Option Command → Files → (after : Files) → Type 0
+LeavesFiles (Some (Plan table certificate)) files after = PlanLeaves table certificate files after
+LeavesFiles (Some (Gen seed pictures out)) files after = GenLeaves seed pictures out files after
+LeavesFiles (Some (Run job out certificate)) files after = RunLeaves job out certificate files after
+LeavesFiles (Some (Check job certificate)) files after = after ≡ files
+LeavesFiles (Some (Probe file number table)) files after = ProbeLeaves file number table files after
+LeavesFiles None files after = after ≡ files
 
 -- What a command with this status and line does to the files. A refusal comes only where it is called for, and leaves them.
 abbrev pub EndsWithStatus : Option Command → Files → Status → (line : List ℕ) → (after : Files) → Type 0
 EndsWithStatus command files Ok line after = IsDone command files line after
 EndsWithStatus command files ReadFault line after = after ≡ files
-EndsWithStatus command files WriteFault line after = Leaves command files after
+EndsWithStatus command files WriteFault line after = LeavesFiles command files after
 EndsWithStatus command files OutOfMemory line after = ⊥
 EndsWithStatus command files status line after = CallsFor command files status × (after ≡ files)
 
 -- what a command does to the files by its answer, or, where memory is wanted before there is one, without
 abbrev pub Decides : Option Command → Files → Option Answer → (after : Files) → Type 0
 Decides command files (Some answer) after = EndsWithStatus command files answer.status answer.line after
-Decides command files None after = Leaves command files after
+Decides command files None after = LeavesFiles command files after
 
 -- a call of the shelf failed at a file of this kind, none followed it, its cause stands, and the line names the file
 pub record FailsAt (IsAsked : List ℕ → Type 0) (Rises : Type 0) (line_of : List ℕ → List ℕ) (line : List ℕ) (new : ShelfFacts) : Type 0 where
@@ -80,7 +80,7 @@ IsReadFile command told name = (limit : ℕ) × ReadsFile command told name limi
 -- the line of a command whose work was done
 abbrev pub IsDoneLine : Command → (line : List ℕ) → Type 0
 IsDoneLine (Plan table certificate) line = (plan : Cert) × (line ≡ report_line (plan_report plan))
-IsDoneLine (Gen seed pictures out) line = (program : List ℕ) × IsProgram seed pictures program × (line ≡ report_line (gen_report program pictures))
+IsDoneLine (Gen seed pictures out) line = (program : List ℕ) × IsGeneratedProgram seed pictures program × (line ≡ report_line (gen_report program pictures))
 IsDoneLine (Run job out certificate) line = (work : RunWork) × (line ≡ report_line (report_of_run work))
 IsDoneLine (Check job certificate) line = (bound : ℕ) × (line ≡ report_line (reports.Check bound))
 IsDoneLine (Probe file number table) line = (program : Program) × (line ≡ report_line (probe_report program))

@@ -2,7 +2,7 @@
 use Rattle.std.specs.Prelude.{◌≡◌, ◌⊎◌, ℕ, List, Some, None}
 use Rattle.std.specs.FinMap.{get}
 use Rattle.bound_certificate.specs.declared.cert.Cert.{Cert}
-use Rattle.bound_certificate.specs.Reading.{IsRead, Holds, RefusedAt}
+use Rattle.bound_certificate.specs.Reading.{IsCertRead, Holds, RefusedAt}
 use Rattle.certificate_checker.specs.Checked.{IsFaultless, IsFirstFault}
 use Rattle.job_report.specs.Report.{report_line}
 use Rattle.job_report.specs.declared.report.Report.TheVariants as reports
@@ -19,7 +19,7 @@ use Rattle.remux_core.specs.RunCommand.{JobCallsFor}
 pub record HoldsCert (files : Files) (name : List ℕ) (cert : Cert) : Type 0 where
   pub bytes : List ℕ
   pub held : get files name ≡ Some bytes
-  pub read : IsRead bytes (Holds cert)
+  pub read : IsCertRead bytes (Holds cert)
 
 -- JOB has this table, and CERT holds this certificate
 pub record HoldsBoth (files : Files) (job certificate : List ℕ) (made : JobTable) (cert : Cert) : Type 0 where
@@ -31,7 +31,7 @@ abbrev pub CheckCallsFor : (job certificate : List ℕ) → Files → Status →
 CheckCallsFor job certificate files Ok = (made : JobTable) × (cert : Cert) × HoldsBoth files job certificate made cert × IsFaultless made.table cert
 CheckCallsFor job certificate files (CertRefused (Syntax n)) =
     (made : JobTable) × (bytes : List ℕ) × IsJobTable (Some files) job (files_of_check job certificate) made × (get files certificate ≡ Some bytes)
-    × IsRead bytes (RefusedAt n)
+    × IsCertRead bytes (RefusedAt n)
 CheckCallsFor job certificate files (CertRefused (Fault fault)) =
     (made : JobTable) × (cert : Cert) × HoldsBoth files job certificate made cert × IsFirstFault made.table cert fault
 CheckCallsFor job certificate files Missing =

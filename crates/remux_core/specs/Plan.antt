@@ -8,7 +8,7 @@ use Rattle.certificate_checker.specs.Checked.{IsFaultless}
 use Rattle.certificate_checker.specs.Faults.{IsHeadRight}
 use Rattle.branch_plan.specs.Bound.{HaveFewWindows, IsAtLeastEachPair, IsAtLeastEachTried}
 use Rattle.branch_plan.specs.Changes.{EndsBestAlone, GainsByRounds}
-use Rattle.branch_plan.specs.Plan.{BoundsAll, IsNoWorse, ShowsItsBound, SmallestIsScheduled}
+use Rattle.branch_plan.specs.Plan.{BoundsAll, IsNoWorseThanLevels, ShowsItsBound, SmallestIsScheduled}
 use Rattle.branch_plan.specs.Tree.{AreEnough, BranchesOnMany, IsSpent}
 
 -- a certificate is that of a plan of the table
@@ -38,7 +38,7 @@ pub record IsPlan (table : Table) (cert : Cert) : Type 0 where
   pub tried : IsAtLeastEachTried table cert.bound
   pub pairs : IsAtLeastEachPair table cert.bound
   -- the smallest choice and the level choices have no less distortion, where they are scheduled
-  pub no_worse : IsNoWorse table cert.distortion
+  pub no_worse : IsNoWorseThanLevels table cert.distortion
   -- with evaluations enough no single change of a unit is left that helps, and while one is left each whole round of them has gained
   pub alone : EndsBestAlone table table.evaluations cert.choice
   pub rounds : GainsByRounds table table.evaluations cert.choice cert.distortion

@@ -2,14 +2,14 @@
 use Rattle.std.specs.Prelude.{◌≡◌, ℕ, ◌≤◌, ◌⊎◌, List, length, take, Some, None}
 use Rattle.std.specs.FinMap.{get, insert}
 use Rattle.bound_certificate.specs.declared.cert.Cert.{Cert}
-use Rattle.bound_certificate.specs.Spelling.{spelling}
+use Rattle.bound_certificate.specs.Spelling.{cert_spelling}
 use Rattle.job_report.specs.Report.{report_line}
 use Rattle.shelf_io.specs.Files.{Files}
 use Rattle.version_table.specs.declared.table.Table.{Table}
 use Rattle.version_table.specs.declared.fault.Limit.{Limit}
 use Rattle.version_table.specs.Choice.{IsSmallestChoice}
 use Rattle.version_table.specs.Limits.{limit_name}
-use Rattle.version_table.specs.Text.{IsRead, Holds, RefusedAt, RefusedFor}
+use Rattle.version_table.specs.Text.{IsTableRead, Holds, RefusedAt, RefusedFor}
 use Rattle.slot_rule.specs.Schedule.{IsScheduled, IsFirstMiss}
 use Rattle.remux_core.specs.declared.status.Status.{Status}
 use Rattle.remux_core.specs.declared.status.Status.TheVariants.{Ok, JobRefused, Unschedulable, Missing}
@@ -22,7 +22,7 @@ use Rattle.remux_core.specs.Report.{plan_report}
 pub record HoldsTable (files : Files) (name : List ℕ) (table : Table) : Type 0 where
   pub text : List ℕ
   pub held : get files name ≡ Some text
-  pub read : IsRead text (Holds table)
+  pub read : IsTableRead text (Holds table)
 
 -- this is a plan of the table that a file holds
 pub record HasPlan (files : Files) (name : List ℕ) (plan : Cert) : Type 0 where
@@ -32,8 +32,8 @@ pub record HasPlan (files : Files) (name : List ℕ) (plan : Cert) : Type 0 wher
 
 -- a text is refused so
 abbrev pub IsTableRefused : List ℕ → JobRefusal → Type 0
-IsTableRefused text (TableSyntax n) = IsRead text (RefusedAt n)
-IsTableRefused text (TableLimit name) = (limit : Limit) × IsRead text (RefusedFor limit) × (name.bytes ≡ limit_name limit)
+IsTableRefused text (TableSyntax n) = IsTableRead text (RefusedAt n)
+IsTableRefused text (TableLimit name) = (limit : Limit) × IsTableRead text (RefusedFor limit) × (name.bytes ≡ limit_name limit)
 IsTableRefused text refusal = ⊥
 
 -- what TABLE holds calls for this status
@@ -50,11 +50,11 @@ PlanCallsFor name files status = ⊥
 abbrev pub PlanDone : (table certificate : List ℕ) → Files → (line : List ℕ) → (after : Files) → Type 0
 PlanDone table certificate files line after =
     (plan : Cert) × HasPlan files table plan × (line ≡ report_line (plan_report plan))
-    × (after ≡ insert files certificate (spelling plan))
+    × (after ≡ insert files certificate (cert_spelling plan))
 
 -- files are as they were, or CERT holds a front of the certificate of a plan of the table in TABLE, and every other file stays
 abbrev pub PlanLeaves : (table certificate : List ℕ) → Files → (after : Files) → Type 0
 PlanLeaves table certificate files after =
     (after ≡ files)
-    ⊎ ((plan : Cert) × HasPlan files table plan × (k : ℕ) × (k ≤ length (spelling plan))
-    × (after ≡ insert files certificate (take k (spelling plan))))
+    ⊎ ((plan : Cert) × HasPlan files table plan × (k : ℕ) × (k ≤ length (cert_spelling plan))
+    × (after ≡ insert files certificate (take k (cert_spelling plan))))

@@ -9,7 +9,7 @@ use Rattle.program_table.specs.Table.{IsRowOf}
 use Rattle.shelf_io.specs.Files.{Files}
 use Rattle.version_table.specs.declared.table.ProgramRow.{ProgramRow}
 use Rattle.version_table.specs.declared.table.Table.{Table}
-use Rattle.version_table.specs.Text.{IsTextTable, spelling}
+use Rattle.version_table.specs.Text.{IsTextTable, table_spelling}
 use Rattle.remux_core.specs.declared.status.Status.{Status}
 use Rattle.remux_core.specs.declared.status.Status.TheVariants.{Ok, SourceRefused, Missing}
 use Rattle.remux_core.specs.Report.{probe_report}
@@ -45,11 +45,11 @@ ProbeCallsFor file number files status = ⊥
 abbrev pub ProbeDone : (file : List ℕ) → (number : ℕ) → (table : List ℕ) → Files → (line : List ℕ) → (after : Files) → Type 0
 ProbeDone file number table files line after =
     (program : Program) × (made : Table) × HasProbed files file number program made × (line ≡ report_line (probe_report program))
-    × (after ≡ insert files table (spelling made))
+    × (after ≡ insert files table (table_spelling made))
 
 -- files are as they were, or TABLE holds a front of the text of the table of FILE's program, and every other file stays
 abbrev pub ProbeLeaves : (file : List ℕ) → (number : ℕ) → (table : List ℕ) → Files → (after : Files) → Type 0
 ProbeLeaves file number table files after =
     (after ≡ files)
-    ⊎ ((program : Program) × (made : Table) × HasProbed files file number program made × (k : ℕ) × (k ≤ length (spelling made))
-    × (after ≡ insert files table (take k (spelling made))))
+    ⊎ ((program : Program) × (made : Table) × HasProbed files file number program made × (k : ℕ) × (k ≤ length (table_spelling made))
+    × (after ≡ insert files table (take k (table_spelling made))))

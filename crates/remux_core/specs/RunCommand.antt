@@ -2,7 +2,7 @@
 use Rattle.std.specs.Prelude.{◌≡◌, ℕ, ◌≤◌, ◌⊎◌, List, length, take, Option, Some, None}
 use Rattle.std.specs.FinMap.{get, insert}
 use Rattle.bound_certificate.specs.declared.cert.Cert.{Cert}
-use Rattle.bound_certificate.specs.Spelling.{spelling}
+use Rattle.bound_certificate.specs.Spelling.{cert_spelling}
 use Rattle.branch_plan.specs.Plan.{SmallestIsScheduled}
 use Rattle.job_report.specs.Report.{report_line}
 use Rattle.job_report.specs.declared.report.Report.{Report}
@@ -70,13 +70,13 @@ RunCallsFor job out certificate files status = JobCallsFor files job (files_of_r
 abbrev pub RunDone : (job out certificate : List ℕ) → Files → (line : List ℕ) → (after : Files) → Type 0
 RunDone job out certificate files line after =
     (work : RunWork) × IsWork (Some files) job out certificate work × (line ≡ report_line (report_of_run work))
-    × (after ≡ insert (insert files out work.stream) certificate (spelling work.cert))
+    × (after ≡ insert (insert files out work.stream) certificate (cert_spelling work.cert))
 
 -- OUT holds a front of the stream, or all of it and CERT a front of the certificate; every other file stays
 abbrev pub HoldsPartOf : (out certificate : List ℕ) → RunWork → (files after : Files) → Type 0
 HoldsPartOf out certificate work files after =
     ((k : ℕ) × (k ≤ length work.stream) × (after ≡ insert files out (take k work.stream)))
-    ⊎ ((k : ℕ) × (k ≤ length (spelling work.cert)) × (after ≡ insert (insert files out work.stream) certificate (take k (spelling work.cert))))
+    ⊎ ((k : ℕ) × (k ≤ length (cert_spelling work.cert)) × (after ≡ insert (insert files out work.stream) certificate (take k (cert_spelling work.cert))))
 
 -- files are as they were, or hold a part of what a run makes: CERT is changed only where OUT is whole
 abbrev pub RunLeaves : (job out certificate : List ℕ) → Files → (after : Files) → Type 0

@@ -12,7 +12,7 @@ use Rattle.syntax_types.specs.declared.picture.SeqState.{SeqState}
 use Rattle.picture_grammar.specs.Block.{first_place}
 use Rattle.picture_grammar.specs.Macroblock.{block_way, no_block}
 use Rattle.requantiser.specs.Distortion.{squared_difference}
-use Rattle.requantiser.specs.Levels.{level_at, place_of, scale_of, weight_at}
+use Rattle.requantiser.specs.Levels.{level_at, scan_place, scale_of, weight_at}
 use Rattle.requantiser.specs.Private.Changes.{block_change, change_in, coefficient_of_blocks, new_level_in, pair_changes}
 use Rattle.requantiser.specs.Private.Shapes.{FitBlock}
 use Rattle.requantiser.specs.Private.Sums.{sum_from}
@@ -45,19 +45,19 @@ sum_from-one f g a (suc n) k low high others none =
 -- what a function of the place and its level sums up to over all raster indices is what it does over the coefficients, where
 -- it is 0 at the level 0
 pub over_pairs : (change : ℕ → ℤ → ℕ) → ((place : ℕ) → change place (pos 0) ≡ 0) → (alternate : Bool) (start : ℕ) (pairs : List RunLevel) → FitBlock start pairs
-    → sum_from (λ index. change (place_of alternate index) (level_from start pairs (place_of alternate index))) 0 64 ≡ pair_changes change start pairs
-over_pairs change none alternate start [] fit = sum_from-zeros _ 0 64 (λ index. none (place_of alternate index))
+    → sum_from (λ index. change (scan_place alternate index) (level_from start pairs (scan_place alternate index))) 0 64 ≡ pair_changes change start pairs
+over_pairs change none alternate start [] fit = sum_from-zeros _ 0 64 (λ index. none (scan_place alternate index))
 over_pairs change none alternate start (pair ∷ pairs) fit =
     let place : ℕ = start + pair.run in
     let k : ℕ = index_of alternate place in
     let here : AreOthers alternate place = are_others alternate place fit.0 in
-    let at_k : change (place_of alternate k) (level_from start (pair ∷ pairs) (place_of alternate k)) ≡ change place pair.level =
+    let at_k : change (scan_place alternate k) (level_from start (pair ∷ pairs) (scan_place alternate k)) ≡ change place pair.level =
     ap (λ p. change p (level_from start (pair ∷ pairs) p)) here.place ∙ ap (change place) (level_here start place pair pairs refl) in
-    let later : change (place_of alternate k) (level_from (place + 1) pairs (place_of alternate k)) ≡ 0 =
+    let later : change (scan_place alternate k) (level_from (place + 1) pairs (scan_place alternate k)) ≡ 0 =
     ap (λ p. change p (level_from (place + 1) pairs p)) here.place ∙ ap (change place) (level_before (place + 1) place pairs (omega arith)) ∙ none place in
-    sum_from-one (λ index. change (place_of alternate index) (level_from start (pair ∷ pairs) (place_of alternate index)))
-    (λ index. change (place_of alternate index) (level_from (place + 1) pairs (place_of alternate index))) 0 64 k (omega arith) (omega (arith, here.index_within))
-    (λ j low high there. ap (change (place_of alternate j)) (level_there start (place_of alternate j) pair pairs (λ e. there (sym (are_others alternate j (omega arith)).index ∙ ap (index_of alternate) e))))
+    sum_from-one (λ index. change (scan_place alternate index) (level_from start (pair ∷ pairs) (scan_place alternate index)))
+    (λ index. change (scan_place alternate index) (level_from (place + 1) pairs (scan_place alternate index))) 0 64 k (omega arith) (omega (arith, here.index_within))
+    (λ j low high there. ap (change (scan_place alternate j)) (level_there start (scan_place alternate j) pair pairs (λ e. there (sym (are_others alternate j (omega arith)).index ∙ ap (index_of alternate) e))))
     later
     ∙ ap₂ (λ x y. x + y) at_k (over_pairs change none alternate (place + 1) pairs fit.2)
 
@@ -89,18 +89,18 @@ block_changes-are seq coding kind code mapped blocks i below fit =
     let way : BlockWay = block_way coding kind i in
     sym (over_pairs (block_change seq coding way code mapped) (λ place. sym (none_changed (pos 0) (weight_at seq coding way.intra place) (scale_of coding code) (scale_of coding mapped) way.intra refl))
     coding.alternate_scan (first_place way) block.pairs.items fit)
-    ∙ sum_from-same (λ index. block_change seq coding way code mapped (place_of coding.alternate_scan index) (level_at way block (place_of coding.alternate_scan index)))
+    ∙ sum_from-same (λ index. block_change seq coding way code mapped (scan_place coding.alternate_scan index) (level_at way block (scan_place coding.alternate_scan index)))
     (λ index. squared_difference (coefficient_of_blocks seq coding kind code blocks i index) (coefficient_of_blocks seq coding kind mapped (coarsened_blocks seq coding kind code mapped blocks) i index)) 0 64
     (λ index low high. ap (squared_difference (coefficient_of_blocks seq coding kind code blocks i index)) (same index))
   where
-    same : (index : ℕ) → (let block : Block = slice_index_or blocks i no_block in let way : BlockWay = block_way coding kind i in let place : ℕ = place_of coding.alternate_scan index in
+    same : (index : ℕ) → (let block : Block = slice_index_or blocks i no_block in let way : BlockWay = block_way coding kind i in let place : ℕ = scan_place coding.alternate_scan index in
         coefficient_of (coarser_level (level_at way block place) (weight_at seq coding way.intra place) (scale_of coding code) (scale_of coding mapped) way.intra)
         (weight_at seq coding way.intra place) (scale_of coding mapped) way.intra
         ≡ coefficient_of_blocks seq coding kind mapped (coarsened_blocks seq coding kind code mapped blocks) i index)
     same index =
         let block : Block = slice_index_or blocks i no_block in
         let way : BlockWay = block_way coding kind i in
-        let place : ℕ = place_of coding.alternate_scan index in
+        let place : ℕ = scan_place coding.alternate_scan index in
         ap (λ (level : ℤ). coefficient_of level (weight_at seq coding way.intra place) (scale_of coding mapped) way.intra)
         (sym ((coarsened_block-is seq coding way code mapped block).levels place)
         ∙ ap (λ (b : Block). level_at way b place) (sym (get_or-coarsened seq coding kind code mapped blocks i below)))

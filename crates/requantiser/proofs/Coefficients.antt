@@ -10,7 +10,7 @@ use Rattle.syntax_types.specs.declared.block.BlockWay.{BlockWay}
 use Rattle.syntax_types.specs.declared.block.RunLevel.{RunLevel}
 use Rattle.syntax_types.specs.declared.picture.PicCoding.{PicCoding}
 use Rattle.syntax_types.specs.declared.picture.SeqState.{SeqState}
-use Rattle.requantiser.specs.Levels.{coefficient_at, level_at, place_of, scale_of, weight_at}
+use Rattle.requantiser.specs.Levels.{coefficient_at, level_at, scan_place, scale_of, weight_at}
 use Rattle.requantiser.specs.Private.Shapes.{AreCoefficients}
 use Rattle.requantiser.proofs.Blocks.{level_from, level_here, level_there, level_before, zero_product}
 use Rattle.requantiser.proofs.Scans.{index_of, are_others, one_place}
@@ -84,10 +84,10 @@ module _ (seq : SeqState) (coding : PicCoding) (way : BlockWay) (code : ℕ) (bl
 
   -- behind the last pair all coefficients stand
   pub all_coefficients : (numbers : List ℤ) (place : ℕ) → StandSoFar numbers place [] → (index : ℕ) → index < 64
-      → get_or numbers index (pos 0) ≡ coefficient_at seq coding way code block (place_of coding.alternate_scan index)
+      → get_or numbers index (pos 0) ≡ coefficient_at seq coding way code block (scan_place coding.alternate_scan index)
   all_coefficients numbers place so_far index below =
       let other = are_others coding.alternate_scan index below in
-      ap (λ n. get_or numbers n (pos 0)) (sym other.index) ∙ by_place (place_of coding.alternate_scan index) other.place_within (cases_lt (place_of coding.alternate_scan index) place)
+      ap (λ n. get_or numbers n (pos 0)) (sym other.index) ∙ by_place (scan_place coding.alternate_scan index) other.place_within (cases_lt (scan_place coding.alternate_scan index) place)
     where
       by_place : (p : ℕ) → p < 64 → (p < place) ⊎ (place ≤ p) → get_or numbers (raster p) (pos 0) ≡ coefficient_at seq coding way code block p
       by_place p inside (inl early) = so_far.before p early inside

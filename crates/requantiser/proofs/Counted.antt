@@ -26,7 +26,7 @@ use Rattle.syntax_types.specs.declared.picture.SeqState.{SeqState}
 use Rattle.picture_grammar.specs.Macroblock.{block_way, no_block}
 use Rattle.requantiser.specs.Blocks.{AreCoarserBlocks}
 use Rattle.requantiser.specs.Distortion.{difference_of}
-use Rattle.requantiser.specs.Levels.{coefficient_at, place_of}
+use Rattle.requantiser.specs.Levels.{coefficient_at, scan_place}
 use Rattle.requantiser.specs.Tallies.{IsTallyOf}
 use Rattle.requantiser.specs.declared.counts.Counts.{Counts}
 use Rattle.requantiser.specs.declared.tally.Tally.{Tally}
@@ -283,8 +283,8 @@ tally_as seq coding code m from targets counts k below tally same is = record {
   bits = same.bits ∙ is.bits;
   few = omega (arith, same.bits, is.few);
   distortion = same.distortion ∙ is.distortion ∙ ap (λ (n : ℕ). difference_of
-      (λ i index. coefficient_at seq coding (block_way coding from.kind i) code (get_or from.blocks i no_block) (place_of coding.alternate_scan index))
-      (λ i index. coefficient_at seq coding (block_way coding from.kind i) n (get_or is.blocks i no_block) (place_of coding.alternate_scan index))) (sym same.code);
+      (λ i index. coefficient_at seq coding (block_way coding from.kind i) code (get_or from.blocks i no_block) (scan_place coding.alternate_scan index))
+      (λ i index. coefficient_at seq coding (block_way coding from.kind i) n (get_or is.blocks i no_block) (scan_place coding.alternate_scan index))) (sym same.code);
   small = omega (arith, same.distortion, is.small);
 }
 

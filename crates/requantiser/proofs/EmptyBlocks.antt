@@ -9,7 +9,7 @@ use Rattle.picture_grammar.specs.Block.{first_place}
 use Rattle.picture_grammar.specs.Macroblock.{block_way, no_block}
 use Rattle.quant_math.specs.Levels.{coefficient_of}
 use Rattle.requantiser.specs.Distortion.{coefficient_of_macroblock, squared_difference}
-use Rattle.requantiser.specs.Levels.{place_of, scale_of, weight_at}
+use Rattle.requantiser.specs.Levels.{scan_place, scale_of, weight_at}
 use Rattle.requantiser.specs.Macroblocks.{is_empty_block}
 use Rattle.requantiser.specs.Private.Sums.{sum_from}
 use Rattle.requantiser.proofs.Blocks.{level_from}
@@ -26,7 +26,7 @@ sum_from-zeros f a (suc n) zeros = sum_from-suc f a n ∙ ap₂ (λ x y. x + y) 
 pub no_coefficient : (seq : SeqState) (coding : PicCoding) (code : ℕ) (m : Macroblock) (i index : ℕ) → is_empty_block (slice_index_or m.blocks i no_block) ≡ true
     → coefficient_of_macroblock seq coding code (Some m) i index ≡ pos 0
 no_coefficient seq coding code m i index empty =
-    let at = place_of coding.alternate_scan index in
+    let at = scan_place coding.alternate_scan index in
     let block : Block = slice_index_or m.blocks i no_block in
     let way = block_way coding m.kind i in
     ap (λ items. coefficient_of (level_from (first_place way) items at) (weight_at seq coding way.intra at) (scale_of coding code) way.intra) (empty_items block.pairs.items empty)

@@ -18,7 +18,7 @@ use Rattle.syntax_types.specs.declared.picture.SeqState.{SeqState}
 use Rattle.picture_grammar.specs.Block.{first_place}
 use Rattle.picture_grammar.specs.Macroblock.{block_way, no_block}
 use Rattle.requantiser.specs.Distortion.{coefficient_of_macroblock, difference_of}
-use Rattle.requantiser.specs.Levels.{place_of, scale_of, weight_at}
+use Rattle.requantiser.specs.Levels.{scan_place, scale_of, weight_at}
 use Rattle.requantiser.specs.Macroblocks.{is_empty_block, pattern_of}
 use Rattle.requantiser.specs.Private.Changes.{coefficient_of_blocks}
 use Rattle.requantiser.specs.Private.Walk.{are_empty, with_blocks}
@@ -38,7 +38,7 @@ not_failed false e = sym e
 none_in_empty : (seq : SeqState) (coding : PicCoding) (kind : Kind) (code : ℕ) (blocks : List Block) (i index : ℕ) → is_empty_block (slice_index_or blocks i no_block) ≡ true
     → coefficient_of_blocks seq coding kind code blocks i index ≡ pos 0
 none_in_empty seq coding kind code blocks i index empty =
-    let at : ℕ = place_of coding.alternate_scan index in
+    let at : ℕ = scan_place coding.alternate_scan index in
     let block : Block = slice_index_or blocks i no_block in
     let way : BlockWay = block_way coding kind i in
     ap (λ items. coefficient_of (level_from (first_place way) items at) (weight_at seq coding way.intra at) (scale_of coding code) way.intra) (empty_items block.pairs.items empty)

@@ -5,7 +5,7 @@ use Rattle.std.specs.List.{list_all, range_with_len}
 use Rattle.std.proofs.lemmas.Bool.{and_parts, eqb-true}
 use Rattle.std.proofs.lemmas.Bool.Decides.{Decides-ltb}
 use Rattle.quant_math.specs.Scans.{scan_order}
-use Rattle.requantiser.specs.Levels.{place_of}
+use Rattle.requantiser.specs.Levels.{scan_place}
 use Rattle.requantiser.proofs.Ranges.{number_passes}
 
 -- the raster index of a place of the scan
@@ -13,8 +13,8 @@ abbrev pub index_of : Bool → ℕ → ℕ
 index_of alternate place = slice_index (scan_order alternate) place
 
 abbrev test : Bool → ℕ → Bool
-test alternate n = (ltb (index_of alternate n) 64 && ltb (place_of alternate n) 64)
-    && ((place_of alternate (index_of alternate n) == n) && (index_of alternate (place_of alternate n) == n))
+test alternate n = (ltb (index_of alternate n) 64 && ltb (scan_place alternate n) 64)
+    && ((scan_place alternate (index_of alternate n) == n) && (index_of alternate (scan_place alternate n) == n))
 
 passes : (alternate : Bool) → list_all (test alternate) (range_with_len 0 64) ≡ true
 passes false = refl
@@ -23,9 +23,9 @@ passes true = refl
 -- each number below 64 is the place of one index, and the index of one place
 pub record AreOthers (alternate : Bool) (n : ℕ) : Type 0 where
   pub index_within : index_of alternate n < 64
-  pub place_within : place_of alternate n < 64
-  pub place : place_of alternate (index_of alternate n) ≡ n
-  pub index : index_of alternate (place_of alternate n) ≡ n
+  pub place_within : scan_place alternate n < 64
+  pub place : scan_place alternate (index_of alternate n) ≡ n
+  pub index : index_of alternate (scan_place alternate n) ≡ n
 
 pub are_others : (alternate : Bool) (n : ℕ) → n < 64 → AreOthers alternate n
 are_others alternate n below =
@@ -34,7 +34,7 @@ are_others alternate n below =
     let (there, back) = and_parts _ _ equals in
     record {
       index_within = (Decides-ltb (index_of alternate n) 64).0 index;
-      place_within = (Decides-ltb (place_of alternate n) 64).0 place;
+      place_within = (Decides-ltb (scan_place alternate n) 64).0 place;
       place = eqb-true _ _ there;
       index = eqb-true _ _ back;
     }
@@ -44,4 +44,4 @@ pub one_place : (alternate : Bool) (a b : ℕ) → a < 64 → b < 64 → index_o
 one_place alternate a b first second same =
     let left = are_others alternate a first in
     let right = are_others alternate b second in
-    sym left.place ∙ ap (place_of alternate) same ∙ right.place
+    sym left.place ∙ ap (scan_place alternate) same ∙ right.place

@@ -12,7 +12,7 @@ use Rattle.syntax_types.specs.declared.slice.Slice.{Slice}
 use Rattle.picture_grammar.specs.Macroblock.{block_way, no_block}
 use Rattle.picture_grammar.specs.Picture.{rows}
 use Rattle.picture_grammar.specs.Slice.{columns}
-use Rattle.requantiser.specs.Levels.{coefficient_at, place_of}
+use Rattle.requantiser.specs.Levels.{coefficient_at, scan_place}
 use Rattle.requantiser.specs.Slices.{macroblock_at, code_at}
 
 -- the slice has a macroblock that isn't skipped at this address (macroblock_address, ISO/IEC 13818-2, 6.3.17)
@@ -24,7 +24,7 @@ has_address seq address slice = nat_le (slice.row * columns seq) address && is_s
 -- is `None` (ISO/IEC 13818-2, 7.3).
 abbrev pub coefficient_of_macroblock : SeqState → PicCoding → ℕ → Option Macroblock → ℕ → ℕ → ℤ
 coefficient_of_macroblock seq coding code macroblock i index = option_map_or
-    (λ m. coefficient_at seq coding (block_way coding m.kind i) code (slice_index_or m.blocks i no_block) (place_of coding.alternate_scan index)) macroblock (pos 0)
+    (λ m. coefficient_at seq coding (block_way coding m.kind i) code (slice_index_or m.blocks i no_block) (scan_place coding.alternate_scan index)) macroblock (pos 0)
 
 -- the coefficient of a macroblock of a slice at a column, 0 where none is coded
 abbrev pub coefficient_in : Picture → Slice → ℕ → ℕ → ℕ → ℤ

@@ -20,8 +20,8 @@ level_at way block place =
     option_map_or (λ pair. pair.level) (item_at (λ pair. pair.run) (first_place way) block.pairs.items place) (pos 0)
 
 -- the place of the scan at which the coefficient with a raster index (row * 8 + column) stands (ISO/IEC 13818-2, 7.3)
-abbrev pub place_of : Bool → ℕ → ℕ
-place_of alternate index = position_or_len (λ other. other == index) (scan_order alternate)
+abbrev pub scan_place : Bool → ℕ → ℕ
+scan_place alternate index = position_or_len (λ other. other == index) (scan_order alternate)
 
 -- the weight of a place of the scan, by the matrix of intra or non-intra blocks (ISO/IEC 13818-2, 7.3 and 7.4.2.1)
 abbrev pub weight_at : SeqState → PicCoding → Bool → ℕ → ℕ

@@ -22,7 +22,7 @@ use Rattle.requantiser.specs.declared.tally.Tally.{Tally}
 use Rattle.requantiser.specs.declared.version_state.VersionState.{VersionState}
 use Rattle.requantiser.specs.Blocks.{AreCoarserBlocks}
 use Rattle.requantiser.specs.Distortion.{coefficient_of_macroblock, difference_of}
-use Rattle.requantiser.specs.Levels.{coefficient_at, place_of}
+use Rattle.requantiser.specs.Levels.{coefficient_at, scan_place}
 use Rattle.requantiser.specs.Macroblocks.{IsCoarserAt, pattern_of}
 use Rattle.requantiser.specs.VersionState.{IsStateBehind}
 
@@ -41,8 +41,8 @@ pub record IsTallyOf (seq : SeqState) (coding : PicCoding) (code m : ℕ) (from 
   pub bits : tally.bits ≡ sum_by (λ i. let block : Block = slice_index_or blocks i no_block in bits_beyond (block_way coding from.kind i) block.pairs.items) (range_with_len 0 BLOCKS)
   pub few : tally.bits ≤ 2 ^ 15
   pub distortion : tally.distortion ≡ difference_of
-      (λ i index. coefficient_at seq coding (block_way coding from.kind i) code (slice_index_or from.blocks i no_block) (place_of coding.alternate_scan index))
-      (λ i index. coefficient_at seq coding (block_way coding from.kind i) tally.target.code (slice_index_or blocks i no_block) (place_of coding.alternate_scan index))
+      (λ i index. coefficient_at seq coding (block_way coding from.kind i) code (slice_index_or from.blocks i no_block) (scan_place coding.alternate_scan index))
+      (λ i index. coefficient_at seq coding (block_way coding from.kind i) tally.target.code (slice_index_or blocks i no_block) (scan_place coding.alternate_scan index))
   pub small : tally.distortion ≤ 2 ^ 41
 
 -- macroblock_type under a head: the source's, but that a code and a pattern stand where the head has them

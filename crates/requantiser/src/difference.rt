@@ -6,7 +6,7 @@ ghost use Rattle.picture_grammar.specs.Block.{first_place};
 ghost use Rattle.requantiser.specs.Distortion.{coefficient_of_macroblock, difference_of, squared_difference};
 ghost use Rattle.picture_grammar.specs.Macroblock.{no_block};
 ghost use Rattle.requantiser.specs.Macroblocks.{is_empty_block};
-ghost use Rattle.requantiser.specs.Levels.{HasWeights, coefficient_at, place_of, scale_of, weight_at as weight_at_place};
+ghost use Rattle.requantiser.specs.Levels.{HasWeights, coefficient_at, scan_place, scale_of, weight_at as weight_at_place};
 ghost use Rattle.requantiser.specs.Private.Shapes.{AreCoefficients, FitBlock, IsSide};
 ghost use Rattle.requantiser.specs.Private.Sums.{sum_from};
 
@@ -117,7 +117,7 @@ fn coefficients_of(
     requires weights { HasWeights seq.now }
     requires code { IsCode code }
     requires fits { FitBlock (first_place way) block.now.pairs.items }
-    ensures value { (index : ℕ) → index < BLOCK_PLACES → slice_index_or result index (pos 0) ≡ coefficient_at seq.now coding.now way code block.now (place_of coding.now.alternate_scan index) }
+    ensures value { (index : ℕ) → index < BLOCK_PLACES → slice_index_or result index (pos 0) ≡ coefficient_at seq.now coding.now way code block.now (scan_place coding.now.alternate_scan index) }
     ensures small { AreCoefficients result }
 {
     let mut coefficients = [0; BLOCK_PLACES];

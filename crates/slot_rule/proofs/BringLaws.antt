@@ -45,7 +45,7 @@ use Rattle.stream_constants.specs.declared.packets.TheConstants.{PACKET_BYTES}
 use Rattle.slot_rule.specs.declared.sent.Sent.TheVariants.{Pcr}
 use Rattle.slot_rule.specs.declared.queue_items.QueueItems.{QueueItems}
 use Rattle.slot_rule.specs.declared.queue_state.QueueState.{QueueState}
-use Rattle.slot_rule.specs.Buffers.{Row, Reserved, Carries, is_of, packets_in, payload_in, slot_subticks, tb_subticks, tb_work, mb_work}
+use Rattle.slot_rule.specs.Buffers.{Row, Reserved, Carries, is_of, packets_in, payload_in, slot_subticks, queue_tb_subticks, tb_work, mb_work}
 use Rattle.slot_rule.specs.Private.Slots.{HasRun, Sends, Tracks, subtick_after}
 use Rattle.slot_rule.specs.Private.QueueItems.{IsPlace, queue_at}
 use Rattle.slot_rule.specs.Private.States.{ChangesEach, ReleasesAll, TakesPcr, places_kept, queue_of}
@@ -142,7 +142,7 @@ pub record Brings (table : Table) (choice : List ℕ) (rows : List Row) (row : R
   pub keeps : KeepsPlace (packets_at table choice state.items) state
   pub sent : state.sent ≡ count_by (is_of stream) (rows ++ row ∷ [])
   pub gone : (k : ℕ) (packet : QueuedPacket) → state.gone ≡ k + 1 → slice_get (packets_at table choice state.items) k ≡ Some packet → packet.gone ≤ length rows * table.slot
-  pub tb : state.tb_empty - subtick_after table.slot rows ≡ tb_work table.slot stream state.kind rows + PACKET_BYTES * tb_subticks state.kind * packets_in stream state.kind row
+  pub tb : state.tb_empty - subtick_after table.slot rows ≡ tb_work table.slot stream state.kind rows + PACKET_BYTES * queue_tb_subticks state.kind * packets_in stream state.kind row
   pub mb : state.mb_empty - subtick_after table.slot rows ≡ mb_work table.slot stream rows + MB_SUBTICKS * payload_in stream row
 
 -- a row without a packet of the stream
@@ -150,7 +150,7 @@ pub Brings-nothing : (table : Table) (choice : List ℕ) (rows : List Row) (row 
     → is_of stream row ≡ false → packets_in stream state.kind row ≡ 0 → payload_in stream row ≡ 0 → Brings table choice rows row stream state
 Brings-nothing table choice rows row stream state tracks other packets payload =
     let count : count_by (is_of stream) (rows ++ row ∷ []) ≡ count_by (is_of stream) rows = count-push stream rows row ∙ ap (λ b. count_by (is_of stream) rows + cond b 1 0) other ∙ add-zero _ in
-    let brought : PACKET_BYTES * tb_subticks state.kind * packets_in stream state.kind row ≡ 0 = ap (λ n. PACKET_BYTES * tb_subticks state.kind * n) packets ∙ mul-zero _ in
+    let brought : PACKET_BYTES * queue_tb_subticks state.kind * packets_in stream state.kind row ≡ 0 = ap (λ n. PACKET_BYTES * queue_tb_subticks state.kind * n) packets ∙ mul-zero _ in
     record {
       place = tracks.place;
       sized = tracks.sized;
@@ -159,7 +159,7 @@ Brings-nothing table choice rows row stream state tracks other packets payload =
       sent = tracks.sent ∙ sym count;
       gone = tracks.gone;
       tb = tracks.tb ∙ (let e : tb_work table.slot stream state.kind rows
-          ≡ tb_work table.slot stream state.kind rows + PACKET_BYTES * tb_subticks state.kind
+          ≡ tb_work table.slot stream state.kind rows + PACKET_BYTES * queue_tb_subticks state.kind
           * packets_in stream state.kind row = rw brought (sym (add-zero _)) in e);
       mb = tracks.mb ∙ (let e : mb_work table.slot stream rows ≡ mb_work table.slot stream rows + MB_SUBTICKS * payload_in stream row = rw payload (sym (add-zero _)) in e);
     }
@@ -193,17 +193,17 @@ raised empty now work waits e = omega arith
 -- a PCR on the stream's PID
 Brings-own_pcr : (table : Table) (choice : List ℕ) (rows : List Row) (program stream : ℕ) (old : QueueState)
     → packets_in stream old.kind (Reserved (Pcr program)) ≡ 1 → Tracks table choice rows stream old
-    → Brings table choice rows (Reserved (Pcr program)) stream (record old { tb_empty = max old.tb_empty (subtick_after table.slot rows) + PACKET_BYTES * tb_subticks old.kind })
+    → Brings table choice rows (Reserved (Pcr program)) stream (record old { tb_empty = max old.tb_empty (subtick_after table.slot rows) + PACKET_BYTES * queue_tb_subticks old.kind })
 Brings-own_pcr table choice rows program stream old one tracks =
-    let brought : PACKET_BYTES * tb_subticks old.kind ≡ PACKET_BYTES * tb_subticks old.kind * packets_in stream old.kind (Reserved (Pcr program)) = rw one (sym (mul-one _)) in
+    let brought : PACKET_BYTES * queue_tb_subticks old.kind ≡ PACKET_BYTES * queue_tb_subticks old.kind * packets_in stream old.kind (Reserved (Pcr program)) = rw one (sym (mul-one _)) in
     record {
       place = tracks.place;
       sized = tracks.sized;
       kind = tracks.kind;
-      keeps = KeepsPlace-work (packets_at table choice old.items) old (max old.tb_empty (subtick_after table.slot rows) + PACKET_BYTES * tb_subticks old.kind) old.mb_empty tracks.keeps;
+      keeps = KeepsPlace-work (packets_at table choice old.items) old (max old.tb_empty (subtick_after table.slot rows) + PACKET_BYTES * queue_tb_subticks old.kind) old.mb_empty tracks.keeps;
       sent = tracks.sent ∙ sym (count-reserved stream (Pcr program) rows);
       gone = tracks.gone;
-      tb = raised old.tb_empty (subtick_after table.slot rows) (PACKET_BYTES * tb_subticks old.kind) _ tracks.tb ∙ ap (λ n. tb_work table.slot stream old.kind rows + n) brought;
+      tb = raised old.tb_empty (subtick_after table.slot rows) (PACKET_BYTES * queue_tb_subticks old.kind) _ tracks.tb ∙ ap (λ n. tb_work table.slot stream old.kind rows + n) brought;
       mb = tracks.mb ∙ sym (add-zero _);
     }
 
@@ -226,7 +226,7 @@ Brings-packet table choice rows stream packet old new sends tracks =
     let row : Row = Carries stream packet in
     let after : QueueState = record old {
       tb_empty = max old.tb_empty (subtick_after table.slot rows) + PACKET_BYTES
-          * tb_subticks old.kind;
+          * queue_tb_subticks old.kind;
       mb_empty = max old.mb_empty (subtick_after table.slot rows) + MB_SUBTICKS * packet.payload;
       sent = old.sent
           + 1;
@@ -235,7 +235,7 @@ Brings-packet table choice rows stream packet old new sends tracks =
     } in
     let one : packets_in stream old.kind (Carries stream packet) ≡ 1 = packets_in-carried stream stream old.kind packet refl in
     let payload : payload_in stream (Carries stream packet) ≡ packet.payload = payload_in-carried stream stream packet refl in
-    let brought : PACKET_BYTES * tb_subticks old.kind ≡ PACKET_BYTES * tb_subticks old.kind * packets_in stream old.kind (Carries stream packet) = rw one (sym (mul-one _)) in
+    let brought : PACKET_BYTES * queue_tb_subticks old.kind ≡ PACKET_BYTES * queue_tb_subticks old.kind * packets_in stream old.kind (Carries stream packet) = rw one (sym (mul-one _)) in
     let brings : Brings table choice rows (Carries stream packet) stream after = record {
       place = tracks.place;
       sized = tracks.sized;
@@ -243,7 +243,7 @@ Brings-packet table choice rows stream packet old new sends tracks =
       keeps = subst (λ (s : QueueState). KeepsPlace (packets_at table choice old.items) s) sends.changed sends.keeps;
       sent = ap (λ n. n + 1) tracks.sent ∙ sym (count-carried stream stream packet rows refl);
       gone = tracks.gone;
-      tb = raised old.tb_empty (subtick_after table.slot rows) (PACKET_BYTES * tb_subticks old.kind) _ tracks.tb ∙ ap (λ n. tb_work table.slot stream old.kind rows + n) brought;
+      tb = raised old.tb_empty (subtick_after table.slot rows) (PACKET_BYTES * queue_tb_subticks old.kind) _ tracks.tb ∙ ap (λ n. tb_work table.slot stream old.kind rows + n) brought;
       mb = raised old.mb_empty (subtick_after table.slot rows) (MB_SUBTICKS * packet.payload) _ tracks.mb ∙ ap (λ n. mb_work table.slot stream rows + MB_SUBTICKS * n) (sym payload);
     } in
     subst (λ (s : QueueState). Brings table choice rows (Carries stream packet) stream s) (sym sends.changed) brings

@@ -51,7 +51,7 @@ use Rattle.slot_rule.specs.declared.sent.Sent.TheVariants.{Pat, Pmt, Pcr}
 use Rattle.slot_rule.specs.declared.slot_list.SlotList.{SlotList}
 use Rattle.slot_rule.specs.Timetable.{reserved}
 use Rattle.slot_rule.specs.Queues.{QueueKind, Video, QueuedPacket, Queue, queues_of}
-use Rattle.slot_rule.specs.Buffers.{Row, Reserved, Carries, Empty, is_of, tb_work, mb_work, outstanding, outstanding_in, packets_in, payload_in, tb_subticks, slot_subticks}
+use Rattle.slot_rule.specs.Buffers.{Row, Reserved, Carries, Empty, is_of, tb_work, mb_work, outstanding, outstanding_in, packets_in, payload_in, queue_tb_subticks, slot_subticks}
 use Rattle.slot_rule.specs.Schedule.{IsHead, Goes, NothingGoes, IsRow, FollowRule, Overdue, NoMiss, IsSchedule, IsScheduled, end_with_margin, mb_or_tb_work}
 use Rattle.slot_rule.specs.Private.IdleSlots.{idle_slots}
 use Rattle.slot_rule.specs.SlotList.{slots_of, sent_of, IsSlotList}
@@ -175,7 +175,7 @@ quiet_in_time (suc n) fits = NoMiss-push 27000 (queues_of long_table (0 ∷ []))
 -- ---- the packet goes in slot 1,003
 transport_none : (rows : List Row) → tb_work 27000 0 (Video 0 112) rows ≡ 0
 transport_none rows =
-    let f : Row → ℕ = λ row. PACKET_BYTES * tb_subticks (Video 0 112) * packets_in 0 (Video 0 112) row in
+    let f : Row → ℕ = λ row. PACKET_BYTES * queue_tb_subticks (Video 0 112) * packets_in 0 (Video 0 112) row in
     waiting-none (slot_subticks 27000) (map f rows) (All-map (λ work. work ≤ slot_subticks 27000) f rows
     (λ k d within. (let one = packets_in-le 0 (Video 0 112) (get_or rows k d) in omega (arith, one))))
 

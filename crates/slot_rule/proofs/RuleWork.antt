@@ -38,7 +38,7 @@ use Rattle.stream_constants.specs.declared.packets.TheConstants.{PACKET_BYTES, P
 use Rattle.slot_rule.specs.declared.sent.Sent.{Sent}
 use Rattle.slot_rule.specs.declared.sent.Sent.TheVariants.{Pcr}
 use Rattle.slot_rule.specs.Queues.{QueueKind, Video, Audio, QueuedPacket}
-use Rattle.slot_rule.specs.Buffers.{Row, Reserved, Carries, Empty, waiting, tb_work, mb_work, packets_in, payload_in, tb_subticks, slot_subticks, is_of, is_pcr_of}
+use Rattle.slot_rule.specs.Buffers.{Row, Reserved, Carries, Empty, waiting, tb_work, mb_work, packets_in, payload_in, queue_tb_subticks, slot_subticks, is_of, is_pcr_of}
 
 max_more : (all rest n drain work : ℕ) → max ((all + work) - drain * (n + 1)) ((rest + work) - drain) ≡ (max (all - drain * n) rest + work) - drain
 max_more all rest n drain work = omega arith
@@ -50,10 +50,10 @@ waiting-push drain (first ∷ works) work =
     rw (waiting-push drain works work, length_push (first ∷ works) work, total) (max_more (sum (first ∷ works)) (waiting drain works) (length (first ∷ works)) drain work)
 
 pub tb_work-push : (slot stream : ℕ) (kind : QueueKind) (rows : List Row) (row : Row)
-    → tb_work slot stream kind (rows ++ row ∷ []) ≡ (tb_work slot stream kind rows + PACKET_BYTES * tb_subticks kind * packets_in stream kind row) - slot_subticks slot
+    → tb_work slot stream kind (rows ++ row ∷ []) ≡ (tb_work slot stream kind rows + PACKET_BYTES * queue_tb_subticks kind * packets_in stream kind row) - slot_subticks slot
 tb_work-push slot stream kind rows row =
-    rw (map_push (λ r. PACKET_BYTES * tb_subticks kind * packets_in stream kind r) rows row)
-    (waiting-push (slot_subticks slot) (map (λ r. PACKET_BYTES * tb_subticks kind * packets_in stream kind r) rows) (PACKET_BYTES * tb_subticks kind * packets_in stream kind row))
+    rw (map_push (λ r. PACKET_BYTES * queue_tb_subticks kind * packets_in stream kind r) rows row)
+    (waiting-push (slot_subticks slot) (map (λ r. PACKET_BYTES * queue_tb_subticks kind * packets_in stream kind r) rows) (PACKET_BYTES * queue_tb_subticks kind * packets_in stream kind row))
 
 pub mb_work-push : (slot stream : ℕ) (rows : List Row) (row : Row)
     → mb_work slot stream (rows ++ row ∷ []) ≡ (mb_work slot stream rows + MB_SUBTICKS * payload_in stream row) - slot_subticks slot
@@ -112,13 +112,13 @@ packets_in-le stream (Video program vbv) (Reserved sent) = rw zero-add (cond_le_
 packets_in-le stream (Video program vbv) (Carries s packet) = rw add-zero (cond_le_one (eqb s stream))
 packets_in-le stream (Video program vbv) Empty = omega arith
 
-transport_in-le : (stream : ℕ) (kind : QueueKind) (row : Row) → PACKET_BYTES * tb_subticks kind * packets_in stream kind row ≤ PACKET_BYTES * AUDIO_TB_SUBTICKS
+transport_in-le : (stream : ℕ) (kind : QueueKind) (row : Row) → PACKET_BYTES * queue_tb_subticks kind * packets_in stream kind row ≤ PACKET_BYTES * AUDIO_TB_SUBTICKS
 transport_in-le stream (Video program vbv) row = omega (arith, packets_in-le stream (Video program vbv) row)
 transport_in-le stream Audio row = omega (arith, packets_in-le stream Audio row)
 
 pub tb_work-bound : (slot stream : ℕ) (kind : QueueKind) (rows : List Row) → tb_work slot stream kind rows ≤ length rows * (PACKET_BYTES * AUDIO_TB_SUBTICKS)
 tb_work-bound slot stream kind rows =
-    let f : Row → ℕ = λ row. PACKET_BYTES * tb_subticks kind * packets_in stream kind row in
+    let f : Row → ℕ = λ row. PACKET_BYTES * queue_tb_subticks kind * packets_in stream kind row in
     rw (← length-map rows f)
     (waiting-bound (slot_subticks slot) (PACKET_BYTES * AUDIO_TB_SUBTICKS) (map f rows)
     (All-map (λ work. work ≤ PACKET_BYTES * AUDIO_TB_SUBTICKS) f rows (λ k d within. transport_in-le stream kind (get_or rows k d))))

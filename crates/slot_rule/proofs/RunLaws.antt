@@ -7,7 +7,7 @@ use Rattle.version_table.specs.declared.table.Table.{Table}
 use Rattle.stream_constants.specs.declared.packets.TheConstants.{PACKET_BYTES}
 use Rattle.slot_rule.specs.declared.queue_state.QueueState.{QueueState}
 use Rattle.slot_rule.specs.declared.turns.Turn.{Turn}
-use Rattle.slot_rule.specs.Buffers.{tb_subticks}
+use Rattle.slot_rule.specs.Buffers.{queue_tb_subticks}
 use Rattle.slot_rule.specs.Queues.{QueuedPacket}
 use Rattle.slot_rule.specs.Private.Heads.{IsFirst, NoneGoneBefore, PassesAt}
 use Rattle.slot_rule.specs.Private.QueueState.{HoldsUntil, IsReady, KeepsPlace, packets_at}
@@ -46,9 +46,9 @@ released_turns table choice start olds news turns changes are =
 
 -- ---- a PCR goes
 TakesPcr-cases : (program now : ℕ) (old new : QueueState) → TakesPcr program now old new
-    → (new ≡ record old { tb_empty = max old.tb_empty now + PACKET_BYTES * tb_subticks old.kind }) ⊎ (new ≡ old)
+    → (new ≡ record old { tb_empty = max old.tb_empty now + PACKET_BYTES * queue_tb_subticks old.kind }) ⊎ (new ≡ old)
 TakesPcr-cases program now old new takes =
-    elim (pcr_cases old.kind program 0) as (λ _. (new ≡ record old { tb_empty = max old.tb_empty now + PACKET_BYTES * tb_subticks old.kind }) ⊎ (new ≡ old)) [
+    elim (pcr_cases old.kind program 0) as (λ _. (new ≡ record old { tb_empty = max old.tb_empty now + PACKET_BYTES * queue_tb_subticks old.kind }) ⊎ (new ≡ old)) [
       | inl own ↦ inl (takes.own own.0)
       | inr other ↦ inr (takes.other other.0)
     ]

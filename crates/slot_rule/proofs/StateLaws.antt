@@ -4,14 +4,14 @@ use Rattle.std.proofs.lemmas.Bool.{cases_lt}
 use Rattle.std.proofs.lemmas.Option.{same_Some, slice_get_within, get_or_from_slice_get}
 use Rattle.slot_rule.specs.declared.queue_state.QueueState.{QueueState}
 use Rattle.stream_constants.specs.declared.decoder.TheConstants.{AUDIO_TB_SUBTICKS}
-use Rattle.slot_rule.specs.Buffers.{tb_subticks}
+use Rattle.slot_rule.specs.Buffers.{queue_tb_subticks}
 use Rattle.slot_rule.specs.Private.QueueState.{IsNumbered, KeepsPlace, Releases, held_bytes}
 use Rattle.slot_rule.specs.Queues.{QueueKind, Video, Audio, QueuedPacket}
 use Rattle.slot_rule.proofs.Places.{All-at_place}
 use Rattle.slot_rule.proofs.RuleSent.{held-push, held-pop}
 
 -- a byte takes at most so long to leave the transport buffer
-pub tb_subticks-le : (kind : QueueKind) → tb_subticks kind ≤ AUDIO_TB_SUBTICKS
+pub tb_subticks-le : (kind : QueueKind) → queue_tb_subticks kind ≤ AUDIO_TB_SUBTICKS
 tb_subticks-le (Video program vbv) = omega arith
 tb_subticks-le Audio = omega arith
 

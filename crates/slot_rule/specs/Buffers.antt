@@ -40,9 +40,9 @@ waiting drain [] = 0
 waiting drain (work ∷ later) = max (sum (work ∷ later) - drain * length (work ∷ later)) (waiting drain later)
 
 -- subticks that a byte takes to leave TB (13818-1, 2.4.2.3: Rx)
-abbrev pub tb_subticks : QueueKind → ℕ
-tb_subticks (Video program vbv) = VIDEO_TB_SUBTICKS
-tb_subticks Audio = AUDIO_TB_SUBTICKS
+abbrev pub queue_tb_subticks : QueueKind → ℕ
+queue_tb_subticks (Video program vbv) = VIDEO_TB_SUBTICKS
+queue_tb_subticks Audio = AUDIO_TB_SUBTICKS
 
 -- subticks of a slot
 abbrev pub slot_subticks : ℕ → ℕ
@@ -51,7 +51,7 @@ slot_subticks slot = SUBTICKS_PER_TICK * slot
 -- the work that waits in the queue's TB after these rows, in subticks
 abbrev pub tb_work : (slot stream : ℕ) → QueueKind → List Row → ℕ
 tb_work slot stream kind rows =
-    waiting (slot_subticks slot) (map (λ row. PACKET_BYTES * tb_subticks kind * packets_in stream kind row) rows)
+    waiting (slot_subticks slot) (map (λ row. PACKET_BYTES * queue_tb_subticks kind * packets_in stream kind row) rows)
 
 -- the work that waits in the video queue's MB after these rows, in subticks
 abbrev pub mb_work : (slot stream : ℕ) → List Row → ℕ

@@ -20,6 +20,7 @@ pub const VIDEO_TB_GATE: u64 = 128;
 pub const AUDIO_TB_GATE: u64 = 316;
 
 const _: () = prove!(VIDEO_TB_GATE + PACKET_BYTES as u64 == AUDIO_TB_GATE);
+
 const _: () = prove!(AUDIO_TB_GATE + PACKET_BYTES as u64 + 8 == TB_BYTES);
 
 /// Bytes that stay free in MB where a packet goes: MB can hold more bytes than its work says, since work is counted at

@@ -1,5 +1,5 @@
 ghost use Rattle.std.specs.Prelude.{◌≡◌, ℕ, ◌-◌, ◌<◌, ◌↔◌, IsTrue};
-ghost use Rattle.slot_rule.specs.Buffers.{tb_subticks, tb_gate, eb_or_b_bytes, MbPermits};
+ghost use Rattle.slot_rule.specs.Buffers.{queue_tb_subticks, tb_gate, eb_or_b_bytes, MbPermits};
 ghost use Rattle.slot_rule.specs.Private.QueueState.{IsKind, HasPcr};
 
 use crate::constants::{AUDIO_TB_GATE, MB_SPARE_BYTES, VIDEO_TB_GATE};
@@ -19,7 +19,7 @@ pub enum QueueKind {
 impl QueueKind {
     /// Subticks that a byte takes to leave the transport buffer.
     pub(crate) fn tb_subticks(self) -> u64
-        ensures { result ≡ tb_subticks self }
+        ensures { result ≡ queue_tb_subticks self }
     {
         match self {
             QueueKind::Video { .. } => VIDEO_TB_SUBTICKS,

@@ -1,7 +1,7 @@
 ghost use Rattle.std.specs.Prelude.{◌≡◌, ℕ, ◌+◌, ◌-◌, ◌*◌, ◌^◌, ◌<◌, ◌≤◌, ◌↔◌, Some, All, IsTrue, max, slice_get};
 ghost use Rattle.stream_constants.specs.declared.packets.TheConstants.{PAYLOAD_BYTES};
 ghost use Rattle.slot_rule.specs.declared.queued_packet.QueuedPacket.{QueuedPacket};
-ghost use Rattle.slot_rule.specs.Buffers.{tb_subticks};
+ghost use Rattle.slot_rule.specs.Buffers.{queue_tb_subticks};
 ghost use Rattle.slot_rule.specs.Private.Heads.{IsOffer, PassesAt};
 ghost use Rattle.slot_rule.specs.Private.QueueItems.{IsPlace};
 ghost use Rattle.slot_rule.specs.Private.States.{TakesPcr};
@@ -125,7 +125,7 @@ impl QueueState {
         requires now { now < 2 ^ 60 }
         ensures keeps { KeepsPlace (packets_at table.now choice.now self.old.items) self.new }
         ensures changed { self.new ≡ record self.old {
-          tb_empty = max self.old.tb_empty now + PACKET_BYTES * tb_subticks self.old.kind;
+          tb_empty = max self.old.tb_empty now + PACKET_BYTES * queue_tb_subticks self.old.kind;
           mb_empty = max self.old.mb_empty now + MB_SUBTICKS * packet.payload;
           sent = self.old.sent + 1;
           head = self.new.head;

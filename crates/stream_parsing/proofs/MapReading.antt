@@ -41,12 +41,12 @@ use Rattle.std.proofs.lemmas.Bool.{eqb-true, eq-eqb, ne_eqb}
 use Rattle.std.proofs.lemmas.Option.{get_or_from_slice_get, none-some, slice_get_within}
 use Rattle.ts_packets.specs.declared.pid_fault.PidFault.{PidFault}
 use Rattle.ts_packets.specs.Packet.{sync_byte}
-use Rattle.ts_packets.specs.TransportStream.{is_of_pid, piece_at, piece_count, pieces_of}
+use Rattle.ts_packets.specs.TransportStream.{is_of_pid, piece_at, piece_count, pid_pieces}
 use Rattle.ts_packets.specs.Carried.{pid_fault}
 use Rattle.psi_tables.specs.declared.program_map.ProgramMap.{ProgramMap}
 use Rattle.psi_tables.specs.declared.section.SectionFault.{SectionFault}
 use Rattle.psi_tables.specs.Sections.{Found, sections_of}
-use Rattle.psi_tables.specs.Pat.{IsPat, map_pid as said_pid}
+use Rattle.psi_tables.specs.Pat.{IsPat, pat_map_pid as said_pid}
 use Rattle.psi_tables.specs.Pmt.{without_dropped}
 use Rattle.psi_tables.specs.PmtOf.{pmt_of}
 use Rattle.slot_rule.specs.declared.sent.Sent.{Sent}
@@ -88,7 +88,7 @@ use Rattle.stream_parsing.proofs.SectionReading.{SectionsAre, first-added, only-
 -- no packet on a PID but that of the null packets has a fault
 abbrev pub AreSoundOn : (file : List ℕ) → (packets : ℕ) → Type 0
 AreSoundOn file packets =
-    (pid from n : ℕ) → pid ≢ 0x1FFF → from ≤ n → n < packets → is_of_pid file pid n ≡ true → pid_fault (pieces_of file pid from n) (piece file n) ≡ None
+    (pid from n : ℕ) → pid ≢ 0x1FFF → from ≤ n → n < packets → is_of_pid file pid n ≡ true → pid_fault (pid_pieces file pid from n) (piece file n) ≡ None
 
 -- What a file has that is an output stream of a layout, for one of its programs.
 pub record ReadsTables (file : List ℕ) (layout : Layout) (rows : List Sent) (program : ℕ) (program_map : ProgramMap) : Type 0 where

@@ -39,18 +39,18 @@ use Rattle.std.proofs.lemmas.List.Elements.{All-get_or}
 use Rattle.std.proofs.lemmas.Option.{get_or_from_slice_get, none-some, slice_get-get_or, slice_get_within}
 use Rattle.payload_lists.specs.Payload.{CarriedPayload}
 use Rattle.ts_packets.specs.Packet.{PacketRecord, packet_identifier, packet_of, sync_byte}
-use Rattle.ts_packets.specs.TransportStream.{Piece, is_of_pid, packets, piece_at, piece_count, pieces_of}
+use Rattle.ts_packets.specs.TransportStream.{Piece, is_of_pid, packets, piece_at, piece_count, pid_pieces}
 use Rattle.ts_packets.specs.Carried.{carried, pid_fault}
 use Rattle.psi_tables.specs.declared.program_map.ProgramMap.{ProgramMap}
 use Rattle.psi_tables.specs.declared.stream.Stream.{Stream}
 use Rattle.psi_tables.specs.Sections.{sections_of}
-use Rattle.psi_tables.specs.Pat.{IsPat, map_pid as said_pid}
+use Rattle.psi_tables.specs.Pat.{IsPat, pat_map_pid as said_pid}
 use Rattle.psi_tables.specs.Pmt.{IsWritableMap, pmt_length, without_dropped}
 use Rattle.psi_tables.specs.PmtOf.{pmt_of}
 use Rattle.slot_rule.specs.declared.sent.Sent.{Sent}
 use Rattle.slot_rule.specs.declared.sent.Sent.TheVariants.{Null}
 use Rattle.ts_demux.specs.declared.demux_fault.DemuxFault.{DemuxFault}
-use Rattle.ts_demux.specs.Demux.{AreStreamsSound, IsDemuxed, IsStreamFault, packets_of, pids_of as carried_pids}
+use Rattle.ts_demux.specs.Demux.{AreStreamsSound, IsDemuxed, IsStreamFault, pes_packets_on, pids_of as carried_pids}
 use Rattle.ts_demux.specs.Streams.{audios_of, is_among, is_video, others_of, video_of, without_video}
 use Rattle.ts_demux.specs.Tables.{HasMap}
 use Rattle.mux_writer.specs.declared.layout.Layout.{Layout}
@@ -84,19 +84,19 @@ abbrev pub SoundAsSent : Type 0
 SoundAsSent =
     (layout : Layout) (slot : ℕ) (pieces : Pieces) (rows : List Sent) (pid from n : ℕ) → AreRowsOf layout pieces rows → pid ≢ 0x1FFF → from ≤ n → n < length rows
     → is_of_pid (output_stream layout slot pieces rows) pid n ≡ true
-    → pid_fault (pieces_of (output_stream layout slot pieces rows) pid from n) (record { at = 188 * n; bytes = piece_at (output_stream layout slot pieces rows) n }) ≡ None
+    → pid_fault (pid_pieces (output_stream layout slot pieces rows) pid from n) (record { at = 188 * n; bytes = piece_at (output_stream layout slot pieces rows) n }) ≡ None
 
 abbrev pub PatAgain : Type 0
 PatAgain =
     (layout : Layout) (slot : ℕ) (pieces : Pieces) (rows : List Sent) (from to : ℕ) → AreRowsOf layout pieces rows → from ≤ to → to ≤ length rows
-    → sections_of (map (λ (carried : CarriedPayload). carried.payload) (carried (pieces_of (output_stream layout slot pieces rows) 0 from to)))
+    → sections_of (map (λ (carried : CarriedPayload). carried.payload) (carried (pid_pieces (output_stream layout slot pieces rows) 0 from to)))
     ≡ replicate (payload_count layout 0 (slots_between rows from to)) (Ok (pat_section layout))
 
 abbrev pub PmtAgain : Type 0
 PmtAgain =
     (layout : Layout) (slot : ℕ) (pieces : Pieces) (rows : List Sent) (program from to : ℕ) (program_map : ProgramMap) → AreRowsOf layout pieces rows
     → slice_get layout.maps.items program ≡ Some program_map → from ≤ to → to ≤ length rows
-    → sections_of (map (λ (carried : CarriedPayload). carried.payload) (carried (pieces_of (output_stream layout slot pieces rows) (map_pid program) from to)))
+    → sections_of (map (λ (carried : CarriedPayload). carried.payload) (carried (pid_pieces (output_stream layout slot pieces rows) (map_pid program) from to)))
     ≡ replicate (payload_count layout (map_pid program) (slots_between rows from to)) (Ok (pmt_section program_map))
 
 abbrev pub PatSays : Type 0

@@ -6,16 +6,16 @@ use Rattle.payload_lists.specs.Payload.{CarriedPayload, Payload}
 use Rattle.pes_units.specs.declared.times.Times.{Times}
 use Rattle.pes_units.specs.PesHeader.{header_length}
 use Rattle.pes_units.specs.PesPackets.{Gathered, gathered}
-use Rattle.pes_units.specs.VideoHeader.{AreInRange, IsBesidePts, written_header}
+use Rattle.pes_units.specs.VideoHeader.{AreInRange, IsBesidePts, written_pes_header}
 use Rattle.psi_tables.specs.declared.stream.Stream.{Stream}
-use Rattle.ts_packets.specs.TransportStream.{piece_count, pieces_of}
+use Rattle.ts_packets.specs.TransportStream.{piece_count, pid_pieces}
 use Rattle.ts_packets.specs.Carried.{carried}
 use Rattle.ts_demux.specs.declared.demuxed.AudioStream.{AudioStream}
 use Rattle.ts_demux.specs.declared.demuxed.PesUnit.{PesUnit}
-use Rattle.ts_demux.specs.Demux.{packets_of}
+use Rattle.ts_demux.specs.Demux.{pes_packets_on}
 use Rattle.layer_laws.specs.PesPieces.{CarryAll}
 use Rattle.layer_laws.specs.VideoPackets.{IsReadAsVideo}
-use Rattle.stream_parsing.specs.Parsed.{AreReadAs, CanBeSaid, CarriesPackets, CarryPackets, SentUnit, bytes_of, joined_payloads, sent_packet}
+use Rattle.stream_parsing.specs.Parsed.{AreReadAs, CanBeSaid, CarriesPackets, CarryPackets, SentUnit, bytes_of_packets, joined_payloads, sent_packet}
 
 -- ---- the laws below, as this crate calls them
 
@@ -25,21 +25,21 @@ GatheredAgain =
     → map (λ (carried : CarriedPayload). carried.payload) carried ≡ flat_map (λ (payloads : List Payload). payloads) cuts → map (λ (packet : Gathered). packet.bytes) (gathered carried) ≡ packets
 
 abbrev pub VideoAsWritten : Type 0
-VideoAsWritten = (times : Times) (payload : List ℕ) → AreInRange times → IsBesidePts times → 0 < length payload → IsReadAsVideo times payload (written_header times ++ payload)
+VideoAsWritten = (times : Times) (payload : List ℕ) → AreInRange times → IsBesidePts times → 0 < length payload → IsReadAsVideo times payload (written_pes_header times ++ payload)
 
 -- ---- the PES packets of a stream
 
-bytes-are : (packets : List Gathered) → bytes_of (map (λ (packet : Gathered). record { at = packet.at; bytes = packet.bytes }) packets) ≡ map (λ (packet : Gathered). packet.bytes) packets
+bytes-are : (packets : List Gathered) → bytes_of_packets (map (λ (packet : Gathered). record { at = packet.at; bytes = packet.bytes }) packets) ≡ map (λ (packet : Gathered). packet.bytes) packets
 bytes-are [] = refl
 bytes-are (packet ∷ packets) = ap (λ (rest : List (List ℕ)). packet.bytes ∷ rest) (bytes-are packets)
 
-pub stream-packets : GatheredAgain → (file : List ℕ) (stream : Stream) (packets : List (List ℕ)) → CarriesPackets file stream.pid packets → bytes_of (packets_of file stream).units ≡ packets
+pub stream-packets : GatheredAgain → (file : List ℕ) (stream : Stream) (packets : List (List ℕ)) → CarriesPackets file stream.pid packets → bytes_of_packets (pes_packets_on file stream).units ≡ packets
 stream-packets law file stream packets has =
-    bytes-are (gathered (carried (pieces_of file stream.pid 0 (piece_count file))))
-    ∙ law packets has.cuts (carried (pieces_of file stream.pid 0 (piece_count file))) has.each has.carried_are
+    bytes-are (gathered (carried (pid_pieces file stream.pid 0 (piece_count file))))
+    ∙ law packets has.cuts (carried (pid_pieces file stream.pid 0 (piece_count file))) has.each has.carried_are
 
 pub audio-packets : GatheredAgain → (file : List ℕ) (audios : List Stream) (packets : List (List (List ℕ))) → CarryPackets file audios packets
-    → map (λ (audio : AudioStream). bytes_of audio.units) (map (packets_of file) audios) ≡ packets
+    → map (λ (audio : AudioStream). bytes_of_packets audio.units) (map (pes_packets_on file) audios) ≡ packets
 audio-packets law file [] [] carry = refl
 audio-packets law file [] (p ∷ ps) carry = absurd carry
 audio-packets law file (a ∷ more) [] carry = absurd carry

@@ -42,7 +42,7 @@ use Rattle.std.proofs.lemmas.List.Sums.{sum_by_push}
 use Rattle.std.proofs.lemmas.Option.{none-some, same_Some}
 use Rattle.ts_packets.specs.declared.packet_fault.PacketFault.TheVariants.{Sync, ErrorFlag, Scrambled, BadField}
 use Rattle.ts_packets.specs.Packet.{PacketRecord, fields_of, has_fault, packet_of, sync_byte}
-use Rattle.ts_packets.specs.TransportStream.{pieces_of}
+use Rattle.ts_packets.specs.TransportStream.{pid_pieces}
 use Rattle.psi_tables.specs.Sections.{Found}
 use Rattle.slot_rule.specs.declared.sent.Sent.{Sent}
 use Rattle.slot_rule.specs.declared.sent.Sent.TheVariants.{Null}
@@ -66,7 +66,7 @@ synced bytes packet is = by_test (sync_byte bytes == 0x47) refl
 -- from any packet to any later one the sections on the PID are this one, as often as slots send it
 abbrev pub SectionsAre : (file : List ℕ) → Layout → List Sent → (pid : ℕ) → Found → Type 0
 SectionsAre file layout rows pid found =
-    (from to : ℕ) → from ≤ to → to ≤ length rows → sections_in (pieces_of file pid from to) ≡ replicate (payload_count layout pid (slots_between rows from to)) found
+    (from to : ℕ) → from ≤ to → to ≤ length rows → sections_in (pid_pieces file pid from to) ≡ replicate (payload_count layout pid (slots_between rows from to)) found
 
 drop-front : {A : Type 0} (a c : ℕ) (x : A) → drop (length (replicate a x)) (replicate (a + c) x) ≡ replicate c x
 drop-front zero c x = ap (λ (n : ℕ). replicate n x) (let e : zero + c ≡ c = omega arith in e)
@@ -94,8 +94,8 @@ pub sections-added : (file : List ℕ) (layout : Layout) (rows : List Sent) (pid
 sections-added file layout rows pid found are from n begun within =
     let a : ℕ = payload_count layout pid (slots_between rows from n) in
     let c : ℕ = cond {A = ℕ} (sent_there layout pid rows n) 1 0 in
-    let before : sections_in (pieces_of file pid from n) ≡ replicate a found = are from n begun (omega (arith, within)) in
-    let after : sections_in (pieces_of file pid from (n + 1)) ≡ replicate (a + c) found =
+    let before : sections_in (pid_pieces file pid from n) ≡ replicate a found = are from n begun (omega (arith, within)) in
+    let after : sections_in (pid_pieces file pid from (n + 1)) ≡ replicate (a + c) found =
     are from (n + 1) (omega (arith, begun)) (omega (arith, within)) ∙ ap (λ (k : ℕ). replicate k found) (count-between layout pid rows from n begun within) in
     ap₂ (λ (xs ys : List Found). drop (length xs) ys) before after ∙ drop-front a c found
 

@@ -4,11 +4,11 @@ use Rattle.std.specs.List.{flat_map}
 use Rattle.payload_lists.specs.Payload.{Payload}
 use Rattle.pes_units.specs.declared.times.Times.{Times}
 use Rattle.pes_units.specs.PesHeader.{header_length}
-use Rattle.pes_units.specs.VideoHeader.{AreInRange, IsBesidePts, written_header}
+use Rattle.pes_units.specs.VideoHeader.{AreInRange, IsBesidePts, written_pes_header}
 use Rattle.psi_tables.specs.declared.program_map.ProgramMap.{ProgramMap}
 use Rattle.psi_tables.specs.declared.stream.Stream.{Stream}
 use Rattle.psi_tables.specs.Pmt.{without_dropped}
-use Rattle.ts_packets.specs.TransportStream.{piece_count, pieces_of}
+use Rattle.ts_packets.specs.TransportStream.{piece_count, pid_pieces}
 use Rattle.ts_packets.specs.Carried.{carried}
 use Rattle.ts_demux.specs.declared.demuxed.Demuxed.{Demuxed}
 use Rattle.ts_demux.specs.declared.demuxed.PesUnit.{PesUnit}
@@ -31,13 +31,13 @@ pub record CanBeSaid (unit : SentUnit) : Type 0 where
 
 -- its PES packet: a header with its times, then its bytes
 abbrev pub sent_packet : SentUnit → List ℕ
-sent_packet unit = written_header unit.times ++ unit.bytes
+sent_packet unit = written_pes_header unit.times ++ unit.bytes
 
 -- a PID of a stream carries these PES packets and nothing else, each cut into payloads of its own
 pub record CarriesPackets (stream : List ℕ) (pid : ℕ) (packets : List (List ℕ)) : Type 0 where
   pub cuts : List (List Payload)
   pub each : CarryAll packets cuts
-  pub carried_are : map (λ carried. carried.payload) (carried (pieces_of stream pid 0 (piece_count stream))) ≡ flat_map (λ payloads. payloads) cuts
+  pub carried_are : map (λ carried. carried.payload) (carried (pid_pieces stream pid 0 (piece_count stream))) ≡ flat_map (λ payloads. payloads) cuts
 
 -- the PID of each of some streams carries PES packets of its own
 abbrev pub CarryPackets : (stream : List ℕ) → List Stream → List (List (List ℕ)) → Type 0
@@ -49,8 +49,8 @@ CarryPackets stream (audio ∷ audios) (packets ∷ more) = CarriesPackets strea
 -- ---- what is read
 
 -- the bytes of PES packets
-abbrev pub bytes_of : List PesUnit → List (List ℕ)
-bytes_of packets = map (λ packet. packet.bytes) packets
+abbrev pub bytes_of_packets : List PesUnit → List (List ℕ)
+bytes_of_packets packets = map (λ packet. packet.bytes) packets
 
 -- PES packets, one for each unit in order, each read as a video packet of that unit's times, with its bytes behind the header
 abbrev pub AreReadAs : List SentUnit → List (List ℕ) → Type 0
@@ -70,5 +70,5 @@ pub record ParsesProgram (stream : List ℕ) (program_map : ProgramMap) (units :
   pub taken_out : IsDemuxed stream program_map.number [] demuxed
   pub map_is : demuxed.map ≡ without_dropped program_map
   pub whole : demuxed.not_carried ≡ []
-  pub video : AreReadAs units (bytes_of demuxed.video)
-  pub audio : map (λ audio. bytes_of audio.units) demuxed.audios ≡ audios
+  pub video : AreReadAs units (bytes_of_packets demuxed.video)
+  pub audio : map (λ audio. bytes_of_packets audio.units) demuxed.audios ≡ audios

@@ -8,7 +8,7 @@ use Rattle.slot_rule.specs.declared.sent.Sent.{Sent}
 use Rattle.slot_rule.specs.declared.sent.Sent.TheVariants.{Pat, Pmt}
 use Rattle.ts_packets.specs.TransportStream.{rest_of}
 use Rattle.ts_demux.specs.declared.demuxed.Demuxed.{Demuxed}
-use Rattle.ts_demux.specs.Demux.{packets_of}
+use Rattle.ts_demux.specs.Demux.{pes_packets_on}
 use Rattle.ts_demux.specs.Streams.{is_audio, is_video}
 use Rattle.ts_demux.specs.Tables.{IsSection, Names, TakesPat, pat_pid}
 
@@ -41,8 +41,8 @@ pub record LeadsToMap (file : List ℕ) (program pid : ℕ) : Type 0 where
 abbrev pub taken_out : (stream : List ℕ) → ProgramMap → (video : Stream) → (audios : List Stream) → Demuxed
 taken_out stream program_map video audios = record {
   map = without_dropped program_map;
-  video = (packets_of stream video).units;
-  audios = map (packets_of stream) audios;
+  video = (pes_packets_on stream video).units;
+  audios = map (pes_packets_on stream) audios;
   rest = length (rest_of stream);
   not_carried = [];
 }

@@ -4,7 +4,7 @@ use Rattle.std.specs.List.{flat_map}
 use Rattle.std.proofs.lemmas.List.Elements.{All-head, All-tail}
 use Rattle.audio_frames.specs.declared.frame.Frame.{Frame}
 use Rattle.audio_frames.specs.Times.{AreFramesOf}
-use Rattle.pes_units.specs.PesHeader.{fields_of, header_length}
+use Rattle.pes_units.specs.PesHeader.{pes_fields_of, header_length}
 use Rattle.pes_units.specs.PesPackets.{is_dropped, last_refusal, packet_refusal}
 use Rattle.version_table.specs.declared.table.AudioPacket.{AudioPacket}
 use Rattle.ts_demux.specs.declared.demuxed.AudioStream.{AudioStream}
@@ -13,10 +13,10 @@ use Rattle.program_reader.specs.declared.pes_packets.PlacedPacket.{PlacedPacket}
 use Rattle.program_reader.specs.declared.program.AudioPiece.{AudioPiece}
 use Rattle.program_reader.specs.declared.program.AudioSource.{AudioSource}
 use Rattle.program_reader.specs.Audio.{AreAudioSources, ArePieces, AreStartsOf, HasFrames, HaveFrames, IsAudioSource, placed_pieces, taken_of}
-use Rattle.program_reader.specs.Packets.{AreSound, joined, payload_of, placed_from, taken}
+use Rattle.program_reader.specs.Packets.{AreSound, joined, pes_payload_of, placed_from, taken}
 use Rattle.program_reader.specs.Programs.{IsBase}
 use Rattle.program_table.specs.Table.{audio_row}
-use Rattle.stream_parsing.specs.Parsed.{bytes_of}
+use Rattle.stream_parsing.specs.Parsed.{bytes_of_packets}
 use Rattle.stream_times.specs.Audio.{AreDueAsFramed, AreWantedWhen}
 use Rattle.stream_times.proofs.Ticks.{due-shown}
 
@@ -30,21 +30,21 @@ abbrev AreWhole : List (List ℕ) → Type 0
 AreWhole [] = Unit {0}
 AreWhole (bytes ∷ more) = (packet_refusal false bytes ≡ None) × AreWhole more
 
-taken-whole : WhereverItStands → (packets : List PesUnit) → AreSound false packets → AreWhole (bytes_of (taken false packets))
+taken-whole : WhereverItStands → (packets : List PesUnit) → AreSound false packets → AreWhole (bytes_of_packets (taken false packets))
 taken-whole law [] sound = tt
 taken-whole law (p ∷ []) sound = by_test (is_dropped false p.bytes) refl
   where
-    by_test : (dropped : Bool) → is_dropped false p.bytes ≡ dropped → AreWhole (bytes_of (let xs : List PesUnit = if dropped then [] else p ∷ [] in xs))
+    by_test : (dropped : Bool) → is_dropped false p.bytes ≡ dropped → AreWhole (bytes_of_packets (let xs : List PesUnit = if dropped then [] else p ∷ [] in xs))
     by_test true is = tt
     by_test false is = ((law p.bytes).1 (sound.0, is), tt)
 taken-whole law (p ∷ q ∷ ps) sound = (sound.0, taken-whole law (q ∷ ps) sound.1)
 
-whole-sound : WhereverItStands → (packets : List PesUnit) → AreWhole (bytes_of packets) → AreSound false packets
+whole-sound : WhereverItStands → (packets : List PesUnit) → AreWhole (bytes_of_packets packets) → AreSound false packets
 whole-sound law [] whole = tt
 whole-sound law (p ∷ []) whole = (((law p.bytes).0 whole.0).0, tt)
 whole-sound law (p ∷ q ∷ ps) whole = (whole.0, whole-sound law (q ∷ ps) whole.1)
 
-whole-taken : WhereverItStands → (packets : List PesUnit) → AreWhole (bytes_of packets) → taken false packets ≡ packets
+whole-taken : WhereverItStands → (packets : List PesUnit) → AreWhole (bytes_of_packets packets) → taken false packets ≡ packets
 whole-taken law [] whole = refl
 whole-taken law (p ∷ []) whole = ap (λ (dropped : Bool). let xs : List PesUnit = if dropped then [] else p ∷ [] in xs) ((law p.bytes).0 whole.0).1
 whole-taken law (p ∷ q ∷ ps) whole = ap (λ (rest : List PesUnit). p ∷ rest) (whole-taken law (q ∷ ps) whole.1)
@@ -54,30 +54,30 @@ whole-taken law (p ∷ q ∷ ps) whole = ap (λ (rest : List PesUnit). p ∷ res
 placed_bytes : ℕ → List (List ℕ) → List PlacedPacket
 placed_bytes from [] = []
 placed_bytes from (bytes ∷ more) =
-    let payload : List ℕ = drop (header_length bytes) bytes in record { from = from; end = from + length payload; header = fields_of bytes } ∷ placed_bytes (from + length payload) more
+    let payload : List ℕ = drop (header_length bytes) bytes in record { from = from; end = from + length payload; header = pes_fields_of bytes } ∷ placed_bytes (from + length payload) more
 
-placed-by : (from : ℕ) (packets : List PesUnit) → placed_from from packets ≡ placed_bytes from (bytes_of packets)
+placed-by : (from : ℕ) (packets : List PesUnit) → placed_from from packets ≡ placed_bytes from (bytes_of_packets packets)
 unfolding placed_bytes
 placed-by from [] = refl
 placed-by from (p ∷ ps) =
-    ap (λ (rest : List PlacedPacket). record { from = from; end = from + length (payload_of p); header = fields_of p.bytes } ∷ rest) (placed-by (from + length (payload_of p)) ps)
+    ap (λ (rest : List PlacedPacket). record { from = from; end = from + length (pes_payload_of p); header = pes_fields_of p.bytes } ∷ rest) (placed-by (from + length (pes_payload_of p)) ps)
 
-joined-by : (packets : List PesUnit) → joined packets ≡ flat_map (λ (bytes : List ℕ). drop (header_length bytes) bytes) (bytes_of packets)
+joined-by : (packets : List PesUnit) → joined packets ≡ flat_map (λ (bytes : List ℕ). drop (header_length bytes) bytes) (bytes_of_packets packets)
 joined-by [] = refl
-joined-by (p ∷ ps) = ap (λ (rest : List ℕ). payload_of p ++ rest) (joined-by ps)
+joined-by (p ∷ ps) = ap (λ (rest : List ℕ). pes_payload_of p ++ rest) (joined-by ps)
 
 -- the stream's PES packets are those of the file that are taken
 abbrev pub AreTaken : (out from : AudioStream) → Type 0
-AreTaken out from = bytes_of out.units ≡ bytes_of (taken_of from)
+AreTaken out from = bytes_of_packets out.units ≡ bytes_of_packets (taken_of from)
 
 placed-same : WhereverItStands → (out from : AudioStream) → AreSound false from.units → AreTaken out from → placed_from 0 (taken_of out) ≡ placed_from 0 (taken_of from)
 placed-same law out from sound same =
-    let whole : AreWhole (bytes_of out.units) = subst AreWhole (sym same) (taken-whole law from.units sound) in
+    let whole : AreWhole (bytes_of_packets out.units) = subst AreWhole (sym same) (taken-whole law from.units sound) in
     ap (placed_from 0) (whole-taken law out.units whole) ∙ placed-by 0 out.units ∙ ap (placed_bytes 0) same ∙ sym (placed-by 0 (taken_of from))
 
 joined-same : WhereverItStands → (out from : AudioStream) → AreSound false from.units → AreTaken out from → joined (taken_of out) ≡ joined (taken_of from)
 joined-same law out from sound same =
-    let whole : AreWhole (bytes_of out.units) = subst AreWhole (sym same) (taken-whole law from.units sound) in
+    let whole : AreWhole (bytes_of_packets out.units) = subst AreWhole (sym same) (taken-whole law from.units sound) in
     ap joined (whole-taken law out.units whole) ∙ joined-by out.units ∙ ap (flat_map (λ (bytes : List ℕ). drop (header_length bytes) bytes)) same ∙ sym (joined-by (taken_of from))
 
 -- ---- frames
@@ -104,7 +104,7 @@ tails : List (List (List ℕ)) → List (List (List ℕ))
 tails [] = []
 tails (x ∷ xs) = xs
 
-pub all-taken : (outs from : List AudioStream) → map (λ (s : AudioStream). bytes_of s.units) outs ≡ map (λ (s : AudioStream). bytes_of (taken_of s)) from → AllTaken outs from
+pub all-taken : (outs from : List AudioStream) → map (λ (s : AudioStream). bytes_of_packets s.units) outs ≡ map (λ (s : AudioStream). bytes_of_packets (taken_of s)) from → AllTaken outs from
 unfolding heads tails
 all-taken [] [] same = tt
 all-taken [] (f ∷ fs) same = absurd (let e = ap (length {A = List (List ℕ)}) same in omega (arith, e))

@@ -26,7 +26,7 @@ use Rattle.slot_rule.specs.Timetable.{period, reserved, reserved_at}
 use Rattle.slot_rule.proofs.RuleRows.{FollowRule-at}
 use Rattle.mux_writer.specs.declared.layout.Layout.{Layout}
 use Rattle.mux_writer.specs.Layout.{video_pid}
-use Rattle.mux_writer.specs.Output.{output_packets, packet_in, packet_of, payload_count, pid_of, sent_in, stuffing_field}
+use Rattle.mux_writer.specs.Output.{output_packets, packet_in, output_packet, payload_count, pid_of, sent_in, stuffing_field}
 use Rattle.mux_writer.specs.Pieces.{Pieces}
 use Rattle.stream_times.specs.Clock.{IsClock, pcr_of}
 
@@ -55,7 +55,7 @@ stuffed false pcr has = none-some pcr has
 program-of : (p program : ℕ) → video_pid p ≡ video_pid program → p ≡ program
 program-of p program same = omega (arith, same)
 
-pcr-is : (layout : Layout) (slot : ℕ) (pieces : Pieces) (count n program pcr : ℕ) (sent : Sent) (packet : PacketRecord) → packet_of layout slot pieces count n sent ≡ packet
+pcr-is : (layout : Layout) (slot : ℕ) (pieces : Pieces) (count n program pcr : ℕ) (sent : Sent) (packet : PacketRecord) → output_packet layout slot pieces count n sent ≡ packet
     → packet.pid ≡ video_pid program → pcr_of packet ≡ Some pcr → pcr ≡ pcr_at (slice_index layout.bases.items program) n slot
 pcr-is layout slot pieces count n program pcr Null packet is pid has = absurd (none-some pcr (ap pcr_of is ∙ has))
 pcr-is layout slot pieces count n program pcr Pat packet is pid has = absurd (none-some pcr (ap pcr_of is ∙ has))
@@ -145,14 +145,14 @@ clock-of layout pieces table choice list program base valid is inside base_is be
       sent-is table choice list is n (Pcr program) (omega (arith, within, as_many))
       (ap (reserved_at (length table.programs)) found.3 ∙ pcr-reserved (length table.programs) program inside) in
       let count : ℕ = payload_count layout (pid_of layout (sent_in list.rows n)) (take n list.rows) in
-      let packet : packet_in layout table.slot pieces list.rows (0 + n) ≡ packet_of layout table.slot pieces count n (Pcr program) =
-      ap (packet_in layout table.slot pieces list.rows) (let e : 0 + n ≡ n = omega arith in e) ∙ ap (packet_of layout table.slot pieces count n) sent in (
+      let packet : packet_in layout table.slot pieces list.rows (0 + n) ≡ output_packet layout table.slot pieces count n (Pcr program) =
+      ap (packet_in layout table.slot pieces list.rows) (let e : 0 + n ≡ n = omega arith in e) ∙ ap (output_packet layout table.slot pieces count n) sent in (
         n,
         pcr_at (slice_index layout.bases.items program) n table.slot,
         found.1,
         found.2,
         record {
-          packet = packet_of layout table.slot pieces count n (Pcr program);
+          packet = output_packet layout table.slot pieces count n (Pcr program);
           there = there-packet (packet_in layout table.slot pieces list.rows) 0 (length list.rows) n within ∙ ap (λ (p : PacketRecord). Some p) packet;
           pid_is = refl;
           pcr_is = refl;

@@ -13,7 +13,7 @@ use Rattle.ts_packets.specs.Packet.{PacketRecord}
 use Rattle.ts_demux.specs.declared.demuxed.AudioStream.{AudioStream}
 use Rattle.ts_demux.specs.declared.demuxed.Demuxed.{Demuxed}
 use Rattle.ts_demux.specs.declared.demuxed.PesUnit.{PesUnit}
-use Rattle.ts_demux.specs.Demux.{IsDemuxed, packets_of, pids_of}
+use Rattle.ts_demux.specs.Demux.{IsDemuxed, pes_packets_on, pids_of}
 use Rattle.version_table.specs.declared.table.ProgramRow.{ProgramRow}
 use Rattle.version_table.specs.declared.table.Unit.{Unit as CodedUnit}
 use Rattle.version_table.specs.Choice.{HasVersion}
@@ -34,7 +34,7 @@ use Rattle.version_source.specs.Versions.{AreAllVersions, AreVideoVersions, rati
 use Rattle.program_table.specs.Table.{audio_row, program_row, program_rows, unit_rows}
 use Rattle.job_programs.specs.Programs.{AreNextPrograms, IsNextProgram, last_time}
 use Rattle.mux_writer.specs.Layout.{map_pid, video_pid, with_output_pids, with_pids_from}
-use Rattle.stream_parsing.specs.Parsed.{AreReadAs, bytes_of}
+use Rattle.stream_parsing.specs.Parsed.{AreReadAs, bytes_of_packets}
 use Rattle.stream_parsing.specs.TakenOut.{LeadsToMap}
 use Rattle.job_reading.specs.ParsesTo.{ParsesTo, ParsesToProgram, sent_units}
 use Rattle.stream_times.specs.Carried.{CarriesTimes}
@@ -66,7 +66,7 @@ head-of first (p ∷ ps) = p
 begins : (es coarser : List ℕ) (placed : List PlacedPacket) (weight start : ℕ) (earliest : ℤ) (state : Option SeqState) (kept : List (ℕ × ℕ)) (pictures : List TimedPicture) (units : List UnitSource)
     (versions : List (List UnitVersion)) (choice : List ℕ) (more : List CodedUnit) (packets : List PesUnit) (first : TimedPicture) (later : List TimedPicture) → pictures ≡ first ∷ later
     → AreInOrder es placed None kept pictures → AreUnitSources start earliest kept pictures units → AreVideoVersions es coarser state units versions
-    → AllZip HasVersion (unit_rows weight units versions ++ more) choice → AreReadAs (sent_units units versions choice) (bytes_of packets) → Begins pictures units packets first
+    → AllZip HasVersion (unit_rows weight units versions ++ more) choice → AreReadAs (sent_units units versions choice) (bytes_of_packets packets) → Begins pictures units packets first
 begins es coarser placed weight start earliest state kept [] units versions choice more packets first later split in_order are are_versions fits read =
     absurd (let e = ap (length {A = TimedPicture}) split in omega (arith, e))
 begins es coarser placed weight start earliest state [] (p ∷ ps) units versions choice more packets first later split in_order are are_versions fits read = absurd in_order
@@ -158,7 +158,7 @@ module _ (laws : SpellingLaws) (one : OneDemuxed) (wherever : WhereverItStands) 
         length-map p.audios audio_row,
         sources-many start is.earliest of.demuxed.audios is.frames p.audios is.audios_are,
         ap length carried.audio_packets,
-        length-map carried.audios (packets_of content),
+        length-map carried.audios (pes_packets_on content),
       ) in
       record {
         demuxed = read.demuxed;

@@ -14,9 +14,9 @@ use Rattle.pes_units.specs.declared.times.Times.{Times}
 use Rattle.pes_units.specs.declared.pes_fault.PesFault.{PesFault}
 use Rattle.pes_units.specs.declared.pes_fault.PesFault.TheVariants.{BadLength}
 use Rattle.pes_units.specs.declared.pes_header.PesHeader.{PesHeader}
-use Rattle.pes_units.specs.PesHeader.{fields_of, header_length, refusal}
+use Rattle.pes_units.specs.PesHeader.{pes_fields_of, header_length, pes_refusal}
 use Rattle.pes_units.specs.PesPackets.{is_length_sound}
-use Rattle.pes_units.specs.VideoHeader.{written_header}
+use Rattle.pes_units.specs.VideoHeader.{written_pes_header}
 use Rattle.pes_units.proofs.Refusals.{passes-header}
 use Rattle.picture_grammar.specs.Macroblock.{is_frame}
 use Rattle.picture_grammar.specs.Picture.{MayPrecede}
@@ -31,14 +31,14 @@ use Rattle.program_reader.specs.declared.program.UnitSource.{UnitSource}
 use Rattle.program_reader.specs.declared.timed_picture.Role.{Role}
 use Rattle.program_reader.specs.declared.timed_picture.TimedPicture.{TimedPicture}
 use Rattle.program_reader.specs.Audio.{IsDue}
-use Rattle.program_reader.specs.Packets.{decoding_of, decoding_time, payload_of}
+use Rattle.program_reader.specs.Packets.{decoding_of, decoding_time, pes_payload_of}
 use Rattle.program_reader.specs.Programs.{AreUnitSources, IsBase}
 use Rattle.program_reader.specs.Units.{AreInOrder, IsNext, IsTimed, frame_period, role_behind, share_of, state_behind, unit_bytes}
 use Rattle.version_maker.specs.declared.version.UnitVersion.{UnitVersion}
-use Rattle.version_source.specs.Sendable.{bytes_of as bytes_of_unit}
+use Rattle.version_source.specs.Sendable.{bytes_of_unit}
 use Rattle.version_source.specs.Versions.{AreVideoVersions, chosen_bytes}
 use Rattle.program_table.specs.Table.{row_version, unit_row, unit_rows}
-use Rattle.stream_parsing.specs.Parsed.{AreReadAs, bytes_of}
+use Rattle.stream_parsing.specs.Parsed.{AreReadAs, bytes_of_packets}
 use Rattle.job_reading.specs.ParsesTo.{sent_units}
 use Rattle.stream_times.specs.Video.{AreDecoded, DecodedPicture, IsDecodedWhen, stated_time}
 use Rattle.stream_times.proofs.Spelled.{SpellingLaws, SpellsAlike, chosen-alike, one-picture}
@@ -55,7 +55,7 @@ decodes-same None pts = refl
 -- the time that a packet is read with is that of the unit that was sent
 pub read-time : (packet : PesUnit) (times : Times) (payload : List ℕ) → IsReadAsVideo times payload packet.bytes → stated_time packet ≡ decoding_time times
 read-time packet times payload read =
-    let said : Times = (let h = fields_of packet.bytes in h.times) in
+    let said : Times = (let h = pes_fields_of packet.bytes in h.times) in
     decodes-same said.dts said.pts ∙ read.decoded ∙ sym (decodes-same times.dts times.pts)
 
 -- ---- a picture of the stream beside that of the source
@@ -118,7 +118,7 @@ module _ (laws : SpellingLaws) (es coarser : List ℕ) (placed : List PlacedPack
       (pictures : List TimedPicture) (units : List UnitSource) (versions : List (List UnitVersion)) (choice : List ℕ) (more : List CodedUnit) (packets : List PesUnit)
       → AreInOrder es placed before kept pictures → AreUnitSources start earliest kept pictures units → AreVideoVersions es coarser (state_behind before) units versions
       → AllZip HasVersion (unit_rows weight units versions ++ more) choice → All (λ (unit : UnitSource). unit.due < 2576980377600) units
-      → AreReadAs (sent_units units versions choice) (bytes_of packets) → AreDecoded base earlier packets (all_outgoing pictures units)
+      → AreReadAs (sent_units units versions choice) (bytes_of_packets packets) → AreDecoded base earlier packets (all_outgoing pictures units)
   decoded before earlier like may [] [] [] versions choice more [] in_order are are_versions fits early read = tt
   decoded before earlier like may [] [] [] versions choice more (o ∷ os) in_order are are_versions fits early read = absurd read
   decoded before earlier like may [] [] (u ∷ us) versions choice more packets in_order are are_versions fits early read = absurd are
@@ -141,7 +141,7 @@ module _ (laws : SpellingLaws) (es coarser : List ℕ) (placed : List PlacedPack
       let seq : alike.spelled.seq ≡ p.seq = alike.seq_is ∙ ap (λ (x : Picture). x.seq) same ∙ next.coded.seq_is in
       let coding : alike.spelled.coding ≡ without_delay p.coding = alike.coding_is ∙ ap (λ (x : Picture). without_delay x.coding) same ∙ ap without_delay next.coded.coding_is in
       let behind : after ≡ p.seq = sym leaves.after_is ∙ ap (λ (x : Picture). x.seq) left ∙ next.coded.seq_is in
-      let payload : payload_of o ≡ chosen_bytes v n = read.0.payload_is in
+      let payload : pes_payload_of o ≡ chosen_bytes v n = read.0.payload_is in
       let time : stated_time o ≡ decoding_time p.times = read-time o u.times (chosen_bytes v n) read.0 ∙ ap decoding_time are.2 in
       let on_time : IsDecodedWhen base earlier (decoding_time p.times) u.due =
       when-shown start base u.due earliest p.stated p.ticks before earlier (decoding_time p.times) based (All-head (λ (x : UnitSource). x.due < 2576980377600) u us early) like are.3 next.timed in
@@ -175,9 +175,9 @@ dues-are es coarser weight start earliest state (k ∷ ks) (p ∷ ps) (u ∷ us)
 -- ---- sizes
 
 -- a PES packet that is read with a payload is as long as the header that was written and the payload
-whole-length : (times : Times) (payload bytes : List ℕ) → IsReadAsVideo times payload bytes → length bytes ≡ length (written_header times) + length payload
+whole-length : (times : Times) (payload bytes : List ℕ) → IsReadAsVideo times payload bytes → length bytes ≡ length (written_pes_header times) + length payload
 whole-length times payload bytes read =
-    let header = passes-header true bytes (passes (refusal true bytes) (is_length_sound true bytes) read.sound) in
+    let header = passes-header true bytes (passes (pes_refusal true bytes) (is_length_sound true bytes) read.sound) in
     omega (arith, header.followed, ap (λ (h : PesHeader). h.len) read.header, ap length read.payload_is, length-drop (header_length bytes) bytes)
 
 no_version : UnitVersion
@@ -187,17 +187,17 @@ no_size : Version
 no_size = record { bytes = 0; distortion = 0 }
 
 chosen-size : (weight : ℕ) (u : UnitSource) (v : List UnitVersion) (n : ℕ) → n < length v
-    → (let chosen : Version = version_at (unit_row weight u v) n in chosen.bytes) ≡ length (written_header u.times) + length (chosen_bytes v n)
+    → (let chosen : Version = version_at (unit_row weight u v) n in chosen.bytes) ≡ length (written_pes_header u.times) + length (chosen_bytes v n)
 chosen-size weight u v n within =
     let chosen : chosen_bytes v n ≡ (get_or v n no_version).bytes =
     ap (λ (found : Option UnitVersion). option_map_or (λ (version : UnitVersion). version.bytes) found []) (slice_get-get_or v n no_version within) in
     let row : version_at (unit_row weight u v) n ≡ row_version weight u (get_or v n no_version) = get_or-map (row_version weight u) v n no_version (record { bytes = 0; distortion = 0 }) within in
-    ap (λ (version : Version). version.bytes) row ∙ ap (λ (bytes : List ℕ). length (written_header u.times) + length bytes) (sym chosen)
+    ap (λ (version : Version). version.bytes) row ∙ ap (λ (bytes : List ℕ). length (written_pes_header u.times) + length bytes) (sym chosen)
 
 -- the versions that a choice names are as long as the PES packets
 pub sizes-are : (es coarser : List ℕ) (weight : ℕ) (state : Option SeqState) (units : List UnitSource) (versions : List (List UnitVersion)) (choice : List ℕ) (more : List CodedUnit)
     (packets : List PesUnit) → AreVideoVersions es coarser state units versions → AllZip HasVersion (unit_rows weight units versions ++ more) choice
-    → AreReadAs (sent_units units versions choice) (bytes_of packets)
+    → AreReadAs (sent_units units versions choice) (bytes_of_packets packets)
     → map (λ (chosen : CodedUnit × ℕ). (version_at chosen.0 chosen.1).bytes) (zip (unit_rows weight units versions) choice) ≡ map (λ (packet : PesUnit). length packet.bytes) packets
 sizes-are es coarser weight state [] [] choice more [] are fits read = refl
 sizes-are es coarser weight state [] [] choice more (o ∷ os) are fits read = absurd read

@@ -6,12 +6,12 @@ use Rattle.stream_constants.specs.declared.clock.TheConstants.{TICKS_PER_TIME_UN
 use Rattle.syntax_types.specs.declared.picture.PicCoding.{PicCoding}
 use Rattle.syntax_types.specs.declared.picture.Picture.{Picture}
 use Rattle.syntax_types.specs.declared.picture.SeqState.{SeqState}
-use Rattle.pes_units.specs.PesHeader.{fields_of}
+use Rattle.pes_units.specs.PesHeader.{pes_fields_of}
 use Rattle.picture_grammar.specs.Macroblock.{is_frame}
 use Rattle.picture_reader.specs.Picture.{IsPictureOf}
 use Rattle.ts_demux.specs.declared.demuxed.PesUnit.{PesUnit}
 use Rattle.program_reader.specs.declared.timed_picture.Role.{Role}
-use Rattle.program_reader.specs.Packets.{decoding_time, payload_of}
+use Rattle.program_reader.specs.Packets.{decoding_time, pes_payload_of}
 use Rattle.program_reader.specs.Units.{frame_period, role_behind, share_of}
 use Rattle.stream_times.specs.Clock.{IsFirstShown}
 
@@ -23,24 +23,24 @@ pub record DecodedPicture : Type 0 where
   pub at : ℕ
 
 -- how long it lasts, in ticks: a frame period, or its share of one for a field
-abbrev pub ticks_of : DecodedPicture → ℕ
-ticks_of picture = share_of picture.role (frame_period picture.seq.rate_code)
+abbrev pub duration_of : DecodedPicture → ℕ
+duration_of picture = share_of picture.role (frame_period picture.seq.rate_code)
 
 -- the decoding time that a PES header states, in units of 1/90,000 s: its DTS, or its PTS where it has no DTS
 abbrev pub stated_time : PesUnit → Option ℕ
-stated_time packet = decoding_time (fields_of packet.bytes).times
+stated_time packet = decoding_time (pes_fields_of packet.bytes).times
 
 -- A picture behind the one before it is decoded when its program's clock first shows 300 times the decoding time that its header states. Where it states
 -- none, as many ticks behind the picture before it as that one lasts, which must repeat no field then.
 abbrev pub IsDecodedWhen : (base : ℕ) → (before : Option DecodedPicture) → (stated : Option ℕ) → (at : ℕ) → Type 0
 IsDecodedWhen base before (Some time) at = IsFirstShown base (pos (TICKS_PER_TIME_UNIT * time)) at
-IsDecodedWhen base (Some before) None at = (before.coding.repeat_first_field ≡ false) × (at ≡ before.at + ticks_of before)
+IsDecodedWhen base (Some before) None at = (before.coding.repeat_first_field ≡ false) × (at ≡ before.at + duration_of before)
 IsDecodedWhen base None None at = ⊥
 
 -- A PES packet holds one picture behind the one before it, which is decoded when its headers say.
 pub record IsDecoded (base : ℕ) (before : Option DecodedPicture) (packet : PesUnit) (picture : DecodedPicture) : Type 0 where
   pub spelled : Picture
-  pub whole : IsPictureOf (option_map (λ earlier. earlier.seq) before) (payload_of packet) spelled
+  pub whole : IsPictureOf (option_map (λ earlier. earlier.seq) before) (pes_payload_of packet) spelled
   pub seq_is : picture.seq ≡ spelled.seq
   pub coding_is : picture.coding ≡ spelled.coding
   pub role_is : picture.role ≡ role_behind (is_frame picture.coding) (option_map (λ earlier. earlier.role) before)

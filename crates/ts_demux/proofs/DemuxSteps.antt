@@ -9,26 +9,26 @@ use Rattle.ts_demux.specs.declared.demux_fault.DemuxFault.{DemuxFault}
 use Rattle.ts_demux.specs.declared.demuxed.AudioStream.{AudioStream}
 use Rattle.ts_demux.specs.declared.pes_gatherer.PesGatherer.{PesGatherer}
 use Rattle.ts_demux.specs.Tables.{HasMap}
-use Rattle.ts_demux.specs.Demux.{HasCarriedMap, pids_of, packets_of, IsRefused, memory, no_video, streams}
+use Rattle.ts_demux.specs.Demux.{HasCarriedMap, pids_of, pes_packets_on, IsDemuxRefused, memory, no_video, streams}
 use Rattle.ts_demux.specs.Private.PesGatherer.{stream_gathered}
 use Rattle.ts_demux.specs.Private.CarriedStreams.{IsCarryFault}
 use Rattle.ts_demux.specs.Private.StreamWalk.{AreGathered, IsGatherFault}
 use Rattle.ts_demux.proofs.GatherSteps.{streams_gathered}
 
 pub carry_refused : (file : List ℕ) (program : ℕ) (drop_pids : List ℕ) (whole : ProgramMap) (fault : DemuxFault) → 188 ≤ length file → HasMap file program whole →
-    IsCarryFault whole fault → IsRefused file program drop_pids fault
+    IsCarryFault whole fault → IsDemuxRefused file program drop_pids fault
 carry_refused file program drop_pids whole fault long has (inl is) = memory is
 carry_refused file program drop_pids whole fault long has (inr is) = no_video whole long has is.1 is.0
 
 pub gather_refused : (file : List ℕ) (program : ℕ) (drop_pids : List ℕ) (carried_map : ProgramMap) (others : List ℕ) (fault : DemuxFault) →
     HasCarriedMap file program drop_pids carried_map others → length carried_map.streams.items ≤ 9 → pmt_length carried_map ≤ 183 → IsGatherFault file (pids_of carried_map) fault →
-    IsRefused file program drop_pids fault
+    IsDemuxRefused file program drop_pids fault
 gather_refused file program drop_pids carried_map others fault has few short (inl is) = memory is
 gather_refused file program drop_pids carried_map others fault has few short (inr is) = streams carried_map others has few short is
 
 pub all_of : (file : List ℕ) (items : List Stream) (video : Stream) (audios : List Stream) (gathered : List AudioStream) (gs : List PesGatherer) → items ≡ video ∷ audios →
-    AreGathered file (map (λ (stream : Stream). stream.pid) items) gs → gathered ≡ map stream_gathered gs → gathered ≡ packets_of file video ∷ map (packets_of file) audios
-all_of file items video audios gathered gs is are same = same ∙ streams_gathered file gs items are.all are.pids_are ∙ ap (map (packets_of file)) is
+    AreGathered file (map (λ (stream : Stream). stream.pid) items) gs → gathered ≡ map stream_gathered gs → gathered ≡ pes_packets_on file video ∷ map (pes_packets_on file) audios
+all_of file items video audios gathered gs is are same = same ∙ streams_gathered file gs items are.all are.pids_are ∙ ap (map (pes_packets_on file)) is
 
 pub some_of : (xs : List AudioStream) (a : AudioStream) (others : List AudioStream) → xs ≡ a ∷ others → 0 < length xs
 some_of xs a others is = subst (λ (ys : List AudioStream). 0 < length ys) (sym is) (omega arith)

@@ -50,7 +50,7 @@ use Rattle.ts_demux.specs.declared.pes_gatherer.PesGatherer.{PesGatherer}
 use Rattle.ts_demux.specs.Faults.{of_pid}
 use Rattle.ts_demux.specs.Streams.{is_among}
 use Rattle.ts_demux.specs.Tables.{HasPidFault}
-use Rattle.ts_demux.specs.Demux.{IsStreamFault, AreStreamsSound, packets_of}
+use Rattle.ts_demux.specs.Demux.{IsStreamFault, AreStreamsSound, pes_packets_on}
 use Rattle.ts_demux.specs.Private.PesGatherer.{Gathers, AllGather, gatherer_pids, AllGatherMore, stream_gathered}
 use Rattle.ts_demux.specs.Private.StreamWalk.{IsGatherFault}
 use Rattle.list_types.proofs.Lists.{slice_get-set_same, slice_get-set_other}
@@ -178,7 +178,7 @@ all_at_end file n gs end all = subst (λ (k : ℕ). AllGather file k gs) end all
 
 -- what is gathered are the PES packets of the streams
 pub streams_gathered : (file : List ℕ) (gs : List PesGatherer) (streams : List Stream) → AllGather file (piece_count file) gs →
-    gatherer_pids gs ≡ map (λ (stream : Stream). stream.pid) streams → map stream_gathered gs ≡ map (packets_of file) streams
+    gatherer_pids gs ≡ map (λ (stream : Stream). stream.pid) streams → map stream_gathered gs ≡ map (pes_packets_on file) streams
 streams_gathered file [] [] all same = refl
 streams_gathered file [] (s ∷ streams) all same = absurd cc
 streams_gathered file (g ∷ gs) [] all same = absurd cc
@@ -186,8 +186,8 @@ streams_gathered file (g ∷ gs) (s ∷ streams) all same =
     let pid : g.pid ≡ s.pid = cc in
     let others : gatherer_pids gs ≡ map (λ (stream : Stream). stream.pid) streams = cc in
     let gathered_is = (all 0 g refl).units in
-    let one : stream_gathered g ≡ packets_of file s = rw (gathered_is, pid) refl in
-    ap (λ (a : AudioStream). a ∷ map stream_gathered gs) one ∙ ap (λ (xs : List AudioStream). packets_of file s ∷ xs) (streams_gathered file gs streams (λ k h there. all (suc k) h there) others)
+    let one : stream_gathered g ≡ pes_packets_on file s = rw (gathered_is, pid) refl in
+    ap (λ (a : AudioStream). a ∷ map stream_gathered gs) one ∙ ap (λ (xs : List AudioStream). pes_packets_on file s ∷ xs) (streams_gathered file gs streams (λ k h there. all (suc k) h there) others)
 
 -- ---- one gatherer more
 

@@ -38,7 +38,7 @@ use Rattle.std.proofs.lemmas.Bool.Decides.{nat_tests}
 use Rattle.std.proofs.lemmas.List.{append-nil}
 use Rattle.payload_lists.specs.Payload.{CarriedPayload, is_start}
 use Rattle.ts_packets.specs.declared.pid_fault.PidFault.{PidFault}
-use Rattle.ts_packets.specs.TransportStream.{Piece, piece_at, piece_count, is_of_pid, pieces_of}
+use Rattle.ts_packets.specs.TransportStream.{Piece, piece_at, piece_count, is_of_pid, pid_pieces}
 use Rattle.ts_packets.specs.Carried.{carried, pid_fault}
 use Rattle.ts_packets.specs.PidReader.{IsBehind}
 use Rattle.pes_units.specs.PesPackets.{Gathered, gathered, up_to_start}
@@ -159,30 +159,30 @@ gathers_other file n gatherer other gathers = record {
 }
 
 pieces_with : (file : List ℕ) (pid n : ℕ) (bytes : List ℕ) → bytes ≡ piece_at file n → is_of_pid file pid n ≡ true →
-    pieces_of file pid 0 (n + 1) ≡ pieces_of file pid 0 n ++ record { at = 188 * n; bytes = bytes } ∷ []
-pieces_with file pid n bytes bytes_are of_pid = pieces_more file pid 0 n (omega arith) of_pid ∙ ap (λ (b : List ℕ). pieces_of file pid 0 n ++ record { at = 188 * n; bytes = b } ∷ []) (sym bytes_are)
+    pid_pieces file pid 0 (n + 1) ≡ pid_pieces file pid 0 n ++ record { at = 188 * n; bytes = bytes } ∷ []
+pieces_with file pid n bytes bytes_are of_pid = pieces_more file pid 0 n (omega arith) of_pid ∙ ap (λ (b : List ℕ). pid_pieces file pid 0 n ++ record { at = 188 * n; bytes = b } ∷ []) (sym bytes_are)
 
 -- one that carries nothing
 pub gathers_nothing : (file : List ℕ) (n : ℕ) (bytes : List ℕ) (gatherer after : PesGatherer) → bytes ≡ piece_at file n → is_of_pid file gatherer.pid n ≡ true → after.pid ≡ gatherer.pid →
     after.begun ≡ gatherer.begun → after.whole ≡ gatherer.whole → after.bytes ≡ gatherer.bytes →
-    carried (pieces_of file gatherer.pid 0 n ++ record { at = 188 * n; bytes = bytes } ∷ []) ≡ carried (pieces_of file gatherer.pid 0 n) ++ [] →
-    IsBehind (pieces_of file gatherer.pid 0 n ++ record { at = 188 * n; bytes = bytes } ∷ []) after.packets → Gathers file n gatherer → Gathers file (n + 1) after
+    carried (pid_pieces file gatherer.pid 0 n ++ record { at = 188 * n; bytes = bytes } ∷ []) ≡ carried (pid_pieces file gatherer.pid 0 n) ++ [] →
+    IsBehind (pid_pieces file gatherer.pid 0 n ++ record { at = 188 * n; bytes = bytes } ∷ []) after.packets → Gathers file n gatherer → Gathers file (n + 1) after
 gathers_nothing file n bytes gatherer after bytes_are of_pid pid begun whole own none behind gathers = record {
   order = rw (begun, whole) gathers.order;
   packets = rw (pid, pieces_with file gatherer.pid n bytes bytes_are of_pid) behind;
   units = rw (begun, whole, own, pid) (gathers.units ∙ sym (ap units_in (pieces_with file gatherer.pid n bytes bytes_are of_pid)
-      ∙ ap units_of (none ∙ append-nil (carried (pieces_of file gatherer.pid 0 n)))));
+      ∙ ap units_of (none ∙ append-nil (carried (pid_pieces file gatherer.pid 0 n)))));
 }
 
 -- one that carries a payload
 pub gathers_more : (file : List ℕ) (n : ℕ) (bytes : List ℕ) (gatherer between after : PesGatherer) (start : Bool) (payload : List ℕ) (result : Result Unit DemuxFault) →
     bytes ≡ piece_at file n → is_of_pid file gatherer.pid n ≡ true → 0 < length payload →
-    carried (pieces_of file gatherer.pid 0 n ++ record {
+    carried (pid_pieces file gatherer.pid 0 n ++ record {
       at =
           188 * n;
       bytes = bytes;
-    } ∷ []) ≡ carried (pieces_of file gatherer.pid 0 n) ++ record { at = 188 * n; payload = record { start = start; bytes = payload } } ∷ [] →
-    IsBehind (pieces_of file gatherer.pid 0 n ++ record { at = 188 * n; bytes = bytes } ∷ []) between.packets →
+    } ∷ []) ≡ carried (pid_pieces file gatherer.pid 0 n) ++ record { at = 188 * n; payload = record { start = start; bytes = payload } } ∷ [] →
+    IsBehind (pid_pieces file gatherer.pid 0 n ++ record { at = 188 * n; bytes = bytes } ∷ []) between.packets →
     gathered_of between ≡ gathered_of gatherer → between.pid ≡ gatherer.pid →
     OnOk result (gathered_of after ≡ gathered_more (gathered_of between) (188 * n) start payload) → OnOk result (IsInOrder after)
     → OnOk result (IsSame between after) → IfErr result (λ (fault : DemuxFault). fault ≡ OutOfMemory) →
@@ -190,9 +190,9 @@ pub gathers_more : (file : List ℕ) (n : ℕ) (bytes : List ℕ) (gatherer betw
 gathers_more file n bytes gatherer between after start payload (Err fault) bytes_are of_pid some one behind same pid ok order kept memory sound gathers = inl memory
 gathers_more file n bytes gatherer between after start payload (Ok _) bytes_are of_pid some one behind same pid ok order kept memory sound gathers =
     let pid_is : after.pid ≡ gatherer.pid = kept.pid ∙ pid in
-    let now : units_in (pieces_of file gatherer.pid 0 (n + 1)) ≡ gathered_more (units_in (pieces_of file gatherer.pid 0 n)) (188 * n) start payload =
+    let now : units_in (pid_pieces file gatherer.pid 0 (n + 1)) ≡ gathered_more (units_in (pid_pieces file gatherer.pid 0 n)) (188 * n) start payload =
     ap units_in (pieces_with file gatherer.pid n bytes bytes_are of_pid) ∙ ap units_of one
-    ∙ units_more (carried (pieces_of file gatherer.pid 0 n))
+    ∙ units_more (carried (pid_pieces file gatherer.pid 0 n))
     (record { at = 188 * n; payload = record { start = start; bytes = payload } }) some in (
       record {
         order = order;
@@ -204,10 +204,10 @@ gathers_more file n bytes gatherer between after start payload (Ok _) bytes_are 
     )
 
 -- no fault
-pub gathers_sound : (file : List ℕ) (n pid : ℕ) (bytes : List ℕ) → bytes ≡ piece_at file n → pid_fault (pieces_of file pid 0 n) (record { at = 188 * n; bytes = bytes }) ≡ None →
+pub gathers_sound : (file : List ℕ) (n pid : ℕ) (bytes : List ℕ) → bytes ≡ piece_at file n → pid_fault (pid_pieces file pid 0 n) (record { at = 188 * n; bytes = bytes }) ≡ None →
     (found : PidFault) → HasPidFault file pid 0 n found → ⊥
 gathers_sound file n pid bytes bytes_are none found has =
-    let there : pid_fault (pieces_of file pid 0 n) (piece file n) ≡ None = subst (λ (b : List ℕ). pid_fault (pieces_of file pid 0 n) (record { at = 188 * n; bytes = b }) ≡ None) bytes_are none in
+    let there : pid_fault (pid_pieces file pid 0 n) (piece file n) ≡ None = subst (λ (b : List ℕ). pid_fault (pid_pieces file pid 0 n) (record { at = 188 * n; bytes = b }) ≡ None) bytes_are none in
     let e : None ≡ Some found = sym there ∙ has.fault_is in
     absurd cc
 
@@ -216,10 +216,10 @@ other_sound file n pid other found has = let e : is_of_pid file pid n ≡ true =
 
 -- one that has a fault
 pub gathers_fault : (file : List ℕ) (n : ℕ) (bytes : List ℕ) (gatherer : PesGatherer) (fault : PidFault) → n < piece_count file → bytes ≡ piece_at file n →
-    is_of_pid file gatherer.pid n ≡ true → pid_fault (pieces_of file gatherer.pid 0 n) (record { at = 188 * n; bytes = bytes }) ≡ Some fault → HasPidFault file gatherer.pid 0 n fault
+    is_of_pid file gatherer.pid n ≡ true → pid_fault (pid_pieces file gatherer.pid 0 n) (record { at = 188 * n; bytes = bytes }) ≡ Some fault → HasPidFault file gatherer.pid 0 n fault
 gathers_fault file n bytes gatherer fault within bytes_are on_pid is = record {
   within = within;
   behind = omega arith;
   of_pid = on_pid;
-  fault_is = subst (λ (b : List ℕ). pid_fault (pieces_of file gatherer.pid 0 n) (record { at = 188 * n; bytes = b }) ≡ Some fault) bytes_are is;
+  fault_is = subst (λ (b : List ℕ). pid_fault (pid_pieces file gatherer.pid 0 n) (record { at = 188 * n; bytes = b }) ≡ Some fault) bytes_are is;
 }

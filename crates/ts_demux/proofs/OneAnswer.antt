@@ -1,7 +1,7 @@
 -- A file has one answer.
 use Rattle.std.proofs.Common.{◌≡◌, ◌≢◌, ℕ, zero, suc, ◌+◌, ◌-◌, ◌*◌, ◌<◌, ◌≤◌, ◌⊎◌, inl, inr, List, [], ◌∷◌, length, map, Some, None, Ok, Err, refl, sym, ap, ap₂, ◌∙◌, subst, arith}
 use Rattle.stream_constants.specs.declared.packets.TheConstants.{PACKET_BYTES}
-use Rattle.ts_packets.specs.TransportStream.{pieces_of}
+use Rattle.ts_packets.specs.TransportStream.{pid_pieces}
 use Rattle.psi_tables.specs.declared.pmt.TheConstants.{PACKET_SECTION_BYTES}
 use Rattle.psi_tables.specs.declared.program_map.ProgramMap.{ProgramMap}
 use Rattle.psi_tables.specs.declared.stream.Stream.{Stream}
@@ -23,9 +23,9 @@ use Rattle.ts_demux.specs.Demux.{
   pids_of,
   IsStreamFault,
   IsFirstStreamFault,
-  packets_of,
+  pes_packets_on,
   IsDemuxed,
-  IsRefused,
+  IsDemuxRefused,
   short_file,
   tables,
   no_video,
@@ -144,9 +144,9 @@ carried_one file program drop a b others others' has has' =
 stream_one : (file pids : List ℕ) (n : ℕ) (a b : DemuxFault) → IsStreamFault file pids n a → IsStreamFault file pids n b → a ≡ b
 stream_one file pids n a b (inl (none, e)) (inl (other, f)) = e ∙ sym f
 stream_one file pids n a b (inl (none, e)) (inr (pid, found, among, has, f)) =
-    e ∙ sym (f ∙ ap (of_pid (PACKET_BYTES * n)) (no_sync_first (pieces_of file pid 0 n) (piece file n) found none.no_sync has.fault_is))
+    e ∙ sym (f ∙ ap (of_pid (PACKET_BYTES * n)) (no_sync_first (pid_pieces file pid 0 n) (piece file n) found none.no_sync has.fault_is))
 stream_one file pids n a b (inr (pid, found, among, has, e)) (inl (none, f)) =
-    e ∙ ap (of_pid (PACKET_BYTES * n)) (no_sync_first (pieces_of file pid 0 n) (piece file n) found none.no_sync has.fault_is) ∙ sym f
+    e ∙ ap (of_pid (PACKET_BYTES * n)) (no_sync_first (pid_pieces file pid 0 n) (piece file n) found none.no_sync has.fault_is) ∙ sym f
 stream_one file pids n a b (inr (pid, found, among, has, e)) (inr (pid', found', among', has', f)) =
     let pids : pid ≡ pid' = of_one file pid pid' n has.of_pid has'.of_pid in
     e ∙ ap (of_pid (PACKET_BYTES * n)) (one_pid_fault file pid' 0 n found found' (subst (λ (p : ℕ). HasPidFault file p 0 n found) pids has) has') ∙ sym f
@@ -175,8 +175,8 @@ one_demuxed file program drop a b is is' =
     let streams : is.video ∷ is.audios ≡ is'.video ∷ is'.audios = sym is.streams ∙ ap (λ (m : ProgramMap). m.streams.items) same.map_is ∙ is'.streams in
     let video : is.video ≡ is'.video = cc in
     let audios : is.audios ≡ is'.audios = cc in
-    let videos : a.video ≡ b.video = is.video_packets ∙ ap (λ (s : Stream). (packets_of file s).units) video ∙ sym is'.video_packets in
-    let all : a.audios ≡ b.audios = is.audio_packets ∙ ap (map (packets_of file)) audios ∙ sym is'.audio_packets in
+    let videos : a.video ≡ b.video = is.video_packets ∙ ap (λ (s : Stream). (pes_packets_on file s).units) video ∙ sym is'.video_packets in
+    let all : a.audios ≡ b.audios = is.audio_packets ∙ ap (map (pes_packets_on file)) audios ∙ sym is'.audio_packets in
     let rests : a.rest ≡ b.rest = is.rest_is ∙ sym is'.rest_is in
     ap₂ (λ (m : ProgramMap) (v : List PesUnit). record { map = m; video = v; audios = a.audios; rest = a.rest; not_carried = a.not_carried }) same.map_is videos
     ∙ ap₂ (λ (s : List AudioStream) (r : ℕ). record { map = b.map; video = b.video; audios = s; rest = r; not_carried = a.not_carried }) all rests
@@ -205,7 +205,7 @@ module _ (file : List ℕ) (program : ℕ) (drop : List ℕ) where
       let same = carried_one file program drop m n others others' has has' in
       omega (arith, short, long, ap pmt_length same.map_is)
 
-  pub never_both : (demuxed : Demuxed) (fault : DemuxFault) → IsDemuxed file program drop demuxed → IsRefused file program drop fault → fault ≡ faults.OutOfMemory
+  pub never_both : (demuxed : Demuxed) (fault : DemuxFault) → IsDemuxed file program drop demuxed → IsDemuxRefused file program drop fault → fault ≡ faults.OutOfMemory
   never_both demuxed fault is (short_file short e) = absurd (omega (arith, short, is.tables.long))
   never_both demuxed fault is (tables long t) = absurd (map_or_tables demuxed.map demuxed.not_carried fault is.tables t)
   never_both demuxed fault is (no_video whole long has none e) = absurd (map_or_no_video demuxed.map demuxed.not_carried whole is.tables has none)
@@ -216,7 +216,7 @@ module _ (file : List ℕ) (program : ℕ) (drop : List ℕ) where
       absurd (is.sound first.packet fault (subst (λ (n : ProgramMap). IsStreamFault file (pids_of n) first.packet fault) (sym same.map_is) first.stands))
   never_both demuxed fault is (memory e) = e
 
-  pub one_refusal : (a b : DemuxFault) → a ≢ faults.OutOfMemory → b ≢ faults.OutOfMemory → IsRefused file program drop a → IsRefused file program drop b → a ≡ b
+  pub one_refusal : (a b : DemuxFault) → a ≢ faults.OutOfMemory → b ≢ faults.OutOfMemory → IsDemuxRefused file program drop a → IsDemuxRefused file program drop b → a ≡ b
   one_refusal a b some some' (short_file short e) (short_file short' e') = e ∙ sym e'
   one_refusal a b some some' (short_file short e) (tables long' t') = absurd (omega (arith, short, long'))
   one_refusal a b some some' (short_file short e) (no_video whole' long' has' none' e') = absurd (omega (arith, short, long'))

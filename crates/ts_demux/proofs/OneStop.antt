@@ -9,13 +9,13 @@ use Rattle.ts_packets.specs.declared.packet_fault.PacketFault.TheVariants as pac
 use Rattle.ts_packets.specs.declared.pid_fault.PidFault.{PidFault}
 use Rattle.ts_packets.specs.declared.pid_fault.PidFault.TheVariants.{Refused}
 use Rattle.ts_packets.specs.Packet.{sync_byte, has_fault, packet_of}
-use Rattle.ts_packets.specs.TransportStream.{Piece, is_of_pid, pieces_of}
+use Rattle.ts_packets.specs.TransportStream.{Piece, is_of_pid, pid_pieces}
 use Rattle.ts_packets.specs.Carried.{order_fault, pid_fault}
 use Rattle.psi_tables.specs.declared.program_map.ProgramMap.{ProgramMap}
 use Rattle.psi_tables.specs.declared.section.SectionFault.{SectionFault}
 use Rattle.psi_tables.specs.Section.{content}
 use Rattle.psi_tables.specs.Sections.{Found}
-use Rattle.psi_tables.specs.Pat.{IsProgram, map_pid}
+use Rattle.psi_tables.specs.Pat.{IsPatEntry, pat_map_pid}
 use Rattle.psi_tables.proofs.Rows.{same_row}
 use Rattle.psi_tables.proofs.ProgramRows.{programs_told}
 use Rattle.psi_tables.proofs.PmtFunction.{pmt_is}
@@ -53,8 +53,8 @@ use Rattle.ts_demux.proofs.TableLemmas.{ordered, of_one, none_there, same_sectio
 
 named_one : (program p q : ℕ) (found : Found) → Names program found p → Names program found q → p ≡ q
 named_one program p q (Ok section) (ps, is, e) (qs, is', e') =
-    let same : ps ≡ qs = same_row IsProgram programs_told ps qs (content section) is.programs_are is'.programs_are in
-    let both : Some p ≡ Some q = sym e ∙ ap (map_pid program) same ∙ e' in
+    let same : ps ≡ qs = same_row IsPatEntry programs_told ps qs (content section) is.programs_are is'.programs_are in
+    let both : Some p ≡ Some q = sym e ∙ ap (pat_map_pid program) same ∙ e' in
     cc
 named_one program p q (Err fault) never other = absurd never
 
@@ -204,7 +204,7 @@ packets_one file program n a b p q =
 
 without_sync : (file : List ℕ) (program n : ℕ) (stop : Stop) → HasNoSync file n → PidStop file program n stop → stop ≡ refuse (Sync (PACKET_BYTES * n))
 without_sync file program n stop none p =
-    p.stop_is ∙ ap (λ (f : PidFault). refuse (of_pid (PACKET_BYTES * n) f)) (no_sync_first (pieces_of file p.pid p.from n) (piece file n) p.fault none.no_sync p.has.fault_is)
+    p.stop_is ∙ ap (λ (f : PidFault). refuse (of_pid (PACKET_BYTES * n) f)) (no_sync_first (pid_pieces file p.pid p.from n) (piece file n) p.fault none.no_sync p.has.fault_is)
 
 parted_one : (file : List ℕ) (program n rank : ℕ) (a b : Stop) → Parted file program n rank a → Parted file program n rank b → a ≡ b
 parted_one file program n rank a b (inl (r, inl (none, e))) (inl (s, inl (other, f))) = e ∙ sym f

@@ -42,8 +42,8 @@ use Rattle.std.specs.List.{flat_map, filter_map, cons_option, range_with_len}
 use Rattle.std.specs.Option.{option_map}
 use Rattle.std.proofs.lemmas.Bool.Decides.{nat_tests}
 use Rattle.ts_packets.specs.declared.packet.Packet.{Packet}
-use Rattle.ts_packets.specs.Packet.{PacketRecord, record_of, packet_identifier, packet_of, refusal, fields_of, has_field, adaptation_field_length}
-use Rattle.ts_packets.specs.TransportStream.{Piece, piece_at, piece_count, is_of_pid, pieces_of}
+use Rattle.ts_packets.specs.Packet.{PacketRecord, record_of, packet_identifier, packet_of, transport_refusal, fields_of, has_field, adaptation_field_length}
+use Rattle.ts_packets.specs.TransportStream.{Piece, piece_at, piece_count, is_of_pid, pid_pieces}
 use Rattle.ts_packets.specs.Carried.{PlacedPacket, placed, has_payload, payload_packets, is_repeat, not_repeated, carried_by}
 use Rattle.ts_demux.specs.Payloads.{not_repeated_behind, payload_behind}
 use Rattle.ts_demux.specs.Private.PayloadWalk.{with_payload, payload_packet, repeats}
@@ -86,9 +86,9 @@ first_of_range : (file : List ℕ) (pid n : ℕ) (ns : List ℕ) → payload_pac
 first_of_range file pid n ns = by_pid (is_of_pid file pid n) file n (filter (is_of_pid file pid) ns)
 
 first_piece : (file : List ℕ) (pid next : ℕ) → next < piece_count file →
-    payload_packets (pieces_of file pid next (piece_count file))
+    payload_packets (pid_pieces file pid next (piece_count file))
     ≡ cons_option (option_map (placed_at (188 * next)) (payload_packet pid (piece_at file next)))
-    (payload_packets (pieces_of file pid (next + 1) (piece_count file)))
+    (payload_packets (pid_pieces file pid (next + 1) (piece_count file)))
 first_piece file pid next within =
     let more : piece_count file - next ≡ suc (piece_count file - (next + 1)) = omega arith in
     ap (λ (k : ℕ). payload_packets (map (piece file) (filter (is_of_pid file pid) (range_with_len next k)))) more
@@ -117,15 +117,15 @@ pub adds_nothing : (file : List ℕ) (pid next : ℕ) (last : Option Packet) →
 adds_nothing file pid next last within none =
     ap (joined (option_map record_of last))
     (first_piece file pid next within
-    ∙ ap (λ (found : Option PacketRecord). cons_option (option_map (placed_at (188 * next)) found) (payload_packets (pieces_of file pid (next + 1) (piece_count file)))) none)
+    ∙ ap (λ (found : Option PacketRecord). cons_option (option_map (placed_at (188 * next)) found) (payload_packets (pid_pieces file pid (next + 1) (piece_count file)))) none)
 
 adds : (file : List ℕ) (pid next : ℕ) (last : Option Packet) (packet : Packet) → next < piece_count file → payload_packet pid (piece_at file next) ≡ Some (record_of packet) →
     payload_behind file pid next last ≡ cond (repeats (option_map record_of last) (record_of packet)) [] packet.payload.now ++ payload_behind file pid (next + 1) (Some packet)
 adds file pid next last packet within is =
     ap (joined (option_map record_of last))
     (first_piece file pid next within
-    ∙ ap (λ (found : Option PacketRecord). cons_option (option_map (placed_at (188 * next)) found) (payload_packets (pieces_of file pid (next + 1) (piece_count file)))) is)
-    ∙ first_joined (option_map record_of last) (188 * next) (record_of packet) (payload_packets (pieces_of file pid (next + 1) (piece_count file)))
+    ∙ ap (λ (found : Option PacketRecord). cons_option (option_map (placed_at (188 * next)) found) (payload_packets (pid_pieces file pid (next + 1) (piece_count file)))) is)
+    ∙ first_joined (option_map record_of last) (188 * next) (record_of packet) (payload_packets (pid_pieces file pid (next + 1) (piece_count file)))
 
 -- a packet that comes again
 pub adds_repeat : (file : List ℕ) (pid next : ℕ) (last : Option Packet) (packet : Packet) → next < piece_count file
@@ -171,7 +171,7 @@ adds_no_more file pid next last end =
 
 -- a packet's payload is a part of its bytes
 fits : (bytes : List ℕ) (packet : PacketRecord) → packet_of bytes ≡ Some packet → length packet.payload ≤ length bytes
-fits bytes packet = by_refusal (is_none (refusal bytes))
+fits bytes packet = by_refusal (is_none (transport_refusal bytes))
   where
     by_field : (some : Bool) (n : ℕ) → length (cond some (drop n bytes) (drop 4 bytes)) ≤ length bytes
     by_field true n = omega (arith, length-drop n bytes)

@@ -6,7 +6,7 @@ use Rattle.psi_tables.specs.declared.program_map.ProgramMap.{ProgramMap}
 use Rattle.psi_tables.specs.declared.section.SectionFault.{SectionFault}
 use Rattle.psi_tables.specs.declared.section.SectionFault.TheVariants.{BadSection}
 use Rattle.psi_tables.specs.Section.{table_id, current_next_indicator, IsCurrent}
-use Rattle.psi_tables.specs.Pat.{IsPat, map_pid}
+use Rattle.psi_tables.specs.Pat.{IsPat, pat_map_pid}
 use Rattle.psi_tables.specs.Pmt.{IsPmt, HasRoom}
 use Rattle.psi_tables.specs.PmtOf.{pmt_of}
 use Rattle.psi_tables.proofs.PmtFunction.{pmt_is, pmt_made}
@@ -29,10 +29,10 @@ current_or_not table bytes = by_tests (table_id bytes == table) refl (current_ne
 -- what reading it as a PAT section answers
 pub record SaysPat (program : ℕ) (section : List ℕ) (answer : Result (Option ℕ) SectionFault) : Type 0 where
   pub other : (IsCurrent 0 section → ⊥) → answer ≡ Ok None
-  pub pid : (programs : List (ℕ × ℕ)) → IsPat programs section → answer ≡ Ok (map_pid program programs)
+  pub pid : (programs : List (ℕ × ℕ)) → IsPat programs section → answer ≡ Ok (pat_map_pid program programs)
 
 pub bad_pat : (program : ℕ) (section : List ℕ) (fault : SectionFault) → SaysPat program section (Err fault) → (fault ≡ BadSection) × IsCurrent 0 section → IsBadPat (Ok section) fault
-bad_pat program section fault says bad = (bad.0, bad.1, λ programs is. let e : Err fault ≡ Ok (map_pid program programs) = says.pid programs is in absurd cc)
+bad_pat program section fault says bad = (bad.0, bad.1, λ programs is. let e : Err fault ≡ Ok (pat_map_pid program programs) = says.pid programs is in absurd cc)
 
 pub sound_pat : (section : List ℕ) → (IsCurrent 0 section → (programs : List (ℕ × ℕ)) × IsPat programs section) → (fault : SectionFault) → IsBadPat (Ok section) fault → ⊥
 sound_pat section some fault bad = let found = some bad.1 in bad.2 found.0 found.1
@@ -40,8 +40,8 @@ sound_pat section some fault bad = let found = some bad.1 in bad.2 found.0 found
 -- it names what is answered alone
 pub named_alone : (program : ℕ) (section : List ℕ) (named : Option ℕ) → SaysPat program section (Ok named) → (pid : ℕ) → Names program (Ok section) pid → named ≡ Some pid
 named_alone program section named says pid names =
-    let e : Ok named ≡ Ok (map_pid program names.0) = says.pid names.0 names.1 in
-    let same : named ≡ map_pid program names.0 = cc in
+    let e : Ok named ≡ Ok (pat_map_pid program names.0) = says.pid names.0 names.1 in
+    let same : named ≡ pat_map_pid program names.0 = cc in
     same ∙ names.2
 
 pub names_none : (program : ℕ) (section : List ℕ) → SaysPat program section (Ok None) → NamesNone program section
@@ -52,8 +52,8 @@ pub names_it : (program : ℕ) (section : List ℕ) (pid : ℕ) → SaysPat prog
 names_it program section pid says some =
     elim (current_or_not 0 section) [
       | inl current ↦ let found = some current in
-          let e : Ok (Some pid) ≡ Ok (map_pid program found.0) = says.pid found.0 found.1 in
-          let same : Some pid ≡ map_pid program found.0 = cc in
+          let e : Ok (Some pid) ≡ Ok (pat_map_pid program found.0) = says.pid found.0 found.1 in
+          let same : Some pid ≡ pat_map_pid program found.0 = cc in
           (found.0, found.1, sym same)
       | inr not_current ↦ let e : Ok (Some pid) ≡ Ok None = says.other not_current in absurd cc
     ]

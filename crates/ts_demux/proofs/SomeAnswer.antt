@@ -42,7 +42,7 @@ use Rattle.ts_packets.specs.declared.packet_fault.PacketFault.TheVariants as pac
 use Rattle.ts_packets.specs.declared.pid_fault.PidFault.{PidFault}
 use Rattle.ts_packets.specs.declared.pid_fault.PidFault.TheVariants as pid_faults
 use Rattle.ts_packets.specs.Packet.{sync_byte, packet_identifier}
-use Rattle.ts_packets.specs.TransportStream.{piece_at, piece_count, is_of_pid, pieces_of, rest_of}
+use Rattle.ts_packets.specs.TransportStream.{piece_at, piece_count, is_of_pid, pid_pieces, rest_of}
 use Rattle.ts_packets.specs.Carried.{pid_fault}
 use Rattle.psi_tables.specs.declared.pmt.TheConstants.{PACKET_SECTION_BYTES}
 use Rattle.psi_tables.specs.declared.program_map.ProgramMap.{ProgramMap}
@@ -62,9 +62,9 @@ use Rattle.ts_demux.specs.Demux.{
   pids_of,
   IsStreamFault,
   IsFirstStreamFault,
-  packets_of,
+  pes_packets_on,
   IsDemuxed,
-  IsRefused,
+  IsDemuxRefused,
   short_file,
   tables,
   no_video,
@@ -122,7 +122,7 @@ Refused file pids n = ((fault : DemuxFault) × IsStreamFault file pids n fault) 
 
 -- by the fault on its PID
 by_fault : (file pids : List ℕ) (pid n : ℕ) → n < piece_count file → packet_identifier (piece_at file n) ≡ pid → sync_byte (piece_at file n) ≡ 0x47 → is_among pids pid ≡ true
-    → (found : Option PidFault) → pid_fault (pieces_of file pid 0 n) (piece file n) ≡ found → Refused file pids n
+    → (found : Option PidFault) → pid_fault (pid_pieces file pid 0 n) (piece file n) ≡ found → Refused file pids n
 by_fault file pids pid n within pid_is sync among (Some fault) found_is =
     let of_it : is_of_pid file pid n ≡ true = grind (arith, nat_tests) in
     inl (of_pid (PACKET_BYTES * n) fault, inr (pid, fault, among, record { within = within; behind = omega arith; of_pid = of_it; fault_is = found_is }, refl))
@@ -139,7 +139,7 @@ by_fault file pids pid n within pid_is sync among None found_is = inr none
 
 by_pid : (file pids : List ℕ) (n : ℕ) → n < piece_count file → sync_byte (piece_at file n) ≡ 0x47 → (among : Bool) → is_among pids (packet_identifier (piece_at file n)) ≡ among → Refused file pids n
 by_pid file pids n within sync true among =
-    by_fault file pids (packet_identifier (piece_at file n)) n within refl sync among (pid_fault (pieces_of file (packet_identifier (piece_at file n)) 0 n) (piece file n)) refl
+    by_fault file pids (packet_identifier (piece_at file n)) n within refl sync among (pid_fault (pid_pieces file (packet_identifier (piece_at file n)) 0 n) (piece file n)) refl
 by_pid file pids n within sync false apart = inr none
   where
     none : (fault : DemuxFault) → IsStreamFault file pids n fault → ⊥
@@ -179,7 +179,7 @@ first_or_sound file pids (suc n) = more (first_or_sound file pids n) (refused_or
 
 module _ (file : List ℕ) (program : ℕ) (drop : List ℕ) where
   abbrev Answer : Type 0
-  Answer = ((demuxed : Demuxed) × IsDemuxed file program drop demuxed) ⊎ ((fault : DemuxFault) × (fault ≢ faults.OutOfMemory) × IsRefused file program drop fault)
+  Answer = ((demuxed : Demuxed) × IsDemuxed file program drop demuxed) ⊎ ((fault : DemuxFault) × (fault ≢ faults.OutOfMemory) × IsDemuxRefused file program drop fault)
 
   by_streams : (carried : ProgramMap) (others : List ℕ) (video : Stream) (rest : List Stream) → HasCarriedMap file program drop carried others
       → carried.streams.items ≡ video ∷ rest → length carried.streams.items ≤ 1 + most_audios → pmt_length carried ≤ PACKET_SECTION_BYTES
@@ -187,7 +187,7 @@ module _ (file : List ℕ) (program : ℕ) (drop : List ℕ) where
   by_streams carried others video rest has items few short (inl (fault, first)) =
       inr (fault, stream_told file (pids_of carried) first.packet fault first.stands, streams carried others has few short first)
   by_streams carried others video rest has items few short (inr sound) = inl (
-    record { map = carried; video = (packets_of file video).units; audios = map (packets_of file) rest; rest = length (rest_of file); not_carried = others },
+    record { map = carried; video = (pes_packets_on file video).units; audios = map (pes_packets_on file) rest; rest = length (rest_of file); not_carried = others },
     record {
       tables = has;
       few = few;

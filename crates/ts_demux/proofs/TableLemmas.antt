@@ -38,7 +38,7 @@ use Rattle.std.proofs.Common.{
 use Rattle.std.proofs.lemmas.Bool.Decides.{nat_tests}
 use Rattle.std.specs.Prelude.{nat_le}
 use Rattle.std.specs.List.{range_with_len}
-use Rattle.ts_packets.specs.TransportStream.{Piece, is_of_pid, pieces_of}
+use Rattle.ts_packets.specs.TransportStream.{Piece, is_of_pid, pid_pieces}
 use Rattle.psi_tables.specs.Sections.{Found}
 use Rattle.ts_demux.specs.Tables.{piece, IsBefore, IsSection, Stop, StopsAt, StopsFirst, sections_at, sections_in}
 use Rattle.ts_demux.specs.Private.TableWalk.{IsQuiet}
@@ -121,7 +121,7 @@ map_last : (f : ℕ → Piece) (xs ys : List ℕ) → map f (xs ++ ys) ≡ map f
 map_last f [] ys = refl
 map_last f (x ∷ xs) ys = ap (λ (zs : List Piece). f x ∷ zs) (map_last f xs ys)
 
-pieces_behind : (file : List ℕ) (pid from n : ℕ) (is : Bool) → from ≤ n → is_of_pid file pid n ≡ is → pieces_of file pid from (n + 1) ≡ pieces_of file pid from n ++ cond is (piece file n ∷ []) []
+pieces_behind : (file : List ℕ) (pid from n : ℕ) (is : Bool) → from ≤ n → is_of_pid file pid n ≡ is → pid_pieces file pid from (n + 1) ≡ pid_pieces file pid from n ++ cond is (piece file n ∷ []) []
 pieces_behind file pid from n is behind of_pid =
     let count : n + 1 - from ≡ (n - from) + 1 = omega arith in
     let last : from + (n - from) ≡ n = omega arith in
@@ -130,7 +130,7 @@ pieces_behind file pid from n is behind of_pid =
     ∙ ap (map (piece file)) (filter_last (is_of_pid file pid) (range_with_len from (n - from)) n
     ∙ ap (λ (b : Bool). filter (is_of_pid file pid) (range_with_len from (n - from)) ++ cond b (n ∷ []) []) of_pid)
     ∙ map_last (piece file) (filter (is_of_pid file pid) (range_with_len from (n - from))) (cond is (n ∷ []) [])
-    ∙ ap (λ (ps : List Piece). pieces_of file pid from n ++ ps) (by_test is)
+    ∙ ap (λ (ps : List Piece). pid_pieces file pid from n ++ ps) (by_test is)
   where
     by_test : (is : Bool) → map (piece file) (cond is (n ∷ []) []) ≡ cond is (piece file n ∷ []) []
     by_test true = refl
@@ -141,13 +141,13 @@ nil_last [] = refl
 nil_last (x ∷ xs) = ap (λ (ys : List Piece). x ∷ ys) (nil_last xs)
 
 -- one of the PID is added, another isn't
-pub pieces_more : (file : List ℕ) (pid from n : ℕ) → from ≤ n → is_of_pid file pid n ≡ true → pieces_of file pid from (n + 1) ≡ pieces_of file pid from n ++ piece file n ∷ []
+pub pieces_more : (file : List ℕ) (pid from n : ℕ) → from ≤ n → is_of_pid file pid n ≡ true → pid_pieces file pid from (n + 1) ≡ pid_pieces file pid from n ++ piece file n ∷ []
 pieces_more file pid from n behind of_pid = pieces_behind file pid from n true behind of_pid
 
-pub pieces_same : (file : List ℕ) (pid from n : ℕ) → from ≤ n → is_of_pid file pid n ≡ false → pieces_of file pid from (n + 1) ≡ pieces_of file pid from n
-pieces_same file pid from n behind of_pid = pieces_behind file pid from n false behind of_pid ∙ nil_last (pieces_of file pid from n)
+pub pieces_same : (file : List ℕ) (pid from n : ℕ) → from ≤ n → is_of_pid file pid n ≡ false → pid_pieces file pid from (n + 1) ≡ pid_pieces file pid from n
+pieces_same file pid from n behind of_pid = pieces_behind file pid from n false behind of_pid ∙ nil_last (pid_pieces file pid from n)
 
-pub pieces_none : (file : List ℕ) (pid n : ℕ) → pieces_of file pid n n ≡ []
+pub pieces_none : (file : List ℕ) (pid n : ℕ) → pid_pieces file pid n n ≡ []
 pieces_none file pid n = let none : n - n ≡ 0 = omega arith in ap (λ (k : ℕ). map (piece file) (filter (is_of_pid file pid) (range_with_len n k))) none
 
 -- ---- a packet is of one PID
@@ -164,24 +164,24 @@ drop_all : {A : Type 0} (xs : List A) → drop (length xs) xs ≡ []
 drop_all [] = refl
 drop_all (x ∷ xs) = drop_all xs
 
-pieces_early : (file : List ℕ) (pid from n : ℕ) → n < from → pieces_of file pid from (n + 1) ≡ pieces_of file pid from n
+pieces_early : (file : List ℕ) (pid from n : ℕ) → n < from → pid_pieces file pid from (n + 1) ≡ pid_pieces file pid from n
 pieces_early file pid from n early =
     let none : n + 1 - from ≡ 0 = omega arith in
     let none_before : n - from ≡ 0 = omega arith in
     ap (λ (k : ℕ). map (piece file) (filter (is_of_pid file pid) (range_with_len from k))) (none ∙ sym none_before)
 
-pub pieces_other : (file : List ℕ) (pid from n : ℕ) → is_of_pid file pid n ≡ false → pieces_of file pid from (n + 1) ≡ pieces_of file pid from n
+pub pieces_other : (file : List ℕ) (pid from n : ℕ) → is_of_pid file pid n ≡ false → pid_pieces file pid from (n + 1) ≡ pid_pieces file pid from n
 pieces_other file pid from n of_pid = by_place (nat_le from n) refl
   where
-    by_place : (is : Bool) → nat_le from n ≡ is → pieces_of file pid from (n + 1) ≡ pieces_of file pid from n
+    by_place : (is : Bool) → nat_le from n ≡ is → pid_pieces file pid from (n + 1) ≡ pid_pieces file pid from n
     by_place true is = let behind : from ≤ n = grind (arith, nat_tests) in pieces_same file pid from n behind of_pid
     by_place false is = let early : n < from = grind (arith, nat_tests) in pieces_early file pid from n early
 
 -- a packet of another PID completes none
 pub none_there : (file : List ℕ) (pid from n k : ℕ) (found : Found) → is_of_pid file pid n ≡ false → IsSection file pid from n k found → ⊥
 none_there file pid from n k found of_pid is =
-    let none : sections_at file pid from n ≡ [] = ap (λ (ps : List Piece). drop (length (sections_in (pieces_of file pid from n))) (sections_in ps))
-    (pieces_other file pid from n of_pid) ∙ drop_all (sections_in (pieces_of file pid from n)) in
+    let none : sections_at file pid from n ≡ [] = ap (λ (ps : List Piece). drop (length (sections_in (pid_pieces file pid from n))) (sections_in ps))
+    (pieces_other file pid from n of_pid) ∙ drop_all (sections_in (pid_pieces file pid from n)) in
     let stands : slice_get (sections_at file pid from n) k ≡ Some found = is.stands in
     let empty : None ≡ Some found = subst (λ (xs : List Found). slice_get xs k ≡ Some found) none stands in
     absurd cc

@@ -3,7 +3,7 @@ use Rattle.std.proofs.Common.{◌≡◌, ◌≢◌, ℕ, ◌+◌, ◌<◌, ◌�
 use Rattle.std.proofs.lemmas.Bool.Decides.{nat_tests}
 use Rattle.ts_packets.specs.declared.pid_fault.PidFault.{PidFault}
 use Rattle.ts_packets.specs.Packet.{sync_byte}
-use Rattle.ts_packets.specs.TransportStream.{piece_at, piece_count, is_of_pid, pieces_of}
+use Rattle.ts_packets.specs.TransportStream.{piece_at, piece_count, is_of_pid, pid_pieces}
 use Rattle.ts_packets.specs.Carried.{pid_fault}
 use Rattle.psi_tables.specs.declared.program_map.ProgramMap.{ProgramMap}
 use Rattle.psi_tables.specs.declared.section.SectionFault.{SectionFault}
@@ -71,7 +71,7 @@ named_other file program n r pid from m k found named other is =
 -- ---- the packet itself, before its sections
 
 pub first_pat : (file : List ℕ) (program n : ℕ) (stop : Stop) → sync_byte (piece_at file n) ≡ 0x47 → is_of_pid file pat_pid n ≡ true →
-    pid_fault (pieces_of file pat_pid 0 n) (piece file n) ≡ None → StopsAt file program n 0 stop → ⊥
+    pid_fault (pid_pieces file pat_pid 0 n) (piece file n) ≡ None → StopsAt file program n 0 stop → ⊥
 first_pat file program n stop sync of_pid passes (no_sync rank none is) = none.no_sync sync
 first_pat file program n stop sync of_pid passes (pat_packet fault rank has is) = let e : None ≡ Some fault = sym passes ∙ has.fault_is in absurd cc
 first_pat file program n stop sync of_pid passes (pmt_packet packet index pid fault rank takes other has is) = other (of_one file pid pat_pid n has.of_pid of_pid)
@@ -80,15 +80,15 @@ first_pat file program n stop sync of_pid passes (pmt_section k found fault rank
 first_pat file program n stop sync of_pid passes (map_section k found map rank is map_is stop_is) = absurd (omega arith)
 
 pub first_map : (file : List ℕ) (program n pid from : ℕ) (stop : Stop) → IsNamed file program n 0 pid from → sync_byte (piece_at file n) ≡ 0x47 → pid ≢ pat_pid →
-    is_of_pid file pid n ≡ true → pid_fault (pieces_of file pid from n) (piece file n) ≡ None → StopsAt file program n 0 stop → ⊥
+    is_of_pid file pid n ≡ true → pid_fault (pid_pieces file pid from n) (piece file n) ≡ None → StopsAt file program n 0 stop → ⊥
 first_map file program n pid from stop named sync other of_pid passes (no_sync rank none is) = none.no_sync sync
 first_map file program n pid from stop named sync other of_pid passes (pat_packet fault rank has is) = other (of_one file pid pat_pid n of_pid has.of_pid)
 first_map file program n pid from stop named sync other of_pid passes (pmt_packet packet index found fault rank takes not_zero has is) =
     let same = named.only packet index found takes in
     let from_same : packet + 1 ≡ from = ap (λ (p : ℕ). p + 1) same.0 ∙ sym named.from_is in
-    let fault_there : pid_fault (pieces_of file pid from n) (piece file n) ≡ Some fault =
-    subst (λ (f : ℕ). pid_fault (pieces_of file pid f n) (piece file n) ≡ Some fault) from_same
-    (subst (λ (p : ℕ). pid_fault (pieces_of file p (packet + 1) n) (piece file n) ≡ Some fault) same.2 has.fault_is) in
+    let fault_there : pid_fault (pid_pieces file pid from n) (piece file n) ≡ Some fault =
+    subst (λ (f : ℕ). pid_fault (pid_pieces file pid f n) (piece file n) ≡ Some fault) from_same
+    (subst (λ (p : ℕ). pid_fault (pid_pieces file p (packet + 1) n) (piece file n) ≡ Some fault) same.2 has.fault_is) in
     let e : None ≡ Some fault = sym passes ∙ fault_there in
     absurd cc
 first_map file program n pid from stop named sync other of_pid passes (pat_section k found fault rank is bad stop_is) = absurd (omega arith)

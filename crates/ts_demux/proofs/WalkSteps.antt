@@ -4,7 +4,7 @@ use Rattle.std.proofs.lemmas.Bool.Decides.{nat_tests}
 use Rattle.arrayvec.specs.ArrayVec.{ArrayVec}
 use Rattle.ts_packets.specs.declared.pid_fault.PidFault.{PidFault}
 use Rattle.ts_packets.specs.Packet.{sync_byte, packet_identifier}
-use Rattle.ts_packets.specs.TransportStream.{Piece, piece_at, piece_count, is_of_pid, pieces_of}
+use Rattle.ts_packets.specs.TransportStream.{Piece, piece_at, piece_count, is_of_pid, pid_pieces}
 use Rattle.ts_packets.specs.Carried.{pid_fault}
 use Rattle.psi_tables.specs.declared.program_map.ProgramMap.{ProgramMap}
 use Rattle.psi_tables.specs.declared.section.SectionFault.{SectionFault}
@@ -65,13 +65,13 @@ use Rattle.ts_demux.proofs.TableSteps.{
 
 -- the first section that waits is the next one of the packet
 pub pat_there : (file : List ℕ) (n : ℕ) (walk : TableWalk) (found : Result (ArrayVec ℕ) SectionFault) (after : SectionReader) → (within : IsInPat file n walk) →
-    ReadsNext (pieces_of file pat_pid 0 (n + 1)) within.waiting (Some found) after →
+    ReadsNext (pid_pieces file pat_pid 0 (n + 1)) within.waiting (Some found) after →
     IsSection file pat_pid 0 n within.done (found_of found)
 pat_there file n walk found after within reads =
     record { within = within.within; stands = (next_there (sections_at file pat_pid 0 n) within.done (found_of found) reads.0 (within.waiting_is ∙ reads.1)).0 }
 
 pub pat_all_read : (file : List ℕ) (n : ℕ) (walk : TableWalk) (after : SectionReader) → (within : IsInPat file n walk) →
-    ReadsNext (pieces_of file pat_pid 0 (n + 1)) within.waiting None after → IsBetween file (n + 1) (record walk { pat = after })
+    ReadsNext (pid_pieces file pat_pid 0 (n + 1)) within.waiting None after → IsBetween file (n + 1) (record walk { pat = after })
 pat_all_read file n walk after within reads =
     let end : drop within.done (sections_at file pat_pid 0 n) ≡ [] = within.waiting_is ∙ reads.0 in
     record {
@@ -91,9 +91,9 @@ pat_refuses file n walk found fault within there bad =
     stops file walk.program n (within.done + 1) (refuse (of_section (188 * n) fault)) within.quiet (pat_section within.done found fault refl there bad refl)
 
 -- a reader that has taken nothing stands where the PID becomes known
-fresh_reader : (file : List ℕ) (n pid from : ℕ) (reader : SectionReader) → from ≡ n + 1 → Waits [] [] reader → pid ≢ pat_pid → (from ≤ n + 1) × Waits (pieces_of file pid from (n + 1)) [] reader
+fresh_reader : (file : List ℕ) (n pid from : ℕ) (reader : SectionReader) → from ≡ n + 1 → Waits [] [] reader → pid ≢ pat_pid → (from ≤ n + 1) × Waits (pid_pieces file pid from (n + 1)) [] reader
 fresh_reader file n pid from reader from_is waits other =
-    (omega arith, subst (λ (f : ℕ). Waits (pieces_of file pid f (n + 1)) [] reader) (sym from_is) (subst (λ (ps : List Piece). Waits ps [] reader) (sym (pieces_none file pid (n + 1))) waits))
+    (omega arith, subst (λ (f : ℕ). Waits (pid_pieces file pid f (n + 1)) [] reader) (sym from_is) (subst (λ (ps : List Piece). Waits ps [] reader) (sym (pieces_none file pid (n + 1))) waits))
 
 -- what the PMT's reader has taken stays, and it begins behind the packet where the PID becomes known
 map_reader_behind : (file : List ℕ) (program : ℕ) (section : List ℕ) (n : ℕ) (known after : Known) (reader : SectionReader) → IsMapReader file (n + 1) known reader →
@@ -107,7 +107,7 @@ map_reader_behind file program section n OtherPrograms OtherPrograms reader stan
 map_reader_behind file program section n OtherPrograms Nothing reader stands behind = absurd behind
 
 pub pat_goes_on : (file : List ℕ) (n : ℕ) (walk : TableWalk) (section : ArrayVec ℕ) (known : Known) (after : SectionReader) → (within : IsInPat file n walk) →
-    ReadsNext (pieces_of file pat_pid 0 (n + 1)) within.waiting (Some (Ok section)) after →
+    ReadsNext (pid_pieces file pat_pid 0 (n + 1)) within.waiting (Some (Ok section)) after →
     ReadsPat walk.program section.items n walk.known (Ok known) →
     (is_on_pat_pid walk.known ≡ true → ((fault : SectionFault) → IsBadPmt (Ok section.items) fault → ⊥) × ((map : ProgramMap) → IsMapOf walk.program (Ok section.items) map → ⊥)) →
     IsInPat file n (record { program = walk.program; known = known; pat = after; map = walk.map })
@@ -128,7 +128,7 @@ pat_goes_on file n walk section known after within reads says on_pat =
 
 -- a section that is read as one of the PMT's PID, where that is PID 0
 pub pat_map_read : (file : List ℕ) (n : ℕ) (walk : TableWalk) (section : ArrayVec ℕ) (known : Known) (after : SectionReader) (result : Result Reading DemuxFault) →
-    (within : IsInPat file n walk) → ReadsNext (pieces_of file pat_pid 0 (n + 1)) within.waiting (Some (Ok section)) after →
+    (within : IsInPat file n walk) → ReadsNext (pid_pieces file pat_pid 0 (n + 1)) within.waiting (Some (Ok section)) after →
     ReadsPat walk.program section.items n walk.known (Ok known) → is_on_pat_pid walk.known ≡ true → ReadsMap walk.program section.items (188 * n) result →
     Reads file walk.program result (IsInPat file n (record {
       program =
@@ -152,7 +152,7 @@ pat_map_read file n walk section known after (Err fault) within reads says on sa
 -- ---- the sections of a packet of the PMT's PID
 
 pub map_there : (file : List ℕ) (n : ℕ) (walk : TableWalk) (found : Result (ArrayVec ℕ) SectionFault) (after : SectionReader) → (within : IsInMap file n walk) →
-    ReadsNext (pieces_of file within.pid within.from (n + 1)) within.waiting (Some found) after →
+    ReadsNext (pid_pieces file within.pid within.from (n + 1)) within.waiting (Some found) after →
     IsSection file within.pid within.from n within.done (found_of found)
 map_there file n walk found after within reads =
     record { within = within.within; stands = (next_there (sections_at file within.pid within.from n) within.done (found_of found) reads.0 (within.waiting_is ∙ reads.1)).0 }
@@ -161,7 +161,7 @@ known_is : (file : List ℕ) (program n r pid from : ℕ) (known : Known) → kn
 known_is file program n r pid from known is named = subst (λ (k : Known). IsKnown file program n r k) (sym is) named
 
 pub map_all_read : (file : List ℕ) (n : ℕ) (walk : TableWalk) (after : SectionReader) → (within : IsInMap file n walk) →
-    ReadsNext (pieces_of file within.pid within.from (n + 1)) within.waiting None after → IsBetween file (n + 1) (record walk { map = after })
+    ReadsNext (pid_pieces file within.pid within.from (n + 1)) within.waiting None after → IsBetween file (n + 1) (record walk { map = after })
 map_all_read file n walk after within reads =
     let end : drop within.done (sections_at file within.pid within.from n) ≡ [] = within.waiting_is ∙ reads.0 in
     record {
@@ -182,7 +182,7 @@ map_refuses file n walk found fault within there bad =
     (pmt_section within.done found fault refl (map_pmt_section file walk.program n within.done within.pid within.from found within.named within.other there) bad refl)
 
 pub map_read : (file : List ℕ) (n : ℕ) (walk : TableWalk) (section : ArrayVec ℕ) (after : SectionReader) (result : Result Reading DemuxFault) → (within : IsInMap file n walk) →
-    ReadsNext (pieces_of file within.pid within.from (n + 1)) within.waiting (Some (Ok section)) after →
+    ReadsNext (pid_pieces file within.pid within.from (n + 1)) within.waiting (Some (Ok section)) after →
     ReadsMap walk.program section.items (188 * n) result →
     Reads file walk.program result (IsInMap file n (record walk { map = after }) × (walk.program ≡ walk.program)) (IsBetween file (n + 1) (record walk { map = after }) × (walk.program ≡ walk.program))
 map_read file n walk section after (Ok AllRead) within reads says = absurd says
@@ -228,20 +228,20 @@ map_reader_same file n (MapOn pid from) reader not_of stands =
 
 -- what waits behind a piece of the PID is what its packet completes
 pub waits_there : (file : List ℕ) (pid from n : ℕ) (bytes : List ℕ) (reader : SectionReader) → from ≤ n → is_of_pid file pid n ≡ true → bytes ≡ piece_at file n →
-    Waits (pieces_of file pid from n ++ record { at = 188 * n; bytes = bytes } ∷ []) (added_by (pieces_of file pid from n) (record { at = 188 * n; bytes = bytes })) reader →
-    Waits (pieces_of file pid from (n + 1)) (sections_at file pid from n) reader
+    Waits (pid_pieces file pid from n ++ record { at = 188 * n; bytes = bytes } ∷ []) (added_by (pid_pieces file pid from n) (record { at = 188 * n; bytes = bytes })) reader →
+    Waits (pid_pieces file pid from (n + 1)) (sections_at file pid from n) reader
 waits_there file pid from n bytes reader behind of_pid bytes_are waits =
-    let same : pieces_of file pid from n ++ record { at = 188 * n; bytes = bytes } ∷ [] ≡ pieces_of file pid from (n + 1) =
-    ap (λ (b : List ℕ). pieces_of file pid from n ++ record { at = 188 * n; bytes = b } ∷ []) bytes_are ∙ sym (pieces_more file pid from n behind of_pid) in
-    subst (λ (ps : List Piece). Waits ps (drop (length (sections_in (pieces_of file pid from n))) (sections_in ps)) reader) same waits
+    let same : pid_pieces file pid from n ++ record { at = 188 * n; bytes = bytes } ∷ [] ≡ pid_pieces file pid from (n + 1) =
+    ap (λ (b : List ℕ). pid_pieces file pid from n ++ record { at = 188 * n; bytes = b } ∷ []) bytes_are ∙ sym (pieces_more file pid from n behind of_pid) in
+    subst (λ (ps : List Piece). Waits ps (drop (length (sections_in (pid_pieces file pid from n))) (sections_in ps)) reader) same waits
 
 pub fault_there : (file : List ℕ) (pid from n : ℕ) (bytes : List ℕ) (fault : Option PidFault) → bytes ≡ piece_at file n →
-    pid_fault (pieces_of file pid from n) (record { at = 188 * n; bytes = bytes }) ≡ fault → pid_fault (pieces_of file pid from n) (piece file n) ≡ fault
-fault_there file pid from n bytes fault bytes_are is = subst (λ (b : List ℕ). pid_fault (pieces_of file pid from n) (record { at = 188 * n; bytes = b }) ≡ fault) bytes_are is
+    pid_fault (pid_pieces file pid from n) (record { at = 188 * n; bytes = bytes }) ≡ fault → pid_fault (pid_pieces file pid from n) (piece file n) ≡ fault
+fault_there file pid from n bytes fault bytes_are is = subst (λ (b : List ℕ). pid_fault (pid_pieces file pid from n) (record { at = 188 * n; bytes = b }) ≡ fault) bytes_are is
 
 pub pat_begins : (file : List ℕ) (n : ℕ) (walk : TableWalk) (bytes : List ℕ) (after : SectionReader) → n < piece_count file → bytes ≡ piece_at file n → sync_byte bytes ≡ 0x47 →
     is_of_pid file pat_pid n ≡ true → IsBetween file n walk →
-    TakesPiece (pieces_of file pat_pid 0 n) (record { at = 188 * n; bytes = bytes }) (Ok tt) after → IsInPat file n (record walk { pat = after })
+    TakesPiece (pid_pieces file pat_pid 0 n) (record { at = 188 * n; bytes = bytes }) (Ok tt) after → IsInPat file n (record walk { pat = after })
 pat_begins file n walk bytes after within bytes_are sync of_pid between takes = record {
   within = within;
   of_pid = of_pid;
@@ -257,7 +257,7 @@ pat_begins file n walk bytes after within bytes_are sync of_pid between takes = 
 
 pub pat_refuses_packet : (file : List ℕ) (n : ℕ) (walk : TableWalk) (bytes : List ℕ) (fault : PidFault) → n < piece_count file → bytes ≡ piece_at file n →
     is_of_pid file pat_pid n ≡ true → IsBetween file n walk →
-    pid_fault (pieces_of file pat_pid 0 n) (record { at = 188 * n; bytes = bytes }) ≡ Some fault → StopsFirst file walk.program (refuse (of_pid (188 * n) fault))
+    pid_fault (pid_pieces file pat_pid 0 n) (record { at = 188 * n; bytes = bytes }) ≡ Some fault → StopsFirst file walk.program (refuse (of_pid (188 * n) fault))
 pat_refuses_packet file n walk bytes fault within bytes_are on_pid between is =
     stops file walk.program n 0 (refuse (of_pid (188 * n) fault)) between.quiet
     (pat_packet fault refl (record { within = within; behind = omega arith; of_pid = on_pid; fault_is = fault_there file pat_pid 0 n bytes (Some fault) bytes_are is }) refl)
@@ -276,7 +276,7 @@ map_begins file n walk OtherPrograms bytes after is within bytes_are sync on bet
 map_begins file n walk (MapOn pid from) bytes after is within bytes_are sync on between takes =
     let named : IsNamed file walk.program n 0 pid from = subst (λ (k : Known). IsKnown file walk.program n 0 k) is between.known in
     let stands = subst (λ (k : Known). IsMapReader file n k walk.map) is between.map on.0 in
-    let taken = takes (pieces_of file pid from n) (188 * n) stands.1 in
+    let taken = takes (pid_pieces file pid from n) (188 * n) stands.1 in
     record {
       pid = pid;
       from = from;
@@ -305,14 +305,14 @@ map_refuses_packet file n walk OtherPrograms bytes fault after is within bytes_a
 map_refuses_packet file n walk (MapOn pid from) bytes fault after is within bytes_are on between takes =
     let named : IsNamed file walk.program n 0 pid from = subst (λ (k : Known). IsKnown file walk.program n 0 k) is between.known in
     let stands = subst (λ (k : Known). IsMapReader file n k walk.map) is between.map on.0 in
-    let has : pid_fault (pieces_of file pid from n) (piece file n) ≡ Some fault = fault_there file pid from n bytes (Some fault) bytes_are (takes (pieces_of file pid from n) (188 * n) stands.1) in
+    let has : pid_fault (pid_pieces file pid from n) (piece file n) ≡ Some fault = fault_there file pid from n bytes (Some fault) bytes_are (takes (pid_pieces file pid from n) (188 * n) stands.1) in
     let from_next : from ≡ named.at + 1 = named.from_is in
     stops file walk.program n 0 (refuse (of_pid (188 * n) fault)) between.quiet
     (pmt_packet named.at named.index pid fault refl named.takes on.0 (record {
       within = within;
       behind = omega (arith, stands.0);
       of_pid = on.1;
-      fault_is = subst (λ (f : ℕ). pid_fault (pieces_of file pid f n) (piece file n) ≡ Some fault) from_next has;
+      fault_is = subst (λ (f : ℕ). pid_fault (pid_pieces file pid f n) (piece file n) ≡ Some fault) from_next has;
     }) refl)
 
 -- a packet of neither PID

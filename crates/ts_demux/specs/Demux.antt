@@ -3,7 +3,7 @@ use Rattle.std.specs.Prelude.{◌≡◌, ℕ, ◌+◌, ◌*◌, ◌<◌, ◌≤�
 use Rattle.stream_constants.specs.declared.limits.TheConstants.{AUDIOS_MOST}
 use Rattle.stream_constants.specs.declared.packets.TheConstants.{PACKET_BYTES}
 use Rattle.ts_packets.specs.declared.pid_fault.PidFault.{PidFault}
-use Rattle.ts_packets.specs.TransportStream.{Piece, piece_count, pieces_of, rest_of}
+use Rattle.ts_packets.specs.TransportStream.{Piece, piece_count, pid_pieces, rest_of}
 use Rattle.ts_packets.specs.Carried.{carried}
 use Rattle.psi_tables.specs.declared.pmt.TheConstants.{PACKET_SECTION_BYTES}
 use Rattle.psi_tables.specs.declared.program_map.ProgramMap.{ProgramMap}
@@ -73,8 +73,8 @@ abbrev pub units_in : List Piece → List PesUnit
 units_in pieces = map (λ packet. record { at = packet.at; bytes = packet.bytes }) (gathered (carried pieces))
 
 -- the PES packets of a stream
-abbrev pub packets_of : List ℕ → Stream → AudioStream
-packets_of file stream = record { pid = stream.pid; units = units_in (pieces_of file stream.pid 0 (piece_count file)) }
+abbrev pub pes_packets_on : List ℕ → Stream → AudioStream
+pes_packets_on file stream = record { pid = stream.pid; units = units_in (pid_pieces file stream.pid 0 (piece_count file)) }
 
 -- ---- what is answered
 
@@ -87,20 +87,20 @@ pub record IsDemuxed (file : List ℕ) (program : ℕ) (drop : List ℕ) (demuxe
   pub video : Stream
   pub audios : List Stream
   pub streams : demuxed.map.streams.items ≡ video ∷ audios
-  pub video_packets : demuxed.video ≡ (packets_of file video).units
-  pub audio_packets : demuxed.audios ≡ map (packets_of file) audios
+  pub video_packets : demuxed.video ≡ (pes_packets_on file video).units
+  pub audio_packets : demuxed.audios ≡ map (pes_packets_on file) audios
   pub rest_is : demuxed.rest ≡ length (rest_of file)
 
 -- The first refusal: a short file, then the tables', then those of the map, then the streams'.
-pub data IsRefused (file : List ℕ) (program : ℕ) (drop : List ℕ) (fault : DemuxFault) : Type 0 where
-  short_file : length file < PACKET_BYTES → fault ≡ ShortFile 0 → IsRefused file program drop fault
-  tables : PACKET_BYTES ≤ length file → IsTablesFault file program fault → IsRefused file program drop fault
-  no_video : (whole : ProgramMap) → PACKET_BYTES ≤ length file → HasMap file program whole → video_of whole.streams.items ≡ None → fault ≡ NoVideo 0 → IsRefused file program drop fault
-  audios : (carried_map : ProgramMap) (others : List ℕ) → HasCarriedMap file program drop carried_map others → HasManyStreams carried_map → fault ≡ ProgramLimit 0 → IsRefused file program drop fault
+pub data IsDemuxRefused (file : List ℕ) (program : ℕ) (drop : List ℕ) (fault : DemuxFault) : Type 0 where
+  short_file : length file < PACKET_BYTES → fault ≡ ShortFile 0 → IsDemuxRefused file program drop fault
+  tables : PACKET_BYTES ≤ length file → IsTablesFault file program fault → IsDemuxRefused file program drop fault
+  no_video : (whole : ProgramMap) → PACKET_BYTES ≤ length file → HasMap file program whole → video_of whole.streams.items ≡ None → fault ≡ NoVideo 0 → IsDemuxRefused file program drop fault
+  audios : (carried_map : ProgramMap) (others : List ℕ) → HasCarriedMap file program drop carried_map others → HasManyStreams carried_map → fault ≡ ProgramLimit 0 → IsDemuxRefused file program drop fault
   long_map : (carried_map : ProgramMap) (others : List ℕ) → HasCarriedMap file program drop carried_map others
       → length carried_map.streams.items ≤ 1 + most_audios → PACKET_SECTION_BYTES < pmt_length carried_map → fault ≡ PmtTooLong 0
-      → IsRefused file program drop fault
+      → IsDemuxRefused file program drop fault
   streams : (carried_map : ProgramMap) (others : List ℕ) → HasCarriedMap file program drop carried_map others
       → length carried_map.streams.items ≤ 1 + most_audios → pmt_length carried_map ≤ PACKET_SECTION_BYTES
-      → IsFirstStreamFault file (pids_of carried_map) fault → IsRefused file program drop fault
-  memory : fault ≡ OutOfMemory → IsRefused file program drop fault
+      → IsFirstStreamFault file (pids_of carried_map) fault → IsDemuxRefused file program drop fault
+  memory : fault ≡ OutOfMemory → IsDemuxRefused file program drop fault

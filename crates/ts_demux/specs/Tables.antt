@@ -5,14 +5,14 @@ use Rattle.stream_constants.specs.declared.packets.TheConstants.{PACKET_BYTES}
 use Rattle.payload_lists.specs.Payload.{Payload}
 use Rattle.ts_packets.specs.declared.pid_fault.PidFault.{PidFault}
 use Rattle.ts_packets.specs.Packet.{sync_byte}
-use Rattle.ts_packets.specs.TransportStream.{Piece, piece_at, piece_count, is_of_pid, pieces_of}
+use Rattle.ts_packets.specs.TransportStream.{Piece, piece_at, piece_count, is_of_pid, pid_pieces}
 use Rattle.ts_packets.specs.Carried.{carried, pid_fault}
 use Rattle.psi_tables.specs.declared.program_map.ProgramMap.{ProgramMap}
 use Rattle.psi_tables.specs.declared.section.SectionFault.{SectionFault}
 use Rattle.psi_tables.specs.declared.section.SectionFault.TheVariants.{BadSection}
 use Rattle.psi_tables.specs.Section.{IsCurrent}
 use Rattle.psi_tables.specs.Sections.{Found, sections_of}
-use Rattle.psi_tables.specs.Pat.{IsPat, map_pid}
+use Rattle.psi_tables.specs.Pat.{IsPat, pat_map_pid}
 use Rattle.psi_tables.specs.PmtOf.{pmt_of}
 use Rattle.ts_demux.specs.declared.demux_fault.DemuxFault.{DemuxFault}
 use Rattle.ts_demux.specs.declared.demux_fault.DemuxFault.TheVariants.{Sync, NoPat, NoProgram, NoPmt}
@@ -38,7 +38,7 @@ pub record HasPidFault (file : List ℕ) (pid from n : ℕ) (fault : PidFault) :
   pub within : n < piece_count file
   pub behind : from ≤ n
   pub of_pid : is_of_pid file pid n ≡ true
-  pub fault_is : pid_fault (pieces_of file pid from n) (piece file n) ≡ Some fault
+  pub fault_is : pid_fault (pid_pieces file pid from n) (piece file n) ≡ Some fault
 
 -- the payloads that pieces carry
 abbrev pub payloads_in : List Piece → List Payload
@@ -51,7 +51,7 @@ sections_in pieces = sections_of (payloads_in pieces)
 -- the sections that the n-th packet completes or breaks: what it adds to those in the packets of the PID before it, from
 -- number `from` on
 abbrev pub sections_at : List ℕ → ℕ → ℕ → ℕ → List Found
-sections_at file pid from n = drop (length (sections_in (pieces_of file pid from n))) (sections_in (pieces_of file pid from (n + 1)))
+sections_at file pid from n = drop (length (sections_in (pid_pieces file pid from n))) (sections_in (pid_pieces file pid from (n + 1)))
 
 -- this is the k-th section that the n-th packet completes or breaks
 pub record IsSection (file : List ℕ) (pid from n k : ℕ) (found : Found) : Type 0 where
@@ -66,7 +66,7 @@ IsBefore packet rank other other_rank = (packet < other) ⊎ ((packet ≡ other)
 
 -- a current PAT section says that the map of the program is on this PID
 abbrev pub Names : ℕ → Found → ℕ → Type 0
-Names program (Ok section) pid = (programs : List (ℕ × ℕ)) × IsPat programs section × (map_pid program programs ≡ Some pid)
+Names program (Ok section) pid = (programs : List (ℕ × ℕ)) × IsPat programs section × (pat_map_pid program programs ≡ Some pid)
 Names program (Err fault) pid = ⊥
 
 -- The first section of PID 0 that names the program: the number of the packet that completes it, its number among those that

@@ -1,6 +1,6 @@
 ghost use Rattle.std.specs.Prelude.{◌≡◌, map, [], ◌∷◌, ◌++◌, MatchResult, IfErr, IfOk};
 ghost use Rattle.ts_demux.specs.declared.demux_fault.DemuxFault.TheVariants.{OutOfMemory};
-ghost use Rattle.ts_demux.specs.Demux.{IsDemuxed, IsRefused};
+ghost use Rattle.ts_demux.specs.Demux.{IsDemuxed, IsDemuxRefused};
 ghost use Rattle.ts_demux.specs.Private.PesGatherer.{stream_gathered};
 
 use crate::carried_streams::carry_streams;
@@ -23,7 +23,7 @@ const STREAMS_CARRIED: usize = 1 + AUDIOS_MOST;
 /// the file's length, the packets and sections of its tables up to the program's map, the streams of that map, and then
 /// all packets of the carried streams. Places are bytes of the file.
 pub fn demux(alloc: Global, file: &[u8], program: u16, drop: &[u16]) -> Result<Demuxed, DemuxFault>
-    ensures { MatchResult result (IsDemuxed file.now program drop.now) (IsRefused file.now program drop.now) }
+    ensures { MatchResult result (IsDemuxed file.now program drop.now) (IsDemuxRefused file.now program drop.now) }
 {
     if file.len() < PACKET_BYTES {
         return Err(DemuxFault::ShortFile { at: 0 });

@@ -3,7 +3,7 @@ ghost use Rattle.std.specs.Prelude.{◌≡◌, ◌≢◌, ◌⊎◌, ℕ, List};
 ghost use Rattle.ts_demux.specs.declared.demux_fault.DemuxFault.{DemuxFault};
 ghost use Rattle.ts_demux.specs.declared.demux_fault.DemuxFault.TheVariants.{OutOfMemory};
 ghost use Rattle.ts_demux.specs.declared.demuxed.Demuxed.{Demuxed};
-ghost use Rattle.ts_demux.specs.Demux.{IsDemuxed, IsRefused};
+ghost use Rattle.ts_demux.specs.Demux.{IsDemuxed, IsDemuxRefused};
 
 use crate::table_walk::read_map;
 
@@ -13,16 +13,16 @@ pub fn one_answer()
     ensures demuxed { (file : List ℕ) (program : ℕ) (drop : List ℕ) (one other : Demuxed) →
         IsDemuxed file program drop one → IsDemuxed file program drop other → one ≡ other }
     ensures refused { (file : List ℕ) (program : ℕ) (drop : List ℕ) (one other : DemuxFault) → one ≢ OutOfMemory → other ≢ OutOfMemory →
-        IsRefused file program drop one → IsRefused file program drop other → one ≡ other }
+        IsDemuxRefused file program drop one → IsDemuxRefused file program drop other → one ≡ other }
     ensures never_both { (file : List ℕ) (program : ℕ) (drop : List ℕ) (demuxed : Demuxed) (fault : DemuxFault) →
-        IsDemuxed file program drop demuxed → IsRefused file program drop fault → fault ≡ OutOfMemory }
+        IsDemuxed file program drop demuxed → IsDemuxRefused file program drop fault → fault ≡ OutOfMemory }
 {}
 
 /// Every file in memory has an answer: something is taken out of it, or a refusal stands that isn't want of memory. Where its
 /// tables end is found by reading them; the rest is counted out over the definitions.
 pub fn some_answer(file: &[u8], program: u16, drop: &[u16])
     ensures { ((demuxed : Demuxed) × IsDemuxed file.now program drop.now demuxed)
-        ⊎ ((fault : DemuxFault) × (fault ≢ OutOfMemory) × IsRefused file.now program drop.now fault) }
+        ⊎ ((fault : DemuxFault) × (fault ≢ OutOfMemory) × IsDemuxRefused file.now program drop.now fault) }
 {
     let _tables = read_map(file, program);
 }

@@ -2,7 +2,7 @@
 use Rattle.std.proofs.Common.{◌≡◌, ℕ, false, List, [], ◌∷◌, ◌++◌, length, replicate, Some, None, refl}
 use Rattle.ts_packets.specs.declared.packet_fault.PacketFault.TheVariants.{Sync, ErrorFlag, Scrambled, BadField}
 use Rattle.bit_lists.specs.Fields.{bit, bits}
-use Rattle.ts_packets.specs.Packet.{PacketRecord, refusal, packet_of, written}
+use Rattle.ts_packets.specs.Packet.{PacketRecord, transport_refusal, packet_of, written}
 use Rattle.ts_packets.specs.Carried.{joined_payload}
 use Rattle.ts_packets.specs.TransportStream.{packets, rest_of}
 
@@ -41,50 +41,50 @@ pcr_packet-written = refl
 abbrev framed : ℕ → ℕ → ℕ → List ℕ
 framed control length flags = 0x47 ∷ 0x01 ∷ 0x01 ∷ control ∷ length ∷ flags ∷ replicate 182 0x00
 
-control_00 : refusal (framed 0x00 183 0) ≡ Some BadField
+control_00 : transport_refusal (framed 0x00 183 0) ≡ Some BadField
 unfolding bit bits
 control_00 = refl
 
-control_10_with_183 : refusal (framed 0x20 183 0) ≡ None
+control_10_with_183 : transport_refusal (framed 0x20 183 0) ≡ None
 unfolding bit bits
 control_10_with_183 = refl
 
-control_10_with_182 : refusal (framed 0x20 182 0) ≡ Some BadField
+control_10_with_182 : transport_refusal (framed 0x20 182 0) ≡ Some BadField
 unfolding bit bits
 control_10_with_182 = refl
 
-control_11_with_182 : refusal (framed 0x30 182 0) ≡ None
+control_11_with_182 : transport_refusal (framed 0x30 182 0) ≡ None
 unfolding bit bits
 control_11_with_182 = refl
 
-control_11_with_183 : refusal (framed 0x30 183 0) ≡ Some BadField
+control_11_with_183 : transport_refusal (framed 0x30 183 0) ≡ Some BadField
 unfolding bit bits
 control_11_with_183 = refl
 
 -- what stands in the place of the flags is payload
-control_11_with_0 : refusal (framed 0x30 0 0x10) ≡ None
+control_11_with_0 : transport_refusal (framed 0x30 0 0x10) ≡ None
 unfolding bit bits
 control_11_with_0 = refl
 
-pcr_in_7_bytes : refusal (framed 0x30 7 0x10) ≡ None
+pcr_in_7_bytes : transport_refusal (framed 0x30 7 0x10) ≡ None
 unfolding bit bits
 pcr_in_7_bytes = refl
 
-pcr_in_6_bytes : refusal (framed 0x30 6 0x10) ≡ Some BadField
+pcr_in_6_bytes : transport_refusal (framed 0x30 6 0x10) ≡ Some BadField
 unfolding bit bits
 pcr_in_6_bytes = refl
 
 -- ---- the first of several faults
 
-all_four : refusal (0x46 ∷ 0x80 ∷ 0x00 ∷ 0xC0 ∷ replicate 184 0x00) ≡ Some Sync
+all_four : transport_refusal (0x46 ∷ 0x80 ∷ 0x00 ∷ 0xC0 ∷ replicate 184 0x00) ≡ Some Sync
 unfolding bit bits
 all_four = refl
 
-three : refusal (0x47 ∷ 0x80 ∷ 0x00 ∷ 0xC0 ∷ replicate 184 0x00) ≡ Some ErrorFlag
+three : transport_refusal (0x47 ∷ 0x80 ∷ 0x00 ∷ 0xC0 ∷ replicate 184 0x00) ≡ Some ErrorFlag
 unfolding bit bits
 three = refl
 
-two : refusal (0x47 ∷ 0x00 ∷ 0x00 ∷ 0xC0 ∷ replicate 184 0x00) ≡ Some Scrambled
+two : transport_refusal (0x47 ∷ 0x00 ∷ 0x00 ∷ 0xC0 ∷ replicate 184 0x00) ≡ Some Scrambled
 unfolding bit bits
 two = refl
 

@@ -4,7 +4,7 @@ use Rattle.std.specs.Prelude.{◌↔◌}
 use Rattle.std.specs.List.{AllByRecursion, flat_map, range_with_len}
 use Rattle.std.specs.Fork.{slice_chunk}
 use Rattle.std.proofs.lemmas.List.{take_at, drop_at, drop-drop}
-use Rattle.ts_packets.specs.Packet.{PacketRecord, IsPacket, refusal, packet_of, fields_of, IsWritable, written}
+use Rattle.ts_packets.specs.Packet.{PacketRecord, IsPacket, transport_refusal, packet_of, fields_of, IsWritable, written}
 use Rattle.ts_packets.specs.TransportStream.{packets, rest_of}
 use Rattle.ts_packets.proofs.Refusals.{packet-passes, passes-packet, packet-found}
 use Rattle.ts_packets.proofs.WrittenPackets.{written-packet}
@@ -14,7 +14,7 @@ pub one_record : (packet other : PacketRecord) (bytes : List ℕ) → IsPacket p
 one_record packet other bytes is other_is = is.fields ∙ sym other_is.fields
 
 -- 188 bytes have a record exactly where nothing refuses them
-pub has_record : (bytes : List ℕ) → length bytes ≡ 188 → (refusal bytes ≡ None) ↔ ((packet : PacketRecord) × IsPacket packet bytes)
+pub has_record : (bytes : List ℕ) → length bytes ≡ 188 → (transport_refusal bytes ≡ None) ↔ ((packet : PacketRecord) × IsPacket packet bytes)
 has_record bytes size = (λ passes. (fields_of bytes, passes-packet _ bytes size passes refl), λ found. packet-passes found.0 bytes found.1)
 
 -- ---- a file whose first piece has 188 bytes

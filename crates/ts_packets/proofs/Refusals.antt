@@ -24,7 +24,7 @@ use Rattle.ts_packets.specs.Packet.{
   IsFieldSound,
   IsPacket,
   fields_of,
-  refusal,
+  transport_refusal,
   packet_of,
 }
 use Rattle.ts_packets.specs.Private.Packet.{HasFieldAndPayload}
@@ -48,7 +48,7 @@ passes-sound bytes passes =
     }
 
 -- a packet has no fault
-pub packet-passes : (packet : PacketRecord) (bytes : List ℕ) → IsPacket packet bytes → refusal bytes ≡ None
+pub packet-passes : (packet : PacketRecord) (bytes : List ℕ) → IsPacket packet bytes → transport_refusal bytes ≡ None
 packet-passes packet bytes is = grind (arith, nat_tests, is.sync, is.error, is.scrambling, sound-passes bytes is.control)
 
 -- a search that finds nothing
@@ -57,7 +57,7 @@ finds_none fault true others e = absurd cc
 finds_none fault false others e = (refl, e)
 
 -- what has no fault is a packet
-pub passes-packet : (packet : PacketRecord) (bytes : List ℕ) → length bytes ≡ 188 → refusal bytes ≡ None → packet ≡ fields_of bytes → IsPacket packet bytes
+pub passes-packet : (packet : PacketRecord) (bytes : List ℕ) → length bytes ≡ 188 → transport_refusal bytes ≡ None → packet ≡ fields_of bytes → IsPacket packet bytes
 passes-packet packet bytes size passes is =
     let sync = finds_none Sync (has_fault bytes Sync) (find (has_fault bytes) (ErrorFlag ∷ Scrambled ∷ BadField ∷ [])) passes in
     let error = finds_none ErrorFlag (has_fault bytes ErrorFlag) (find (has_fault bytes) (Scrambled ∷ BadField ∷ [])) sync.1 in
@@ -110,7 +110,7 @@ pub is_packet : (bytes : List ℕ) (pid : ℕ) (field : Option AdaptationField) 
     bit_and (get_or bytes 1 0) 128 ≡ 0 → bit_and (get_or bytes 3 0) 192 ≡ 0 → HasFieldAndPayload bytes field payload →
     IsPacket (record_from pid (not (nat_eq (bit_and (get_or bytes 1 0) 64) 0)) (bit_and (get_or bytes 3 0) 15) field payload) bytes
 is_packet bytes pid field payload size front error scrambling sound =
-    let passes : refusal bytes ≡ None = grind (arith, nat_tests, elements, front.0, error, scrambling, sound.0) in
+    let passes : transport_refusal bytes ≡ None = grind (arith, nat_tests, elements, front.0, error, scrambling, sound.0) in
     let start-is : not (nat_eq (bit_and (get_or bytes 1 0) 64) 0) ≡ (payload_unit_start_indicator bytes == 1) = grind (arith, nat_tests, elements) in
     let counter-is : bit_and (get_or bytes 3 0) 15 ≡ continuity_counter bytes = and_15 (get_or bytes 3 0) ∙ sym (continuity_counter-is bytes) in
     passes-packet _ bytes size passes (same_record front.1 start-is counter-is sound.1 sound.2)

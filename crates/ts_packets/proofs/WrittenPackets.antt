@@ -22,7 +22,7 @@ use Rattle.ts_packets.specs.Packet.{
   IsPayloadLength,
   IsWritable,
   written,
-  written_header,
+  written_packet_header,
   written_control,
 }
 use Rattle.ts_packets.proofs.Elements.{
@@ -54,9 +54,9 @@ record IsFront (packet : PacketRecord) (bytes : List ℕ) : Type 0 where
 control_below : (packet : PacketRecord) → written_control packet < 4
 control_below packet = omega (arith, flag_below (is_some packet.field), flag_below (nat_lt 0 (length packet.payload)))
 
-front : (packet : PacketRecord) (rest : List ℕ) → packet.pid < 2 ^ 13 → packet.counter < 2 ^ 4 → IsFront packet (written_header packet ++ rest)
+front : (packet : PacketRecord) (rest : List ℕ) → packet.pid < 2 ^ 13 → packet.counter < 2 ^ 4 → IsFront packet (written_packet_header packet ++ rest)
 front packet rest pid_fits counter_fits =
-    let bytes : List ℕ = written_header packet ++ rest in
+    let bytes : List ℕ = written_packet_header packet ++ rest in
     let start_fits : flag packet.start < 2 = flag_below packet.start in
     let control_fits : written_control packet < 4 = control_below packet in
     let start-is : payload_unit_start_indicator bytes ≡ flag packet.start = omega (arith, payload_unit_start_indicator-is bytes) in
@@ -78,13 +78,13 @@ payload_flag n = elim (cases_lt 0 n) [
 ]
 
 -- payload alone
-alone : (packet : PacketRecord) → packet.pid < 2 ^ 13 → packet.counter < 2 ^ 4 → packet.field ≡ None → length packet.payload ≡ 184 → IsPacket packet (written_header packet ++ packet.payload)
+alone : (packet : PacketRecord) → packet.pid < 2 ^ 13 → packet.counter < 2 ^ 4 → packet.field ≡ None → length packet.payload ≡ 184 → IsPacket packet (written_packet_header packet ++ packet.payload)
 alone packet pid_fits counter_fits none size =
-    let bytes : List ℕ = written_header packet ++ packet.payload in
+    let bytes : List ℕ = written_packet_header packet ++ packet.payload in
     let says = front packet packet.payload pid_fits counter_fits in
     let control-is : adaptation_field_control bytes ≡ 1 = says.control ∙ rw (none, size) refl in
     record {
-      size = omega (arith, length-append (written_header packet) packet.payload);
+      size = omega (arith, length-append (written_packet_header packet) packet.payload);
       sync = says.sync;
       error = says.error;
       scrambling = says.scrambling;
@@ -100,10 +100,10 @@ alone packet pid_fits counter_fits none size =
 -- a field, and payload behind it
 beside : (packet : PacketRecord) (field : AdaptationField) (n : ℕ) → packet.pid < 2 ^ 13 → packet.counter < 2 ^ 4 → packet.field ≡ Some field
     → IsPcrInRange field → least_length field ≤ n → n + length packet.payload ≡ 183 →
-    IsPacket packet (written_header packet ++ (n ∷ (written_field_bytes field n ++ packet.payload)))
+    IsPacket packet (written_packet_header packet ++ (n ∷ (written_field_bytes field n ++ packet.payload)))
 beside packet field n pid_fits counter_fits some below room size =
     let behind : List ℕ = written_field_bytes field n ++ packet.payload in
-    let bytes : List ℕ = written_header packet ++ (n ∷ behind) in
+    let bytes : List ℕ = written_packet_header packet ++ (n ∷ behind) in
     let says = front packet (n ∷ behind) pid_fits counter_fits in
     let control-is : adaptation_field_control bytes ≡ 2 + flag (nat_lt 0 (length packet.payload)) = says.control ∙ rw some refl in
     let there : has_field bytes ≡ true = le-leb 2 (adaptation_field_control bytes) (omega (arith, control-is)) in
@@ -131,7 +131,7 @@ beside packet field n pid_fits counter_fits some below room size =
 
 -- the bytes of a packet, were this its field
 abbrev with_field : PacketRecord → Option AdaptationField → List ℕ
-with_field packet field = written_header packet ++ (written_field field (183 - length packet.payload) ++ packet.payload)
+with_field packet field = written_packet_header packet ++ (written_field field (183 - length packet.payload) ++ packet.payload)
 
 -- what is written is a packet
 pub written-packet : (packet : PacketRecord) → IsWritable packet → IsPacket packet (written packet)

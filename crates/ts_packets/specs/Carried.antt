@@ -6,8 +6,8 @@ use Rattle.std.specs.Str.{bytes_eq}
 use Rattle.payload_lists.specs.Payload.{CarriedPayload}
 use Rattle.ts_packets.specs.declared.pid_fault.PidFault.{PidFault}
 use Rattle.ts_packets.specs.declared.pid_fault.PidFault.TheVariants.{Refused, Discontinuity, Gap}
-use Rattle.ts_packets.specs.Packet.{PacketRecord, packet_of, refusal}
-use Rattle.ts_packets.specs.TransportStream.{Piece, piece_count, pieces_of}
+use Rattle.ts_packets.specs.Packet.{PacketRecord, packet_of, transport_refusal}
+use Rattle.ts_packets.specs.TransportStream.{Piece, piece_count, pid_pieces}
 
 -- a packet, and its place in the file
 pub record PlacedPacket : Type 0 where
@@ -51,7 +51,7 @@ carried pieces = map carried_by (without_repeats (payload_packets pieces))
 
 -- the payload of a PID in a file, joined
 abbrev pub joined_payload : List ℕ → ℕ → List ℕ
-joined_payload file pid = flat_map (λ carried. carried.payload.bytes) (carried (pieces_of file pid 0 (piece_count file)))
+joined_payload file pid = flat_map (λ carried. carried.payload.bytes) (carried (pid_pieces file pid 0 (piece_count file)))
 
 -- ---- the counter rule
 
@@ -82,4 +82,4 @@ order_fault before packet = if is_late_discontinuity before packet then Some Dis
 
 -- the first fault of a packet behind the others of its PID: its own first fault, or a discontinuity, or a gap
 abbrev pub pid_fault : List Piece → Piece → Option PidFault
-pid_fault before piece = option_or (option_map Refused (refusal piece.bytes)) (option_and_then (order_fault before) (packet_of piece.bytes))
+pid_fault before piece = option_or (option_map Refused (transport_refusal piece.bytes)) (option_and_then (order_fault before) (packet_of piece.bytes))

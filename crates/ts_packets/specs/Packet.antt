@@ -146,12 +146,12 @@ has_fault bytes Scrambled = not (transport_scrambling_control bytes == 0)
 has_fault bytes BadField = not (is_length_allowed (adaptation_field_control bytes) (adaptation_field_length bytes)) || is_too_short (field_bytes bytes)
 
 -- the first fault that the bytes have
-abbrev pub refusal : List ℕ → Option PacketFault
-refusal bytes = find (has_fault bytes) (Sync ∷ ErrorFlag ∷ Scrambled ∷ BadField ∷ [])
+abbrev pub transport_refusal : List ℕ → Option PacketFault
+transport_refusal bytes = find (has_fault bytes) (Sync ∷ ErrorFlag ∷ Scrambled ∷ BadField ∷ [])
 
 -- what is kept of bytes that nothing refuses
 abbrev pub packet_of : List ℕ → Option PacketRecord
-packet_of bytes = if is_none (refusal bytes) then Some (fields_of bytes) else None
+packet_of bytes = if is_none (transport_refusal bytes) then Some (fields_of bytes) else None
 
 -- ---- how it is written
 
@@ -172,9 +172,9 @@ abbrev pub written_control : PacketRecord → ℕ
 written_control packet = 2 * flag (is_some packet.field) + flag (nat_lt 0 (length packet.payload))
 
 -- sync byte, start, PID, control and counter in their places; error, priority and scrambling are 0
-abbrev pub written_header : PacketRecord → List ℕ
-written_header packet = to_be_bytes w32 (2 ^ 24 * SYNC_BYTE + 2 ^ 22 * flag packet.start + 2 ^ 8 * packet.pid + 2 ^ 4 * written_control packet + packet.counter)
+abbrev pub written_packet_header : PacketRecord → List ℕ
+written_packet_header packet = to_be_bytes w32 (2 ^ 24 * SYNC_BYTE + 2 ^ 22 * flag packet.start + 2 ^ 8 * packet.pid + 2 ^ 4 * written_control packet + packet.counter)
 
 -- the one written spelling of a packet
 abbrev pub written : PacketRecord → List ℕ
-written packet = written_header packet ++ written_field packet.field (longest_field - length packet.payload) ++ packet.payload
+written packet = written_packet_header packet ++ written_field packet.field (longest_field - length packet.payload) ++ packet.payload

@@ -33,5 +33,5 @@ abbrev pub is_of_pid : List ℕ → ℕ → ℕ → Bool
 is_of_pid file pid n = packet_identifier (piece_at file n) == pid
 
 -- the packets of a PID, from a number up to another, which isn't one of them
-abbrev pub pieces_of : List ℕ → ℕ → ℕ → ℕ → List Piece
-pieces_of file pid from to = map (λ n. record { at = PACKET_BYTES * n; bytes = piece_at file n }) (filter (is_of_pid file pid) (range_with_len from (to - from)))
+abbrev pub pid_pieces : List ℕ → ℕ → ℕ → ℕ → List Piece
+pid_pieces file pid from to = map (λ n. record { at = PACKET_BYTES * n; bytes = piece_at file n }) (filter (is_of_pid file pid) (range_with_len from (to - from)))

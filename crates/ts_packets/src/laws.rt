@@ -3,14 +3,14 @@
 ghost use Rattle.std.specs.Prelude.{◌≡◌, ℕ, ◌<◌, ◌↔◌, List, [], ◌∷◌, ◌++◌, length, map, Some, None};
 ghost use Rattle.std.specs.List.{AllByRecursion, flat_map};
 ghost use Rattle.stream_constants.specs.declared.packets.TheConstants.{PACKET_BYTES};
-ghost use Rattle.ts_packets.specs.Packet.{PacketRecord, IsPacket, IsWritable, packet_of, refusal, written};
+ghost use Rattle.ts_packets.specs.Packet.{PacketRecord, IsPacket, IsWritable, packet_of, transport_refusal, written};
 ghost use Rattle.ts_packets.specs.TransportStream.{Piece, packets, rest_of};
 ghost use Rattle.ts_packets.specs.Carried.{carried};
 
 /// Bytes of a packet's length are one packet at most, and one exactly where nothing refuses them.
 pub fn one_packet()
     ensures one { (packet other : PacketRecord) (bytes : List ℕ) → IsPacket packet bytes → IsPacket other bytes → packet ≡ other }
-    ensures passed { (bytes : List ℕ) → length bytes ≡ PACKET_BYTES → (refusal bytes ≡ None) ↔ ((packet : PacketRecord) × IsPacket packet bytes) }
+    ensures passed { (bytes : List ℕ) → length bytes ≡ PACKET_BYTES → (transport_refusal bytes ≡ None) ↔ ((packet : PacketRecord) × IsPacket packet bytes) }
 {}
 
 /// A file is read packet by packet, and packets that are written one behind another are read as the same ones.

@@ -1,7 +1,7 @@
 ghost use Rattle.std.specs.Prelude.{◌≡◌, ◌≢◌, ℕ, true, false, ◌+◌, ◌*◌, ◌^◌, ◌<◌, ◌≤◌, length, IfOk, IfErr, IfSome, IsOkAnd};
 ghost use Rattle.std.specs.Option.{option_map};
 ghost use Rattle.std.specs.Result.{result_ok, result_err};
-ghost use Rattle.ts_packets.specs.Packet.{PacketRecord, record_of, sync_byte, packet_identifier, adaptation_field_control, adaptation_field_length, is_length_allowed, IsPacket, refusal, packet_of, IsWritable, written, written_header, has_fault};
+ghost use Rattle.ts_packets.specs.Packet.{PacketRecord, record_of, sync_byte, packet_identifier, adaptation_field_control, adaptation_field_length, is_length_allowed, IsPacket, transport_refusal, packet_of, IsWritable, written, written_packet_header, has_fault};
 ghost use Rattle.ts_packets.specs.Private.Packet.{HasFieldAndPayload};
 ghost use Rattle.ts_packets.specs.Carried.{is_discontinuous, is_repeat};
 ghost use Rattle.ts_packets.specs.declared.packet_fault.PacketFault.TheVariants.{BadField};
@@ -58,7 +58,7 @@ impl<'a> Packet<'a> {
         ensures packet { IfOk result (λ packet. IsPacket (record_of packet) bytes.now) }
         ensures only { (packet : PacketRecord) → IsPacket packet bytes.now → IsOkAnd result (λ read. record_of read ≡ packet) }
         // What is answered is the first fault, and where there is none the packet.
-        ensures fault { result_err result ≡ refusal bytes.now }
+        ensures fault { result_err result ≡ transport_refusal bytes.now }
         ensures exact { option_map record_of (result_ok result) ≡ packet_of bytes.now }
     {
         let pid = pid_of(bytes)?;
@@ -114,7 +114,7 @@ impl<'a> Packet<'a> {
 
     fn header(&self) -> [u8; 4]
         requires { IsWritable (record_of self.now) }
-        ensures { result ≡ written_header (record_of self.now) }
+        ensures { result ≡ written_packet_header (record_of self.now) }
     {
         let start = if self.start { START_INDICATOR } else { 0 };
         let field = if self.field.is_some() {

@@ -49,7 +49,7 @@ use Rattle.slot_rule.specs.declared.queued_packet.QueuedPacket.{QueuedPacket}
 use Rattle.slot_rule.specs.declared.row.Row.{Row}
 use Rattle.slot_rule.specs.declared.row.Row.TheVariants.{Reserved, Carries, Empty}
 use Rattle.slot_rule.specs.Queues.{Queue, queues_of}
-use Rattle.slot_rule.specs.Buffers.{packets_in, payload_in, tb_subticks, outstanding, eb_or_b_bytes, is_of}
+use Rattle.slot_rule.specs.Buffers.{packets_in, payload_in, queue_tb_subticks, outstanding, eb_or_b_bytes, is_of}
 use Rattle.slot_rule.specs.Schedule.{Goes, FollowRule}
 use Rattle.slot_rule.proofs.Places.{All-at_place}
 use Rattle.slot_rule.proofs.RuleFronts.{by_push}
@@ -80,13 +80,13 @@ passes_of slot subticks arrivals = kept is_payload (parts arrivals) (departures 
 
 -- what goes on of the packets in the rows
 abbrev pub passes : (slot stream : ℕ) → QueueKind → Headers → List Row → List ℕ
-passes slot stream kind headers rows = passes_of slot (tb_subticks kind) (arrivals_from 0 stream kind headers rows)
+passes slot stream kind headers rows = passes_of slot (queue_tb_subticks kind) (arrivals_from 0 stream kind headers rows)
 
 -- what goes on of a packet after the rows
 abbrev pub packet_passes : (slot stream : ℕ) → QueueKind → Headers → List Row → Row → List ℕ
 packet_passes slot stream kind headers rows row =
     kept is_payload (parts_of (arrival_of stream (length rows) headers row))
-    (departures (tb_subticks kind) (tb_free slot stream kind headers rows) (spaced (PACKET_BYTES * length rows * byte_subticks slot) (byte_subticks slot) PACKET_BYTES))
+    (departures (queue_tb_subticks kind) (tb_free slot stream kind headers rows) (spaced (PACKET_BYTES * length rows * byte_subticks slot) (byte_subticks slot) PACKET_BYTES))
 
 -- each byte has a part
 abbrev pub HasParts : (slot stream : ℕ) → QueueKind → Headers → List Row → Type 0
@@ -94,7 +94,7 @@ HasParts slot stream kind headers rows = length (parts (arrivals_from 0 stream k
 
 pub passes-none : (slot stream : ℕ) (kind : QueueKind) (headers : Headers) (rows : List Row) (row : Row) → packets_in stream kind row ≡ 0
     → passes slot stream kind headers (rows ++ row ∷ []) ≡ passes slot stream kind headers rows
-passes-none slot stream kind headers rows row none = ap (λ arrivals. passes_of slot (tb_subticks kind) arrivals) (arrivals_from-none stream kind headers rows row none)
+passes-none slot stream kind headers rows row none = ap (λ arrivals. passes_of slot (queue_tb_subticks kind) arrivals) (arrivals_from-none stream kind headers rows row none)
 
 pub passes-one : (slot stream : ℕ) (kind : QueueKind) (headers : Headers) (rows : List Row) (row : Row) → packets_in stream kind row ≡ 1 → HasParts slot stream kind headers rows
     → passes slot stream kind headers (rows ++ row ∷ []) ≡ passes slot stream kind headers rows ++ packet_passes slot stream kind headers rows row
@@ -103,7 +103,7 @@ passes-one slot stream kind headers rows row one has =
     let arrival = arrival_of stream (length rows) headers row in
     let come = bytes_come slot stream kind headers rows in
     let own = spaced (PACKET_BYTES * length rows * byte_subticks slot) (byte_subticks slot) PACKET_BYTES in
-    let t = tb_subticks kind in
+    let t = queue_tb_subticks kind in
     let as_many : length (parts arrivals) ≡ length (departures t 0 come) = has ∙ sym (length-departures t 0 come) in
     rw (arrivals_from-one stream kind headers rows row one, parts-push arrivals arrival, arrives-push slot arrivals arrival, departures-append t 0 come own)
     (kept-append is_payload (parts arrivals) (parts_of arrival) (departures t 0 come) (departures t (tb_free slot stream kind headers rows) own) as_many)
@@ -163,9 +163,9 @@ little-one slot stream headers rows row packet one own_packet payload_is fits ga
     ∙ ap (λ more. gone_before ++ more) (append-nil (replicate packet.payload gone)) in
     let more : passes slot stream Audio headers (rows ++ row ∷ []) ≡ before ++ own = passes-one slot stream Audio headers rows row one little.has in
     let arrival = arrival_of stream (length rows) headers row in
-    let leave = departures (tb_subticks Audio) (tb_free slot stream Audio headers rows) (spaced start (byte_subticks slot) PACKET_BYTES) in
+    let leave = departures (queue_tb_subticks Audio) (tb_free slot stream Audio headers rows) (spaced start (byte_subticks slot) PACKET_BYTES) in
     let low : Spaced 0 start own =
-    kept-rises is_payload start (parts_of arrival) leave (departures-from (tb_subticks Audio) (tb_free slot stream Audio headers rows) start (byte_subticks slot) PACKET_BYTES) in
+    kept-rises is_payload start (parts_of arrival) leave (departures-from (queue_tb_subticks Audio) (tb_free slot stream Audio headers rows) start (byte_subticks slot) PACKET_BYTES) in
     let small : length own ≤ packet.payload = omega (arith, length-kept_packet arrival leave fits, payload_is) in
     record {
       has = has_parts-one slot stream Audio headers rows row one fits little.has;

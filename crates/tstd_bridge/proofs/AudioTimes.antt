@@ -49,7 +49,7 @@ use Rattle.slot_rule.specs.declared.queued_packet.QueuedPacket.{QueuedPacket}
 use Rattle.slot_rule.specs.declared.row.Row.{Row}
 use Rattle.slot_rule.specs.declared.row.Row.TheVariants.{Reserved, Carries, Empty}
 use Rattle.slot_rule.specs.Queues.{Queue, queues_of}
-use Rattle.slot_rule.specs.Buffers.{packets_in, payload_in, tb_subticks, tb_work, is_of}
+use Rattle.slot_rule.specs.Buffers.{packets_in, payload_in, queue_tb_subticks, tb_work, is_of}
 use Rattle.slot_rule.specs.Schedule.{Goes, FollowRule, NoMiss, AllSent, IsSchedule, SentLate, end_with_margin, mb_or_tb_work}
 use Rattle.slot_rule.proofs.Places.{All-at_place}
 use Rattle.slot_rule.proofs.RuleFronts.{by_push}
@@ -146,7 +146,7 @@ timely-one slot stream headers rows row packet one own_packet payload_is fits fr
     let start = PACKET_BYTES * length rows * byte_subticks slot in
     let arrival = arrival_of stream (length rows) headers row in
     let come = spaced start (byte_subticks slot) PACKET_BYTES in
-    let t = tb_subticks Audio in
+    let t = queue_tb_subticks Audio in
     let free = tb_free slot stream Audio headers rows in
     let leave = departures t free come in
     let same_gone : gones stream headers (rows ++ row ∷ []) ≡ gones stream headers rows ++ replicate packet.payload gone =

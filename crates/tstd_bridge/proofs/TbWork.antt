@@ -4,7 +4,7 @@ use Rattle.std.proofs.lemmas.Bool.{cases_lt}
 use Rattle.std.proofs.lemmas.List.{length_push}
 use Rattle.stream_constants.specs.declared.packets.TheConstants.{PACKET_BYTES}
 use Rattle.slot_rule.specs.declared.queue_kind.QueueKind.{QueueKind}
-use Rattle.slot_rule.specs.Buffers.{packets_in, tb_subticks, slot_subticks, tb_work}
+use Rattle.slot_rule.specs.Buffers.{packets_in, queue_tb_subticks, slot_subticks, tb_work}
 use Rattle.slot_rule.specs.declared.row.Row.{Row}
 use Rattle.slot_rule.proofs.RuleFronts.{by_push}
 use Rattle.slot_rule.proofs.RuleWork.{tb_work-push, packets_in-le}
@@ -21,12 +21,12 @@ pub tb_work-none : (slot stream : ℕ) (kind : QueueKind) (rows : List Row) (row
 tb_work-none slot stream kind rows row none = rw (tb_work-push slot stream kind rows row, none) (omega arith)
 
 pub tb_work-one : (slot stream : ℕ) (kind : QueueKind) (rows : List Row) (row : Row) → packets_in stream kind row ≡ 1
-    → tb_work slot stream kind (rows ++ row ∷ []) ≡ (tb_work slot stream kind rows + PACKET_BYTES * tb_subticks kind) - slot_subticks slot
+    → tb_work slot stream kind (rows ++ row ∷ []) ≡ (tb_work slot stream kind rows + PACKET_BYTES * queue_tb_subticks kind) - slot_subticks slot
 tb_work-one slot stream kind rows row one = rw (tb_work-push slot stream kind rows row, one) (omega arith)
 
 -- when TB is free after the rows
 abbrev pub tb_free : (slot stream : ℕ) → QueueKind → Headers → List Row → ℕ
-tb_free slot stream kind headers rows = last_departure (tb_subticks kind) 0 (bytes_come slot stream kind headers rows)
+tb_free slot stream kind headers rows = last_departure (queue_tb_subticks kind) 0 (bytes_come slot stream kind headers rows)
 
 tb_free-nil : (slot stream : ℕ) (kind : QueueKind) (headers : Headers) → tb_free slot stream kind headers [] ≡ 0
 unfolding last_departure
@@ -51,7 +51,7 @@ tb_free-most slot stream kind headers =
               let first = PACKET_BYTES * length rows * byte_subticks slot in
               let free = tb_free slot stream kind headers rows in
               let work = tb_work slot stream kind rows in
-              let t = tb_subticks kind in
+              let t = queue_tb_subticks kind in
               let busy : free ≤ first + work = omega (arith, before) in
               let packet : last_departure t free (spaced first (byte_subticks slot) PACKET_BYTES)
               ≤ (first + byte_subticks slot * PACKET_BYTES) + ((work + t * PACKET_BYTES) - byte_subticks slot * PACKET_BYTES) =

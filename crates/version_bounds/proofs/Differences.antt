@@ -16,7 +16,7 @@ use Rattle.picture_grammar.specs.Block.{first_place}
 use Rattle.picture_grammar.specs.Macroblock.{block_way, no_block}
 use Rattle.requantiser.specs.Blocks.{AreCoarserBlocks, KeepsFirstLevel, block_of_one, no_blocks}
 use Rattle.requantiser.specs.Distortion.{coefficient_of_macroblock, difference_of, squared_difference}
-use Rattle.requantiser.specs.Levels.{coefficient_at, level_at, place_of, scale_of, weight_at}
+use Rattle.requantiser.specs.Levels.{coefficient_at, level_at, scan_place, scale_of, weight_at}
 use Rattle.requantiser.specs.Macroblocks.{HasBlocks, IsCoarserAt}
 use Rattle.requantiser.specs.Steps.{IsStep, Step}
 use Rattle.requantiser.specs.declared.version_state.VersionState.{VersionState}
@@ -91,10 +91,10 @@ module _ (seq : SeqState) (coding : PicCoding) (from : Macroblock) where
   near-at : (m : ℕ) (inner : Bool) (code before : ℕ) (made : Option Macroblock) (c d i index : ℕ) → IsCoarserAt seq coding m inner code before (Some from) made
       → unsigned_abs (coefficient_of_macroblock seq coding c (Some from) i index -ℤ coefficient_of_macroblock seq coding d made i index) ≤ 2048
   near-at m inner code before None c d i index at =
-      let place : ℕ = place_of coding.alternate_scan index in
+      let place : ℕ = scan_place coding.alternate_scan index in
       coefficient-near (level_at (way_of i) (slice_index_or from.blocks i no_block) place) (weight_at seq coding from.kind.intra place) (scale_of coding c) from.kind.intra
   near-at m inner code before (Some to) c d i index (mapped, is_mapped, is, keeps) =
-      let place : ℕ = place_of coding.alternate_scan index in
+      let place : ℕ = scan_place coding.alternate_scan index in
       let same : block_way coding to.kind i ≡ way_of i = ap (λ (k : Kind). block_way coding k i) is.kind in
       subst (λ (w : BlockWay). unsigned_abs (coefficient_at seq coding (way_of i) c (slice_index_or from.blocks i no_block) place
       -ℤ coefficient_at seq coding w d (slice_index_or to.blocks i no_block) place) ≤ 2048) (sym same)

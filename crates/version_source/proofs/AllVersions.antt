@@ -6,20 +6,20 @@ use Rattle.bit_lists.proofs.ByteLemmas.{AreBytes-take}
 use Rattle.syntax_types.specs.declared.picture.SeqState.{SeqState}
 use Rattle.picture_grammar.specs.Picture.{MayPrecede}
 use Rattle.picture_reader.proofs.Parts.{are-dropped}
-use Rattle.pes_units.specs.VideoHeader.{written_header}
+use Rattle.pes_units.specs.VideoHeader.{written_pes_header}
 use Rattle.program_reader.specs.declared.program.Program.{Program}
 use Rattle.program_reader.specs.declared.program.UnitSource.{UnitSource}
 use Rattle.version_maker.specs.declared.version.UnitVersion.{UnitVersion}
 use Rattle.version_maker.specs.declared.version.VersionSize.{VersionSize}
 use Rattle.version_maker.specs.Versions.{size_of}
 use Rattle.version_maker.proofs.Lists.{some-list}
-use Rattle.version_source.specs.Sendable.{IsSendable, SpellInOrder, bytes_of}
+use Rattle.version_source.specs.Sendable.{IsSendable, SpellInOrder, bytes_of_unit}
 use Rattle.version_source.specs.Pieces.{pes_packet}
 use Rattle.version_source.specs.Versions.{AreAllVersions, AreVideoVersions, chosen_bytes}
 use Rattle.version_source.proofs.StateLemmas.{state-left}
 
 -- the bytes of a unit are bytes
-are-unit-bytes : (es : List ℕ) (unit : UnitSource) → AreBytes es → AreBytes (bytes_of es unit)
+are-unit-bytes : (es : List ℕ) (unit : UnitSource) → AreBytes es → AreBytes (bytes_of_unit es unit)
 are-unit-bytes es unit are = AreBytes-take (unit.end - unit.begin) (drop unit.begin es) (are-dropped unit.begin es are)
 
 -- ---- some
@@ -28,8 +28,8 @@ video-versions : (es coarser : List ℕ) (before : Option SeqState) (units : Lis
     → (versions : List (List UnitVersion)) × AreVideoVersions es coarser before units versions
 video-versions es coarser before [] are may spelled = ([], tt)
 video-versions es coarser before (unit ∷ units) are may (after, leaves, spelled) =
-    let (first, those) = some-list before leaves.picture (bytes_of es unit) coarser may (are-unit-bytes es unit are) leaves.whole in
-    let (more, others) = video-versions es coarser (Some after) units are (state-left before (bytes_of es unit) after may leaves) spelled in
+    let (first, those) = some-list before leaves.picture (bytes_of_unit es unit) coarser may (are-unit-bytes es unit are) leaves.whole in
+    let (more, others) = video-versions es coarser (Some after) units are (state-left before (bytes_of_unit es unit) after may leaves) spelled in
     (first ∷ more, (after, leaves, those, others))
 
 pub all-versions : (programs : List Program) (ratios : List (List ℕ)) → length ratios ≡ length programs → All IsSendable programs → All (λ program. AreBytes program.video) programs
@@ -57,6 +57,6 @@ size-chosen (v ∷ vs) zero = refl
 size-chosen (v ∷ vs) (suc k) = size-chosen vs k
 
 pub packet-size : (unit : UnitSource) (versions : List UnitVersion) (index : ℕ)
-    → length (pes_packet unit (chosen_bytes versions index)) ≡ length (written_header unit.times) + (slice_index_or (map size_of versions) index none).bytes
+    → length (pes_packet unit (chosen_bytes versions index)) ≡ length (written_pes_header unit.times) + (slice_index_or (map size_of versions) index none).bytes
 packet-size unit versions index =
-    length-append (written_header unit.times) (chosen_bytes versions index) ∙ ap (λ (n : ℕ). length (written_header unit.times) + n) (size-chosen versions index)
+    length-append (written_pes_header unit.times) (chosen_bytes versions index) ∙ ap (λ (n : ℕ). length (written_pes_header unit.times) + n) (size-chosen versions index)

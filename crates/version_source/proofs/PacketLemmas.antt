@@ -3,12 +3,12 @@ use Rattle.std.proofs.Common.{◌≡◌, ℕ, zero, suc, ◌<◌, List, [], ◌�
 use Rattle.std.specs.List.{AllZip, slice_get}
 use Rattle.syntax_types.specs.declared.picture.Picture.{Picture}
 use Rattle.syntax_types.specs.declared.picture.SeqState.{SeqState}
-use Rattle.pes_units.specs.VideoHeader.{written_header}
+use Rattle.pes_units.specs.VideoHeader.{written_pes_header}
 use Rattle.program_reader.specs.declared.program.UnitSource.{UnitSource}
 use Rattle.version_maker.specs.declared.version.UnitVersion.{UnitVersion}
 use Rattle.version_maker.specs.Versions.{AreVersions, IsCoarserVersion, IsVersionAt}
 use Rattle.version_maker.proofs.Lists.{one-list}
-use Rattle.version_source.specs.Sendable.{bytes_of}
+use Rattle.version_source.specs.Sendable.{bytes_of_unit}
 use Rattle.version_source.specs.Versions.{chosen_bytes}
 use Rattle.version_source.specs.Private.Sending.{IsPacketOf}
 
@@ -39,8 +39,8 @@ version-chosen before unit coarser index version versions is are =
     (subst (λ (vs : List UnitVersion). IfSome (slice_get vs index) (λ v. v.bytes ≡ version)) same is.at)
 
 -- a header before the version of this number is the PES packet
-pub packet-of : (es coarser : List ℕ) (before : Option SeqState) (unit : UnitSource) (index : ℕ) (bytes version packet : List ℕ) → bytes ≡ bytes_of es unit
-    → IsVersionAt before bytes coarser index version → packet ≡ written_header unit.times ++ version → IsPacketOf es coarser before unit index packet
+pub packet-of : (es coarser : List ℕ) (before : Option SeqState) (unit : UnitSource) (index : ℕ) (bytes version packet : List ℕ) → bytes ≡ bytes_of_unit es unit
+    → IsVersionAt before bytes coarser index version → packet ≡ written_pes_header unit.times ++ version → IsPacketOf es coarser before unit index packet
 packet-of es coarser before unit index bytes version packet same is made versions are =
-    let here : IsVersionAt before (bytes_of es unit) coarser index version = subst (λ (b : List ℕ). IsVersionAt before b coarser index version) same is in
-    made ∙ ap (λ (v : List ℕ). written_header unit.times ++ v) (version-chosen before (bytes_of es unit) coarser index version versions here are)
+    let here : IsVersionAt before (bytes_of_unit es unit) coarser index version = subst (λ (b : List ℕ). IsVersionAt before b coarser index version) same is in
+    made ∙ ap (λ (v : List ℕ). written_pes_header unit.times ++ v) (version-chosen before (bytes_of_unit es unit) coarser index version versions here are)

@@ -59,8 +59,8 @@ use Rattle.program_reader.specs.declared.program.Program.{Program}
 use Rattle.program_reader.specs.declared.program.UnitSource.{UnitSource}
 use Rattle.program_reader.specs.declared.timed_picture.TimedPicture.{TimedPicture}
 use Rattle.program_reader.specs.Audio.{AreAudioSources, ArePieces, HaveFrames, IsAudioSource, IsPiece, packet_size, piece_places, piece_size, placed_pieces, taken_of}
-use Rattle.program_reader.specs.Packets.{payload_of, placed_from, taken}
-use Rattle.program_reader.specs.PictureTimes.{first_picture, is_first_in, no_times, times_at, times_of_unit}
+use Rattle.program_reader.specs.Packets.{pes_payload_of, placed_from, taken}
+use Rattle.program_reader.specs.PictureTimes.{first_picture, is_first_picture_in, no_times, times_at, times_of_unit}
 use Rattle.program_reader.specs.Programs.{AreUnitSources, IsProgram, video_bytes, video_packets}
 use Rattle.picture_reader.specs.Picture.{IsPictureOf}
 use Rattle.program_reader.specs.Units.{AreInOrder, AreKept, all, but_last, state_behind}
@@ -102,10 +102,10 @@ header-said bytes = by_flags (nat_le 2 (pts_dts_flags bytes)) (pts_dts_flags byt
 
 picture-said : (es : List ℕ) (from : ℕ) (packets : List PesUnit) (at : ℕ) → CanBeSaid (times_at es (placed_from from packets) at)
 picture-said es from [] at = nothing-said
-picture-said es from (p ∷ ps) at = by_test (is_first_in es at (placed_at from p)) (picture-said es (from + length (payload_of p)) ps at)
+picture-said es from (p ∷ ps) at = by_test (is_first_picture_in es at (placed_at from p)) (picture-said es (from + length (pes_payload_of p)) ps at)
   where
-    by_test : (here : Bool) → CanBeSaid (option_map_or (λ packet. packet.header.times) (find (is_first_in es at) (placed_from (from + length (payload_of p)) ps)) no_times)
-        → CanBeSaid (option_map_or (λ packet. packet.header.times) (cond here (Some (placed_at from p)) (find (is_first_in es at) (placed_from (from + length (payload_of p)) ps))) no_times)
+    by_test : (here : Bool) → CanBeSaid (option_map_or (λ packet. packet.header.times) (find (is_first_picture_in es at) (placed_from (from + length (pes_payload_of p)) ps)) no_times)
+        → CanBeSaid (option_map_or (λ packet. packet.header.times) (cond here (Some (placed_at from p)) (find (is_first_picture_in es at) (placed_from (from + length (pes_payload_of p)) ps))) no_times)
     by_test true later = header-said p.bytes
     by_test false later = later
 
@@ -201,7 +201,7 @@ places-inside : (total at from : ℕ) (packets : List PesUnit) → All HasPayloa
     → All (IsInside total) (placed_pieces at (placed_from from packets))
 places-inside total at from [] payloads fits = All-nil (IsInside total)
 places-inside total at from (p ∷ ps) payloads fits =
-    let end : ℕ = from + length (payload_of p) in
+    let end : ℕ = from + length (pes_payload_of p) in
     let some : HasPayload p = All-head HasPayload p ps payloads in
     let both : length (bytes_of_all (p ∷ ps)) ≡ length p.bytes + length (bytes_of_all ps) = length-append p.bytes (bytes_of_all ps) in
     let size : packet_size (placed_at from p) ≡ length p.bytes = omega (arith, some, length-drop (header_length p.bytes) p.bytes) in

@@ -4,7 +4,7 @@ use Rattle.std.specs.Prelude.{ℕ, ◌+◌, ◌-◌, ◌*◌, ◌/◌, ◌<◌, 
 use Rattle.std.specs.List.{range_with_len}
 use Rattle.stream_constants.specs.declared.packets.TheConstants.{PAYLOAD_BYTES}
 use Rattle.payload_lists.specs.Payload.{Payload}
-use Rattle.pes_units.specs.VideoHeader.{written_header}
+use Rattle.pes_units.specs.VideoHeader.{written_pes_header}
 use Rattle.mux_writer.specs.Pieces.{Pieces}
 use Rattle.program_reader.specs.declared.program.AudioPiece.{AudioPiece}
 use Rattle.program_reader.specs.declared.program.AudioSource.{AudioSource}
@@ -17,7 +17,7 @@ use Rattle.version_source.specs.Versions.{chosen_bytes}
 
 -- the PES packet of a unit in a version: a header with the unit's times, then the version
 abbrev pub pes_packet : UnitSource → (version : List ℕ) → List ℕ
-pes_packet unit version = written_header unit.times ++ version
+pes_packet unit version = written_pes_header unit.times ++ version
 
 -- how many packets carry so many bytes
 abbrev pub packets_for : (bytes : ℕ) → ℕ

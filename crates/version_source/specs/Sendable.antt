@@ -18,12 +18,12 @@ abbrev pub place_of : UnitSource → ℕ × ℕ
 place_of unit = (unit.begin, unit.end)
 
 -- the bytes of a unit of a video
-abbrev pub bytes_of : List ℕ → UnitSource → List ℕ
-bytes_of es unit = unit_bytes es (place_of unit)
+abbrev pub bytes_of_unit : List ℕ → UnitSource → List ℕ
+bytes_of_unit es unit = unit_bytes es (place_of unit)
 
 -- behind the state, or behind none, the unit spells a picture whose slices hold all its macroblocks, and leaves this state in
 -- force (ISO/IEC 13818-2, 6.1.2 and 6.2.2)
-pub record Leaves (before : Option SeqState) (unit : List ℕ) (after : SeqState) : Type 0 where
+pub record LeavesState (before : Option SeqState) (unit : List ℕ) (after : SeqState) : Type 0 where
   pub picture : Picture
   pub whole : IsPictureOf before unit picture
   pub after_is : picture.seq ≡ after
@@ -31,7 +31,7 @@ pub record Leaves (before : Option SeqState) (unit : List ℕ) (after : SeqState
 -- units of a video spell pictures in order, each behind the state that the one before leaves
 abbrev pub SpellInOrder : (es : List ℕ) → Option SeqState → List UnitSource → Type 0
 SpellInOrder es before [] = Unit {0}
-SpellInOrder es before (unit ∷ units) = (after : SeqState) × Leaves before (bytes_of es unit) after × SpellInOrder es (Some after) units
+SpellInOrder es before (unit ∷ units) = (after : SeqState) × LeavesState before (bytes_of_unit es unit) after × SpellInOrder es (Some after) units
 
 -- a unit stands in the video, is no longer than a unit may be, and a PES header can say its times (13818-1, 2.4.3.7)
 pub record IsUnitOf (es : List ℕ) (unit : UnitSource) : Type 0 where

@@ -8,13 +8,13 @@ use Rattle.program_reader.specs.declared.program.Program.{Program}
 use Rattle.program_reader.specs.declared.program.UnitSource.{UnitSource}
 use Rattle.version_maker.specs.declared.version.UnitVersion.{UnitVersion}
 use Rattle.version_maker.specs.Versions.{AreVersions}
-use Rattle.version_source.specs.Sendable.{Leaves, bytes_of}
+use Rattle.version_source.specs.Sendable.{LeavesState, bytes_of_unit}
 
 -- the versions of units of a video at some ratios, each unit behind the state that the one before leaves
 abbrev pub AreVideoVersions : (es coarser : List ℕ) → Option SeqState → List UnitSource → List (List UnitVersion) → Type 0
 AreVideoVersions es coarser before [] [] = Unit {0}
 AreVideoVersions es coarser before (unit ∷ units) (versions ∷ more) =
-    (after : SeqState) × Leaves before (bytes_of es unit) after × AreVersions before (bytes_of es unit) coarser versions
+    (after : SeqState) × LeavesState before (bytes_of_unit es unit) after × AreVersions before (bytes_of_unit es unit) coarser versions
     × AreVideoVersions es coarser (Some after) units more
 AreVideoVersions es coarser before units versions = ⊥
 

@@ -1,12 +1,12 @@
 //! What holds of the versions of programs and of the pieces of PES packets.
 ghost use Rattle.std.specs.Prelude.{◌≡◌, ◌≤◌, ◌+◌, ℕ, List, All, length, map, slice_index_or};
 ghost use Rattle.bit_lists.specs.Fields.{AreBytes};
-ghost use Rattle.pes_units.specs.VideoHeader.{written_header};
+ghost use Rattle.pes_units.specs.VideoHeader.{written_pes_header};
 ghost use Rattle.slot_rule.specs.Queues.{payloads};
 ghost use Rattle.ts_demux.specs.declared.demuxed.Demuxed.{Demuxed};
 ghost use Rattle.program_reader.specs.declared.program.Program.{Program};
 ghost use Rattle.program_reader.specs.declared.program.UnitSource.{UnitSource};
-ghost use Rattle.program_reader.specs.Programs.{IsProgram, IsProgramOf};
+ghost use Rattle.program_reader.specs.Programs.{IsProgram, IsProgramOfFile};
 ghost use Rattle.version_maker.specs.declared.version.UnitVersion.{UnitVersion};
 ghost use Rattle.version_maker.specs.Versions.{size_of};
 ghost use Rattle.version_source.specs.Pieces.{pes_packet, pes_pieces};
@@ -32,13 +32,13 @@ pub fn pieces_are_as_queued()
 /// A PES packet is as long as its header and the size of its version together.
 pub fn packet_has_size_of_version()
     ensures { (unit : UnitSource) (versions : List UnitVersion) (index : ℕ) → length (pes_packet unit (chosen_bytes versions index))
-        ≡ length (written_header unit.times) + (slice_index_or (map size_of versions) index (record { bytes = 0; distortion = 0 })).bytes }
+        ≡ length (written_pes_header unit.times) + (slice_index_or (map size_of versions) index (record { bytes = 0; distortion = 0 })).bytes }
 {}
 
 /// A program that was read can be sent.
 pub fn programs_can_be_sent()
     ensures taken_out { (start : ℕ) (demuxed : Demuxed) (program : Program) → IsProgram start demuxed program → IsSendable program }
-    ensures of_file { (file : List ℕ) (number : ℕ) (drop : List ℕ) (start : ℕ) (program : Program) → IsProgramOf file number drop start program → IsSendable program }
+    ensures of_file { (file : List ℕ) (number : ℕ) (drop : List ℕ) (start : ℕ) (program : Program) → IsProgramOfFile file number drop start program → IsSendable program }
 {}
 
 /// The items of a slice of bytes are bytes.

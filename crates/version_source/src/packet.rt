@@ -2,12 +2,12 @@
 ghost use Rattle.std.specs.Prelude.{◌≡◌, ◌≤◌, ◌<◌, ◌++◌, length, take, drop, IfOk};
 ghost use Rattle.std.specs.Option.{option_copied};
 ghost use Rattle.syntax_types.specs.declared.picture.SeqState.{SeqState};
-ghost use Rattle.pes_units.specs.VideoHeader.{AreInRange, IsBesidePts, written_header};
+ghost use Rattle.pes_units.specs.VideoHeader.{AreInRange, IsBesidePts, written_pes_header};
 ghost use Rattle.picture_grammar.specs.Picture.{MayPrecede};
 ghost use Rattle.mux_writer.specs.Pieces.{HasPayloadSize, IsFilledWith};
 ghost use Rattle.version_maker.specs.Versions.{IsVersionAt};
 ghost use Rattle.version_source.specs.Pieces.{audio_payload, packets_for, piece_of};
-ghost use Rattle.version_source.specs.Sendable.{IsPieceOf, IsUnitOf, Leaves, bytes_of};
+ghost use Rattle.version_source.specs.Sendable.{IsPieceOf, IsUnitOf, LeavesState, bytes_of_unit};
 ghost use Rattle.version_source.specs.Private.Sending.{IsPacketOf};
 
 use list_types::{ListOf, OutOfMemory};
@@ -30,7 +30,7 @@ pub fn unit_packet(
 ) -> Result<ListOf<u8>, OutOfMemory>
     requires unit { IsUnitOf es.now unit.now }
     requires before { MayPrecede (option_copied before) }
-    requires picture { (after : SeqState) × Leaves (option_copied before) (bytes_of es.now unit.now) after }
+    requires picture { (after : SeqState) × LeavesState (option_copied before) (bytes_of_unit es.now unit.now) after }
     requires index { index ≤ length coarser.now }
     ensures { IfOk result (IsPacketOf es.now coarser.now (option_copied before.entry) unit.now index) }
 {
@@ -51,7 +51,7 @@ fn unit_version(
 ) -> Result<ListOf<u8>, OutOfMemory>
     requires unit { length unit.now ≤ UNIT_BYTES_MOST }
     requires before { MayPrecede (option_copied before) }
-    requires picture { (after : SeqState) × Leaves (option_copied before) unit.now after }
+    requires picture { (after : SeqState) × LeavesState (option_copied before) unit.now after }
     requires index { index ≤ length coarser.now }
     ensures { IfOk result (IsVersionAt (option_copied before.entry) unit.now coarser.now index) }
 {
@@ -67,7 +67,7 @@ fn unit_version(
 /// The bytes of a unit of a video.
 pub fn unit_bytes<'a>(es: &'a [u8], unit: &UnitSource) -> &'a [u8]
     requires { IsUnitOf es.now unit.now }
-    ensures bytes { result.now ≡ bytes_of es.now unit.now }
+    ensures bytes { result.now ≡ bytes_of_unit es.now unit.now }
     ensures short { length result.now ≤ 1048576 }
 {
     &es[unit.begin as usize..unit.end as usize]
@@ -81,7 +81,7 @@ fn with_header(
 ) -> Result<ListOf<u8>, OutOfMemory>
     requires in_range { AreInRange times.now }
     requires beside { IsBesidePts times.now }
-    ensures { IfOk result (λ packet. packet ≡ written_header times.now ++ version.now) }
+    ensures { IfOk result (λ packet. packet ≡ written_pes_header times.now ++ version.now) }
 {
     let mut header = [0; MOST_HEADER_BYTES];
     let len = write_video_header(times, &mut header);

@@ -2,7 +2,7 @@
 ghost use Rattle.std.specs.Prelude.{IfOk};
 ghost use Rattle.std.specs.Option.{option_copied};
 ghost use Rattle.syntax_types.specs.declared.picture.SeqState.{SeqState};
-ghost use Rattle.version_source.specs.Sendable.{IsUnitOf, Leaves, bytes_of};
+ghost use Rattle.version_source.specs.Sendable.{IsUnitOf, LeavesState, bytes_of_unit};
 
 use crate::packet::unit_bytes;
 use list_types::OutOfMemory;
@@ -19,8 +19,8 @@ pub fn state_behind(
     before: Option<&SeqState>,
 ) -> Result<SeqState, OutOfMemory>
     requires unit { IsUnitOf es.now unit.now }
-    requires picture { (after : SeqState) × Leaves (option_copied before) (bytes_of es.now unit.now) after }
-    ensures { IfOk result (Leaves (option_copied before.entry) (bytes_of es.now unit.now)) }
+    requires picture { (after : SeqState) × LeavesState (option_copied before) (bytes_of_unit es.now unit.now) after }
+    ensures { IfOk result (LeavesState (option_copied before.entry) (bytes_of_unit es.now unit.now)) }
 {
     let bytes = unit_bytes(es, unit);
     match UnitCursor::new(bytes, before) {

@@ -5,7 +5,7 @@ use Rattle.std.proofs.lemmas.List.{get_or-append-add, length-append, length-map}
 use Rattle.std.proofs.lemmas.List.Elements.{All-tail}
 use Rattle.std.proofs.lemmas.List.FromFn.{length-range_with_len}
 use Rattle.payload_lists.specs.Payload.{Payload}
-use Rattle.pes_units.specs.VideoHeader.{written_header}
+use Rattle.pes_units.specs.VideoHeader.{written_pes_header}
 use Rattle.program_reader.specs.declared.program.AudioSource.{AudioSource}
 use Rattle.program_reader.specs.declared.program.Program.{Program}
 use Rattle.program_reader.specs.declared.program.UnitSource.{UnitSource}
@@ -34,7 +34,7 @@ chosen-at (v ∷ vs) (suc index) version within is = chosen-at vs index version 
 -- a piece of the PES packet of a unit in the version that is chosen
 pub picture-has : (units : List UnitSource) (versions : List (List UnitVersion)) (choice : List ℕ) (item piece header : ℕ) (own : List UnitVersion) (index : ℕ) (version : UnitVersion)
     (bytes : List ℕ) (d : UnitSource) (e : List UnitVersion) → item < length units → item < length versions → item < length choice → index < length own → own ≡ get_or versions item e
-    → index ≡ get_or choice item 0 → version ≡ get_or own index version → header ≡ length (written_header (get_or units item d).times) → bytes ≡ version.bytes
+    → index ≡ get_or choice item 0 → version ≡ get_or own index version → header ≡ length (written_pes_header (get_or units item d).times) → bytes ≡ version.bytes
     → 184 * piece < header + length bytes → piece < length (slice_index_or (video_items units versions choice) item [])
 picture-has [] versions choice item piece header own index version bytes d e of in_versions in_choice in_own own_is index_is version_is header_is bytes_are within =
     absurd (let bad : item < 0 = of in omega (arith, bad))
@@ -45,10 +45,10 @@ picture-has (u ∷ us) (v ∷ vs) [] item piece header own index version bytes d
 picture-has (u ∷ us) (v ∷ vs) (c ∷ cs) zero piece header own index version bytes d e of in_versions in_choice in_own own_is index_is version_is header_is bytes_are within =
     let same : chosen_bytes v c ≡ bytes =
     ap (λ (n : ℕ). chosen_bytes v n) (sym index_is) ∙ ap (λ (xs : List UnitVersion). chosen_bytes xs index) (sym own_is) ∙ chosen-at own index version in_own version_is ∙ sym bytes_are in
-    let size : length (pes_packet u (chosen_bytes v c)) ≡ length (written_header u.times) + length (chosen_bytes v c) = length-append (written_header u.times) (chosen_bytes v c) in
+    let size : length (pes_packet u (chosen_bytes v c)) ≡ length (written_pes_header u.times) + length (chosen_bytes v c) = length-append (written_pes_header u.times) (chosen_bytes v c) in
     let behind : length (chosen_bytes v c) ≡ length bytes = ap (λ (xs : List ℕ). length xs) same in
     piece-within (pes_packet u (chosen_bytes v c)) piece
-    (bound (length (pes_packet u (chosen_bytes v c))) (length (written_header u.times)) (length (chosen_bytes v c)) header (length bytes) (184 * piece) size header_is behind within)
+    (bound (length (pes_packet u (chosen_bytes v c))) (length (written_pes_header u.times)) (length (chosen_bytes v c)) header (length bytes) (184 * piece) size header_is behind within)
   where
     bound : (all first second header bytes n : ℕ) → all ≡ first + second → header ≡ first → second ≡ bytes → n < header + bytes → n < all
     bound all first second header bytes n size head behind within = omega (arith, size, head, behind, within)

@@ -10,9 +10,9 @@ use Rattle.version_table.specs.declared.line.Line.TheVariants.{Title, Slot, Node
 use Rattle.version_table.specs.declared.line.Stage.{Stage}
 use Rattle.version_table.specs.declared.line.Stage.TheVariants as stages
 use Rattle.version_table.specs.Lines.{text_of_line}
-use Rattle.version_table.specs.Order.{MayStand, IsOpening, IsForm}
+use Rattle.version_table.specs.Order.{LineMayStand, IsOpening, IsForm}
 use Rattle.version_table.specs.Limits.{KeepLimits}
-use Rattle.version_table.specs.Text.{text_of_lines, IsSyntaxRefusal, TextReading, Holds, RefusedAt, RefusedFor, IsRead}
+use Rattle.version_table.specs.Text.{text_of_lines, IsTableSyntaxRefusal, TextReading, Holds, RefusedAt, RefusedFor, IsTableRead}
 use Rattle.version_table.specs.Private.Reading.{line_at}
 use Rattle.version_table.specs.Private.Draft.{stage_after, Allows, is_whole}
 use Rattle.version_table.proofs.Openings.{stage_of, stage_of_push, opening_walk, opening_push, no_lines_open, no_lines_kept, Stuck}
@@ -112,12 +112,12 @@ read_out (suc fuel) text before rest few parts opening =
     (omega (arith, ap length is, length-append (text_of_line line) behind, line_some line)) (parts ∙ text_push before line rest behind is)
     (opening_push before line opening may))
   where
-    by : (o : Option (Line × List ℕ)) → line_at (stage_of before) rest ≡ o → ((line : Line) (behind : List ℕ) → MayStand before line → rest ≡ text_of_line line ++ behind → ReadOut text) → ReadOut text
+    by : (o : Option (Line × List ℕ)) → line_at (stage_of before) rest ≡ o → ((line : Line) (behind : List ℕ) → LineMayStand before line → rest ≡ text_of_line line ++ behind → ReadOut text) → ReadOut text
     by None none go = record { lines = before; rest = rest; parts = parts; opening = opening; stuck = stuck_from_none before rest none }
     by (Some x) read go = let (may, is) = may_from_read before rest x.1 x.0 read in go x.0 x.1 may is
 
 pub syntax_at : (text : List ℕ) (lines : List Line) (rest : List ℕ) → text ≡ text_of_lines lines ++ rest → IsOpening lines → Stuck lines rest
-    → (IsForm lines → rest ≡ [] → ⊥) → IsSyntaxRefusal text (length lines + 1)
+    → (IsForm lines → rest ≡ [] → ⊥) → IsTableSyntaxRefusal text (length lines + 1)
 syntax_at text lines rest parts opening stuck owed = record {
   before = lines;
   rest = rest;
@@ -129,7 +129,7 @@ syntax_at text lines rest parts opening stuck owed = record {
 }
 
 -- lines that have the form of a text are those of a table, or break a limit
-form_reading : (text : List ℕ) (lines : List Line) → length text ≤ TABLE_TEXT_MOST → text ≡ text_of_lines lines → IsForm lines → (reading : TextReading) × IsRead text reading
+form_reading : (text : List ℕ) (lines : List Line) → length text ≤ TABLE_TEXT_MOST → text ≡ text_of_lines lines → IsForm lines → (reading : TextReading) × IsTableRead text reading
 form_reading text lines short parts form =
     elim (kept_or_broken [] lines no_lines_kept) [
       | inl kept ↦
@@ -140,7 +140,7 @@ form_reading text lines short parts form =
     ]
 
 out_reading : (text : List ℕ) → length text ≤ TABLE_TEXT_MOST → (lines : List Line) (rest : List ℕ) → text ≡ text_of_lines lines ++ rest
-    → IsOpening lines → Stuck lines rest → (reading : TextReading) × IsRead text reading
+    → IsOpening lines → Stuck lines rest → (reading : TextReading) × IsTableRead text reading
 out_reading text short lines (c ∷ rest) parts opening stuck = (RefusedAt (length lines + 1), (short, syntax_at text lines (c ∷ rest) parts opening stuck (λ form none. absurd cc)))
 out_reading text short lines [] parts opening stuck =
     elim (cases_lt (length lines) 4) [
@@ -148,7 +148,7 @@ out_reading text short lines [] parts opening stuck =
       | inr four ↦ form_reading text lines short (parts ∙ append-nil (text_of_lines lines)) (opening, four)
     ]
 
-pub some_reading : (text : List ℕ) → (reading : TextReading) × IsRead text reading
+pub some_reading : (text : List ℕ) → (reading : TextReading) × IsTableRead text reading
 some_reading text =
     elim (cases_lt TABLE_TEXT_MOST (length text)) [
       | inl long ↦ (RefusedFor limits.Bytes, inl (long, refl))

@@ -6,7 +6,7 @@ use Rattle.version_table.specs.declared.line.Line.TheVariants.{Title, Slot, Node
 use Rattle.version_table.specs.declared.table.Table.{Table}
 use Rattle.version_table.specs.Lines.{text_of_line}
 use Rattle.version_table.specs.Limits.{first_limit, tests_of}
-use Rattle.version_table.specs.Text.{spelling}
+use Rattle.version_table.specs.Text.{table_spelling}
 
 example : Table
 example = record {
@@ -20,7 +20,7 @@ example = record {
   } ∷ [];
 }
 
-spelling_example : spelling example ≡ codes "remux table 1\nslot 4000\nnodes 1\nevaluations 0\nprogram 112\nunit 27200 552:0 368:10\naudio\npacket 71352 71353 184\naudio\n"
+spelling_example : table_spelling example ≡ codes "remux table 1\nslot 4000\nnodes 1\nevaluations 0\nprogram 112\nunit 27200 552:0 368:10\naudio\npacket 71352 71353 184\naudio\n"
 unfolding text_of_line digits example
 spelling_example = refl
 

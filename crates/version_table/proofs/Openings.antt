@@ -8,7 +8,7 @@ use Rattle.version_table.specs.declared.line.Line.TheVariants.{Title, Slot, Node
 use Rattle.version_table.specs.declared.line.Stage.{Stage}
 use Rattle.version_table.specs.declared.line.Stage.TheVariants as stages
 use Rattle.version_table.specs.Lines.{text_of_line}
-use Rattle.version_table.specs.Order.{last_line, MayFollow, MayStand, IsOpening}
+use Rattle.version_table.specs.Order.{last_line, MayFollow, LineMayStand, IsOpening}
 use Rattle.version_table.specs.Limits.{first_limit, KeepLimits}
 use Rattle.version_table.specs.Text.{text_of_lines}
 use Rattle.version_table.specs.Private.Reading.{line_at}
@@ -95,14 +95,14 @@ walk_parts R before (line ∷ front) behind walk =
 abbrev pub Kept : List Line → Line → Type 0
 Kept before line = first_limit before line ≡ None
 
-pub opening_walk : (lines : List Line) → IsOpening lines → Walk MayStand [] lines
-opening_walk lines opening = walk_from MayStand [] lines opening
+pub opening_walk : (lines : List Line) → IsOpening lines → Walk LineMayStand [] lines
+opening_walk lines opening = walk_from LineMayStand [] lines opening
 
-pub walk_opening : (lines : List Line) → Walk MayStand [] lines → IsOpening lines
-walk_opening lines walk = walk_to MayStand lines walk
+pub walk_opening : (lines : List Line) → Walk LineMayStand [] lines → IsOpening lines
+walk_opening lines walk = walk_to LineMayStand lines walk
 
-pub opening_push : (lines : List Line) (line : Line) → IsOpening lines → MayStand lines line → IsOpening (lines ++ line ∷ [])
-opening_push lines line opening stands = walk_opening (lines ++ line ∷ []) (walk_append MayStand [] lines (line ∷ []) (opening_walk lines opening) (stands, tt))
+pub opening_push : (lines : List Line) (line : Line) → IsOpening lines → LineMayStand lines line → IsOpening (lines ++ line ∷ [])
+opening_push lines line opening stands = walk_opening (lines ++ line ∷ []) (walk_append LineMayStand [] lines (line ∷ []) (opening_walk lines opening) (stands, tt))
 
 pub kept_push : (lines : List Line) (line : Line) → KeepLimits lines → first_limit lines line ≡ None → KeepLimits (lines ++ line ∷ [])
 kept_push lines line kept here = walk_to Kept (lines ++ line ∷ []) (walk_append Kept [] lines (line ∷ []) (walk_from Kept [] lines kept) (here, tt))
@@ -117,9 +117,9 @@ no_lines_kept front line behind e = absurd (omega (arith, ap length e, length-ap
 
 -- no line that may stand there comes
 abbrev pub Stuck : List Line → List ℕ → Type 0
-Stuck before rest = (line : Line) (more : List ℕ) → MayStand before line → rest ≡ text_of_line line ++ more → ⊥
+Stuck before rest = (line : Line) (more : List ℕ) → LineMayStand before line → rest ≡ text_of_line line ++ more → ⊥
 
-one_line : (before : List Line) (x y : Line) (u v : List ℕ) → MayStand before x → MayStand before y → text_of_line x ++ u ≡ text_of_line y ++ v → (x ≡ y) × (u ≡ v)
+one_line : (before : List Line) (x y : Line) (u v : List ℕ) → LineMayStand before x → LineMayStand before y → text_of_line x ++ u ≡ text_of_line y ++ v → (x ≡ y) × (u ≡ v)
 one_line before x y u v may_x may_y e =
     let stage = stage_of before in
     let again_x = line_again stage x u (follows_allows (last_line before) x may_x.0) may_x.1 in
@@ -129,7 +129,7 @@ one_line before x y u v may_x may_y e =
 text_of_lines-cons : (line : Line) (lines : List Line) (rest : List ℕ) → text_of_lines (line ∷ lines) ++ rest ≡ text_of_line line ++ (text_of_lines lines ++ rest)
 text_of_lines-cons line lines rest = ap (λ (t : List ℕ). t ++ rest) (flat_map-cons text_of_line line lines) ∙ append_assoc (text_of_line line) (text_of_lines lines) rest
 
-pub one_beginning : (before xs ys : List Line) (r s : List ℕ) → Walk MayStand before xs → Walk MayStand before ys → Stuck (before ++ xs) r → Stuck (before ++ ys) s
+pub one_beginning : (before xs ys : List Line) (r s : List ℕ) → Walk LineMayStand before xs → Walk LineMayStand before ys → Stuck (before ++ xs) r → Stuck (before ++ ys) s
     → text_of_lines xs ++ r ≡ text_of_lines ys ++ s → (xs ≡ ys) × (r ≡ s)
 one_beginning before [] [] r s walk_x walk_y stuck_x stuck_y e = (refl, e)
 one_beginning before [] (y ∷ ys) r s walk_x walk_y stuck_x stuck_y e =
@@ -144,5 +144,5 @@ one_beginning before (x ∷ xs) (y ∷ ys) r s walk_x walk_y stuck_x stuck_y e =
     let before_y : before ++ y ∷ [] ≡ before ++ x ∷ [] = ap (λ (l : Line). before ++ l ∷ []) (sym same) in
     let stuck_xs = subst (λ (b : List Line). Stuck b r) (sym (append_assoc before (x ∷ []) xs)) stuck_x in
     let stuck_ys = subst (λ (b : List Line). Stuck (b ++ ys) s) before_y (subst (λ (b : List Line). Stuck b s) (sym (append_assoc before (y ∷ []) ys)) stuck_y) in
-    let (lines, ends) = one_beginning (before ++ x ∷ []) xs ys r s walk_x.1 (subst (λ (b : List Line). Walk MayStand b ys) before_y walk_y.1) stuck_xs stuck_ys rest in
+    let (lines, ends) = one_beginning (before ++ x ∷ []) xs ys r s walk_x.1 (subst (λ (b : List Line). Walk LineMayStand b ys) before_y walk_y.1) stuck_xs stuck_ys rest in
     (ap (λ (l : Line). l ∷ xs) same ∙ ap (λ (ls : List Line). y ∷ ls) lines, ends)

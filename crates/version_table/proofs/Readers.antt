@@ -16,7 +16,7 @@ use Rattle.version_table.specs.declared.table.Table.{Table}
 use Rattle.version_table.specs.Lines.{text_of_line}
 use Rattle.version_table.specs.Order.{IsOpening, IsForm}
 use Rattle.version_table.specs.Limits.{first_limit, KeepLimits, BreakFirst}
-use Rattle.version_table.specs.Text.{text_of_lines, IsSyntaxRefusal, TextReading, Holds, RefusedAt, RefusedFor, IsRead, IsFaultOf, Says}
+use Rattle.version_table.specs.Text.{text_of_lines, IsTableSyntaxRefusal, TextReading, Holds, RefusedAt, RefusedFor, IsTableRead, IsFaultOf, Says}
 use Rattle.version_table.specs.Private.Reading.{line_at}
 use Rattle.version_table.specs.Private.Draft.{stage_after, Allows, is_whole, lines_of_draft, IsDraft}
 use Rattle.version_table.specs.Private.Reader.{IsLimitFault, TestsLine, TakesLine, IsTableOf, IsRefusedFor, Finishes}
@@ -103,15 +103,15 @@ read_drafted text reader rest at = drafted_when reader.limit reader at.before at
 
 -- no line comes
 pub read_no_line : (text : List ℕ) (reader : Reader) (rest : List ℕ) → length text ≤ TABLE_TEXT_MOST → ReadTo text reader rest → 1 ≤ length rest
-    → line_at reader.stage rest ≡ None → IsRead text (RefusedAt (reader.lines + 1))
+    → line_at reader.stage rest ≡ None → IsTableRead text (RefusedAt (reader.lines + 1))
 read_no_line text reader rest short at some none =
     let stuck = stuck_from_none at.before rest (ap (λ (s : Stage). line_at s rest) (sym at.stage) ∙ none) in
     let refusal = syntax_at text at.before rest at.parts at.opening stuck (λ form nil. omega (arith, ap length nil)) in
-    (short, subst (λ (n : ℕ). IsSyntaxRefusal text (n + 1)) (sym at.lines) refusal)
+    (short, subst (λ (n : ℕ). IsTableSyntaxRefusal text (n + 1)) (sym at.lines) refusal)
 
 -- the answer is a reading of the text
 pub record Answered (text : List ℕ) (answer : Result Table TableFault) : Type 0 where
-  pub table : IfOk answer (λ t. IsRead text (Holds t))
+  pub table : IfOk answer (λ t. IsTableRead text (Holds t))
   pub refusal : IfErr answer (IsFaultOf text)
 
 table_answer : (text : List ℕ) (before : List Line) (answer : Result Table TableFault) → length text ≤ TABLE_TEXT_MOST → text ≡ text_of_lines before
@@ -150,11 +150,11 @@ read_end text reader rest answer short at none finishes = by (is_whole reader.st
         let ends = rw part at finishes in
         let owed = owed_in_head at.before at.opening (ap is_whole (sym at.stage) ∙ part) in
         let refusal = syntax_at text at.before [] (at.parts ∙ ap (λ (t : List ℕ). text_of_lines at.before ++ t) none) at.opening (stuck_at_end at.before) (λ form nil. owed form) in
-        let read : IsRead text (RefusedAt (reader.lines + 1)) = (short, subst (λ (n : ℕ). IsSyntaxRefusal text (n + 1)) (sym at.lines) refusal) in
+        let read : IsTableRead text (RefusedAt (reader.lines + 1)) = (short, subst (λ (n : ℕ). IsTableSyntaxRefusal text (n + 1)) (sym at.lines) refusal) in
         subst (Answered text) (sym ends) (record { table = tt; refusal = read })
 
 -- no reading but that of the answer
-pub only_answer : (text : List ℕ) (answer : Result Table TableFault) → Answered text answer → (reading : TextReading) → IsRead text reading → Says answer reading
+pub only_answer : (text : List ℕ) (answer : Result Table TableFault) → Answered text answer → (reading : TextReading) → IsTableRead text reading → Says answer reading
 only_answer text (Ok table) answered reading is = subst (Says (Ok table)) (one_reading text (Holds table) reading answered.table is) refl
 only_answer text (Err (TableSyntax n)) answered reading is = subst (Says (Err (TableSyntax n))) (one_reading text (RefusedAt n) reading answered.refusal is) refl
 only_answer text (Err (TableLimit name)) answered reading is =

@@ -6,9 +6,9 @@ use Rattle.version_table.specs.declared.line.Line.{Line}
 use Rattle.version_table.specs.declared.line.Line.TheVariants.{Title, Slot, Nodes, Evaluations, Program, Unit as UnitLine, Audio, Packet}
 use Rattle.version_table.specs.declared.table.Table.{Table}
 use Rattle.version_table.specs.Lines.{text_of_line, lines_of_table}
-use Rattle.version_table.specs.Order.{last_line, MayStand, IsOpening, IsForm}
+use Rattle.version_table.specs.Order.{last_line, LineMayStand, IsOpening, IsForm}
 use Rattle.version_table.specs.Limits.{KeepLimits, BreakFirst}
-use Rattle.version_table.specs.Text.{text_of_lines, spelling, IsTextTable, IsSyntaxRefusal, IsLimitRefusal, TextReading, Holds, RefusedAt, RefusedFor, IsRead}
+use Rattle.version_table.specs.Text.{text_of_lines, table_spelling, IsTextTable, IsTableSyntaxRefusal, IsLimitRefusal, TextReading, Holds, RefusedAt, RefusedFor, IsTableRead}
 use Rattle.version_table.specs.Private.Reading.{line_at}
 use Rattle.version_table.proofs.LineTexts.{line_again, line_sound}
 use Rattle.version_table.proofs.Openings.{stage_of, follows_allows, allows_follows, opening_walk, Stuck, one_beginning}
@@ -41,7 +41,7 @@ stuck_from_none before rest none line more may e =
     absurd cc
 
 -- a line that is read may stand there
-pub may_from_read : (before : List Line) (rest behind : List ℕ) (line : Line) → line_at (stage_of before) rest ≡ Some (line, behind) → MayStand before line × (rest ≡ text_of_line line ++ behind)
+pub may_from_read : (before : List Line) (rest behind : List ℕ) (line : Line) → line_at (stage_of before) rest ≡ Some (line, behind) → LineMayStand before line × (rest ≡ text_of_line line ++ behind)
 may_from_read before rest behind line read =
     let is = line_sound (stage_of before) rest behind line read in
     ((allows_follows (last_line before) line is.allows, is.syntax), is.parts)
@@ -56,10 +56,10 @@ record Beginning (text : List ℕ) (before : List Line) (rest : List ℕ) : Type
 same_beginning : (text : List ℕ) (xs ys : List Line) (r s : List ℕ) → Beginning text xs r → Beginning text ys s → (xs ≡ ys) × (r ≡ s)
 same_beginning text xs ys r s a b = one_beginning [] xs ys r s (opening_walk xs a.opening) (opening_walk ys b.opening) a.stuck b.stuck (sym a.parts ∙ b.parts)
 
-table_beginning : (text : List ℕ) (table : Table) → IsTextTable table → text ≡ spelling table → Beginning text (lines_of_table table) []
-table_beginning text table valid e = record { parts = e ∙ sym (append-nil (spelling table)); opening = (table_form table valid).0; stuck = stuck_at_end (lines_of_table table) }
+table_beginning : (text : List ℕ) (table : Table) → IsTextTable table → text ≡ table_spelling table → Beginning text (lines_of_table table) []
+table_beginning text table valid e = record { parts = e ∙ sym (append-nil (table_spelling table)); opening = (table_form table valid).0; stuck = stuck_at_end (lines_of_table table) }
 
-syntax_beginning : (text : List ℕ) (n : ℕ) (refusal : IsSyntaxRefusal text n) → Beginning text refusal.before refusal.rest
+syntax_beginning : (text : List ℕ) (n : ℕ) (refusal : IsTableSyntaxRefusal text n) → Beginning text refusal.before refusal.rest
 syntax_beginning text n refusal = record { parts = refusal.parts; opening = refusal.opening; stuck = λ line more may e. refusal.no_line line more may e }
 
 limit_beginning : (text : List ℕ) (limit : Limit) (refusal : IsLimitRefusal text limit) → Beginning text refusal.lines []
@@ -67,27 +67,27 @@ limit_beginning text limit refusal = record { parts = refusal.spelled ∙ sym (a
 
 -- ---- one reading
 
-table_table : (text : List ℕ) (a b : Table) → IsTextTable a → IsTextTable b → text ≡ spelling a → text ≡ spelling b → a ≡ b
+table_table : (text : List ℕ) (a b : Table) → IsTextTable a → IsTextTable b → text ≡ table_spelling a → text ≡ table_spelling b → a ≡ b
 table_table text a b valid_a valid_b e f = one_table a b (same_beginning text (lines_of_table a) (lines_of_table b) [] [] (table_beginning text a valid_a e) (table_beginning text b valid_b f)).0
 
 -- a text whose lines have the form of a table is not refused in a line
-form_syntax : (text : List ℕ) (lines : List Line) (n : ℕ) → IsForm lines → Beginning text lines [] → IsSyntaxRefusal text n → ⊥
+form_syntax : (text : List ℕ) (lines : List Line) (n : ℕ) → IsForm lines → Beginning text lines [] → IsTableSyntaxRefusal text n → ⊥
 form_syntax text lines n form begins refusal =
     let (same, ends) = same_beginning text lines refusal.before [] refusal.rest begins (syntax_beginning text n refusal) in
     refusal.owed (subst IsForm same form) (sym ends)
 
-table_syntax : (text : List ℕ) (table : Table) (n : ℕ) → IsTextTable table → text ≡ spelling table → IsSyntaxRefusal text n → ⊥
+table_syntax : (text : List ℕ) (table : Table) (n : ℕ) → IsTextTable table → text ≡ table_spelling table → IsTableSyntaxRefusal text n → ⊥
 table_syntax text table n valid e refusal = form_syntax text (lines_of_table table) n (table_form table valid) (table_beginning text table valid e) refusal
 
-limit_syntax : (text : List ℕ) (limit : Limit) (n : ℕ) → IsLimitRefusal text limit → IsSyntaxRefusal text n → ⊥
+limit_syntax : (text : List ℕ) (limit : Limit) (n : ℕ) → IsLimitRefusal text limit → IsTableSyntaxRefusal text n → ⊥
 limit_syntax text limit n refusal other = form_syntax text refusal.lines n refusal.form (limit_beginning text limit refusal) other
 
-table_limit : (text : List ℕ) (table : Table) (limit : Limit) → IsTextTable table → text ≡ spelling table → IsLimitRefusal text limit → ⊥
+table_limit : (text : List ℕ) (table : Table) (limit : Limit) → IsTextTable table → text ≡ table_spelling table → IsLimitRefusal text limit → ⊥
 table_limit text table limit valid e refusal =
     let same = (same_beginning text (lines_of_table table) refusal.lines [] [] (table_beginning text table valid e) (limit_beginning text limit refusal)).0 in
     no_break refusal.lines limit (subst KeepLimits same (table_kept table valid)) refusal.first
 
-syntax_syntax : (text : List ℕ) (m n : ℕ) → IsSyntaxRefusal text m → IsSyntaxRefusal text n → m ≡ n
+syntax_syntax : (text : List ℕ) (m n : ℕ) → IsTableSyntaxRefusal text m → IsTableSyntaxRefusal text n → m ≡ n
 syntax_syntax text m n a b =
     let same = (same_beginning text a.before b.before a.rest b.rest (syntax_beginning text m a) (syntax_beginning text n b)).0 in
     omega (arith, a.number, b.number, ap length same)
@@ -97,7 +97,7 @@ limit_limit text k l a b =
     let same = (same_beginning text a.lines b.lines [] [] (limit_beginning text k a) (limit_beginning text l b)).0 in
     one_break b.lines k l (subst (λ (ls : List Line). BreakFirst ls k) same a.first) b.first
 
-pub one_reading : (text : List ℕ) (a b : TextReading) → IsRead text a → IsRead text b → a ≡ b
+pub one_reading : (text : List ℕ) (a b : TextReading) → IsTableRead text a → IsTableRead text b → a ≡ b
 one_reading text (Holds t) (Holds u) f g = ap (λ (table : Table). Holds table) (table_table text t u f.1 g.1 f.2 g.2)
 one_reading text (Holds t) (RefusedAt n) f g = absurd (table_syntax text t n f.1 f.2 g.1)
 one_reading text (Holds t) (RefusedFor l) f (inl long) = absurd (omega (arith, f.0, long.0))

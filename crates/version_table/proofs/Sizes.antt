@@ -15,7 +15,7 @@ use Rattle.version_table.specs.declared.table.ProgramRow.{ProgramRow}
 use Rattle.version_table.specs.declared.table.Table.{Table}
 use Rattle.version_table.specs.Table.{IsValidVersion, IsValidUnit, IsValidPacket, IsValidAudio, IsValidProgram}
 use Rattle.version_table.specs.Lines.{line_end, stated, text_of_version, text_of_line, line_of_unit, line_of_packet, lines_of_audio, lines_of_program}
-use Rattle.version_table.specs.Text.{text_of_lines, spelling, IsTextTable}
+use Rattle.version_table.specs.Text.{text_of_lines, table_spelling, IsTextTable}
 use Rattle.version_table.proofs.TableLines.{packets_of, units_in, packets_in}
 
 -- ---- lines
@@ -177,7 +177,7 @@ head_size slot nodes evaluations s n e =
       word_line_size (codes "evaluations ") evaluations 7 (omega arith) e (omega arith),
     )
 
-pub spelling_is_short : (table : Table) → IsTextTable table → length (spelling table) ≤ TABLE_TEXT_MOST
+pub spelling_is_short : (table : Table) → IsTextTable table → length (table_spelling table) ≤ TABLE_TEXT_MOST
 spelling_is_short table h =
     let valid = h.valid in
     let head = Title ∷ Slot table.slot ∷ Nodes table.nodes ∷ Evaluations table.evaluations ∷ [] in

@@ -14,7 +14,7 @@ use Rattle.version_table.specs.declared.table.ProgramRow.{ProgramRow}
 use Rattle.version_table.specs.declared.table.Table.{Table}
 use Rattle.version_table.specs.Table.{IsValidVersion, IsValidUnit, IsValidPacket, IsValidAudio, IsValidProgram}
 use Rattle.version_table.specs.Lines.{stated, line_of_unit, line_of_packet, lines_of_audio, lines_of_program, lines_of_table}
-use Rattle.version_table.specs.Order.{last_line, IsStatedVersion, HasSyntax, MayFollow, MayStand, IsForm}
+use Rattle.version_table.specs.Order.{last_line, IsStatedVersion, HasSyntax, MayFollow, LineMayStand, IsForm}
 use Rattle.version_table.specs.Limits.{is_program, is_unit, begins_audio, is_packet, audios_here, is_due_later, packet_due, packet_gone, KeepLimits}
 use Rattle.version_table.specs.Text.{IsTextTable}
 use Rattle.version_table.specs.Private.Draft.{stage_after, Allows}
@@ -26,13 +26,13 @@ use Rattle.version_table.proofs.Rising.{Adjacent, rising_adjacent, steady_adjace
 
 -- a line may stand behind others and keeps all limits there
 abbrev pub Good : List Line → Line → Type 0
-Good before line = MayStand before line × Keeps before line
+Good before line = LineMayStand before line × Keeps before line
 
 -- lines behind a title and a slot line
 abbrev pub behind : ℕ → List Line → List Line
 behind slot more = Title ∷ Slot slot ∷ more
 
-may_stand : (before : List Line) (line : Line) (stage : Stage) → stage_of before ≡ stage → Allows stage line → HasSyntax line → MayStand before line
+may_stand : (before : List Line) (line : Line) (stage : Stage) → stage_of before ≡ stage → Allows stage line → HasSyntax line → LineMayStand before line
 may_stand before line stage at allows syntax = (allows_follows (last_line before) line (subst (λ (s : Stage). Allows s line) (sym at) allows), syntax)
 
 -- the stage behind lines of one kind
@@ -334,7 +334,7 @@ walk_weaker R Q leads before (line ∷ lines) walk = (leads before line walk.0, 
 -- the lines of a table have the form of a text
 pub table_form : (table : Table) → IsTextTable table → IsForm (lines_of_table table)
 table_form table h =
-    (walk_opening (lines_of_table table) (walk_weaker Good MayStand (λ before line good. good.0) [] (lines_of_table table) (table_good table h)), omega arith)
+    (walk_opening (lines_of_table table) (walk_weaker Good LineMayStand (λ before line good. good.0) [] (lines_of_table table) (table_good table h)), omega arith)
 
 -- and keep all limits
 pub table_kept : (table : Table) → IsTextTable table → KeepLimits (lines_of_table table)

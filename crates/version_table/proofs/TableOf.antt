@@ -14,7 +14,7 @@ use Rattle.version_table.specs.declared.table.AudioPacket.{AudioPacket}
 use Rattle.version_table.specs.declared.table.ProgramRow.{ProgramRow}
 use Rattle.version_table.specs.declared.table.Table.{Table}
 use Rattle.version_table.specs.Lines.{stated, line_of_unit, line_of_packet, lines_of_audio, lines_of_program, lines_of_table}
-use Rattle.version_table.specs.Order.{last_line, MayStand, IsForm}
+use Rattle.version_table.specs.Order.{last_line, LineMayStand, IsForm}
 use Rattle.version_table.specs.Private.Draft.{stage_after, Allows, kept}
 use Rattle.version_table.proofs.Openings.{stage_of, stage_of_push, follows_allows, Walk, opening_walk}
 use Rattle.version_table.proofs.Drafts.{stated_kept}
@@ -120,7 +120,7 @@ abbrev pub Follow : Stage → List Line → Type 0
 Follow stage [] = Unit {0}
 Follow stage (line ∷ lines) = Allows stage line × Follow (stage_after line) lines
 
-pub walk_follow : (before lines : List Line) → Walk MayStand before lines → Follow (stage_of before) lines
+pub walk_follow : (before lines : List Line) → Walk LineMayStand before lines → Follow (stage_of before) lines
 walk_follow before [] walk = tt
 walk_follow before (line ∷ lines) walk =
     (follows_allows (last_line before) line walk.0.0, subst (λ (s : Stage). Follow s lines) (stage_of_push before line) (walk_follow (before ++ line ∷ []) lines walk.1))

@@ -33,13 +33,13 @@ abbrev pub IsSmaller : Version → Version → Type 0
 IsSmaller a b = (a.bytes < b.bytes) ⊎ ((a.bytes ≡ b.bytes) × (a.distortion < b.distortion))
 
 -- version j goes before version k: it is smaller, or of the same size and distortion with a lower number
-abbrev pub GoesBefore : Version → ℕ → Version → ℕ → Type 0
-GoesBefore a j b k = IsSmaller a b ⊎ ((a.bytes ≡ b.bytes) × (a.distortion ≡ b.distortion) × (j < k))
+abbrev pub VersionGoesBefore : Version → ℕ → Version → ℕ → Type 0
+VersionGoesBefore a j b k = IsSmaller a b ⊎ ((a.bytes ≡ b.bytes) × (a.distortion ≡ b.distortion) × (j < k))
 
 -- version k of the unit goes before each of its other versions
 pub record IsSmallestVersion (unit : CodedUnit) (k : ℕ) : Type 0 where
   pub exists : HasVersion unit k
-  pub first : (j : ℕ) → HasVersion unit j → j ≢ k → GoesBefore (version_at unit k) k (version_at unit j) j
+  pub first : (j : ℕ) → HasVersion unit j → j ≢ k → VersionGoesBefore (version_at unit k) k (version_at unit j) j
 
 -- the smallest choice: of each unit the smallest version
 abbrev pub IsSmallestChoice : Table → List ℕ → Type 0

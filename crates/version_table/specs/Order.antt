@@ -56,12 +56,12 @@ HasSyntax Audio = Unit {0}
 HasSyntax (Packet due gone bytes) = IsStated due × IsStated gone × IsStated bytes
 
 -- a line may stand behind these lines
-abbrev pub MayStand : List Line → Line → Type 0
-MayStand before line = MayFollow (last_line before) line × HasSyntax line
+abbrev pub LineMayStand : List Line → Line → Type 0
+LineMayStand before line = MayFollow (last_line before) line × HasSyntax line
 
 -- each line may stand behind those before it
 abbrev pub IsOpening : List Line → Type 0
-IsOpening lines = (before : List Line) (line : Line) (after : List Line) → lines ≡ before ++ line ∷ after → MayStand before line
+IsOpening lines = (before : List Line) (line : Line) (after : List Line) → lines ≡ before ++ line ∷ after → LineMayStand before line
 
 -- the lines of a whole text: at least the four of its head
 abbrev pub IsForm : List Line → Type 0

@@ -10,7 +10,7 @@ use Rattle.version_table.specs.declared.line.Line.{Line}
 use Rattle.version_table.specs.declared.table.Table.{Table}
 use Rattle.version_table.specs.Table.{IsValidTable, audio_packets_of}
 use Rattle.version_table.specs.Lines.{text_of_line, lines_of_table}
-use Rattle.version_table.specs.Order.{MayStand, IsOpening, IsForm}
+use Rattle.version_table.specs.Order.{LineMayStand, IsOpening, IsForm}
 use Rattle.version_table.specs.Limits.{limit_name, BreakFirst}
 
 -- lines one behind the other
@@ -18,8 +18,8 @@ abbrev pub text_of_lines : List Line → List ℕ
 text_of_lines lines = flat_map text_of_line lines
 
 -- the one spelling of a table
-abbrev pub spelling : Table → List ℕ
-spelling table = text_of_lines (lines_of_table table)
+abbrev pub table_spelling : Table → List ℕ
+table_spelling table = text_of_lines (lines_of_table table)
 
 -- a table that a text may hold
 pub record IsTextTable (table : Table) : Type 0 where
@@ -28,13 +28,13 @@ pub record IsTextTable (table : Table) : Type 0 where
 
 -- line n, counted from 1, is the first that no table has there: no line that may stand behind those before it comes,
 -- and it isn't that the text ends as a table's may
-pub record IsSyntaxRefusal (text : List ℕ) (n : ℕ) : Type 0 where
+pub record IsTableSyntaxRefusal (text : List ℕ) (n : ℕ) : Type 0 where
   pub before : List Line
   pub rest : List ℕ
   pub parts : text ≡ text_of_lines before ++ rest
   pub opening : IsOpening before
   pub number : n ≡ length before + 1
-  pub no_line : (line : Line) (more : List ℕ) → MayStand before line → rest ≢ text_of_line line ++ more
+  pub no_line : (line : Line) (more : List ℕ) → LineMayStand before line → rest ≢ text_of_line line ++ more
   pub owed : IsForm before → rest ≢ []
 
 -- the text has the form of a table, and this is the first limit that it breaks
@@ -51,15 +51,15 @@ pub data TextReading : Type 0 where
   RefusedFor : Limit → TextReading
 
 -- a text is read so; one that is too long is refused for its bytes before all else
-abbrev pub IsRead : List ℕ → TextReading → Type 0
-IsRead text (Holds table) = (length text ≤ TABLE_TEXT_MOST) × IsTextTable table × (text ≡ spelling table)
-IsRead text (RefusedAt n) = (length text ≤ TABLE_TEXT_MOST) × IsSyntaxRefusal text n
-IsRead text (RefusedFor limit) = ((TABLE_TEXT_MOST < length text) × (limit ≡ limits.Bytes)) ⊎ ((length text ≤ TABLE_TEXT_MOST) × IsLimitRefusal text limit)
+abbrev pub IsTableRead : List ℕ → TextReading → Type 0
+IsTableRead text (Holds table) = (length text ≤ TABLE_TEXT_MOST) × IsTextTable table × (text ≡ table_spelling table)
+IsTableRead text (RefusedAt n) = (length text ≤ TABLE_TEXT_MOST) × IsTableSyntaxRefusal text n
+IsTableRead text (RefusedFor limit) = ((TABLE_TEXT_MOST < length text) × (limit ≡ limits.Bytes)) ⊎ ((length text ≤ TABLE_TEXT_MOST) × IsLimitRefusal text limit)
 
 -- a fault is a reading of the text, or want of memory
 abbrev pub IsFaultOf : List ℕ → TableFault → Type 0
-IsFaultOf text (TableSyntax n) = IsRead text (RefusedAt n)
-IsFaultOf text (TableLimit name) = (limit : Limit) × IsRead text (RefusedFor limit) × (name.bytes ≡ limit_name limit)
+IsFaultOf text (TableSyntax n) = IsTableRead text (RefusedAt n)
+IsFaultOf text (TableLimit name) = (limit : Limit) × IsTableRead text (RefusedFor limit) × (name.bytes ≡ limit_name limit)
 IsFaultOf text OutOfMemory = Unit {0}
 
 -- an answer is this reading, unless memory was wanted

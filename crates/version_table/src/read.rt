@@ -1,6 +1,6 @@
 ghost use Rattle.std.specs.Prelude.{◌≡◌, ◌<◌, ◌≤◌, List, length, IfOk, IfErr, IfNone, OnOk};
 ghost use Rattle.version_table.specs.Private.Draft.{Allows, IsDraft};
-ghost use Rattle.version_table.specs.Text.{IsRead, IsFaultOf, Says, TextReading, Holds};
+ghost use Rattle.version_table.specs.Text.{IsTableRead, IsFaultOf, Says, TextReading, Holds};
 ghost use Rattle.version_table.specs.Private.Reader.{TakesLine, KeepsLine, Finishes};
 
 use crate::draft::Draft;
@@ -19,11 +19,11 @@ use std::alloc::Global;
 /// its `bytes` before all else. `OutOfMemory` may come at any time.
 pub fn read_table(alloc: Global, text: &[u8]) -> Result<Table, TableFault>
     // What is answered is so.
-    ensures table { IfOk result (λ table. IsRead text.now (Holds table)) }
+    ensures table { IfOk result (λ table. IsTableRead text.now (Holds table)) }
     ensures refusal { IfErr result (IsFaultOf text.now) }
 
     // What is so is answered, unless memory is wanted.
-    ensures only { (reading : TextReading) → IsRead text.now reading → Says result reading }
+    ensures only { (reading : TextReading) → IsTableRead text.now reading → Says result reading }
 {
     if text.len() > TABLE_TEXT_MOST {
         return Err(limit_fault(Limit::Bytes));
@@ -34,7 +34,7 @@ pub fn read_table(alloc: Global, text: &[u8]) -> Result<Table, TableFault>
 /// Reads a text that isn't too long.
 fn read_lines(alloc: Global, text: &[u8]) -> Result<Table, TableFault>
     requires { length text.now ≤ TABLE_TEXT_MOST }
-    ensures table { IfOk result (λ table. IsRead text.now (Holds table)) }
+    ensures table { IfOk result (λ table. IsTableRead text.now (Holds table)) }
     ensures refusal { IfErr result (IsFaultOf text.now) }
 {
     let mut reader = Reader::new(alloc);

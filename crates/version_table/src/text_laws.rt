@@ -2,19 +2,19 @@
 
 ghost use Rattle.std.specs.Prelude.{◌≡◌, List, ℕ};
 ghost use Rattle.version_table.specs.declared.table.Table.{Table};
-ghost use Rattle.version_table.specs.Text.{IsTextTable, IsRead, TextReading, Holds, spelling};
+ghost use Rattle.version_table.specs.Text.{IsTextTable, IsTableRead, TextReading, Holds, table_spelling};
 
 /// Each text is read in one way: as the text of a table, or refused in a line, or refused for a limit.
 pub fn some_reading()
-    ensures { (text : List ℕ) → (reading : TextReading) × IsRead text reading }
+    ensures { (text : List ℕ) → (reading : TextReading) × IsTableRead text reading }
 {}
 
 /// No text is read in two ways.
 pub fn one_reading()
-    ensures { (text : List ℕ) (a b : TextReading) → IsRead text a → IsRead text b → a ≡ b }
+    ensures { (text : List ℕ) (a b : TextReading) → IsTableRead text a → IsTableRead text b → a ≡ b }
 {}
 
 /// The round trip: the spelling of a table is read as that table.
 pub fn spelling_is_read()
-    ensures { (table : Table) → IsTextTable table → IsRead (spelling table) (Holds table) }
+    ensures { (table : Table) → IsTextTable table → IsTableRead (table_spelling table) (Holds table) }
 {}

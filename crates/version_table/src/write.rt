@@ -2,7 +2,7 @@ ghost use Rattle.std.specs.Prelude.{◌≡◌, ◌++◌, ◌∷◌, [], codes, m
 ghost use Rattle.std.specs.List.{flat_map};
 ghost use Rattle.std.specs.Fmt.{decimal};
 ghost use Rattle.version_table.specs.Lines.{stated, text_of_version, text_of_line, line_of_unit, line_of_packet, lines_of_audio, lines_of_program};
-ghost use Rattle.version_table.specs.Text.{IsTextTable, text_of_lines, spelling};
+ghost use Rattle.version_table.specs.Text.{IsTextTable, text_of_lines, table_spelling};
 
 use crate::table::{AudioPacket, ProgramRow, Table, Unit, Version};
 use list_types::{ListOf, OutOfMemory};
@@ -12,7 +12,7 @@ use std::alloc::Global;
 #[tactic(auto, unfolding(crate::specs::Lines::text_of_line))]
 pub fn write_table(alloc: Global, table: &Table) -> Result<ListOf<u8>, OutOfMemory>
     requires { IsTextTable table.now }
-    ensures { IfOk result (λ text. text ≡ spelling table.now) }
+    ensures { IfOk result (λ text. text ≡ table_spelling table.now) }
 {
     let mut out = Vec::new(alloc);
     out.extend_from_slice(b"remux table 1\n")?;

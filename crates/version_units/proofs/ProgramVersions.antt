@@ -17,11 +17,11 @@ use Rattle.program_reader.specs.declared.pes_packets.PlacedPacket.{PlacedPacket}
 use Rattle.program_reader.specs.declared.program.Program.{Program}
 use Rattle.program_reader.specs.declared.program.UnitSource.{UnitSource}
 use Rattle.program_reader.specs.declared.timed_picture.TimedPicture.{TimedPicture}
-use Rattle.program_reader.specs.Programs.{AreUnitSources, IsProgramOf, video_bytes, video_packets}
+use Rattle.program_reader.specs.Programs.{AreUnitSources, IsProgramOfFile, video_bytes, video_packets}
 use Rattle.program_reader.specs.Units.{AreKept, all, but_last}
 use Rattle.version_maker.specs.declared.version.UnitVersion.{UnitVersion}
 use Rattle.version_maker.specs.Versions.{AreVersions, IsCoarserVersion, IsSourceVersion}
-use Rattle.version_source.specs.Sendable.{Leaves, bytes_of}
+use Rattle.version_source.specs.Sendable.{LeavesState, bytes_of_unit}
 use Rattle.version_source.specs.Versions.{AreVideoVersions}
 use Rattle.version_units.specs.WholeVersions.{AreWholeVersions, BeginWithSequence, IsWholeVersion}
 use Rattle.version_units.proofs.Codes.{CodeOf}
@@ -76,7 +76,7 @@ module _ (before : Option SeqState) (unit : List ℕ) (picture : Picture) (after
       let rest = coarser-versions ms vs zip.1 in
       (All-cons (IsWholeVersion before after) v vs one.0 rest.0, λ led. All-cons BeginsSequence v vs (one.1 led) (rest.1 led))
 
-unit-versions : (before : Option SeqState) (unit coarser : List ℕ) (after : SeqState) (versions : List UnitVersion) → MayPrecede before → IsSourceUnit unit → AreBytes unit → Leaves before unit after
+unit-versions : (before : Option SeqState) (unit coarser : List ℕ) (after : SeqState) (versions : List UnitVersion) → MayPrecede before → IsSourceUnit unit → AreBytes unit → LeavesState before unit after
     → AreVersions before unit coarser versions → All (IsWholeVersion before after) versions × ((3 < length unit → CodeOf is_sequence_header unit 0) → All BeginsSequence versions)
 unit-versions before unit coarser after versions may source are leaves is =
     let same : is.picture ≡ leaves.picture = ((exact-picture_unit before).one_value is.picture leaves.picture (bit_list unit) [] [] is.whole.spelled leaves.whole.spelled).0 in
@@ -105,9 +105,9 @@ all-versions es coarser before (u ∷ us) [] are may spans is = absurd is
 all-versions es coarser before (u ∷ us) (v ∷ vs) are may spans (after, leaves, here, rest) =
     let source = source-unit es u.begin u.end (All-head (IsSpanOf es) u us spans) in
     let state : MayPrecede (Some after) = subst (λ (s : SeqState). MayPrecede (Some s)) leaves.after_is
-    (state-of_unit before leaves.picture (bit_list (bytes_of es u)) [] may leaves.whole.spelled) in (
+    (state-of_unit before leaves.picture (bit_list (bytes_of_unit es u)) [] may leaves.whole.spelled) in (
       after,
-      (unit-versions before (bytes_of es u) coarser after v may source (range-bytes es u.begin u.end are) leaves here).0,
+      (unit-versions before (bytes_of_unit es u) coarser after v may source (range-bytes es u.begin u.end are) leaves here).0,
       all-versions es coarser (Some after) us vs are state (All-tail (IsSpanOf es) u us spans) rest,
     )
 
@@ -115,7 +115,7 @@ led-versions : (es coarser : List ℕ) (unit : UnitSource) (units : List UnitSou
     → has_code is_sequence_header es unit.begin ≡ true → AreVideoVersions es coarser None (unit ∷ units) versions → BeginWithSequence versions
 led-versions es coarser u us [] are span led is = absurd is
 led-versions es coarser u us (v ∷ vs) are span led (after, leaves, here, rest) =
-    (unit-versions None (bytes_of es u) coarser after v tt (source-unit es u.begin u.end span) (range-bytes es u.begin u.end are) leaves here).1 (led-unit es u.begin u.end span.inside led)
+    (unit-versions None (bytes_of_unit es u) coarser after v tt (source-unit es u.begin u.end span) (range-bytes es u.begin u.end are) leaves here).1 (led-unit es u.begin u.end span.inside led)
 
 -- ---- a program's units
 
@@ -158,7 +158,7 @@ first-source start earliest (u ∷ us) (p ∷ ps) picture later [] are is = absu
 first-source start earliest (u ∷ us) (p ∷ ps) picture later (s ∷ ss) (begins, ends, times, due, are) is = (u, us, s, ss, refl, refl, begins)
 
 pub program-versions : (content : List ℕ) (number : ℕ) (dropped : List ℕ) (start : ℕ) (program : Program) (coarser : List ℕ) (versions : List (List UnitVersion)) → AreBytes program.video
-    → IsProgramOf content number dropped start program → AreVideoVersions program.video coarser None program.units versions → AreWholeVersions None versions × BeginWithSequence versions
+    → IsProgramOfFile content number dropped start program → AreVideoVersions program.video coarser None program.units versions → AreWholeVersions None versions × BeginWithSequence versions
 program-versions content number dropped start program coarser versions are of is =
     let program_is = of.program_is in
     let es : List ℕ = video_bytes of.demuxed in

@@ -6,7 +6,7 @@ ghost use Rattle.syntax_types.specs.declared.picture.Picture.{Picture};
 ghost use Rattle.syntax_types.specs.declared.picture.SeqState.{SeqState};
 ghost use Rattle.picture_grammar.specs.Picture.{SpellsPicture};
 ghost use Rattle.program_reader.specs.declared.program.Program.{Program};
-ghost use Rattle.program_reader.specs.Programs.{IsProgramOf};
+ghost use Rattle.program_reader.specs.Programs.{IsProgramOfFile};
 ghost use Rattle.version_maker.specs.declared.version.UnitVersion.{UnitVersion};
 ghost use Rattle.version_source.specs.Versions.{AreVideoVersions};
 ghost use Rattle.version_units.specs.OwnCodes.{codes_from, own_codes};
@@ -16,10 +16,10 @@ ghost use Rattle.version_units.specs.WholeVersions.{AreWholeVersions, BeginWithS
 /// read behind the state that the unit before leaves, in whichever version that goes out; and the first unit's versions begin with a sequence header.
 pub fn versions_are_whole_units()
     ensures whole { (content : List ℕ) (number : ℕ) (dropped : List ℕ) (start : ℕ) (program : Program) (coarser : List ℕ) (versions : List (List UnitVersion))
-        → AreBytes program.video → IsProgramOf content number dropped start program → AreVideoVersions program.video coarser None program.units versions
+        → AreBytes program.video → IsProgramOfFile content number dropped start program → AreVideoVersions program.video coarser None program.units versions
         → AreWholeVersions None versions }
     ensures led { (content : List ℕ) (number : ℕ) (dropped : List ℕ) (start : ℕ) (program : Program) (coarser : List ℕ) (versions : List (List UnitVersion))
-        → AreBytes program.video → IsProgramOf content number dropped start program → AreVideoVersions program.video coarser None program.units versions
+        → AreBytes program.video → IsProgramOfFile content number dropped start program → AreVideoVersions program.video coarser None program.units versions
         → BeginWithSequence versions }
 {}
 

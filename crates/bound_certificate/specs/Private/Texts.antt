@@ -9,7 +9,7 @@ use Rattle.bound_certificate.specs.declared.read_node.Kind.TheVariants.{Branch, 
 use Rattle.bound_certificate.specs.declared.cert.Node.{Node}
 use Rattle.bound_certificate.specs.declared.cert.Node.TheVariants as nodes
 use Rattle.bound_certificate.specs.Cert.{HasRoom}
-use Rattle.bound_certificate.specs.Reading.{IsSyntaxRefusal}
+use Rattle.bound_certificate.specs.Reading.{IsCertSyntaxRefusal}
 
 -- one text behind another, where the first one decides what may follow
 pub record Then (first : List ℕ → Type 0) (second : List ℕ → List ℕ → Type 0) (bytes : List ℕ) : Type 0 where
@@ -136,7 +136,7 @@ IsText = Then IsMark (λ _. Then (IsByte 1 2) (λ version. Then (IsBlock 16) (λ
 
 -- why whole bytes are no certificate's
 abbrev pub IsWholeStop : List ℕ → Stop → Type 0
-IsWholeStop bytes (At left) = AreBytes bytes → (n : ℕ) × (n + left ≡ length bytes) × IsSyntaxRefusal bytes n
+IsWholeStop bytes (At left) = AreBytes bytes → (n : ℕ) × (n + left ≡ length bytes) × IsCertSyntaxRefusal bytes n
 IsWholeStop bytes OutOfMemory = Unit {0}
 
 -- the first byte of a node of this kind

@@ -6,7 +6,7 @@ use Rattle.version_table.specs.declared.table.Version.{Version}
 use Rattle.version_table.specs.declared.table.Table.{Table}
 use Rattle.version_table.specs.Choice.{version_at}
 use Rattle.dual_bounds.specs.declared.windows.Window.{Window as PricedWindow}
-use Rattle.dual_bounds.specs.Values.{least_cost, packets_of}
+use Rattle.dual_bounds.specs.Values.{least_cost, packet_count}
 use Rattle.certificate_checker.specs.declared.order.DueUnit.{DueUnit}
 use Rattle.certificate_checker.specs.declared.path.OpenBranch.{OpenBranch}
 use Rattle.certificate_checker.specs.declared.path.Path.{Path}
@@ -79,7 +79,7 @@ pub record IsTally (table : Table) (fixed : List (Option ℕ)) (innermost : List
   pub size : length tally.places.items ≡ length tally.order.items
   pub places : ArePlaces tally.order.items tally.places.items (length tally.order.items)
   pub chain : IsChain tally.order.items tally.places.items fixed innermost tally.links.next.items tally.links.previous.items
-  pub packets : HasAmounts table tally.order.items fixed packets_of tally.packets
+  pub packets : HasAmounts table tally.order.items fixed packet_count tally.packets
   pub distortions : HasAmounts table tally.order.items fixed (λ version. version.distortion) tally.distortions
   pub least : tally.free_least ≡ free_sum table tally.order.items fixed
 
@@ -100,7 +100,7 @@ pub record IsVersionPut (place : ℕ) (version : Version) (old new : Tally) : Ty
   pub places : new.places ≡ old.places
   pub links : new.links ≡ old.links
   pub least : new.free_least ≡ old.free_least
-  pub packets : IsNumberPut place (packets_of version) old.packets new.packets
+  pub packets : IsNumberPut place (packet_count version) old.packets new.packets
   pub distortions : IsNumberPut place version.distortion old.distortions new.distortions
 
 -- room for so many units

@@ -3,7 +3,7 @@ use Rattle.std.specs.Prelude.{◌≡◌, ℕ, ◌+◌, ◌-◌, ◌*◌, ◌<◌
 use Rattle.version_table.specs.declared.table.Version.{Version}
 use Rattle.dual_bounds.specs.declared.constants.TheConstants.{DISTORTION_PARTS}
 use Rattle.version_table.specs.Choice.{least}
-use Rattle.dual_bounds.specs.Values.{cost, packets_of}
+use Rattle.dual_bounds.specs.Values.{cost, packet_count}
 use Rattle.cost_sweep.specs.declared.step.CostStep.{CostStep}
 use Rattle.cost_sweep.specs.Steps.{paid, spared}
 use Rattle.cost_steps.specs.declared.constants.TheConstants.{PRICE_MOST}
@@ -16,7 +16,7 @@ line_cost line price = line.rise + line.packets * price
 -- the line of a version
 pub record IsLineOf (version : Version) (line : Line) : Type 0 where
   pub rise : line.rise ≡ DISTORTION_PARTS * version.distortion
-  pub packets : line.packets ≡ packets_of version
+  pub packets : line.packets ≡ packet_count version
 
 -- the line of one of the versions, and none costs less at the price
 pub record IsLeastLine (versions : List Version) (price : ℕ) (line : Line) : Type 0 where
@@ -26,13 +26,13 @@ pub record IsLeastLine (versions : List Version) (price : ℕ) (line : Line) : T
 
 -- a version with fewer packets than a line costs less at a price
 pub record CostsLess (price : ℕ) (line : Line) (version : Version) : Type 0 where
-  pub fewer : packets_of version < line.packets
+  pub fewer : packet_count version < line.packets
   pub less : cost price version < line_cost line price
 
 -- the price from which on another version with fewer packets costs less
 pub record IsNext (versions : List Version) (line : Line) (next : ℕ) : Type 0 where
   pub most : next ≤ PRICE_MOST + 1
-  pub before : (price : ℕ) → price < next → All (λ version. packets_of version < line.packets → line_cost line price ≤ cost price version) versions
+  pub before : (price : ℕ) → price < next → All (λ version. packet_count version < line.packets → line_cost line price ≤ cost price version) versions
   pub at : next ≤ PRICE_MOST → (k : ℕ) × (k < length versions) × ((d : Version) → CostsLess next line (slice_index_or versions k d))
 
 -- the first step above a base price: what a line costs

@@ -8,7 +8,7 @@ use Rattle.program_reader.specs.declared.program.Program.{Program}
 use Rattle.program_reader.specs.declared.program_fault.ProgramFault.TheVariants.{Refused}
 use Rattle.program_reader.specs.declared.program_fault.SourceKind.{SourceKind}
 use Rattle.program_reader.specs.declared.program_fault.SourceKind.TheVariants.{ProgramLimit}
-use Rattle.program_reader.specs.Programs.{IsProgramOf, IsProgramRefused}
+use Rattle.program_reader.specs.Programs.{IsProgramOfFile, IsProgramRefused}
 use Rattle.job_programs.specs.Programs.{bytes_of_files, units_of_programs, last_time}
 
 -- a packet of audio is due, and gone, no later than this
@@ -26,7 +26,7 @@ pub record KeepsTime (slot : ℕ) (program : Program) : Type 0 where
 -- share are kept.
 pub record IsProgramBehind (slot start bytes units number : ℕ) (drop : List ℕ) (content : List ℕ) (program : Program) : Type 0 where
   pub few_bytes : bytes + length content ≤ FILE_BYTES_MOST
-  pub holds : IsProgramOf content number drop start program
+  pub holds : IsProgramOfFile content number drop start program
   pub few_units : units + length program.units ≤ UNITS_MOST
   pub within : KeepsTime slot program
 
@@ -37,10 +37,10 @@ pub data IsRefusedBehind (slot start bytes units number : ℕ) (drop : List ℕ)
       → IsRefusedBehind slot start bytes units number drop content kind at
   file : bytes + length content ≤ FILE_BYTES_MOST → IsProgramRefused content number drop (Refused kind at)
       → IsRefusedBehind slot start bytes units number drop content kind at
-  many_units : (program : Program) → bytes + length content ≤ FILE_BYTES_MOST → IsProgramOf content number drop start program
+  many_units : (program : Program) → bytes + length content ≤ FILE_BYTES_MOST → IsProgramOfFile content number drop start program
       → UNITS_MOST < units + length program.units → kind ≡ ProgramLimit → at ≡ 0
       → IsRefusedBehind slot start bytes units number drop content kind at
-  late : (program : Program) → bytes + length content ≤ FILE_BYTES_MOST → IsProgramOf content number drop start program
+  late : (program : Program) → bytes + length content ≤ FILE_BYTES_MOST → IsProgramOfFile content number drop start program
       → ¬ KeepsTime slot program → kind ≡ ProgramLimit → at ≡ 0
       → IsRefusedBehind slot start bytes units number drop content kind at
 
@@ -50,7 +50,7 @@ pub data IsRefusedBehind (slot start bytes units number : ℕ) (drop : List ℕ)
 abbrev pub HoldPrograms : (start : ℕ) → List ProgramJob → (contents : List (List ℕ)) → List Program → Type 0
 HoldPrograms start [] [] [] = Unit {0}
 HoldPrograms start (job ∷ jobs) (content ∷ contents) (program ∷ programs) =
-    IsProgramOf content job.program job.drop.items start program × HoldPrograms start jobs contents programs
+    IsProgramOfFile content job.program job.drop.items start program × HoldPrograms start jobs contents programs
 HoldPrograms start jobs contents programs = ⊥
 
 -- Files with these contents, one for each of these programs of a job, hold these programs, and the limits that they share are kept.

@@ -4,7 +4,7 @@ use Rattle.shelf_io.specs.Files.{Files, Lacks}
 use Rattle.shelf_io.specs.Counts.{Rose, ShelfCounts}
 use Rattle.job_report.specs.declared.job.Job.{Job}
 use Rattle.job_report.specs.declared.job.ProgramJob.{ProgramJob}
-use Rattle.job_programs.specs.Told.{IsRefusedOn, StopsAt, AreProgramsOn}
+use Rattle.job_programs.specs.Told.{IsRefusedOn, StopsAtProgram, AreProgramsOn}
 use Rattle.program_table.specs.Table.{IsTableOf}
 use Rattle.job_run.specs.declared.job_stop.JobStop.{JobStop}
 use Rattle.job_run.specs.declared.job_stop.JobStop.TheVariants.{Text, Source, Unread, Missing, OutOfMemory}
@@ -20,7 +20,7 @@ pub record IsTableOfJob (told : Option Files) (job : Job) (made : JobTable) : Ty
 pub record IsNextOf (told : Option Files) (job : Job) (file : List ℕ) : Type 0 where
   pub number : ℕ
   pub program : ProgramJob
-  pub stops : StopsAt told job number program
+  pub stops : StopsAtProgram told job number program
   pub file_is : file ≡ program.file
 
 -- why the programs of a job have no table

@@ -6,7 +6,7 @@ use Rattle.dual_bounds.specs.declared.windows.Multiplier.{Multiplier}
 use Rattle.dual_bounds.specs.declared.windows.Window.{Window}
 use Rattle.dual_bounds.specs.Values.{value_of_windows}
 use Rattle.multiplier_search.specs.Windows.{BeatEachTried, IsSound}
-use Rattle.multiplier_search.specs.Single.{IsFirstBest, IsNoWorse}
+use Rattle.multiplier_search.specs.Single.{IsFirstBest, IsNoWorseMultiplier}
 
 -- the value of a window alone with this lambda
 abbrev pub value_at : Table → List (Option ℕ) → (from due lambda : ℕ) → ℤ
@@ -38,7 +38,7 @@ GoesFirst a b = (a.due < b.due) ⊎ ((a.due ≡ b.due) × (a.lambda < b.lambda))
 
 -- the one of two multipliers that is no worse than the other
 abbrev pub BetterOf : Table → List (Option ℕ) → (a b better : Multiplier) → Type 0
-BetterOf table fixed a b better = ((better ≡ a) × IsNoWorse table fixed a b) ⊎ ((better ≡ b) × IsNoWorse table fixed b a)
+BetterOf table fixed a b better = ((better ≡ a) × IsNoWorseMultiplier table fixed a b) ⊎ ((better ≡ b) × IsNoWorseMultiplier table fixed b a)
 
 -- the best of the windows that are tried for these due times; none where there is none
 abbrev pub IsBestWindow : Table → List (Option ℕ) → List ℕ → Option Window → Type 0

@@ -1,7 +1,7 @@
 -- The PES packets of a PID as headers and payloads, for worked examples.
 use Rattle.std.specs.Prelude.{ℕ, Bool, List, [], ◌∷◌, drop, if◌then◌else◌}
 use Rattle.pes_units.specs.declared.pes_header.PesHeader.{PesHeader}
-use Rattle.pes_units.specs.PesHeader.{header_length, fields_of}
+use Rattle.pes_units.specs.PesHeader.{header_length, pes_fields_of}
 use Rattle.pes_units.specs.PesPackets.{Gathered, is_dropped}
 
 -- a PES packet: its header, and what follows it
@@ -11,7 +11,7 @@ pub record PesPacket : Type 0 where
 
 -- the packet that the bytes are
 abbrev pub packet_of : List ℕ → PesPacket
-packet_of bytes = record { header = fields_of bytes; payload = drop (header_length bytes) bytes }
+packet_of bytes = record { header = pes_fields_of bytes; payload = drop (header_length bytes) bytes }
 
 -- the header and the payload of each of the gathered packets, where nothing refuses them; a dropped last one is left out
 abbrev pub pes_packets : Bool → List Gathered → List PesPacket

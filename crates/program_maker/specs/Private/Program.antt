@@ -7,7 +7,7 @@ use Rattle.psi_tables.specs.Pmt.{written_pmt}
 use Rattle.ts_packets.specs.Packet.{PacketRecord}
 use Rattle.program_maker.specs.declared.format.TheConstants.{STREAM_ID, PROGRAM, PAT_PID, PMT_PID, AUDIO_PID}
 use Rattle.program_maker.specs.declared.output.Output.{Output}
-use Rattle.program_maker.specs.Draws.{each}
+use Rattle.program_maker.specs.Draws.{draw_each}
 use Rattle.program_maker.specs.Streams.{drawn_frame, frame_pes}
 use Rattle.program_maker.specs.Packets.{section_packet, pes_packets}
 use Rattle.program_maker.specs.Program.{program_map}
@@ -23,7 +23,7 @@ pub record IsBehindTables (out : Output) : Type 0 where
 
 -- the state behind so many frames
 abbrev pub frames_state : ℕ → ℕ → ℕ
-frames_state start number = (each (range_with_len 0 number) (λ _. drawn_frame) start).1
+frames_state start number = (draw_each (range_with_len 0 number) (λ _. drawn_frame) start).1
 
 -- the packets of so many frames, from this one on
 abbrev pub frames_packets : ℕ → ℕ → ℕ → List PacketRecord

@@ -7,7 +7,7 @@ use Rattle.program_reader.specs.declared.pes_packets.PlacedPacket.{PlacedPacket}
 use Rattle.program_reader.specs.declared.program_fault.ProgramFault.{ProgramFault}
 use Rattle.program_reader.specs.declared.program_fault.ProgramFault.TheVariants.{Refused, OutOfMemory}
 use Rattle.program_reader.specs.declared.unit_picture.TimedUnit.{TimedUnit}
-use Rattle.program_reader.specs.Faults.{kind_of}
+use Rattle.program_reader.specs.Faults.{source_kind_of}
 use Rattle.program_reader.specs.Units.{IsNext, IsBroken, IsUnitRefused}
 use Rattle.program_reader.specs.declared.timed_picture.TimedPicture.{TimedPicture}
 
@@ -22,7 +22,7 @@ pub record IsPossible (picture : TimedPicture) : Type 0 where
 -- what a last unit that is refused so is answered by, and any other unit
 abbrev pub broken_answer : TimedUnit → Option PlacedRefusal → Result (Option TimedPicture) ProgramFault
 broken_answer unit None = Err OutOfMemory
-broken_answer unit (Some said) = if unit.is_last then Ok None else Err (Refused (kind_of said.refusal) (unit.begin + said.at / 8))
+broken_answer unit (Some said) = if unit.is_last then Ok None else Err (Refused (source_kind_of said.refusal) (unit.begin + said.at / 8))
 
 -- a unit is this picture behind the one before, or breaks a rule of headers or pictures and is the last one
 abbrev pub IsFound : List ℕ → List PlacedPacket → Option TimedPicture → TimedUnit → Option TimedPicture → Type 0

@@ -7,21 +7,21 @@ use Rattle.version_table.specs.declared.table.Version.{Version}
 use Rattle.version_table.specs.declared.table.ProgramRow.{ProgramRow}
 use Rattle.picture_grammar.specs.Picture.{MayPrecede}
 use Rattle.program_reader.specs.declared.program.Program.{Program}
-use Rattle.pes_units.specs.VideoHeader.{AreInRange, IsBesidePts, written_header}
+use Rattle.pes_units.specs.VideoHeader.{AreInRange, IsBesidePts, written_pes_header}
 use Rattle.program_reader.specs.declared.program.UnitSource.{UnitSource}
 use Rattle.program_reader.specs.declared.unit_sizes.UnitSizes.{UnitSizes}
 use Rattle.version_bounds.specs.declared.limits.TheConstants.{UNIT_VERSION_BYTES_MOST, UNIT_VERSION_DISTORTION_MOST}
 use Rattle.version_maker.specs.declared.version.UnitVersion.{UnitVersion}
 use Rattle.version_maker.specs.declared.version.VersionSize.{VersionSize}
 use Rattle.version_maker.specs.Versions.{AreVersions}
-use Rattle.version_source.specs.Sendable.{SpellInOrder, bytes_of}
+use Rattle.version_source.specs.Sendable.{SpellInOrder, bytes_of_unit}
 use Rattle.version_source.specs.Versions.{AreAllVersions, AreVideoVersions, ratios_of}
 use Rattle.program_table.specs.Table.{program_rows, unit_row, unit_rows}
 
 -- a unit with all its versions behind a state
 pub record IsUnitRow (es coarser : List ℕ) (before : Option SeqState) (weight : ℕ) (unit : UnitSource) (row : CodedUnit) : Type 0 where
   pub versions : List UnitVersion
-  pub are_versions : AreVersions before (bytes_of es unit) coarser versions
+  pub are_versions : AreVersions before (bytes_of_unit es unit) coarser versions
   pub row_is : row ≡ unit_row weight unit versions
 
 -- units with all their versions, from a state on
@@ -50,7 +50,7 @@ pub record CanBeSaid (unit : UnitSource) : Type 0 where
 -- a unit with versions of these sizes
 abbrev pub sized_row : (weight : ℕ) → UnitSource → UnitSizes → CodedUnit
 sized_row weight unit sizes =
-    record { due = unit.due; versions = record { items = map (with_header (length (written_header unit.times)) weight) sizes.versions.items } }
+    record { due = unit.due; versions = record { items = map (with_header (length (written_pes_header unit.times)) weight) sizes.versions.items } }
 
 -- units with theirs, in order
 abbrev pub sized_rows : (weight : ℕ) → List UnitSource → List UnitSizes → List CodedUnit

@@ -1,7 +1,7 @@
 -- What becomes of a certificate.
 use Rattle.std.specs.Prelude.{ℕ, List}
 use Rattle.bound_certificate.specs.declared.cert.Cert.{Cert}
-use Rattle.bound_certificate.specs.Reading.{IsRead, Holds, RefusedAt}
+use Rattle.bound_certificate.specs.Reading.{IsCertRead, Holds, RefusedAt}
 use Rattle.certificate_checker.specs.Checked.{IsFaultless, IsFirstFault}
 use Rattle.certificate_checker.specs.declared.why.CertFault.{CertFault}
 use Rattle.job_report.specs.declared.report.Report.TheVariants as reports
@@ -20,6 +20,6 @@ pub data IsVerdict (table : Table) (cert : Cert) (ended : Ended) : Type 0 where
 
 -- bytes are those of a certificate that is accepted or refused, or no certificate's
 pub data IsVerdictOn (table : Table) (bytes : List ℕ) (ended : Ended) : Type 0 where
-  spelled : (cert : Cert) → IsRead bytes (Holds cert) → IsVerdict table cert ended → IsVerdictOn table bytes ended
-  unspelled : (byte : ℕ) → IsRead bytes (RefusedAt byte) → EndsBy (statuses.CertRefused (Syntax byte)) (cert_report (Syntax byte)) ended
+  spelled : (cert : Cert) → IsCertRead bytes (Holds cert) → IsVerdict table cert ended → IsVerdictOn table bytes ended
+  unspelled : (byte : ℕ) → IsCertRead bytes (RefusedAt byte) → EndsBy (statuses.CertRefused (Syntax byte)) (cert_report (Syntax byte)) ended
       → IsVerdictOn table bytes ended

@@ -1,7 +1,7 @@
 -- What `run` writes and reports beside the stream.
 use Rattle.std.specs.Prelude.{◌≡◌, ◌⊎◌, ℕ, List, Option, Some, None}
 use Rattle.bound_certificate.specs.declared.cert.Cert.{Cert}
-use Rattle.bound_certificate.specs.Spelling.{spelling}
+use Rattle.bound_certificate.specs.Spelling.{cert_spelling}
 use Rattle.job_report.specs.declared.report.Report.TheVariants as reports
 use Rattle.job_run.specs.declared.job_table.JobTable.{JobTable}
 use Rattle.run_report.specs.Report.{run_report}
@@ -16,7 +16,7 @@ use Rattle.remux_core.specs.Private.Ended.{EndsBy}
 
 -- the bytes of the certificate, and the end that reports the run
 pub record IsPrepared (made : JobTable) (cert : Cert) (slots : SlotList) (prepared : Prepared) : Type 0 where
-  pub bytes : prepared.bytes ≡ spelling cert
+  pub bytes : prepared.bytes ≡ cert_spelling cert
   pub ends : EndsBy statuses.Ok (run_report made.job.programs made.programs cert slots.slots) prepared.done
 
 -- a certificate was written whole, and the end is the one that was prepared; or its file holds what it held, or a front of it

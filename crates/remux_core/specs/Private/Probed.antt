@@ -2,7 +2,7 @@
 use Rattle.std.specs.Prelude.{◌≡◌}
 use Rattle.program_reader.specs.declared.program.Program.{Program}
 use Rattle.version_table.specs.declared.table.Table.{Table}
-use Rattle.version_table.specs.Text.{IsTextTable, spelling}
+use Rattle.version_table.specs.Text.{IsTextTable, table_spelling}
 use Rattle.remux_core.specs.declared.probe_command.Probed.{Probed}
 use Rattle.remux_core.specs.declared.status.Status.TheVariants.{Ok}
 use Rattle.remux_core.specs.Private.Ended.{EndsBy}
@@ -14,5 +14,5 @@ pub record IsProbedText (program : Program) (probed : Probed) : Type 0 where
   pub made : Table
   pub is_table : IsProbedTable program made
   pub is_text : IsTextTable made
-  pub spelled : probed.text ≡ spelling made
+  pub spelled : probed.text ≡ table_spelling made
   pub ends : EndsBy Ok (probe_report program) probed.done

@@ -10,7 +10,7 @@ use Rattle.syntax_types.specs.declared.picture.PicCoding.{PicCoding}
 use Rattle.syntax_types.specs.declared.picture.SeqState.{SeqState}
 use Rattle.picture_grammar.specs.Macroblock.{block_way, no_block}
 use Rattle.requantiser.specs.Distortion.{squared_difference}
-use Rattle.requantiser.specs.Levels.{coefficient_at, place_of, scale_of, weight_at}
+use Rattle.requantiser.specs.Levels.{coefficient_at, scan_place, scale_of, weight_at}
 use Rattle.requantiser.specs.Private.Walk.{coarsened_pairs}
 
 -- the weight of a place of the scan in a matrix
@@ -50,4 +50,4 @@ pair_changes change place (pair ∷ pairs) = change (place + pair.run) pair.leve
 -- the coefficient of the blocks of a macroblock of this kind, under the code in force in it, in one of them, at a raster index
 abbrev pub coefficient_of_blocks : SeqState → PicCoding → Kind → ℕ → List Block → ℕ → ℕ → ℤ
 coefficient_of_blocks seq coding kind code blocks i index =
-    coefficient_at seq coding (block_way coding kind i) code (slice_index_or blocks i no_block) (place_of coding.alternate_scan index)
+    coefficient_at seq coding (block_way coding kind i) code (slice_index_or blocks i no_block) (scan_place coding.alternate_scan index)

@@ -10,7 +10,7 @@ use Rattle.slot_rule.specs.declared.constants.TheConstants.{MARGIN_SUBTICKS}
 use Rattle.slot_rule.specs.declared.sent.Sent.{Sent}
 use Rattle.slot_rule.specs.declared.sent.Sent.TheVariants.{Null, Pat, Pmt, Pcr, Video as VideoPiece, Audio as AudioPiece}
 use Rattle.slot_rule.specs.declared.queue_state.QueueState.{QueueState}
-use Rattle.slot_rule.specs.Buffers.{Row, Reserved, Carries, Empty, is_of, mb_work, tb_subticks, tb_work}
+use Rattle.slot_rule.specs.Buffers.{Row, Reserved, Carries, Empty, is_of, mb_work, queue_tb_subticks, tb_work}
 use Rattle.slot_rule.specs.Private.Heads.{IsFirst, IsFirstHead, Passes, PassesAt}
 use Rattle.slot_rule.specs.Schedule.{FollowRule}
 use Rattle.slot_rule.specs.SlotList.{piece_sent}
@@ -55,7 +55,7 @@ Reserves (AudioPiece stream packet) now olds news = news ≡ olds
 pub record Sends (packets : List QueuedPacket) (packet : QueuedPacket) (now : ℕ) (old new : QueueState) : Type 0 where
   pub keeps : KeepsPlace packets new
   pub changed : new ≡ record old {
-    tb_empty = max old.tb_empty now + PACKET_BYTES * tb_subticks old.kind;
+    tb_empty = max old.tb_empty now + PACKET_BYTES * queue_tb_subticks old.kind;
     mb_empty = max old.mb_empty now + MB_SUBTICKS * packet.payload;
     sent = old.sent + 1;
     head = new.head;

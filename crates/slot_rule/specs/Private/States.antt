@@ -6,7 +6,7 @@ use Rattle.stream_constants.specs.declared.packets.TheConstants.{PACKET_BYTES}
 use Rattle.slot_rule.specs.declared.queue_items.QueueItems.{QueueItems}
 use Rattle.slot_rule.specs.declared.queue_items.QueueItems.TheVariants.{Units, Packets}
 use Rattle.slot_rule.specs.declared.queue_state.QueueState.{QueueState}
-use Rattle.slot_rule.specs.Buffers.{tb_subticks}
+use Rattle.slot_rule.specs.Buffers.{queue_tb_subticks}
 use Rattle.slot_rule.specs.Private.QueueItems.{IsPlace, queue_at}
 use Rattle.slot_rule.specs.Queues.{Queue}
 use Rattle.slot_rule.specs.Private.QueueState.{HasPcr, HoldsNoneGone, IsKind, IsNumbered, KeepsPlace, Releases, first_state, packets_at}
@@ -66,5 +66,5 @@ pub record ReleasesAll (table : Table) (choice : List ℕ) (start : ℕ) (old ne
 
 -- the PCR of a program goes, in a slot that begins at this subtick
 pub record TakesPcr (program now : ℕ) (old new : QueueState) : Type 0 where
-  pub own : HasPcr old.kind program → new ≡ record old { tb_empty = max old.tb_empty now + PACKET_BYTES * tb_subticks old.kind }
+  pub own : HasPcr old.kind program → new ≡ record old { tb_empty = max old.tb_empty now + PACKET_BYTES * queue_tb_subticks old.kind }
   pub other : (HasPcr old.kind program → ⊥) → new ≡ old

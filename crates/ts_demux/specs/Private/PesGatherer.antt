@@ -1,7 +1,7 @@
 -- What a gatherer of PES packets has gathered.
 use Rattle.std.specs.Prelude.{◌≡◌, ℕ, ◌+◌, ◌*◌, ◌⊎◌, Bool, List, [], ◌∷◌, ◌++◌, map, slice_get, Option, Some, None, Result, Ok, Err, if◌then◌else◌}
 use Rattle.ts_packets.specs.declared.pid_fault.PidFault.{PidFault}
-use Rattle.ts_packets.specs.TransportStream.{pieces_of}
+use Rattle.ts_packets.specs.TransportStream.{pid_pieces}
 use Rattle.ts_packets.specs.PidReader.{IsBehind}
 use Rattle.ts_demux.specs.declared.demux_fault.DemuxFault.{DemuxFault}
 use Rattle.ts_demux.specs.declared.demux_fault.DemuxFault.TheVariants.{OutOfMemory}
@@ -49,8 +49,8 @@ pub record IsClosed (gatherer after : PesGatherer) : Type 0 where
 -- the gatherer stands before a packet of the file
 pub record Gathers (file : List ℕ) (packet : ℕ) (gatherer : PesGatherer) : Type 0 where
   pub order : IsInOrder gatherer
-  pub packets : IsBehind (pieces_of file gatherer.pid 0 packet) gatherer.packets
-  pub units : gathered_of gatherer ≡ units_in (pieces_of file gatherer.pid 0 packet)
+  pub packets : IsBehind (pid_pieces file gatherer.pid 0 packet) gatherer.packets
+  pub units : gathered_of gatherer ≡ units_in (pid_pieces file gatherer.pid 0 packet)
 
 -- what comes of a packet: the gatherer stands behind it, and it has no fault; or it has one
 abbrev pub GathersMore : List ℕ → ℕ → PesGatherer → Result Unit DemuxFault → PesGatherer → Type 0

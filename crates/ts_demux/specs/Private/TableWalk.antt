@@ -1,6 +1,6 @@
 -- Where a walk over the packets of a file stands that reads the tables of a program.
 use Rattle.std.specs.Prelude.{◌≡◌, ◌≢◌, ℕ, ◌+◌, ◌<◌, ◌≤◌, ◌==◌, Bool, true, false, List, [], drop, Option, Some, None, Result, Ok, Err}
-use Rattle.ts_packets.specs.TransportStream.{piece_count, is_of_pid, pieces_of}
+use Rattle.ts_packets.specs.TransportStream.{piece_count, is_of_pid, pid_pieces}
 use Rattle.psi_tables.specs.declared.program_map.ProgramMap.{ProgramMap}
 use Rattle.psi_tables.specs.Sections.{Found}
 use Rattle.psi_tables.specs.declared.section.SectionFault.{SectionFault}
@@ -48,13 +48,13 @@ IsKnown file program packet rank (MapOn pid from) = IsNamed file program packet 
 abbrev pub IsMapReader : List ℕ → ℕ → Known → SectionReader → Type 0
 IsMapReader file packet Nothing reader = Waits [] [] reader
 IsMapReader file packet OtherPrograms reader = Waits [] [] reader
-IsMapReader file packet (MapOn pid from) reader = pid ≢ pat_pid → (from ≤ packet) × Waits (pieces_of file pid from packet) [] reader
+IsMapReader file packet (MapOn pid from) reader = pid ≢ pat_pid → (from ≤ packet) × Waits (pid_pieces file pid from packet) [] reader
 
 -- a walk stands before a packet
 pub record IsBetween (file : List ℕ) (packet : ℕ) (walk : TableWalk) : Type 0 where
   pub quiet : IsQuiet file walk.program packet 0
   pub known : IsKnown file walk.program packet 0 walk.known
-  pub pat : Waits (pieces_of file pat_pid 0 packet) [] walk.pat
+  pub pat : Waits (pid_pieces file pat_pid 0 packet) [] walk.pat
   pub map : IsMapReader file packet walk.known walk.map
 
 -- the sections of a packet of PID 0 are read, the first ones done
@@ -65,7 +65,7 @@ pub record IsInPat (file : List ℕ) (packet : ℕ) (walk : TableWalk) : Type 0 
   pub waiting : List Found
   pub quiet : IsQuiet file walk.program packet (done + 1)
   pub known : IsKnown file walk.program packet (done + 1) walk.known
-  pub pat : Waits (pieces_of file pat_pid 0 (packet + 1)) waiting walk.pat
+  pub pat : Waits (pid_pieces file pat_pid 0 (packet + 1)) waiting walk.pat
   pub waiting_is : drop done (sections_at file pat_pid 0 packet) ≡ waiting
   pub map : IsMapReader file (packet + 1) walk.known walk.map
 
@@ -82,9 +82,9 @@ pub record IsInMap (file : List ℕ) (packet : ℕ) (walk : TableWalk) : Type 0 
   pub waiting : List Found
   pub quiet : IsQuiet file walk.program packet (done + 1)
   pub named : IsNamed file walk.program packet (done + 1) pid from
-  pub map : Waits (pieces_of file pid from (packet + 1)) waiting walk.map
+  pub map : Waits (pid_pieces file pid from (packet + 1)) waiting walk.map
   pub waiting_is : drop done (sections_at file pid from packet) ≡ waiting
-  pub pat : Waits (pieces_of file pat_pid 0 (packet + 1)) [] walk.pat
+  pub pat : Waits (pid_pieces file pat_pid 0 (packet + 1)) [] walk.pat
 
 -- what comes of one section, where a walk stands behind it as `on` says, or behind all as `behind` does
 abbrev pub Reads : List ℕ → ℕ → Result Reading DemuxFault → Type 0 → Type 0 → Type 0

@@ -9,11 +9,11 @@ use Rattle.program_reader.specs.declared.program.Program.{Program}
 use Rattle.program_reader.specs.declared.program.UnitSource.{UnitSource}
 use Rattle.version_maker.specs.declared.version.UnitVersion.{UnitVersion}
 use Rattle.version_maker.proofs.Lists.{one-list}
-use Rattle.version_source.specs.Sendable.{Leaves, bytes_of}
+use Rattle.version_source.specs.Sendable.{LeavesState, bytes_of_unit}
 use Rattle.version_source.specs.Versions.{AreAllVersions, AreVideoVersions}
 
 -- a unit that spells a picture leaves one state alone
-pub one-state : (before : Option SeqState) (unit : List ℕ) (a b : SeqState) → Leaves before unit a → Leaves before unit b → a ≡ b
+pub one-state : (before : Option SeqState) (unit : List ℕ) (a b : SeqState) → LeavesState before unit a → LeavesState before unit b → a ≡ b
 one-state before unit a b p q =
     let same : p.picture ≡ q.picture = ((exact-picture_unit before).one_value p.picture q.picture (bit_list unit) [] [] p.whole.spelled q.whole.spelled).0 in
     sym p.after_is ∙ ap (λ (picture : Picture). picture.seq) same ∙ q.after_is
@@ -27,8 +27,8 @@ one-video es coarser before [] (v ∷ vs) b p q = absurd p
 one-video es coarser before (unit ∷ units) [] b p q = absurd p
 one-video es coarser before (unit ∷ units) (v ∷ vs) [] p q = absurd q
 one-video es coarser before (unit ∷ units) (v ∷ vs) (w ∷ ws) (after, leaves, here, rest) (other, left, there, others) =
-    let same : after ≡ other = one-state before (bytes_of es unit) after other leaves left in
-    ap₂ (λ (x : List UnitVersion) (xs : List (List UnitVersion)). x ∷ xs) (one-list before (bytes_of es unit) coarser v w here there)
+    let same : after ≡ other = one-state before (bytes_of_unit es unit) after other leaves left in
+    ap₂ (λ (x : List UnitVersion) (xs : List (List UnitVersion)). x ∷ xs) (one-list before (bytes_of_unit es unit) coarser v w here there)
     (one-video es coarser (Some other) units vs ws (subst (λ (s : SeqState). AreVideoVersions es coarser (Some s) units vs) same rest) others)
 
 -- of all programs

@@ -4,7 +4,7 @@ use Rattle.syntax_types.specs.declared.picture.SeqState.{SeqState}
 use Rattle.program_reader.specs.declared.program.UnitSource.{UnitSource}
 use Rattle.version_maker.specs.declared.version.UnitVersion.{UnitVersion}
 use Rattle.version_maker.specs.Versions.{AreVersions}
-use Rattle.version_source.specs.Sendable.{Leaves, bytes_of}
+use Rattle.version_source.specs.Sendable.{LeavesState, bytes_of_unit}
 use Rattle.version_source.specs.Pieces.{pes_packet}
 use Rattle.version_source.specs.Versions.{chosen_bytes}
 
@@ -13,9 +13,9 @@ abbrev pub LeaveBehind : List ℕ → Option SeqState → List UnitSource → (c
 LeaveBehind es before units zero after = before ≡ after
 LeaveBehind es before [] (suc count) after = ⊥
 LeaveBehind es before (unit ∷ units) (suc count) after =
-    (next : SeqState) × Leaves before (bytes_of es unit) next × LeaveBehind es (Some next) units count after
+    (next : SeqState) × LeavesState before (bytes_of_unit es unit) next × LeaveBehind es (Some next) units count after
 
 -- these bytes are the PES packet of a unit in the version of this number, whichever its versions are
 abbrev pub IsPacketOf : (es coarser : List ℕ) → Option SeqState → UnitSource → (index : ℕ) → List ℕ → Type 0
 IsPacketOf es coarser before unit index packet =
-    (versions : List UnitVersion) → AreVersions before (bytes_of es unit) coarser versions → packet ≡ pes_packet unit (chosen_bytes versions index)
+    (versions : List UnitVersion) → AreVersions before (bytes_of_unit es unit) coarser versions → packet ≡ pes_packet unit (chosen_bytes versions index)

@@ -5,7 +5,7 @@ use Rattle.syntax_types.specs.declared.picture.PicCoding.{PicCoding}
 use Rattle.picture_grammar.specs.Macroblock.{macroblock}
 use Rattle.picture_grammar.specs.Written.{written_macroblock}
 use Rattle.picture_laws.specs.Spellable.{IsSpellable}
-use Rattle.program_maker.specs.Draws.{each}
+use Rattle.program_maker.specs.Draws.{draw_each}
 use Rattle.program_maker.specs.Heads.{coding_of}
 use Rattle.program_maker.specs.Macroblocks.{drawn_macroblock}
 use Rattle.program_maker.specs.Pictures.{drawn_row}
@@ -43,7 +43,7 @@ returns-clause-written g c =
     let p = c.args.predicted in
     let start = c.args.draws.now.state in
     let all : c.loop-i._i ≡ 22 = omega (arith, c.loop-i-test.false, c.loop-i.auto._i-end) in
-    subst (λ i. GoesOn g.K.Sink.written c.args.to.now c.loop-i.to (flat_map (written_macroblock (coding_of p)) (each (range_with_len 0 i) (λ _. drawn_macroblock p) start).0)) all c.loop-i.invariant.0
+    subst (λ i. GoesOn g.K.Sink.written c.args.to.now c.loop-i.to (flat_map (written_macroblock (coding_of p)) (draw_each (range_with_len 0 i) (λ _. drawn_macroblock p) start).0)) all c.loop-i.invariant.0
 
 pub returns-clause-state : goal.returns-clause-state
 unfolding drawn_row
@@ -51,4 +51,4 @@ returns-clause-state g c =
     let p = c.args.predicted in
     let start = c.args.draws.now.state in
     let all : c.loop-i._i ≡ 22 = omega (arith, c.loop-i-test.false, c.loop-i.auto._i-end) in
-    subst (λ i. c.loop-i.draws.state ≡ (each (range_with_len 0 i) (λ _. drawn_macroblock p) start).1) all c.loop-i.invariant.1
+    subst (λ i. c.loop-i.draws.state ≡ (draw_each (range_with_len 0 i) (λ _. drawn_macroblock p) start).1) all c.loop-i.invariant.1

@@ -1,6 +1,6 @@
 use Rattle.std.proofs.Common.{◌≡◌, sym, ap, subst, ◌∙◌, arith}
 use Rattle.std.specs.List.{flat_map, range_with_len}
-use Rattle.program_maker.specs.Draws.{each}
+use Rattle.program_maker.specs.Draws.{draw_each}
 use Rattle.program_maker.specs.Heads.{coding_of}
 use Rattle.program_maker.specs.Pictures.{drawn_slice, drawn_slices}
 use Rattle.program_maker.specs.Private.Writing.{GoesOn, written_whole_slice}
@@ -26,7 +26,7 @@ returns-clause-written g c =
     let p = c.args.predicted in
     let start = c.args.draws.now.state in
     let all : c.loop-row.row ≡ 18 = omega (arith, c.loop-row-test.false, c.loop-row.auto.row-end) in
-    subst (λ i. GoesOn g.K.Sink.written c.args.to.now c.loop-row.to (flat_map (written_whole_slice (coding_of p)) (each (range_with_len 0 i) (drawn_slice p) start).0)) all c.loop-row.invariant.0
+    subst (λ i. GoesOn g.K.Sink.written c.args.to.now c.loop-row.to (flat_map (written_whole_slice (coding_of p)) (draw_each (range_with_len 0 i) (drawn_slice p) start).0)) all c.loop-row.invariant.0
 
 pub returns-clause-state : goal.returns-clause-state
 unfolding drawn_slices
@@ -34,4 +34,4 @@ returns-clause-state g c =
     let p = c.args.predicted in
     let start = c.args.draws.now.state in
     let all : c.loop-row.row ≡ 18 = omega (arith, c.loop-row-test.false, c.loop-row.auto.row-end) in
-    subst (λ i. c.loop-row.draws.state ≡ (each (range_with_len 0 i) (drawn_slice p) start).1) all c.loop-row.invariant.1
+    subst (λ i. c.loop-row.draws.state ≡ (draw_each (range_with_len 0 i) (drawn_slice p) start).1) all c.loop-row.invariant.1

@@ -4,7 +4,7 @@ use Rattle.bit_lists.specs.Fields.{AreBytes}
 use Rattle.bit_lists.proofs.ByteLemmas.{AreBytes-take}
 use Rattle.picture_reader.proofs.Parts.{are-bytes, are-dropped}
 use Rattle.version_maker.specs.declared.version.VersionSize.{VersionSize}
-use Rattle.version_source.specs.Sendable.{bytes_of}
+use Rattle.version_source.specs.Sendable.{bytes_of_unit}
 use Rattle.program_table.specs.Private.Rows.{IsBounded, with_header}
 use Rattle.program_table.proofs.Rows.{unit-row-of}
 use Rattle.program_table.proofs.States.{not-refused}
@@ -12,14 +12,14 @@ use Rattle.program_table.proofs.unit_row.row_of_unit.Goals as goal
 
 pub want_of_memory-requires : goal.want_of_memory-requires
 want_of_memory-requires c =
-    not-refused (option_copied c.args.before) c.unit_bytes-bytes.result.now (bytes_of c.args.es.now c.args.unit.now) c.in-Err.fault c.unit_bytes-bytes.ensures.bytes
+    not-refused (option_copied c.args.before) c.unit_bytes-bytes.result.now (bytes_of_unit c.args.es.now c.args.unit.now) c.in-Err.fault c.unit_bytes-bytes.ensures.bytes
     c.requires.picture c.in-Err.ensures
 
 pub with_headers-versions-requires-clause-bounded : goal.with_headers-versions-requires-clause-bounded
 with_headers-versions-requires-clause-bounded c =
     let es = c.args.es.now in
     let unit = c.args.unit.now in
-    let bytes : AreBytes (bytes_of es unit) =
+    let bytes : AreBytes (bytes_of_unit es unit) =
     AreBytes-take (unit.end - unit.begin) (drop unit.begin es) (are-dropped unit.begin es (are-bytes es (λ i. omega (arith, c.type_inv.es i)))) in
     subst (λ (sizes : List VersionSize). All IsBounded sizes) (sym c.as_slice.ensures.value)
     (c.sizes_are_bounded.ensures (option_copied c.args.before) c.unit_bytes-bytes.result.now c.args.coarser.now c.in-Ok.sizes.items c.requires.before

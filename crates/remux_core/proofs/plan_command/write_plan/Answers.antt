@@ -3,7 +3,7 @@ use Rattle.job_report.specs.declared.report.Report.TheVariants as reports
 use Rattle.remux_core.specs.declared.status.Status.TheVariants.{WriteFault}
 use Rattle.remux_core.specs.declared.status.Status.TheVariants as statuses
 use Rattle.remux_core.specs.Answer.{Decides, AnswerHasCause}
-use Rattle.bound_certificate.specs.Spelling.{spelling}
+use Rattle.bound_certificate.specs.Spelling.{cert_spelling}
 use Rattle.remux_core.specs.Outside.{OnFiles, shelf_facts}
 use Rattle.remux_core.specs.PlanCommand.{HasPlan}
 use Rattle.remux_core.specs.Private.Parsed.{plan_of}
@@ -15,14 +15,14 @@ use Rattle.remux_core.proofs.plan_command.write_plan.Goals as goal
 pub returns-in-Err-OutOfMemory-clause-decided : goal.returns-in-Err-OutOfMemory-clause-decided
 returns-in-Err-OutOfMemory-clause-decided g c =
     let files = c.args.files.now in
-    let bytes : c.as_slice.result.now ≡ spelling c.args.plan = c.as_slice.ensures ∙ c.in-Ok.ensures.bytes in
+    let bytes : c.as_slice.result.now ≡ cert_spelling c.args.plan = c.as_slice.ensures ∙ c.in-Ok.ensures.bytes in
     part_written (g.K.Shelf.files c.args.shelf.now) (g.K.Shelf.files c.write_file.new.shelf) files.table.now files.certificate.now c.args.plan
     c.as_slice.result.now bytes c.in-Err-OutOfMemory.ensures.err
 
 pub returns-in-Err-Failed-clause-decided : goal.returns-in-Err-Failed-clause-decided
 returns-in-Err-Failed-clause-decided g c =
     let files = c.args.files.now in
-    let bytes : c.as_slice.result.now ≡ spelling c.args.plan = c.as_slice.ensures ∙ c.in-Ok.ensures.bytes in
+    let bytes : c.as_slice.result.now ≡ cert_spelling c.args.plan = c.as_slice.ensures ∙ c.in-Ok.ensures.bytes in
     let old = g.K.Shelf.files c.args.shelf.now in
     let new = g.K.Shelf.files c.write_file.new.shelf in
     let part = part_written old new files.table.now files.certificate.now c.args.plan c.as_slice.result.now bytes c.in-Err-Failed.ensures.err in

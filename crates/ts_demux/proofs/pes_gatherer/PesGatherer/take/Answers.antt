@@ -1,7 +1,7 @@
 use Rattle.std.proofs.Common.{◌≡◌, ◌≤◌, ◌<◌, ◌++◌, ◌∷◌, ◌*◌, [], inr, Bool, true, false, ◌==◌, ap, sym, subst, refl, ◌∙◌, ℕ, Option, None, Some, IfSome, length, arith}
 use Rattle.std.proofs.lemmas.Bool.Decides.{nat_tests}
 use Rattle.ts_packets.specs.declared.packet.Packet.{Packet}
-use Rattle.ts_packets.specs.TransportStream.{Piece, pieces_of}
+use Rattle.ts_packets.specs.TransportStream.{Piece, pid_pieces}
 use Rattle.ts_packets.specs.Carried.{carried}
 use Rattle.ts_packets.specs.PidReader.{carried_at}
 use Rattle.ts_demux.specs.Faults.{of_pid}
@@ -23,14 +23,14 @@ returns-in-Err c =
     inr (
       c.in-Err.fault,
       gathers_fault file c.args.n c.args.bytes.now c.args.self.now c.in-Err.fault c.requires.within c.requires.bytes of_it
-          (sym (c.in-Err.ensures.fault (pieces_of file c.args.self.now.pid 0 c.args.n) (188 * c.args.n) c.requires.before.packets)),
+          (sym (c.in-Err.ensures.fault (pid_pieces file c.args.self.now.pid 0 c.args.n) (188 * c.args.n) c.requires.before.packets)),
       c.pid_refused.ensures ∙ ap (λ at. of_pid at c.in-Err.fault) c.place_of.ensures,
     )
 
 pub returns-in_default : goal.returns-in_default
 returns-in_default c =
     let file = c.args.file.now in
-    let before = pieces_of file c.args.self.now.pid 0 c.args.n in
+    let before = pid_pieces file c.args.self.now.pid 0 c.args.n in
     let piece : Piece = record { at = 188 * c.args.n; bytes = c.args.bytes.now } in
     let of_it = is_of file c.args.n c.args.pid c.args.self.now.pid c.args.bytes.now true c.requires.bytes c.requires.pid (yes_test c.args.pid c.args.self.now.pid c.if-pid-self.false) in
     let carries : carried (before ++ piece ∷ []) ≡ carried before
@@ -47,7 +47,7 @@ returns-in_default c =
 pub returns : goal.returns
 returns c =
     let file = c.args.file.now in
-    let before = pieces_of file c.args.self.now.pid 0 c.args.n in
+    let before = pid_pieces file c.args.self.now.pid 0 c.args.n in
     let piece : Piece = record { at = 188 * c.args.n; bytes = c.args.bytes.now } in
     let of_it = is_of file c.args.n c.args.pid c.args.self.now.pid c.args.bytes.now true c.requires.bytes c.requires.pid (yes_test c.args.pid c.args.self.now.pid c.if-pid-self.false) in
     let carries : carried (before ++ piece ∷ []) ≡ carried before

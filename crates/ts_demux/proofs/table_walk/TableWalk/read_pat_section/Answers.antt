@@ -2,7 +2,7 @@ use Rattle.std.proofs.Common.{◌≡◌, ◌+◌, ℕ, true, false, Option, Some
 use Rattle.arrayvec.specs.ArrayVec.{ArrayVec}
 use Rattle.psi_tables.specs.declared.section.SectionFault.{SectionFault}
 use Rattle.psi_tables.specs.SectionBuilder.{found_of}
-use Rattle.ts_packets.specs.TransportStream.{pieces_of}
+use Rattle.ts_packets.specs.TransportStream.{pid_pieces}
 use Rattle.ts_demux.specs.Faults.{of_section}
 use Rattle.ts_demux.specs.Tables.{pat_pid, refuse, StopsFirst, IsSection, IsBadPat}
 use Rattle.ts_demux.specs.Private.SectionReader.{ReadsNext}
@@ -13,17 +13,17 @@ use Rattle.ts_demux.proofs.table_walk.TableWalk.read_pat_section.Goals as goal
 pub returns-in_default-clause-read : goal.returns-in_default-clause-read
 returns-in_default-clause-read c =
     let within = c.requires.within in
-    let reads = c.next.ensures.read (pieces_of c.args.file.now pat_pid 0 (c.args.n + 1)) within.waiting within.pat in (
+    let reads = c.next.ensures.read (pid_pieces c.args.file.now pat_pid 0 (c.args.n + 1)) within.waiting within.pat in (
       pat_all_read c.args.file.now c.args.n c.args.self.now c.next.new.self within
           (subst (λ (found : Option (Result (ArrayVec ℕ) SectionFault)). ReadsNext
-          (pieces_of c.args.file.now pat_pid 0 (c.args.n + 1)) within.waiting found c.next.new.self) c.in_default.is reads),
+          (pid_pieces c.args.file.now pat_pid 0 (c.args.n + 1)) within.waiting found c.next.new.self) c.in_default.is reads),
       refl,
     )
 
 pub returns-in-Err-clause-read : goal.returns-in-Err-clause-read
 returns-in-Err-clause-read c =
     let within = c.requires.within in
-    let reads = c.in-Some.ensures.read (pieces_of c.args.file.now pat_pid 0 (c.args.n + 1)) within.waiting within.pat in
+    let reads = c.in-Some.ensures.read (pid_pieces c.args.file.now pat_pid 0 (c.args.n + 1)) within.waiting within.pat in
     let there = pat_there c.args.file.now c.args.n c.args.self.now c.in-Some.found c.next.new.self within reads in
     let bad : IsBadPat (found_of c.in-Some.found) c.in-Err.fault = subst (λ (found : Result (ArrayVec ℕ) SectionFault). IsBadPat (found_of found) c.in-Err.fault) (sym c.in-Err.is) refl in
     subst (λ fault. StopsFirst c.args.file.now c.args.self.now.program (refuse fault)) (sym (c.section_refused.ensures ∙ ap (λ at. of_section at c.in-Err.fault) c.place_of.ensures))
@@ -32,7 +32,7 @@ returns-in-Err-clause-read c =
 pub returns-in-Err-known_behind-clause-read : goal.returns-in-Err-known_behind-clause-read
 returns-in-Err-known_behind-clause-read c =
     let within = c.requires.within in
-    let reads = c.in-Some.ensures.read (pieces_of c.args.file.now pat_pid 0 (c.args.n + 1)) within.waiting within.pat in
+    let reads = c.in-Some.ensures.read (pid_pieces c.args.file.now pat_pid 0 (c.args.n + 1)) within.waiting within.pat in
     let there = pat_there c.args.file.now c.args.n c.args.self.now c.in-Some.found c.next.new.self within reads in
     let here : IsSection c.args.file.now pat_pid 0 c.args.n within.done (Ok c.in-Ok.section.items) = subst
     (λ (found : Result (ArrayVec ℕ) SectionFault). IsSection c.args.file.now pat_pid 0 c.args.n within.done (found_of found)) c.in-Ok.is there
@@ -45,8 +45,8 @@ returns-in-Err-known_behind-clause-read c =
 pub returns-then-not-is_on_pat_pid-clause-read : goal.returns-then-not-is_on_pat_pid-clause-read
 returns-then-not-is_on_pat_pid-clause-read c =
     let within = c.requires.within in
-    let reads = c.in-Some.ensures.read (pieces_of c.args.file.now pat_pid 0 (c.args.n + 1)) within.waiting within.pat in
-    let reads_it = subst (λ (found : Result (ArrayVec ℕ) SectionFault). ReadsNext (pieces_of c.args.file.now pat_pid 0 (c.args.n + 1)) within.waiting (Some found) c.next.new.self) c.in-Ok.is reads in
+    let reads = c.in-Some.ensures.read (pid_pieces c.args.file.now pat_pid 0 (c.args.n + 1)) within.waiting within.pat in
+    let reads_it = subst (λ (found : Result (ArrayVec ℕ) SectionFault). ReadsNext (pid_pieces c.args.file.now pat_pid 0 (c.args.n + 1)) within.waiting (Some found) c.next.new.self) c.in-Ok.is reads in
     let off : is_on_pat_pid c.args.self.now.known ≡ false = sym c.is_on_pat_pid.ensures ∙ c.if-not-is_on_pat_pid.true in (
       pat_goes_on c.args.file.now c.args.n c.args.self.now c.in-Ok.section c.in-Ok-known_behind.known c.next.new.self within reads_it
           c.in-Ok-known_behind.ensures (λ on. let e : false ≡ true = sym off ∙ on in absurd cc),
@@ -56,8 +56,8 @@ returns-then-not-is_on_pat_pid-clause-read c =
 pub returns-clause-read : goal.returns-clause-read
 returns-clause-read c =
     let within = c.requires.within in
-    let reads = c.in-Some.ensures.read (pieces_of c.args.file.now pat_pid 0 (c.args.n + 1)) within.waiting within.pat in
-    let reads_it = subst (λ (found : Result (ArrayVec ℕ) SectionFault). ReadsNext (pieces_of c.args.file.now pat_pid 0 (c.args.n + 1)) within.waiting (Some found) c.next.new.self) c.in-Ok.is reads in
+    let reads = c.in-Some.ensures.read (pid_pieces c.args.file.now pat_pid 0 (c.args.n + 1)) within.waiting within.pat in
+    let reads_it = subst (λ (found : Result (ArrayVec ℕ) SectionFault). ReadsNext (pid_pieces c.args.file.now pat_pid 0 (c.args.n + 1)) within.waiting (Some found) c.next.new.self) c.in-Ok.is reads in
     let on : is_on_pat_pid c.args.self.now.known ≡ true = sym c.is_on_pat_pid.ensures ∙ c.if-not-is_on_pat_pid.false in
     pat_map_read c.args.file.now c.args.n c.args.self.now c.in-Ok.section c.in-Ok-known_behind.known c.next.new.self c.read_program_map.result within
     reads_it c.in-Ok-known_behind.ensures on c.read_program_map.ensures

@@ -2,7 +2,7 @@ use Rattle.std.proofs.Common.{◌≡◌, ◌≤◌, ◌+◌, ◌-◌, ◌++◌, 
 use borrow.Rule.Slice.PartMut.{put_mid}
 use Rattle.ts_packets.specs.declared.adaptation_field.AdaptationField.{AdaptationField}
 use Rattle.ts_packets.specs.AdaptationField.{least_length, written_field}
-use Rattle.ts_packets.specs.Packet.{record_of, IsPacket, IsPayloadLength, written_header}
+use Rattle.ts_packets.specs.Packet.{record_of, IsPacket, IsPayloadLength, written_packet_header}
 use Rattle.ts_packets.proofs.Writing.{written-alone, written-beside}
 use Rattle.ts_packets.proofs.WrittenPackets.{written-packet}
 use Rattle.ts_packets.proofs.packet.Packet.write.Goals as goal
@@ -10,7 +10,7 @@ use Rattle.ts_packets.proofs.packet.Packet.write.Goals.{in-Some, in_default}
 
 pub returns-clause-bytes : goal.returns-clause-bytes
 returns-clause-bytes c =
-    let header-is : c.copy_from_slice.new.self ≡ written_header (record_of c.args.self.now) = c.copy_from_slice.ensures.after ∙ c.header.ensures in
+    let header-is : c.copy_from_slice.new.self ≡ written_packet_header (record_of c.args.self.now) = c.copy_from_slice.ensures.after ∙ c.header.ensures in
     let room_of : Option AdaptationField → Type 0 = λ field. IsPayloadLength field (length c.args.self.now.payload.now) in
     elim c.match-self.branch [
       | in-Some w ↦
