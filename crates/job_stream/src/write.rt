@@ -1,4 +1,4 @@
-ghost use Rattle.std.specs.Prelude.{◌≡◌, ℕ, List, OnOk, OnErr, IsErrOf};
+ghost use Rattle.std.specs.Prelude.{◌≡◌, ◌<◌, ℕ, List, OnOk, OnErr, IsErrOf};
 ghost use Rattle.shelf_io.specs.Causes.{SinkCauses};
 ghost use Rattle.shelf_io.specs.Sink.{with_bytes, AddsPrefix};
 ghost use Rattle.slot_rule.specs.SlotList.{IsSlotList};
@@ -48,6 +48,7 @@ pub fn write_job_stream<K: Sink>(
 
     ensures causes { SinkCauses K.faults (IsErrOf result Fault.Failed) (IsErrOf result Fault.Missing) to.old to.new }
     ensures failed_last { IsErrOf result Fault.Failed → K.since_fault to.new ≡ 0 }
+    ensures only_failed { K.faults to.old < K.faults to.new → IsErrOf result Fault.Failed }
     ensures keeps { K.keeps to.old to.new }
 {
     programs_can_be_sent();

@@ -1,4 +1,4 @@
-ghost use Rattle.std.specs.Prelude.{◌≡◌, ◌+◌, ◌≤◌, [], ◌++◌, length, IsTrue, ◌↔◌, OnOk, OnErr, IsErrOf};
+ghost use Rattle.std.specs.Prelude.{◌≡◌, ◌+◌, ◌<◌, ◌≤◌, [], ◌++◌, length, IsTrue, ◌↔◌, OnOk, OnErr, IsErrOf};
 ghost use Rattle.shelf_io.specs.Causes.{SinkCauses};
 ghost use Rattle.shelf_io.specs.Sink.{with_bytes, AddsPrefix};
 ghost use Rattle.mux_writer.specs.Private.Writer.{HoldsRest};
@@ -48,6 +48,7 @@ impl Gathered {
         ensures same { OnErr result (self.new ≡ self.old) }
 
         ensures causes { SinkCauses K.faults (IsErrOf result Fault.Failed) (IsErrOf result Fault.Missing) to.old to.new }
+        ensures only_failed { K.faults to.old < K.faults to.new → IsErrOf result Fault.Failed }
         ensures fault_last { OnErr result (K.since_fault to.new ≡ 0) }
         ensures keeps { K.keeps to.old to.new }
     {
@@ -75,6 +76,7 @@ impl Gathered {
         ensures same { OnErr result (self.new ≡ self.old) }
 
         ensures causes { SinkCauses K.faults (IsErrOf result Fault.Failed) (IsErrOf result Fault.Missing) to.old to.new }
+        ensures only_failed { K.faults to.old < K.faults to.new → IsErrOf result Fault.Failed }
         ensures fault_last { OnErr result (K.since_fault to.new ≡ 0) }
         ensures keeps { K.keeps to.old to.new }
     {

@@ -41,7 +41,7 @@ use Rattle.shelf_io.specs.Counts.{ShelfCounts}
 use Rattle.shelf_io.specs.Files.{Files, IfTold, content_of}
 use Rattle.shelf_io.specs.Buffer.{CopiesFront}
 use Rattle.shelf_io.specs.Private.WholeFile.{AddsNext}
-use Rattle.shelf_io.proofs.Counted.{rose_later}
+use Rattle.shelf_io.proofs.Counted.{rose_later, rises_later}
 
 -- a choice made twice by one test is made once
 pub chosen_twice : {A : Type 0} (b : Bool) (x y z : A) → cond b x (cond b y z) ≡ cond b x z
@@ -93,11 +93,13 @@ asks_twice before after = record {
   others = λ other differs. omega (arith, before.others other differs, after.others other differs);
 }
 
--- a read that answered no fault keeps the counts from falling
-pub causes_grow : {failed missing : Type 0} {first second : ShelfCounts} → ReadCauses failed missing first second → ReadCauses ⊥ ⊥ first second
-causes_grow causes = record {
+-- a read that answered no fault leaves the counts
+pub causes_none : {failed missing : Type 0} {first second : ShelfCounts} → (failed → ⊥) → (missing → ⊥) → ReadCauses failed missing first second → ReadCauses ⊥ ⊥ first second
+causes_none unfailed found causes = record {
   failed_rose = λ is. absurd is;
   missing_rose = λ is. absurd is;
+  only_failed = λ rise. unfailed (causes.only_failed rise);
+  only_missing = λ rise. found (causes.only_missing rise);
   faults_grow = causes.faults_grow;
   same_write_faults = causes.same_write_faults;
   absences_grow = causes.absences_grow;
@@ -109,6 +111,8 @@ pub causes_twice : {failed missing : Type 0} {first second third : ShelfCounts} 
 causes_twice {first = first} {second = second} {third = third} before after = record {
   failed_rose = λ is. rose_later first.faults second.faults third.faults before.faults_grow after.faults_grow (after.failed_rose is);
   missing_rose = λ is. rose_later first.absences second.absences third.absences before.absences_grow after.absences_grow (after.missing_rose is);
+  only_failed = λ rise. after.only_failed (rises_later first.faults second.faults third.faults before.only_failed rise);
+  only_missing = λ rise. after.only_missing (rises_later first.absences second.absences third.absences before.only_missing rise);
   faults_grow = omega (arith, before.faults_grow, after.faults_grow);
   same_write_faults = after.same_write_faults ∙ before.same_write_faults;
   absences_grow = omega (arith, before.absences_grow, after.absences_grow);

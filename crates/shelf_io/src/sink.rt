@@ -26,6 +26,7 @@ pub trait Sink {
         ensures err { OnErr result (written self.new ≡ written self.old) }
 
         ensures causes { SinkCauses faults (IsErrOf result Fault.Failed) (IsErrOf result Fault.Missing) self.old self.new }
+        ensures only_failed { faults self.old < faults self.new → IsErrOf result Fault.Failed }
         ensures fault_last { OnErr result (since_fault self.new ≡ 0) }
         ensures keeps { keeps self.old self.new };
 
@@ -40,6 +41,7 @@ pub fn put_all<K: Sink>(sink: &mut K, piece: &[u8]) -> Result<(), Fault>
     ensures err { OnErr result (AddsPrefix (K.written sink.old) (K.written sink.new) piece.now) }
 
     ensures causes { SinkCauses K.faults (IsErrOf result Fault.Failed) (IsErrOf result Fault.Missing) sink.old sink.new }
+    ensures only_failed { K.faults sink.old < K.faults sink.new → IsErrOf result Fault.Failed }
     ensures fault_last { OnErr result (K.since_fault sink.new ≡ 0) }
     ensures keeps { K.keeps sink.old sink.new }
 {

@@ -13,7 +13,7 @@ invariant-loop-n g l = record {
   has : (stream item piece : ℕ) → g.P.PieceSource.has l.fn.pieces stream item piece → g.P.PieceSource.has l.pieces stream item piece;
   keeps_sink : g.K.Sink.keeps l.fn.to l.to;
   keeps_pieces : g.P.PieceSource.keeps l.fn.pieces l.pieces;
-  sink_faults : g.K.Sink.faults l.fn.to ≤ g.K.Sink.faults l.to;
+  sink_faults : g.K.Sink.faults l.fn.to ≡ g.K.Sink.faults l.to;
   source_faults : g.P.PieceSource.faults l.fn.pieces ≤ g.P.PieceSource.faults l.pieces;
   written : IfSome (g.P.PieceSource.told l.fn.pieces) (λ told. HoldsRest (g.K.Sink.written l.fn.to) (g.K.Sink.written l.to) l.gathered (flat_map written (packets_of_first l.layout l.slot told l.rows l.n)));
 }

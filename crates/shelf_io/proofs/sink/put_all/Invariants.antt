@@ -6,7 +6,7 @@ abbrev pub invariant-loop-done : goal.invariant-loop-done
 invariant-loop-done g l = record {
   within : l.done ≤ length l.piece;
   told : g.K.Sink.written l.sink ≡ with_bytes (g.K.Sink.written l.fn.sink) (take l.done l.piece);
-  faults : g.K.Sink.faults l.fn.sink ≤ g.K.Sink.faults l.sink;
+  faults : g.K.Sink.faults l.fn.sink ≡ g.K.Sink.faults l.sink;
   keeps : g.K.Sink.keeps l.fn.sink l.sink;
 }
 

@@ -1,5 +1,6 @@
 use Rattle.std.proofs.Common.{◌≡◌, ◌+◌, ◌∙◌, length, arith}
-use Rattle.shelf_io.proofs.Whole.{adds_first, adds_on, asks_twice, causes_grow, causes_twice, IfTold_then, IfTold_both}
+use Rattle.shelf_io.proofs.Counted.{never_failed}
+use Rattle.shelf_io.proofs.Whole.{adds_first, adds_on, asks_twice, causes_none, causes_twice, IfTold_then, IfTold_both}
 use Rattle.shelf_io.proofs.whole_file.read_file.Goals as goal
 
 pub loop-count-init : goal.loop-count-init
@@ -12,7 +13,7 @@ loop-count-init g c =
           (λ content. adds_first content _ c.read_more.new.bytes.items c.in_ok-count.count c.new-bytes.ensures.items grew);
       files = c.in_ok-count.ensures.files;
       asked = c.in_ok-count.ensures.asked;
-      causes = causes_grow c.in_ok-count.ensures.causes;
+      causes = causes_none (never_failed c.in_ok-count.count) (never_failed c.in_ok-count.count) c.in_ok-count.ensures.causes;
     }
 
 pub loop-count-preserved : goal.loop-count-preserved
@@ -25,7 +26,7 @@ loop-count-preserved g c =
           (λ content before. adds_on content c.loop-count.bytes.items c.read_more-in-loop-count.new.bytes.items c.in_ok-count-2.count grew before.0);
       files = c.in_ok-count-2.ensures.files ∙ c.loop-count.invariant.files;
       asked = asks_twice c.loop-count.invariant.asked c.in_ok-count-2.ensures.asked;
-      causes = causes_grow (causes_twice c.loop-count.invariant.causes c.in_ok-count-2.ensures.causes);
+      causes = causes_twice c.loop-count.invariant.causes (causes_none (never_failed c.in_ok-count-2.count) (never_failed c.in_ok-count-2.count) c.in_ok-count-2.ensures.causes);
     }
 
 pub returns-in_err-count-2-clause-asked : goal.returns-in_err-count-2-clause-asked

@@ -1,6 +1,6 @@
 -- A sink that tells nothing and counts its faults exactly meets what a sink promises.
 use Rattle.std.proofs.Common.{refl}
-use Rattle.shelf_io.proofs.Counted.{if_ok, on_err, put_causes}
+use Rattle.shelf_io.proofs.Counted.{if_ok, on_err, put_causes, put_only_failed}
 use Rattle.shelf_io.proofs.out_sink.OutSinkSink.TheImpl.Goals as goal
 
 pub put-tells : goal.put-tells
@@ -10,6 +10,7 @@ put-tells g c = record {
   ok = if_ok c.result _ (λ n. refl);
   err = on_err c.result _ refl;
   causes = put_causes (λ faults. faults) c.result c.args.self.now c.new.self.now c.ensures.never_missing c.ensures.after;
+  only_failed = put_only_failed c.result c.args.self.now c.new.self.now c.ensures.never_missing c.ensures.after;
   fault_last = on_err c.result _ refl;
   keeps = tt;
 }
