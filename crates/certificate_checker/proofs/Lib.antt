@@ -5,6 +5,7 @@ pub mod FreeLeast
 pub mod LinkLaws
 pub mod Nodes
 pub mod OrderCosts
+pub mod OrderExamples
 pub mod Outcomes
 pub mod Paths
 pub mod PriceLaws

@@ -139,6 +139,27 @@ fn a_window_bounds_by_the_room_from_where_it_begins(rt: HostRuntime) -> Result<(
     assert_answer(&rt, alloc, LATE, &empty, fault(0, Why::WindowEmpty))
 }
 
+/// Two multipliers of one due time, the first of which has a weight of 2^40 and 1.
+const HEAVY_THEN_UNORDERED: [u8; 35] = [
+    2, 0, 2, 0, 0, 0, 0, 0, 0, 0x6A, 0x40, 0, 0, 1, 0, 0, 0, 0, 1, 0, 0, 0, 0, 0, 0, 0x6A, 0x40, 0,
+    0, 0, 0, 0, 0, 0, 1,
+];
+
+#[test]
+fn of_two_faults_in_a_node_the_first_in_their_order_is_said(rt: HostRuntime) -> Result<(), Fail> {
+    let alloc = rt.alloc();
+    let mut multipliers = HEAVY_THEN_UNORDERED;
+    assert_nodes(&rt, alloc, 1, &multipliers, fault(0, Why::DueOrder))?;
+    multipliers[26] = 0x41;
+    assert_nodes(&rt, alloc, 1, &multipliers, fault(0, Why::LambdaLimit))?;
+    let mut window = WITH_A_WINDOW;
+    window[40] = 0x81;
+    window[51] = 1;
+    assert_answer(&rt, alloc, LATE, &window, fault(0, Why::WindowEmpty))?;
+    window[40] = 0x80;
+    assert_answer(&rt, alloc, LATE, &window, fault(0, Why::LambdaLimit))
+}
+
 /// The unit of `TABLE`, and one of three packets that is due later.
 const TWO_UNITS: &[u8] =
     b"remux table 1\nslot 4000\nnodes 1\nevaluations 0\nprogram 112\nunit 27200 552:0 368:10\nunit 43200 552:0\n";

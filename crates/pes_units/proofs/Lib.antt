@@ -1,3 +1,4 @@
+pub mod CutExamples
 pub mod Cycles
 pub mod Elements
 pub mod Gathering

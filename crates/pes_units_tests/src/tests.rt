@@ -88,6 +88,24 @@ fn a_cut_last_packet_is_taken_in_video_alone(rt: HostRuntime) {
 }
 
 #[test]
+fn a_cut_last_packet_is_refused_by_its_first_fault(rt: HostRuntime) {
+    let unmarked = [0x00, 0x00, 0x01, 0xE0, 0x00, 0xFF, 0x00, 0x00, 0x00];
+    let scrambled = [0x00, 0x00, 0x01, 0xE0, 0x00, 0xFF, 0x30, 0x00, 0x00];
+    let unprefixed = [0x00, 0x00, 0x02, 0xE0, 0x00, 0xFF, 0x30, 0x00, 0x00];
+    let read = [
+        PesHeader::read_last(&unmarked, true),
+        PesHeader::read_last(&scrambled, true),
+        PesHeader::read_last(&unprefixed, true),
+    ];
+    let faults = [
+        Err(PesFault::BadMarker),
+        Err(PesFault::Scrambled),
+        Err(PesFault::BadPrefix),
+    ];
+    assert_eq!(rt; read, faults);
+}
+
+#[test]
 fn times_go_on_past_their_cycle(rt: HostRuntime) {
     let times = [
         unwrap_time(8_589_930_992, 0),

@@ -21,6 +21,10 @@ inverse_intra = refl
 inverse_of_zero : coefficient_of (pos 0) 255 112 false ≡ pos 0
 inverse_of_zero = refl
 
+-- 2 * 1,000 * 16 / 32; a 31st or a 33rd would give 1,032 or 969
+inverse_of_thousand : coefficient_of (pos 1000) 16 1 true ≡ pos 1000
+inverse_of_thousand = refl
+
 saturated_above : coefficient_of (pos 2047) 255 112 false ≡ pos 2047
 saturated_above = refl
 
@@ -35,9 +39,17 @@ coarser_of_one = refl
 coarser_of_nine : coarser_level (pos 9) 16 8 16 false ≡ pos 4
 coarser_of_nine = refl
 
--- the coefficient is -4, and (16 * 4 + 64 / 2) / 64
+-- the coefficient is -6, and (16 * 6 + 64 / 2) / 64
 coarser_intra : coarser_level (negsuc 2) 16 2 4 true ≡ negsuc 1
 coarser_intra = refl
+
+-- the coefficient is 1,000, and (16 * 1,000 + 32 / 2) / 32; fifteenths or seventeenths would give 469 or 531
+coarser_of_thousand : coarser_level (pos 1000) 16 1 2 true ≡ pos 500
+coarser_of_thousand = refl
+
+-- a ratio of one keeps the code; by fifteenths or seventeenths it would be 19 or 16
+mapped_17_16 : IsMappedCode false 17 16 17
+mapped_17_16 = record { is_code = (omega arith, omega arith); reaches = inl (omega arith); least = λ other code reaches. omega arith }
 
 mapped_1_32 : IsMappedCode false 1 32 2
 mapped_1_32 = record { is_code = (omega arith, omega arith); reaches = inl (omega arith); least = λ other code reaches. omega arith }
