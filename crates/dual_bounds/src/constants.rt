@@ -9,6 +9,7 @@ pub const WINDOWS_MOST: usize = 64;
 pub const LAMBDA_MOST: u64 = 1_099_511_627_776;
 
 const _: () = prove!(LAMBDA_MOST == 1 << 40);
+
 const _: () = prove!(WINDOWS_MOST as u64 * LAMBDA_MOST == 1 << 46);
 
 /// Lambdas and values are in parts of a distortion, of which it has so many.

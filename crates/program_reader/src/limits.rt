@@ -8,6 +8,7 @@ pub const FILE_BYTES_MOST: usize = 536_870_912;
 pub const UNIT_BYTES_MOST: u64 = 1_048_576;
 
 const _: () = prove!(FILE_BYTES_MOST == 512 * 1_024 * 1_024);
+
 const _: () = prove!(UNIT_BYTES_MOST == version_maker::UNIT_BYTES_MOST as u64);
 
 /// Payload bytes of a piece of an audio PES packet, at most: those of a transport packet.

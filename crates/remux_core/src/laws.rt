@@ -63,12 +63,7 @@ pub fn plan_takes_probed_tables()
 }
 
 /// A run over a shelf and a sink that never fail: it ends as its words and files call for, or for want of memory.
-pub fn calm_run(
-    alloc: Global,
-    words: &[String],
-    shelf: &mut CalmShelf,
-    out: &mut VecSink,
-) -> Status
+pub fn calm_run(alloc: Global, words: &[String], shelf: &mut CalmShelf, out: &mut VecSink) -> Status
     ensures called_for { (status : AnyStatus) → WordsCallFor (map string_bytes words.now) shelf.old.files status
         → IsSameStatus result status ⊎ (result ≡ Status.OutOfMemory) }
     // So each table whose smallest choice is scheduled is planned.

@@ -7,6 +7,7 @@ pub const PREFIX_BITS: u32 = 24;
 pub const START_CODE_BYTES: usize = 4;
 
 const _: () = prove!(PREFIX_BITS == 23 + 1);
+
 const _: () = prove!(8 * START_CODE_BYTES == PREFIX_BITS as usize + 8);
 
 /// Bytes of a group of pictures header, with its start code and the zero bits that close it (6.2.2.6).
@@ -42,8 +43,11 @@ pub const GROUP: u8 = 0xB8;
 // Table 6-1 in order: picture, 175 slices, B0 and B1 reserved, user data, sequence header, sequence error, extension,
 // B6 reserved, sequence end, group, and system start codes from B9 on
 const _: () = prove!(PICTURE == 0 && FIRST_SLICE == PICTURE + 1 && LAST_SLICE == 175);
+
 const _: () = prove!(USER_DATA == LAST_SLICE + 3 && SEQUENCE_HEADER == USER_DATA + 1);
+
 const _: () = prove!(EXTENSION == SEQUENCE_HEADER + 2 && SEQUENCE_END == EXTENSION + 2);
+
 const _: () = prove!(GROUP == SEQUENCE_END + 1 && GROUP + 1 == 0xB9);
 
 /// Sequence extension.
@@ -75,8 +79,15 @@ pub const TEMPORAL_SCALABLE: u8 = 10;
 
 // Table 6-2 in order, where 0 and 6 are reserved
 const _: () = prove!(SEQUENCE_EXTENSION == 1 && SEQUENCE_DISPLAY == SEQUENCE_EXTENSION + 1);
+
 const _: () = prove!(QUANT_MATRIX == SEQUENCE_DISPLAY + 1 && COPYRIGHT == QUANT_MATRIX + 1);
-const _: () = prove!(SEQUENCE_SCALABLE == COPYRIGHT + 1 && PICTURE_DISPLAY == SEQUENCE_SCALABLE + 2);
+
+const _: () = prove!(
+    SEQUENCE_SCALABLE == COPYRIGHT + 1 && PICTURE_DISPLAY == SEQUENCE_SCALABLE + 2
+);
+
 const _: () = prove!(PICTURE_CODING == PICTURE_DISPLAY + 1);
+
 const _: () = prove!(SPATIAL_SCALABLE == PICTURE_CODING + 1);
+
 const _: () = prove!(TEMPORAL_SCALABLE == SPATIAL_SCALABLE + 1 && TEMPORAL_SCALABLE == 0b1010);
