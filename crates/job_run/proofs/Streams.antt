@@ -70,6 +70,7 @@ is_job_stream law clean times by_times back made choice slots stream valid (cont
   clean = clean made.job contents made.programs made.table choice slots stream valid are table table_valid fits list is;
   times = times made.job contents made.programs made.table choice slots stream valid are table table_valid fits list is bytes;
   clean_by_its_times = by_times made.job contents made.programs made.table choice slots stream valid are table table_valid fits list is bytes;
+  held = (contents, are);
   read_back = λ files held. subst (λ (bytes : List ℕ). ParsesTo bytes 0 made.job.programs files made.programs is.versions choice) (sym is.stream_is)
       (back made.job files made.programs made.table choice slots is.versions valid held table table_valid fits list is.are_versions bytes);
 }

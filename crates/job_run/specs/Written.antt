@@ -14,13 +14,14 @@ use Rattle.job_run.specs.declared.job_table.JobTable.{JobTable}
 -- The stream of a job in these versions and slots: a packet of 188 bytes for each slot, whose bytes, read by themselves, give no buffer of the
 -- system target decoder a fault, with removals by the table's times; these times are those that the bytes carry, so with removals by the bytes' own times
 -- none has a fault; and read as files are, they give the programs again, with their units in the versions that the choice names and the audio PES packets of
--- the programs' files.
+-- the programs' files, whichever contents hold the programs; some do.
 pub record IsJobStream (made : JobTable) (choice : List ℕ) (slots : SlotList) (stream : List ℕ) : Type 0 where
   pub is_stream : IsStreamIn made.job made.programs choice slots stream
   pub whole : length stream ≡ PACKET_BYTES * slots.slots
   pub clean : IsCleanStream made.table choice stream
   pub times : CarriesTable made.table choice (map (λ program. program.number) made.job.programs) stream
   pub clean_by_its_times : IsCleanByItsTimes made.job.slot (map (λ program. program.number) made.job.programs) stream
+  pub held : (contents : List (List ℕ)) × ArePrograms made.job contents made.programs
   pub read_back : (contents : List (List ℕ)) → ArePrograms made.job contents made.programs
       → ParsesTo stream 0 made.job.programs contents made.programs is_stream.versions choice
 
