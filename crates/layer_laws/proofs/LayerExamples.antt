@@ -4,7 +4,7 @@ use Rattle.payload_lists.specs.Payload.{Payload}
 use Rattle.ts_packets.specs.Packet.{PacketRecord}
 use Rattle.layer_laws.specs.Counted.{RiseByOne, payloads_on}
 use Rattle.layer_laws.specs.PesPieces.{pes_pieces}
-use Rattle.layer_laws.specs.VideoPackets.{decoding_time}
+use Rattle.layer_laws.specs.VideoPackets.{decoded_at}
 
 abbrev payload : Bool → List ℕ → Payload
 payload start bytes = record { start = start; bytes = bytes }
@@ -31,8 +31,8 @@ wrapped : RiseByOne (packet 257 15 true (1 ∷ []) ∷ packet 257 0 false (3 ∷
 wrapped = (refl, tt)
 
 -- a picture that is decoded when it is presented needs no DTS of its own
-unwritten_dts : decoding_time (record { pts = Some 900; dts = None }) ≡ Some 900
+unwritten_dts : decoded_at (record { pts = Some 900; dts = None }) ≡ Some 900
 unwritten_dts = refl
 
-earlier_dts : decoding_time (record { pts = Some 900; dts = Some 300 }) ≡ Some 300
+earlier_dts : decoded_at (record { pts = Some 900; dts = Some 300 }) ≡ Some 300
 earlier_dts = refl

@@ -15,7 +15,7 @@ use Rattle.pes_units.specs.Times.{HasTimes, IsTimeAt, are_times_sound, has_marke
 use Rattle.pes_units.specs.VideoHeader.{AreInRange, IsBesidePts, written_dts, written_fields, written_pes_header}
 use Rattle.pes_units.proofs.Refusals.{passes-header}
 use Rattle.pes_units.proofs.RoundTrip.{written-read}
-use Rattle.layer_laws.specs.VideoPackets.{first_of, decoding_time, IsReadAsVideo}
+use Rattle.layer_laws.specs.VideoPackets.{first_of, decoded_at, IsReadAsVideo}
 
 -- ---- times that a header has
 
@@ -105,7 +105,7 @@ video-read times payload in_range beside some =
       kept = kept-whole bytes (whole (written_fields times) bytes is);
       header = fields;
       presented = ap (λ (header : PesHeader). header.times.pts) fields;
-      decoded = ap (λ (header : PesHeader). decoding_time header.times) fields ∙ decoded-same times.pts times.dts beside;
+      decoded = ap (λ (header : PesHeader). decoded_at header.times) fields ∙ decoded-same times.pts times.dts beside;
       payload_is = drop_at header payload (header_length bytes) is.len;
     }
 

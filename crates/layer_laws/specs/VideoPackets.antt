@@ -11,8 +11,8 @@ first_of (Some dts) pts = Some dts
 first_of None pts = pts
 
 -- the decoding time, in units of 1/90,000 s (2.4.3.7)
-abbrev pub decoding_time : Times → Option ℕ
-decoding_time times = first_of times.dts times.pts
+abbrev pub decoded_at : Times → Option ℕ
+decoded_at times = first_of times.dts times.pts
 
 -- The bytes are read as a video PES packet of these times with this payload, among others and as the last one: nothing refuses
 -- or drops it. Both times that it is presented and decoded at are those that were written; a DTS that is the PTS isn't repeated.
@@ -22,5 +22,5 @@ pub record IsReadAsVideo (times : Times) (payload bytes : List ℕ) : Type 0 whe
   pub kept : is_dropped true bytes ≡ false
   pub header : pes_fields_of bytes ≡ written_fields times
   pub presented : (pes_fields_of bytes).times.pts ≡ times.pts
-  pub decoded : decoding_time (pes_fields_of bytes).times ≡ decoding_time times
+  pub decoded : decoded_at (pes_fields_of bytes).times ≡ decoded_at times
   pub payload_is : drop (header_length bytes) bytes ≡ payload

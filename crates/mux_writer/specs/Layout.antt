@@ -33,12 +33,12 @@ with_output_pids program number program_map = record program_map {
 }
 
 -- the PIDs of the streams of a map
-abbrev pub pids_of : ProgramMap → List ℕ
-pids_of program_map = map (λ stream. stream.pid) program_map.streams.items
+abbrev pub map_pids : ProgramMap → List ℕ
+map_pids program_map = map (λ stream. stream.pid) program_map.streams.items
 
 -- the PIDs of all streams, those of a program behind those of the programs before it
 abbrev pub stream_pids : Layout → List ℕ
-stream_pids layout = flat_map pids_of layout.maps.items
+stream_pids layout = flat_map map_pids layout.maps.items
 
 -- the PID of the stream of this number over all programs
 abbrev pub stream_pid : Layout → (stream : ℕ) → ℕ
@@ -50,7 +50,7 @@ stream_pid layout stream = slice_index (stream_pids layout) stream
 -- stands in one packet
 pub record IsOutputMap (program : ℕ) (program_map : ProgramMap) : Type 0 where
   pub pcr : program_map.pcr_pid ≡ video_pid program
-  pub pids : pids_of program_map ≡ range_with_len (video_pid program) (length program_map.streams.items)
+  pub pids : map_pids program_map ≡ range_with_len (video_pid program) (length program_map.streams.items)
   pub few : length program_map.streams.items ≤ PROGRAM_STREAMS_MOST
   pub writable : IsWritableMap program_map
   pub fits : pmt_length program_map ≤ PACKET_SECTION_BYTES

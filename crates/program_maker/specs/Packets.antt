@@ -20,12 +20,12 @@ abbrev pub payload_packet : ℕ → Bool → List ℕ → PacketRecord
 payload_packet pid start payload = record { pid = pid; start = start; counter = 0; field = stuffing (length payload); payload = payload }
 
 -- a section behind pointer_field 0, and bytes FF (2.4.4.1)
-abbrev pub section_payload : List ℕ → List ℕ
-section_payload section = 0 ∷ section ++ replicate (PAYLOAD_BYTES - 1 - length section) 0xFF
+abbrev pub lone_section_payload : List ℕ → List ℕ
+lone_section_payload section = 0 ∷ section ++ replicate (PAYLOAD_BYTES - 1 - length section) 0xFF
 
 -- a section in a packet of its own
 abbrev pub section_packet : ℕ → List ℕ → PacketRecord
-section_packet pid section = payload_packet pid true (section_payload section)
+section_packet pid section = payload_packet pid true (lone_section_payload section)
 
 -- packets that the bytes of a PES packet fill
 abbrev pub pes_packet_count : ℕ → ℕ
