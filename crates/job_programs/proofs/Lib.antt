@@ -1,4 +1,5 @@
 mod Asks
+pub mod Ends
 mod NextLemmas
 mod Forms
 mod ReadLemmas

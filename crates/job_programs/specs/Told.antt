@@ -1,5 +1,5 @@
 -- The files of a job's programs on a shelf, where it tells them.
-use Rattle.std.specs.Prelude.{◌≡◌, ◌⊎◌, ℕ, ◌+◌, ◌≤◌, max, List, [], ◌∷◌, ◌++◌, length, map, Contains, Option, None, Some, IfSome}
+use Rattle.std.specs.Prelude.{◌≡◌, ◌⊎◌, ℕ, ◌+◌, ◌<◌, ◌≤◌, max, List, [], ◌∷◌, ◌++◌, length, map, Contains, Option, None, Some, IfSome}
 use Rattle.std.specs.FinMap.{get}
 use Rattle.shelf_io.specs.Files.{Files, Lacks}
 use Rattle.shelf_io.specs.Counts.{Rose, ShelfCounts}
@@ -101,3 +101,18 @@ pub record CountReads (old new : ShelfCounts) : Type 0 where
   pub faults_grow : old.faults ≤ new.faults
   pub same_write_faults : new.write_faults ≡ old.write_faults
   pub absences_grow : old.absences ≤ new.absences
+
+-- Where a count of reads rose in a call, this is its answer, and no call of the shelf followed the one that raised it.
+pub record ReadsEnd (failed missing : Type 0) (old new : ShelfCounts) (since_fault : ℕ) : Type 0 where
+  pub faults : old.faults < new.faults → failed × (since_fault ≡ 0)
+  pub absences : old.absences < new.absences → missing × (since_fault ≡ 0)
+
+-- the programs weren't read since a file can't be
+abbrev pub EndsFailed : ProgramsFault → Type 0
+EndsFailed (Failed number) = Unit {0}
+EndsFailed fault = ⊥
+
+-- the programs weren't read since a file isn't there
+abbrev pub EndsMissing : ProgramsFault → Type 0
+EndsMissing (Missing number) = Unit {0}
+EndsMissing fault = ⊥

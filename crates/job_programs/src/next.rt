@@ -1,12 +1,12 @@
 //! One program behind others: its file is read, and its program taken out of it.
 
-ghost use Rattle.std.specs.Prelude.{◌≡◌, ◌+◌, ◌≤◌, ◌<◌, true, length, IfOk, IfErr, MatchResult};
+ghost use Rattle.std.specs.Prelude.{◌≡◌, ◌+◌, ◌≤◌, ◌<◌, true, length, IfOk, IfErr, IsErrAnd, MatchResult};
 ghost use Rattle.job_report.specs.declared.limits.TheConstants.{START_MOST};
 ghost use Rattle.shelf_io.specs.Asked.{AsksUpTo};
 ghost use Rattle.version_table.specs.declared.limits.TheConstants.{SLOT_MOST};
 ghost use Rattle.program_reader.specs.Programs.{IsProgramOfFile, IsProgramRefused};
 ghost use Rattle.program_reader.specs.Sizes.{AreProgramSizes};
-ghost use Rattle.job_programs.specs.Told.{CountReads};
+ghost use Rattle.job_programs.specs.Told.{CountReads, EndsFailed, EndsMissing, ReadsEnd};
 ghost use Rattle.job_programs.specs.Private.Behind.{IsProgramBehind};
 ghost use Rattle.job_programs.specs.Private.Next.{IsContentFault, IsNextOn, HasNextCause, IsNextFault};
 
@@ -72,6 +72,7 @@ pub(crate) fn read_next<K: Shelf>(
     ensures files { K.files shelf.new ≡ K.files shelf.old }
     ensures asked { AsksUpTo wanted.now.file.now (FILE_BYTES_MOST + 1) (K.asked shelf.old) (K.asked shelf.new) }
     ensures counts { CountReads (K.counts shelf.old) (K.counts shelf.new) }
+    ensures ends { ReadsEnd (IsErrAnd result EndsFailed) (IsErrAnd result EndsMissing) (K.counts shelf.old) (K.counts shelf.new) (K.since_fault shelf.new) }
 {
     let limit = (FILE_BYTES_MOST - wanted.bytes) as u64;
     match read_file(alloc, shelf, wanted.file, limit) {

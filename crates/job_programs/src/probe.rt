@@ -1,10 +1,10 @@
-ghost use Rattle.std.specs.Prelude.{◌≡◌, ◌+◌, ◌≤◌, ◌↔◌, IsTrue, IfOk, IfErr};
+ghost use Rattle.std.specs.Prelude.{◌≡◌, ◌+◌, ◌≤◌, ◌↔◌, IsTrue, IfOk, IfErr, IsErrAnd};
 ghost use Rattle.job_report.specs.declared.limits.TheConstants.{START_MOST};
 ghost use Rattle.shelf_io.specs.Asked.{AsksUpTo};
 ghost use Rattle.version_table.specs.declared.limits.TheConstants.{SLOT_MOST};
 ghost use Rattle.program_reader.specs.declared.limits.TheConstants.{FILE_BYTES_MOST};
 ghost use Rattle.job_programs.specs.Probe.{audio_packets};
-ghost use Rattle.job_programs.specs.Told.{CountReads, HasProbeCause, IsProbedOn};
+ghost use Rattle.job_programs.specs.Told.{CountReads, EndsFailed, EndsMissing, HasProbeCause, IsProbedOn, ReadsEnd};
 
 use crate::next::{Wanted, read_next};
 use crate::source_fault::{ProgramsFault, SourceFault};
@@ -33,6 +33,7 @@ pub fn read_one<K: Shelf>(
     ensures files { K.files shelf.new ≡ K.files shelf.old }
     ensures asked { AsksUpTo name.now (FILE_BYTES_MOST + 1) (K.asked shelf.old) (K.asked shelf.new) }
     ensures counts { CountReads (K.counts shelf.old) (K.counts shelf.new) }
+    ensures ends { ReadsEnd (IsErrAnd result EndsFailed) (IsErrAnd result EndsMissing) (K.counts shelf.old) (K.counts shelf.new) (K.since_fault shelf.new) }
 {
     let next = read_next(
         alloc,

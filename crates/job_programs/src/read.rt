@@ -1,7 +1,7 @@
-ghost use Rattle.std.specs.Prelude.{◌≡◌, ◌+◌, ◌≤◌, true, IfOk, IfErr};
+ghost use Rattle.std.specs.Prelude.{◌≡◌, ◌+◌, ◌≤◌, true, IfOk, IfErr, IsErrAnd};
 ghost use Rattle.job_report.specs.ValidJob.{IsValidJob};
 ghost use Rattle.job_programs.specs.Sizes.{AreJobSizes};
-ghost use Rattle.job_programs.specs.Told.{AreProgramsOn, AsksForPrograms, CountReads, HasReadCause};
+ghost use Rattle.job_programs.specs.Told.{AreProgramsOn, AsksForPrograms, CountReads, EndsFailed, EndsMissing, HasReadCause, ReadsEnd};
 
 use crate::next::{Wanted, read_next};
 use crate::source_fault::ProgramsFault;
@@ -33,6 +33,7 @@ pub fn read_programs<K: Shelf>(
     ensures files { K.files shelf.new ≡ K.files shelf.old }
     ensures asked { AsksForPrograms job.now.programs (K.asked shelf.old) (K.asked shelf.new) }
     ensures counts { CountReads (K.counts shelf.old) (K.counts shelf.new) }
+    ensures ends { ReadsEnd (IsErrAnd result EndsFailed) (IsErrAnd result EndsMissing) (K.counts shelf.old) (K.counts shelf.new) (K.since_fault shelf.new) }
 {
     match read_each(alloc, shelf, job, false) {
         Ok(read) => Ok(read.programs),
@@ -54,6 +55,7 @@ pub fn read_sized_programs<K: Shelf>(
     ensures files { K.files shelf.new ≡ K.files shelf.old }
     ensures asked { AsksForPrograms job.now.programs (K.asked shelf.old) (K.asked shelf.new) }
     ensures counts { CountReads (K.counts shelf.old) (K.counts shelf.new) }
+    ensures ends { ReadsEnd (IsErrAnd result EndsFailed) (IsErrAnd result EndsMissing) (K.counts shelf.old) (K.counts shelf.new) (K.since_fault shelf.new) }
 {
     match read_each(alloc, shelf, job, true) {
         Ok(read) => Ok(read),
@@ -76,6 +78,7 @@ fn read_each<K: Shelf>(
     ensures files { K.files shelf.new ≡ K.files shelf.old }
     ensures asked { AsksForPrograms job.now.programs (K.asked shelf.old) (K.asked shelf.new) }
     ensures counts { CountReads (K.counts shelf.old) (K.counts shelf.new) }
+    ensures ends { ReadsEnd (IsErrAnd result EndsFailed) (IsErrAnd result EndsMissing) (K.counts shelf.old) (K.counts shelf.new) (K.since_fault shelf.new) }
 {
     let mut programs = ListOf::new(alloc);
     let mut sizes = ListOf::new(alloc);

@@ -1,4 +1,5 @@
 pub mod Asked
+pub mod Ends
 pub mod OneJob
 pub mod Steps
 pub mod Streams

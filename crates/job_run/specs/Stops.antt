@@ -41,6 +41,18 @@ StopsFor told name named old new since_fault (Missing file) =
     IsNextFile told name named file × Lacks told file × Rose old.absences new.absences × (since_fault ≡ 0)
 StopsFor told name named old new since_fault OutOfMemory = Unit {0}
 
+-- there is no table of a job since a file can't be read, or memory was wanted to say so
+abbrev pub EndsUnread : JobStop → Type 0
+EndsUnread (Unread file) = Unit {0}
+EndsUnread OutOfMemory = Unit {0}
+EndsUnread stop = ⊥
+
+-- there is no table of a job since a file isn't there, or memory was wanted to say so
+abbrev pub EndsMissing : JobStop → Type 0
+EndsMissing (Missing file) = Unit {0}
+EndsMissing OutOfMemory = Unit {0}
+EndsMissing stop = ⊥
+
 -- a file that is read for the job in a file, up to one byte past this limit: its own, and those of its programs
 abbrev pub IsJobFile : Option Files → (name : List ℕ) → (named : List (List ℕ)) → (file : List ℕ) → (limit : ℕ) → Type 0
 IsJobFile told name named file limit =

@@ -1,13 +1,13 @@
-ghost use Rattle.std.specs.Prelude.{◌≡◌, ◌∷◌, ◌++◌, ◌+◌, length, map, Contains, IfOk, IfErr, List, ℕ};
+ghost use Rattle.std.specs.Prelude.{◌≡◌, ◌∷◌, ◌++◌, ◌+◌, length, map, Contains, IfOk, IfErr, IsErrAnd, List, ℕ};
 ghost use Rattle.job_report.specs.declared.job.ProgramJob.{ProgramJob as AnyProgram};
 ghost use Rattle.job_report.specs.ValidJob.{IsValidJob};
 ghost use Rattle.job_programs.specs.Programs.{ArePrograms};
 ghost use Rattle.job_programs.specs.Sizes.{AreJobSizes};
-ghost use Rattle.job_programs.specs.Told.{AreProgramsOn, AsksForPrograms, CountReads, HasReadCause};
+ghost use Rattle.job_programs.specs.Told.{AreProgramsOn, AsksForPrograms, CountReads, HasReadCause, ReadsEnd};
 ghost use Rattle.program_table.specs.Table.{IsTableOf};
 ghost use Rattle.version_table.specs.Table.{IsValidTable};
 ghost use Rattle.job_run.specs.JobTable.{IsJobTable};
-ghost use Rattle.job_run.specs.Stops.{AsksForJob, StopsFor};
+ghost use Rattle.job_run.specs.Stops.{AsksForJob, EndsMissing, EndsUnread, StopsFor};
 ghost use Rattle.job_run.specs.Private.Steps.{IsMissing, IsProgramAt, IsTableOfJob, IsUnread, StopsJob};
 
 use crate::bytes::see_videos;
@@ -44,6 +44,7 @@ pub fn read_job_table<K: Shelf>(
     ensures files { K.files shelf.new ≡ K.files shelf.old }
     ensures asked { AsksForJob (K.files shelf.old) name.now (map (λ file. file.now) named.now) (K.asked shelf.old) (K.asked shelf.new) }
     ensures counts { CountReads (K.counts shelf.old) (K.counts shelf.new) }
+    ensures ends { ReadsEnd (IsErrAnd result EndsUnread) (IsErrAnd result EndsMissing) (K.counts shelf.old) (K.counts shelf.new) (K.since_fault shelf.new) }
 {
     match read_file(alloc, shelf, name, JOB_TEXT_MOST as u64) {
         Ok(text) => match job_of_text(alloc, text.as_slice(), named) {
@@ -66,6 +67,7 @@ fn table_of_job<K: Shelf>(alloc: Global, shelf: &mut K, job: Job) -> Result<JobT
     ensures files { K.files shelf.new ≡ K.files shelf.old }
     ensures asked { AsksForPrograms job.programs (K.asked shelf.old) (K.asked shelf.new) }
     ensures counts { CountReads (K.counts shelf.old) (K.counts shelf.new) }
+    ensures ends { ReadsEnd (IsErrAnd result EndsUnread) (IsErrAnd result EndsMissing) (K.counts shelf.old) (K.counts shelf.new) (K.since_fault shelf.new) }
 {
     match read_sized_programs(alloc, shelf, &job) {
         Ok(read) => match table_of_programs(alloc, &job, &read) {

@@ -17,7 +17,7 @@ SpellingIsRead = (table : Table) → IsTextTable table → IsTableRead (table_sp
 
 -- TABLE holds the text of the program's table
 pub probed_is_read : SpellingIsRead → (file : List ℕ) (number : ℕ) (name : List ℕ) (files after : Files) (line : List ℕ) → ProbeDone file number name files line after
-    → (program : Program) × (table : Table) × HoldsProbed files file number program × IsProbedTable program table × HoldsTable after name table
+    → (program : Program) × (table : Table) × HoldsProbed (Some files) file number program × IsProbedTable program table × HoldsTable (Some after) name table
 probed_is_read law file number name files after line (program, made, has, said, written) = (
   program,
   made,
@@ -28,7 +28,7 @@ probed_is_read law file number name files after line (program, made, has, said, 
 
 -- so no text is refused
 pub probed_is_taken : SpellingIsRead → OneReading → (file : List ℕ) (number : ℕ) (name : List ℕ) (files after : Files) (line : List ℕ) (refusal : JobRefusal)
-    → ProbeDone file number name files line after → PlanCallsFor name after (JobRefused refusal) → ⊥
+    → ProbeDone file number name files line after → PlanCallsFor name (Some after) (JobRefused refusal) → ⊥
 probed_is_taken law reading file number name files after line refusal done refused =
     let (program, made, holds, is_table, read) = probed_is_read law file number name files after line done in
     table_or_refusal reading after name made refusal read refused

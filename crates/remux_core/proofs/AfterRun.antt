@@ -83,7 +83,7 @@ kept_contents files after a b c same n (program ∷ programs) (content ∷ conte
     )
 
 pub run_is_accepted : (words : List (List ℕ)) (job out certificate : List ℕ) (files after : Files) (line : List ℕ) → IsRunCommand words job out certificate
-    → RunDone job out certificate files line after → CheckCallsFor job certificate after Ok
+    → RunDone job out certificate files line after → CheckCallsFor job certificate (Some after) Ok
 run_is_accepted words job out certificate files after line said (work, is, says, written) =
     let same : (name : List ℕ) → (name ≡ out → ⊥) → (name ≡ certificate → ⊥) → get after name ≡ get files name =
     λ name a b. stays _ after name written ∙ get_other (insert files out work.stream) certificate _ name b ∙ get_other files out _ name a in

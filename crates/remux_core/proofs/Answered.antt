@@ -18,17 +18,17 @@ use Rattle.remux_core.proofs.One.{Laws, one_command, calls_for_one}
 use Rattle.remux_core.proofs.Told.{on_then, on_told}
 
 -- a plan was made where the smallest choice is scheduled, a program wherever it was asked for, a table where a file holds a program
-done_is_called_for : (command : Option Command) (files after : Files) (line : List ℕ) → IsDone command files line after → CallsFor command files statuses.Ok
+done_is_called_for : (command : Option Command) (files after : Files) (line : List ℕ) → IsDone command files line after → CallsFor command (Some files) statuses.Ok
 done_is_called_for (Some (Plan table certificate)) files after line (plan, has, said, written) = (has.table, has.holds, has.is_plan.possible)
 done_is_called_for (Some (Gen seed pictures out)) files after line done = tt
 done_is_called_for (Some (Run job out certificate)) files after line (work, is, said, written) = (work.made, is.made, is.is_plan.possible)
-done_is_called_for (Some (Check job certificate)) files after line (made, cert, holds, faultless, said, same) = (made, cert, holds, faultless)
+done_is_called_for (Some (Check job certificate)) files after line (made, cert, is, said, same) = (made, cert, is.holds, is.faultless)
 done_is_called_for (Some (Probe file number table)) files after line (program, made, has, said, written) = (program, has.holds)
 done_is_called_for None files after line done = absurd done
 
 -- where nothing failed, a command ends as it is called for
 answer_is_called_for : (command : Option Command) (files after : Files) (old new : ShelfFacts) (out_old out_new : SinkFacts) (status : Status) (line : List ℕ)
-    → EndsWithStatus command files status line after → HasCause command old new status line → NoneFailed old new out_old out_new → CallsFor command files status
+    → EndsWithStatus command files status line after → HasCause command old new status line → NoneFailed old new out_old out_new → CallsFor command (Some files) status
 answer_is_called_for command files after old new out_old out_new statuses.Ok line ends cause none = done_is_called_for command files after line ends
 answer_is_called_for command files after old new out_old out_new statuses.Usage line ends cause none = ends.0
 answer_is_called_for command files after old new out_old out_new (statuses.JobRefused refusal) line ends cause none = ends.0
@@ -71,7 +71,7 @@ quiet_break answer old new out_old out_new statuses.Missing breaks none = absurd
 
 -- where nothing failed, the run ends as its words and files call for, or for want of memory
 reported_as_called : Laws → (command : Option Command) (files after : Files) (old new : ShelfFacts) (out_old out_new : SinkFacts) (answer : Option Answer) (result status : Status)
-    → Decides command files answer after → AnswerHasCause command old new answer → IsReported answer out_old out_new result → CallsFor command files status
+    → Decides command files answer after → AnswerHasCause command old new answer → IsReported answer out_old out_new result → CallsFor command (Some files) status
     → NoneFailed old new out_old out_new → IsSameStatus result status ⊎ (result ≡ statuses.OutOfMemory)
 reported_as_called laws command files after old new out_old out_new None result status decided cause reported called none = inr reported.0
 reported_as_called laws command files after old new out_old out_new (Some answer) result status decided cause (inr breaks) called none =
@@ -88,7 +88,7 @@ as_called laws words files old new out_old out_new result status outcome told ca
     let same : calls.command ≡ outcome.command = one_command words calls.command outcome.command calls.said outcome.said in
     let decides = on_told old.files new.files files (λ held after. Decides outcome.command held outcome.answer after) outcome.decided told in
     reported_as_called laws outcome.command files decides.0 old new out_old out_new outcome.answer result status decides.1 outcome.cause outcome.reported
-    (subst (λ (c : Option Command). CallsFor c files status) same calls.called) none
+    (subst (λ (c : Option Command). CallsFor c (Some files) status) same calls.called) none
 
 -- words of no command end with Usage
 none_ends : (old new : ShelfFacts) (status : Status) (line : List ℕ) → HasCause None old new status line → status ≡ statuses.Usage
@@ -160,7 +160,7 @@ done_leaves_others (Some (Gen seed pictures out)) files after line (program, is,
 done_leaves_others (Some (Run job out certificate)) files after line (work, is, said, written) = λ name apart.
     stays _ after name written ∙ get_other (insert files out work.stream) certificate _ name (λ same. apart (inr same))
     ∙ get_other files out _ name (λ same. apart (inl same))
-done_leaves_others (Some (Check job certificate)) files after line (made, cert, holds, faultless, said, same) = λ name apart. stays files after name same
+done_leaves_others (Some (Check job certificate)) files after line (made, cert, is, said, same) = λ name apart. stays files after name same
 done_leaves_others (Some (Probe file number table)) files after line (program, made, has, said, written) = λ name apart.
     stays _ after name written ∙ get_other files table _ name apart
 

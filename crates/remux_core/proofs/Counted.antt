@@ -13,7 +13,7 @@ use Rattle.shelf_io.proofs.Counted.{rose_later}
 use Rattle.version_table.specs.declared.limits.TheConstants.{TABLE_TEXT_MOST}
 use Rattle.remux_core.specs.declared.status.Status.{Status}
 use Rattle.remux_core.specs.declared.status.Status.TheVariants as statuses
-use Rattle.remux_core.specs.Answer.{Answer, HasCause, AnswerHasCause, FailsAt}
+use Rattle.remux_core.specs.Answer.{Answer, CallsFor, HasCause, AnswerHasCause, FailsAt, IsDoneLine}
 use Rattle.remux_core.specs.Command.{Command, Plan, Run, Check, Probe, ReadsFile, files_of_run, files_of_check}
 use Rattle.remux_core.specs.Outside.{ShelfFacts}
 use Rattle.remux_core.specs.Promises.{CountsGrow, AsksOnly}
@@ -37,12 +37,16 @@ cause_later None old middle new statuses.ReadFault line same before after cause 
 cause_later None old middle new statuses.WriteFault line same before after cause = cause
 cause_later None old middle new statuses.Missing line same before after cause = cause
 cause_later None old middle new statuses.OutOfMemory line same before after cause = cause
-cause_later (Some command) old middle new statuses.Ok line same before after cause = cause
+cause_later (Some command) old middle new statuses.Ok line same before after cause = subst (λ (told : Option Files). IsDoneLine command told line) same cause
 cause_later (Some command) old middle new statuses.Usage line same before after cause = cause
-cause_later (Some command) old middle new (statuses.JobRefused refusal) line same before after cause = cause
-cause_later (Some command) old middle new (statuses.Unschedulable miss) line same before after cause = cause
-cause_later (Some command) old middle new (statuses.SourceRefused fault) line same before after cause = cause
-cause_later (Some command) old middle new (statuses.CertRefused refusal) line same before after cause = cause
+cause_later (Some command) old middle new (statuses.JobRefused refusal) line same before after cause =
+    (cause.0, cause.1, subst (λ (told : Option Files). CallsFor (Some command) told (statuses.JobRefused refusal)) same cause.2)
+cause_later (Some command) old middle new (statuses.Unschedulable miss) line same before after cause =
+    (cause.0, cause.1, subst (λ (told : Option Files). CallsFor (Some command) told (statuses.Unschedulable miss)) same cause.2)
+cause_later (Some command) old middle new (statuses.SourceRefused fault) line same before after cause =
+    (cause.0, cause.1, subst (λ (told : Option Files). CallsFor (Some command) told (statuses.SourceRefused fault)) same cause.2)
+cause_later (Some command) old middle new (statuses.CertRefused refusal) line same before after cause =
+    (cause.0, cause.1, subst (λ (told : Option Files). CallsFor (Some command) told (statuses.CertRefused refusal)) same cause.2)
 cause_later (Some command) old middle new statuses.ReadFault line same before after cause =
     fails_later _ _ _ _ _ line new (λ name asked. (asked.0, subst (λ (told : Option Files). ReadsFile (Some command) told name asked.0) same asked.1))
     (rose_later _ _ _ before.faults_grow after.faults_grow) cause

@@ -25,49 +25,49 @@ use Rattle.remux_core.specs.Private.Stopped.{refusal_by_text, StopEnds}
 use Rattle.remux_core.specs.RunCommand.{JobCallsFor, RunCallsFor}
 
 -- what the job calls for, `run` does
-pub run_calls : (job out certificate : List ℕ) (files : Files) (status : Status) → JobCallsFor files job (files_of_run job out certificate) status
-    → RunCallsFor job out certificate files status
-run_calls job out certificate files statuses.Ok calls = absurd calls
-run_calls job out certificate files (statuses.Unschedulable miss) calls = absurd calls
-run_calls job out certificate files statuses.Usage calls = calls
-run_calls job out certificate files (statuses.JobRefused refusal) calls = calls
-run_calls job out certificate files (statuses.SourceRefused fault) calls = calls
-run_calls job out certificate files statuses.ReadFault calls = calls
-run_calls job out certificate files statuses.WriteFault calls = calls
-run_calls job out certificate files (statuses.CertRefused refusal) calls = calls
-run_calls job out certificate files statuses.Missing calls = calls
-run_calls job out certificate files statuses.OutOfMemory calls = calls
+pub run_calls : (job out certificate : List ℕ) (told : Option Files) (status : Status) → JobCallsFor told job (files_of_run job out certificate) status
+    → RunCallsFor job out certificate told status
+run_calls job out certificate told statuses.Ok calls = absurd calls
+run_calls job out certificate told (statuses.Unschedulable miss) calls = absurd calls
+run_calls job out certificate told statuses.Usage calls = calls
+run_calls job out certificate told (statuses.JobRefused refusal) calls = calls
+run_calls job out certificate told (statuses.SourceRefused fault) calls = calls
+run_calls job out certificate told statuses.ReadFault calls = calls
+run_calls job out certificate told statuses.WriteFault calls = calls
+run_calls job out certificate told (statuses.CertRefused refusal) calls = calls
+run_calls job out certificate told statuses.Missing calls = calls
+run_calls job out certificate told statuses.OutOfMemory calls = calls
 
 -- and `check`
-pub check_calls : (job certificate : List ℕ) (files : Files) (status : Status) → JobCallsFor files job (files_of_check job certificate) status
-    → CheckCallsFor job certificate files status
-check_calls job certificate files statuses.Ok calls = absurd calls
-check_calls job certificate files (statuses.CertRefused refusal) calls = absurd calls
-check_calls job certificate files statuses.Missing calls = inl calls
-check_calls job certificate files statuses.Usage calls = calls
-check_calls job certificate files (statuses.JobRefused refusal) calls = calls
-check_calls job certificate files (statuses.SourceRefused fault) calls = calls
-check_calls job certificate files (statuses.Unschedulable miss) calls = calls
-check_calls job certificate files statuses.ReadFault calls = calls
-check_calls job certificate files statuses.WriteFault calls = calls
-check_calls job certificate files statuses.OutOfMemory calls = calls
+pub check_calls : (job certificate : List ℕ) (told : Option Files) (status : Status) → JobCallsFor told job (files_of_check job certificate) status
+    → CheckCallsFor job certificate told status
+check_calls job certificate told statuses.Ok calls = absurd calls
+check_calls job certificate told (statuses.CertRefused refusal) calls = absurd calls
+check_calls job certificate told statuses.Missing calls = inl calls
+check_calls job certificate told statuses.Usage calls = calls
+check_calls job certificate told (statuses.JobRefused refusal) calls = calls
+check_calls job certificate told (statuses.SourceRefused fault) calls = calls
+check_calls job certificate told (statuses.Unschedulable miss) calls = calls
+check_calls job certificate told statuses.ReadFault calls = calls
+check_calls job certificate told statuses.WriteFault calls = calls
+check_calls job certificate told statuses.OutOfMemory calls = calls
 
 -- a refused text calls for its refusal
-text_calls : (files : Files) (name : List ℕ) (named : List (List ℕ)) (refusal : TextRefusal) → HoldsRefused (Some files) name named refusal
-    → JobCallsFor files name named (statuses.JobRefused (refusal_by_text refusal))
-text_calls files name named NoDocument holds = holds
-text_calls files name named (Field field) holds = holds
-text_calls files name named (Limit field) holds = holds
+text_calls : (told : Option Files) (name : List ℕ) (named : List (List ℕ)) (refusal : TextRefusal) → HoldsRefused told name named refusal
+    → JobCallsFor told name named (statuses.JobRefused (refusal_by_text refusal))
+text_calls told name named NoDocument holds = holds
+text_calls told name named (Field field) holds = holds
+text_calls told name named (Limit field) holds = holds
 
 -- where the job has no table, a command decides as it is stopped, and leaves the files
 pub stop_decides : (command : Command) (name : List ℕ) (named : List (List ℕ)) (held : Files) (old new : ShelfCounts) (since : ℕ)
-    → ((status : Status) → JobCallsFor held name named status → CallsFor (Some command) held status) → LeavesFiles (Some command) held held
+    → ((status : Status) → JobCallsFor (Some held) name named status → CallsFor (Some command) (Some held) status) → LeavesFiles (Some command) held held
     → (stop : JobStop) (result : Option Ended) → StopsFor (Some held) name named old new since stop → StopEnds stop result
     → Decides (Some command) held (answer_of result) held
 stop_decides command name named held old new since calls leaves (Text refusal) None stops ends = leaves
 stop_decides command name named held old new since calls leaves (Text refusal) (Some ended) stops ends =
     subst (λ (s : Status). EndsWithStatus (Some command) held s ended.line.items held) (sym ends.0)
-    (calls (statuses.JobRefused (refusal_by_text refusal)) (text_calls held name named refusal stops), refl)
+    (calls (statuses.JobRefused (refusal_by_text refusal)) (text_calls (Some held) name named refusal stops), refl)
 stop_decides command name named held old new since calls leaves (Source fault) None stops ends = leaves
 stop_decides command name named held old new since calls leaves (Source fault) (Some ended) stops ends =
     subst (λ (s : Status). EndsWithStatus (Some command) held s ended.line.items held) (sym ends.0) (calls (statuses.SourceRefused fault) stops, refl)
@@ -101,27 +101,30 @@ next_is_read told name named file (inr next) =
 
 -- and that has its cause
 pub stop_cause : (command : Command) (name : List ℕ) (named : List (List ℕ)) (old new : ShelfFacts)
+    → ((status : Status) → JobCallsFor old.files name named status → CallsFor (Some command) old.files status)
     → ((refusal : TextRefusal) → MayRefuse command (refusal_by_text refusal)) → ReadsPrograms command
     → ((file : List ℕ) (limit : ℕ) → IsJobFile old.files name named file limit → ReadsFile (Some command) old.files file limit)
     → (stop : JobStop) (result : Option Ended) → StopsFor old.files name named old.counts new.counts new.since_fault stop → StopEnds stop result
     → AnswerHasCause (Some command) old new (answer_of result)
-stop_cause command name named old new may programs reads (Text refusal) None stops ends = tt
-stop_cause command name named old new may programs reads (Text refusal) (Some ended) stops ends =
-    subst (λ (s : Status). HasCause (Some command) old new s ended.line.items) (sym ends.0) (may refusal, ends.1)
-stop_cause command name named old new may programs reads (Source fault) None stops ends = tt
-stop_cause command name named old new may programs reads (Source fault) (Some ended) stops ends =
-    subst (λ (s : Status). HasCause (Some command) old new s ended.line.items) (sym ends.0) (programs, ends.1)
-stop_cause command name named old new may programs reads (Unread file) None stops ends = tt
-stop_cause command name named old new may programs reads (Unread file) (Some ended) stops ends =
+stop_cause command name named old new calls may programs reads (Text refusal) None stops ends = tt
+stop_cause command name named old new calls may programs reads (Text refusal) (Some ended) stops ends =
+    subst (λ (s : Status). HasCause (Some command) old new s ended.line.items) (sym ends.0)
+    (may refusal, ends.1, calls (statuses.JobRefused (refusal_by_text refusal)) (text_calls old.files name named refusal stops))
+stop_cause command name named old new calls may programs reads (Source fault) None stops ends = tt
+stop_cause command name named old new calls may programs reads (Source fault) (Some ended) stops ends =
+    subst (λ (s : Status). HasCause (Some command) old new s ended.line.items) (sym ends.0)
+    (programs, ends.1, calls (statuses.SourceRefused fault) stops)
+stop_cause command name named old new calls may programs reads (Unread file) None stops ends = tt
+stop_cause command name named old new calls may programs reads (Unread file) (Some ended) stops ends =
     let (limit, is) = next_is_read old.files name named file stops.0 in
     subst (λ (s : Status). HasCause (Some command) old new s ended.line.items) (sym ends.0)
     (record { name = file; asked = (limit, reads file limit is); rises = stops.1; last = stops.2; names = ends.1 })
-stop_cause command name named old new may programs reads (Missing file) None stops ends = tt
-stop_cause command name named old new may programs reads (Missing file) (Some ended) stops ends =
+stop_cause command name named old new calls may programs reads (Missing file) None stops ends = tt
+stop_cause command name named old new calls may programs reads (Missing file) (Some ended) stops ends =
     let (limit, is) = next_is_read old.files name named file stops.0 in
     subst (λ (s : Status). HasCause (Some command) old new s ended.line.items) (sym ends.0)
     (record { name = file; asked = ((limit, reads file limit is), stops.1); rises = stops.2; last = stops.3; names = ends.1 })
-stop_cause command name named old new may programs reads OutOfMemory result stops ends =
+stop_cause command name named old new calls may programs reads OutOfMemory result stops ends =
     subst (λ (r : Option Ended). AnswerHasCause (Some command) old new (answer_of r)) (sym ends) tt
 
 -- what `run` may refuse

@@ -66,7 +66,7 @@ pub record JobLaws : Type 0 where
 
 -- a job that has a table calls for nothing before
 table_or_stop : JobLaws → (files : Files) (name : List ℕ) (named : List (List ℕ)) (made : JobTable) (s : Status) → IsJobTable (Some files) name named made
-    → JobCallsFor files name named s → ⊥
+    → JobCallsFor (Some files) name named s → ⊥
 table_or_stop laws files name named made (JobRefused JobSyntax) a b = laws.table_without_text files name named made NoDocument a b
 table_or_stop laws files name named made (JobRefused (JobField field)) a b = laws.table_without_text files name named made (Field field) a b
 table_or_stop laws files name named made (JobRefused (JobLimit field)) a b = laws.table_without_text files name named made (Limit field) a b
@@ -84,7 +84,7 @@ table_or_stop laws files name named made OutOfMemory a b = b
 
 -- a text that is refused has no refused program
 text_or_program : JobLaws → (files : Files) (name : List ℕ) (named : List (List ℕ)) (refusal : JobRefusal) (fault : SourceFault)
-    → JobCallsFor files name named (JobRefused refusal) → HoldsRefusedProgram (Some files) name named fault → ⊥
+    → JobCallsFor (Some files) name named (JobRefused refusal) → HoldsRefusedProgram (Some files) name named fault → ⊥
 text_or_program laws files name named JobSyntax fault a b = laws.text_without_program files name named NoDocument fault a b
 text_or_program laws files name named (JobField field) fault a b = laws.text_without_program files name named (Field field) fault a b
 text_or_program laws files name named (JobLimit field) fault a b = laws.text_without_program files name named (Limit field) fault a b
@@ -93,7 +93,7 @@ text_or_program laws files name named (TableLimit field) fault a b = a
 
 -- a text that is refused has no next file that isn't there
 text_or_missing : JobLaws → (files : Files) (name : List ℕ) (named : List (List ℕ)) (refusal : JobRefusal)
-    → JobCallsFor files name named (JobRefused refusal) → JobCallsFor files name named Missing → ⊥
+    → JobCallsFor (Some files) name named (JobRefused refusal) → JobCallsFor (Some files) name named Missing → ⊥
 text_or_missing laws files name named JobSyntax a b = laws.text_without_missing files name named NoDocument b.0 a b.1 b.2
 text_or_missing laws files name named (JobField field) a b = laws.text_without_missing files name named (Field field) b.0 a b.1 b.2
 text_or_missing laws files name named (JobLimit field) a b = laws.text_without_missing files name named (Limit field) b.0 a b.1 b.2
@@ -102,12 +102,12 @@ text_or_missing laws files name named (TableLimit field) a b = a
 
 -- a refused program comes after every file that is read
 program_or_missing : JobLaws → (files : Files) (name : List ℕ) (named : List (List ℕ)) (fault : SourceFault)
-    → HoldsRefusedProgram (Some files) name named fault → JobCallsFor files name named Missing → ⊥
+    → HoldsRefusedProgram (Some files) name named fault → JobCallsFor (Some files) name named Missing → ⊥
 program_or_missing laws files name named fault a b = laws.program_without_missing files name named fault b.0 a b.1 b.2
 
 -- a text has one refusal
-one_refusal : JobLaws → (files : Files) (name : List ℕ) (named : List (List ℕ)) (a b : JobRefusal) → JobCallsFor files name named (JobRefused a)
-    → JobCallsFor files name named (JobRefused b) → IsSameStatus (JobRefused a) (JobRefused b)
+one_refusal : JobLaws → (files : Files) (name : List ℕ) (named : List (List ℕ)) (a b : JobRefusal) → JobCallsFor (Some files) name named (JobRefused a)
+    → JobCallsFor (Some files) name named (JobRefused b) → IsSameStatus (JobRefused a) (JobRefused b)
 one_refusal laws files name named JobSyntax JobSyntax a b = laws.text files name named NoDocument NoDocument a b
 one_refusal laws files name named JobSyntax (JobField other) a b = laws.text files name named NoDocument (Field other) a b
 one_refusal laws files name named JobSyntax (JobLimit other) a b = laws.text files name named NoDocument (Limit other) a b
@@ -123,7 +123,7 @@ one_refusal laws files name named refusal (TableSyntax n) a b = absurd b
 one_refusal laws files name named refusal (TableLimit field) a b = absurd b
 
 -- a job calls for one status before there is a table
-stops_are_one : JobLaws → (files : Files) (name : List ℕ) (named : List (List ℕ)) (s t : Status) → JobCallsFor files name named s → JobCallsFor files name named t → IsSameStatus s t
+stops_are_one : JobLaws → (files : Files) (name : List ℕ) (named : List (List ℕ)) (s t : Status) → JobCallsFor (Some files) name named s → JobCallsFor (Some files) name named t → IsSameStatus s t
 stops_are_one laws files name named (JobRefused refusal) (JobRefused other) a b = one_refusal laws files name named refusal other a b
 stops_are_one laws files name named (JobRefused refusal) (SourceRefused fault) a b = absurd (text_or_program laws files name named refusal fault a b)
 stops_are_one laws files name named (JobRefused refusal) Missing a b = absurd (text_or_missing laws files name named refusal a b)
@@ -151,8 +151,8 @@ stops_are_one laws files name named s OutOfMemory a b = absurd b
 -- ---- run
 
 -- no smallest choice of a job's table misses, or one has a first miss
-scheduled_or_missed : SlotLaws → JobLaws → (job out certificate : List ℕ) (files : Files) (miss : Miss) → RunCallsFor job out certificate files Ok
-    → RunCallsFor job out certificate files (Unschedulable miss) → ⊥
+scheduled_or_missed : SlotLaws → JobLaws → (job out certificate : List ℕ) (files : Files) (miss : Miss) → RunCallsFor job out certificate (Some files) Ok
+    → RunCallsFor job out certificate (Some files) (Unschedulable miss) → ⊥
 scheduled_or_missed slots jobs job out certificate files miss (made, is, scheduled) (other, choice, has, small, first) =
     let named = files_of_run job out certificate in
     let tables : other ≡ made = jobs.table files job named other made has is in
@@ -160,8 +160,8 @@ scheduled_or_missed slots jobs job out certificate files miss (made, is, schedul
     slots.scheduled made.table choice miss (scheduled choice least) (subst (λ (m : JobTable). IsFirstMiss m.table choice miss) tables first)
 
 -- the first miss of the smallest choice of a job's table is one
-one_miss : SlotLaws → JobLaws → (job out certificate : List ℕ) (files : Files) (a b : Miss) → RunCallsFor job out certificate files (Unschedulable a)
-    → RunCallsFor job out certificate files (Unschedulable b) → a ≡ b
+one_miss : SlotLaws → JobLaws → (job out certificate : List ℕ) (files : Files) (a b : Miss) → RunCallsFor job out certificate (Some files) (Unschedulable a)
+    → RunCallsFor job out certificate (Some files) (Unschedulable b) → a ≡ b
 one_miss slots jobs job out certificate files a b (made, choice, is, small, first) (other, least, has, smallest, missed) =
     let named = files_of_run job out certificate in
     let tables : other ≡ made = jobs.table files job named other made has is in
@@ -171,8 +171,8 @@ one_miss slots jobs job out certificate files a b (made, choice, is, small, firs
     slots.miss made.table choice a b first (subst (λ (c : List ℕ). IsFirstMiss made.table c b) choices here)
 
 -- what `run` is called for is one
-pub run_calls_for_one : SlotLaws → JobLaws → (job out certificate : List ℕ) (files : Files) (s t : Status) → RunCallsFor job out certificate files s
-    → RunCallsFor job out certificate files t → IsSameStatus s t
+pub run_calls_for_one : SlotLaws → JobLaws → (job out certificate : List ℕ) (files : Files) (s t : Status) → RunCallsFor job out certificate (Some files) s
+    → RunCallsFor job out certificate (Some files) t → IsSameStatus s t
 run_calls_for_one slots jobs job out certificate files Ok Ok a b = refl
 run_calls_for_one slots jobs job out certificate files Ok (Unschedulable miss) a b = absurd (scheduled_or_missed slots jobs job out certificate files miss a b)
 run_calls_for_one slots jobs job out certificate files (Unschedulable miss) Ok a b = absurd (scheduled_or_missed slots jobs job out certificate files miss b a)
@@ -194,14 +194,14 @@ one_reading_of laws files name bytes other a b held read has is =
     laws.reading other a b (subst (λ (x : List ℕ). IsCertRead x a) same read) is
 
 -- a file that holds a certificate isn't refused
-cert_or_refused : CertLaws → (files : Files) (name bytes : List ℕ) (cert : Cert) (n : ℕ) → HoldsCert files name cert → get files name ≡ Some bytes
+cert_or_refused : CertLaws → (files : Files) (name bytes : List ℕ) (cert : Cert) (n : ℕ) → HoldsCert (Some files) name cert → get files name ≡ Some bytes
     → IsCertRead bytes (RefusedAt n) → ⊥
 cert_or_refused laws files name bytes cert n holds held read =
     let same : Holds cert ≡ RefusedAt n = one_reading_of laws files name holds.bytes bytes (Holds cert) (RefusedAt n) holds.held holds.read held read in
     cc
 
 -- a file holds one certificate
-one_cert : CertLaws → (files : Files) (name : List ℕ) (cert other : Cert) → HoldsCert files name cert → HoldsCert files name other → cert ≡ other
+one_cert : CertLaws → (files : Files) (name : List ℕ) (cert other : Cert) → HoldsCert (Some files) name cert → HoldsCert (Some files) name other → cert ≡ other
 one_cert laws files name cert other a b =
     let same : Holds cert ≡ Holds other = one_reading_of laws files name a.bytes b.bytes (Holds cert) (Holds other) a.held a.read b.held b.read in
     cc
@@ -215,44 +215,44 @@ one_byte laws files name bytes other n m held read has is =
 
 -- JOB and CERT hold one table and one certificate
 moved_fault : CertLaws → JobLaws → (job certificate : List ℕ) (files : Files) (made other : JobTable) (cert second : Cert) (fault : CertFault)
-    → HoldsBoth files job certificate made cert → HoldsBoth files job certificate other second → IsFirstFault other.table second fault → IsFirstFault made.table cert fault
+    → HoldsBoth (Some files) job certificate made cert → HoldsBoth (Some files) job certificate other second → IsFirstFault other.table second fault → IsFirstFault made.table cert fault
 moved_fault certs jobs job certificate files made other cert second fault a b first =
     let tables : other ≡ made = jobs.table files job (files_of_check job certificate) other made b.made_is a.made_is in
     let same : second ≡ cert = one_cert certs files certificate second cert b.cert_is a.cert_is in
     subst (λ (c : Cert). IsFirstFault made.table c fault) same (subst (λ (m : JobTable). IsFirstFault m.table second fault) tables first)
 
 -- a certificate without fault has no first fault
-accepted_or_faulty : CertLaws → JobLaws → (job certificate : List ℕ) (files : Files) (fault : CertFault) → CheckCallsFor job certificate files Ok
-    → CheckCallsFor job certificate files (CertRefused (Fault fault)) → ⊥
+accepted_or_faulty : CertLaws → JobLaws → (job certificate : List ℕ) (files : Files) (fault : CertFault) → CheckCallsFor job certificate (Some files) Ok
+    → CheckCallsFor job certificate (Some files) (CertRefused (Fault fault)) → ⊥
 accepted_or_faulty certs jobs job certificate files fault (made, cert, both, faultless) (other, second, has, first) =
     certs.faultless made.table cert fault faultless (moved_fault certs jobs job certificate files made other cert second fault both has first)
 
 -- a certificate has one first fault
-one_fault : CertLaws → JobLaws → (job certificate : List ℕ) (files : Files) (a b : CertFault) → CheckCallsFor job certificate files (CertRefused (Fault a))
-    → CheckCallsFor job certificate files (CertRefused (Fault b)) → a ≡ b
+one_fault : CertLaws → JobLaws → (job certificate : List ℕ) (files : Files) (a b : CertFault) → CheckCallsFor job certificate (Some files) (CertRefused (Fault a))
+    → CheckCallsFor job certificate (Some files) (CertRefused (Fault b)) → a ≡ b
 one_fault certs jobs job certificate files a b (made, cert, both, first) (other, second, has, last) =
     certs.fault made.table cert a b first (moved_fault certs jobs job certificate files made other cert second b both has last)
 
 -- JOB has a table, and CERT is there
 there_or_missing : JobLaws → (job certificate : List ℕ) (files : Files) (made : JobTable) (bytes : List ℕ)
-    → IsJobTable (Some files) job (files_of_check job certificate) made → get files certificate ≡ Some bytes → CheckCallsFor job certificate files Missing → ⊥
+    → IsJobTable (Some files) job (files_of_check job certificate) made → get files certificate ≡ Some bytes → CheckCallsFor job certificate (Some files) Missing → ⊥
 there_or_missing jobs job certificate files made bytes is held (inl stops) = table_or_stop jobs files job (files_of_check job certificate) made Missing is stops
 there_or_missing jobs job certificate files made bytes is held (inr (other, has, lacks)) = none-some bytes (sym lacks ∙ held)
 
 -- where a file isn't there, a job calls for nothing else before there is a table
-missing_or_stop : JobLaws → (job certificate : List ℕ) (files : Files) (s : Status) → CheckCallsFor job certificate files Missing
-    → JobCallsFor files job (files_of_check job certificate) s → IsSameStatus Missing s
+missing_or_stop : JobLaws → (job certificate : List ℕ) (files : Files) (s : Status) → CheckCallsFor job certificate (Some files) Missing
+    → JobCallsFor (Some files) job (files_of_check job certificate) s → IsSameStatus Missing s
 missing_or_stop jobs job certificate files s (inl stops) b = stops_are_one jobs files job (files_of_check job certificate) Missing s stops b
 missing_or_stop jobs job certificate files s (inr (made, is, lacks)) b = absurd (table_or_stop jobs files job (files_of_check job certificate) made s is b)
 
-stop_or_missing : JobLaws → (job certificate : List ℕ) (files : Files) (s : Status) → JobCallsFor files job (files_of_check job certificate) s
-    → CheckCallsFor job certificate files Missing → IsSameStatus s Missing
+stop_or_missing : JobLaws → (job certificate : List ℕ) (files : Files) (s : Status) → JobCallsFor (Some files) job (files_of_check job certificate) s
+    → CheckCallsFor job certificate (Some files) Missing → IsSameStatus s Missing
 stop_or_missing jobs job certificate files s a (inl stops) = stops_are_one jobs files job (files_of_check job certificate) s Missing a stops
 stop_or_missing jobs job certificate files s a (inr (made, is, lacks)) = absurd (table_or_stop jobs files job (files_of_check job certificate) made s is a)
 
 -- what `check` is called for is one
-pub check_calls_for_one : CertLaws → JobLaws → (job certificate : List ℕ) (files : Files) (s t : Status) → CheckCallsFor job certificate files s
-    → CheckCallsFor job certificate files t → IsSameStatus s t
+pub check_calls_for_one : CertLaws → JobLaws → (job certificate : List ℕ) (files : Files) (s t : Status) → CheckCallsFor job certificate (Some files) s
+    → CheckCallsFor job certificate (Some files) t → IsSameStatus s t
 check_calls_for_one certs jobs job certificate files Ok Ok a b = refl
 check_calls_for_one certs jobs job certificate files Ok (CertRefused (Syntax n)) a b = absurd (cert_or_refused certs files certificate b.1 a.1 n a.2.cert_is b.3 b.4)
 check_calls_for_one certs jobs job certificate files Ok (CertRefused (Fault fault)) a b = absurd (accepted_or_faulty certs jobs job certificate files fault a b)

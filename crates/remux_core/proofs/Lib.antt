@@ -6,6 +6,7 @@ mod CheckSteps
 mod Counted
 mod Decimals
 mod Ending
+mod Ends
 mod Examples
 mod Held
 mod LineStatus

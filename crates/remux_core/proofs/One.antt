@@ -33,9 +33,9 @@ pub record Laws : Type 0 where
   pub smallest : (table : Table) (a b : List ℕ) → IsSmallestChoice table a → IsSmallestChoice table b → a ≡ b
   pub scheduled : (table : Table) (choice : List ℕ) (miss : Miss) → IsScheduled table choice → IsFirstMiss table choice miss → ⊥
   pub miss : (table : Table) (choice : List ℕ) (a b : Miss) → IsFirstMiss table choice a → IsFirstMiss table choice b → a ≡ b
-  pub run : (job out certificate : List ℕ) (files : Files) (s t : Status) → RunCallsFor job out certificate files s → RunCallsFor job out certificate files t → IsSameStatus s t
-  pub check : (job certificate : List ℕ) (files : Files) (s t : Status) → CheckCallsFor job certificate files s → CheckCallsFor job certificate files t → IsSameStatus s t
-  pub probe : (file : List ℕ) (number : ℕ) (files : Files) (s t : Status) → ProbeCallsFor file number files s → ProbeCallsFor file number files t → IsSameStatus s t
+  pub run : (job out certificate : List ℕ) (files : Files) (s t : Status) → RunCallsFor job out certificate (Some files) s → RunCallsFor job out certificate (Some files) t → IsSameStatus s t
+  pub check : (job certificate : List ℕ) (files : Files) (s t : Status) → CheckCallsFor job certificate (Some files) s → CheckCallsFor job certificate (Some files) t → IsSameStatus s t
+  pub probe : (file : List ℕ) (number : ℕ) (files : Files) (s t : Status) → ProbeCallsFor file number (Some files) s → ProbeCallsFor file number (Some files) t → IsSameStatus s t
 
 -- the first letter of the verb
 abbrev pub initial : List (List ℕ) → ℕ
@@ -103,7 +103,7 @@ one_command words None (Some b) none said = absurd (none (b, said))
 one_command words None None a b = refl
 
 -- a file holds one table
-one_table : Laws → (files : Files) (name : List ℕ) (s t : Table) → HoldsTable files name s → HoldsTable files name t → s ≡ t
+one_table : Laws → (files : Files) (name : List ℕ) (s t : Table) → HoldsTable (Some files) name s → HoldsTable (Some files) name t → s ≡ t
 one_table laws files name s t a b =
     let x = a.held in
     let y = b.held in
@@ -124,7 +124,7 @@ no_refusal reading text table (TableLimit name) read refused =
     cc
 
 -- a file that holds a table isn't refused
-pub table_or_refusal : OneReading → (files : Files) (name : List ℕ) (table : Table) (refusal : JobRefusal) → HoldsTable files name table
+pub table_or_refusal : OneReading → (files : Files) (name : List ℕ) (table : Table) (refusal : JobRefusal) → HoldsTable (Some files) name table
     → (text : List ℕ) × (get files name ≡ Some text) × IsTableRefused text refusal → ⊥
 table_or_refusal reading files name table refusal holds (text, held, refused) =
     let there = holds.held in
@@ -155,14 +155,14 @@ one_refusal laws text (TableLimit name) (TableLimit other) a b =
     cc
 
 -- no smallest choice misses, or one has a first miss
-scheduled_or_missed : Laws → (files : Files) (name : List ℕ) (miss : Miss) → PlanCallsFor name files statuses.Ok → PlanCallsFor name files (statuses.Unschedulable miss) → ⊥
+scheduled_or_missed : Laws → (files : Files) (name : List ℕ) (miss : Miss) → PlanCallsFor name (Some files) statuses.Ok → PlanCallsFor name (Some files) (statuses.Unschedulable miss) → ⊥
 scheduled_or_missed laws files name miss (table, holds, scheduled) (other, choice, has, small, first) =
     let tables : other ≡ table = one_table laws files name other table has holds in
     let least : IsSmallestChoice table choice = subst (λ (t : Table). IsSmallestChoice t choice) tables small in
     laws.scheduled table choice miss (scheduled choice least) (subst (λ (t : Table). IsFirstMiss t choice miss) tables first)
 
 -- the first miss of the smallest choice is one
-one_miss : Laws → (files : Files) (name : List ℕ) (a b : Miss) → PlanCallsFor name files (statuses.Unschedulable a) → PlanCallsFor name files (statuses.Unschedulable b) → a ≡ b
+one_miss : Laws → (files : Files) (name : List ℕ) (a b : Miss) → PlanCallsFor name (Some files) (statuses.Unschedulable a) → PlanCallsFor name (Some files) (statuses.Unschedulable b) → a ≡ b
 one_miss laws files name a b (table, choice, holds, small, first) (other, least, has, smallest, missed) =
     let tables : other ≡ table = one_table laws files name other table has holds in
     let moved : IsSmallestChoice table least = subst (λ (t : Table). IsSmallestChoice t least) tables smallest in
@@ -171,7 +171,7 @@ one_miss laws files name a b (table, choice, holds, small, first) (other, least,
     laws.miss table choice a b first (subst (λ (c : List ℕ). IsFirstMiss table c b) choices here)
 
 -- what TABLE holds calls for one status
-plan_calls_for_one : Laws → (files : Files) (name : List ℕ) (s t : Status) → PlanCallsFor name files s → PlanCallsFor name files t → IsSameStatus s t
+plan_calls_for_one : Laws → (files : Files) (name : List ℕ) (s t : Status) → PlanCallsFor name (Some files) s → PlanCallsFor name (Some files) t → IsSameStatus s t
 plan_calls_for_one laws files name statuses.Ok statuses.Ok a b = refl
 plan_calls_for_one laws files name statuses.Ok (statuses.JobRefused refusal) a b = absurd (table_or_refusal laws.reading files name a.0 refusal a.1 b)
 plan_calls_for_one laws files name statuses.Ok (statuses.Unschedulable miss) a b = absurd (scheduled_or_missed laws files name miss a b)
@@ -236,7 +236,7 @@ none_calls_for_one files statuses.Missing a = absurd a
 none_calls_for_one files statuses.OutOfMemory a = absurd a
 
 -- a command and files call for one status
-pub calls_for_one : Laws → (command : Option Command) (files : Files) (s t : Status) → CallsFor command files s → CallsFor command files t → IsSameStatus s t
+pub calls_for_one : Laws → (command : Option Command) (files : Files) (s t : Status) → CallsFor command (Some files) s → CallsFor command (Some files) t → IsSameStatus s t
 calls_for_one laws (Some (Plan table certificate)) files s t a b = plan_calls_for_one laws files table s t a b
 calls_for_one laws (Some (Gen seed pictures out)) files s t a b = both_one statuses.Ok s t (gen_calls_for_one s a) (gen_calls_for_one t b) refl
 calls_for_one laws (Some (Run job out certificate)) files s t a b = laws.run job out certificate files s t a b
@@ -248,7 +248,7 @@ calls_for_one laws None files s t a b = both_one statuses.Usage s t (none_calls_
 pub words_call_for_one : Laws → (words : List (List ℕ)) (files : Files) (s t : Status) → WordsCallFor words files s → WordsCallFor words files t → IsSameStatus s t
 words_call_for_one laws words files s t a b =
     let same : b.command ≡ a.command = one_command words b.command a.command b.said a.said in
-    calls_for_one laws a.command files s t a.called (subst (λ (c : Option Command). CallsFor c files t) same b.called)
+    calls_for_one laws a.command files s t a.called (subst (λ (c : Option Command). CallsFor c (Some files) t) same b.called)
 
 -- a status that is the same as Ok is Ok
 pub is_ok : (s : Status) → IsSameStatus s statuses.Ok → s ≡ statuses.Ok

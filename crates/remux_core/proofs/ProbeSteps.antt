@@ -104,29 +104,29 @@ few_of_all audios i audio most within is few =
 
 -- ---- the file
 
-has_probed : (held : Files) (file : List ℕ) (number : ℕ) (program : Program) (probed : Probed) (is : IsProbedText program probed) → HoldsProbed held file number program
-    → HasProbed held file number program is.made
-has_probed held file number program probed is holds = record { holds = holds; is_table = is.is_table; is_text = is.is_text }
+pub has_probed : (told : Option Files) (file : List ℕ) (number : ℕ) (program : Program) (probed : Probed) (is : IsProbedText program probed)
+    → HoldsProbed told file number program → HasProbed told file number program is.made
+has_probed told file number program probed is holds = record { holds = holds; is_table = is.is_table; is_text = is.is_text }
 
 -- the text was written whole
 pub probe_ends : (file : List ℕ) (number : ℕ) (table : List ℕ) (old new : Option Files) (program : Program) (probed : Probed) (bytes : List ℕ) → IsProbedText program probed
     → bytes ≡ probed.text → new ≡ with_content old table bytes
-    → OnFiles old new (λ held after. HoldsProbed held file number program → Decides (Some (Probe file number table)) held (answer_of (Some probed.done)) after)
+    → OnFiles old new (λ held after. HoldsProbed (Some held) file number program → Decides (Some (Probe file number table)) held (answer_of (Some probed.done)) after)
 probe_ends file number table old new program probed bytes is text written =
-    on_content old new table bytes (λ held after. HoldsProbed held file number program → Decides (Some (Probe file number table)) held (answer_of (Some probed.done)) after) written
+    on_content old new table bytes (λ held after. HoldsProbed (Some held) file number program → Decides (Some (Probe file number table)) held (answer_of (Some probed.done)) after) written
     (λ held told holds.
     subst (λ (s : Status). EndsWithStatus (Some (Probe file number table)) held s probed.done.line.items (insert held table bytes)) (sym is.ends.0)
-    (program, is.made, has_probed held file number program probed is holds, is.ends.1, ap (insert held table) (text ∙ is.spelled)))
+    (program, is.made, has_probed (Some held) file number program probed is holds, is.ends.1, ap (insert held table) (text ∙ is.spelled)))
 
 -- a front of the text is what `probe` may leave
 part_left : (file : List ℕ) (number : ℕ) (table : List ℕ) (held after : Files) (program : Program) (probed : Probed) → IsProbedText program probed
-    → HoldsPart table probed.text held after → HoldsProbed held file number program → ProbeLeaves file number table held after
+    → HoldsPart table probed.text held after → HoldsProbed (Some held) file number program → ProbeLeaves file number table held after
 part_left file number table held after program probed is (inl same) holds = inl same
 part_left file number table held after program probed is (inr (k, few, written)) holds =
     inr (
       program,
       is.made,
-      has_probed held file number program probed is holds,
+      has_probed (Some held) file number program probed is holds,
       k,
       subst (λ (t : List ℕ). k ≤ length t) is.spelled few,
       written ∙ ap (λ (t : List ℕ). insert held table (take k t)) is.spelled,
@@ -134,9 +134,9 @@ part_left file number table held after program probed is (inr (k, few, written))
 
 -- the text was broken off
 pub probe_breaks_off : (file : List ℕ) (number : ℕ) (table : List ℕ) (old new : Option Files) (program : Program) (probed : Probed) (bytes : List ℕ) → IsProbedText program probed
-    → bytes ≡ probed.text → HoldsPrefix old new table bytes → OnFiles old new (λ held after. HoldsProbed held file number program → ProbeLeaves file number table held after)
+    → bytes ≡ probed.text → HoldsPrefix old new table bytes → OnFiles old new (λ held after. HoldsProbed (Some held) file number program → ProbeLeaves file number table held after)
 probe_breaks_off file number table old new program probed bytes is text part =
-    on_prefix old new table probed.text (λ held after. HoldsProbed held file number program → ProbeLeaves file number table held after)
+    on_prefix old new table probed.text (λ held after. HoldsProbed (Some held) file number program → ProbeLeaves file number table held after)
     (subst (λ (b : List ℕ). HoldsPrefix old new table b) text part)
     (λ held after left holds. part_left file number table held after program probed is left holds)
 
@@ -150,7 +150,7 @@ pub record ProbeLaws : Type 0 where
       → IsProbedOn (Some files) name slot start number drop program → IsProbeRefusedOn (Some files) name slot start number drop fault → ⊥
 
 -- what `probe` is called for is one
-pub probe_calls_for_one : ProbeLaws → (file : List ℕ) (number : ℕ) (files : Files) (s t : Status) → ProbeCallsFor file number files s → ProbeCallsFor file number files t → IsSameStatus s t
+pub probe_calls_for_one : ProbeLaws → (file : List ℕ) (number : ℕ) (files : Files) (s t : Status) → ProbeCallsFor file number (Some files) s → ProbeCallsFor file number (Some files) t → IsSameStatus s t
 probe_calls_for_one laws file number files Ok Ok a b = refl
 probe_calls_for_one laws file number files Ok (SourceRefused fault) a b = absurd (laws.never_both files file PROBE_SLOT START_DEFAULT number [] a.0 fault a.1 b)
 probe_calls_for_one laws file number files Ok Missing a b = let x = a.1.held in cc

@@ -1,5 +1,5 @@
 -- What `run` writes, in two files.
-use Rattle.std.proofs.Common.{◌≡◌, ◌≤◌, ℕ, List, [], length, take, Option, Some, None, Result, Err, ◌≢◌, ◌↔◌, refl, sym, ap, subst, ◌∙◌, inl, inr, arith}
+use Rattle.std.proofs.Common.{◌≡◌, ◌≤◌, ℕ, List, length, take, Option, Some, None, Result, Err, ◌≢◌, ◌↔◌, refl, sym, ap, subst, ◌∙◌, inl, inr, arith}
 use Rattle.std.proofs.Math.Seq.{take-length}
 use Rattle.std.specs.FinMap.{insert}
 use Rattle.bound_certificate.specs.declared.cert.Cert.{Cert}
@@ -118,16 +118,18 @@ run_ends job out certificate old middle new made cert slots prepared (Some ended
     → EndsWithStatus (Some (Run job out certificate)) held s ended.line.items after)) (sym failed.0) left
 
 -- and its cause
-pub run_has_cause : (job out certificate : List ℕ) (old new : ShelfFacts) (middle : ShelfCounts) (made : JobTable) (cert : Cert) (slots : SlotList) (prepared : Prepared) (result : Option Ended)
+pub run_has_cause : (job out certificate : List ℕ) (old new : ShelfFacts) (middle : ShelfCounts) (made : JobTable) (cert : Cert) (slots : SlotList) (prepared : Prepared) (result : Option Ended) {written : Option Files}
+    → IsJobTable old.files job (files_of_run job out certificate) made → IsPlan made.table cert → IsSlotList made.table cert.choice slots
+    → HoldsStream old.files written out made cert.choice slots
     → IsPrepared made cert slots prepared → CountsGrow old.counts middle → CountsGrow middle new.counts
     → CertificateHasCause middle new.counts new.since_fault certificate prepared result → AnswerHasCause (Some (Run job out certificate)) old new (answer_of result)
-run_has_cause job out certificate old new middle made cert slots prepared None ready first second cause = tt
-run_has_cause job out certificate old new middle made cert slots prepared (Some ended) ready first second (inl same) =
+run_has_cause job out certificate old new middle made cert slots prepared None has plan are holds ready first second cause = tt
+run_has_cause job out certificate old new middle made cert slots prepared (Some ended) has plan are (stream, stands, first_is) ready first second (inl same) =
     let Has : Ended → Type 0 = λ e. HasCause (Some (Run job out certificate)) old new e.status e.line.items in
     let ok : Has prepared.done =
-    subst (λ (s : Status). HasCause (Some (Run job out certificate)) old new s prepared.done.line.items) (sym ready.ends.0) (work_of made cert slots [], ready.ends.1) in
+    subst (λ (s : Status). HasCause (Some (Run job out certificate)) old new s prepared.done.line.items) (sym ready.ends.0) (work_of made cert slots stream, is_work old.files job out certificate made cert slots stream has plan are stands, ready.ends.1) in
     subst Has (sym same) ok
-run_has_cause job out certificate old new middle made cert slots prepared (Some ended) ready first second (inr (failed, rose, last)) =
+run_has_cause job out certificate old new middle made cert slots prepared (Some ended) has plan are holds ready first second (inr (failed, rose, last)) =
     subst (λ (s : Status). HasCause (Some (Run job out certificate)) old new s ended.line.items) (sym failed.0)
     (record { name = certificate; asked = inr refl; rises = rose_later _ _ _ first.write_faults_grow second.write_faults_grow rose; last = last; names = failed.1 })
 

@@ -42,4 +42,4 @@ pub record Outcome (words : List (List ℕ)) (old new : ShelfFacts) (out_old out
 pub record WordsCallFor (words : List (List ℕ)) (files : Files) (status : Status) : Type 0 where
   pub command : Option Command
   pub said : IsSaid words command
-  pub called : CallsFor command files status
+  pub called : CallsFor command (Some files) status

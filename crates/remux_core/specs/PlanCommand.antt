@@ -1,10 +1,11 @@
 -- What `plan TABLE CERT` does.
-use Rattle.std.specs.Prelude.{◌≡◌, ℕ, ◌≤◌, ◌⊎◌, List, length, take, Some, None}
-use Rattle.std.specs.FinMap.{get, insert}
+use Rattle.std.specs.Prelude.{◌≡◌, ℕ, ◌≤◌, ◌⊎◌, List, length, take, Option, Some}
+use Rattle.std.specs.FinMap.{insert}
 use Rattle.bound_certificate.specs.declared.cert.Cert.{Cert}
 use Rattle.bound_certificate.specs.Spelling.{cert_spelling}
 use Rattle.job_report.specs.Report.{report_line}
-use Rattle.shelf_io.specs.Files.{Files}
+use Rattle.job_run.specs.JobFile.{HoldsText}
+use Rattle.shelf_io.specs.Files.{Files, Lacks}
 use Rattle.version_table.specs.declared.table.Table.{Table}
 use Rattle.version_table.specs.declared.fault.Limit.{Limit}
 use Rattle.version_table.specs.Choice.{IsSmallestChoice}
@@ -18,16 +19,16 @@ use Rattle.remux_core.specs.declared.status.JobRefusal.TheVariants.{TableSyntax,
 use Rattle.remux_core.specs.Plan.{IsPlan}
 use Rattle.remux_core.specs.Report.{plan_report}
 
--- a file holds the text of this table
-pub record HoldsTable (files : Files) (name : List ℕ) (table : Table) : Type 0 where
+-- a text is that of this table, and a file holds it, where files are told
+pub record HoldsTable (told : Option Files) (name : List ℕ) (table : Table) : Type 0 where
   pub text : List ℕ
-  pub held : get files name ≡ Some text
+  pub held : HoldsText told name text
   pub read : IsTableRead text (Holds table)
 
 -- this is a plan of the table that a file holds
-pub record HasPlan (files : Files) (name : List ℕ) (plan : Cert) : Type 0 where
+pub record HasPlan (told : Option Files) (name : List ℕ) (plan : Cert) : Type 0 where
   pub table : Table
-  pub holds : HoldsTable files name table
+  pub holds : HoldsTable told name table
   pub is_plan : IsPlan table plan
 
 -- a text is refused so
@@ -37,24 +38,24 @@ IsTableRefused text (TableLimit name) = (limit : Limit) × IsTableRead text (Ref
 IsTableRefused text refusal = ⊥
 
 -- what TABLE holds calls for this status
-abbrev pub PlanCallsFor : (table : List ℕ) → Files → Status → Type 0
-PlanCallsFor name files Ok =
-    (table : Table) × HoldsTable files name table × ((choice : List ℕ) → IsSmallestChoice table choice → IsScheduled table choice)
-PlanCallsFor name files (JobRefused refusal) = (text : List ℕ) × (get files name ≡ Some text) × IsTableRefused text refusal
-PlanCallsFor name files (Unschedulable miss) =
-    (table : Table) × (choice : List ℕ) × HoldsTable files name table × IsSmallestChoice table choice × IsFirstMiss table choice miss
-PlanCallsFor name files Missing = get files name ≡ None
-PlanCallsFor name files status = ⊥
+abbrev pub PlanCallsFor : (table : List ℕ) → Option Files → Status → Type 0
+PlanCallsFor name told Ok =
+    (table : Table) × HoldsTable told name table × ((choice : List ℕ) → IsSmallestChoice table choice → IsScheduled table choice)
+PlanCallsFor name told (JobRefused refusal) = (text : List ℕ) × HoldsText told name text × IsTableRefused text refusal
+PlanCallsFor name told (Unschedulable miss) =
+    (table : Table) × (choice : List ℕ) × HoldsTable told name table × IsSmallestChoice table choice × IsFirstMiss table choice miss
+PlanCallsFor name told Missing = Lacks told name
+PlanCallsFor name told status = ⊥
 
 -- CERT holds the certificate of a plan of the table in TABLE, whose values the line prints, and every other file stays
 abbrev pub PlanDone : (table certificate : List ℕ) → Files → (line : List ℕ) → (after : Files) → Type 0
 PlanDone table certificate files line after =
-    (plan : Cert) × HasPlan files table plan × (line ≡ report_line (plan_report plan))
+    (plan : Cert) × HasPlan (Some files) table plan × (line ≡ report_line (plan_report plan))
     × (after ≡ insert files certificate (cert_spelling plan))
 
 -- files are as they were, or CERT holds a front of the certificate of a plan of the table in TABLE, and every other file stays
 abbrev pub PlanLeaves : (table certificate : List ℕ) → Files → (after : Files) → Type 0
 PlanLeaves table certificate files after =
     (after ≡ files)
-    ⊎ ((plan : Cert) × HasPlan files table plan × (k : ℕ) × (k ≤ length (cert_spelling plan))
+    ⊎ ((plan : Cert) × HasPlan (Some files) table plan × (k : ℕ) × (k ≤ length (cert_spelling plan))
     × (after ≡ insert files certificate (take k (cert_spelling plan))))

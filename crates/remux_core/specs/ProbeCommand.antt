@@ -1,12 +1,12 @@
 -- What `probe FILE PROGRAM TABLE` does.
-use Rattle.std.specs.Prelude.{◌≡◌, ℕ, ◌≤◌, ◌⊎◌, List, [], ◌∷◌, length, take, Some, None}
-use Rattle.std.specs.FinMap.{get, insert}
+use Rattle.std.specs.Prelude.{◌≡◌, ℕ, ◌≤◌, ◌⊎◌, List, [], ◌∷◌, length, take, Option, Some}
+use Rattle.std.specs.FinMap.{insert}
 use Rattle.job_programs.specs.Told.{IsProbedOn, IsProbeRefusedOn}
 use Rattle.job_report.specs.declared.limits.TheConstants.{COARSER_DEFAULT, EVALUATIONS_DEFAULT, NODES_DEFAULT, PROBE_SLOT, START_DEFAULT, WEIGHT_DEFAULT}
 use Rattle.job_report.specs.Report.{report_line}
 use Rattle.program_reader.specs.declared.program.Program.{Program}
 use Rattle.program_table.specs.Table.{IsRowOf}
-use Rattle.shelf_io.specs.Files.{Files}
+use Rattle.shelf_io.specs.Files.{Files, Lacks}
 use Rattle.version_table.specs.declared.table.ProgramRow.{ProgramRow}
 use Rattle.version_table.specs.declared.table.Table.{Table}
 use Rattle.version_table.specs.Text.{IsTextTable, table_spelling}
@@ -14,9 +14,9 @@ use Rattle.remux_core.specs.declared.status.Status.{Status}
 use Rattle.remux_core.specs.declared.status.Status.TheVariants.{Ok, SourceRefused, Missing}
 use Rattle.remux_core.specs.Report.{probe_report}
 
--- a file holds this program of a number, as it is probed: in slots of `PROBE_SLOT` ticks, with the start of a job that says nothing, and no PID dropped
-abbrev pub HoldsProbed : Files → (file : List ℕ) → (number : ℕ) → Program → Type 0
-HoldsProbed files file number program = IsProbedOn (Some files) file PROBE_SLOT START_DEFAULT number [] program
+-- a file holds this program of a number, where files are told, as it is probed: in slots of `PROBE_SLOT` ticks, with the start of a job that says nothing, and no PID dropped
+abbrev pub HoldsProbed : Option Files → (file : List ℕ) → (number : ℕ) → Program → Type 0
+HoldsProbed told file number program = IsProbedOn told file PROBE_SLOT START_DEFAULT number [] program
 
 -- The table of a program that is probed: slots of `PROBE_SLOT` ticks, the nodes and evaluations of a job that says nothing, and the
 -- program alone, in the versions and with the weight that such a job gives it.
@@ -29,27 +29,27 @@ pub record IsProbedTable (program : Program) (table : Table) : Type 0 where
   pub alone : table.programs ≡ row ∷ []
 
 -- a file holds this program of a number, this is its table, and a text may hold that
-pub record HasProbed (files : Files) (file : List ℕ) (number : ℕ) (program : Program) (made : Table) : Type 0 where
-  pub holds : HoldsProbed files file number program
+pub record HasProbed (told : Option Files) (file : List ℕ) (number : ℕ) (program : Program) (made : Table) : Type 0 where
+  pub holds : HoldsProbed told file number program
   pub is_table : IsProbedTable program made
   pub is_text : IsTextTable made
 
 -- what FILE holds calls for this status: it holds a program of the number, or is refused, or isn't there
-abbrev pub ProbeCallsFor : (file : List ℕ) → (number : ℕ) → Files → Status → Type 0
-ProbeCallsFor file number files Ok = (program : Program) × HoldsProbed files file number program
-ProbeCallsFor file number files (SourceRefused fault) = IsProbeRefusedOn (Some files) file PROBE_SLOT START_DEFAULT number [] fault
-ProbeCallsFor file number files Missing = get files file ≡ None
-ProbeCallsFor file number files status = ⊥
+abbrev pub ProbeCallsFor : (file : List ℕ) → (number : ℕ) → Option Files → Status → Type 0
+ProbeCallsFor file number told Ok = (program : Program) × HoldsProbed told file number program
+ProbeCallsFor file number told (SourceRefused fault) = IsProbeRefusedOn told file PROBE_SLOT START_DEFAULT number [] fault
+ProbeCallsFor file number told Missing = Lacks told file
+ProbeCallsFor file number told status = ⊥
 
 -- TABLE holds the text of the table of FILE's program, whose packets and units the line counts, and every other file stays
 abbrev pub ProbeDone : (file : List ℕ) → (number : ℕ) → (table : List ℕ) → Files → (line : List ℕ) → (after : Files) → Type 0
 ProbeDone file number table files line after =
-    (program : Program) × (made : Table) × HasProbed files file number program made × (line ≡ report_line (probe_report program))
+    (program : Program) × (made : Table) × HasProbed (Some files) file number program made × (line ≡ report_line (probe_report program))
     × (after ≡ insert files table (table_spelling made))
 
 -- files are as they were, or TABLE holds a front of the text of the table of FILE's program, and every other file stays
 abbrev pub ProbeLeaves : (file : List ℕ) → (number : ℕ) → (table : List ℕ) → Files → (after : Files) → Type 0
 ProbeLeaves file number table files after =
     (after ≡ files)
-    ⊎ ((program : Program) × (made : Table) × HasProbed files file number program made × (k : ℕ) × (k ≤ length (table_spelling made))
+    ⊎ ((program : Program) × (made : Table) × HasProbed (Some files) file number program made × (k : ℕ) × (k ≤ length (table_spelling made))
     × (after ≡ insert files table (take k (table_spelling made))))

@@ -1,8 +1,10 @@
 -- What every command promises of the outside.
-use Rattle.std.specs.Prelude.{◌≡◌, ℕ, ◌+◌, ◌≤◌, List, Option, max}
+use Rattle.std.specs.Prelude.{◌≡◌, ◌⊎◌, ℕ, ◌+◌, ◌<◌, ◌≤◌, List, Option, max}
 use Rattle.std.specs.FinMap.{get}
 use Rattle.shelf_io.specs.Counts.{Rose, ShelfCounts}
 use Rattle.shelf_io.specs.Files.{Files}
+use Rattle.remux_core.specs.declared.status.Status.{Status}
+use Rattle.remux_core.specs.declared.status.Status.TheVariants.{ReadFault, WriteFault, Missing, OutOfMemory}
 use Rattle.remux_core.specs.Command.{Command, ReadsFile, WritesFile}
 use Rattle.remux_core.specs.Outside.{ShelfFacts, SinkFacts, OnFiles}
 
@@ -33,3 +35,15 @@ pub record NoneFailed (old new : ShelfFacts) (out_old out_new : SinkFacts) : Typ
   pub faults : Rose old.counts.faults new.counts.faults → ⊥
   pub write_faults : Rose old.counts.write_faults new.counts.write_faults → ⊥
   pub out_faults : Rose out_old.faults out_new.faults → ⊥
+
+-- a run ends with this status, or its report couldn't be written, or memory was wanted
+abbrev pub EndsWith : (expected status : Status) → Type 0
+EndsWith expected status = (status ≡ expected) ⊎ ((status ≡ WriteFault) ⊎ (status ≡ OutOfMemory))
+
+-- A fault of the outside ends a run: where a count of the shelf rose, the status tells which, and no call of the shelf followed the one that
+-- raised it; where that of the sink rose, the status is WriteFault, and no call of the sink followed.
+pub record FaultsEnd (old new : ShelfFacts) (out_old out_new : SinkFacts) (status : Status) : Type 0 where
+  pub reads : old.counts.faults < new.counts.faults → EndsWith ReadFault status × (new.since_fault ≡ 0)
+  pub writes : old.counts.write_faults < new.counts.write_faults → EndsWith WriteFault status × (new.since_fault ≡ 0)
+  pub absences : old.counts.absences < new.counts.absences → EndsWith Missing status × (new.since_fault ≡ 0)
+  pub reports : out_old.faults < out_new.faults → (status ≡ WriteFault) × (out_new.since_fault ≡ 0)

@@ -1,6 +1,6 @@
 -- What `run JOB OUT CERT` does.
-use Rattle.std.specs.Prelude.{◌≡◌, ℕ, ◌≤◌, ◌⊎◌, List, length, take, Option, Some, None}
-use Rattle.std.specs.FinMap.{get, insert}
+use Rattle.std.specs.Prelude.{◌≡◌, ℕ, ◌≤◌, ◌⊎◌, List, length, take, Option, Some}
+use Rattle.std.specs.FinMap.{insert}
 use Rattle.bound_certificate.specs.declared.cert.Cert.{Cert}
 use Rattle.bound_certificate.specs.Spelling.{cert_spelling}
 use Rattle.branch_plan.specs.Plan.{SmallestIsScheduled}
@@ -13,7 +13,7 @@ use Rattle.job_run.specs.JobTable.{IsJobTable}
 use Rattle.job_run.specs.Stops.{HoldsRefusedProgram, IsNextFile}
 use Rattle.job_run.specs.Written.{IsJobStream}
 use Rattle.run_report.specs.Report.{run_report}
-use Rattle.shelf_io.specs.Files.{Files}
+use Rattle.shelf_io.specs.Files.{Files, Lacks}
 use Rattle.slot_rule.specs.declared.slot_list.SlotList.{SlotList}
 use Rattle.slot_rule.specs.Schedule.{IsFirstMiss}
 use Rattle.slot_rule.specs.SlotList.{IsSlotList}
@@ -27,13 +27,13 @@ use Rattle.remux_core.specs.Plan.{IsPlan}
 -- ---- before there is a table
 
 -- the job in a file calls for this status before its programs have a table: its text is refused, or a program, or a file isn't there
-abbrev pub JobCallsFor : Files → (name : List ℕ) → (named : List (List ℕ)) → Status → Type 0
-JobCallsFor files name named (JobRefused JobSyntax) = HoldsRefused (Some files) name named NoDocument
-JobCallsFor files name named (JobRefused (JobField field)) = HoldsRefused (Some files) name named (Field field)
-JobCallsFor files name named (JobRefused (JobLimit field)) = HoldsRefused (Some files) name named (Limit field)
-JobCallsFor files name named (SourceRefused fault) = HoldsRefusedProgram (Some files) name named fault
-JobCallsFor files name named Missing = (file : List ℕ) × IsNextFile (Some files) name named file × (get files file ≡ None)
-JobCallsFor files name named status = ⊥
+abbrev pub JobCallsFor : Option Files → (name : List ℕ) → (named : List (List ℕ)) → Status → Type 0
+JobCallsFor told name named (JobRefused JobSyntax) = HoldsRefused told name named NoDocument
+JobCallsFor told name named (JobRefused (JobField field)) = HoldsRefused told name named (Field field)
+JobCallsFor told name named (JobRefused (JobLimit field)) = HoldsRefused told name named (Limit field)
+JobCallsFor told name named (SourceRefused fault) = HoldsRefusedProgram told name named fault
+JobCallsFor told name named Missing = (file : List ℕ) × IsNextFile told name named file × Lacks told file
+JobCallsFor told name named status = ⊥
 
 -- ---- what is made
 
@@ -58,13 +58,13 @@ report_of_run work = run_report work.made.job.programs work.made.programs work.c
 -- ---- the command
 
 -- what JOB and the files that it names hold calls for this status
-abbrev pub RunCallsFor : (job out certificate : List ℕ) → Files → Status → Type 0
-RunCallsFor job out certificate files Ok =
-    (made : JobTable) × IsJobTable (Some files) job (files_of_run job out certificate) made × SmallestIsScheduled made.table
-RunCallsFor job out certificate files (Unschedulable miss) =
-    (made : JobTable) × (choice : List ℕ) × IsJobTable (Some files) job (files_of_run job out certificate) made
+abbrev pub RunCallsFor : (job out certificate : List ℕ) → Option Files → Status → Type 0
+RunCallsFor job out certificate told Ok =
+    (made : JobTable) × IsJobTable told job (files_of_run job out certificate) made × SmallestIsScheduled made.table
+RunCallsFor job out certificate told (Unschedulable miss) =
+    (made : JobTable) × (choice : List ℕ) × IsJobTable told job (files_of_run job out certificate) made
     × IsSmallestChoice made.table choice × IsFirstMiss made.table choice miss
-RunCallsFor job out certificate files status = JobCallsFor files job (files_of_run job out certificate) status
+RunCallsFor job out certificate told status = JobCallsFor told job (files_of_run job out certificate) status
 
 -- OUT holds the stream of a plan, CERT holds its certificate, whose values the line prints, and every other file stays
 abbrev pub RunDone : (job out certificate : List ℕ) → Files → (line : List ℕ) → (after : Files) → Type 0

@@ -9,7 +9,7 @@ ghost use Rattle.job_run.specs.JobTable.{IsJobTable};
 ghost use Rattle.remux_core.specs.Answer.{Decides, AnswerHasCause};
 ghost use Rattle.remux_core.specs.Command.{files_of_check};
 ghost use Rattle.remux_core.specs.Outside.{OnFiles, shelf_facts};
-ghost use Rattle.remux_core.specs.Private.Ended.{answer_of};
+ghost use Rattle.remux_core.specs.Private.Ended.{EndsAtFault, answer_of};
 ghost use Rattle.remux_core.specs.Private.Checked.{IsVerdict, IsVerdictOn};
 ghost use Rattle.remux_core.specs.Private.Parsed.{check_of};
 ghost use Rattle.remux_core.specs.Promises.{AsksOnly, CountsGrow};
@@ -36,6 +36,10 @@ pub fn check_job<K: Shelf>(alloc: Global, files: &CheckFiles<'_>, shelf: &mut K)
         (shelf_facts K.files K.counts K.asked K.since_fault shelf.old)
         (shelf_facts K.files K.counts K.asked K.since_fault shelf.new)
         (answer_of result) }
+    ensures ends { EndsAtFault
+        (shelf_facts K.files K.counts K.asked K.since_fault shelf.old)
+        (shelf_facts K.files K.counts K.asked K.since_fault shelf.new)
+        (answer_of result) }
     ensures counts { CountsGrow (K.counts shelf.old) (K.counts shelf.new) }
     ensures asked { AsksOnly (check_of files.now) (K.files shelf.old) (K.asked shelf.old) (K.asked shelf.new) }
 {
@@ -57,11 +61,16 @@ fn check_table<K: Shelf>(
     ensures decided { OnFiles (K.files shelf.old) (K.files shelf.new) (λ held after.
         IsJobTable (Some held) files.now.job.now (files_of_check files.now.job.now files.now.certificate.now) made.now
         → Decides (check_of files.now) held (answer_of result) after) }
-    ensures cause { AnswerHasCause (check_of files.now)
+    ensures cause { IsJobTable (K.files shelf.old) files.now.job.now (files_of_check files.now.job.now files.now.certificate.now) made.now
+        → AnswerHasCause (check_of files.now)
         (shelf_facts K.files K.counts K.asked K.since_fault shelf.old)
         (shelf_facts K.files K.counts K.asked K.since_fault shelf.new)
         (answer_of result) }
     ensures files { K.files shelf.new ≡ K.files shelf.old }
+    ensures ends { EndsAtFault
+        (shelf_facts K.files K.counts K.asked K.since_fault shelf.old)
+        (shelf_facts K.files K.counts K.asked K.since_fault shelf.new)
+        (answer_of result) }
     ensures counts { CountsGrow (K.counts shelf.old) (K.counts shelf.new) }
     ensures asked { AsksUpTo files.now.certificate.now (CERT_BYTES_MOST + 1) (K.asked shelf.old) (K.asked shelf.new) }
 {

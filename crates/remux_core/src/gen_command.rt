@@ -4,7 +4,7 @@ ghost use Rattle.std.specs.Prelude.{◌≡◌, ◌≤◌};
 ghost use Rattle.shelf_io.specs.Asked.{AsksNothing};
 ghost use Rattle.remux_core.specs.Answer.{Decides, AnswerHasCause};
 ghost use Rattle.remux_core.specs.Outside.{OnFiles, shelf_facts};
-ghost use Rattle.remux_core.specs.Private.Ended.{answer_of};
+ghost use Rattle.remux_core.specs.Private.Ended.{EndsAtFault, answer_of};
 ghost use Rattle.remux_core.specs.Private.Parsed.{gen_of};
 ghost use Rattle.remux_core.specs.Promises.{CountsGrow};
 
@@ -21,6 +21,10 @@ pub fn gen_file<K: Shelf>(alloc: Global, words: &GenWords<'_>, shelf: &mut K) ->
     requires { words.now.pictures ≤ PICTURES_MOST }
     ensures decided { OnFiles (K.files shelf.old) (K.files shelf.new) (λ held after. Decides (gen_of words.now) held (answer_of result) after) }
     ensures cause { AnswerHasCause (gen_of words.now)
+        (shelf_facts K.files K.counts K.asked K.since_fault shelf.old)
+        (shelf_facts K.files K.counts K.asked K.since_fault shelf.new)
+        (answer_of result) }
+    ensures ends { EndsAtFault
         (shelf_facts K.files K.counts K.asked K.since_fault shelf.old)
         (shelf_facts K.files K.counts K.asked K.since_fault shelf.new)
         (answer_of result) }

@@ -1,5 +1,5 @@
 //! A law of the commands over jobs and files that are probed, as a function that does nothing.
-ghost use Rattle.std.specs.Prelude.{ℕ, List};
+ghost use Rattle.std.specs.Prelude.{ℕ, List, Some};
 ghost use Rattle.shelf_io.specs.Files.{Files};
 ghost use Rattle.remux_core.specs.declared.status.Status.{Status as AnyStatus};
 ghost use Rattle.remux_core.specs.CheckCommand.{CheckCallsFor};
@@ -16,12 +16,12 @@ use version_table::smallest_choice_is_one;
 
 /// What `run` is called for is one, and so with `check` and `probe`.
 pub(crate) fn jobs_call_for_one()
-    ensures run { (job out certificate : List ℕ) (files : Files) (s t : AnyStatus) → RunCallsFor job out certificate files s
-        → RunCallsFor job out certificate files t → IsSameStatus s t }
-    ensures check { (job certificate : List ℕ) (files : Files) (s t : AnyStatus) → CheckCallsFor job certificate files s
-        → CheckCallsFor job certificate files t → IsSameStatus s t }
-    ensures probe { (file : List ℕ) (number : ℕ) (files : Files) (s t : AnyStatus) → ProbeCallsFor file number files s
-        → ProbeCallsFor file number files t → IsSameStatus s t }
+    ensures run { (job out certificate : List ℕ) (files : Files) (s t : AnyStatus) → RunCallsFor job out certificate (Some files) s
+        → RunCallsFor job out certificate (Some files) t → IsSameStatus s t }
+    ensures check { (job certificate : List ℕ) (files : Files) (s t : AnyStatus) → CheckCallsFor job certificate (Some files) s
+        → CheckCallsFor job certificate (Some files) t → IsSameStatus s t }
+    ensures probe { (file : List ℕ) (number : ℕ) (files : Files) (s t : AnyStatus) → ProbeCallsFor file number (Some files) s
+        → ProbeCallsFor file number (Some files) t → IsSameStatus s t }
 {
     smallest_choice_is_one();
     no_miss_where_scheduled();

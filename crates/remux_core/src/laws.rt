@@ -1,6 +1,6 @@
 //! Laws of the top call.
 
-ghost use Rattle.std.specs.Prelude.{◌≡◌, ◌⊎◌, List, ℕ, Option, map};
+ghost use Rattle.std.specs.Prelude.{◌≡◌, ◌⊎◌, List, ℕ, Option, Some, map};
 ghost use Rattle.std.specs.String.{string_bytes};
 ghost use Rattle.shelf_io.specs.Files.{Files};
 ghost use Rattle.program_reader.specs.declared.program.Program.{Program};
@@ -48,15 +48,15 @@ pub fn lines_tell_their_status()
 /// What `run` leaves, `check` accepts: the files after the work of `run JOB OUT CERT` call for status 0 of `check JOB CERT`.
 pub fn check_accepts_runs()
     ensures { (words : List (List ℕ)) (job out certificate : List ℕ) (files after : Files) (line : List ℕ) → IsRunCommand words job out certificate
-        → RunDone job out certificate files line after → CheckCallsFor job certificate after Status.Ok }
+        → RunDone job out certificate files line after → CheckCallsFor job certificate (Some after) Status.Ok }
 {}
 
 /// What `probe` leaves in TABLE, `plan` reads: it is the text of the program's table, and no status 3 is called for.
 pub fn plan_takes_probed_tables()
     ensures reads { (file : List ℕ) (number : ℕ) (name : List ℕ) (files after : Files) (line : List ℕ) → ProbeDone file number name files line after
-        → (program : Program) × (table : Table) × HoldsProbed files file number program × IsProbedTable program table × HoldsTable after name table }
+        → (program : Program) × (table : Table) × HoldsProbed (Some files) file number program × IsProbedTable program table × HoldsTable (Some after) name table }
     ensures refuses_none { (file : List ℕ) (number : ℕ) (name : List ℕ) (files after : Files) (line : List ℕ) (refusal : JobRefusal)
-        → ProbeDone file number name files line after → PlanCallsFor name after (Status.JobRefused refusal) → ⊥ }
+        → ProbeDone file number name files line after → PlanCallsFor name (Some after) (Status.JobRefused refusal) → ⊥ }
 {
     spelling_is_read();
     one_reading();
@@ -68,12 +68,12 @@ pub fn calm_run(alloc: Global, words: &[String], shelf: &mut CalmShelf, out: &mu
         → IsSameStatus result status ⊎ (result ≡ Status.OutOfMemory) }
     // So each table whose smallest choice is scheduled is planned.
     ensures plans { (name certificate : List ℕ) (table : Table) → IsPlanCommand (map string_bytes words.now) name certificate
-        → HoldsTable shelf.old.files name table
+        → HoldsTable (Some shelf.old.files) name table
         → ((choice : List ℕ) → IsSmallestChoice table choice → IsScheduled table choice)
         → (result ≡ Status.Ok) ⊎ (result ≡ Status.OutOfMemory) }
     // The table of each program that a file holds is made.
     ensures probes { (file : List ℕ) (number : ℕ) (name : List ℕ) (program : Program) → IsProbeCommand (map string_bytes words.now) file number name
-        → HoldsProbed shelf.old.files file number program
+        → HoldsProbed (Some shelf.old.files) file number program
         → (result ≡ Status.Ok) ⊎ (result ≡ Status.OutOfMemory) }
     // And each program that is asked for is made.
     ensures makes { (seed pictures : ℕ) (name : List ℕ) → IsGenCommand (map string_bytes words.now) seed pictures name

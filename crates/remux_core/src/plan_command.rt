@@ -1,13 +1,13 @@
 //! The command `plan TABLE CERT`: from the file of a table to the certificate of its plan.
 
-ghost use Rattle.std.specs.Prelude.{◌≡◌, ◌+◌, IfSome};
+ghost use Rattle.std.specs.Prelude.{◌≡◌, ◌+◌, Some, IfSome};
 ghost use Rattle.bound_certificate.specs.Reading.{IsWritable};
 ghost use Rattle.shelf_io.specs.Asked.{AsksUpTo, AsksNothing};
 ghost use Rattle.version_table.specs.Table.{IsValidTable};
 ghost use Rattle.remux_core.specs.Answer.{Decides, AnswerHasCause};
 ghost use Rattle.remux_core.specs.Outside.{OnFiles, shelf_facts};
 ghost use Rattle.remux_core.specs.PlanCommand.{HoldsTable, HasPlan};
-ghost use Rattle.remux_core.specs.Private.Ended.{answer_of, HoldsFront, refusal_by, IsRefusedFor};
+ghost use Rattle.remux_core.specs.Private.Ended.{EndsAtFault, answer_of, HoldsFront, refusal_by, IsRefusedFor};
 ghost use Rattle.remux_core.specs.Private.Parsed.{plan_of};
 ghost use Rattle.remux_core.specs.Promises.{CountsGrow};
 
@@ -30,6 +30,10 @@ pub fn plan_file<K: Shelf>(alloc: Global, files: &PlanFiles<'_>, shelf: &mut K) 
         (shelf_facts K.files K.counts K.asked K.since_fault shelf.old)
         (shelf_facts K.files K.counts K.asked K.since_fault shelf.new)
         (answer_of result) }
+    ensures ends { EndsAtFault
+        (shelf_facts K.files K.counts K.asked K.since_fault shelf.old)
+        (shelf_facts K.files K.counts K.asked K.since_fault shelf.new)
+        (answer_of result) }
     ensures counts { CountsGrow (K.counts shelf.old) (K.counts shelf.new) }
     ensures asked { AsksUpTo files.now.table.now (TABLE_TEXT_MOST + 1) (K.asked shelf.old) (K.asked shelf.new) }
 {
@@ -48,9 +52,14 @@ fn plan_text<K: Shelf>(
     text: &[u8],
     shelf: &mut K,
 ) -> Option<Ended>
-    ensures decided { OnFiles (K.files shelf.old) (K.files shelf.new) (λ held after. HoldsFront held files.now.table.now text.now
+    ensures decided { OnFiles (K.files shelf.old) (K.files shelf.new) (λ held after. HoldsFront (Some held) files.now.table.now text.now
         → Decides (plan_of files.now) held (answer_of result) after) }
-    ensures cause { AnswerHasCause (plan_of files.now)
+    ensures cause { HoldsFront (K.files shelf.old) files.now.table.now text.now
+        → AnswerHasCause (plan_of files.now)
+        (shelf_facts K.files K.counts K.asked K.since_fault shelf.old)
+        (shelf_facts K.files K.counts K.asked K.since_fault shelf.new)
+        (answer_of result) }
+    ensures ends { EndsAtFault
         (shelf_facts K.files K.counts K.asked K.since_fault shelf.old)
         (shelf_facts K.files K.counts K.asked K.since_fault shelf.new)
         (answer_of result) }
@@ -71,9 +80,14 @@ fn plan_table<K: Shelf>(
     shelf: &mut K,
 ) -> Option<Ended>
     requires { IsValidTable table.now }
-    ensures decided { OnFiles (K.files shelf.old) (K.files shelf.new) (λ held after. HoldsTable held files.now.table.now table.now
+    ensures decided { OnFiles (K.files shelf.old) (K.files shelf.new) (λ held after. HoldsTable (Some held) files.now.table.now table.now
         → Decides (plan_of files.now) held (answer_of result) after) }
-    ensures cause { AnswerHasCause (plan_of files.now)
+    ensures cause { HoldsTable (K.files shelf.old) files.now.table.now table.now
+        → AnswerHasCause (plan_of files.now)
+        (shelf_facts K.files K.counts K.asked K.since_fault shelf.old)
+        (shelf_facts K.files K.counts K.asked K.since_fault shelf.new)
+        (answer_of result) }
+    ensures ends { EndsAtFault
         (shelf_facts K.files K.counts K.asked K.since_fault shelf.old)
         (shelf_facts K.files K.counts K.asked K.since_fault shelf.new)
         (answer_of result) }
@@ -97,9 +111,14 @@ fn write_plan<K: Shelf>(
     shelf: &mut K,
 ) -> Option<Ended>
     requires { IsWritable plan }
-    ensures decided { OnFiles (K.files shelf.old) (K.files shelf.new) (λ held after. HasPlan held files.now.table.now plan
+    ensures decided { OnFiles (K.files shelf.old) (K.files shelf.new) (λ held after. HasPlan (Some held) files.now.table.now plan
         → Decides (plan_of files.now) held (answer_of result) after) }
-    ensures cause { AnswerHasCause (plan_of files.now)
+    ensures cause { HasPlan (K.files shelf.old) files.now.table.now plan
+        → AnswerHasCause (plan_of files.now)
+        (shelf_facts K.files K.counts K.asked K.since_fault shelf.old)
+        (shelf_facts K.files K.counts K.asked K.since_fault shelf.new)
+        (answer_of result) }
+    ensures ends { EndsAtFault
         (shelf_facts K.files K.counts K.asked K.since_fault shelf.old)
         (shelf_facts K.files K.counts K.asked K.since_fault shelf.new)
         (answer_of result) }

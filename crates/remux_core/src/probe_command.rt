@@ -1,6 +1,6 @@
 //! The command `probe FILE PROGRAM TABLE`: from a file to the text of the table of one of its programs.
 
-ghost use Rattle.std.specs.Prelude.{◌≡◌, ◌+◌, ◌∷◌, ℕ, List, [], IfOk, IfSome};
+ghost use Rattle.std.specs.Prelude.{◌≡◌, ◌+◌, ◌∷◌, ℕ, List, [], Some, IfOk, IfSome};
 ghost use Rattle.job_programs.specs.Probe.{IsProbed};
 ghost use Rattle.job_report.specs.declared.limits.TheConstants.{PROBE_SLOT, START_DEFAULT};
 ghost use Rattle.program_reader.specs.declared.limits.TheConstants.{FILE_BYTES_MOST};
@@ -8,7 +8,7 @@ ghost use Rattle.shelf_io.specs.Asked.{AsksNothing, AsksUpTo};
 ghost use Rattle.version_table.specs.Text.{IsTextTable};
 ghost use Rattle.remux_core.specs.Answer.{AnswerHasCause, Decides};
 ghost use Rattle.remux_core.specs.Outside.{OnFiles, shelf_facts};
-ghost use Rattle.remux_core.specs.Private.Ended.{answer_of};
+ghost use Rattle.remux_core.specs.Private.Ended.{EndsAtFault, answer_of};
 ghost use Rattle.remux_core.specs.Private.Parsed.{probe_of};
 ghost use Rattle.remux_core.specs.Private.Probed.{IsProbedText};
 ghost use Rattle.remux_core.specs.ProbeCommand.{HoldsProbed, IsProbedTable};
@@ -36,6 +36,10 @@ use version_table::{ProgramRow, Table, write_table};
 pub fn probe_file<K: Shelf>(alloc: Global, words: &ProbeWords<'_>, shelf: &mut K) -> Option<Ended>
     ensures decided { OnFiles (K.files shelf.old) (K.files shelf.new) (λ held after. Decides (probe_of words.now) held (answer_of result) after) }
     ensures cause { AnswerHasCause (probe_of words.now)
+        (shelf_facts K.files K.counts K.asked K.since_fault shelf.old)
+        (shelf_facts K.files K.counts K.asked K.since_fault shelf.new)
+        (answer_of result) }
+    ensures ends { EndsAtFault
         (shelf_facts K.files K.counts K.asked K.since_fault shelf.old)
         (shelf_facts K.files K.counts K.asked K.since_fault shelf.new)
         (answer_of result) }
@@ -67,9 +71,14 @@ fn write_probed<K: Shelf>(
     shelf: &mut K,
 ) -> Option<Ended>
     requires { (content : List ℕ) × IsProbed PROBE_SLOT START_DEFAULT words.now.program [] content program.now }
-    ensures decided { OnFiles (K.files shelf.old) (K.files shelf.new) (λ held after. HoldsProbed held words.now.file.now words.now.program program.now
+    ensures decided { OnFiles (K.files shelf.old) (K.files shelf.new) (λ held after. HoldsProbed (Some held) words.now.file.now words.now.program program.now
         → Decides (probe_of words.now) held (answer_of result) after) }
-    ensures cause { AnswerHasCause (probe_of words.now)
+    ensures cause { HoldsProbed (K.files shelf.old) words.now.file.now words.now.program program.now
+        → AnswerHasCause (probe_of words.now)
+        (shelf_facts K.files K.counts K.asked K.since_fault shelf.old)
+        (shelf_facts K.files K.counts K.asked K.since_fault shelf.new)
+        (answer_of result) }
+    ensures ends { EndsAtFault
         (shelf_facts K.files K.counts K.asked K.since_fault shelf.old)
         (shelf_facts K.files K.counts K.asked K.since_fault shelf.new)
         (answer_of result) }

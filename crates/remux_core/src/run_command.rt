@@ -13,7 +13,7 @@ ghost use Rattle.remux_core.specs.Answer.{Decides, AnswerHasCause};
 ghost use Rattle.remux_core.specs.Command.{files_of_run};
 ghost use Rattle.remux_core.specs.Outside.{OnFiles, shelf_facts};
 ghost use Rattle.remux_core.specs.Plan.{IsPlan};
-ghost use Rattle.remux_core.specs.Private.Ended.{answer_of};
+ghost use Rattle.remux_core.specs.Private.Ended.{EndsAtFault, answer_of};
 ghost use Rattle.remux_core.specs.Private.Parsed.{run_of};
 ghost use Rattle.remux_core.specs.Private.Prepared.{CertificateHasCause, EndsCertificate, IsPrepared};
 ghost use Rattle.remux_core.specs.Promises.{CountsGrow};
@@ -41,6 +41,10 @@ pub fn run_job<K: Shelf>(alloc: Global, files: &RunFiles<'_>, shelf: &mut K) -> 
         (shelf_facts K.files K.counts K.asked K.since_fault shelf.old)
         (shelf_facts K.files K.counts K.asked K.since_fault shelf.new)
         (answer_of result) }
+    ensures ends { EndsAtFault
+        (shelf_facts K.files K.counts K.asked K.since_fault shelf.old)
+        (shelf_facts K.files K.counts K.asked K.since_fault shelf.new)
+        (answer_of result) }
     ensures counts { CountsGrow (K.counts shelf.old) (K.counts shelf.new) }
     ensures asked { AsksForJob (K.files shelf.old) files.now.job.now (files_of_run files.now.job.now files.now.out.now files.now.certificate.now) (K.asked shelf.old) (K.asked shelf.new) }
 {
@@ -65,7 +69,12 @@ fn plan_job<K: Shelf>(
     ensures decided { OnFiles (K.files shelf.old) (K.files shelf.new) (λ held after.
         IsJobTable (Some held) files.now.job.now (files_of_run files.now.job.now files.now.out.now files.now.certificate.now) made.now
         → Decides (run_of files.now) held (answer_of result) after) }
-    ensures cause { AnswerHasCause (run_of files.now)
+    ensures cause { IsJobTable (K.files shelf.old) files.now.job.now (files_of_run files.now.job.now files.now.out.now files.now.certificate.now) made.now
+        → AnswerHasCause (run_of files.now)
+        (shelf_facts K.files K.counts K.asked K.since_fault shelf.old)
+        (shelf_facts K.files K.counts K.asked K.since_fault shelf.new)
+        (answer_of result) }
+    ensures ends { EndsAtFault
         (shelf_facts K.files K.counts K.asked K.since_fault shelf.old)
         (shelf_facts K.files K.counts K.asked K.since_fault shelf.new)
         (answer_of result) }
@@ -97,7 +106,12 @@ fn schedule_job<K: Shelf>(
     ensures decided { OnFiles (K.files shelf.old) (K.files shelf.new) (λ held after.
         IsJobTable (Some held) files.now.job.now (files_of_run files.now.job.now files.now.out.now files.now.certificate.now) made.now
         → Decides (run_of files.now) held (answer_of result) after) }
-    ensures cause { AnswerHasCause (run_of files.now)
+    ensures cause { IsJobTable (K.files shelf.old) files.now.job.now (files_of_run files.now.job.now files.now.out.now files.now.certificate.now) made.now
+        → AnswerHasCause (run_of files.now)
+        (shelf_facts K.files K.counts K.asked K.since_fault shelf.old)
+        (shelf_facts K.files K.counts K.asked K.since_fault shelf.new)
+        (answer_of result) }
+    ensures ends { EndsAtFault
         (shelf_facts K.files K.counts K.asked K.since_fault shelf.old)
         (shelf_facts K.files K.counts K.asked K.since_fault shelf.new)
         (answer_of result) }
@@ -131,7 +145,12 @@ fn write_job<K: Shelf>(
     ensures decided { OnFiles (K.files shelf.old) (K.files shelf.new) (λ held after.
         IsJobTable (Some held) files.now.job.now (files_of_run files.now.job.now files.now.out.now files.now.certificate.now) made.now
         → Decides (run_of files.now) held (answer_of result) after) }
-    ensures cause { AnswerHasCause (run_of files.now)
+    ensures cause { IsJobTable (K.files shelf.old) files.now.job.now (files_of_run files.now.job.now files.now.out.now files.now.certificate.now) made.now
+        → AnswerHasCause (run_of files.now)
+        (shelf_facts K.files K.counts K.asked K.since_fault shelf.old)
+        (shelf_facts K.files K.counts K.asked K.since_fault shelf.new)
+        (answer_of result) }
+    ensures ends { EndsAtFault
         (shelf_facts K.files K.counts K.asked K.since_fault shelf.old)
         (shelf_facts K.files K.counts K.asked K.since_fault shelf.new)
         (answer_of result) }
@@ -181,6 +200,10 @@ fn write_certificate<K: Shelf>(
 ) -> Option<Ended>
     ensures written { EndsCertificate (K.files shelf.old) (K.files shelf.new) files.now.certificate.now prepared result }
     ensures cause { CertificateHasCause (K.counts shelf.old) (K.counts shelf.new) (K.since_fault shelf.new) files.now.certificate.now prepared result }
+    ensures ends { EndsAtFault
+        (shelf_facts K.files K.counts K.asked K.since_fault shelf.old)
+        (shelf_facts K.files K.counts K.asked K.since_fault shelf.new)
+        (answer_of result) }
     ensures counts { CountsGrow (K.counts shelf.old) (K.counts shelf.new) }
     ensures asked { AsksNothing (K.asked shelf.old) (K.asked shelf.new) }
 {

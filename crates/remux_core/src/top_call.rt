@@ -6,7 +6,7 @@ ghost use Rattle.remux_core.specs.Command.{IsCommand};
 ghost use Rattle.remux_core.specs.Outcome.{Outcome, WordsCallFor};
 ghost use Rattle.remux_core.specs.Outside.{shelf_facts, sink_facts};
 ghost use Rattle.remux_core.specs.Private.Ended.{answer_of, Performs};
-ghost use Rattle.remux_core.specs.Promises.{NoneFailed};
+ghost use Rattle.remux_core.specs.Promises.{FaultsEnd, NoneFailed};
 ghost use Rattle.remux_core.specs.Status.{IsSameStatus};
 
 use crate::check_command::check_job;
@@ -34,6 +34,14 @@ use version_table::{one_reading, smallest_choice_is_one};
 pub fn run<K: Shelf, O: Sink>(alloc: Global, words: &[String], shelf: &mut K, out: &mut O) -> Status
     // What the words and files decide, what failed outside, how it is reported, and what every command promises.
     ensures outcome { Outcome (map string_bytes words.now)
+        (shelf_facts K.files K.counts K.asked K.since_fault shelf.old)
+        (shelf_facts K.files K.counts K.asked K.since_fault shelf.new)
+        (sink_facts O.written O.faults O.since_fault out.old)
+        (sink_facts O.written O.faults O.since_fault out.new)
+        result }
+
+    // A call of the outside that fails is the last one of its kind, and the status tells it.
+    ensures faults_end { FaultsEnd
         (shelf_facts K.files K.counts K.asked K.since_fault shelf.old)
         (shelf_facts K.files K.counts K.asked K.since_fault shelf.new)
         (sink_facts O.written O.faults O.since_fault out.old)

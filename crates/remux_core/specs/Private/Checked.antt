@@ -2,6 +2,7 @@
 use Rattle.std.specs.Prelude.{ℕ, List}
 use Rattle.bound_certificate.specs.declared.cert.Cert.{Cert}
 use Rattle.bound_certificate.specs.Reading.{IsCertRead, Holds, RefusedAt}
+use Rattle.branch_plan.specs.Plan.{BoundsAll}
 use Rattle.certificate_checker.specs.Checked.{IsFaultless, IsFirstFault}
 use Rattle.certificate_checker.specs.declared.why.CertFault.{CertFault}
 use Rattle.job_report.specs.declared.report.Report.TheVariants as reports
@@ -14,7 +15,7 @@ use Rattle.remux_core.specs.Report.{cert_report}
 
 -- a certificate is accepted with its bound, or refused for its first fault
 pub data IsVerdict (table : Table) (cert : Cert) (ended : Ended) : Type 0 where
-  accepted : IsFaultless table cert → EndsBy statuses.Ok (reports.Check cert.bound) ended → IsVerdict table cert ended
+  accepted : IsFaultless table cert → BoundsAll table cert.bound → EndsBy statuses.Ok (reports.Check cert.bound) ended → IsVerdict table cert ended
   refused : (fault : CertFault) → IsFirstFault table cert fault → EndsBy (statuses.CertRefused (Fault fault)) (cert_report (Fault fault)) ended
       → IsVerdict table cert ended
 

@@ -4,6 +4,7 @@ use Rattle.version_table.specs.declared.limits.TheConstants.{TEXT_AUDIO_PACKETS_
 use Rattle.program_reader.specs.declared.program_fault.SourceKind.TheVariants.{ProgramLimit}
 use Rattle.job_programs.specs.declared.source_fault.SourceFault.{SourceFault}
 use Rattle.job_programs.specs.Probe.{audio_packets}
+use Rattle.job_programs.proofs.Ends.{ends_so}
 use Rattle.job_programs.proofs.ProbeLemmas.{probe-cause, packets-refused, not-few}
 use Rattle.job_programs.proofs.probe.read_one.Goals as goal
 
@@ -24,3 +25,11 @@ returns-then-not-has_few_packets-clause-cause g c =
     let many' : TEXT_AUDIO_PACKETS_MOST < audio_packets next.program.audios = rw (← c.as_slice.ensures) many in
     packets-refused (g.K.Shelf.files c.args.shelf.now) c.args.name.now c.args.slot c.args.start c.args.number c.args.drop.now next.size next.program fault
     c.in_ok-next.ensures.next many' refl refl refl
+
+pub returns-in_err-next-clause-ends : goal.returns-in_err-next-clause-ends
+returns-in_err-next-clause-ends g c =
+    let p = err_from_is_err_and c.from_residual.result c.from_residual.ensures.1 in
+    rw (p.1, p.2) c.in_err-next.ensures.ends
+
+pub returns-then-not-has_few_packets-clause-ends : goal.returns-then-not-has_few_packets-clause-ends
+returns-then-not-has_few_packets-clause-ends g c = ends_so (λ no. absurd no) (λ no. absurd no) c.in_ok-next.ensures.ends

@@ -5,6 +5,7 @@ use Rattle.program_reader.specs.declared.program.Program.{Program}
 use Rattle.job_programs.specs.Sizes.{AreJobSizes}
 use Rattle.job_programs.specs.Private.ReadSoFar.{ReadSoFar}
 use Rattle.job_programs.proofs.Asks.{asks-more, counts-more, file-stands}
+use Rattle.job_programs.proofs.Ends.{ends_behind, ends_still}
 use Rattle.job_programs.proofs.ReadLemmas.{read-all, went-on, stopped}
 use Rattle.job_programs.proofs.SizesLemmas.{job_sizes_more}
 use Rattle.job_programs.proofs.read.read_each.Goals as goal
@@ -87,6 +88,7 @@ loop-wanted-preserved g c =
       asked = asks-more job.programs c.as_str.result.now (g.K.Shelf.asked c.args.shelf.now) (g.K.Shelf.asked l.shelf) (g.K.Shelf.asked c.read_next.new.shelf)
           stands l.invariant.asked c.read_next.ensures.asked;
       counts = counts-more (g.K.Shelf.counts c.args.shelf.now) (g.K.Shelf.counts l.shelf) (g.K.Shelf.counts c.read_next.new.shelf) l.invariant.counts c.read_next.ensures.counts;
+      ends = ends_still (λ no. no) (λ no. no) (ends_behind (λ no. no) (λ no. no) l.invariant.ends c.in_ok-next.ensures.ends);
     }
 
 pub returns-clause-programs : goal.returns-clause-programs
@@ -103,3 +105,19 @@ returns-clause-sizes g c = λ want.
     let l = c.loop-wanted in
     let all = take_all l.wanted-index c.as_slice-jobs.result.now c.loop-wanted-test.false ∙ c.as_slice-jobs.ensures in
     subst (λ (done : List ProgramJob). AreJobSizes done l.programs l.sizes) all (l.invariant.sized want)
+
+pub returns-in_err-next-clause-ends : goal.returns-in_err-next-clause-ends
+returns-in_err-next-clause-ends g c =
+    let p = err_from_is_err_and c.from_residual.result c.from_residual.ensures.1 in
+    rw (p.1, p.2) (ends_behind (λ no. no) (λ no. no) c.loop-wanted.invariant.ends c.in_err-next.ensures.ends)
+
+pub returns-in_err-push-clause-ends : goal.returns-in_err-push-clause-ends
+returns-in_err-push-clause-ends g c =
+    ends_still (λ no. no) (λ no. no) (ends_behind (λ no. no) (λ no. no) c.loop-wanted.invariant.ends c.in_ok-next.ensures.ends)
+
+pub returns-in_err-push-2-clause-ends : goal.returns-in_err-push-2-clause-ends
+returns-in_err-push-2-clause-ends g c =
+    ends_still (λ no. no) (λ no. no) (ends_behind (λ no. no) (λ no. no) c.loop-wanted.invariant.ends c.in_ok-next.ensures.ends)
+
+pub returns-clause-ends : goal.returns-clause-ends
+returns-clause-ends g c = ends_still (λ no. no) (λ no. no) c.loop-wanted.invariant.ends

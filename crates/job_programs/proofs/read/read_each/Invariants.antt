@@ -1,6 +1,6 @@
 use Rattle.std.proofs.Common.{◌≡◌, true, take}
 use Rattle.job_programs.specs.Sizes.{AreJobSizes}
-use Rattle.job_programs.specs.Told.{AsksForPrograms, CountReads}
+use Rattle.job_programs.specs.Told.{AsksForPrograms, CountReads, ReadsEnd}
 use Rattle.job_programs.specs.Private.ReadSoFar.{ReadSoFar}
 use Rattle.job_programs.proofs.read.read_each.Given as goal
 
@@ -12,4 +12,5 @@ invariant-loop-wanted g l = record {
   files : g.K.Shelf.files l.shelf ≡ g.K.Shelf.files l.fn.shelf;
   asked : AsksForPrograms l.job.programs (g.K.Shelf.asked l.fn.shelf) (g.K.Shelf.asked l.shelf);
   counts : CountReads (g.K.Shelf.counts l.fn.shelf) (g.K.Shelf.counts l.shelf);
+  ends : ReadsEnd ⊥ ⊥ (g.K.Shelf.counts l.fn.shelf) (g.K.Shelf.counts l.shelf) 0;
 }

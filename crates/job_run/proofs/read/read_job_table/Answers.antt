@@ -1,7 +1,10 @@
 use Rattle.std.proofs.Common.{List, ℕ, map, Err, ap, refl, subst, inl}
+use Rattle.shelf_io.proofs.Counted.{never_failed}
+use Rattle.job_programs.proofs.Ends.{ends_behind, ends_read, ends_so, failed_isnt_missing, memory_isnt_failed, memory_isnt_missing, missing_isnt_failed}
 use Rattle.job_run.specs.JobFile.{IsJobOfText}
 use Rattle.job_run.specs.Private.Texts.{IsTextStop}
 use Rattle.job_run.proofs.Asked.{asks_programs, asks_text, held_apart}
+use Rattle.job_run.proofs.Ends.{missing_ends, unread_ends}
 use Rattle.job_run.proofs.Steps.{is_job_table, missing_stops, reads_once, stops_later, text_stops, unread_stops}
 use Rattle.job_run.proofs.Texts.{holds_job, holds_refused}
 use Rattle.job_run.proofs.read.read_job_table.Goals as goal
@@ -81,3 +84,29 @@ returns-clause-asked g c =
     let named = map (λ file. file.now) c.args.named.now in
     asks_text told c.args.name.now named (g.K.Shelf.asked c.args.shelf.now) (g.K.Shelf.asked c.read_file.new.shelf)
     (held_apart told c.args.name.now named c.args.name.now c.requires) c.in-Err-OutOfMemory.ensures.asked
+
+pub returns-in-Ok-job_of_text-clause-ends : goal.returns-in-Ok-job_of_text-clause-ends
+returns-in-Ok-job_of_text-clause-ends g c =
+    ends_behind (never_failed c.in-Ok.text) (never_failed c.in-Ok.text) (ends_read c.in-Ok.ensures.causes c.in-Ok.ensures.failed_last c.in-Ok.ensures.missing_last)
+    c.table_of_job.ensures.ends
+
+pub returns-in-Ok-clause-ends : goal.returns-in-Ok-clause-ends
+returns-in-Ok-clause-ends g c =
+    ends_so (λ is. absurd (never_failed c.in-Ok.text is)) (λ is. absurd (never_failed c.in-Ok.text is))
+    (ends_read c.in-Ok.ensures.causes c.in-Ok.ensures.failed_last c.in-Ok.ensures.missing_last)
+
+pub returns-in-Err-Failed-clause-ends : goal.returns-in-Err-Failed-clause-ends
+returns-in-Err-Failed-clause-ends g c =
+    ends_so (λ is. unread_ends c.args.name.now c.unread.result c.unread.ensures) (λ is. absurd (failed_isnt_missing c.in-Err-Failed.field-0 c.in-Err-Failed.field-0-is is))
+    (ends_read c.in-Err-Failed.ensures.causes c.in-Err-Failed.ensures.failed_last c.in-Err-Failed.ensures.missing_last)
+
+pub returns-in-Err-Missing-clause-ends : goal.returns-in-Err-Missing-clause-ends
+returns-in-Err-Missing-clause-ends g c =
+    ends_so (λ is. absurd (missing_isnt_failed c.in-Err-Missing.field-0 c.in-Err-Missing.field-0-is is)) (λ is. missing_ends c.args.name.now c.missing.result c.missing.ensures)
+    (ends_read c.in-Err-Missing.ensures.causes c.in-Err-Missing.ensures.failed_last c.in-Err-Missing.ensures.missing_last)
+
+pub returns-clause-ends : goal.returns-clause-ends
+returns-clause-ends g c =
+    ends_so (λ is. absurd (memory_isnt_failed c.in-Err-OutOfMemory.field-0 c.in-Err-OutOfMemory.field-0-is is))
+    (λ is. absurd (memory_isnt_missing c.in-Err-OutOfMemory.field-0 c.in-Err-OutOfMemory.field-0-is is))
+    (ends_read c.in-Err-OutOfMemory.ensures.causes c.in-Err-OutOfMemory.ensures.failed_last c.in-Err-OutOfMemory.ensures.missing_last)

@@ -3,7 +3,7 @@ use Rattle.remux_core.proofs.check_command.verdict_of.Goals as goal
 
 pub returns-in-Ok-check : goal.returns-in-Ok-check
 returns-in-Ok-check c =
-    verdict_accepted c.args.table.now c.args.cert.now c.in-Ok-check.bound c.end_with.result c.in-Ok-check.ensures.faultless c.end_with.ensures c.in-Ok-check.ensures.bound
+    verdict_accepted c.args.table.now c.args.cert.now c.in-Ok-check.bound c.end_with.result c.in-Ok-check.ensures.faultless c.in-Ok-check.ensures.sound c.end_with.ensures c.in-Ok-check.ensures.bound
 
 pub returns : goal.returns
 returns c =

@@ -1,4 +1,4 @@
-use Rattle.std.proofs.Common.{[], Option, Some, None, refl, subst, inl}
+use Rattle.std.proofs.Common.{[], Option, Some, None, refl, sym, subst, inl}
 use Rattle.job_programs.specs.Told.{HasProbeCause, IsProbedOn, IsProbeRefusedOn}
 use Rattle.job_programs.specs.declared.source_fault.ProgramsFault.{ProgramsFault}
 use Rattle.job_report.specs.declared.limits.TheConstants.{PROBE_SLOT, START_DEFAULT}
@@ -15,6 +15,8 @@ use Rattle.remux_core.specs.ProbeCommand.{HoldsProbed}
 use Rattle.remux_core.proofs.Counted.{answer_later, counts_twice, programs_grow}
 use Rattle.remux_core.proofs.Ending.{ends_so}
 use Rattle.remux_core.proofs.Told.{on_after, on_same}
+use Rattle.job_run.proofs.Ends.{programs_end}
+use Rattle.remux_core.proofs.Ends.{ends_behind_reads, ends_by_reads, tells}
 use Rattle.remux_core.proofs.probe_command.probe_file.Goals as goal
 
 pub returns-in-Ok-clause-decided : goal.returns-in-Ok-clause-decided
@@ -22,7 +24,7 @@ returns-in-Ok-clause-decided g c =
     let words = c.args.words.now in
     let program = c.in-Ok.program in
     on_after (g.K.Shelf.files c.args.shelf.now) (g.K.Shelf.files c.read_one.new.shelf) (g.K.Shelf.files c.write_probed.new.shelf)
-    (λ held after. HoldsProbed held words.file.now words.program program → Decides (probe_of words) held (answer_of c.write_probed.result) after)
+    (λ held after. HoldsProbed (Some held) words.file.now words.program program → Decides (probe_of words) held (answer_of c.write_probed.result) after)
     (λ held after. Decides (probe_of words) held (answer_of c.write_probed.result) after)
     c.in-Ok.ensures.files c.write_probed.ensures.decided
     (λ held after told decides.
@@ -31,8 +33,11 @@ returns-in-Ok-clause-decided g c =
 pub returns-in-Ok-clause-cause : goal.returns-in-Ok-clause-cause
 returns-in-Ok-clause-cause g c =
     let facts = shelf_facts g.K.Shelf.files g.K.Shelf.counts g.K.Shelf.asked g.K.Shelf.since_fault in
-    answer_later (probe_of c.args.words.now) (facts c.args.shelf.now) (facts c.read_one.new.shelf) (facts c.write_probed.new.shelf) (answer_of c.write_probed.result)
-    c.in-Ok.ensures.files (programs_grow c.in-Ok.ensures.counts) c.write_probed.ensures.counts c.write_probed.ensures.cause
+    let words = c.args.words.now in
+    answer_later (probe_of words) (facts c.args.shelf.now) (facts c.read_one.new.shelf) (facts c.write_probed.new.shelf) (answer_of c.write_probed.result)
+    c.in-Ok.ensures.files (programs_grow c.in-Ok.ensures.counts) c.write_probed.ensures.counts
+    (c.write_probed.ensures.cause (subst (λ (t : Option Files). IsProbedOn t words.file.now PROBE_SLOT START_DEFAULT words.program [] c.in-Ok.program)
+    (sym c.in-Ok.ensures.files) c.in-Ok.ensures.program))
 
 pub returns-in-Ok-clause-counts : goal.returns-in-Ok-clause-counts
 returns-in-Ok-clause-counts g c = counts_twice (programs_grow c.in-Ok.ensures.counts) c.write_probed.ensures.counts
@@ -57,8 +62,13 @@ returns-in-Err-Refused-clause-cause g c =
     let words = c.args.words.now in
     let facts = shelf_facts g.K.Shelf.files g.K.Shelf.counts g.K.Shelf.asked g.K.Shelf.since_fault in
     let fault = c.in-Err-Refused.fault in
+    let old = g.K.Shelf.files c.args.shelf.now in
+    let counts = g.K.Shelf.counts in
+    let cause : IsProbeRefusedOn old words.file.now PROBE_SLOT START_DEFAULT words.program [] fault =
+    subst (λ (f : ProgramsFault). HasProbeCause old words.file.now PROBE_SLOT START_DEFAULT words.program [] (counts c.args.shelf.now) (counts c.read_one.new.shelf)
+    (g.K.Shelf.since_fault c.read_one.new.shelf) f) c.in-Err-Refused.field-0-is c.in-Err-Refused.ensures.cause in
     ends_so (AnswerHasCause (probe_of words) (facts c.args.shelf.now) (facts c.read_one.new.shelf)) c.end_refused_source.result (SourceRefused fault)
-    (source_report fault) (source_report fault) c.end_refused_source.ensures refl (tt, refl) tt
+    (source_report fault) (source_report fault) c.end_refused_source.ensures refl (tt, refl, cause) tt
 
 pub returns-in-Err-Refused-clause-counts : goal.returns-in-Err-Refused-clause-counts
 returns-in-Err-Refused-clause-counts g c = programs_grow c.in-Err-Refused.ensures.counts
@@ -125,3 +135,41 @@ returns-in-Err-OutOfMemory-clause-decided g c =
 
 pub returns-in-Err-OutOfMemory-clause-counts : goal.returns-in-Err-OutOfMemory-clause-counts
 returns-in-Err-OutOfMemory-clause-counts g c = programs_grow c.in-Err-OutOfMemory.ensures.counts
+
+pub returns-in-Ok-clause-ends : goal.returns-in-Ok-clause-ends
+returns-in-Ok-clause-ends g c =
+    let facts = shelf_facts g.K.Shelf.files g.K.Shelf.counts g.K.Shelf.asked g.K.Shelf.since_fault in
+    ends_behind_reads (facts c.args.shelf.now) (facts c.read_one.new.shelf) (facts c.write_probed.new.shelf) (answer_of c.write_probed.result)
+    (λ no. no) (λ no. no) c.in-Ok.ensures.counts.same_write_faults c.in-Ok.ensures.ends c.write_probed.ensures.ends
+
+pub returns-in-Err-Refused-clause-ends : goal.returns-in-Err-Refused-clause-ends
+returns-in-Err-Refused-clause-ends g c =
+    let facts = shelf_facts g.K.Shelf.files g.K.Shelf.counts g.K.Shelf.asked g.K.Shelf.since_fault in
+    ends_by_reads (facts c.args.shelf.now) (facts c.read_one.new.shelf) (answer_of c.end_refused_source.result) c.in-Err-Refused.ensures.counts.same_write_faults
+    (programs_end (g.K.Shelf.counts c.args.shelf.now) (g.K.Shelf.counts c.read_one.new.shelf)
+    (g.K.Shelf.since_fault c.read_one.new.shelf) c.in-Err-Refused.field-0-is (λ is. is) (λ is. is) c.in-Err-Refused.ensures.ends)
+    (λ no. absurd no) (λ no. absurd no)
+
+pub returns-in-Err-Failed-clause-ends : goal.returns-in-Err-Failed-clause-ends
+returns-in-Err-Failed-clause-ends g c =
+    let facts = shelf_facts g.K.Shelf.files g.K.Shelf.counts g.K.Shelf.asked g.K.Shelf.since_fault in
+    ends_by_reads (facts c.args.shelf.now) (facts c.read_one.new.shelf) (answer_of c.end_unread.result) c.in-Err-Failed.ensures.counts.same_write_faults
+    (programs_end (g.K.Shelf.counts c.args.shelf.now) (g.K.Shelf.counts c.read_one.new.shelf)
+    (g.K.Shelf.since_fault c.read_one.new.shelf) c.in-Err-Failed.field-0-is (λ is. is) (λ is. is) c.in-Err-Failed.ensures.ends)
+    (λ is. tells c.end_unread.result ReadFault (reports.ReadFault c.args.words.now.file.now) c.end_unread.ensures) (λ no. absurd no)
+
+pub returns-in-Err-Missing-clause-ends : goal.returns-in-Err-Missing-clause-ends
+returns-in-Err-Missing-clause-ends g c =
+    let facts = shelf_facts g.K.Shelf.files g.K.Shelf.counts g.K.Shelf.asked g.K.Shelf.since_fault in
+    ends_by_reads (facts c.args.shelf.now) (facts c.read_one.new.shelf) (answer_of c.end_missing.result) c.in-Err-Missing.ensures.counts.same_write_faults
+    (programs_end (g.K.Shelf.counts c.args.shelf.now) (g.K.Shelf.counts c.read_one.new.shelf)
+    (g.K.Shelf.since_fault c.read_one.new.shelf) c.in-Err-Missing.field-0-is (λ is. is) (λ is. is) c.in-Err-Missing.ensures.ends)
+    (λ no. absurd no) (λ is. tells c.end_missing.result Missing (reports.Missing c.args.words.now.file.now) c.end_missing.ensures)
+
+pub returns-in-Err-OutOfMemory-clause-ends : goal.returns-in-Err-OutOfMemory-clause-ends
+returns-in-Err-OutOfMemory-clause-ends g c =
+    let facts = shelf_facts g.K.Shelf.files g.K.Shelf.counts g.K.Shelf.asked g.K.Shelf.since_fault in
+    ends_by_reads (facts c.args.shelf.now) (facts c.read_one.new.shelf) None c.in-Err-OutOfMemory.ensures.counts.same_write_faults
+    (programs_end (g.K.Shelf.counts c.args.shelf.now) (g.K.Shelf.counts c.read_one.new.shelf)
+    (g.K.Shelf.since_fault c.read_one.new.shelf) c.in-Err-OutOfMemory.field-0-is (λ is. is) (λ is. is) c.in-Err-OutOfMemory.ensures.ends)
+    (λ no. absurd no) (λ no. absurd no)

@@ -1,4 +1,4 @@
-use Rattle.std.proofs.Common.{Option, Some, refl, subst, inl}
+use Rattle.std.proofs.Common.{Option, Some, refl, sym, subst, inl}
 use Rattle.shelf_io.specs.Files.{Files}
 use Rattle.job_run.specs.JobTable.{IsJobTable}
 use Rattle.job_run.specs.Stops.{StopsFor}
@@ -10,6 +10,7 @@ use Rattle.remux_core.specs.Private.Parsed.{run_of}
 use Rattle.remux_core.proofs.Counted.{answer_later, counts_twice, programs_grow, asks_then_nothing}
 use Rattle.remux_core.proofs.JobStopped.{run_calls, run_may, stop_cause, stop_decides}
 use Rattle.remux_core.proofs.Told.{on_after, on_same}
+use Rattle.remux_core.proofs.Ends.{ends_behind_reads, ends_by_reads, stop_tells_absence, stop_tells_fault}
 use Rattle.remux_core.proofs.run_command.run_job.Goals as goal
 
 pub returns-in-Ok-clause-decided : goal.returns-in-Ok-clause-decided
@@ -26,8 +27,11 @@ returns-in-Ok-clause-decided g c =
 pub returns-in-Ok-clause-cause : goal.returns-in-Ok-clause-cause
 returns-in-Ok-clause-cause g c =
     let facts = shelf_facts g.K.Shelf.files g.K.Shelf.counts g.K.Shelf.asked g.K.Shelf.since_fault in
-    answer_later (run_of c.args.files.now) (facts c.args.shelf.now) (facts c.read_job_table.new.shelf) (facts c.plan_job.new.shelf) (answer_of c.plan_job.result)
-    c.in-Ok.ensures.files (programs_grow c.in-Ok.ensures.counts) c.plan_job.ensures.counts c.plan_job.ensures.cause
+    let files = c.args.files.now in
+    answer_later (run_of files) (facts c.args.shelf.now) (facts c.read_job_table.new.shelf) (facts c.plan_job.new.shelf) (answer_of c.plan_job.result)
+    c.in-Ok.ensures.files (programs_grow c.in-Ok.ensures.counts) c.plan_job.ensures.counts
+    (c.plan_job.ensures.cause (subst (λ (told : Option Files). IsJobTable told files.job.now (files_of_run files.job.now files.out.now files.certificate.now) c.in-Ok.made)
+    (sym c.in-Ok.ensures.files) c.in-Ok.ensures.table))
 
 pub returns-in-Ok-clause-counts : goal.returns-in-Ok-clause-counts
 returns-in-Ok-clause-counts g c = counts_twice (programs_grow c.in-Ok.ensures.counts) c.plan_job.ensures.counts
@@ -46,7 +50,7 @@ returns-in-Err-clause-decided g c =
     let after = c.read_job_table.new.shelf in
     on_same (g.K.Shelf.files shelf) (g.K.Shelf.files after) (λ held after. Decides (run_of files) held (answer_of c.end_stopped.result) after) c.in-Err.ensures.files
     (λ held told. stop_decides (Run job out cert) job named held (g.K.Shelf.counts shelf) (g.K.Shelf.counts after) (g.K.Shelf.since_fault after)
-    (run_calls job out cert held) (inl refl) c.in-Err.stop c.end_stopped.result
+    (run_calls job out cert (Some held)) (inl refl) c.in-Err.stop c.end_stopped.result
     (subst (λ (t : Option Files). StopsFor t job named (g.K.Shelf.counts shelf) (g.K.Shelf.counts after) (g.K.Shelf.since_fault after) c.in-Err.stop) told c.in-Err.ensures.stop)
     c.end_stopped.ensures)
 
@@ -57,7 +61,8 @@ returns-in-Err-clause-cause g c =
     let out = files.out.now in
     let cert = files.certificate.now in
     let facts = shelf_facts g.K.Shelf.files g.K.Shelf.counts g.K.Shelf.asked g.K.Shelf.since_fault in
-    stop_cause (Run job out cert) job (files_of_run job out cert) (facts c.args.shelf.now) (facts c.read_job_table.new.shelf) (run_may job out cert) tt
+    stop_cause (Run job out cert) job (files_of_run job out cert) (facts c.args.shelf.now) (facts c.read_job_table.new.shelf)
+    (run_calls job out cert (g.K.Shelf.files c.args.shelf.now)) (run_may job out cert) tt
     (λ file limit is. is) c.in-Err.stop c.end_stopped.result c.in-Err.ensures.stop c.end_stopped.ensures
 
 pub returns-in-Err-clause-counts : goal.returns-in-Err-clause-counts
@@ -70,3 +75,15 @@ plan_job-requires-clause-programs g c =
 
 pub plan_job-requires-clause-table : goal.plan_job-requires-clause-table
 plan_job-requires-clause-table g c = c.in-Ok.ensures.table.table
+
+pub returns-in-Ok-clause-ends : goal.returns-in-Ok-clause-ends
+returns-in-Ok-clause-ends g c =
+    let facts = shelf_facts g.K.Shelf.files g.K.Shelf.counts g.K.Shelf.asked g.K.Shelf.since_fault in
+    ends_behind_reads (facts c.args.shelf.now) (facts c.read_job_table.new.shelf) (facts c.plan_job.new.shelf) (answer_of c.plan_job.result)
+    (λ no. no) (λ no. no) c.in-Ok.ensures.counts.same_write_faults c.in-Ok.ensures.ends c.plan_job.ensures.ends
+
+pub returns-in-Err-clause-ends : goal.returns-in-Err-clause-ends
+returns-in-Err-clause-ends g c =
+    let facts = shelf_facts g.K.Shelf.files g.K.Shelf.counts g.K.Shelf.asked g.K.Shelf.since_fault in
+    ends_by_reads (facts c.args.shelf.now) (facts c.read_job_table.new.shelf) (answer_of c.end_stopped.result) c.in-Err.ensures.counts.same_write_faults c.in-Err.ensures.ends
+    (stop_tells_fault c.in-Err.stop c.end_stopped.result c.end_stopped.ensures) (stop_tells_absence c.in-Err.stop c.end_stopped.result c.end_stopped.ensures)

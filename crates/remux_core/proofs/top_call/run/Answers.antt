@@ -6,6 +6,9 @@ use Rattle.remux_core.specs.Outside.{shelf_facts, sink_facts}
 use Rattle.remux_core.specs.Private.Ended.{answer_of}
 use Rattle.remux_core.proofs.Answered.{as_called, outcome_of}
 use Rattle.remux_core.proofs.One.{Laws}
+use Rattle.shelf_io.proofs.Counted.{never_failed}
+use Rattle.job_programs.proofs.Ends.{memory_isnt_failed}
+use Rattle.remux_core.proofs.Ends.{faults_end, uncalled_sink}
 use Rattle.remux_core.proofs.top_call.run.Goals as goal
 
 pub returns-in_default-clause-outcome : goal.returns-in_default-clause-outcome
@@ -65,3 +68,34 @@ returns-in-Ok-clause-called_for g c = λ files status told calls none.
     } in
     as_called laws (map string_bytes c.args.words.now) files (shelf c.args.shelf.now) (shelf c.perform.new.shelf) (sink c.args.out.now) (sink c.put_all.new.sink)
     ended.status status (returns-in-Ok-clause-outcome g c) told calls none
+
+pub returns-in_default-clause-faults_end : goal.returns-in_default-clause-faults_end
+returns-in_default-clause-faults_end g c =
+    let shelf = shelf_facts g.K.Shelf.files g.K.Shelf.counts g.K.Shelf.asked g.K.Shelf.since_fault in
+    let sink = sink_facts g.O.Sink.written g.O.Sink.faults g.O.Sink.since_fault in
+    faults_end (shelf c.args.shelf.now) (shelf c.perform.new.shelf) (sink c.args.out.now) (sink c.args.out.now) None OutOfMemory c.in_default.ensures.ends
+    (λ expected is. inr (inr refl)) (uncalled_sink (sink c.args.out.now) OutOfMemory)
+
+pub returns-in-Ok-clause-faults_end : goal.returns-in-Ok-clause-faults_end
+returns-in-Ok-clause-faults_end g c =
+    let shelf = shelf_facts g.K.Shelf.files g.K.Shelf.counts g.K.Shelf.asked g.K.Shelf.since_fault in
+    let sink = sink_facts g.O.Sink.written g.O.Sink.faults g.O.Sink.since_fault in
+    faults_end (shelf c.args.shelf.now) (shelf c.perform.new.shelf) (sink c.args.out.now) (sink c.put_all.new.sink)
+    (answer_of (Some c.in-Some.ended)) c.in-Some.ended.status c.in-Some.ensures.ends (λ expected is. inl is)
+    (λ rise. absurd (never_failed tt (c.in-Ok.ensures.only_failed rise)))
+
+pub returns-in-Err-Failed-clause-faults_end : goal.returns-in-Err-Failed-clause-faults_end
+returns-in-Err-Failed-clause-faults_end g c =
+    let shelf = shelf_facts g.K.Shelf.files g.K.Shelf.counts g.K.Shelf.asked g.K.Shelf.since_fault in
+    let sink = sink_facts g.O.Sink.written g.O.Sink.faults g.O.Sink.since_fault in
+    faults_end (shelf c.args.shelf.now) (shelf c.perform.new.shelf) (sink c.args.out.now) (sink c.put_all.new.sink)
+    (answer_of (Some c.in-Some.ended)) WriteFault c.in-Some.ensures.ends (λ expected is. inr (inl refl))
+    (λ rise. (refl, c.in-Err-Failed.ensures.fault_last))
+
+pub returns-in-Err-OutOfMemory-clause-faults_end : goal.returns-in-Err-OutOfMemory-clause-faults_end
+returns-in-Err-OutOfMemory-clause-faults_end g c =
+    let shelf = shelf_facts g.K.Shelf.files g.K.Shelf.counts g.K.Shelf.asked g.K.Shelf.since_fault in
+    let sink = sink_facts g.O.Sink.written g.O.Sink.faults g.O.Sink.since_fault in
+    faults_end (shelf c.args.shelf.now) (shelf c.perform.new.shelf) (sink c.args.out.now) (sink c.put_all.new.sink)
+    (answer_of (Some c.in-Some.ended)) OutOfMemory c.in-Some.ensures.ends (λ expected is. inr (inr refl))
+    (λ rise. absurd (memory_isnt_failed c.in-Err-OutOfMemory.field-0 c.in-Err-OutOfMemory.field-0-is (c.in-Err-OutOfMemory.ensures.only_failed rise)))
