@@ -27,9 +27,13 @@ returns-in-Ok-clause-cause g c = λ holds.
     let facts = shelf_facts g.K.Shelf.files g.K.Shelf.counts g.K.Shelf.asked g.K.Shelf.since_fault in
     let program = c.args.program.now in
     ends_so (AnswerHasCause (probe_of c.args.words.now) (facts c.args.shelf.now) (facts c.write_file.new.shelf))
-    (Some c.in_ok-probed.probed.done) Ok (probe_report program) (probe_report program) c.in_ok-probed.ensures.ends refl
-    (program, c.in_ok-probed.ensures.made, has_probed (g.K.Shelf.files c.args.shelf.now) c.args.words.now.file.now c.args.words.now.program program c.in_ok-probed.probed
-    c.in_ok-probed.ensures holds, refl) tt
+    (Some c.in_ok-probed.probed.done) Ok (probe_report program) (probe_report program) c.in_ok-probed.ensures.ends refl (
+      program,
+      c.in_ok-probed.ensures.made,
+      has_probed (g.K.Shelf.files c.args.shelf.now) c.args.words.now.file.now c.args.words.now.program program c.in_ok-probed.probed
+          c.in_ok-probed.ensures holds,
+      refl,
+    ) tt
 
 pub returns-in-Err-Failed-clause-decided : goal.returns-in-Err-Failed-clause-decided
 returns-in-Err-Failed-clause-decided g c =
