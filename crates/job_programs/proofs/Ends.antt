@@ -4,13 +4,8 @@ use Rattle.shelf_io.specs.declared.fault.Fault.{Fault}
 use Rattle.shelf_io.specs.declared.fault.Fault.TheVariants.{Failed, Missing, OutOfMemory}
 use Rattle.shelf_io.specs.Causes.{ReadCauses}
 use Rattle.shelf_io.specs.Counts.{ShelfCounts}
-use Rattle.shelf_io.proofs.Counted.{no_rise, rises_later}
+use Rattle.shelf_io.proofs.Counted.{rises_later}
 use Rattle.job_programs.specs.Told.{ReadsEnd}
-
--- a call that calls nothing
-pub ends_none : {failed missing : Type 0} {counts : ShelfCounts} {since : ℕ} → ReadsEnd failed missing counts counts since
-ends_none {counts = counts} =
-    record { faults = λ rise. absurd (no_rise counts.faults rise); absences = λ rise. absurd (no_rise counts.absences rise) }
 
 -- a call that reads one file
 pub ends_read : {failed missing : Type 0} {old new : ShelfCounts} {since : ℕ} → ReadCauses failed missing old new → (failed → since ≡ 0) → (missing → since ≡ 0)

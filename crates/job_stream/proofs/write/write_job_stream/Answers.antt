@@ -1,6 +1,7 @@
 use Rattle.std.proofs.Common.{◌≡◌, ℕ, List, Some, All, length, sym, ap, subst, ◌∙◌, arith}
 use Rattle.std.proofs.lemmas.Result.{on_err_weaker, on_ok_weaker}
 use Rattle.shelf_io.specs.Sink.{AddsPrefix, with_bytes}
+use Rattle.shelf_io.proofs.Counted.{no_rise}
 use Rattle.mux_writer.specs.declared.layout.Layout.{Layout}
 use Rattle.mux_writer.specs.Output.{IsOfLayout}
 use Rattle.version_source.specs.Pieces.{HasPiece, pieces_of}
@@ -75,3 +76,9 @@ returns-clause-causes g c =
 pub returns-clause-failed_last : goal.returns-clause-failed_last
 returns-clause-failed_last g c =
     failed-last g.K.Sink.faults g.K.Sink.since_fault _ _ c.args.to.now c.write_stream.new.to c.in-Ok.pieces c.write_stream.new.pieces c.write_stream.ensures.causes
+
+pub returns-in_default-clause-only_failed : goal.returns-in_default-clause-only_failed
+returns-in_default-clause-only_failed g c = λ rise. absurd (no_rise (g.K.Sink.faults c.args.to.now) rise)
+
+pub returns-clause-only_failed : goal.returns-clause-only_failed
+returns-clause-only_failed g c = λ rise. (c.write_stream.ensures.causes.only_failed rise).0

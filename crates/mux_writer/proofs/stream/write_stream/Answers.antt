@@ -5,6 +5,7 @@ use Rattle.std.proofs.lemmas.List.Elements.{All-same}
 use Rattle.std.proofs.lemmas.Option.{IfSome_then}
 use Rattle.std.proofs.lemmas.Result.{on_err_weaker, on_ok_weaker}
 use Rattle.shelf_io.specs.Sink.{AddsPrefix, Told, with_bytes}
+use Rattle.shelf_io.proofs.Counted.{never_failed, unfailed}
 use Rattle.slot_rule.specs.declared.sent.Sent.{Sent}
 use Rattle.slot_rule.specs.declared.sent.Sent.TheVariants.{Null}
 use Rattle.ts_packets.specs.Packet.{written}
@@ -92,7 +93,8 @@ loop-n-preserved g c =
       has = λ stream item piece has. c.slot_packet.ensures.still stream item piece (c.loop-n.invariant.has stream item piece has);
       keeps_sink = g.met.K.Sink.keeps_on _ _ _ c.loop-n.invariant.keeps_sink c.make_room.ensures.keeps;
       keeps_pieces = g.met.P.PieceSource.keeps_on _ _ _ c.loop-n.invariant.keeps_pieces c.slot_packet.ensures.keeps;
-      sink_faults = omega (arith, c.loop-n.invariant.sink_faults, c.make_room.ensures.causes.faults_grow);
+      sink_faults = unfailed (g.K.Sink.faults c.args.to.now) (g.K.Sink.faults c.loop-n.to) (g.K.Sink.faults c.make_room.new.to) c.loop-n.invariant.sink_faults
+          c.make_room.ensures.causes.faults_grow (λ rise. never_failed tt (c.in_ok-make_room.ensures.only_failed rise));
       source_faults = omega (arith, c.loop-n.invariant.source_faults, c.slot_packet.ensures.causes.faults_grow);
       written = told-both (g.P.PieceSource.told c.args.pieces.now) c.loop-n.invariant.written made
           (λ (told : Pieces) is packet. slot-more c.args.layout.now c.args.slot told rows n (g.K.Sink.written c.args.to.now) (g.K.Sink.written c.loop-n.to)
