@@ -50,7 +50,7 @@ use Rattle.clean_stream.proofs.Payloads.{HavePayload, payloads-are, piece_of_sen
 use Rattle.clean_stream.proofs.Numbers.{audio-at, video-at}
 use Rattle.clean_stream.proofs.Places.{ProgramAt, audio-source, program-at}
 use Rattle.clean_stream.proofs.Pids.{audio-pid, video-pid}
-use Rattle.clean_stream.proofs.VersionBytes.{video-versions-some}
+use Rattle.version_source.proofs.VersionBytes.{video-versions-some}
 use Rattle.clean_stream.proofs.Queued.{IsAudioPiece, IsVideoPiece, ItemPieces, PiecesAreAsQueued, audio-zip, no_piece, video-zip}
 use Rattle.clean_stream.proofs.Headers.{found-zip, header-within, zip-all, zip-at}
 

@@ -10,4 +10,3 @@ pub mod Queued
 pub mod SectionsBrought
 pub mod Slots
 pub mod Stream
-pub mod VersionBytes

@@ -21,6 +21,7 @@ use Rattle.program_table.specs.Table.{audio_row, program_row, program_rows}
 use Rattle.mux_writer.specs.Layout.{map_pids, video_pid, with_output_pids, with_pids_from}
 use Rattle.job_stream.specs.Private.Outgoing.{CanGoOut}
 use Rattle.job_stream.specs.Stream.{output_maps}
+use Rattle.job_stream.proofs.LayoutLemmas.{pids-count}
 
 -- ---- lists
 
@@ -119,10 +120,6 @@ pid-at : (pid : ℕ) (streams : List Stream) (more : List ℕ) (k : ℕ) → k <
 pid-at pid [] more k within = absurd (let e : k < 0 = within in omega (arith, e))
 pid-at pid (s ∷ ss) more zero within = omega arith
 pid-at pid (s ∷ ss) more (suc k) within = pid-at (pid + 1) ss more k (omega (arith, within)) ∙ (let e : (pid + 1) + k ≡ pid + suc k = omega arith in e)
-
-pids-count : (pid : ℕ) (streams : List Stream) → length (map (λ (stream : Stream). stream.pid) (with_pids_from pid streams)) ≡ length streams
-pids-count pid [] = refl
-pids-count pid (s ∷ ss) = ap suc (pids-count (pid + 1) ss)
 
 -- the PID of a stream of a program, the first of the programs having this number
 pub stream-pid-at : (first : ℕ) (jobs : List ProgramJob) (programs : List Program) (versions : List (List (List UnitVersion))) (program audio : ℕ) (row : ProgramRow)

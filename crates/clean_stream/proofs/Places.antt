@@ -1,23 +1,22 @@
 -- The streams of a program among those of all programs: their items.
-use Rattle.std.proofs.Common.{◌≡◌, ℕ, zero, suc, ◌+◌, List, [], ◌∷◌, ◌++◌, All, length, map, drop, Option, Some, None, refl, sym, ap, ◌∙◌, arith}
+use Rattle.std.proofs.Common.{◌≡◌, ℕ, zero, suc, ◌+◌, List, [], ◌∷◌, ◌++◌, All, length, map, drop, Some, None, refl, sym, ap, ◌∙◌, arith}
 use Rattle.std.specs.Prelude.{slice_get, slice_index_or}
 use Rattle.std.proofs.lemmas.List.{get_or-append-add, length-map}
 use Rattle.std.proofs.lemmas.List.Elements.{All-head, All-tail}
 use Rattle.std.proofs.lemmas.Option.{none-some, same_Some}
 use Rattle.payload_lists.specs.Payload.{Payload}
-use Rattle.syntax_types.specs.declared.picture.SeqState.{SeqState}
 use Rattle.version_table.specs.declared.table.AudioPacket.{AudioPacket}
 use Rattle.version_table.specs.declared.table.ProgramRow.{ProgramRow}
 use Rattle.slot_rule.specs.Sent.{choice_from, video_number}
 use Rattle.job_report.specs.declared.job.ProgramJob.{ProgramJob}
 use Rattle.program_reader.specs.declared.program.AudioSource.{AudioSource}
 use Rattle.program_reader.specs.declared.program.Program.{Program}
-use Rattle.program_reader.specs.declared.program.UnitSource.{UnitSource}
 use Rattle.version_maker.specs.declared.version.UnitVersion.{UnitVersion}
 use Rattle.version_source.specs.Pieces.{audio_items, stream_items, video_items}
 use Rattle.version_source.specs.Sendable.{IsSendable}
 use Rattle.version_source.specs.Versions.{AreAllVersions, AreVideoVersions, ratios_of}
-use Rattle.program_table.specs.Table.{audio_row, program_row, program_rows, unit_rows}
+use Rattle.program_table.specs.Table.{audio_row, program_row, program_rows}
+use Rattle.job_stream.proofs.NamedVersions.{unit_rows-count}
 use Rattle.clean_stream.proofs.Numbers.{choice-behind, number-behind}
 
 -- a program of the table, and the items of its streams
@@ -32,13 +31,6 @@ pub record ProgramAt (programs : List Program) (versions : List (List (List Unit
   pub video : slice_index_or (stream_items programs versions choice) (video_number rows program) [] ≡ video_items source.units own (choice_from rows program choice)
   pub audio : (k : ℕ) (a : AudioSource) → slice_get source.audios k ≡ Some a
       → slice_index_or (stream_items programs versions choice) (video_number rows program + 1 + k) [] ≡ audio_items a
-
-units-count : (weight : ℕ) (es coarser : List ℕ) (before : Option SeqState) (units : List UnitSource) (versions : List (List UnitVersion)) → AreVideoVersions es coarser before units versions
-    → length (unit_rows weight units versions) ≡ length units
-units-count weight es coarser before [] [] are = refl
-units-count weight es coarser before [] (v ∷ vs) are = absurd are
-units-count weight es coarser before (u ∷ us) [] are = absurd are
-units-count weight es coarser before (u ∷ us) (v ∷ vs) (after, leaves, here, rest) = ap suc (units-count weight es coarser (Some after) us vs rest)
 
 item-of : (audios : List AudioSource) (more : List (List (List Payload))) (k : ℕ) (a : AudioSource) → slice_get audios k ≡ Some a
     → slice_index_or (map audio_items audios ++ more) k [] ≡ audio_items a
@@ -78,7 +70,7 @@ program-at (j ∷ js) (p ∷ ps) (v ∷ vs) choice (suc program) row are sendabl
     let audios : length first.audios ≡ length p.audios = length-map p.audios audio_row in
     let number : video_number (first ∷ rows) (suc program) ≡ length block + video_number rows program = omega (arith, number-behind first rows program, size, audios) in
     let part : choice_from rows program later ≡ choice_from (first ∷ rows) (suc program) choice =
-    ap (λ (n : ℕ). choice_from rows program (drop n choice)) (sym (units-count j.weight p.video j.coarser.items None p.units v are.0)) ∙ choice-behind first rows program choice in
+    ap (λ (n : ℕ). choice_from rows program (drop n choice)) (sym (unit_rows-count j.weight p.video j.coarser.items None p.units v are.0)) ∙ choice-behind first rows program choice in
     record {
       source = rest.source;
       own = rest.own;

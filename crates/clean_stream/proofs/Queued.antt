@@ -23,7 +23,7 @@ use Rattle.version_source.specs.Sendable.{IsPieceOf}
 use Rattle.version_source.specs.Versions.{chosen_bytes}
 use Rattle.program_table.specs.Table.{row_version, unit_row, unit_rows}
 use Rattle.clean_stream.specs.Arrivals.{header_bytes}
-use Rattle.clean_stream.proofs.VersionBytes.{HasBytes, HaveBytes}
+use Rattle.version_source.proofs.VersionBytes.{HasBytes, HaveBytes}
 
 -- pieces by the item and the place in it
 abbrev pub ItemPieces : Type 0

@@ -15,17 +15,16 @@ use Rattle.mux_writer.specs.Output.{IsOfLayout, output_packets, output_stream}
 use Rattle.mux_writer.specs.Pieces.{HasPayloadSize}
 use Rattle.mux_writer.proofs.Written.{packet-writable, read-as-written}
 use Rattle.job_report.specs.declared.job.Job.{Job}
-use Rattle.job_report.specs.declared.job.ProgramJob.{ProgramJob}
 use Rattle.program_reader.specs.declared.program.Program.{Program}
 use Rattle.version_maker.specs.declared.version.UnitVersion.{UnitVersion}
 use Rattle.version_source.specs.Pieces.{HasPiece, pieces_of, stream_items}
-use Rattle.version_source.specs.Versions.{AreAllVersions, ratios_of}
-use Rattle.program_table.specs.Table.{IsTableOf, program_rows}
+use Rattle.version_source.specs.Versions.{ratios_of}
+use Rattle.program_table.specs.Table.{IsTableOf}
 use Rattle.job_stream.specs.Stream.{IsStreamIn, layout_of}
 use Rattle.job_stream.proofs.LayoutLemmas.{maps-count}
 use Rattle.job_stream.proofs.PieceSizes.{pieces-sized}
 use Rattle.job_stream.proofs.ReadPrograms.{AreReady}
-use Rattle.job_stream.proofs.RowLemmas.{SlotsNameTable, rows-there}
+use Rattle.job_stream.proofs.RowLemmas.{SlotsNameTable, program_rows-count, rows-there}
 use Rattle.job_stream.proofs.StreamSize.{OneListOfVersions, is-layout}
 use Rattle.clean_stream.specs.Clean.{IsCleanStream}
 use Rattle.clean_stream.proofs.SectionsBrought.{AreSections}
@@ -35,15 +34,6 @@ use Rattle.clean_stream.proofs.Cleanness.{IsMade, audio-clean, sections-clean, v
 -- a schedule is clean
 abbrev pub SchedulesAreClean : Type 0
 SchedulesAreClean = (table : Table) (choice : List ℕ) (rows : List Row) → IsValidTable table → Fits table choice → IsSchedule table choice rows → AreClean table choice rows
-
-rows-many : (jobs : List ProgramJob) (programs : List Program) (versions : List (List (List UnitVersion))) → AreAllVersions programs (ratios_of jobs) versions
-    → length (program_rows jobs programs versions) ≡ length programs
-rows-many [] [] [] are = refl
-rows-many [] [] (v ∷ vs) are = absurd are
-rows-many [] (p ∷ ps) versions are = absurd are
-rows-many (j ∷ js) [] versions are = absurd are
-rows-many (j ∷ js) (p ∷ ps) [] are = absurd are
-rows-many (j ∷ js) (p ∷ ps) (v ∷ vs) are = ap suc (rows-many js ps vs are.1)
 
 dropped : {A : Type 0} (n : ℕ) (xs : List A) → length xs ≤ n → drop n xs ≡ []
 dropped zero [] past = refl
@@ -92,7 +82,7 @@ module _ (job : Job) (programs : List Program) (table : Table) (choice : List �
       ∙ read-as-written (layout_of job programs) Has job.slot (pieces_of (stream_items programs of.versions choice)) slots.rows a-layout few-maps sized of-layout
 
   as-many-maps : length (layout_of job programs).maps.items ≡ length table.programs
-  as-many-maps = maps-count 0 job.programs programs is.ready.as_many ∙ sym (ap length of.rows ∙ rows-many job.programs programs of.versions of.are_versions)
+  as-many-maps = maps-count 0 job.programs programs is.ready.as_many ∙ sym (ap length of.rows ∙ program_rows-count job.programs programs of.versions of.are_versions)
 
   sections-fill : AreSections (queues_of table choice) (layout_of job programs) (length table.programs)
   sections-fill = record {

@@ -26,24 +26,26 @@ use Rattle.version_source.specs.Pieces.{audio_items, stream_items, video_items}
 use Rattle.version_source.specs.Versions.{AreAllVersions, AreVideoVersions, ratios_of}
 use Rattle.program_table.specs.Table.{program_row, program_rows, unit_rows}
 use Rattle.mux_writer.specs.declared.layout.Layout.{Layout}
-use Rattle.mux_writer.specs.Layout.{map_pids, video_pid, with_output_pids, with_pids_from}
+use Rattle.mux_writer.specs.Layout.{map_pids, video_pid, with_output_pids}
 use Rattle.mux_writer.specs.Output.{output_stream}
 use Rattle.mux_writer.specs.Pieces.{Pieces}
 use Rattle.job_programs.specs.Programs.{AreNextPrograms}
 use Rattle.job_stream.proofs.ReadPrograms.{ReadIsSendable}
 use Rattle.job_stream.specs.Stream.{output_maps}
+use Rattle.job_stream.proofs.NamedVersions.{unit_rows-count}
+use Rattle.job_stream.proofs.LayoutLemmas.{pids-count}
 use Rattle.output_reading.specs.SentOn.{AreRowsOf}
 use Rattle.stream_parsing.specs.Parsed.{AreReadAs, CarriesPackets, bytes_of_packets, sent_packet}
 use Rattle.stream_parsing.specs.TakenOut.{BeginWithTables, HasStreams, IsNumberedIn, taken_out}
 use Rattle.stream_parsing.proofs.ProgramParts.{GatheredAgain, VideoAsWritten, audio-packets, stream-packets, units-read}
 use Rattle.job_reading.specs.ParsesTo.{ParsesTo, ParsesToProgram, sent_units}
 use Rattle.job_reading.proofs.CarriedShape.{GoesOutAs, output-kinds}
-use Rattle.job_reading.proofs.SentStreams.{fits-behind, rows-length}
+use Rattle.job_reading.proofs.SentStreams.{fits-behind}
 use Rattle.job_reading.proofs.SentVideos.{AllCarry, PiecesCarry, carry-parts, items-carry, units-said}
 use Rattle.job_reading.proofs.SentUnits.{UnitsCutAgain, VersionsAreLed, VersionsAreWhole, sent-led, sent-slices, sent-whole}
 use Rattle.job_reading.proofs.AudioStreams.{audios-carry}
 use Rattle.job_reading.proofs.ReadyPrograms.{IsReady, ready-one}
-use Rattle.job_reading.proofs.VersionBytes.{video-versions-some}
+use Rattle.version_source.proofs.VersionBytes.{video-versions-some}
 
 -- ---- numbers
 
@@ -90,10 +92,6 @@ apart-next before job jobs program_map number apart pairs =
     (All-cons (IsOtherNumber jobs) program_map [] (subst (λ (n : ℕ). All (λ (j : ProgramJob). n ≢ j.number) jobs) (sym number) (apart-head job jobs pairs)) (All-nil (IsOtherNumber jobs)))
 
 -- ---- streams
-
-pids-many : (pid : ℕ) (streams : List Stream) → length (map (λ (stream : Stream). stream.pid) (with_pids_from pid streams)) ≡ length streams
-pids-many pid [] = refl
-pids-many pid (s ∷ ss) = ap suc (pids-many (pid + 1) ss)
 
 -- ---- the laws below, as this proof calls them
 
@@ -170,9 +168,9 @@ module _ (law : ReadIsSendable) (taken : TakenOutLaw) (gathered : GatheredAgain)
       let is : IsReady p = ready-one law c j.program j.drop.items start p next.0.holds in
       let row : ProgramRow = program_row j.weight p v in
       let later : List CodedUnit = flat_map (λ (row : ProgramRow). row.units) (program_rows js ps vs) in
-      let many : length row.units ≡ length p.units = rows-length j.weight p.video j.coarser.items _ p.units v are_versions.0 in
+      let many : length row.units ≡ length p.units = unit_rows-count j.weight p.video j.coarser.items _ p.units v are_versions.0 in
       let own : length (map_pids program_map) ≡ length (video_items p.units v choice ∷ map audio_items p.audios) =
-      omega (arith, pids-many (video_pid n) p.map.streams.items, is.out.streams, length-map p.audios audio_items) in
+      omega (arith, pids-count (video_pid n) p.map.streams.items, is.out.streams, length-map p.audios audio_items) in
       let parts = carry-parts file (length rows) (map_pids program_map) (flat_map map_pids (output_maps (n + 1) js ps)) (video_items p.units v choice ∷ map audio_items p.audios)
       (stream_items ps vs (drop (length p.units) choice)) own carry in
       let behind : AllZip HasVersion later (drop (length p.units) choice) = subst (λ (k : ℕ). AllZip HasVersion later (drop k choice)) many (fits-behind row.units later choice fits) in (

@@ -5,7 +5,6 @@ mod JobRows
 mod MapPids
 mod ReadyPrograms
 mod SentAudios
-mod SentStreams
+pub mod SentStreams
 mod SentUnits
 mod SentVideos
-mod VersionBytes

@@ -1,12 +1,8 @@
 -- What the programs of a job have for being read back.
-use Rattle.std.proofs.Common.{◌≡◌, ℕ, suc, List, [], ◌∷◌, length, refl, sym, ap, subst}
-use Rattle.job_report.specs.declared.job.ProgramJob.{ProgramJob}
+use Rattle.std.proofs.Common.{ℕ, List, sym, subst}
 use Rattle.program_reader.specs.declared.program.Program.{Program}
 use Rattle.program_reader.specs.Programs.{IsProgramOfFile}
-use Rattle.version_maker.specs.declared.version.UnitVersion.{UnitVersion}
 use Rattle.version_source.specs.Sendable.{IsSendable}
-use Rattle.version_source.specs.Versions.{AreAllVersions, ratios_of}
-use Rattle.program_table.specs.Table.{program_rows}
 use Rattle.job_stream.specs.Private.Outgoing.{CanGoOut}
 use Rattle.job_stream.proofs.ReadPrograms.{ReadIsSendable, goes-out}
 use Rattle.job_reading.proofs.CarriedShape.{HasKinds, carried-kinds-are}
@@ -23,12 +19,3 @@ ready-one law file number dropped start program of = record {
   out = goes-out file number dropped start program of;
   sendable = law start of.demuxed program of.program_is;
 }
-
-pub rows-many : (jobs : List ProgramJob) (programs : List Program) (versions : List (List (List UnitVersion))) → AreAllVersions programs (ratios_of jobs) versions
-    → length (program_rows jobs programs versions) ≡ length programs
-rows-many [] [] [] are = refl
-rows-many [] [] (v ∷ vs) are = absurd are
-rows-many [] (p ∷ ps) versions are = absurd are
-rows-many (j ∷ js) [] versions are = absurd are
-rows-many (j ∷ js) (p ∷ ps) [] are = absurd are
-rows-many (j ∷ js) (p ∷ ps) (v ∷ vs) are = ap suc (rows-many js ps vs are.1)

@@ -21,9 +21,10 @@ use Rattle.program_reader.specs.declared.program.Program.{Program}
 use Rattle.program_reader.specs.declared.program.UnitSource.{UnitSource}
 use Rattle.version_maker.specs.declared.version.UnitVersion.{UnitVersion}
 use Rattle.version_source.specs.Pieces.{audio_items, audio_payload, pes_packet, pes_pieces, stream_items, video_items}
-use Rattle.version_source.specs.Versions.{AreAllVersions, AreVideoVersions, chosen_bytes, ratios_of}
+use Rattle.version_source.specs.Versions.{AreAllVersions, chosen_bytes, ratios_of}
 use Rattle.program_table.specs.Table.{IsTableOf, audio_row, program_row, program_rows, row_version, unit_row, unit_rows}
 use Rattle.output_reading.specs.SentItems.{Sends}
+use Rattle.job_stream.proofs.NamedVersions.{unit_rows-count}
 
 -- ---- sizes
 
@@ -112,13 +113,6 @@ audios-send law (audio ∷ audios) = (law (audio_row audio) (audio_items audio) 
 
 -- ---- all programs
 
-pub rows-length : (weight : ℕ) (es coarser : List ℕ) (before : _) (units : List UnitSource) (versions : List (List UnitVersion)) → AreVideoVersions es coarser before units versions
-    → length (unit_rows weight units versions) ≡ length units
-rows-length weight es coarser before [] [] are = refl
-rows-length weight es coarser before [] (v ∷ vs) are = absurd are
-rows-length weight es coarser before (u ∷ us) [] are = absurd are
-rows-length weight es coarser before (u ∷ us) (v ∷ vs) (after, leaves, here, rest) = ap suc (rows-length weight es coarser (Some after) us vs rest)
-
 pub fits-behind : (units more : List CodedUnit) (choice : List ℕ) → AllZip HasVersion (units ++ more) choice → AllZip HasVersion more (drop (length units) choice)
 fits-behind [] more choice fits = fits
 fits-behind (unit ∷ units) more [] fits = absurd fits
@@ -135,7 +129,7 @@ all-send queued video audio first (j ∷ js) (p ∷ ps) [] choice are fits = abs
 all-send queued video audio first (j ∷ js) (p ∷ ps) (v ∷ vs) choice are fits =
     let row : ProgramRow = program_row j.weight p v in
     let later : List CodedUnit = flat_map (λ (row : ProgramRow). row.units) (program_rows js ps vs) in
-    let count : length row.units ≡ length p.units = rows-length j.weight p.video j.coarser.items _ p.units v are.0 in
+    let count : length row.units ≡ length p.units = unit_rows-count j.weight p.video j.coarser.items _ p.units v are.0 in
     let own : AllSend (video_queue first row choice ∷ map audio_of row.audios) (video_items p.units v choice ∷ map audio_items p.audios) =
     (video first row choice (video_items p.units v choice) (video-sizes queued j.weight p.units v choice later fits), audios-send audio p.audios) in
     let rest = all-send queued video audio (first + 1) js ps vs (drop (length row.units) choice) are.1 (fits-behind row.units later choice fits) in

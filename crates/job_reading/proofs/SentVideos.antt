@@ -20,7 +20,7 @@ use Rattle.program_table.specs.Table.{row_version, unit_rows}
 use Rattle.layer_laws.specs.PesPieces.{Carries, CarryAll}
 use Rattle.stream_parsing.specs.Parsed.{CanBeSaid, sent_packet}
 use Rattle.job_reading.specs.ParsesTo.{sent_units}
-use Rattle.job_reading.proofs.VersionBytes.{HasBytes, HaveBytes}
+use Rattle.version_source.proofs.VersionBytes.{HasBytes, HaveBytes}
 
 -- ---- each PID with its items
 

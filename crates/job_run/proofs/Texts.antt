@@ -18,7 +18,7 @@ use Rattle.job_run.specs.JobFile.{StandsApart, IsJobOfText, IsTextRefused, Holds
 use Rattle.job_run.specs.Private.Texts.{IsTextStop, IsSharedStop, stop_by}
 
 -- a front of at most one byte past the limit is the whole text where it doesn't pass the limit
-take_all_of : (n : ℕ) (text front : List ℕ) → front ≡ take (n + 1) text → length front ≤ n → front ≡ text
+pub take_all_of : (n : ℕ) (text front : List ℕ) → front ≡ take (n + 1) text → length front ≤ n → front ≡ text
 take_all_of n text front is short =
     let size : length front ≡ min (n + 1) (length text) = ap length is ∙ length-take (n + 1) text in
     is ∙ take_all (n + 1) text (omega arith)

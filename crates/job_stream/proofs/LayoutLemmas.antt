@@ -86,7 +86,7 @@ maps-count first [] (p ∷ ps) same = absurd (omega (arith, same))
 maps-count first (j ∷ js) [] same = absurd (omega (arith, same))
 maps-count first (j ∷ js) (p ∷ ps) same = ap suc (maps-count (first + 1) js ps (omega (arith, same)))
 
-pids-count : (pid : ℕ) (streams : List Stream) → length (map (λ (stream : Stream). stream.pid) (with_pids_from pid streams)) ≡ length streams
+pub pids-count : (pid : ℕ) (streams : List Stream) → length (map (λ (stream : Stream). stream.pid) (with_pids_from pid streams)) ≡ length streams
 pids-count pid [] = refl
 pids-count pid (s ∷ ss) = ap suc (pids-count (pid + 1) ss)
 

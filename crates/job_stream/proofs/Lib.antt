@@ -1,7 +1,7 @@
 pub mod LayoutLemmas
 mod LayoutRows
 mod Maps
-mod NamedVersions
+pub mod NamedVersions
 mod OneStream
 mod PieceLemmas
 pub mod PieceSizes

@@ -54,12 +54,12 @@ versions-count before unit coarser versions are =
     let of = are.of_picture in ap length of.in_order ∙ ap suc (sym (zip-length _ coarser of.others of.coarser_ones))
 
 -- the rows of the units of a program are as many as these
-pub rows-count : (weight : ℕ) (es coarser : List ℕ) (before : Option SeqState) (units : List UnitSource) (versions : List (List UnitVersion))
+pub unit_rows-count : (weight : ℕ) (es coarser : List ℕ) (before : Option SeqState) (units : List UnitSource) (versions : List (List UnitVersion))
     → AreVideoVersions es coarser before units versions → length (unit_rows weight units versions) ≡ length units
-rows-count weight es coarser before [] [] are = refl
-rows-count weight es coarser before [] (v ∷ vs) are = absurd are
-rows-count weight es coarser before (u ∷ us) [] are = absurd are
-rows-count weight es coarser before (u ∷ us) (v ∷ vs) (after, leaves, here, rest) = ap suc (rows-count weight es coarser (Some after) us vs rest)
+unit_rows-count weight es coarser before [] [] are = refl
+unit_rows-count weight es coarser before [] (v ∷ vs) are = absurd are
+unit_rows-count weight es coarser before (u ∷ us) [] are = absurd are
+unit_rows-count weight es coarser before (u ∷ us) (v ∷ vs) (after, leaves, here, rest) = ap suc (unit_rows-count weight es coarser (Some after) us vs rest)
 
 own-named : (weight : ℕ) (es coarser : List ℕ) (before : Option SeqState) (units : List UnitSource) (versions : List (List UnitVersion)) (own : List ℕ)
     → AreVideoVersions es coarser before units versions → AllZip HasVersion (unit_rows weight units versions) own → All (λ index. index ≤ length coarser) own
@@ -92,7 +92,7 @@ all-named (j ∷ js) (p ∷ ps) (v ∷ vs) choice (here, rest) fits =
     let split : IsSplit HasVersion (unit_rows j.weight p.units v) (all_units (program_rows js ps vs)) choice =
     zip-split HasVersion (unit_rows j.weight p.units v) (all_units (program_rows js ps vs)) choice fits in
     let count : length split.own ≡ length p.units =
-    sym (zip-length HasVersion (unit_rows j.weight p.units v) split.own split.first) ∙ rows-count j.weight p.video j.coarser.items None p.units v here in
+    sym (zip-length HasVersion (unit_rows j.weight p.units v) split.own split.first) ∙ unit_rows-count j.weight p.video j.coarser.items None p.units v here in
     (split.own, split.rest, split.parts, count, own-named j.weight p.video j.coarser.items None p.units v split.own here split.first, all-named js ps vs split.rest rest split.second)
 
 -- a choice that fits the table of the programs of a job names versions of their units

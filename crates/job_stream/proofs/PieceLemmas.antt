@@ -23,7 +23,7 @@ use Rattle.version_maker.specs.declared.version.UnitVersion.{UnitVersion}
 use Rattle.version_source.specs.Pieces.{audio_items, audio_payload, pes_packet, pes_pieces, piece_of, packets_for, pieces_at, stream_items, video_items}
 use Rattle.version_source.specs.Versions.{AreAllVersions, chosen_bytes, ratios_of}
 use Rattle.program_table.specs.Table.{audio_row, program_row, program_rows, row_version, unit_row, unit_rows}
-use Rattle.job_stream.proofs.NamedVersions.{IsSplit, all_units, rows-count, zip-length, zip-split}
+use Rattle.job_stream.proofs.NamedVersions.{IsSplit, all_units, unit_rows-count, zip-length, zip-split}
 
 -- ---- a unit
 
@@ -123,11 +123,11 @@ video-has (j ∷ js) [] versions choice program item piece row unit are fits fou
 video-has (j ∷ js) (p ∷ ps) [] choice program item piece row unit are fits found of within = absurd (none-some row found)
 video-has (j ∷ js) (p ∷ ps) (v ∷ vs) choice zero item piece row unit are fits found of within =
     let same : program_row j.weight p v ≡ row = same_Some (program_row j.weight p v) row found in
-    let count : length (unit_rows j.weight p.units v) ≡ length p.units = rows-count j.weight p.video j.coarser.items None p.units v are.0 in
+    let count : length (unit_rows j.weight p.units v) ≡ length p.units = unit_rows-count j.weight p.video j.coarser.items None p.units v are.0 in
     let enough = fits-behind (unit_rows j.weight p.units v) (all_units (program_rows js ps vs)) choice (length p.units) count fits in
     unit-has j.weight p.units v choice item piece unit enough.0 (subst (λ (r : ProgramRow). slice_get r.units item ≡ Some unit) (sym same) of) within
 video-has (j ∷ js) (p ∷ ps) (v ∷ vs) choice (suc program) item piece row unit are fits found of within =
-    let count : length (unit_rows j.weight p.units v) ≡ length p.units = rows-count j.weight p.video j.coarser.items None p.units v are.0 in
+    let count : length (unit_rows j.weight p.units v) ≡ length p.units = unit_rows-count j.weight p.video j.coarser.items None p.units v are.0 in
     let rows = program_rows js ps vs in
     let later = drop (length p.units) choice in
     let enough = fits-behind (unit_rows j.weight p.units v) (all_units rows) choice (length p.units) count fits in

@@ -34,14 +34,14 @@ stream-there [] stream item piece within = absurd (omega (arith, within))
 stream-there (s ∷ ss) zero item piece within = omega arith
 stream-there (s ∷ ss) (suc stream) item piece within = omega (arith, stream-there ss stream item piece within)
 
-rows-count : (jobs : List ProgramJob) (programs : List Program) (versions : List (List (List UnitVersion))) → AreAllVersions programs (ratios_of jobs) versions
+pub program_rows-count : (jobs : List ProgramJob) (programs : List Program) (versions : List (List (List UnitVersion))) → AreAllVersions programs (ratios_of jobs) versions
     → length (program_rows jobs programs versions) ≡ length programs
-rows-count [] [] [] are = refl
-rows-count [] [] (v ∷ vs) are = absurd are
-rows-count [] (p ∷ ps) versions are = absurd are
-rows-count (j ∷ js) [] versions are = absurd are
-rows-count (j ∷ js) (p ∷ ps) [] are = absurd are
-rows-count (j ∷ js) (p ∷ ps) (v ∷ vs) are = ap suc (rows-count js ps vs are.1)
+program_rows-count [] [] [] are = refl
+program_rows-count [] [] (v ∷ vs) are = absurd are
+program_rows-count [] (p ∷ ps) versions are = absurd are
+program_rows-count (j ∷ js) [] versions are = absurd are
+program_rows-count (j ∷ js) (p ∷ ps) [] are = absurd are
+program_rows-count (j ∷ js) (p ∷ ps) (v ∷ vs) are = ap suc (program_rows-count js ps vs are.1)
 
 -- what the table of a job's programs has is in the layout of their stream, and its pieces are there
 sent-there : (job : Job) (programs : List Program) (table : Table) (choice : List ℕ) (has : (stream item piece : ℕ) → Type 0) (of : IsTableOf job programs table) → Fits table choice
@@ -51,9 +51,9 @@ sent-there : (job : Job) (programs : List Program) (table : Table) (choice : Lis
 sent-there job programs table choice has of fits ready pieces Null is = tt
 sent-there job programs table choice has of fits ready pieces Pat is = tt
 sent-there job programs table choice has of fits ready pieces (Pmt program) is =
-    omega (arith, is, ap length of.rows, rows-count job.programs programs of.versions of.are_versions, maps-count 0 job.programs programs ready.as_many)
+    omega (arith, is, ap length of.rows, program_rows-count job.programs programs of.versions of.are_versions, maps-count 0 job.programs programs ready.as_many)
 sent-there job programs table choice has of fits ready pieces (Pcr program) is =
-    omega (arith, is, ap length of.rows, rows-count job.programs programs of.versions of.are_versions, maps-count 0 job.programs programs ready.as_many)
+    omega (arith, is, ap length of.rows, program_rows-count job.programs programs of.versions of.are_versions, maps-count 0 job.programs programs ready.as_many)
 sent-there job programs table choice has of fits ready pieces (Video stream unit piece) is =
     let streams = stream_items programs of.versions choice in
     let rows = program_rows job.programs programs of.versions in

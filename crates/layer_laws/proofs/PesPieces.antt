@@ -37,7 +37,8 @@ use Rattle.std.proofs.lemmas.Bool.{lt-ltb, eqb-true}
 use Rattle.std.proofs.lemmas.List.{append-nil, take-append-drop, drop_all, drop-drop}
 use Rattle.payload_lists.specs.Payload.{Payload, CarriedPayload, is_start}
 use Rattle.pes_units.specs.PesPackets.{Gathered, up_to_start, gathered}
-use Rattle.layer_laws.specs.PesPieces.{going_on, Carries, CarryAll, piece_of, pes_pieces}
+use Rattle.psi_tables.specs.Sections.{going}
+use Rattle.layer_laws.specs.PesPieces.{Carries, CarryAll, piece_of, pes_pieces}
 
 -- ---- gathering looks at payloads alone
 
@@ -73,12 +74,12 @@ gather-is (first ∷ more) = by_start (is_start first.payload) (gather-is more)
 abbrev all_of : List (List Payload) → List Payload
 all_of cuts = flat_map (λ (payloads : List Payload). payloads) cuts
 
-goes_on : (others : List (List ℕ)) (more : List Payload) → up_to (map going_on others ++ more) ≡ concat others ++ up_to more
+goes_on : (others : List (List ℕ)) (more : List Payload) → up_to (map going others ++ more) ≡ concat others ++ up_to more
 unfolding up_to
 goes_on [] more = refl
 goes_on (bytes ∷ others) more = ap (λ (rest : List ℕ). bytes ++ rest) (goes_on others more) ∙ sym (append_assoc bytes (concat others) (up_to more))
 
-passed_over : (others : List (List ℕ)) (more : List Payload) → gather (map going_on others ++ more) ≡ gather more
+passed_over : (others : List (List ℕ)) (more : List Payload) → gather (map going others ++ more) ≡ gather more
 unfolding gather
 passed_over [] more = refl
 passed_over (bytes ∷ others) more = passed_over others more
@@ -96,7 +97,7 @@ ended [] (_ ∷ _) all = absurd all
 ended (_ ∷ _) [] all = absurd all
 ended (packet ∷ packets) (payloads ∷ cuts) all =
     ap (λ (first : List Payload). up_to (first ++ all_of cuts)) all.0.payloads_are
-    ∙ ap (λ (start : Bool). cond start [] (all.0.first ++ up_to (map going_on all.0.others ++ all_of cuts))) (starts all.0.first all.0.some)
+    ∙ ap (λ (start : Bool). cond start [] (all.0.first ++ up_to (map going all.0.others ++ all_of cuts))) (starts all.0.first all.0.some)
 
 gathered-cuts : (packets : List (List ℕ)) (cuts : List (List Payload)) → CarryAll packets cuts → gather (all_of cuts) ≡ packets
 unfolding gather
@@ -104,7 +105,7 @@ gathered-cuts [] [] all = refl
 gathered-cuts [] (_ ∷ _) all = absurd all
 gathered-cuts (_ ∷ _) [] all = absurd all
 gathered-cuts (packet ∷ packets) (payloads ∷ cuts) all =
-    let others : List Payload = map going_on all.0.others ++ all_of cuts in
+    let others : List Payload = map going all.0.others ++ all_of cuts in
     let behind : up_to others ≡ concat all.0.others =
     goes_on all.0.others (all_of cuts) ∙ ap (λ (rest : List ℕ). concat all.0.others ++ rest) (ended packets cuts all.1) ∙ append-nil (concat all.0.others) in
     ap (λ (first : List Payload). gather (first ++ all_of cuts)) all.0.payloads_are
@@ -129,7 +130,7 @@ not_first k behind = by_test (k == 0) refl
     by_test true is = absurd (omega (arith, eqb-true k 0 is, behind))
 
 -- those behind the first have no flag
-no_flags : (packet : List ℕ) (n from : ℕ) → 0 < from → map (piece_of packet) (range_with_len from n) ≡ map going_on (map (part packet) (range_with_len from n))
+no_flags : (packet : List ℕ) (n from : ℕ) → 0 < from → map (piece_of packet) (range_with_len from n) ≡ map going (map (part packet) (range_with_len from n))
 unfolding part
 no_flags packet zero from behind = refl
 no_flags packet (suc n) from behind =

@@ -1,18 +1,15 @@
 -- PES packets in the payloads of transport packets (ISO/IEC 13818-1, 2.4.3.3).
-use Rattle.std.specs.Prelude.{◌≡◌, ℕ, ◌+◌, ◌-◌, ◌*◌, ◌/◌, ◌<◌, ◌==◌, true, false, List, [], ◌∷◌, ◌++◌, length, take, drop, map}
+use Rattle.std.specs.Prelude.{◌≡◌, ℕ, ◌+◌, ◌-◌, ◌*◌, ◌/◌, ◌<◌, ◌==◌, true, List, [], ◌∷◌, ◌++◌, length, take, drop, map}
 use Rattle.std.specs.List.{concat, range_with_len}
 use Rattle.stream_constants.specs.declared.packets.TheConstants.{PAYLOAD_BYTES}
 use Rattle.payload_lists.specs.Payload.{Payload}
-
--- a payload that goes on with the packet before it
-abbrev pub going_on : List ℕ → Payload
-going_on bytes = record { start = false; bytes = bytes }
+use Rattle.psi_tables.specs.Sections.{going}
 
 -- payloads that carry one PES packet: the first one has bytes and the start flag, the others no flag
 pub record Carries (packet : List ℕ) (payloads : List Payload) : Type 0 where
   pub first : List ℕ
   pub others : List (List ℕ)
-  pub payloads_are : payloads ≡ record { start = true; bytes = first } ∷ map going_on others
+  pub payloads_are : payloads ≡ record { start = true; bytes = first } ∷ map going others
   pub some : 0 < length first
   pub joined : packet ≡ first ++ concat others
 

@@ -21,6 +21,7 @@ use Rattle.psi_tables.proofs.WrittenPmt.{written_has_room, written_pmt_is}
 use Rattle.mux_writer.specs.declared.layout.Layout.{Layout}
 use Rattle.mux_writer.specs.Layout.{map_pid}
 use Rattle.mux_writer.specs.Tables.{pat_section, pmt_section, programs_from, with_crc}
+use Rattle.mux_writer.proofs.Sections.{length-programs_from, programs-pids}
 use Rattle.layer_laws.proofs.Sections.{found_whole}
 use Rattle.output_reading.specs.Fields.{HaveNumbersInRange, IsMapInRange}
 
@@ -50,20 +51,11 @@ numbers first (program_map ∷ maps) each =
     All-cons (λ (program : ℕ × ℕ). program.0 < 2 ^ 16) (program_map.number, map_pid first) (programs_from (first + 1) maps) (All-head IsMapInRange program_map maps each).number
     (numbers (first + 1) maps (All-tail IsMapInRange program_map maps each))
 
-pids : (first : ℕ) (maps : List ProgramMap) → first + length maps ≤ 8 → All (λ (program : ℕ × ℕ). program.1 < 2 ^ 13) (programs_from first maps)
-pids first [] few = All-nil (λ (program : ℕ × ℕ). program.1 < 2 ^ 13)
-pids first (program_map ∷ maps) few =
-    All-cons (λ (program : ℕ × ℕ). program.1 < 2 ^ 13) (program_map.number, map_pid first) (programs_from (first + 1) maps) (omega (arith, few)) (pids (first + 1) maps (omega (arith, few)))
-
-as_many : (first : ℕ) (maps : List ProgramMap) → length (programs_from first maps) ≡ length maps
-as_many first [] = refl
-as_many first (program_map ∷ maps) = ap suc (as_many (first + 1) maps)
-
 pub pat-says : (layout : Layout) → length layout.maps.items ≤ 8 → HaveNumbersInRange layout → IsPat (programs_from 0 layout.maps.items) (pat_section layout)
 pat-says layout few range =
     let programs : List (ℕ × ℕ) = programs_from 0 layout.maps.items in
-    written_pat_is layout.stream_id programs (pat_section layout) range.stream_id (omega (arith, as_many 0 layout.maps.items)) (numbers 0 layout.maps.items range.maps)
-    (pids 0 layout.maps.items (omega arith)) (crc_behind (written_pat layout.stream_id programs))
+    written_pat_is layout.stream_id programs (pat_section layout) range.stream_id (omega (arith, length-programs_from 0 layout.maps.items)) (numbers 0 layout.maps.items range.maps)
+    (programs-pids 0 layout.maps.items (omega arith)) (crc_behind (written_pat layout.stream_id programs))
 
 pub pat-found : (layout : Layout) → length layout.maps.items ≤ 8 → HaveNumbersInRange layout → found_at (pat_section layout) ≡ Ok (pat_section layout) ∷ []
 pat-found layout few range =
@@ -72,7 +64,7 @@ pat-found layout few range =
     let short : length (written_pat layout.stream_id programs) ≤ 200 = omega (
       arith,
       few,
-      as_many 0 layout.maps.items,
+      length-programs_from 0 layout.maps.items,
       length-append (written_section_header 0 (9 + 4 * length programs) layout.stream_id) (flat_map written_program programs),
       length-written_programs programs,
     ) in

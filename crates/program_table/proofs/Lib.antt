@@ -2,7 +2,6 @@ mod AudioLimits
 mod AudioTimes
 mod Examples
 mod Rows
-mod States
 mod TableLimits
 mod UnitLimits
 mod SizedRows

@@ -25,9 +25,8 @@ use Rattle.std.proofs.Common.{
   arith,
   append_assoc,
   append-nil,
-  add-one,
-  drop-cons,
 }
+use Rattle.std.proofs.lemmas.List.{drop_more}
 use Rattle.syntax_types.specs.declared.picture.SeqState.{SeqState}
 use Rattle.job_report.specs.declared.job.Job.{Job}
 use Rattle.job_report.specs.declared.job.ProgramJob.{ProgramJob}
@@ -43,13 +42,10 @@ use Rattle.version_maker.specs.declared.version.VersionSize.{VersionSize}
 use Rattle.version_maker.specs.Versions.{AreSizes, AreVersions, size_of}
 use Rattle.version_source.specs.Sendable.{LeavesState, SpellInOrder, bytes_of_unit}
 use Rattle.version_source.specs.Versions.{AreAllVersions, ratios_of}
+use Rattle.version_source.specs.Private.OneVersions.{one-state}
+use Rattle.version_source.proofs.StateLemmas.{state-left}
 use Rattle.program_table.specs.Table.{IsRowOf, IsTableOf, program_rows, row_version, unit_rows}
 use Rattle.program_table.specs.Private.Rows.{AreProgramRowsSoFar, AreUnitRows, AreUnitRowsSoFar, IsUnitRow, with_header}
-use Rattle.program_table.proofs.States.{one-state, state-left}
-
--- what is left from a place on
-pub left-from : {X : Type 0} (xs : List X) (k : ℕ) (d : X) → k < length xs → drop k xs ≡ get_or xs k d ∷ drop (k + 1) xs
-left-from xs k d within = rw (add-one, drop-cons xs k d) refl
 
 -- ---- one unit
 
@@ -102,14 +98,8 @@ pub one-more-unit : (es coarser : List ℕ) (weight : ℕ) (units : List UnitSou
     (row : CodedUnit) → k < length units → first ≡ before → second ≡ before → more ≡ rows ++ row ∷ [] → AreUnitRowsSoFar es coarser weight units (drop k units) before rows
     → IsUnitRow es coarser first weight (get_or units k d) row → LeavesState second (bytes_of_unit es (get_or units k d)) after → AreUnitRowsSoFar es coarser weight units (drop (k + 1) units) (Some after) more
 one-more-unit es coarser weight units k d before first second after rows more row within one two pushed far is leaves =
-    more-units es coarser weight units (drop k units) (drop (k + 1) units) before (get_or units k d) after rows more row (left-from units k d within) pushed far
+    more-units es coarser weight units (drop k units) (drop (k + 1) units) before (get_or units k d) after rows more row (drop_more units k d within) pushed far
     (subst (λ (s : Option SeqState). IsUnitRow es coarser s weight (get_or units k d) row) one is) (subst (λ (s : Option SeqState). LeavesState s (bytes_of_unit es (get_or units k d)) after) two leaves)
-
--- the next unit spells a picture behind the state
-pub next-spells : (es : List ℕ) (before : Option SeqState) (units : List UnitSource) (k : ℕ) (d : UnitSource) → k < length units → SpellInOrder es before (drop k units)
-    → (after : SeqState) × LeavesState before (bytes_of_unit es (get_or units k d)) after
-next-spells es before units k d within spelled =
-    let here : SpellInOrder es before (get_or units k d ∷ drop (k + 1) units) = subst (SpellInOrder es before) (left-from units k d within) spelled in (here.0, here.1)
 
 pub all-units : (es coarser : List ℕ) (weight : ℕ) (units left : List UnitSource) (before : Option SeqState) (rows : List CodedUnit) → left ≡ []
     → AreUnitRowsSoFar es coarser weight units left before rows → AreUnitRows es coarser None weight units rows
@@ -152,8 +142,8 @@ one-more-program jobs slice programs i one two ratios program rows more row jobs
     let two_at : two ≡ get_or jobs i two = subst (λ (xs : List ProgramJob). two ≡ get_or xs i two) slice_is two_is in
     let same : two ≡ one = two_at ∙ same-item jobs i two one jobs_within ∙ sym one_at in
     more-programs jobs (drop i jobs) (drop (i + 1) jobs) programs (drop i programs) (drop (i + 1) programs) one program rows more row
-    (left-from jobs i one jobs_within ∙ ap (λ (x : ProgramJob). x ∷ drop (i + 1) jobs) (sym one_at))
-    (left-from programs i program within ∙ ap (λ (x : Program). x ∷ drop (i + 1) programs) (sym program_is)) pushed far
+    (drop_more jobs i one jobs_within ∙ ap (λ (x : ProgramJob). x ∷ drop (i + 1) jobs) (sym one_at))
+    (drop_more programs i program within ∙ ap (λ (x : Program). x ∷ drop (i + 1) programs) (sym program_is)) pushed far
     (subst (λ (r : List ℕ). IsRowOf program r one.weight row) ratios_are (subst (λ (x : ProgramJob). IsRowOf program ratios x.weight row) same is))
 
 pub all-programs : (job : Job) (programs left : List Program) (jobs_left : List ProgramJob) (table : Table) → left ≡ [] → jobs_left ≡ []

@@ -31,7 +31,7 @@ use Rattle.std.proofs.Common.{
   append_assoc,
   append-nil,
 }
-use Rattle.std.proofs.lemmas.List.{length-drop, length-take-le}
+use Rattle.std.proofs.lemmas.List.{drop_more, length-drop, length-take-le}
 use Rattle.std.proofs.lemmas.List.Elements.{All-cons, All-head, All-nil, All-tail}
 use Rattle.bit_lists.specs.Fields.{AreBytes}
 use Rattle.bit_lists.proofs.ByteLemmas.{AreBytes-take}
@@ -56,10 +56,10 @@ use Rattle.version_maker.specs.declared.version.VersionSize.{VersionSize}
 use Rattle.version_maker.specs.Versions.{AreSizes, size_of}
 use Rattle.version_source.specs.Sendable.{IsUnitOf, LeavesState, bytes_of_unit}
 use Rattle.version_source.specs.Versions.{AreVideoVersions}
+use Rattle.version_source.proofs.StateLemmas.{state-left}
 use Rattle.program_table.specs.Table.{IsRowOf, audio_row, unit_rows}
 use Rattle.program_table.specs.Private.Rows.{AreBounded, AreUnitRows, CanBeSaid, IsBounded, sized_row, sized_rows, with_header}
-use Rattle.program_table.proofs.Rows.{left-from, rows-of-sizes}
-use Rattle.program_table.proofs.States.{state-left}
+use Rattle.program_table.proofs.Rows.{rows-of-sizes}
 
 abbrev pub unit_with : ℕ → List Version → CodedUnit
 unit_with due items = record { due = due; versions = record { items = items } }
@@ -136,7 +136,7 @@ sized-more weight units sizes k d own rows more row within many own_is is pushed
     let sizes_within : k < length sizes = omega (arith, within, many) in
     let rest = sized_rows weight (drop (k + 1) units) (drop (k + 1) sizes) in
     let step : sized_rows weight (drop k units) (drop k sizes) ≡ row ∷ rest =
-    ap₂ (λ (us : List UnitSource) (ss : List UnitSizes). sized_rows weight us ss) (left-from units k d within) (left-from sizes k own sizes_within)
+    ap₂ (λ (us : List UnitSource) (ss : List UnitSizes). sized_rows weight us ss) (drop_more units k d within) (drop_more sizes k own sizes_within)
     ∙ ap (λ (o : UnitSizes). sized_row weight (get_or units k d) o ∷ rest) (sym own_is) ∙ ap (λ (r : CodedUnit). r ∷ rest) (sym is) in
     ap (λ (rs : List CodedUnit). rs ++ rest) pushed ∙ append_assoc rows (row ∷ []) rest ∙ ap (λ (rs : List CodedUnit). rows ++ rs) (sym step) ∙ far
 

@@ -24,8 +24,9 @@ use Rattle.version_maker.specs.declared.version.UnitVersion.{UnitVersion}
 use Rattle.version_maker.specs.Versions.{AreVersions}
 use Rattle.version_source.specs.Sendable.{bytes_of_unit}
 use Rattle.version_source.specs.Versions.{AreVideoVersions}
+use Rattle.version_source.proofs.StateLemmas.{state-left}
+use Rattle.version_source.proofs.PacketLemmas.{versions-many}
 use Rattle.program_table.specs.Table.{row_version, unit_row, unit_rows}
-use Rattle.program_table.proofs.States.{state-left, versions-many}
 
 -- ---- pictures in order
 

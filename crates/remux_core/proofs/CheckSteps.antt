@@ -15,6 +15,7 @@ use Rattle.job_report.specs.declared.report.Report.TheVariants as reports
 use Rattle.job_run.specs.declared.job_table.JobTable.{JobTable}
 use Rattle.job_run.specs.JobFile.{HoldsText}
 use Rattle.job_run.specs.JobTable.{IsJobTable}
+use Rattle.job_run.proofs.Texts.{take_all_of}
 use Rattle.shelf_io.specs.Files.{Files}
 use Rattle.remux_core.specs.declared.ended.Ended.{Ended}
 use Rattle.remux_core.specs.declared.status.Status.{Status}
@@ -27,7 +28,6 @@ use Rattle.remux_core.specs.Outside.{ShelfFacts}
 use Rattle.remux_core.specs.Private.Ended.{EndsBy, answer_of}
 use Rattle.remux_core.specs.Private.Checked.{IsVerdict, accepted, refused, IsVerdictOn, spelled, unspelled}
 use Rattle.remux_core.specs.Report.{cert_report}
-use Rattle.remux_core.proofs.Held.{take_all_of}
 
 -- bytes are read as their front of one byte past the limit
 pub whole_cert : (bytes front : List ℕ) (reading : CertReading) → front ≡ take (CERT_BYTES_MOST + 1) bytes → IsCertRead front reading → IsCertRead bytes reading

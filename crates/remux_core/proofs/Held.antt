@@ -1,6 +1,6 @@
 -- What TABLE holds, from the bytes that were read of it.
-use Rattle.std.proofs.Common.{◌≡◌, ℕ, ◌+◌, ◌≤◌, List, length, take, Option, Some, None, IfSome, refl, sym, subst, ap, inl, inr, ◌∙◌, min, arith}
-use Rattle.std.proofs.lemmas.List.{length-take, take_all}
+use Rattle.std.proofs.Common.{◌≡◌, ℕ, ◌+◌, ◌≤◌, List, length, take, Option, Some, None, IfSome, refl, sym, subst, inl, inr, arith}
+use Rattle.std.proofs.lemmas.List.{length-take}
 use Rattle.std.specs.Option.{IsSomeAnd}
 use Rattle.std.specs.FinMap.{get}
 use Rattle.bound_certificate.specs.declared.cert.Cert.{Cert}
@@ -12,6 +12,7 @@ use Rattle.version_table.specs.declared.limits.TheConstants.{TABLE_TEXT_MOST}
 use Rattle.version_table.specs.declared.fault.TableFault.{TableFault}
 use Rattle.version_table.specs.declared.fault.TableFault.TheVariants as faults
 use Rattle.version_table.specs.Text.{IsTableRead, IsFaultOf, TextReading, Holds, RefusedAt, RefusedFor}
+use Rattle.job_run.proofs.Texts.{take_all_of}
 use Rattle.remux_core.specs.declared.ended.Ended.{Ended}
 use Rattle.remux_core.specs.declared.status.Status.{Status}
 use Rattle.remux_core.specs.Answer.{Decides, EndsWithStatus, AnswerHasCause, HasCause, LeavesFiles}
@@ -20,12 +21,6 @@ use Rattle.remux_core.proofs.Told.{HoldsPart, on_prefix}
 use Rattle.remux_core.specs.Command.{Plan}
 use Rattle.remux_core.specs.Outside.{ShelfFacts, OnFiles}
 use Rattle.remux_core.specs.Private.Ended.{answer_of, HoldsFront, refusal_by, IsRefusedFor}
-
--- a front of at most one byte past the limit is the whole text, or passes the limit as the text does
-pub take_all_of : (n : ℕ) (text front : List ℕ) → front ≡ take (n + 1) text → length front ≤ n → front ≡ text
-take_all_of n text front is short =
-    let size : length front ≡ min (n + 1) (length text) = ap length is ∙ length-take (n + 1) text in
-    is ∙ take_all (n + 1) text (omega arith)
 
 -- a text is read as its front of one byte past the limit
 pub read_whole : (text front : List ℕ) (reading : TextReading) → front ≡ take (TABLE_TEXT_MOST + 1) text → IsTableRead front reading → IsTableRead text reading

@@ -1,7 +1,6 @@
 mod AfterProbe
 mod AfterRun
 mod Answered
-mod Apart
 mod CheckSteps
 mod Counted
 mod Decimals

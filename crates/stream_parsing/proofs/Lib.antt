@@ -4,4 +4,4 @@ mod MapReading
 pub mod OutputTables
 pub mod ProgramParts
 mod SectionReading
-mod SlotsBegin
+pub mod SlotsBegin

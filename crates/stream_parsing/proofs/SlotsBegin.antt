@@ -60,7 +60,7 @@ pmt-reserved programs program within =
     ∙ ap (λ (b : Bool). cond b (Some (Pmt (program + 1 - 1))) pcr) (le-leb (program + 1) programs (omega (arith, within)))
     ∙ ap (λ (k : ℕ). Some (Pmt k)) (let e : program + 1 - 1 ≡ program = omega arith in e)
 
-long-period : (slot : ℕ) → 0 < slot → slot ≤ 40000 → 27 ≤ period slot
+pub long-period : (slot : ℕ) → 0 < slot → slot ≤ 40000 → 27 ≤ period slot
 long-period slot some short = le-div 27 1080000 slot some (omega (arith, short))
 
 in-first-period : (slot n : ℕ) → n < period slot → n % period slot ≡ n
@@ -70,7 +70,7 @@ in-first-period slot n within =
 
 -- ---- the slots
 
-row-is : (queues : List Queue) (slot programs : ℕ) (before : List Row) (row : Row) (sent : Sent) → IsRow slot programs queues before row → reserved slot programs (length before) ≡ Some sent
+pub row-is : (queues : List Queue) (slot programs : ℕ) (before : List Row) (row : Row) (sent : Sent) → IsRow slot programs queues before row → reserved slot programs (length before) ≡ Some sent
     → sent_of queues row ≡ sent
 row-is queues slot programs before (Reserved other) sent is reserved_is = same_Some other sent (sym is ∙ reserved_is)
 row-is queues slot programs before (Carries stream packet) sent is reserved_is = absurd (none-some sent (sym is.0 ∙ reserved_is))

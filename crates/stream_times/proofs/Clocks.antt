@@ -6,7 +6,7 @@ use Rattle.std.specs.List.{range_with_len}
 use Rattle.std.proofs.Math.Nat.{suc-mul}
 use Rattle.std.proofs.lemmas.Bool.{le-leb, leb-false, leb-true, lt-leb, ne_eqb}
 use Rattle.std.proofs.lemmas.List.{get_or-map, length-map, length-take-le}
-use Rattle.std.proofs.lemmas.Nat.{div-add-mod', le-div, mod-mul-add, mod_below}
+use Rattle.std.proofs.lemmas.Nat.{div-add-mod', mod-mul-add, mod_below}
 use Rattle.std.proofs.lemmas.Option.{none-some, same_Some}
 use Rattle.payload_lists.specs.Payload.{Payload}
 use Rattle.ts_packets.specs.declared.adaptation_field.AdaptationField.{AdaptationField}
@@ -15,12 +15,11 @@ use Rattle.pcr_writer.specs.PcrPacket.{pcr_at}
 use Rattle.version_table.specs.declared.table.Table.{Table}
 use Rattle.version_table.specs.Table.{IsValidTable}
 use Rattle.slot_rule.specs.declared.row.Row.{Row}
-use Rattle.slot_rule.specs.declared.row.Row.TheVariants.{Reserved, Carries, Empty}
+use Rattle.slot_rule.specs.declared.row.Row.TheVariants.{Empty}
 use Rattle.slot_rule.specs.declared.slot_list.SlotList.{SlotList}
 use Rattle.slot_rule.specs.declared.sent.Sent.{Sent}
 use Rattle.slot_rule.specs.declared.sent.Sent.TheVariants.{Null, Pat, Pmt, Pcr, Video, Audio}
 use Rattle.slot_rule.specs.Queues.{Queue, queues_of}
-use Rattle.slot_rule.specs.Schedule.{IsRow}
 use Rattle.slot_rule.specs.SlotList.{IsSlotList, sent_of}
 use Rattle.slot_rule.specs.Timetable.{period, reserved, reserved_at}
 use Rattle.slot_rule.proofs.RuleRows.{FollowRule-at}
@@ -28,6 +27,7 @@ use Rattle.mux_writer.specs.declared.layout.Layout.{Layout}
 use Rattle.mux_writer.specs.Layout.{video_pid}
 use Rattle.mux_writer.specs.Output.{output_packets, packet_in, output_packet, payload_count, pid_of, sent_in, stuffing_field}
 use Rattle.mux_writer.specs.Pieces.{Pieces}
+use Rattle.stream_parsing.proofs.SlotsBegin.{long-period, row-is}
 use Rattle.stream_times.specs.Clock.{IsClock, pcr_of}
 
 -- ---- the packets of slots
@@ -81,9 +81,6 @@ pcr-reserved programs program within =
     ∙ ap (λ (b : Bool). cond b (Some (Pcr (at - programs - 1))) None) (le-leb at (2 * programs) (omega (arith, within)))
     ∙ ap (λ (k : ℕ). Some (Pcr k)) (let e : at - programs - 1 ≡ program = omega arith in e)
 
-long-period : (slot : ℕ) → 0 < slot → slot ≤ 40000 → 27 ≤ period slot
-long-period slot some short = le-div 27 1080000 slot some (omega (arith, short))
-
 -- a number with this rest among so many in a row
 in-a-row : (from each rest : ℕ) → rest < each → (n : ℕ) × (from ≤ n) × (n < from + each) × (n % each ≡ rest)
 in-a-row from each rest within = by_test (nat_le (from % each) rest) refl
@@ -103,12 +100,6 @@ in-a-row from each rest within = by_test (nat_le (from % each) rest) refl
         let n : ℕ = suc (from / each) * each + rest in
         let e : suc (from / each) * each ≡ from / each * each + each = suc-mul (from / each) each in
         (n, omega (arith, split, lt, low, e), omega (arith, split, lt, e), mod-mul-add (suc (from / each)) each rest within)
-
-row-is : (queues : List Queue) (slot programs : ℕ) (before : List Row) (row : Row) (sent : Sent) → IsRow slot programs queues before row → reserved slot programs (length before) ≡ Some sent
-    → sent_of queues row ≡ sent
-row-is queues slot programs before (Reserved other) sent is reserved_is = same_Some other sent (sym is ∙ reserved_is)
-row-is queues slot programs before (Carries stream packet) sent is reserved_is = absurd (none-some sent (sym is.0 ∙ reserved_is))
-row-is queues slot programs before Empty sent is reserved_is = absurd (none-some sent (sym is.0 ∙ reserved_is))
 
 sent-is : (table : Table) (choice : List ℕ) (list : SlotList) (is : IsSlotList table choice list) (n : ℕ) (sent : Sent) → n < length is.rows
     → reserved table.slot (length table.programs) n ≡ Some sent → sent_in list.rows n ≡ sent

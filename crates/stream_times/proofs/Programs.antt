@@ -36,7 +36,9 @@ use Rattle.job_programs.specs.Programs.{AreNextPrograms, IsNextProgram, last_tim
 use Rattle.mux_writer.specs.Layout.{map_pid, video_pid, with_output_pids, with_pids_from}
 use Rattle.stream_parsing.specs.Parsed.{AreReadAs, bytes_of_packets}
 use Rattle.stream_parsing.specs.TakenOut.{LeadsToMap}
+use Rattle.job_stream.proofs.NamedVersions.{unit_rows-count}
 use Rattle.job_reading.specs.ParsesTo.{ParsesTo, ParsesToProgram, sent_units}
+use Rattle.job_reading.proofs.SentStreams.{fits-behind}
 use Rattle.stream_times.specs.Carried.{CarriesTimes}
 use Rattle.stream_times.specs.Clock.{IsClock}
 use Rattle.stream_times.specs.Video.{AreDecoded, BeginAt, DecodedPicture}
@@ -197,18 +199,6 @@ module _ (laws : SpellingLaws) (one : OneDemuxed) (wherever : WhereverItStands) 
 
   -- ---- all programs
 
-  rows-length : (weight : ℕ) (es coarser : List ℕ) (state : Option SeqState) (units : List UnitSource) (versions : List (List UnitVersion)) → AreVideoVersions es coarser state units versions
-      → length (unit_rows weight units versions) ≡ length units
-  rows-length weight es coarser state [] [] are = refl
-  rows-length weight es coarser state [] (v ∷ vs) are = absurd are
-  rows-length weight es coarser state (u ∷ us) [] are = absurd are
-  rows-length weight es coarser state (u ∷ us) (v ∷ vs) (after, leaves, here, rest) = ap suc (rows-length weight es coarser (Some after) us vs rest)
-
-  fits-behind : (units more : List CodedUnit) (choice : List ℕ) → AllZip HasVersion (units ++ more) choice → AllZip HasVersion more (drop (length units) choice)
-  fits-behind [] more choice fits = fits
-  fits-behind (unit ∷ units) more [] fits = absurd fits
-  fits-behind (unit ∷ units) more (k ∷ choice) fits = fits-behind units more choice fits.1
-
   drop-none : (n : ℕ) → drop {A = ℕ} n [] ≡ []
   drop-none zero = refl
   drop-none (suc n) = refl
@@ -246,7 +236,7 @@ module _ (laws : SpellingLaws) (one : OneDemuxed) (wherever : WhereverItStands) 
       let later : List CodedUnit = flat_map (λ (r : ProgramRow). r.units) (program_rows js ps vs) in
       let own : List CodedUnit = unit_rows j.weight p.units v in
       let before : List CodedUnit = flat_map (λ (r : ProgramRow). r.units) (take place (program_rows js ps vs)) in
-      let many : length own ≡ length p.units = rows-length j.weight p.video j.coarser.items None p.units v are_versions.0 in
+      let many : length own ≡ length p.units = unit_rows-count j.weight p.video j.coarser.items None p.units v are_versions.0 in
       let behind : AllZip HasVersion later (drop (length p.units) choice) = subst (λ (k : ℕ). AllZip HasVersion later (drop k choice)) many (fits-behind own later choice fits) in
       let at : (k : ℕ) → n + 1 + k ≡ n + suc k = λ k. omega arith in
       let part : drop (length before) (drop (length p.units) choice) ≡ drop (length (own ++ before)) choice =

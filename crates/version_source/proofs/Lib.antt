@@ -4,8 +4,9 @@ mod Examples
 mod Items
 mod KeptLemmas
 mod MadeLemmas
-mod PacketLemmas
+pub mod PacketLemmas
 mod PlaceLemmas
 mod ReadPrograms
 mod SourceLemmas
-mod StateLemmas
+pub mod StateLemmas
+pub mod VersionBytes

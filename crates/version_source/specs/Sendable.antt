@@ -8,18 +8,15 @@ use Rattle.program_reader.specs.declared.program.AudioPiece.{AudioPiece}
 use Rattle.program_reader.specs.declared.program.Program.{Program}
 use Rattle.program_reader.specs.declared.program.UnitSource.{UnitSource}
 use Rattle.program_reader.specs.Units.{unit_bytes, unit_size}
+use Rattle.program_reader.specs.Sizes.{stands_at}
 use Rattle.version_maker.specs.declared.limits.TheConstants.{UNIT_BYTES_MOST}
 use Rattle.mux_writer.specs.Pieces.{HasPayloadSize}
 
 -- ---- the video
 
--- where a unit stands among the bytes of the video
-abbrev pub place_of : UnitSource → ℕ × ℕ
-place_of unit = (unit.begin, unit.end)
-
 -- the bytes of a unit of a video
 abbrev pub bytes_of_unit : List ℕ → UnitSource → List ℕ
-bytes_of_unit es unit = unit_bytes es (place_of unit)
+bytes_of_unit es unit = unit_bytes es (stands_at unit)
 
 -- behind the state, or behind none, the unit spells a picture whose slices hold all its macroblocks, and leaves this state in
 -- force (ISO/IEC 13818-2, 6.1.2 and 6.2.2)
@@ -37,7 +34,7 @@ SpellInOrder es before (unit ∷ units) = (after : SeqState) × LeavesState befo
 pub record IsUnitOf (es : List ℕ) (unit : UnitSource) : Type 0 where
   pub order : unit.begin ≤ unit.end
   pub inside : unit.end ≤ length es
-  pub short : unit_size (place_of unit) ≤ UNIT_BYTES_MOST
+  pub short : unit_size (stands_at unit) ≤ UNIT_BYTES_MOST
   pub in_range : AreInRange unit.times
   pub beside : IsBesidePts unit.times
 

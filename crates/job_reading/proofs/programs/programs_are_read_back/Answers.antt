@@ -15,10 +15,10 @@ use Rattle.mux_writer.specs.Pieces.{Pieces}
 use Rattle.job_stream.specs.Stream.{layout_of, output_maps}
 use Rattle.job_stream.proofs.LayoutLemmas.{maps-count, streams-count}
 use Rattle.job_stream.proofs.ReadPrograms.{programs-ready}
+use Rattle.job_stream.proofs.RowLemmas.{program_rows-count}
 use Rattle.stream_parsing.specs.TakenOut.{BeginWithTables}
 use Rattle.stream_parsing.proofs.OutputTables.{as-many}
 use Rattle.job_reading.proofs.JobPrograms.{read-back}
-use Rattle.job_reading.proofs.ReadyPrograms.{rows-many}
 use Rattle.job_reading.proofs.SentVideos.{AllCarry, all-carry}
 use Rattle.job_reading.proofs.programs.programs_are_read_back.Goals as goal
 
@@ -32,7 +32,7 @@ returns c job contents programs table choice slots versions valid programs_are o
     let same = c.one_list_of_versions.ensures programs (ratios_of job.programs) of.versions versions of.are_versions are_versions in
     let rows : table.programs ≡ program_rows job.programs programs versions = of.rows ∙ ap (program_rows job.programs programs) same in
     let many : length table.programs ≡ length layout.maps.items =
-    ap length rows ∙ rows-many job.programs programs versions are_versions ∙ sym (maps-count 0 job.programs programs ready.as_many) in
+    ap length rows ∙ program_rows-count job.programs programs versions are_versions ∙ sym (maps-count 0 job.programs programs ready.as_many) in
     let begin = subst (λ (n : ℕ). BeginWithTables n slots.rows) many (c.slots_begin_with_tables.ensures table choice slots table_valid list) in
     let count : piece_count (output_stream layout job.slot pieces slots.rows) ≡ length slots.rows =
     as-many c.packets_stand_in_order.ensures.count c.packets_stand_in_order.ensures.packet c.read_as_written.ensures layout job.slot pieces slots.rows are in

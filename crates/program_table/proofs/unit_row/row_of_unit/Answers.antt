@@ -7,12 +7,12 @@ use Rattle.version_maker.specs.declared.version.VersionSize.{VersionSize}
 use Rattle.version_source.specs.Sendable.{bytes_of_unit}
 use Rattle.program_table.specs.Private.Rows.{IsBounded, with_header}
 use Rattle.program_table.proofs.Rows.{unit-row-of}
-use Rattle.program_table.proofs.States.{not-refused}
+use Rattle.version_source.proofs.StateLemmas.{not-refused-of}
 use Rattle.program_table.proofs.unit_row.row_of_unit.Goals as goal
 
 pub want_of_memory-requires : goal.want_of_memory-requires
 want_of_memory-requires c =
-    not-refused (option_copied c.args.before) c.unit_bytes-bytes.result.now (bytes_of_unit c.args.es.now c.args.unit.now) c.in-Err.fault c.unit_bytes-bytes.ensures.bytes
+    not-refused-of (option_copied c.args.before) c.unit_bytes-bytes.result.now (bytes_of_unit c.args.es.now c.args.unit.now) c.in-Err.fault c.unit_bytes-bytes.ensures.bytes
     c.requires.picture c.in-Err.ensures
 
 pub with_headers-versions-requires-clause-bounded : goal.with_headers-versions-requires-clause-bounded
