@@ -50,7 +50,7 @@ use Rattle.psi_tables.specs.PmtOf.{pmt_of}
 use Rattle.slot_rule.specs.declared.sent.Sent.{Sent}
 use Rattle.slot_rule.specs.declared.sent.Sent.TheVariants.{Null}
 use Rattle.ts_demux.specs.declared.demux_fault.DemuxFault.{DemuxFault}
-use Rattle.ts_demux.specs.Demux.{AreStreamsSound, IsDemuxed, IsStreamFault, pes_packets_on, map_pids as carried_pids}
+use Rattle.ts_demux.specs.Demux.{AreStreamsSound, IsDemuxed, IsStreamFault, pes_packets_on, pids_of as carried_pids}
 use Rattle.ts_demux.specs.Streams.{audios_of, is_among, is_video, others_of, video_of, without_video}
 use Rattle.ts_demux.specs.Tables.{HasMap}
 use Rattle.mux_writer.specs.declared.layout.Layout.{Layout}

@@ -12,7 +12,7 @@ use Rattle.slot_rule.proofs.RuleFronts.{AtEach, AtEach-front, by_push}
 use Rattle.slot_rule.proofs.RuleWork.{packets_in-le}
 use Rattle.tstd_model.specs.Instants.{spaced, departures, came}
 use Rattle.tstd_model.specs.PacketBytes.{byte_subticks}
-use Rattle.tstd_model.specs.Decoder.{IsOverfull, transport_buffer, leave_tb, queue_tb_subticks as decoder_tb_subticks}
+use Rattle.tstd_model.specs.Decoder.{IsOverfull, transport_buffer, leave_tb, tb_subticks as decoder_tb_subticks}
 use Rattle.tstd_model.specs.Private.Server.{EachWithin}
 use Rattle.tstd_model.proofs.Server.{departures-append, departures-spaced, came-occupied}
 use Rattle.tstd_bridge.specs.Arrivals.{Headers, buffers_of, arrivals_from}
