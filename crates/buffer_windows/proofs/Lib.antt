@@ -4,5 +4,6 @@ pub mod Held
 pub mod Parts
 pub mod Rows
 pub mod Tail
+pub mod VersionsFit
 pub mod Weights
 pub mod WindowLaw

@@ -110,7 +110,7 @@ rows_split window rows =
     sym (take-append-drop window.first rows) ∙ ap (λ rest. take window.first rows ++ rest) (sym (take-append-drop (window.tail - window.first) (drop window.first rows)))
 
 -- where all is sent, a queue's packets in the rows are all that it has
-all_sent : (table : Table) (choice : List ℕ) (rows : List Row) → IsSchedule table choice rows
+pub all_sent : (table : Table) (choice : List ℕ) (rows : List Row) → IsSchedule table choice rows
     → (stream : ℕ) (queue : Queue) → slice_get (queues_of table choice) stream ≡ Some queue → queue.packets ≡ packets_sent stream rows
 all_sent table choice rows schedule stream queue got =
     let first = FollowRule-sent table choice stream queue.kind queue.packets got rows schedule.follows in

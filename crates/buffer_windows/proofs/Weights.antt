@@ -117,7 +117,7 @@ pub audio_weight-most : (slot : ℕ) (window : BufferWindow) → IsWithinSlot (a
 audio_weight-most slot window packet small = one_at_most (counted_due slot window packet.due)
 
 -- ---- the packets of one unit
-sum-payloads : (bytes : ℕ) → sum (payloads bytes) ≡ bytes
+pub sum-payloads : (bytes : ℕ) → sum (payloads bytes) ≡ bytes
 sum-payloads bytes =
     let full = (bytes - 1) / PAYLOAD_BYTES in
     omega (

@@ -78,12 +78,12 @@ slice_get-left [] ys n x got = cc
 slice_get-left (y ∷ xs) ys zero x got = got
 slice_get-left (y ∷ xs) ys (suc n) x got = slice_get-left xs ys n x got
 
-slice_get-right : {X : Type 0} (xs ys : List X) (n : ℕ) → slice_get (xs ++ ys) (length xs + n) ≡ slice_get ys n
+pub slice_get-right : {X : Type 0} (xs ys : List X) (n : ℕ) → slice_get (xs ++ ys) (length xs + n) ≡ slice_get ys n
 slice_get-right [] ys n = let same : 0 + n ≡ n = omega arith in ap (λ k. slice_get ys k) same
 slice_get-right (x ∷ xs) ys n = let next : suc (length xs) + n ≡ suc (length xs + n) = omega arith in ap (λ k. slice_get ((x ∷ xs) ++ ys) k) next ∙ slice_get-right xs ys n
 
 -- these queues are those of the table from the number on
-abbrev AreAt : Table → List ℕ → (first : ℕ) → List Queue → Type 0
+abbrev pub AreAt : Table → List ℕ → (first : ℕ) → List Queue → Type 0
 AreAt table choice first queues = (j : ℕ) (queue : Queue) → slice_get queues j ≡ Some queue → slice_get (queues_of table choice) (first + j) ≡ Some queue
 
 -- what the buffers of these programs give, of which the first has this number

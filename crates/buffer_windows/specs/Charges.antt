@@ -1,7 +1,8 @@
 -- What a window charges for the units of a choice, in bytes.
-use Rattle.std.specs.Prelude.{ℕ, ◌+◌, ◌*◌, nat_le, if◌then◌else◌, List, [], ◌∷◌, ◌++◌, map, sum_by}
+use Rattle.std.specs.Prelude.{ℕ, ◌+◌, ◌*◌, ◌≤◌, nat_le, if◌then◌else◌, List, [], ◌∷◌, ◌++◌, map, sum_by}
 use Rattle.std.specs.List.{zip}
 use Rattle.std.specs.Int.{div_ceil}
+use Rattle.stream_constants.specs.declared.decoder.TheConstants.{EB_UNIT_BYTES}
 use Rattle.stream_constants.specs.declared.packets.TheConstants.{PAYLOAD_BYTES}
 use Rattle.version_table.specs.declared.table.Unit.{Unit as CodedUnit}
 use Rattle.version_table.specs.declared.table.ProgramRow.{ProgramRow}
@@ -39,3 +40,7 @@ owned_units table = owned_from 0 table.programs
 abbrev pub charges : Table → (choice : List ℕ) → BufferWindow → ℕ
 charges table choice window =
     sum_by (λ (owned, k). charge table.slot window owned.program owned.unit.due (version_at owned.unit k).bytes) (zip (owned_units table) choice)
+
+-- version k of the unit has no more bytes than its program's elementary buffer
+abbrev pub FitsBuffer : OwnedUnit → ℕ → Type 0
+FitsBuffer owned k = (version_at owned.unit k).bytes ≤ EB_UNIT_BYTES * owned.vbv

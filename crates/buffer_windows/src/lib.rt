@@ -5,6 +5,7 @@
 //! slot a program's packets are no more than its multiplexing buffer can still give. Stands on `slot_rule`, `dual_bounds` and `version_table`.
 #![tactic(auto)]
 
+pub mod laws;
 mod windows;
 
 pub use windows::BufferWindow;
