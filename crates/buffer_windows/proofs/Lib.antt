@@ -1,4 +1,5 @@
 pub mod AudioBefore
+pub mod Duality
 pub mod Examples
 pub mod Held
 pub mod Parts
