@@ -1,5 +1,5 @@
 -- The worked examples, computed from the definitions: windows that are full to the byte, and one byte more that misses.
-use Rattle.std.proofs.Common.{◌≡◌, ℕ, ◌+◌, ◌*◌, ◌<◌, true, false, List, [], ◌∷◌, replicate, pos, negsuc, refl, arith}
+use Rattle.std.proofs.Common.{◌≡◌, ℕ, ◌+◌, ◌*◌, ◌<◌, true, false, List, [], ◌∷◌, replicate, Option, Some, None, pos, negsuc, refl, arith}
 use Rattle.std.specs.Int.{div_ceil}
 use Rattle.version_table.specs.declared.table.AudioPacket.{AudioPacket}
 use Rattle.version_table.specs.declared.table.Unit.{Unit as CodedUnit}
@@ -10,8 +10,10 @@ use Rattle.slot_rule.specs.declared.row.Row.{Row}
 use Rattle.slot_rule.specs.Schedule.{IsFirstMiss, IsScheduled}
 use Rattle.slot_rule.proofs.RuleRun.{Run, Clean, Missed, first_rows, IsSchedule-from_run, IsFirstMiss-from_run}
 use Rattle.buffer_windows.specs.declared.windows.BufferWindow.{BufferWindow}
+use Rattle.buffer_windows.specs.Bounds.{bound_of_value, bound_of_windows}
 use Rattle.buffer_windows.specs.Charges.{charges}
 use Rattle.buffer_windows.specs.Room.{audio_slots, buffer_bytes, free_slots, longest_before, mb_bytes, room}
+use Rattle.buffer_windows.specs.Values.{least_cost, least_costs, price, value_of_windows, worth}
 use Rattle.buffer_windows.specs.Windows.{IsWindow, is_fresh, is_held, stop}
 
 abbrev version : (bytes : ℕ) → Version
@@ -155,3 +157,35 @@ fresh_after_a_second = (refl, refl)
 held_ends : (is_held 40000 held_window 0 1080000 ≡ false) × (is_held 40000 held_window 0 1080001 ≡ true) × (is_held 40000 held_window 0 28040000 ≡ true)
     × (is_held 40000 held_window 0 28040001 ≡ false) × (is_held 40000 held_window 1 1080001 ≡ false)
 held_ends = (refl, refl, refl, refl, refl)
+
+-- ---- values and bounds
+abbrev priced : (lambda : ℕ) → BufferWindow
+priced lambda = record { first = 27; due = 1287200; programs = 1; tail = 32; lambda = lambda }
+
+-- the table of held units, whose last byte saves five distortions; of the first unit a version without distortion is one byte larger than its buffer
+abbrev valued_table : Table
+valued_table = table_of 40000 (
+    unit 1200000 (record { bytes = 2049; distortion = 0 } ∷ record { bytes = 2048; distortion = 2 } ∷ [])
+    ∷ unit 1287200 (record { bytes = 369; distortion = 0 } ∷ record { bytes = 368; distortion = 5 } ∷ []) ∷ []) []
+
+-- 2,048 bytes and 368 have room: the last byte costs 188,417 parts, which is less than its five distortions; two more come from the first unit
+valued_at_four : value_of_windows valued_table (None ∷ None ∷ []) (priced 188417 ∷ []) ≡ pos (188417 + 94208)
+unfolding free_slots audio_slots buffer_bytes room price least_cost least_costs worth value_of_windows
+valued_at_four = refl
+
+-- at 235,520 parts both versions of the last unit cost the same, and no price of a byte gives more
+valued_at_five : (value_of_windows valued_table (None ∷ None ∷ []) (priced 235520 ∷ []) ≡ pos (235520 + 94208))
+    × (value_of_windows valued_table (None ∷ None ∷ []) (priced 999999 ∷ []) ≡ pos (235520 + 94208))
+unfolding free_slots audio_slots buffer_bytes room price least_cost least_costs worth value_of_windows
+valued_at_five = (refl, refl)
+
+-- 4 * 47,104 are four distortions, and one part more is five
+rounded : (bound_of_value (pos 188416) ≡ 4) × (bound_of_value (pos 188417) ≡ 5) × (bound_of_value (negsuc 0) ≡ 0)
+rounded = (refl, refl, refl)
+
+-- a fixed version is taken as it is; where none is left that the buffer holds there is no bound
+none_left : (bound_of_windows valued_table (None ∷ None ∷ []) (priced 188417 ∷ []) ≡ Some 7)
+    × (bound_of_windows valued_table (Some 0 ∷ None ∷ []) [] ≡ Some 0)
+    × (bound_of_windows (table_of 40000 (unit 1200000 (version 2049 ∷ []) ∷ []) []) (None ∷ []) [] ≡ None)
+unfolding free_slots audio_slots buffer_bytes room price least_cost least_costs worth value_of_windows bound_of_windows
+none_left = (refl, refl, refl)

@@ -100,11 +100,11 @@ one_more table choice stream kind packets time rows (Carries s packet) got next 
             size,
           ))
       | inr apart ↦ omega (
-          arith,
-          sum_by_push (outstanding_in stream time) rows (Carries s packet),
-          other_is (eqb s stream) (ltb time packet.gone) packet.payload (ne_eqb s stream apart),
-          fits,
-        )
+        arith,
+        sum_by_push (outstanding_in stream time) rows (Carries s packet),
+        other_is (eqb s stream) (ltb time packet.gone) packet.payload (ne_eqb s stream apart),
+        fits,
+      )
     ]
 
 -- at a time when no later slot than these has begun, no more of a stream's bytes that came are still in its buffer than the buffer holds

@@ -16,9 +16,9 @@ use Rattle.buffer_windows.specs.Windows.{is_fresh, is_held, stop}
 abbrev pub charge : (slot : ℕ) → BufferWindow → (program due bytes : ℕ) → ℕ
 charge slot window program due bytes =
     if nat_le due window.due then
-      if is_fresh slot window due then
-        if nat_le (stop slot due) window.tail then PAYLOAD_BYTES * div_ceil bytes PAYLOAD_BYTES else bytes
-      else if is_held slot window program due then bytes else 0
+    if is_fresh slot window due then
+    if nat_le (stop slot due) window.tail then PAYLOAD_BYTES * div_ceil bytes PAYLOAD_BYTES else bytes
+    else if is_held slot window program due then bytes else 0
     else 0
 
 -- a unit, with its program's number and the size of the program's elementary buffer in units of 2,048 bytes

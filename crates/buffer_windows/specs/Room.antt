@@ -90,5 +90,6 @@ buffer_bytes table window =
     sum_by (λ (program, row). eb_bytes window program row + mb_bytes table.slot window row) (enumerate_from 0 table.programs)
 
 -- ---- the room
+-- the window's free slots and what the buffers give, less the slots of audio
 unfoldable pub room : Table → BufferWindow → ℤ
 room table window = pos (PAYLOAD_BYTES * free_slots table window + buffer_bytes table window) -ℤ pos (PAYLOAD_BYTES * audio_slots table window)
