@@ -121,7 +121,7 @@ abbrev distortion_at : Chosen → ℕ
 distortion_at chosen = (version_at chosen.0.unit chosen.1).distortion
 
 -- each unit has a version left
-abbrev has_left : OwnedUnit × Option ℕ → Bool
+abbrev pub has_left : OwnedUnit × Option ℕ → Bool
 has_left (owned, entry) = nat_lt 0 (length (versions_left owned entry))
 
 costs_le : (slot : ℕ) (windows : List BufferWindow) (units : List OwnedUnit) (fixed : List (Option ℕ)) (choice : List ℕ)
@@ -216,7 +216,7 @@ fold-from a (n ∷ numbers) =
     let second : fold ◌+ℤ◌ (pos 0 +ℤ n) numbers ≡ (pos 0 +ℤ n) +ℤ fold ◌+ℤ◌ (pos 0) numbers = fold-from (pos 0 +ℤ n) numbers in
     omega (arith, ints)
 
-worth-more : (table : Table) (window : BufferWindow) (windows : List BufferWindow) → worth table (window ∷ windows) ≡ pos window.lambda *ℤ room table window +ℤ worth table windows
+pub worth-more : (table : Table) (window : BufferWindow) (windows : List BufferWindow) → worth table (window ∷ windows) ≡ pos window.lambda *ℤ room table window +ℤ worth table windows
 unfolding worth
 worth-more table window windows =
     let own_worth = pos window.lambda *ℤ room table window in

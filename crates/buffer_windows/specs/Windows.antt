@@ -1,8 +1,10 @@
 -- Windows that see the buffers: which packets can go before a window's first slot, and which windows are allowed.
 -- Times are ticks of 1/27,000,000 s.
 use Rattle.std.specs.Prelude.{ℕ, ◌-◌, ◌+◌, ◌*◌, ◌/◌, ◌%◌, ◌^◌, ◌<◌, ◌≤◌, ◌==◌, max, Bool, ◌&&◌, ◌||◌, nat_le, nat_lt}
+use Rattle.std.specs.Int.{div_ceil}
 use Rattle.stream_constants.specs.declared.decoder.TheConstants.{HOLD_TICKS}
 use Rattle.dual_bounds.specs.declared.constants.TheConstants.{MARGIN_TICKS}
+use Rattle.dual_bounds.specs.declared.windows.Window.{Window}
 use Rattle.buffer_windows.specs.declared.windows.BufferWindow.{BufferWindow}
 
 -- how many slots end in time for what is due then: a margin before it, or earlier
@@ -33,3 +35,10 @@ pub record IsWindow (slot : ℕ) (window : BufferWindow) : Type 0 where
   pub from : window.first ≤ window.tail
   pub upto : window.tail ≤ max window.first (stop slot window.due)
   pub begins : 0 < window.first → window.first * slot < window.due
+
+-- a window of time as one that counts no buffer: from the first slot that begins no earlier than a second before it up to the last that
+-- ends in time for its last due time
+abbrev pub without_buffers : (slot : ℕ) → Window → BufferWindow
+without_buffers slot window =
+    let first = div_ceil (window.from - HOLD_TICKS) slot in
+    record { first = first; due = window.due; programs = 0; tail = max first (stop slot window.due); lambda = window.lambda }

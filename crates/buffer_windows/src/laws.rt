@@ -1,15 +1,21 @@
 //! Laws of windows that see the buffers, as functions that do nothing.
 
-ghost use Rattle.std.specs.Prelude.{ℕ, List, Option, pos, ◌≤ℤ◌};
+ghost use Rattle.std.specs.Prelude.{◌≡◌, ℕ, true, List, map, Option, pos, ◌*ℤ◌, ◌≤ℤ◌};
 ghost use Rattle.std.specs.List.{AllZip};
 ghost use Rattle.version_table.specs.declared.table.Table.{Table};
 ghost use Rattle.version_table.specs.Choice.{Fits};
 ghost use Rattle.version_table.specs.Table.{IsValidTable};
 ghost use Rattle.slot_rule.specs.Schedule.{IsScheduled};
+ghost use Rattle.stream_constants.specs.declared.packets.TheConstants.{PAYLOAD_BYTES};
+ghost use Rattle.dual_bounds.specs.declared.windows.Window.{Window};
+ghost use Rattle.dual_bounds.specs.Room.{room as room_of_time};
+ghost use Rattle.dual_bounds.specs.Values.{value_of_windows as value_of_time};
 ghost use Rattle.buffer_windows.specs.declared.windows.BufferWindow.{BufferWindow};
-ghost use Rattle.buffer_windows.specs.Bounds.{IsBoundOrNone, bound_of_windows};
+ghost use Rattle.buffer_windows.specs.Bounds.{IsBoundOrNone, bound_of_windows, each_has_left};
 ghost use Rattle.buffer_windows.specs.Charges.{charges, FitsBuffer, owned_units};
 ghost use Rattle.buffer_windows.specs.Room.{room};
+ghost use Rattle.buffer_windows.specs.Values.{value_of_windows};
+ghost use Rattle.buffer_windows.specs.Windows.{without_buffers};
 
 /// A scheduled choice is charged no more than the window's room, whatever slots, due time and programs the window has.
 pub fn windows_with_buffers_hold()
@@ -27,4 +33,17 @@ pub fn versions_fit_their_buffers()
 pub fn buffer_windows_bound()
     ensures { (table : Table) (fixed : List (Option ℕ)) (windows : List BufferWindow) → IsValidTable table
         → IsBoundOrNone table fixed (bound_of_windows table fixed windows) }
+{}
+
+/// Windows of time, taken as windows that count no buffer, have no lesser value, a byte's parts for each of a packet's:
+/// where each unit has a version that its program's elementary buffer holds.
+pub fn buffers_lower_no_value()
+    ensures { (table : Table) (fixed : List (Option ℕ)) (windows : List Window) → IsValidTable table → each_has_left table fixed ≡ true
+        → (pos PAYLOAD_BYTES *ℤ value_of_time table fixed windows) ≤ℤ value_of_windows table fixed (map (without_buffers table.slot) windows) }
+{}
+
+/// A window of time, taken as one that counts no buffer, has no more room in bytes than its packets have.
+pub fn rooms_without_buffers()
+    ensures { (table : Table) (window : Window) → IsValidTable table
+        → room table (without_buffers table.slot window) ≤ℤ (pos PAYLOAD_BYTES *ℤ room_of_time table window.from window.due) }
 {}
