@@ -14,7 +14,7 @@ use Rattle.buffer_windows.specs.Bounds.{bound_of_value, bound_of_windows}
 use Rattle.buffer_windows.specs.Charges.{charges}
 use Rattle.buffer_windows.specs.Room.{audio_slots, buffer_bytes, free_slots, longest_before, mb_bytes, room}
 use Rattle.buffer_windows.specs.Values.{least_cost, least_costs, price, value_of_windows, worth}
-use Rattle.buffer_windows.specs.Windows.{IsWindow, is_fresh, is_held, stop}
+use Rattle.buffer_windows.specs.Windows.{IsWindow, is_fresh, is_held, stop, without_buffers}
 
 abbrev version : (bytes : ℕ) → Version
 version bytes = record { bytes = bytes; distortion = 0 }
@@ -189,3 +189,10 @@ none_left : (bound_of_windows valued_table (None ∷ None ∷ []) (priced 188417
     × (bound_of_windows (table_of 40000 (unit 1200000 (version 2049 ∷ []) ∷ []) []) (None ∷ []) [] ≡ None)
 unfolding free_slots audio_slots buffer_bytes room price least_cost least_costs worth value_of_windows bound_of_windows
 none_left = (refl, refl, refl)
+
+-- ---- windows of time
+-- slots 2 and 3 are the first that begin no earlier than a second before 27,080,000 and a tick later; within the first second slot 0 is
+first_slots : (without_buffers 40000 (record { from = 27080000; due = 27127200; lambda = 5 }) ≡ record { first = 2; due = 27127200; programs = 0; tail = 678; lambda = 5 })
+    × (without_buffers 40000 (record { from = 27080001; due = 27127199; lambda = 5 }) ≡ record { first = 3; due = 27127199; programs = 0; tail = 677; lambda = 5 })
+    × (without_buffers 40000 (record { from = 27000000; due = 27000000; lambda = 5 }) ≡ record { first = 0; due = 27000000; programs = 0; tail = 674; lambda = 5 })
+first_slots = (refl, refl, refl)
