@@ -1,0 +1,13 @@
+pub mod AudioBefore
+pub mod Duality
+pub mod Examples
+pub mod Held
+pub mod Parts
+pub mod PlainCosts
+pub mod PlainRooms
+pub mod PlainValues
+pub mod Rows
+pub mod Tail
+pub mod VersionsFit
+pub mod Weights
+pub mod WindowLaw

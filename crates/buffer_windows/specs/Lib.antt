@@ -1,0 +1,5 @@
+pub mod Bounds
+pub mod Charges
+pub mod Room
+pub mod Values
+pub mod Windows
