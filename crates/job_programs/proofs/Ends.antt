@@ -1,5 +1,5 @@
 -- What ends a reading: a rise of a count is the last of it.
-use Rattle.std.proofs.Common.{◌≡◌, ℕ, Result, Err}
+use Rattle.std.proofs.Common.{◌≡◌, ℕ, Result, Err, ap}
 use Rattle.shelf_io.specs.declared.fault.Fault.{Fault}
 use Rattle.shelf_io.specs.declared.fault.Fault.TheVariants.{Failed, Missing, OutOfMemory}
 use Rattle.shelf_io.specs.Causes.{ReadCauses}
@@ -44,14 +44,14 @@ ends_still unfailed found ends = record {
 abbrev refused : {T : Type 0} → Fault → Result T Fault
 refused fault = Err fault
 
-pub failed_isnt_missing : {T : Type 0} (fault : Fault) → fault ≡ Failed → refused {T} fault ≡ Err Missing → ⊥
-failed_isnt_missing fault is found = cc
+pub failed_isnt_missing : {T : Type 0} (fault : Fault) → fault ≡ Failed → refused {T = T} fault ≡ refused {T = T} Missing → ⊥
+failed_isnt_missing {T = T} fault is found = let this = ap (refused {T = T}) is in cc
 
-pub missing_isnt_failed : {T : Type 0} (fault : Fault) → fault ≡ Missing → refused {T} fault ≡ Err Failed → ⊥
-missing_isnt_failed fault is found = cc
+pub missing_isnt_failed : {T : Type 0} (fault : Fault) → fault ≡ Missing → refused {T = T} fault ≡ refused {T = T} Failed → ⊥
+missing_isnt_failed {T = T} fault is found = let this = ap (refused {T = T}) is in cc
 
-pub memory_isnt_failed : {T : Type 0} (fault : Fault) → fault ≡ OutOfMemory → refused {T} fault ≡ Err Failed → ⊥
-memory_isnt_failed fault is found = cc
+pub memory_isnt_failed : {T : Type 0} (fault : Fault) → fault ≡ OutOfMemory → refused {T = T} fault ≡ refused {T = T} Failed → ⊥
+memory_isnt_failed {T = T} fault is found = let this = ap (refused {T = T}) is in cc
 
-pub memory_isnt_missing : {T : Type 0} (fault : Fault) → fault ≡ OutOfMemory → refused {T} fault ≡ Err Missing → ⊥
-memory_isnt_missing fault is found = cc
+pub memory_isnt_missing : {T : Type 0} (fault : Fault) → fault ≡ OutOfMemory → refused {T = T} fault ≡ refused {T = T} Missing → ⊥
+memory_isnt_missing {T = T} fault is found = let this = ap (refused {T = T}) is in cc

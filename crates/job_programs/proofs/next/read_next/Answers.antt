@@ -35,8 +35,8 @@ returns-in-Err-Missing-clause-ends g c =
     ends_so (λ is. absurd (missing_isnt_failed c.in-Err-Missing.field-0 c.in-Err-Missing.field-0-is is)) (λ is. tt)
     (ends_read c.in-Err-Missing.ensures.causes c.in-Err-Missing.ensures.failed_last c.in-Err-Missing.ensures.missing_last)
 
-pub returns-clause-ends : goal.returns-clause-ends
-returns-clause-ends g c =
+pub returns-in-Err-OutOfMemory-clause-ends : goal.returns-in-Err-OutOfMemory-clause-ends
+returns-in-Err-OutOfMemory-clause-ends g c =
     ends_so (λ is. absurd (memory_isnt_failed c.in-Err-OutOfMemory.field-0 c.in-Err-OutOfMemory.field-0-is is))
     (λ is. absurd (memory_isnt_missing c.in-Err-OutOfMemory.field-0 c.in-Err-OutOfMemory.field-0-is is))
     (ends_read c.in-Err-OutOfMemory.ensures.causes c.in-Err-OutOfMemory.ensures.failed_last c.in-Err-OutOfMemory.ensures.missing_last)
