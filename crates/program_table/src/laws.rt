@@ -13,7 +13,7 @@ ghost use Rattle.job_programs.specs.Programs.{ArePrograms, IsWithinTime};
 ghost use Rattle.program_table.specs.Table.{IsRowOf, IsTableOf};
 
 use job_report::limits::{COARSER_MOST, WEIGHT_MOST};
-use version_bounds::laws::versions_have_places;
+use version_laws::laws::versions_have_places;
 use version_source::laws::one_list_of_versions;
 use version_table::limits::{AUDIO_PACKETS_LIMIT, UNITS_MOST};
 

@@ -3,7 +3,7 @@
 //! `table_of` takes the sizes of all versions of all units as they were told when the programs were read, and answers a table in
 //! which each unit has the sizes and the weighted distortions of its versions and each audio packet its times;
 //! `row_of_sized_program` does so for one program. `row_of_program` sizes the units of a program itself. `laws` says that
-//! programs have one table, and that it keeps the limits of tables. Stands on `version_source`, `version_bounds`,
+//! programs have one table, and that it keeps the limits of tables. Stands on `version_source`, `version_laws`,
 //! `version_maker`, `program_reader`, `job_report` and `version_table`.
 #![tactic(auto)]
 

@@ -11,7 +11,7 @@ use crate::unit_row::{header_bytes, with_headers};
 use list_types::{ListOf, OutOfMemory};
 use program_reader::{Program, UnitSizes, UnitSource};
 use std::alloc::Global;
-use version_bounds::laws::sizes_are_bounded;
+use version_laws::laws::sizes_are_bounded;
 use version_source::laws::see_bytes;
 use version_table::{ProgramRow, Unit};
 

@@ -13,7 +13,7 @@ use pes_units::{MOST_HEADER_BYTES, Times, write_video_header};
 use program_reader::UnitSource;
 use std::alloc::Global;
 use syntax_types::SeqState;
-use version_bounds::laws::sizes_are_bounded;
+use version_laws::laws::sizes_are_bounded;
 use version_maker::{VersionSize, sizes_of, want_of_memory};
 use version_source::unit_bytes;
 use version_table::limits::VERSIONS_MOST;

@@ -9,7 +9,7 @@ use Rattle.job_programs.specs.Told.{HoldContents}
 use Rattle.job_report.specs.declared.job.ProgramJob.{ProgramJob}
 use Rattle.job_report.specs.Refusal.{OfField, first_refusal, place_of_program}
 use Rattle.job_report.specs.SharedFile.{refusals_of_files}
-use Rattle.job_run.specs.JobTable.{IsJobTable}
+use Rattle.job_files.specs.JobTable.{IsJobTable}
 use Rattle.shelf_io.specs.Files.{Files}
 use Rattle.remux_core.specs.declared.status.Status.TheVariants.{Ok}
 use Rattle.remux_core.specs.CheckCommand.{CheckCallsFor}

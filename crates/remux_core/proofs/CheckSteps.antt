@@ -12,10 +12,10 @@ use Rattle.version_table.specs.declared.table.Table.{Table}
 use Rattle.job_report.specs.Report.{report_line}
 use Rattle.job_report.specs.declared.report.Report.{Report}
 use Rattle.job_report.specs.declared.report.Report.TheVariants as reports
-use Rattle.job_run.specs.declared.job_table.JobTable.{JobTable}
-use Rattle.job_run.specs.JobFile.{HoldsText}
-use Rattle.job_run.specs.JobTable.{IsJobTable}
-use Rattle.job_run.proofs.Texts.{take_all_of}
+use Rattle.job_files.specs.declared.job_table.JobTable.{JobTable}
+use Rattle.job_files.specs.JobFile.{HoldsText}
+use Rattle.job_files.specs.JobTable.{IsJobTable}
+use Rattle.job_files.proofs.Texts.{take_all_of}
 use Rattle.shelf_io.specs.Files.{Files}
 use Rattle.remux_core.specs.declared.ended.Ended.{Ended}
 use Rattle.remux_core.specs.declared.status.Status.{Status}

@@ -2,8 +2,8 @@
 use Rattle.std.proofs.Common.{◌≡◌, ◌+◌, ◌≤◌, ℕ, List, Option, Some, None, max, refl, sym, subst, inl, inr, arith}
 use Rattle.bound_certificate.specs.declared.limits.TheConstants.{CERT_BYTES_MOST}
 use Rattle.job_programs.specs.Told.{CountReads}
-use Rattle.job_run.specs.Stops.{AsksForJob, IsJobFile}
-use Rattle.job_run.proofs.Asked.{held_apart}
+use Rattle.job_files.specs.Stops.{AsksForJob, IsJobFile}
+use Rattle.job_files.proofs.Asked.{held_apart}
 use Rattle.program_reader.specs.declared.limits.TheConstants.{FILE_BYTES_MOST}
 use Rattle.shelf_io.specs.Asked.{AsksUpTo, AsksNothing}
 use Rattle.shelf_io.specs.Causes.{ReadCauses, WriteCauses}

@@ -3,9 +3,9 @@ use Rattle.std.proofs.Common.{◌≡◌, ◌⊎◌, ◌<◌, ℕ, Option, Some, 
 use Rattle.job_programs.specs.Told.{CountReads, ReadsEnd}
 use Rattle.job_programs.proofs.Ends.{ends_read}
 use Rattle.job_report.specs.declared.report.Report.{Report}
-use Rattle.job_run.specs.declared.job_stop.JobStop.{JobStop}
-use Rattle.job_run.specs.declared.job_stop.JobStop.TheVariants.{Text, Source, Unread, Missing, OutOfMemory}
-use Rattle.job_run.specs.Stops.{EndsMissing, EndsUnread}
+use Rattle.job_files.specs.declared.job_stop.JobStop.{JobStop}
+use Rattle.job_files.specs.declared.job_stop.JobStop.TheVariants.{Text, Source, Unread, Missing, OutOfMemory}
+use Rattle.job_files.specs.Stops.{EndsMissing, EndsUnread}
 use Rattle.shelf_io.specs.Causes.{ReadCauses, WriteCauses}
 use Rattle.shelf_io.proofs.Counted.{no_rise, rises_later}
 use Rattle.remux_core.specs.declared.ended.Ended.{Ended}

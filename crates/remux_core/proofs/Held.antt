@@ -5,14 +5,14 @@ use Rattle.std.specs.Option.{IsSomeAnd}
 use Rattle.std.specs.FinMap.{get}
 use Rattle.bound_certificate.specs.declared.cert.Cert.{Cert}
 use Rattle.bound_certificate.specs.Spelling.{cert_spelling}
-use Rattle.job_run.specs.JobFile.{HoldsText}
+use Rattle.job_files.specs.JobFile.{HoldsText}
 use Rattle.shelf_io.specs.Files.{Files}
 use Rattle.shelf_io.specs.WholeFile.{HoldsPrefix}
 use Rattle.version_table.specs.declared.limits.TheConstants.{TABLE_TEXT_MOST}
 use Rattle.version_table.specs.declared.fault.TableFault.{TableFault}
 use Rattle.version_table.specs.declared.fault.TableFault.TheVariants as faults
 use Rattle.version_table.specs.Text.{IsTableRead, IsFaultOf, TextReading, Holds, RefusedAt, RefusedFor}
-use Rattle.job_run.proofs.Texts.{take_all_of}
+use Rattle.job_files.proofs.Texts.{take_all_of}
 use Rattle.remux_core.specs.declared.ended.Ended.{Ended}
 use Rattle.remux_core.specs.declared.status.Status.{Status}
 use Rattle.remux_core.specs.Answer.{Decides, EndsWithStatus, AnswerHasCause, HasCause, LeavesFiles}

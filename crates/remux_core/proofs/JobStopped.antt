@@ -5,12 +5,12 @@ use Rattle.std.proofs.lemmas.List.Elements.{Contains-append_right}
 use Rattle.job_report.specs.declared.job.ProgramJob.{ProgramJob}
 use Rattle.job_report.specs.declared.limits.TheConstants.{JOB_TEXT_MOST}
 use Rattle.program_reader.specs.declared.limits.TheConstants.{FILE_BYTES_MOST}
-use Rattle.job_run.specs.declared.job_stop.JobStop.{JobStop}
-use Rattle.job_run.specs.declared.job_stop.JobStop.TheVariants.{Text, Source, Unread, Missing, OutOfMemory}
-use Rattle.job_run.specs.declared.job_stop.TextRefusal.{TextRefusal}
-use Rattle.job_run.specs.declared.job_stop.TextRefusal.TheVariants.{NoDocument, Field, Limit}
-use Rattle.job_run.specs.JobFile.{HoldsRefused}
-use Rattle.job_run.specs.Stops.{IsJobFile, IsNextFile, StopsFor}
+use Rattle.job_files.specs.declared.job_stop.JobStop.{JobStop}
+use Rattle.job_files.specs.declared.job_stop.JobStop.TheVariants.{Text, Source, Unread, Missing, OutOfMemory}
+use Rattle.job_files.specs.declared.job_stop.TextRefusal.{TextRefusal}
+use Rattle.job_files.specs.declared.job_stop.TextRefusal.TheVariants.{NoDocument, Field, Limit}
+use Rattle.job_files.specs.JobFile.{HoldsRefused}
+use Rattle.job_files.specs.Stops.{IsJobFile, IsNextFile, StopsFor}
 use Rattle.shelf_io.specs.Counts.{ShelfCounts}
 use Rattle.shelf_io.specs.Files.{Files}
 use Rattle.remux_core.specs.declared.ended.Ended.{Ended}

@@ -7,13 +7,13 @@ use Rattle.bound_certificate.specs.Reading.{CertReading, IsCertRead, Holds, Refu
 use Rattle.certificate_checker.specs.declared.why.CertFault.{CertFault}
 use Rattle.certificate_checker.specs.Checked.{IsFaultless, IsFirstFault}
 use Rattle.job_programs.specs.declared.source_fault.SourceFault.{SourceFault}
-use Rattle.job_run.specs.declared.job_stop.TextRefusal.{TextRefusal}
-use Rattle.job_run.specs.declared.job_stop.TextRefusal.TheVariants.{NoDocument, Field, Limit}
-use Rattle.job_run.specs.declared.job_table.JobTable.{JobTable}
-use Rattle.job_run.specs.JobFile.{HoldsRefused}
-use Rattle.job_run.specs.JobTable.{IsJobTable}
-use Rattle.job_run.specs.Same.{IsSameText}
-use Rattle.job_run.specs.Stops.{HoldsRefusedProgram, IsNextFile}
+use Rattle.job_files.specs.declared.job_stop.TextRefusal.{TextRefusal}
+use Rattle.job_files.specs.declared.job_stop.TextRefusal.TheVariants.{NoDocument, Field, Limit}
+use Rattle.job_files.specs.declared.job_table.JobTable.{JobTable}
+use Rattle.job_files.specs.JobFile.{HoldsRefused}
+use Rattle.job_files.specs.JobTable.{IsJobTable}
+use Rattle.job_files.specs.Same.{IsSameText}
+use Rattle.job_files.specs.Stops.{HoldsRefusedProgram, IsNextFile}
 use Rattle.shelf_io.specs.Files.{Files}
 use Rattle.slot_rule.specs.declared.sent.Miss.{Miss}
 use Rattle.slot_rule.specs.Schedule.{IsScheduled, IsFirstMiss}

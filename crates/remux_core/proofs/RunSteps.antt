@@ -5,9 +5,9 @@ use Rattle.std.specs.FinMap.{insert}
 use Rattle.bound_certificate.specs.declared.cert.Cert.{Cert}
 use Rattle.bound_certificate.specs.Spelling.{cert_spelling}
 use Rattle.job_report.specs.Report.{report_line}
-use Rattle.job_run.specs.declared.job_table.JobTable.{JobTable}
-use Rattle.job_run.specs.JobTable.{IsJobTable}
-use Rattle.job_run.specs.Written.{HoldsStream, HoldsStreamPart, IsJobStream}
+use Rattle.job_files.specs.declared.job_table.JobTable.{JobTable}
+use Rattle.job_files.specs.JobTable.{IsJobTable}
+use Rattle.job_files.specs.Written.{HoldsStream, HoldsStreamPart, IsJobStream}
 use Rattle.shelf_io.specs.Counts.{ShelfCounts}
 use Rattle.shelf_io.specs.Files.{Files, with_content}
 use Rattle.shelf_io.proofs.Counted.{rose_later}

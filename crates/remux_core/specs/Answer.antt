@@ -5,7 +5,7 @@ use Rattle.shelf_io.specs.Files.{Files, Lacks}
 use Rattle.bound_certificate.specs.declared.cert.Cert.{Cert}
 use Rattle.job_report.specs.Report.{report_line}
 use Rattle.job_report.specs.declared.report.Report.TheVariants as reports
-use Rattle.job_run.specs.declared.job_table.JobTable.{JobTable}
+use Rattle.job_files.specs.declared.job_table.JobTable.{JobTable}
 use Rattle.program_maker.specs.Program.{IsGeneratedProgram}
 use Rattle.program_reader.specs.declared.program.Program.{Program}
 use Rattle.run_report.specs.Report.{source_report}

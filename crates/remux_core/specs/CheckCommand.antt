@@ -6,9 +6,9 @@ use Rattle.branch_plan.specs.Plan.{BoundsAll}
 use Rattle.certificate_checker.specs.Checked.{IsFaultless, IsFirstFault}
 use Rattle.job_report.specs.Report.{report_line}
 use Rattle.job_report.specs.declared.report.Report.TheVariants as reports
-use Rattle.job_run.specs.declared.job_table.JobTable.{JobTable}
-use Rattle.job_run.specs.JobFile.{HoldsText}
-use Rattle.job_run.specs.JobTable.{IsJobTable}
+use Rattle.job_files.specs.declared.job_table.JobTable.{JobTable}
+use Rattle.job_files.specs.JobFile.{HoldsText}
+use Rattle.job_files.specs.JobTable.{IsJobTable}
 use Rattle.shelf_io.specs.Files.{Files, Lacks}
 use Rattle.remux_core.specs.declared.status.Status.{Status}
 use Rattle.remux_core.specs.declared.status.Status.TheVariants.{Ok, CertRefused, Missing}

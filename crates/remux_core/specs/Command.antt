@@ -2,7 +2,7 @@
 use Rattle.std.specs.Prelude.{◌≡◌, ◌≢◌, ◌⊎◌, ◌<◌, ◌≤◌, ◌^◌, ℕ, List, [], ◌∷◌, Option, Some, None, codes, decimal}
 use Rattle.bound_certificate.specs.declared.limits.TheConstants.{CERT_BYTES_MOST}
 use Rattle.job_report.specs.declared.limits.TheConstants.{NUMBER_MOST}
-use Rattle.job_run.specs.Stops.{IsJobFile}
+use Rattle.job_files.specs.Stops.{IsJobFile}
 use Rattle.program_maker.specs.declared.format.TheConstants.{PICTURES_MOST}
 use Rattle.program_reader.specs.declared.limits.TheConstants.{FILE_BYTES_MOST}
 use Rattle.shelf_io.specs.Files.{Files}

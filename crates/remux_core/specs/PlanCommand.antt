@@ -4,7 +4,7 @@ use Rattle.std.specs.FinMap.{insert}
 use Rattle.bound_certificate.specs.declared.cert.Cert.{Cert}
 use Rattle.bound_certificate.specs.Spelling.{cert_spelling}
 use Rattle.job_report.specs.Report.{report_line}
-use Rattle.job_run.specs.JobFile.{HoldsText}
+use Rattle.job_files.specs.JobFile.{HoldsText}
 use Rattle.shelf_io.specs.Files.{Files, Lacks}
 use Rattle.version_table.specs.declared.table.Table.{Table}
 use Rattle.version_table.specs.declared.fault.Limit.{Limit}

@@ -6,12 +6,12 @@ use Rattle.bound_certificate.specs.Spelling.{cert_spelling}
 use Rattle.branch_plan.specs.Plan.{SmallestIsScheduled}
 use Rattle.job_report.specs.Report.{report_line}
 use Rattle.job_report.specs.declared.report.Report.{Report}
-use Rattle.job_run.specs.declared.job_table.JobTable.{JobTable}
-use Rattle.job_run.specs.declared.job_stop.TextRefusal.TheVariants.{NoDocument, Field, Limit}
-use Rattle.job_run.specs.JobFile.{HoldsRefused}
-use Rattle.job_run.specs.JobTable.{IsJobTable}
-use Rattle.job_run.specs.Stops.{HoldsRefusedProgram, IsNextFile}
-use Rattle.job_run.specs.Written.{IsJobStream}
+use Rattle.job_files.specs.declared.job_table.JobTable.{JobTable}
+use Rattle.job_files.specs.declared.job_stop.TextRefusal.TheVariants.{NoDocument, Field, Limit}
+use Rattle.job_files.specs.JobFile.{HoldsRefused}
+use Rattle.job_files.specs.JobTable.{IsJobTable}
+use Rattle.job_files.specs.Stops.{HoldsRefusedProgram, IsNextFile}
+use Rattle.job_files.specs.Written.{IsJobStream}
 use Rattle.run_report.specs.Report.{run_report}
 use Rattle.shelf_io.specs.Files.{Files, Lacks}
 use Rattle.slot_rule.specs.declared.slot_list.SlotList.{SlotList}

@@ -9,8 +9,8 @@ ghost use Rattle.remux_core.specs.Status.{IsSameStatus};
 
 use bound_certificate::laws::one_reading;
 use certificate_checker::laws::{first_fault_is_one, no_fault_of_the_faultless};
+use job_files::laws::jobs_have_one_answer;
 use job_programs::laws::probed_file_has_one_answer;
-use job_run::laws::jobs_have_one_answer;
 use slot_rule::{first_miss_is_one, no_miss_where_scheduled};
 use version_table::smallest_choice_is_one;
 

@@ -3,7 +3,7 @@
 //! Its contract is the main theorem: each status comes exactly where its cause stands, a plan is scheduled, its bound is
 //! true of every scheduled choice, and no file changes but those that the command writes. Each command is a case of a
 //! few definitions. Stands on `shelf_io`, `version_table`, `slot_rule`,
-//! `branch_plan`, `bound_certificate`, `program_maker`, `job_programs`, `program_table`, `job_run` and `job_report`.
+//! `branch_plan`, `bound_certificate`, `program_maker`, `job_programs`, `program_table`, `job_files` and `job_report`.
 #![tactic(auto)]
 
 mod cert_room;

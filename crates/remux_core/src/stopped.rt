@@ -9,8 +9,8 @@ ghost use Rattle.run_report.specs.Report as told;
 use crate::ended::{Ended, end_missing, end_unread, end_with};
 use crate::report::refusal_report;
 use crate::status::{JobRefusal, Status};
+use job_files::{JobStop, TextRefusal};
 use job_programs::SourceFault;
-use job_run::{JobStop, TextRefusal};
 use run_report::source_report;
 use std::alloc::Global;
 

@@ -10,7 +10,7 @@ use Rattle.program_reader.specs.declared.program.Program.{Program}
 use Rattle.pes_units.specs.VideoHeader.{AreInRange, IsBesidePts, written_pes_header}
 use Rattle.program_reader.specs.declared.program.UnitSource.{UnitSource}
 use Rattle.program_reader.specs.declared.unit_sizes.UnitSizes.{UnitSizes}
-use Rattle.version_bounds.specs.declared.limits.TheConstants.{UNIT_VERSION_BYTES_MOST, UNIT_VERSION_DISTORTION_MOST}
+use Rattle.version_laws.specs.declared.limits.TheConstants.{UNIT_VERSION_BYTES_MOST, UNIT_VERSION_DISTORTION_MOST}
 use Rattle.version_maker.specs.declared.version.UnitVersion.{UnitVersion}
 use Rattle.version_maker.specs.declared.version.VersionSize.{VersionSize}
 use Rattle.version_maker.specs.Versions.{AreVersions}

@@ -2,7 +2,7 @@
 use Rattle.std.specs.Prelude.{◌≡◌, ℕ, ◌+◌, ◌<◌, List, Option, Some, None, take}
 use Rattle.job_report.specs.Report.{report_line}
 use Rattle.job_report.specs.declared.report.Report.{Report}
-use Rattle.job_run.specs.JobFile.{HoldsText}
+use Rattle.job_files.specs.JobFile.{HoldsText}
 use Rattle.shelf_io.specs.Files.{Files}
 use Rattle.version_table.specs.declared.limits.TheConstants.{TABLE_TEXT_MOST}
 use Rattle.version_table.specs.declared.fault.TableFault.{TableFault}

@@ -3,7 +3,7 @@ use Rattle.std.specs.Prelude.{◌≡◌, ◌⊎◌, ℕ, List, Option, Some, Non
 use Rattle.bound_certificate.specs.declared.cert.Cert.{Cert}
 use Rattle.bound_certificate.specs.Spelling.{cert_spelling}
 use Rattle.job_report.specs.declared.report.Report.TheVariants as reports
-use Rattle.job_run.specs.declared.job_table.JobTable.{JobTable}
+use Rattle.job_files.specs.declared.job_table.JobTable.{JobTable}
 use Rattle.run_report.specs.Report.{run_report}
 use Rattle.shelf_io.specs.Counts.{Rose, ShelfCounts}
 use Rattle.shelf_io.specs.Files.{Files, with_content}

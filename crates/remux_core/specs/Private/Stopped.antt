@@ -1,10 +1,10 @@
 -- How a command over a job ends where the job has no table.
 use Rattle.std.specs.Prelude.{◌≡◌, Option, None, IfSome}
 use Rattle.job_report.specs.declared.report.Report.TheVariants as reports
-use Rattle.job_run.specs.declared.job_stop.JobStop.{JobStop}
-use Rattle.job_run.specs.declared.job_stop.JobStop.TheVariants.{Text, Source, Unread, Missing, OutOfMemory}
-use Rattle.job_run.specs.declared.job_stop.TextRefusal.{TextRefusal}
-use Rattle.job_run.specs.declared.job_stop.TextRefusal.TheVariants.{NoDocument, Field, Limit}
+use Rattle.job_files.specs.declared.job_stop.JobStop.{JobStop}
+use Rattle.job_files.specs.declared.job_stop.JobStop.TheVariants.{Text, Source, Unread, Missing, OutOfMemory}
+use Rattle.job_files.specs.declared.job_stop.TextRefusal.{TextRefusal}
+use Rattle.job_files.specs.declared.job_stop.TextRefusal.TheVariants.{NoDocument, Field, Limit}
 use Rattle.run_report.specs.Report.{source_report}
 use Rattle.remux_core.specs.declared.ended.Ended.{Ended}
 use Rattle.remux_core.specs.declared.status.Status.TheVariants as statuses

@@ -1,6 +1,6 @@
 use Rattle.std.proofs.Common.{Option, Some, refl, sym, subst, inl}
-use Rattle.job_run.specs.JobTable.{IsJobTable}
-use Rattle.job_run.specs.Stops.{StopsFor}
+use Rattle.job_files.specs.JobTable.{IsJobTable}
+use Rattle.job_files.specs.Stops.{StopsFor}
 use Rattle.remux_core.specs.Answer.{Decides}
 use Rattle.remux_core.specs.Command.{Check, files_of_check}
 use Rattle.remux_core.specs.Outside.{shelf_facts}

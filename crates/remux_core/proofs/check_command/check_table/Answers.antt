@@ -1,7 +1,7 @@
 use Rattle.std.proofs.Common.{◌+◌, ◌∙◌, Option, Some, Err, refl, ap, subst, inr, None}
 use Rattle.bound_certificate.specs.declared.limits.TheConstants.{CERT_BYTES_MOST}
 use Rattle.job_report.specs.declared.report.Report.TheVariants as reports
-use Rattle.job_run.specs.JobTable.{IsJobTable}
+use Rattle.job_files.specs.JobTable.{IsJobTable}
 use Rattle.shelf_io.specs.Files.{Files, Lacks}
 use Rattle.remux_core.specs.declared.status.Status.TheVariants.{ReadFault, Missing}
 use Rattle.remux_core.specs.Answer.{Decides, AnswerHasCause}

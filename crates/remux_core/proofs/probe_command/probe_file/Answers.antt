@@ -15,7 +15,7 @@ use Rattle.remux_core.specs.ProbeCommand.{HoldsProbed}
 use Rattle.remux_core.proofs.Counted.{answer_later, counts_twice, programs_grow}
 use Rattle.remux_core.proofs.Ending.{ends_so}
 use Rattle.remux_core.proofs.Told.{on_after, on_same}
-use Rattle.job_run.proofs.Ends.{programs_end}
+use Rattle.job_files.proofs.Ends.{programs_end}
 use Rattle.remux_core.proofs.Ends.{ends_behind_reads, ends_by_reads, tells}
 use Rattle.remux_core.proofs.probe_command.probe_file.Goals as goal
 

@@ -1,7 +1,7 @@
 use Rattle.std.proofs.Common.{Option, Some, refl, sym, subst, inl}
 use Rattle.shelf_io.specs.Files.{Files}
-use Rattle.job_run.specs.JobTable.{IsJobTable}
-use Rattle.job_run.specs.Stops.{StopsFor}
+use Rattle.job_files.specs.JobTable.{IsJobTable}
+use Rattle.job_files.specs.Stops.{StopsFor}
 use Rattle.remux_core.specs.Answer.{Decides}
 use Rattle.remux_core.specs.Command.{Run, files_of_run}
 use Rattle.remux_core.specs.Outside.{shelf_facts}

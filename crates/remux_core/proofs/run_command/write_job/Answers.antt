@@ -1,6 +1,6 @@
 use Rattle.std.proofs.Common.{Some, Err, refl, ap, inl, None}
 use Rattle.job_report.specs.declared.report.Report.TheVariants as reports
-use Rattle.job_run.specs.JobTable.{IsJobTable}
+use Rattle.job_files.specs.JobTable.{IsJobTable}
 use Rattle.remux_core.specs.declared.status.Status.TheVariants.{WriteFault}
 use Rattle.remux_core.specs.Answer.{Decides, AnswerHasCause}
 use Rattle.remux_core.specs.Command.{files_of_run}

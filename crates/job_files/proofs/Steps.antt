@@ -1,0 +1,168 @@
+-- From a job's file to its table, in several calls.
+use Rattle.std.proofs.Common.{◌≡◌, ℕ, ◌≤◌, List, [], ◌∷◌, ◌++◌, All, Option, Result, Ok, Err, IfOk, IfErr, sym, subst, inr, ◌∙◌, arith}
+use Rattle.std.proofs.lemmas.List.Elements.{All-cons, All-nil}
+use Rattle.bit_lists.specs.Fields.{AreBytes}
+use Rattle.shelf_io.specs.Causes.{ReadCauses}
+use Rattle.shelf_io.specs.Counts.{Rose, ShelfCounts}
+use Rattle.shelf_io.specs.Files.{Files, Lacks}
+use Rattle.shelf_io.proofs.Counted.{rose_later}
+use Rattle.job_report.specs.declared.job.Job.{Job}
+use Rattle.job_report.specs.declared.job.ProgramJob.{ProgramJob}
+use Rattle.job_report.specs.ValidJob.{IsValidJob}
+use Rattle.job_programs.specs.Told.{AreProgramsOn, CountReads, StopsAtProgram}
+use Rattle.job_programs.specs.Programs.{AreNextPrograms, ArePrograms}
+use Rattle.program_reader.specs.declared.program.Program.{Program}
+use Rattle.program_reader.specs.Programs.{IsProgramOfFile}
+use Rattle.version_source.specs.Sendable.{IsSendable}
+use Rattle.program_table.specs.Table.{IsTableOf}
+use Rattle.version_table.specs.declared.table.Table.{Table}
+use Rattle.version_table.specs.Table.{IsValidTable}
+use Rattle.job_files.specs.declared.job_stop.JobStop.{JobStop}
+use Rattle.job_files.specs.declared.job_stop.JobStop.TheVariants.{Text, Source, Unread, Missing, OutOfMemory}
+use Rattle.job_files.specs.declared.job_table.JobTable.{JobTable}
+use Rattle.job_files.specs.JobFile.{HoldsJob, HoldsRefused}
+use Rattle.job_files.specs.JobTable.{IsJobTable}
+use Rattle.job_files.specs.Stops.{IsNextFile, StopsFor}
+use Rattle.job_files.specs.Private.Steps.{IsMissing, IsProgramAt, IsTableOfJob, IsUnread, StopsJob}
+use Rattle.job_files.specs.Private.Texts.{IsTextStop}
+
+-- a program that a file holds can be sent
+abbrev pub HeldIsSendable : Type 0
+HeldIsSendable = (file : List ℕ) (number : ℕ) (dropped : List ℕ) (start : ℕ) (program : Program) → IsProgramOfFile file number dropped start program → IsSendable program
+
+-- so the programs of jobs can be
+pub can_be_sent : HeldIsSendable → (slot start : ℕ) (contents : List (List ℕ)) (programs : List Program) (jobs : List ProgramJob) (further : List (List ℕ)) (more : List Program)
+    → AreNextPrograms slot start contents programs jobs further more → All IsSendable more
+can_be_sent law slot start contents programs [] [] [] are = All-nil IsSendable
+can_be_sent law slot start contents programs [] [] (program ∷ more) are = absurd are
+can_be_sent law slot start contents programs [] (content ∷ further) more are = absurd are
+can_be_sent law slot start contents programs (job ∷ jobs) [] more are = absurd are
+can_be_sent law slot start contents programs (job ∷ jobs) (content ∷ further) [] are = absurd are
+can_be_sent law slot start contents programs (job ∷ jobs) (content ∷ further) (program ∷ more) (next, rest) =
+    All-cons IsSendable program more (law content job.program job.drop.items start program next.holds)
+    (can_be_sent law slot start (contents ++ content ∷ []) (programs ++ program ∷ []) jobs further more rest)
+
+-- each of them can be sent
+pub programs_can_go : HeldIsSendable → (job : Job) (programs sources : List Program) → sources ≡ programs → (contents : List (List ℕ)) × ArePrograms job contents programs
+    → All IsSendable sources
+programs_can_go law job programs sources same (contents, are) =
+    subst (λ (ps : List Program). All IsSendable ps) (sym same) (can_be_sent law job.slot job.start [] [] job.programs contents programs are)
+
+-- the table of programs that are read is valid
+abbrev pub TableIsValid : Type 0
+TableIsValid = (job : Job) (contents : List (List ℕ)) (programs : List Program) (table : Table) → IsValidJob job → ArePrograms job contents programs
+    → All (λ program. AreBytes program.video) programs → IsTableOf job programs table → IsValidTable table
+
+pub table_made_valid : {E : Type 0} → TableIsValid → (job : Job) (programs sources : List Program) → sources ≡ programs → IsValidJob job
+    → (contents : List (List ℕ)) × ArePrograms job contents programs → All (λ program. AreBytes program.video) sources
+    → (result : Result Table E) → IfOk result (IsTableOf job sources) → IfOk result IsValidTable
+table_made_valid law job programs sources same valid (contents, are) bytes (Err fault) is = tt
+table_made_valid law job programs sources same valid (contents, are) bytes (Ok table) is =
+    law job contents sources table valid (subst (λ (ps : List Program). ArePrograms job contents ps) (sym same) are) bytes is
+
+-- counts over two calls that read
+pub reads_twice : {old middle new : ShelfCounts} {failed missing : Type 0} → ReadCauses failed missing old middle → CountReads middle new → CountReads old new
+reads_twice first second = record {
+  faults_grow = let a = first.faults_grow in let b = second.faults_grow in omega arith;
+  same_write_faults = second.same_write_faults ∙ first.same_write_faults;
+  absences_grow = let a = first.absences_grow in let b = second.absences_grow in omega arith;
+}
+
+-- and over one
+pub reads_once : {old new : ShelfCounts} {failed missing : Type 0} → ReadCauses failed missing old new → CountReads old new
+reads_once first = record { faults_grow = first.faults_grow; same_write_faults = first.same_write_faults; absences_grow = first.absences_grow }
+
+-- a table that was made of a job that was read
+pub is_job_table : (told middle : Option Files) (name : List ℕ) (named : List (List ℕ)) (job : Job) (result : Result JobTable JobStop) → middle ≡ told
+    → HoldsJob told name named job → IfOk result (IsTableOfJob middle job) → IfOk result (IsJobTable told name named)
+is_job_table told middle name named job (Err stop) same holds made = tt
+is_job_table told middle name named job (Ok made) same holds is = record {
+  holds = subst (λ (j : Job). HoldsJob told name named j) (sym is.job_is) holds;
+  programs = subst (λ (t : Option Files). AreProgramsOn t made.job made.programs) same is.programs;
+  table = is.table;
+}
+
+-- what stopped a job that was read
+stop_later : (told : Option Files) (name : List ℕ) (named : List (List ℕ)) (job : Job) (old middle new : ShelfCounts) (since : ℕ) (stop : JobStop)
+    → HoldsJob told name named job → old.faults ≤ middle.faults → middle.faults ≤ new.faults → old.absences ≤ middle.absences → middle.absences ≤ new.absences
+    → StopsJob told job middle new since stop → StopsFor told name named old new since stop
+stop_later told name named job old middle new since (Text refusal) holds f1 f2 a1 a2 stops = absurd stops
+stop_later told name named job old middle new since (Source fault) holds f1 f2 a1 a2 stops = record { job = job; holds = holds; refused = stops }
+stop_later told name named job old middle new since (Unread file) holds f1 f2 a1 a2 (next, rose, last) = (
+  inr (record { job = job; holds = holds; number = next.number; program = next.program; stops = next.stops; file_is = next.file_is }),
+  rose_later _ _ _ f1 f2 rose,
+  last,
+)
+stop_later told name named job old middle new since (Missing file) holds f1 f2 a1 a2 (next, lacks, rose, last) = (
+  inr (record { job = job; holds = holds; number = next.number; program = next.program; stops = next.stops; file_is = next.file_is }),
+  lacks,
+  rose_later _ _ _ a1 a2 rose,
+  last,
+)
+stop_later told name named job old middle new since OutOfMemory holds f1 f2 a1 a2 stops = tt
+
+pub stops_later : (told between : Option Files) (name : List ℕ) (named : List (List ℕ)) (job : Job) (old middle new : ShelfCounts) (since : ℕ) (result : Result JobTable JobStop)
+    → between ≡ told → HoldsJob told name named job → CountReads old middle → CountReads middle new → IfErr result (StopsJob between job middle new since)
+    → IfErr result (StopsFor told name named old new since)
+stops_later told between name named job old middle new since (Ok made) same holds first second stops = tt
+stops_later told between name named job old middle new since (Err stop) same holds first second stops =
+    stop_later told name named job old middle new since stop holds first.faults_grow second.faults_grow first.absences_grow second.absences_grow
+    (subst (λ (t : Option Files). StopsJob t job middle new since stop) same stops)
+
+-- a text that gave no job
+pub text_stops : (told : Option Files) (name front : List ℕ) (named : List (List ℕ)) (old new : ShelfCounts) (since : ℕ) (stop : JobStop)
+    → ((refusal : _) → IsTextStop front named (Text refusal) → HoldsRefused told name named refusal) → IsTextStop front named stop
+    → StopsFor told name named old new since stop
+text_stops told name front named old new since (Text refusal) holds stops = holds refusal stops
+text_stops told name front named old new since (Source fault) holds stops = absurd stops
+text_stops told name front named old new since (Unread file) holds stops = absurd stops
+text_stops told name front named old new since (Missing file) holds stops = absurd stops
+text_stops told name front named old new since OutOfMemory holds stops = tt
+
+-- a file that couldn't be read
+pub unread_stops : (told : Option Files) (name : List ℕ) (named : List (List ℕ)) (file : List ℕ) (old new : ShelfCounts) (since : ℕ) (stop : JobStop)
+    → IsNextFile told name named file → Rose old.faults new.faults → since ≡ 0 → IsUnread file stop → StopsFor told name named old new since stop
+unread_stops told name named file old new since (Unread other) next rose last is = (subst (λ (f : List ℕ). IsNextFile told name named f) (sym is) next, rose, last)
+unread_stops told name named file old new since (Text refusal) next rose last is = absurd is
+unread_stops told name named file old new since (Source fault) next rose last is = absurd is
+unread_stops told name named file old new since (Missing other) next rose last is = absurd is
+unread_stops told name named file old new since OutOfMemory next rose last is = tt
+
+-- a file that isn't there
+pub missing_stops : (told : Option Files) (name : List ℕ) (named : List (List ℕ)) (file : List ℕ) (old new : ShelfCounts) (since : ℕ) (stop : JobStop)
+    → IsNextFile told name named file → Lacks told file → Rose old.absences new.absences → since ≡ 0 → IsMissing file stop → StopsFor told name named old new since stop
+missing_stops told name named file old new since (Missing other) next lacks rose last is =
+    (subst (λ (f : List ℕ). IsNextFile told name named f) (sym is) next, subst (λ (f : List ℕ). Lacks told f) (sym is) lacks, rose, last)
+missing_stops told name named file old new since (Text refusal) next lacks rose last is = absurd is
+missing_stops told name named file old new since (Source fault) next lacks rose last is = absurd is
+missing_stops told name named file old new since (Unread other) next lacks rose last is = absurd is
+missing_stops told name named file old new since OutOfMemory next lacks rose last is = tt
+
+-- a program at which reading stopped
+pub program_at : (told : Option Files) (job : Job) (number : ℕ) (stopped : ProgramJob) → StopsAtProgram told job number stopped → IsProgramAt job number stopped
+program_at told job number stopped stops = record { before = stops.before; after = stops.after; split = stops.split; number_is = stops.number_is }
+
+-- its file couldn't be read
+pub unread_program : (told : Option Files) (job : Job) (number : ℕ) (stopped : ProgramJob) (file : List ℕ) (old new : ShelfCounts) (since : ℕ) (stop : JobStop)
+    → StopsAtProgram told job number stopped → Rose old.faults new.faults → since ≡ 0 → file ≡ stopped.file → IsUnread file stop → StopsJob told job old new since stop
+unread_program told job number stopped file old new since (Unread other) stops rose last is unread =
+    (record { number = number; program = stopped; stops = stops; file_is = unread ∙ is }, rose, last)
+unread_program told job number stopped file old new since (Text refusal) stops rose last is unread = absurd unread
+unread_program told job number stopped file old new since (Source fault) stops rose last is unread = absurd unread
+unread_program told job number stopped file old new since (Missing other) stops rose last is unread = absurd unread
+unread_program told job number stopped file old new since OutOfMemory stops rose last is unread = tt
+
+-- or isn't there
+pub missing_program : (told : Option Files) (job : Job) (number : ℕ) (stopped : ProgramJob) (file : List ℕ) (old new : ShelfCounts) (since : ℕ) (stop : JobStop)
+    → StopsAtProgram told job number stopped → Lacks told stopped.file → Rose old.absences new.absences → since ≡ 0 → file ≡ stopped.file → IsMissing file stop
+    → StopsJob told job old new since stop
+missing_program told job number stopped file old new since (Missing other) stops lacks rose last is missing = (
+  record { number = number; program = stopped; stops = stops; file_is = missing ∙ is },
+  subst (λ (f : List ℕ). Lacks told f) (sym (missing ∙ is)) lacks,
+  rose,
+  last,
+)
+missing_program told job number stopped file old new since (Text refusal) stops lacks rose last is missing = absurd missing
+missing_program told job number stopped file old new since (Source fault) stops lacks rose last is missing = absurd missing
+missing_program told job number stopped file old new since (Unread other) stops lacks rose last is missing = absurd missing
+missing_program told job number stopped file old new since OutOfMemory stops lacks rose last is missing = tt

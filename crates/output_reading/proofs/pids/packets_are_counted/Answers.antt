@@ -1,5 +1,0 @@
-use Rattle.output_reading.proofs.Rows.{counted}
-use Rattle.output_reading.proofs.pids.packets_are_counted.Goals as goal
-
-pub returns : goal.returns
-returns c layout slot pieces rows pid are = counted layout slot pieces rows are.each pid

@@ -1,5 +1,0 @@
-use Rattle.output_reading.proofs.OwnPids.{streams-own}
-use Rattle.output_reading.proofs.pids.stream_pids_are_their_own.Goals as goal
-
-pub returns : goal.returns
-returns c = streams-own

@@ -1,8 +1,0 @@
-use Rattle.output_reading.proofs.SentItems.{audio-sends, video-sends}
-use Rattle.output_reading.proofs.streams.queues_send_items.Goals as goal
-
-pub returns-clause-video : goal.returns-clause-video
-returns-clause-video c = video-sends
-
-pub returns-clause-audio : goal.returns-clause-audio
-returns-clause-audio c = audio-sends

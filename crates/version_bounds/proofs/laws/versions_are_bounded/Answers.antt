@@ -1,8 +1,0 @@
-use Rattle.std.proofs.Common.{arith}
-use Rattle.version_bounds.proofs.Bounded.{versions-bounded}
-use Rattle.version_bounds.proofs.laws.versions_are_bounded.Goals as goal
-
-pub returns : goal.returns
-returns c = λ before unit coarser versions may are short is k d within.
-    let bounded = versions-bounded before unit coarser versions may are short is k d within in
-    (omega (arith, bounded.0), omega (arith, bounded.1), omega (arith, bounded.2))

@@ -1,8 +1,0 @@
-use Rattle.version_units.proofs.ProgramVersions.{program-versions}
-use Rattle.version_units.proofs.units.versions_are_whole_units.Goals as goal
-
-pub returns : goal.returns
-returns c = record {
-  whole = λ content number dropped start program coarser versions are of is. (program-versions content number dropped start program coarser versions are of is).0;
-  led = λ content number dropped start program coarser versions are of is. (program-versions content number dropped start program coarser versions are of is).1;
-}
