@@ -1,5 +1,5 @@
 -- What `probe` leaves, `plan` reads.
-use Rattle.std.proofs.Common.{◌≡◌, ℕ, List, ◌∙◌}
+use Rattle.std.proofs.Common.{◌≡◌, ℕ, List, Some, ◌∙◌}
 use Rattle.shelf_io.specs.Files.{Files}
 use Rattle.program_reader.specs.declared.program.Program.{Program}
 use Rattle.version_table.specs.declared.table.Table.{Table}

@@ -17,18 +17,18 @@ use Rattle.picture_grammar.specs.Written.{IsWritten}
 use Rattle.picture_laws.proofs.WrittenPicture.{picture-read, slices-of_picture}
 use Rattle.picture_heads.specs.declared.TheConstants.{NO_DELAY}
 use Rattle.picture_heads.specs.Heads.{IsHeadWithoutDelay}
-use Rattle.picture_heads.proofs.ReadHeads.{without-read, without_delay}
+use Rattle.picture_heads.proofs.ReadHeads.{without-read, without_delay as coding_without_delay}
 use Rattle.requantiser.specs.Version.{IsVersion}
 use Rattle.requantiser.proofs.LawfulVersions.{version-behind}
 
 -- ---- vbv_delay plays no part in slices
 
-same-slice : (seq : SeqState) (coding : PicCoding) (before : List Slice) → next_slice seq (without_delay coding) before ≡ next_slice seq coding before
+same-slice : (seq : SeqState) (coding : PicCoding) (before : List Slice) → next_slice seq (coding_without_delay coding) before ≡ next_slice seq coding before
 unfolding slice macroblock
 same-slice seq coding before = refl
 
 same-slices : (seq : SeqState) (coding : PicCoding) (before values : List Slice) (end : Bool) (bits rest : List ℕ) → SpellsList (next_slice seq coding) before values end bits rest
-    → SpellsList (next_slice seq (without_delay coding)) before values end bits rest
+    → SpellsList (next_slice seq (coding_without_delay coding)) before values end bits rest
 same-slices seq coding before [] end bits rest t = subst (λ (g : Grammar (Next Slice Bool)). g.Spells (last end) bits rest) (sym (same-slice seq coding before)) t
 same-slices seq coding before (v ∷ vs) end bits rest (mid, t, u) =
     (mid, subst (λ (g : Grammar (Next Slice Bool)). g.Spells (more v) bits mid) (sym (same-slice seq coding before)) t, same-slices seq coding (before ++ v ∷ []) vs end mid rest u)
@@ -37,7 +37,7 @@ same-slices seq coding before (v ∷ vs) end bits rest (mid, t, u) =
 
 -- the same picture without a vbv_delay
 abbrev pub without_delay : Picture → (head : List ℕ) → Picture
-without_delay picture head = record picture { coding = without_delay picture.coding; head = head }
+without_delay picture head = record picture { coding = coding_without_delay picture.coding; head = head }
 
 pub source-spelled : (before : Option SeqState) (picture : Picture) (unit head behind : List ℕ) → SpellsPicture before picture unit → unit ≡ picture.head ++ behind
     → IsHeadWithoutDelay picture.head head → SpellsPicture before (without_delay picture head) (head ++ behind)
@@ -53,9 +53,9 @@ source-spelled before picture unit head behind spelled source w =
     (subst (λ (x : List ℕ). (head_of before).Spells headers.0 x m) split hs, are_head, refl) in
     let read = without-read before headers.0.0 headers.0.1 headers.1 head m there whole (subst (λ (x : List ℕ). IsHeadWithoutDelay x head) same_head w) in
     let bits : bit_list head ++ m ≡ bit_list (head ++ behind) = ap (λ (x : List ℕ). bit_list head ++ x) rest ∙ sym (bit_list-append head behind) in (
-      ((headers.0.0, without_delay headers.0.1), head),
+      ((headers.0.0, coding_without_delay headers.0.1), head),
       m,
-      subst (λ (x : List ℕ). (with_spelling (head_of before)).Spells ((headers.0.0, without_delay headers.0.1), head) x m) bits read,
+      subst (λ (x : List ℕ). (with_spelling (head_of before)).Spells ((headers.0.0, coding_without_delay headers.0.1), head) x m) bits read,
       (slices, m', same-slices headers.0.0 headers.0.1 [] slices.0 slices.1 m m' t, (ap (λ (p : Picture). without_delay p head) e, f)),
     )
 
