@@ -223,7 +223,7 @@ both_one : (one s t : Status) → one ≡ s → one ≡ t → IsSameStatus one o
 both_one one s t first second same = subst (λ (x : Status). IsSameStatus x t) first (subst (λ (x : Status). IsSameStatus one x) second same)
 
 -- words of no command call for Usage alone
-pub none_calls_for_one : (files : Files) (s : Status) → CallsFor None files s → statuses.Usage ≡ s
+pub none_calls_for_one : (files : Files) (s : Status) → CallsFor None (Some files) s → statuses.Usage ≡ s
 none_calls_for_one files statuses.Usage a = refl
 none_calls_for_one files statuses.Ok a = absurd a
 none_calls_for_one files (statuses.JobRefused refusal) a = absurd a

@@ -52,8 +52,8 @@ source-alike laws before picture unit version whole is = record {
   spelled = with_head picture is.head;
   whole = record {
     spelled = subst (SpellsPicture before (with_head picture is.head)) (sym is.bytes)
-        (spelled-without_delay laws.head before picture is.head is.behind is.without (subst (SpellsPicture before picture) is.source whole.spelled));
-    covered = covered-without_delay picture is.head whole.covered;
+        (spelled-without laws.head before picture is.head is.behind is.without (subst (SpellsPicture before picture) is.source whole.spelled));
+    covered = covered-without picture is.head whole.covered;
   };
   seq_is = refl;
   coding_is = refl;

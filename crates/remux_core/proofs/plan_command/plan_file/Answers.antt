@@ -1,4 +1,4 @@
-use Rattle.std.proofs.Common.{◌+◌, ◌∙◌, refl, ap, Err, None, Option, sym, subst}
+use Rattle.std.proofs.Common.{◌+◌, ◌∙◌, refl, ap, Err, None, Option, Some, sym, subst}
 use Rattle.job_report.specs.declared.report.Report.TheVariants as reports
 use Rattle.shelf_io.specs.Files.{Files}
 use Rattle.version_table.specs.declared.limits.TheConstants.{TABLE_TEXT_MOST}

@@ -3,7 +3,7 @@ use Rattle.remux_core.specs.PlanCommand.{HasPlan, HoldsTable}
 use Rattle.remux_core.specs.Private.Ended.{answer_of}
 use Rattle.remux_core.specs.Private.Parsed.{plan_of}
 use Rattle.remux_core.proofs.Told.{on_then}
-use Rattle.std.proofs.Common.{None}
+use Rattle.std.proofs.Common.{None, Some}
 use Rattle.remux_core.specs.Outside.{shelf_facts}
 use Rattle.remux_core.proofs.Ends.{ends_uncalled}
 use Rattle.remux_core.proofs.plan_command.plan_table.Goals as goal

@@ -1,4 +1,4 @@
-use Rattle.std.proofs.Common.{refl}
+use Rattle.std.proofs.Common.{Some, refl}
 use Rattle.version_table.specs.Text.{Holds}
 use Rattle.remux_core.specs.Answer.{Decides}
 use Rattle.remux_core.specs.Outside.{shelf_facts}
