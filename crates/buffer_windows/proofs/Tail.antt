@@ -48,7 +48,7 @@ use Rattle.std.proofs.lemmas.Option.{same_Some, slice_get_within, get_or_from_sl
 use Rattle.stream_constants.specs.declared.clock.TheConstants.{SUBTICKS_PER_TICK}
 use Rattle.stream_constants.specs.declared.decoder.TheConstants.{MB_SUBTICKS}
 use Rattle.version_table.specs.declared.table.Table.{Table}
-use Rattle.slot_rule.specs.Constants.{margin_subticks}
+use Rattle.slot_rule.specs.declared.constants.TheConstants.{MARGIN_SUBTICKS}
 use Rattle.slot_rule.specs.declared.queue_kind.QueueKind.TheVariants.{Video}
 use Rattle.slot_rule.specs.declared.queued_packet.QueuedPacket.{QueuedPacket}
 use Rattle.slot_rule.specs.declared.row.Row.{Row}
@@ -131,7 +131,7 @@ work_after slot stream due before rows =
 
 -- ---- a packet that isn't late
 done_in_time : (bytes work slot before here due last tail : ℕ) → bytes ≤ work + slot_subticks slot * here
-    → (SUBTICKS_PER_TICK * ((before + here) * slot) + margin_subticks) + work ≤ SUBTICKS_PER_TICK * due → due ≤ last → tail ≤ before
+    → (SUBTICKS_PER_TICK * ((before + here) * slot) + MARGIN_SUBTICKS) + work ≤ SUBTICKS_PER_TICK * due → due ≤ last → tail ≤ before
     → bytes ≤ SUBTICKS_PER_TICK * (last - MARGIN_TICKS - tail * slot)
 done_in_time bytes work slot before here due last tail most early upto behind =
     let parts : (before + here) * slot ≡ before * slot + here * slot = add-mul before here slot in
@@ -140,7 +140,7 @@ done_in_time bytes work slot before here due last tail most early upto behind =
     omega arith
 
 stops_later : (work slot before here due last tail : ℕ) → 0 < slot → 0 < here
-    → (SUBTICKS_PER_TICK * ((before + here) * slot) + margin_subticks) + work ≤ SUBTICKS_PER_TICK * due → due ≤ last → tail ≤ before → tail < stop slot last
+    → (SUBTICKS_PER_TICK * ((before + here) * slot) + MARGIN_SUBTICKS) + work ≤ SUBTICKS_PER_TICK * due → due ≤ last → tail ≤ before → tail < stop slot last
 stops_later work slot before here due last tail some one early upto behind =
     let fewer : (tail + 1) * slot ≤ (before + here) * slot = mul-le-mul_right slot (omega arith) in
     let fits : (tail + 1) * slot ≤ last - MARGIN_TICKS = omega arith in
@@ -166,7 +166,7 @@ in_time slot stream due last tail time before rows row some behind upto early =
     let size : length ((before ++ rows) ++ row ∷ []) ≡ length before + length (rows ++ row ∷ []) = ap length regroup ∙ length-append before (rows ++ row ∷ []) in
     let slots : length ((before ++ rows) ++ row ∷ []) * slot ≡ (length before + length (rows ++ row ∷ [])) * slot = ap (λ n. n * slot) size in
     let work : mb_work slot stream ((before ++ rows) ++ row ∷ []) ≡ mb_work slot stream (before ++ (rows ++ row ∷ [])) = ap (mb_work slot stream) regroup in
-    let early' : (SUBTICKS_PER_TICK * ((length before + length (rows ++ row ∷ [])) * slot) + margin_subticks) + mb_work slot stream (before ++ (rows ++ row ∷ [])) ≤ SUBTICKS_PER_TICK * time =
+    let early' : (SUBTICKS_PER_TICK * ((length before + length (rows ++ row ∷ [])) * slot) + MARGIN_SUBTICKS) + mb_work slot stream (before ++ (rows ++ row ∷ [])) ≤ SUBTICKS_PER_TICK * time =
     omega (arith, early, slots, work) in
     let one : 0 < length (rows ++ row ∷ []) = omega (arith, length_push rows row) in
     inr (
