@@ -6,6 +6,7 @@ use Rattle.std.proofs.lemmas.Bool.{cases_eq}
 use Rattle.std.proofs.lemmas.Option.{get_or_from_slice_get, same_Some, slice_get_within}
 use Rattle.payload_lists.specs.Payload.{Payload}
 use Rattle.ts_packets.specs.Packet.{PacketRecord}
+use Rattle.ts_packets.specs.Carried.{payload_of}
 use Rattle.tstd_model.specs.declared.decoder_input.Arrival.{Arrival}
 use Rattle.slot_rule.specs.declared.sent.Sent.{Sent}
 use Rattle.slot_rule.specs.declared.sent.Sent.TheVariants.{Null, Pat, Pmt, Pcr, Video as VideoPiece, Audio as AudioPiece}
@@ -22,7 +23,7 @@ use Rattle.mux_writer.specs.declared.packets.TheConstants.{NULL_PID, PAT_PID}
 use Rattle.mux_writer.specs.Layout.{map_pid, stream_pid, video_pid}
 use Rattle.mux_writer.specs.Output.{output_packet}
 use Rattle.mux_writer.specs.Pieces.{Pieces}
-use Rattle.clean_laws.specs.Arrivals.{arrival_of, arrivals_of, header_bytes, payload_of}
+use Rattle.clean_laws.specs.Arrivals.{arrival_of, arrivals_of, header_bytes}
 use Rattle.clean_laws.proofs.Slots.{IsQueuePacket, IsReserved, IsRowPacket}
 
 -- ---- packets beside rows, one after another

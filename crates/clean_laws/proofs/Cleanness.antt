@@ -6,6 +6,7 @@ use Rattle.std.proofs.lemmas.List.{length-map}
 use Rattle.std.proofs.lemmas.Option.{get_or_from_slice_get, slice_get-get_or, slice_get_within}
 use Rattle.payload_lists.specs.Payload.{Payload}
 use Rattle.ts_packets.specs.Packet.{PacketRecord}
+use Rattle.ts_packets.specs.Carried.{payloads_on}
 use Rattle.tstd_model.specs.declared.decoder_input.Arrival.{Arrival}
 use Rattle.tstd_model.specs.declared.decoder_input.BufferKind.TheVariants.{System}
 use Rattle.tstd_model.specs.declared.decoder_input.Removal.{Removal}
@@ -41,7 +42,7 @@ use Rattle.version_source.specs.Versions.{AreAllVersions, ratios_of}
 use Rattle.program_table.specs.Table.{audio_row, program_rows, unit_rows}
 use Rattle.job_stream.specs.Private.Outgoing.{CanGoOut}
 use Rattle.job_stream.specs.Stream.{layout_of}
-use Rattle.clean_laws.specs.Arrivals.{arrivals_on, header_bytes, payloads_on, section_arrivals}
+use Rattle.clean_laws.specs.Arrivals.{arrivals_on, header_bytes, section_arrivals}
 use Rattle.clean_laws.specs.Clean.{IsCleanOn, IsPayloadOf}
 use Rattle.clean_laws.proofs.Slots.{IsRowPacket, rows-and-packets}
 use Rattle.clean_laws.proofs.Brought.{HasItsPiece, IsFirstPiece, IsPidOf, kind-there, stream-brings}

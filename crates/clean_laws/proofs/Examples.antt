@@ -2,7 +2,8 @@
 use Rattle.std.proofs.Common.{◌≡◌, true, false, List, [], ◌∷◌, None, refl}
 use Rattle.bit_lists.specs.Fields.{bit, bits}
 use Rattle.ts_packets.specs.Packet.{PacketRecord}
-use Rattle.clean_laws.specs.Arrivals.{arrivals_on, header_bytes, payload_of, payloads_on, section_arrivals}
+use Rattle.ts_packets.specs.Carried.{payload_of, payloads_on}
+use Rattle.clean_laws.specs.Arrivals.{arrivals_on, header_bytes, section_arrivals}
 
 -- a PES packet of a video with a PTS begins here: nine bytes, the ninth of which says that five more belong to the header, and two bytes of data
 abbrev begins : PacketRecord

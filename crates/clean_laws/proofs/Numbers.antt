@@ -9,6 +9,7 @@ use Rattle.std.proofs.lemmas.List.Elements.{All-head, All-tail}
 use Rattle.std.proofs.lemmas.List.Sums.{sum_by-cons}
 use Rattle.std.proofs.lemmas.Option.{none-some, same_Some, slice_get-map}
 use Rattle.psi_tables.specs.declared.stream.Stream.{Stream}
+use Rattle.psi_tables.specs.Pmt.{pids_of}
 use Rattle.version_table.specs.declared.table.AudioPacket.{AudioPacket}
 use Rattle.version_table.specs.declared.table.ProgramRow.{ProgramRow}
 use Rattle.slot_rule.specs.Queues.{audio_of, queues_from, video_queue}
@@ -18,7 +19,7 @@ use Rattle.job_report.specs.declared.job.ProgramJob.{ProgramJob}
 use Rattle.program_reader.specs.declared.program.Program.{Program}
 use Rattle.version_maker.specs.declared.version.UnitVersion.{UnitVersion}
 use Rattle.program_table.specs.Table.{audio_row, program_row, program_rows}
-use Rattle.mux_writer.specs.Layout.{map_pids, video_pid, with_output_pids, with_pids_from}
+use Rattle.mux_writer.specs.Layout.{video_pid, with_output_pids, with_pids_from}
 use Rattle.job_stream.specs.Private.Outgoing.{CanGoOut}
 use Rattle.job_stream.specs.Stream.{output_maps}
 use Rattle.job_stream.proofs.LayoutLemmas.{pids-count}
@@ -124,7 +125,7 @@ pid-at pid (s ∷ ss) more (suc k) within = pid-at (pid + 1) ss more k (omega (a
 -- the PID of a stream of a program, the first of the programs having this number
 pub stream-pid-at : (first : ℕ) (jobs : List ProgramJob) (programs : List Program) (versions : List (List (List UnitVersion))) (program audio : ℕ) (row : ProgramRow)
     → All CanGoOut programs → slice_get (program_rows jobs programs versions) program ≡ Some row → audio ≤ length row.audios
-    → slice_index (flat_map map_pids (output_maps first jobs programs)) (video_number (program_rows jobs programs versions) program + audio) ≡ video_pid (first + program) + audio
+    → slice_index (flat_map pids_of (output_maps first jobs programs)) (video_number (program_rows jobs programs versions) program + audio) ≡ video_pid (first + program) + audio
 stream-pid-at first [] programs versions program audio row out there few = absurd (none-some row there)
 stream-pid-at first (j ∷ js) [] versions program audio row out there few = absurd (none-some row there)
 stream-pid-at first (j ∷ js) (p ∷ ps) [] program audio row out there few = absurd (none-some row there)
@@ -133,8 +134,8 @@ stream-pid-at first (j ∷ js) (p ∷ ps) (v ∷ vs) zero audio row out there fe
     let same : program_row j.weight p v ≡ row = same_Some (program_row j.weight p v) row there in
     let audios : length row.audios ≡ length p.audios = sym (ap (λ (r : ProgramRow). length r.audios) same) ∙ length-map p.audios audio_row in
     let within : audio < length p.map.streams.items = omega (arith, few, audios, goes.streams) in
-    ap (slice_index (map_pids (with_output_pids first j.number p.map) ++ flat_map map_pids (output_maps (first + 1) js ps))) (begins audio)
-    ∙ pid-at (video_pid first) p.map.streams.items (flat_map map_pids (output_maps (first + 1) js ps)) audio within
+    ap (slice_index (pids_of (with_output_pids first j.number p.map) ++ flat_map pids_of (output_maps (first + 1) js ps))) (begins audio)
+    ∙ pid-at (video_pid first) p.map.streams.items (flat_map pids_of (output_maps (first + 1) js ps)) audio within
     ∙ ap (λ (n : ℕ). video_pid n + audio) (let e : first ≡ first + 0 = omega arith in e)
   where
     begins : (n : ℕ) → 0 + n ≡ n
@@ -142,13 +143,13 @@ stream-pid-at first (j ∷ js) (p ∷ ps) (v ∷ vs) zero audio row out there fe
 stream-pid-at first (j ∷ js) (p ∷ ps) (v ∷ vs) (suc program) audio row out there few =
     let goes : CanGoOut p = All-head CanGoOut p ps out in
     let rows : List ProgramRow = program_rows js ps vs in
-    let own : List ℕ = map_pids (with_output_pids first j.number p.map) in
+    let own : List ℕ = pids_of (with_output_pids first j.number p.map) in
     let size : length own ≡ length p.map.streams.items = pids-count (video_pid first) p.map.streams.items in
     let audios : length (program_row j.weight p v).audios ≡ length p.audios = length-map p.audios audio_row in
     let number = number-behind (program_row j.weight p v) rows program in
     let place : video_number (program_row j.weight p v ∷ rows) (suc program) + audio ≡ length own + (video_number rows program + audio) =
     omega (arith, number, size, audios, goes.streams) in
-    ap (slice_index (own ++ flat_map map_pids (output_maps (first + 1) js ps))) place
-    ∙ get_or-append-add own (flat_map map_pids (output_maps (first + 1) js ps)) (video_number rows program + audio) 0
+    ap (slice_index (own ++ flat_map pids_of (output_maps (first + 1) js ps))) place
+    ∙ get_or-append-add own (flat_map pids_of (output_maps (first + 1) js ps)) (video_number rows program + audio) 0
     ∙ stream-pid-at (first + 1) js ps vs program audio row (All-tail CanGoOut p ps out) there few
     ∙ ap (λ (n : ℕ). video_pid n + audio) (let e : (first + 1) + program ≡ first + suc program = omega arith in e)

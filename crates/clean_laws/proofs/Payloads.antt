@@ -6,6 +6,7 @@ use Rattle.std.proofs.lemmas.Bool.{cases_eq}
 use Rattle.std.proofs.lemmas.Option.{same_Some, slice_get_within}
 use Rattle.payload_lists.specs.Payload.{Payload}
 use Rattle.ts_packets.specs.Packet.{PacketRecord}
+use Rattle.ts_packets.specs.Carried.{has_payload_on, payload_of, payloads_on}
 use Rattle.slot_rule.specs.declared.sent.Sent.{Sent}
 use Rattle.slot_rule.specs.declared.sent.Sent.TheVariants.{Null, Pat, Pmt, Pcr, Video as VideoPiece, Audio as AudioPiece}
 use Rattle.slot_rule.specs.declared.queue_kind.QueueKind.{QueueKind}
@@ -20,7 +21,6 @@ use Rattle.mux_writer.specs.declared.packets.TheConstants.{NULL_PID, PAT_PID}
 use Rattle.mux_writer.specs.Layout.{map_pid, stream_pid, video_pid}
 use Rattle.mux_writer.specs.Output.{output_packet}
 use Rattle.mux_writer.specs.Pieces.{Pieces}
-use Rattle.clean_laws.specs.Arrivals.{is_payload_on, payload_of, payloads_on}
 use Rattle.clean_laws.proofs.Slots.{IsQueuePacket, IsReserved, IsRowPacket}
 use Rattle.clean_laws.proofs.Brought.{IsFirstPiece, IsPidOf, pid-of}
 
@@ -108,7 +108,7 @@ module _ (queues : List Queue) (layout : Layout) (slot programs : ℕ) (pieces :
   of-reserved (AudioPiece s item) named = absurd named
 
   reserved-agrees : (kind : QueueKind) (sent : Sent) (count at : ℕ) → IsPidOf queues layout programs stream pid kind → IsReserved programs sent
-      → is_payload_on pid (output_packet layout slot pieces count at sent) ≡ false
+      → has_payload_on pid (output_packet layout slot pieces count at sent) ≡ false
   reserved-agrees kind Pat count at is named = and-false (eqb PAT_PID pid) _ (ne_eqb PAT_PID pid is.no_pat)
   reserved-agrees kind (Pmt p) count at is named = and-false (eqb (map_pid p) pid) _ (ne_eqb (map_pid p) pid (is.no_map p named))
   reserved-agrees kind (Pcr p) count at is named = no-payload (eqb (video_pid p) pid)
@@ -124,12 +124,12 @@ module _ (queues : List Queue) (layout : Layout) (slot programs : ℕ) (pieces :
 
   row-agrees : (kind : QueueKind) (packets : List QueuedPacket) (row : Row) (packet : PacketRecord) → IsPidOf queues layout programs stream pid kind
       → slice_get queues stream ≡ Some (record { kind = kind; packets = packets }) → HavePayload packets
-      → IsRowPacket programs queues layout slot pieces row packet → is_payload_on pid packet ≡ is_row_of stream queues row
+      → IsRowPacket programs queues layout slot pieces row packet → has_payload_on pid packet ≡ is_row_of stream queues row
   row-agrees kind packets (Reserved sent) packet is this have of =
-      ap (is_payload_on pid) of.stands.packet_is ∙ reserved-agrees kind sent of.stands.count of.stands.slot_no is of.named ∙ sym (of-reserved sent of.named)
-  row-agrees kind packets Empty packet is this have of = ap (is_payload_on pid) of.stands.packet_is ∙ and-false (eqb NULL_PID pid) _ (ne_eqb NULL_PID pid is.no_null)
+      ap (has_payload_on pid) of.stands.packet_is ∙ reserved-agrees kind sent of.stands.count of.stands.slot_no is of.named ∙ sym (of-reserved sent of.named)
+  row-agrees kind packets Empty packet is this have of = ap (has_payload_on pid) of.stands.packet_is ∙ and-false (eqb NULL_PID pid) _ (ne_eqb NULL_PID pid is.no_null)
   row-agrees kind packets (Carries other queued) packet is this have of =
-      ap (is_payload_on pid) of.stands.packet_is ∙ by_stream (cases_eq other stream) ∙ sym (of-piece own stream other queued)
+      ap (has_payload_on pid) of.stands.packet_is ∙ by_stream (cases_eq other stream) ∙ sym (of-piece own stream other queued)
     where
       own : QueueKind
       own = kind_at queues other
@@ -141,7 +141,7 @@ module _ (queues : List Queue) (layout : Layout) (slot programs : ℕ) (pieces :
       pid-is = pid-of layout slot pieces of.stands.count of.stands.slot_no other (kind_at queues other) queued
 
       by_stream : (other ≡ stream) ⊎ (other ≡ stream → ⊥)
-          → is_payload_on pid (output_packet layout slot pieces of.stands.count of.stands.slot_no (piece_sent (kind_at queues other) other queued)) ≡ eqb other stream
+          → has_payload_on pid (output_packet layout slot pieces of.stands.count of.stands.slot_no (piece_sent (kind_at queues other) other queued)) ≡ eqb other stream
       by_stream (inr apart) =
           let named : IsQueuePacket queues other queued = of.named in
           let within : other < length queues = slice_get_within queues other _ named.queue in
@@ -185,10 +185,10 @@ module _ (queues : List Queue) (layout : Layout) (slot programs : ℕ) (pieces :
       → AllZip (IsRowPacket programs queues layout slot pieces) rows stream_packets
       → payloads_on pid stream_packets ≡ map (λ queued. pieces stream queued.item queued.piece) packets
   payloads-are kind packets rows stream_packets is this have first in_order zip =
-      let beside : AllZip (λ row packet. payload_of packet ≡ piece_of_sent pieces (sent_of queues row)) (filter (is_row_of stream queues) rows) (filter (is_payload_on pid) stream_packets) =
+      let beside : AllZip (λ row packet. payload_of packet ≡ piece_of_sent pieces (sent_of queues row)) (filter (is_row_of stream queues) rows) (filter (has_payload_on pid) stream_packets) =
       filter-zip (IsRowPacket programs queues layout slot pieces) (λ row packet. payload_of packet ≡ piece_of_sent pieces (sent_of queues row))
-      (is_row_of stream queues) (is_payload_on pid) (λ row packet of. row-agrees kind packets row packet is this have of) row-carries rows stream_packets zip in
-      zip-values (λ row. piece_of_sent pieces (sent_of queues row)) payload_of (filter (is_row_of stream queues) rows) (filter (is_payload_on pid) stream_packets) beside
+      (is_row_of stream queues) (has_payload_on pid) (λ row packet of. row-agrees kind packets row packet is this have of) row-carries rows stream_packets zip in
+      zip-values (λ row. piece_of_sent pieces (sent_of queues row)) payload_of (filter (is_row_of stream queues) rows) (filter (has_payload_on pid) stream_packets) beside
       ∙ sym (map-twice (sent_of queues) (piece_of_sent pieces) (filter (is_row_of stream queues) rows))
       ∙ ap (map (piece_of_sent pieces)) (sym (filter-map (sent_of queues) (is_sent_of stream) rows) ∙ in_order)
       ∙ map-twice (piece_sent kind stream) (piece_of_sent pieces) packets

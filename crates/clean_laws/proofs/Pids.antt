@@ -6,6 +6,7 @@ use Rattle.std.proofs.lemmas.Option.{get_or_from_slice_get, slice_get_within}
 use Rattle.version_table.specs.declared.table.ProgramRow.{ProgramRow}
 use Rattle.version_table.specs.declared.table.Table.{Table}
 use Rattle.version_table.specs.Table.{IsValidProgram, IsValidTable}
+use Rattle.psi_tables.specs.Pmt.{pids_of}
 use Rattle.slot_rule.specs.declared.queue_kind.QueueKind.TheVariants.{Video, Audio}
 use Rattle.slot_rule.specs.Queues.{queues_of}
 use Rattle.slot_rule.specs.Sent.{video_number}
@@ -15,7 +16,7 @@ use Rattle.program_reader.specs.declared.program.Program.{Program}
 use Rattle.version_maker.specs.declared.version.UnitVersion.{UnitVersion}
 use Rattle.program_table.specs.Table.{program_rows}
 use Rattle.mux_writer.specs.declared.packets.TheConstants.{PAT_PID}
-use Rattle.mux_writer.specs.Layout.{map_pid, map_pids, stream_pid, video_pid}
+use Rattle.mux_writer.specs.Layout.{map_pid, stream_pid, video_pid}
 use Rattle.job_stream.specs.Private.Outgoing.{CanGoOut}
 use Rattle.job_stream.specs.Stream.{layout_of, output_maps}
 use Rattle.clean_laws.proofs.Brought.{IsPidOf}
@@ -40,7 +41,7 @@ module _ (job : Job) (programs : List Program) (table : Table) (choice : List �
   pid-is program audio row there few =
       subst
       (λ (rows : List ProgramRow). slice_get rows program ≡ Some row
-      → slice_index (flat_map map_pids (output_maps 0 job.programs programs)) (video_number rows program + audio) ≡ video_pid (0 + program) + audio)
+      → slice_index (flat_map pids_of (output_maps 0 job.programs programs)) (video_number rows program + audio) ≡ video_pid (0 + program) + audio)
       (sym rows_are) (λ found. stream-pid-at 0 job.programs programs versions program audio row out found few) there
       ∙ ap (λ (n : ℕ). video_pid n + audio) (let e : 0 + program ≡ program = omega arith in e)
 

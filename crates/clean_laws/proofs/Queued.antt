@@ -11,6 +11,7 @@ use Rattle.payload_lists.specs.Payload.{Payload}
 use Rattle.pes_units.specs.declared.times.Times.{Times}
 use Rattle.pes_units.specs.PesHeader.{header_length}
 use Rattle.pes_units.specs.VideoHeader.{spelled, written_dts, written_pes_header}
+use Rattle.pes_units.specs.PesPieces.{packets_for, pes_pieces, piece_of}
 use Rattle.version_table.specs.Choice.{version_at}
 use Rattle.slot_rule.specs.declared.queued_packet.QueuedPacket.{QueuedPacket}
 use Rattle.slot_rule.specs.Private.QueueItems.{HasSizes}
@@ -18,7 +19,7 @@ use Rattle.slot_rule.specs.Queues.{payloads, unit_packets}
 use Rattle.program_reader.specs.declared.program.AudioPiece.{AudioPiece}
 use Rattle.program_reader.specs.declared.program.UnitSource.{UnitSource}
 use Rattle.version_maker.specs.declared.version.UnitVersion.{UnitVersion}
-use Rattle.version_source.specs.Pieces.{audio_payload, packets_for, pes_packet, pes_pieces, piece_of, video_items}
+use Rattle.version_source.specs.Pieces.{audio_payload, pes_packet, video_items}
 use Rattle.version_source.specs.Sendable.{IsPieceOf}
 use Rattle.version_source.specs.Versions.{chosen_bytes}
 use Rattle.program_table.specs.Table.{row_version, unit_row, unit_rows}

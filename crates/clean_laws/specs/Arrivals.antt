@@ -1,30 +1,18 @@
 -- What the packets of a stream bring to a decoder (ISO/IEC 13818-1, 2.4.2 and 2.4.3), read from the packets alone.
-use Rattle.std.specs.Prelude.{ℕ, ◌+◌, ◌==◌, nat_lt, min, Bool, ◌&&◌, ◌||◌, List, [], ◌∷◌, ◌++◌, length, map, if◌then◌else◌}
-use Rattle.std.specs.List.{filter}
+use Rattle.std.specs.Prelude.{ℕ, ◌+◌, ◌==◌, min, Bool, ◌||◌, List, [], ◌∷◌, ◌++◌, length, if◌then◌else◌}
 use Rattle.payload_lists.specs.Payload.{Payload}
 use Rattle.pes_units.specs.PesHeader.{header_length}
 use Rattle.ts_packets.specs.Packet.{PacketRecord}
+use Rattle.ts_packets.specs.Carried.{payload_of}
 use Rattle.tstd_model.specs.declared.decoder_input.Arrival.{Arrival}
 use Rattle.mux_writer.specs.declared.packets.TheConstants.{PAT_PID}
 
 -- ---- what packets carry
 
--- start flag and payload of a packet
-abbrev pub payload_of : PacketRecord → Payload
-payload_of packet = record { start = packet.start; bytes = packet.payload }
-
 -- how many bytes of PES header a payload begins with: none but where a PES packet begins, and there as many as its ninth byte says, as far as
 -- the payload goes (2.4.3.6); what a header has left for the next payload counts as data there
 abbrev pub header_bytes : Payload → ℕ
 header_bytes payload = if payload.start then min (header_length payload.bytes) (length payload.bytes) else 0
-
--- the packet is of the PID and has payload
-abbrev pub is_payload_on : (pid : ℕ) → PacketRecord → Bool
-is_payload_on pid packet = (packet.pid == pid) && nat_lt 0 (length packet.payload)
-
--- the payloads of a PID, in order
-abbrev pub payloads_on : (pid : ℕ) → List PacketRecord → List Payload
-payloads_on pid packets = map payload_of (filter (is_payload_on pid) packets)
 
 -- ---- what comes to a decoder
 

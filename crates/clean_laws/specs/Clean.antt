@@ -4,6 +4,7 @@ use Rattle.std.specs.List.{AllZip}
 use Rattle.payload_lists.specs.Payload.{Payload}
 use Rattle.ts_packets.specs.Packet.{PacketRecord}
 use Rattle.ts_packets.specs.TransportStream.{packets, rest_of}
+use Rattle.ts_packets.specs.Carried.{payloads_on}
 use Rattle.version_table.specs.declared.table.AudioPacket.{AudioPacket}
 use Rattle.version_table.specs.declared.table.ProgramRow.{ProgramRow}
 use Rattle.version_table.specs.declared.table.Table.{Table}
@@ -17,7 +18,7 @@ use Rattle.tstd_model.specs.Faults.{IsFault}
 use Rattle.tstd_bridge.specs.Arrivals.{Headers, buffers_of}
 use Rattle.tstd_bridge.specs.Removals.{IsAllowed}
 use Rattle.mux_writer.specs.Layout.{map_pid, video_pid}
-use Rattle.clean_laws.specs.Arrivals.{arrivals_on, header_bytes, payloads_on, section_arrivals}
+use Rattle.clean_laws.specs.Arrivals.{arrivals_on, header_bytes, section_arrivals}
 
 -- a payload is that of a packet of a queue: as long, and with as many bytes of PES header
 pub record IsPayloadOf (headers : Headers) (payload : Payload) (packet : QueuedPacket) : Type 0 where

@@ -6,6 +6,7 @@ use Rattle.std.proofs.lemmas.List.Elements.{All-head, All-tail}
 use Rattle.payload_lists.specs.Payload.{CarriedPayload, Payload}
 use Rattle.audio_frames.specs.declared.frame.Frame.{Frame}
 use Rattle.pes_units.specs.PesHeader.{header_length}
+use Rattle.pes_units.specs.PesPieces.{pes_pieces}
 use Rattle.psi_tables.specs.declared.stream.Stream.{Stream}
 use Rattle.ts_packets.specs.TransportStream.{piece_count, pid_pieces as packets_on}
 use Rattle.ts_packets.specs.Carried.{carried}
@@ -15,7 +16,7 @@ use Rattle.program_reader.specs.declared.program.AudioPiece.{AudioPiece}
 use Rattle.program_reader.specs.declared.program.AudioSource.{AudioSource}
 use Rattle.program_reader.specs.Audio.{AreAudioSources, HaveFrames, IsAudioSource, taken_of}
 use Rattle.program_reader.proofs.StreamLemmas.{HasPayload, taken_payloads}
-use Rattle.version_source.specs.Pieces.{audio_items, audio_payload, pes_pieces}
+use Rattle.version_source.specs.Pieces.{audio_items, audio_payload}
 use Rattle.layer_laws.specs.PesPieces.{CarryAll}
 use Rattle.parsing_laws.specs.Parsed.{CarriesPackets, CarryPackets, bytes_of_packets}
 use Rattle.job_laws.proofs.SentAudios.{all-pieces}

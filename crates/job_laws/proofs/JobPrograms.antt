@@ -10,6 +10,7 @@ use Rattle.ts_packets.specs.TransportStream.{piece_count, pid_pieces as packets_
 use Rattle.ts_packets.specs.Carried.{carried}
 use Rattle.psi_tables.specs.declared.program_map.ProgramMap.{ProgramMap}
 use Rattle.psi_tables.specs.declared.stream.Stream.{Stream}
+use Rattle.psi_tables.specs.Pmt.{pids_of}
 use Rattle.version_table.specs.declared.table.ProgramRow.{ProgramRow}
 use Rattle.version_table.specs.declared.table.Unit.{Unit as CodedUnit}
 use Rattle.version_table.specs.Choice.{HasVersion}
@@ -26,7 +27,7 @@ use Rattle.version_source.specs.Pieces.{audio_items, stream_items, video_items}
 use Rattle.version_source.specs.Versions.{AreAllVersions, AreVideoVersions, ratios_of}
 use Rattle.program_table.specs.Table.{program_row, program_rows, unit_rows}
 use Rattle.mux_writer.specs.declared.layout.Layout.{Layout}
-use Rattle.mux_writer.specs.Layout.{map_pids, video_pid, with_output_pids}
+use Rattle.mux_writer.specs.Layout.{video_pid, with_output_pids}
 use Rattle.mux_writer.specs.Output.{output_stream}
 use Rattle.mux_writer.specs.Pieces.{Pieces}
 use Rattle.job_programs.specs.Programs.{AreNextPrograms}
@@ -113,7 +114,7 @@ module _ (law : ReadIsSendable) (taken : TakenOutLaw) (gathered : GatheredAgain)
       → layout.maps.items ≡ before ++ with_output_pids n job.number p.map ∷ rest → length before ≡ n → 1 ≤ job.number → All (IsOtherNumber (job ∷ jobs)) before → (content : List ℕ) (start : ℕ)
       → IsProgramOfFile content job.program job.drop.items start p → AreBytes p.video
       → AreVideoVersions p.video coarser None p.units v → AllZip HasVersion (unit_rows job.weight p.units v ++ more) choice
-      → AllCarry file (length rows) (map_pids (with_output_pids n job.number p.map)) (video_items p.units v choice ∷ map audio_items p.audios)
+      → AllCarry file (length rows) (pids_of (with_output_pids n job.number p.map)) (video_items p.units v choice ∷ map audio_items p.audios)
       → ParsesToProgram file content job (with_output_pids n job.number p.map) (sent_units p.units v choice)
   one-read n job jobs p coarser v choice before rest more split size some apart content start of bytes versions fits carry =
       let ready : IsReady p = ready-one law content job.program job.drop.items start p of in
@@ -154,7 +155,7 @@ module _ (law : ReadIsSendable) (taken : TakenOutLaw) (gathered : GatheredAgain)
       → (slots start : ℕ) (read : List (List ℕ)) (done : List Program) (further : List (List ℕ)) → AreNextPrograms slots start read done jobs further programs
       → AreAllVersions programs (ratios_of jobs) versions → All (λ (p : Program). AreBytes p.video) programs
       → AllZip HasVersion (flat_map (λ (row : ProgramRow). row.units) (program_rows jobs programs versions)) choice
-      → AllCarry file (length rows) (flat_map map_pids (output_maps n jobs programs)) (stream_items programs versions choice)
+      → AllCarry file (length rows) (flat_map pids_of (output_maps n jobs programs)) (stream_items programs versions choice)
       → ParsesTo file n jobs further programs versions choice
   read-back n [] [] [] choice before split size apart pairs valid slots start read done [] next are_versions bytes fits carry = tt
   read-back n [] [] [] choice before split size apart pairs valid slots start read done (c ∷ cs) next are_versions bytes fits carry = absurd next
@@ -169,9 +170,9 @@ module _ (law : ReadIsSendable) (taken : TakenOutLaw) (gathered : GatheredAgain)
       let row : ProgramRow = program_row j.weight p v in
       let later : List CodedUnit = flat_map (λ (row : ProgramRow). row.units) (program_rows js ps vs) in
       let many : length row.units ≡ length p.units = unit_rows-count j.weight p.video j.coarser.items _ p.units v are_versions.0 in
-      let own : length (map_pids program_map) ≡ length (video_items p.units v choice ∷ map audio_items p.audios) =
+      let own : length (pids_of program_map) ≡ length (video_items p.units v choice ∷ map audio_items p.audios) =
       omega (arith, pids-count (video_pid n) p.map.streams.items, is.out.streams, length-map p.audios audio_items) in
-      let parts = carry-parts file (length rows) (map_pids program_map) (flat_map map_pids (output_maps (n + 1) js ps)) (video_items p.units v choice ∷ map audio_items p.audios)
+      let parts = carry-parts file (length rows) (pids_of program_map) (flat_map pids_of (output_maps (n + 1) js ps)) (video_items p.units v choice ∷ map audio_items p.audios)
       (stream_items ps vs (drop (length p.units) choice)) own carry in
       let behind : AllZip HasVersion later (drop (length p.units) choice) = subst (λ (k : ℕ). AllZip HasVersion later (drop k choice)) many (fits-behind row.units later choice fits) in (
         one-read n j js p j.coarser.items v choice before (output_maps (n + 1) js ps) later split size (All-head IsValidProgramJob j js valid).some_number apart c start next.0.holds

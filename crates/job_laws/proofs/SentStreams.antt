@@ -7,6 +7,7 @@ use Rattle.std.proofs.lemmas.List.{get_or-map, length-map}
 use Rattle.std.proofs.lemmas.Option.{slice_get-get_or}
 use Rattle.payload_lists.specs.Payload.{Payload}
 use Rattle.pes_units.specs.VideoHeader.{written_pes_header}
+use Rattle.pes_units.specs.PesPieces.{pes_pieces}
 use Rattle.version_table.specs.declared.table.AudioPacket.{AudioPacket}
 use Rattle.version_table.specs.declared.table.ProgramRow.{ProgramRow}
 use Rattle.version_table.specs.declared.table.Table.{Table}
@@ -20,7 +21,7 @@ use Rattle.program_reader.specs.declared.program.AudioSource.{AudioSource}
 use Rattle.program_reader.specs.declared.program.Program.{Program}
 use Rattle.program_reader.specs.declared.program.UnitSource.{UnitSource}
 use Rattle.version_maker.specs.declared.version.UnitVersion.{UnitVersion}
-use Rattle.version_source.specs.Pieces.{audio_items, audio_payload, pes_packet, pes_pieces, stream_items, video_items}
+use Rattle.version_source.specs.Pieces.{audio_items, audio_payload, pes_packet, stream_items, video_items}
 use Rattle.version_source.specs.Versions.{AreAllVersions, chosen_bytes, ratios_of}
 use Rattle.program_table.specs.Table.{IsTableOf, audio_row, program_row, program_rows, row_version, unit_row, unit_rows}
 use Rattle.output_laws.specs.SentItems.{Sends}

@@ -9,11 +9,12 @@ use Rattle.payload_lists.specs.Payload.{Payload, CarriedPayload}
 use Rattle.ts_packets.specs.TransportStream.{pid_pieces as packets_on}
 use Rattle.ts_packets.specs.Carried.{carried}
 use Rattle.pes_units.specs.VideoHeader.{written_pes_header}
+use Rattle.pes_units.specs.PesPieces.{pes_pieces}
 use Rattle.version_table.specs.declared.table.Unit.{Unit as CodedUnit}
 use Rattle.version_table.specs.Choice.{HasVersion}
 use Rattle.program_reader.specs.declared.program.UnitSource.{UnitSource}
 use Rattle.version_maker.specs.declared.version.UnitVersion.{UnitVersion}
-use Rattle.version_source.specs.Pieces.{pes_packet, pes_pieces, video_items}
+use Rattle.version_source.specs.Pieces.{pes_packet, video_items}
 use Rattle.version_source.specs.Sendable.{IsUnitOf}
 use Rattle.version_source.specs.Versions.{chosen_bytes}
 use Rattle.program_table.specs.Table.{row_version, unit_rows}

@@ -5,13 +5,14 @@ use Rattle.std.proofs.lemmas.List.{append-nil, drop_more, length-map}
 use Rattle.std.proofs.lemmas.List.Elements.{All-head, All-tail}
 use Rattle.psi_tables.specs.declared.program_map.ProgramMap.{ProgramMap}
 use Rattle.psi_tables.specs.declared.stream.Stream.{Stream}
+use Rattle.psi_tables.specs.Pmt.{pids_of}
 use Rattle.job_report.specs.declared.job.ProgramJob.{ProgramJob}
 use Rattle.program_reader.specs.declared.program.Program.{Program}
 use Rattle.version_maker.specs.declared.version.UnitVersion.{UnitVersion}
 use Rattle.version_source.specs.Pieces.{audio_items, stream_items, video_items}
 use Rattle.version_source.specs.Versions.{AreAllVersions, ratios_of}
 use Rattle.mux_writer.specs.declared.layout.Layout.{Layout}
-use Rattle.mux_writer.specs.Layout.{map_pids, video_pid, with_output_pids, with_pids_from}
+use Rattle.mux_writer.specs.Layout.{video_pid, with_output_pids, with_pids_from}
 use Rattle.job_stream.specs.Private.Outgoing.{CanGoOut}
 use Rattle.job_stream.specs.Stream.{output_maps}
 
@@ -93,7 +94,7 @@ pids-count pid (s ∷ ss) = ap suc (pids-count (pid + 1) ss)
 -- there are as many PIDs as streams of the programs
 pub streams-count : (first : ℕ) (jobs : List ProgramJob) (programs : List Program) (versions : List (List (List UnitVersion))) (choice : List ℕ)
     → AreAllVersions programs (ratios_of jobs) versions → All CanGoOut programs
-    → length (stream_items programs versions choice) ≡ length (flat_map map_pids (output_maps first jobs programs))
+    → length (stream_items programs versions choice) ≡ length (flat_map pids_of (output_maps first jobs programs))
 streams-count first [] [] versions choice are out = refl
 streams-count first [] (p ∷ ps) versions choice are out = absurd are
 streams-count first (j ∷ js) [] versions choice are out = absurd are
@@ -101,7 +102,7 @@ streams-count first (j ∷ js) (p ∷ ps) [] choice are out = absurd are
 streams-count first (j ∷ js) (p ∷ ps) (v ∷ vs) choice are out =
     let goes : CanGoOut p = All-head CanGoOut p ps out in
     let later = drop (length p.units) choice in
-    let own : length (map_pids (with_output_pids first j.number p.map)) ≡ length p.map.streams.items = pids-count (video_pid first) p.map.streams.items in
+    let own : length (pids_of (with_output_pids first j.number p.map)) ≡ length p.map.streams.items = pids-count (video_pid first) p.map.streams.items in
     let block : length (video_items p.units v choice ∷ map audio_items p.audios) ≡ suc (length p.audios) = ap suc (length-map p.audios audio_items) in
     omega (
       arith,
@@ -109,6 +110,6 @@ streams-count first (j ∷ js) (p ∷ ps) (v ∷ vs) choice are out =
       block,
       goes.streams,
       length-append (video_items p.units v choice ∷ map audio_items p.audios) (stream_items ps vs later),
-      length-append (map_pids (with_output_pids first j.number p.map)) (flat_map map_pids (output_maps (first + 1) js ps)),
+      length-append (pids_of (with_output_pids first j.number p.map)) (flat_map pids_of (output_maps (first + 1) js ps)),
       streams-count (first + 1) js ps vs later are.1 (All-tail CanGoOut p ps out),
     )

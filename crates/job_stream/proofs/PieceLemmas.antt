@@ -1,14 +1,14 @@
 -- The pieces of programs in chosen versions, beside the packets that their table has.
-use Rattle.std.proofs.Common.{◌≡◌, ℕ, zero, suc, ◌+◌, ◌*◌, ◌/◌, ◌<◌, ◌≤◌, List, [], ◌∷◌, ◌++◌, length, map, take, drop, slice_index_or}
+use Rattle.std.proofs.Common.{◌≡◌, ℕ, zero, suc, ◌+◌, ◌*◌, ◌<◌, ◌≤◌, List, [], ◌∷◌, ◌++◌, length, map, take, drop, slice_index_or}
 use Rattle.std.proofs.Common.{Some, None, refl, sym, ap, subst, ◌∙◌, arith, length-append}
 use Rattle.std.specs.Prelude.{slice_get, slice_index}
-use Rattle.std.specs.List.{AllZip, range_with_len}
+use Rattle.std.specs.List.{AllZip}
 use Rattle.std.proofs.lemmas.List.{drop-drop, drop_at, get_or-append-add, length-map}
-use Rattle.std.proofs.lemmas.List.FromFn.{length-range_with_len}
 use Rattle.std.proofs.lemmas.List.Sums.{sum_by-cons}
 use Rattle.std.proofs.lemmas.Option.{none-some, same_Some}
 use Rattle.payload_lists.specs.Payload.{Payload}
 use Rattle.pes_units.specs.VideoHeader.{written_pes_header}
+use Rattle.pes_units.proofs.PesPieces.{piece-within}
 use Rattle.job_report.specs.declared.job.ProgramJob.{ProgramJob}
 use Rattle.version_table.specs.declared.table.AudioPacket.{AudioPacket}
 use Rattle.version_table.specs.declared.table.ProgramRow.{ProgramRow}
@@ -20,22 +20,12 @@ use Rattle.program_reader.specs.declared.program.AudioSource.{AudioSource}
 use Rattle.program_reader.specs.declared.program.Program.{Program}
 use Rattle.program_reader.specs.declared.program.UnitSource.{UnitSource}
 use Rattle.version_maker.specs.declared.version.UnitVersion.{UnitVersion}
-use Rattle.version_source.specs.Pieces.{audio_items, audio_payload, pes_packet, pes_pieces, piece_of, packets_for, pieces_at, stream_items, video_items}
+use Rattle.version_source.specs.Pieces.{audio_items, audio_payload, pes_packet, pieces_at, stream_items, video_items}
 use Rattle.version_source.specs.Versions.{AreAllVersions, chosen_bytes, ratios_of}
 use Rattle.program_table.specs.Table.{audio_row, program_row, program_rows, row_version, unit_row, unit_rows}
 use Rattle.job_stream.proofs.NamedVersions.{IsSplit, all_units, unit_rows-count, zip-length, zip-split}
 
 -- ---- a unit
-
--- a PES packet has a piece for each packet's room that its bytes begin
-pub piece-within : (packet : List ℕ) (k : ℕ) → 184 * k < length packet → k < length (pes_pieces packet)
-piece-within packet k within =
-    let count : length (pes_pieces packet) ≡ length (range_with_len 0 (packets_for (length packet))) = length-map (range_with_len 0 (packets_for (length packet))) (piece_of packet) in
-    let ranged : length (range_with_len 0 (packets_for (length packet))) ≡ packets_for (length packet) = length-range_with_len 0 (packets_for (length packet)) in
-    enough (length packet) k (length (pes_pieces packet)) within (count ∙ ranged)
-  where
-    enough : (bytes k n : ℕ) → 184 * k < bytes → n ≡ (bytes + 183) / 184 → k < n
-    enough bytes k n h e = omega arith
 
 -- a version of a row has the bytes of the PES packet
 version-bytes : (weight : ℕ) (unit : UnitSource) (versions : List UnitVersion) (k n : ℕ) → n < (slice_index_or (map (row_version weight unit) versions) k (record { bytes = 0; distortion = 0 })).bytes

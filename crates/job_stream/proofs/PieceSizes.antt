@@ -6,12 +6,13 @@ use Rattle.std.proofs.lemmas.List.{length-drop, length-take}
 use Rattle.std.proofs.lemmas.List.Elements.{All-append, All-cons, All-from_get_or, All-get_or, All-head, All-map, All-nil, All-tail, All-weaker}
 use Rattle.std.proofs.lemmas.List.FromFn.{get_or-range_with_len, length-range_with_len}
 use Rattle.payload_lists.specs.Payload.{Payload}
+use Rattle.pes_units.specs.PesPieces.{packets_for, pes_pieces, piece_of}
 use Rattle.program_reader.specs.declared.program.AudioPiece.{AudioPiece}
 use Rattle.program_reader.specs.declared.program.AudioSource.{AudioSource}
 use Rattle.program_reader.specs.declared.program.Program.{Program}
 use Rattle.program_reader.specs.declared.program.UnitSource.{UnitSource}
 use Rattle.version_maker.specs.declared.version.UnitVersion.{UnitVersion}
-use Rattle.version_source.specs.Pieces.{HasPiece, audio_items, audio_payload, pes_packet, pes_pieces, piece_of, packets_for, pieces_at, pieces_of, stream_items, video_items}
+use Rattle.version_source.specs.Pieces.{HasPiece, audio_items, audio_payload, pes_packet, pieces_at, pieces_of, stream_items, video_items}
 use Rattle.version_source.specs.Sendable.{IsPieceOf, IsSendable}
 use Rattle.version_source.specs.Versions.{chosen_bytes}
 use Rattle.mux_writer.specs.Pieces.{HasPayloadSize}

@@ -59,17 +59,20 @@ use Rattle.ts_packets.specs.Carried.{
   carried_by,
   follows,
   has_gap,
+  has_payload_on,
   is_discontinuous,
   is_late_discontinuity,
   is_repeat,
   not_repeated,
   order_fault,
+  payload_of,
   payload_packets,
+  payloads_on,
   pid_fault,
   placed,
   without_repeats,
 }
-use Rattle.layer_laws.specs.Counted.{AreCounted, RiseByOne, has_payload_on, payload_of, payloads_on}
+use Rattle.layer_laws.specs.Counted.{AreCounted, RiseByOne}
 
 -- ---- packets that rise by one are no repeats
 

@@ -2,9 +2,10 @@
 use Rattle.std.proofs.Common.{◌≡◌, ℕ, Bool, true, false, List, [], ◌∷◌, ◌++◌, replicate, Some, None, refl}
 use Rattle.payload_lists.specs.Payload.{Payload}
 use Rattle.ts_packets.specs.Packet.{PacketRecord}
-use Rattle.layer_laws.specs.Counted.{RiseByOne, payloads_on}
-use Rattle.layer_laws.specs.PesPieces.{pes_pieces}
-use Rattle.layer_laws.specs.VideoPackets.{decoded_at}
+use Rattle.ts_packets.specs.Carried.{payloads_on}
+use Rattle.pes_units.specs.PesPieces.{pes_pieces}
+use Rattle.pes_units.specs.Times.{decoding_time}
+use Rattle.layer_laws.specs.Counted.{RiseByOne}
 
 abbrev payload : Bool → List ℕ → Payload
 payload start bytes = record { start = start; bytes = bytes }
@@ -31,8 +32,8 @@ wrapped : RiseByOne (packet 257 15 true (1 ∷ []) ∷ packet 257 0 false (3 ∷
 wrapped = (refl, tt)
 
 -- a picture that is decoded when it is presented needs no DTS of its own
-unwritten_dts : decoded_at (record { pts = Some 900; dts = None }) ≡ Some 900
+unwritten_dts : decoding_time (record { pts = Some 900; dts = None }) ≡ Some 900
 unwritten_dts = refl
 
-earlier_dts : decoded_at (record { pts = Some 900; dts = Some 300 }) ≡ Some 300
+earlier_dts : decoding_time (record { pts = Some 900; dts = Some 300 }) ≡ Some 300
 earlier_dts = refl

@@ -11,11 +11,11 @@ use Rattle.pes_units.specs.declared.pes_header.PesHeader.{PesHeader}
 use Rattle.pes_units.specs.declared.times.Times.{Times}
 use Rattle.pes_units.specs.PesHeader.{IsPesHeader, pes_fields_of, has_pes_fault, has_prefix, header_length, is_header_whole, pes_packet_length, pes_refusal}
 use Rattle.pes_units.specs.PesPackets.{is_cut, is_dropped, is_length_sound, last_refusal, packet_refusal}
-use Rattle.pes_units.specs.Times.{HasTimes, IsTimeAt, are_times_sound, has_markers, times_of}
+use Rattle.pes_units.specs.Times.{HasTimes, IsTimeAt, are_times_sound, decoding_of, decoding_time, has_markers, times_of}
 use Rattle.pes_units.specs.VideoHeader.{AreInRange, IsBesidePts, written_dts, written_fields, written_pes_header}
 use Rattle.pes_units.proofs.Refusals.{passes-header}
 use Rattle.pes_units.proofs.RoundTrip.{written-read}
-use Rattle.layer_laws.specs.VideoPackets.{first_of, decoded_at, IsReadAsVideo}
+use Rattle.layer_laws.specs.VideoPackets.{IsReadAsVideo}
 
 -- ---- times that a header has
 
@@ -78,13 +78,13 @@ kept-whole : (bytes : List ℕ) → is_header_whole bytes ≡ true → is_droppe
 kept-whole bytes whole = rw whole (and_right (is_cut true bytes) false refl)
 
 -- the decoding time isn't changed where a DTS that is the PTS isn't repeated
-decoded-same : (pts dts : Option ℕ) → (IsSome dts → IsSome pts) → first_of (written_dts pts dts) pts ≡ first_of dts pts
+decoded-same : (pts dts : Option ℕ) → (IsSome dts → IsSome pts) → decoding_of (written_dts pts dts) pts ≡ decoding_of dts pts
 decoded-same None None beside = refl
 decoded-same None (Some dts) beside = absurd (let no : IsSome {T = ℕ} None = beside refl in cc)
 decoded-same (Some pts) None beside = refl
 decoded-same (Some pts) (Some dts) beside = by_test (dts == pts) refl
   where
-    by_test : (same : Bool) → (dts == pts) ≡ same → first_of (cond same None (Some dts)) (Some pts) ≡ Some dts
+    by_test : (same : Bool) → (dts == pts) ≡ same → decoding_of (cond same None (Some dts)) (Some pts) ≡ Some dts
     by_test true same = ap (λ (time : ℕ). Some time) (sym (eqb-true dts pts same))
     by_test false other = refl
 
@@ -105,7 +105,7 @@ video-read times payload in_range beside some =
       kept = kept-whole bytes (whole (written_fields times) bytes is);
       header = fields;
       presented = ap (λ (header : PesHeader). header.times.pts) fields;
-      decoded = ap (λ (header : PesHeader). decoded_at header.times) fields ∙ decoded-same times.pts times.dts beside;
+      decoded = ap (λ (header : PesHeader). decoding_time header.times) fields ∙ decoded-same times.pts times.dts beside;
       payload_is = drop_at header payload (header_length bytes) is.len;
     }
 

@@ -37,8 +37,9 @@ use Rattle.std.proofs.lemmas.Bool.{lt-ltb, eqb-true}
 use Rattle.std.proofs.lemmas.List.{append-nil, take-append-drop, drop_all, drop-drop}
 use Rattle.payload_lists.specs.Payload.{Payload, CarriedPayload, is_start}
 use Rattle.pes_units.specs.PesPackets.{Gathered, up_to_start, gathered}
+use Rattle.pes_units.specs.PesPieces.{pes_pieces, piece_of}
 use Rattle.psi_tables.specs.Sections.{going}
-use Rattle.layer_laws.specs.PesPieces.{Carries, CarryAll, piece_of, pes_pieces}
+use Rattle.layer_laws.specs.PesPieces.{Carries, CarryAll}
 
 -- ---- gathering looks at payloads alone
 

@@ -1,20 +1,7 @@
 -- Packets of a PID as records, and what they carry (ISO/IEC 13818-1, 2.4.3.3).
-use Rattle.std.specs.Prelude.{◌≡◌, ℕ, ◌+◌, ◌%◌, ◌==◌, nat_lt, Bool, false, ◌&&◌, List, [], ◌∷◌, length, map, filter, All}
-use Rattle.payload_lists.specs.Payload.{Payload}
+use Rattle.std.specs.Prelude.{◌≡◌, ℕ, ◌+◌, ◌%◌, false, List, [], ◌∷◌, filter, All}
 use Rattle.ts_packets.specs.Packet.{PacketRecord}
-use Rattle.ts_packets.specs.Carried.{is_discontinuous}
-
--- the packet is of the PID and has payload
-abbrev pub has_payload_on : ℕ → PacketRecord → Bool
-has_payload_on pid packet = (packet.pid == pid) && nat_lt 0 (length packet.payload)
-
--- a packet's start flag and payload
-abbrev pub payload_of : PacketRecord → Payload
-payload_of packet = record { start = packet.start; bytes = packet.payload }
-
--- the payloads of a PID, in order
-abbrev pub payloads_on : ℕ → List PacketRecord → List Payload
-payloads_on pid packets = map payload_of (filter (has_payload_on pid) packets)
+use Rattle.ts_packets.specs.Carried.{has_payload_on, is_discontinuous}
 
 -- each continuity_counter is the next one modulo 16 behind the one before it
 abbrev pub RiseByOne : List PacketRecord → Type 0

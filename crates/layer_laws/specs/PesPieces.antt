@@ -1,7 +1,6 @@
 -- PES packets in the payloads of transport packets (ISO/IEC 13818-1, 2.4.3.3).
-use Rattle.std.specs.Prelude.{◌≡◌, ℕ, ◌+◌, ◌-◌, ◌*◌, ◌/◌, ◌<◌, ◌==◌, true, List, [], ◌∷◌, ◌++◌, length, take, drop, map}
-use Rattle.std.specs.List.{concat, range_with_len}
-use Rattle.stream_constants.specs.declared.packets.TheConstants.{PAYLOAD_BYTES}
+use Rattle.std.specs.Prelude.{◌≡◌, ℕ, ◌+◌, ◌<◌, true, List, [], ◌∷◌, ◌++◌, length, map}
+use Rattle.std.specs.List.{concat}
 use Rattle.payload_lists.specs.Payload.{Payload}
 use Rattle.psi_tables.specs.Sections.{going}
 
@@ -19,11 +18,3 @@ CarryAll [] [] = Unit {0}
 CarryAll [] (_ ∷ _) = ⊥
 CarryAll (_ ∷ _) [] = ⊥
 CarryAll (packet ∷ packets) (payloads ∷ more) = Carries packet payloads × CarryAll packets more
-
--- what transport packet k of a PES packet carries: the bytes from 184 k on, as many as one has room for
-abbrev pub piece_of : (packet : List ℕ) → (k : ℕ) → Payload
-piece_of packet k = record { start = k == 0; bytes = take PAYLOAD_BYTES (drop (PAYLOAD_BYTES * k) packet) }
-
--- a PES packet in as few transport packets as it can be
-abbrev pub pes_pieces : (packet : List ℕ) → List Payload
-pes_pieces packet = map (piece_of packet) (range_with_len 0 ((length packet + (PAYLOAD_BYTES - 1)) / PAYLOAD_BYTES))

@@ -5,12 +5,12 @@ ghost use Rattle.stream_constants.specs.declared.packets.TheConstants.{PACKET_BY
 ghost use Rattle.payload_lists.specs.Payload.{Payload};
 ghost use Rattle.ts_packets.specs.Packet.{PacketRecord, packet_identifier, packet_of};
 ghost use Rattle.ts_packets.specs.TransportStream.{is_of_pid, packets, piece_at, piece_count, pid_pieces};
-ghost use Rattle.ts_packets.specs.Carried.{carried, pid_fault};
+ghost use Rattle.ts_packets.specs.Carried.{carried, payloads_on, pid_fault};
 ghost use Rattle.psi_tables.specs.Sections.{found_at, is_read, sections_of, stuffing_byte};
 ghost use Rattle.psi_tables.specs.declared.section.TheConstants.{SECTION_LENGTH_MOST};
 ghost use Rattle.psi_tables.specs.Crc.{HasRightCrc};
 ghost use Rattle.psi_tables.specs.Section.{IsWholeSection, section_length};
-ghost use Rattle.layer_laws.specs.Counted.{AreCounted, payloads_on};
+ghost use Rattle.layer_laws.specs.Counted.{AreCounted};
 
 /// In a file of packets the packet of each number is the record of that number, and its PID is that record's.
 pub fn packets_stand_in_order()

@@ -6,7 +6,8 @@ ghost use Rattle.payload_lists.specs.Payload.{CarriedPayload, Payload};
 ghost use Rattle.pes_units.specs.declared.times.Times.{Times};
 ghost use Rattle.pes_units.specs.PesPackets.{gathered, is_dropped, last_refusal, packet_refusal};
 ghost use Rattle.pes_units.specs.VideoHeader.{AreInRange, IsBesidePts, written_pes_header};
-ghost use Rattle.layer_laws.specs.PesPieces.{Carries, CarryAll, pes_pieces};
+ghost use Rattle.pes_units.specs.PesPieces.{pes_pieces};
+ghost use Rattle.layer_laws.specs.PesPieces.{Carries, CarryAll};
 ghost use Rattle.layer_laws.specs.VideoPackets.{IsReadAsVideo};
 
 /// What a PID carries is gathered into the PES packets that were cut, in order, none more and none less: wherever the

@@ -1,5 +1,6 @@
 pub mod Counts
 pub mod Examples
+pub mod Going
 pub mod Groups
 pub mod Parts
 pub mod Writable

@@ -7,11 +7,12 @@ use Rattle.std.proofs.lemmas.List.FromFn.{get_or-range_with_len, length-range_wi
 use Rattle.std.proofs.lemmas.Option.{slice_get-get_or}
 use Rattle.psi_tables.specs.declared.program_map.ProgramMap.{ProgramMap}
 use Rattle.psi_tables.specs.declared.stream.Stream.{Stream}
+use Rattle.psi_tables.specs.Pmt.{pids_of}
 use Rattle.slot_rule.proofs.Places.{slice_get_read_as}
 use Rattle.version_table.proofs.ValidUnits.{All-flat_map}
 use Rattle.mux_writer.specs.declared.counters.TheConstants.{PIDS}
 use Rattle.mux_writer.specs.declared.layout.Layout.{Layout}
-use Rattle.mux_writer.specs.Layout.{video_pid, with_pids_from, map_pids, stream_pids, IsOutputMap, IsLayout}
+use Rattle.mux_writer.specs.Layout.{video_pid, with_pids_from, stream_pids, IsOutputMap, IsLayout}
 
 -- one more stream gets its PID
 with_pids-next : (first : ℕ) (streams : List Stream) (i pid : ℕ) (d : Stream) → i < length streams → pid ≡ first + i
@@ -38,9 +39,9 @@ range-below first n limit fits =
     (λ i within. let inside : i < n = omega (arith, within, length-range_with_len first n) in
     omega (arith, inside, fits, get_or-range_with_len first n i 0 inside))
 
-pub map-counted : (program : ℕ) (program_map : ProgramMap) → program < 8 → IsOutputMap program program_map → All (λ (pid : ℕ). pid < PIDS) (map_pids program_map)
+pub map-counted : (program : ℕ) (program_map : ProgramMap) → program < 8 → IsOutputMap program program_map → All (λ (pid : ℕ). pid < PIDS) (pids_of program_map)
 map-counted program program_map few is =
-    All-same (λ (pid : ℕ). pid < PIDS) (map_pids program_map) _ is.pids
+    All-same (λ (pid : ℕ). pid < PIDS) (pids_of program_map) _ is.pids
     (range-below (video_pid program) (length program_map.streams.items) PIDS (omega (arith, few, is.few)))
 
 -- the map of a program of a layout goes out
@@ -52,8 +53,8 @@ no_map = record { number = 0; pcr_pid = 0; streams = record { items = [] }; drop
 
 pub layout-counted : (layout : Layout) → IsLayout layout → length layout.maps.items ≤ 8 → All (λ (pid : ℕ). pid < PIDS) (stream_pids layout)
 layout-counted layout is few =
-    All-flat_map (λ (pid : ℕ). pid < PIDS) map_pids layout.maps.items
-    (All-from_get_or (λ (m : ProgramMap). All (λ (pid : ℕ). pid < PIDS) (map_pids m)) layout.maps.items no_map
+    All-flat_map (λ (pid : ℕ). pid < PIDS) pids_of layout.maps.items
+    (All-from_get_or (λ (m : ProgramMap). All (λ (pid : ℕ). pid < PIDS) (pids_of m)) layout.maps.items no_map
     (λ program within. map-counted program (get_or layout.maps.items program no_map) (omega (arith, within, few)) (map-of layout program no_map is within)))
 
 -- what a loop over the maps reads goes out

@@ -2,10 +2,11 @@
 use Rattle.std.proofs.Common.{◌≡◌, ℕ, List, [], ◌∷◌, ◌++◌, length, map, replicate, refl}
 use Rattle.psi_tables.specs.declared.program_map.ProgramMap.{ProgramMap}
 use Rattle.psi_tables.specs.declared.stream.Stream.{Stream}
-use Rattle.psi_tables.specs.Sections.{crc_over}
+use Rattle.psi_tables.specs.Sections.{crc_over, section_payload}
+use Rattle.psi_tables.specs.Pmt.{pids_of}
 use Rattle.mux_writer.specs.declared.layout.Layout.{Layout}
-use Rattle.mux_writer.specs.Layout.{map_pids, with_output_pids}
-use Rattle.mux_writer.specs.Tables.{pat_payload, pat_section, pmt_section, section_payload}
+use Rattle.mux_writer.specs.Layout.{with_output_pids}
+use Rattle.mux_writer.specs.Tables.{pat_payload, pat_section, pmt_section}
 
 abbrev stream_of : (kind pid : ℕ) → (descriptors : List ℕ) → Stream
 stream_of kind pid descriptors = record { kind = kind; pid = pid; descriptors = record { items = descriptors } }
@@ -45,7 +46,7 @@ eight-payload = refl
 abbrev read_map : ProgramMap
 read_map = map_of 1 0x20 (stream_of 2 0x20 [] ∷ stream_of 4 0x41 (0x0A ∷ 0x04 ∷ 0x65 ∷ 0x6E ∷ 0x67 ∷ 0x00 ∷ []) ∷ [])
 
-third-pids : map_pids (with_output_pids 2 7 read_map) ≡ 0x121 ∷ 0x122 ∷ []
+third-pids : pids_of (with_output_pids 2 7 read_map) ≡ 0x121 ∷ 0x122 ∷ []
 third-pids = refl
 
 abbrev third_pmt : List ℕ

@@ -12,7 +12,7 @@ use Rattle.psi_tables.specs.declared.program_map.ProgramMap.{ProgramMap}
 use Rattle.psi_tables.specs.Pat.{written_pat, written_program}
 use Rattle.psi_tables.specs.Pmt.{pmt_length, written_pmt}
 use Rattle.psi_tables.specs.Section.{written_section_header}
-use Rattle.psi_tables.specs.Sections.{crc_over}
+use Rattle.psi_tables.specs.Sections.{crc_over, section_payload}
 use Rattle.psi_tables.proofs.WrittenPat.{length-written_programs}
 use Rattle.slot_rule.specs.declared.sent.Sent.{Sent}
 use Rattle.slot_rule.specs.declared.sent.Sent.TheVariants.{Null, Pat, Pmt, Pcr, Video, Audio}
@@ -24,7 +24,7 @@ use Rattle.mux_writer.specs.declared.layout.Layout.{Layout}
 use Rattle.mux_writer.specs.Layout.{IsLayout, IsOutputMap, map_pid, stream_pid, stream_pids}
 use Rattle.mux_writer.specs.Output.{IsOfLayout, full_record, output_packets, output_stream, packet_in, output_packet, piece_record, stuffing_field}
 use Rattle.mux_writer.specs.Pieces.{HasPayloadSize, Pieces}
-use Rattle.mux_writer.specs.Tables.{pat_payload, pat_section, pmt_payloads, pmt_section, programs_from, section_payload, with_crc}
+use Rattle.mux_writer.specs.Tables.{pat_payload, pat_section, pmt_payloads, pmt_section, programs_from, with_crc}
 use Rattle.mux_writer.proofs.Pids.{layout-counted, map-of, no_map}
 use Rattle.mux_writer.proofs.Sections.{length-programs_from}
 

@@ -1,10 +1,10 @@
 -- The programs of an output stream, and the PIDs of their streams.
-use Rattle.std.specs.Prelude.{◌≡◌, ℕ, ◌+◌, ◌*◌, ◌<◌, ◌≤◌, List, [], ◌∷◌, length, map, All, slice_get, slice_index, Some}
+use Rattle.std.specs.Prelude.{◌≡◌, ℕ, ◌+◌, ◌*◌, ◌<◌, ◌≤◌, List, [], ◌∷◌, length, All, slice_get, slice_index, Some}
 use Rattle.std.specs.List.{flat_map, range_with_len}
 use Rattle.psi_tables.specs.declared.pmt.TheConstants.{PACKET_SECTION_BYTES}
 use Rattle.psi_tables.specs.declared.program_map.ProgramMap.{ProgramMap}
 use Rattle.psi_tables.specs.declared.stream.Stream.{Stream}
-use Rattle.psi_tables.specs.Pmt.{IsWritableMap, pmt_length}
+use Rattle.psi_tables.specs.Pmt.{IsWritableMap, pids_of, pmt_length}
 use Rattle.pcr_writer.specs.declared.pcr.TheConstants.{PCR_MODULUS}
 use Rattle.mux_writer.specs.declared.layout.Layout.{Layout}
 use Rattle.mux_writer.specs.declared.layout.TheConstants.{FIRST_MAP_PID, PROGRAM_PIDS, PROGRAM_STREAMS_MOST}
@@ -32,13 +32,9 @@ with_output_pids program number program_map = record program_map {
   streams = record { items = with_pids_from (video_pid program) program_map.streams.items };
 }
 
--- the PIDs of the streams of a map
-abbrev pub map_pids : ProgramMap → List ℕ
-map_pids program_map = map (λ stream. stream.pid) program_map.streams.items
-
 -- the PIDs of all streams, those of a program behind those of the programs before it
 abbrev pub stream_pids : Layout → List ℕ
-stream_pids layout = flat_map map_pids layout.maps.items
+stream_pids layout = flat_map pids_of layout.maps.items
 
 -- the PID of the stream of this number over all programs
 abbrev pub stream_pid : Layout → (stream : ℕ) → ℕ
@@ -50,7 +46,7 @@ stream_pid layout stream = slice_index (stream_pids layout) stream
 -- stands in one packet
 pub record IsOutputMap (program : ℕ) (program_map : ProgramMap) : Type 0 where
   pub pcr : program_map.pcr_pid ≡ video_pid program
-  pub pids : map_pids program_map ≡ range_with_len (video_pid program) (length program_map.streams.items)
+  pub pids : pids_of program_map ≡ range_with_len (video_pid program) (length program_map.streams.items)
   pub few : length program_map.streams.items ≤ PROGRAM_STREAMS_MOST
   pub writable : IsWritableMap program_map
   pub fits : pmt_length program_map ≤ PACKET_SECTION_BYTES

@@ -1,11 +1,10 @@
 -- The sections of an output stream (ISO/IEC 13818-1, 2.4.4), each as the payload of one packet.
-use Rattle.std.specs.Prelude.{ℕ, ◌+◌, ◌-◌, List, [], ◌∷◌, ◌++◌, length, map, replicate}
+use Rattle.std.specs.Prelude.{ℕ, ◌+◌, List, [], ◌∷◌, ◌++◌, map}
 use Rattle.std.specs.Int.{w32, to_be_bytes}
-use Rattle.stream_constants.specs.declared.packets.TheConstants.{PAYLOAD_BYTES}
 use Rattle.psi_tables.specs.declared.program_map.ProgramMap.{ProgramMap}
 use Rattle.psi_tables.specs.Pat.{written_pat}
 use Rattle.psi_tables.specs.Pmt.{written_pmt}
-use Rattle.psi_tables.specs.Sections.{crc_over, stuffing_byte}
+use Rattle.psi_tables.specs.Sections.{crc_over, section_payload}
 use Rattle.mux_writer.specs.declared.layout.Layout.{Layout}
 use Rattle.mux_writer.specs.Layout.{map_pid}
 
@@ -25,10 +24,6 @@ pat_section layout = with_crc (written_pat layout.stream_id (programs_from 0 lay
 -- the PMT section of a program
 abbrev pub pmt_section : ProgramMap → List ℕ
 pmt_section program_map = with_crc (written_pmt program_map)
-
--- a section behind a pointer_field of 0, and stuffing bytes to the packet's end (2.4.4.1)
-abbrev pub section_payload : List ℕ → List ℕ
-section_payload section = 0 ∷ section ++ replicate (PAYLOAD_BYTES - 1 - length section) stuffing_byte
 
 -- the payload of the PAT's packets
 abbrev pub pat_payload : Layout → List ℕ

@@ -1,8 +1,9 @@
 ghost use Rattle.std.specs.Prelude.{◌≡◌, ◌+◌, ◌≤◌, ◌++◌, length};
-ghost use Rattle.psi_tables.specs.Pmt.{IsWritableMap, pmt_length};
+ghost use Rattle.psi_tables.specs.Pmt.{IsWritableMap, pids_of, pmt_length};
 ghost use Rattle.psi_tables.specs.declared.pmt.TheConstants.{PACKET_SECTION_BYTES as MOST};
-ghost use Rattle.mux_writer.specs.Layout.{IsLayout, map_pids, stream_pids};
-ghost use Rattle.mux_writer.specs.Tables.{pat_payload, pmt_payloads, pmt_section, programs_from, section_payload};
+ghost use Rattle.psi_tables.specs.Sections.{section_payload};
+ghost use Rattle.mux_writer.specs.Layout.{IsLayout, stream_pids};
+ghost use Rattle.mux_writer.specs.Tables.{pat_payload, pmt_payloads, pmt_section, programs_from};
 ghost use Rattle.mux_writer.specs.Private.Writer.{IsPrepared};
 
 use crate::layout::{LAYOUT_STREAMS_MOST, Layout, map_pid};
@@ -113,7 +114,7 @@ fn pids_of(layout: &Layout) -> ArrayVec<u16, LAYOUT_STREAMS_MOST>
 /// Appends the PIDs of a program's streams, for which there is room.
 fn put_pids(map: &ProgramMap, pids: &mut ArrayVec<u16, LAYOUT_STREAMS_MOST>)
     requires { length pids.old.items + length map.now.streams.items ≤ LAYOUT_STREAMS_MOST }
-    ensures { pids.new.items ≡ pids.old.items ++ map_pids map.now }
+    ensures { pids.new.items ≡ pids.old.items ++ pids_of map.now }
 {
     for stream in map.streams.as_slice() {
         pids.push(stream.pid);

@@ -45,15 +45,17 @@ use Rattle.std.proofs.lemmas.List.Sums.{length-filter}
 use Rattle.std.proofs.lemmas.Option.{get_or_from_slice_get, slice_get-get_or, slice_get_within}
 use Rattle.payload_lists.specs.Payload.{Payload}
 use Rattle.psi_tables.specs.declared.program_map.ProgramMap.{ProgramMap}
+use Rattle.psi_tables.specs.Sections.{section_payload}
+use Rattle.psi_tables.specs.Pmt.{pids_of}
 use Rattle.version_table.proofs.ValidUnits.{All-flat_map}
 use Rattle.slot_rule.specs.declared.sent.Sent.{Sent}
 use Rattle.slot_rule.specs.declared.sent.Sent.TheVariants.{Null, Pat, Pmt, Pcr, Video, Audio}
 use Rattle.slot_rule.specs.SlotList.{is_sent_of}
 use Rattle.mux_writer.specs.declared.layout.Layout.{Layout}
-use Rattle.mux_writer.specs.Layout.{IsLayout, IsOutputMap, map_pid, map_pids, stream_pid, stream_pids, video_pid}
+use Rattle.mux_writer.specs.Layout.{IsLayout, IsOutputMap, map_pid, stream_pid, stream_pids, video_pid}
 use Rattle.mux_writer.specs.Output.{IsOfLayout, payload_count}
 use Rattle.mux_writer.specs.Pieces.{IsPayload, Pieces}
-use Rattle.mux_writer.specs.Tables.{pat_payload, pmt_payloads, pmt_section, section_payload}
+use Rattle.mux_writer.specs.Tables.{pat_payload, pmt_payloads, pmt_section}
 use Rattle.output_laws.specs.SentOn.{AreRowsOf, is_sent_on, payload_sent, payloads_sent_on}
 
 -- ---- PIDs of streams
@@ -69,10 +71,10 @@ record IsStreamPid (pid : ℕ) : Type 0 where
 no_map : ProgramMap
 no_map = record { number = 0; pcr_pid = 0; streams = record { items = [] }; dropped = 0 }
 
-pids-in-map : (program : ℕ) (program_map : ProgramMap) → program < 8 → IsOutputMap program program_map → All IsStreamPid (map_pids program_map)
+pids-in-map : (program : ℕ) (program_map : ProgramMap) → program < 8 → IsOutputMap program program_map → All IsStreamPid (pids_of program_map)
 pids-in-map program program_map low is =
     let n : ℕ = length program_map.streams.items in
-    All-same IsStreamPid (map_pids program_map) (range_with_len (video_pid program) n) is.pids
+    All-same IsStreamPid (pids_of program_map) (range_with_len (video_pid program) n) is.pids
     (All-from_get_or IsStreamPid (range_with_len (video_pid program) n) 0
     (λ i within.
     let inside : i < n = omega (arith, within, length-range_with_len (video_pid program) n) in
@@ -81,8 +83,8 @@ pids-in-map program program_map low is =
 stream-pid : (layout : Layout) (stream : ℕ) → IsLayout layout → length layout.maps.items ≤ 8 → stream < length (stream_pids layout) → IsStreamPid (stream_pid layout stream)
 stream-pid layout stream is few within =
     All-get_or IsStreamPid (stream_pids layout) stream 0 within
-    (All-flat_map IsStreamPid map_pids layout.maps.items
-    (All-from_get_or (λ (m : ProgramMap). All IsStreamPid (map_pids m)) layout.maps.items no_map
+    (All-flat_map IsStreamPid pids_of layout.maps.items
+    (All-from_get_or (λ (m : ProgramMap). All IsStreamPid (pids_of m)) layout.maps.items no_map
     (λ program inside. pids-in-map program (get_or layout.maps.items program no_map) (omega (arith, inside, few))
     (is.maps program (get_or layout.maps.items program no_map) (slice_get-get_or layout.maps.items program no_map inside)))))
 
@@ -101,15 +103,15 @@ climb-range : (n first low : ℕ) (rest : List ℕ) → low ≤ first → Climb 
 climb-range zero first low rest le climb = climb-lower low (first + 0) rest (omega arith) climb
 climb-range (suc n) first low rest le climb = (le, climb-range n (first + 1) (first + 1) rest (omega arith) (subst (λ (k : ℕ). Climb k rest) (omega arith) climb))
 
-climb-all : (program : ℕ) (maps : List ProgramMap) → ((k : ℕ) (m : ProgramMap) → slice_get maps k ≡ Some m → IsOutputMap (program + k) m) → Climb (video_pid program) (flat_map map_pids maps)
+climb-all : (program : ℕ) (maps : List ProgramMap) → ((k : ℕ) (m : ProgramMap) → slice_get maps k ≡ Some m → IsOutputMap (program + k) m) → Climb (video_pid program) (flat_map pids_of maps)
 climb-all program [] each = tt
 climb-all program (program_map ∷ maps) each =
     let same : program + 0 ≡ program = omega arith in
     let is : IsOutputMap program program_map = subst (λ (k : ℕ). IsOutputMap k program_map) same (each 0 program_map refl) in
     let others = climb-all (program + 1) maps (λ k m found. subst (λ (n : ℕ). IsOutputMap n m) (let e : program + suc k ≡ program + 1 + k = omega arith in e) (each (suc k) m found)) in
-    subst (λ (pids : List ℕ). Climb (video_pid program) (pids ++ flat_map map_pids maps)) (sym is.pids)
-    (climb-range (length program_map.streams.items) (video_pid program) (video_pid program) (flat_map map_pids maps) (omega arith)
-    (climb-lower (video_pid program + length program_map.streams.items) (video_pid (program + 1)) (flat_map map_pids maps) (omega (arith, is.few)) others))
+    subst (λ (pids : List ℕ). Climb (video_pid program) (pids ++ flat_map pids_of maps)) (sym is.pids)
+    (climb-range (length program_map.streams.items) (video_pid program) (video_pid program) (flat_map pids_of maps) (omega arith)
+    (climb-lower (video_pid program + length program_map.streams.items) (video_pid (program + 1)) (flat_map pids_of maps) (omega (arith, is.few)) others))
 
 climb-least : (low : ℕ) (xs : List ℕ) (i : ℕ) → Climb low xs → i < length xs → low ≤ get_or xs i 0
 climb-least low [] i climb within = absurd (omega arith)

@@ -46,16 +46,17 @@ use Rattle.std.proofs.lemmas.List.Elements.{All-from_get_or, All-get_or}
 use Rattle.std.proofs.lemmas.List.FromFn.{get_or-map-range_with_len, length-map-range_with_len, take-map-range_with_len}
 use Rattle.payload_lists.specs.Payload.{Payload}
 use Rattle.psi_tables.specs.declared.program_map.ProgramMap.{ProgramMap}
+use Rattle.psi_tables.specs.Sections.{section_payload}
 use Rattle.ts_packets.specs.Packet.{PacketRecord}
-use Rattle.ts_packets.specs.Carried.{is_discontinuous}
+use Rattle.ts_packets.specs.Carried.{has_payload_on, is_discontinuous, payload_of, payloads_on}
 use Rattle.slot_rule.specs.declared.sent.Sent.{Sent}
 use Rattle.slot_rule.specs.declared.sent.Sent.TheVariants.{Null, Pat, Pmt, Pcr, Video, Audio}
 use Rattle.mux_writer.specs.declared.layout.Layout.{Layout}
 use Rattle.mux_writer.specs.Layout.{stream_pid}
 use Rattle.mux_writer.specs.Output.{IsOfLayout, carries_payload, output_packets, packet_in, output_packet, payload_count, pid_of, piece_record, sent_in, stuffing_field}
 use Rattle.mux_writer.specs.Pieces.{HasPayloadSize, IsPayload, Pieces}
-use Rattle.mux_writer.specs.Tables.{pmt_payloads, pmt_section, section_payload}
-use Rattle.layer_laws.specs.Counted.{AreCounted, RiseByOne, has_payload_on, payload_of, payloads_on}
+use Rattle.mux_writer.specs.Tables.{pmt_payloads, pmt_section}
+use Rattle.layer_laws.specs.Counted.{AreCounted, RiseByOne}
 use Rattle.output_laws.specs.SentOn.{is_sent_on, payload_sent, payloads_sent_on, slots_between}
 
 -- ---- one packet

@@ -45,16 +45,16 @@ use Rattle.psi_tables.specs.declared.program_map.ProgramMap.{ProgramMap}
 use Rattle.psi_tables.specs.declared.stream.Stream.{Stream}
 use Rattle.psi_tables.specs.Sections.{sections_of}
 use Rattle.psi_tables.specs.Pat.{IsPat, pat_map_pid as said_pid}
-use Rattle.psi_tables.specs.Pmt.{IsWritableMap, pmt_length, without_dropped}
+use Rattle.psi_tables.specs.Pmt.{IsWritableMap, pids_of, pmt_length, without_dropped}
 use Rattle.psi_tables.specs.PmtOf.{pmt_of}
 use Rattle.slot_rule.specs.declared.sent.Sent.{Sent}
 use Rattle.slot_rule.specs.declared.sent.Sent.TheVariants.{Null}
 use Rattle.ts_demux.specs.declared.demux_fault.DemuxFault.{DemuxFault}
-use Rattle.ts_demux.specs.Demux.{AreStreamsSound, IsDemuxed, IsStreamFault, pes_packets_on, pids_of as carried_pids}
+use Rattle.ts_demux.specs.Demux.{AreStreamsSound, IsDemuxed, IsStreamFault, pes_packets_on}
 use Rattle.ts_demux.specs.Streams.{audios_of, is_among, is_video, others_of, video_of, without_video}
 use Rattle.ts_demux.specs.Tables.{HasMap}
 use Rattle.mux_writer.specs.declared.layout.Layout.{Layout}
-use Rattle.mux_writer.specs.Layout.{IsLayout, map_pid, map_pids, video_pid}
+use Rattle.mux_writer.specs.Layout.{IsLayout, map_pid, video_pid}
 use Rattle.mux_writer.specs.Output.{IsOfLayout, output_packets, output_stream, packet_in, payload_count}
 use Rattle.mux_writer.specs.Pieces.{IsPayload, Pieces}
 use Rattle.mux_writer.specs.Tables.{pat_section, pmt_section, programs_from}
@@ -217,14 +217,14 @@ taken-out counts order written sound layout slot pieces rows program program_map
     tail_of [] = []
     tail_of (x ∷ xs) = xs
 
-    not-null : (pid : ℕ) → is_among (map_pids program_map) pid ≡ true → pid ≢ 0x1FFF
+    not-null : (pid : ℕ) → is_among (pids_of program_map) pid ≡ true → pid ≢ 0x1FFF
     not-null pid among same =
         let goes = are.is_layout.maps program program_map numbered.there in
         let place : program < length layout.maps.items = slice_get_within layout.maps.items program program_map numbered.there in
         let low = among-range (video_pid program) (length program_map.streams.items) pid (sym (ap (λ (xs : List ℕ). is_among xs pid) goes.pids) ∙ among) in
         omega (arith, low, same, goes.few, place, are.few)
 
-    no-fault : (n : ℕ) (fault : DemuxFault) → IsStreamFault (output_stream layout slot pieces rows) (map_pids program_map) n fault → ⊥
+    no-fault : (n : ℕ) (fault : DemuxFault) → IsStreamFault (output_stream layout slot pieces rows) (pids_of program_map) n fault → ⊥
     no-fault n fault (inl (unsynced, is)) =
         unsynced.no_sync (each-synced counts order written layout slot pieces rows are n (omega (arith, unsynced.within, as-many counts order written layout slot pieces rows are)))
     no-fault n fault (inr (pid, found, among, hits, is)) =

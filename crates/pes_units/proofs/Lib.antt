@@ -2,6 +2,7 @@ pub mod CutExamples
 pub mod Cycles
 pub mod Elements
 pub mod Gathering
+pub mod PesPieces
 pub mod Prefix
 pub mod Refusals
 pub mod RoundTrip

@@ -1,5 +1,6 @@
 pub mod PesHeader
 pub mod PesPackets
+pub mod PesPieces
 pub mod TimeAxis
 pub mod Times
 pub mod VideoHeader

@@ -54,3 +54,14 @@ times_of bytes = record {
   pts = if nat_le 2 (pts_dts_flags bytes) then Some (time_at bytes 9) else None;
   dts = if pts_dts_flags bytes == 3 then Some (time_at bytes 14) else None;
 }
+
+-- ---- the decoding time
+
+-- the one of two times that stands first
+abbrev pub decoding_of : Option ℕ → Option ℕ → Option ℕ
+decoding_of (Some dts) pts = Some dts
+decoding_of None pts = pts
+
+-- the decoding time in units of 1/90,000 s modulo 2^33: the DTS, or the PTS where none stands (2.4.3.7)
+abbrev pub decoding_time : Times → Option ℕ
+decoding_time times = decoding_of times.dts times.pts

@@ -17,18 +17,18 @@ use Rattle.syntax_types.specs.declared.picture.PicCoding.{PicCoding}
 use Rattle.syntax_types.specs.declared.picture.SeqState.{SeqState}
 use Rattle.picture_grammar.specs.Picture.{first_column}
 use Rattle.picture_grammar.specs.Slice.{next_macroblock}
+use Rattle.video_headers.specs.Private.Reading.{Rests}
 use Rattle.picture_reader.specs.declared.coverage.Span.{Span}
 use Rattle.picture_reader.specs.Coverage.{IsSpan}
 use Rattle.picture_reader.specs.Told.{RefusesTold}
-use Rattle.picture_reader.specs.Private.Reading.{HasLeft}
 use Rattle.picture_reader.specs.Coverage.{IsSpanSoFar}
 
 module _ {A S : Type 0} {g : Ghosts S} (grammar : Grammar A) (old : BitReader S g) (end : ℕ) (bits : List ℕ) where
   -- a value that was read is spelled by the bits that were left
-  pub reads-told : (new : BitReader S g) (value : A) → Reads grammar value old new → HasLeft old end bits → (rest : List ℕ) × grammar.Spells value bits rest × HasLeft new end rest
+  pub reads-told : (new : BitReader S g) (value : A) → Reads grammar value old new → Rests old end bits → (rest : List ℕ) × grammar.Spells value bits rest × Rests new end rest
   reads-told new value r has = by_bits (bits_left new) refl r.spelled r.left where
     by_bits : (after : Option (List ℕ)) → bits_left new ≡ after → IsSpelled grammar value r.front after → bits_left old ≡ option_map (λ (rest : List ℕ). r.front ++ rest) after
-        → (rest : List ℕ) × grammar.Spells value bits rest × HasLeft new end rest
+        → (rest : List ℕ) × grammar.Spells value bits rest × Rests new end rest
     by_bits None e s split = absurd (let never : Some bits ≡ None = sym has.told ∙ split in cc)
     by_bits (Some rest) e s split =
         let both : Some bits ≡ Some (r.front ++ rest) = sym has.told ∙ split in
@@ -42,7 +42,7 @@ module _ {A S : Type 0} {g : Ghosts S} (grammar : Grammar A) (old : BitReader S 
         )
 
   -- a refusal that a fault tells is one of the bits that were left
-  pub explains-told : (told : Option PlacedRefusal) → Explains grammar old told → HasLeft old end bits → RefusesTold grammar told end bits
+  pub explains-told : (told : Option PlacedRefusal) → Explains grammar old told → Rests old end bits → RefusesTold grammar told end bits
   explains-told None explains has = tt
   explains-told (Some said) explains has =
       let r = subst (λ (o : Option (List ℕ)). IfSome o (λ b. ExplainsFrom grammar (Some said) b (place old))) has.told explains in

@@ -6,12 +6,12 @@ ghost use Rattle.bit_cursor.specs.BitReader.{faults_of, absences_of, KeepsSource
 ghost use Rattle.picture_grammar.specs.Grammar.{many};
 ghost use Rattle.picture_grammar.specs.Picture.{IsCoding};
 ghost use Rattle.picture_grammar.specs.Slice.{next_macroblock, slice};
+ghost use Rattle.video_headers.specs.Private.Reading.{Rests};
 ghost use Rattle.macroblock_reader.specs.SliceFault.{refusal_told};
 ghost use Rattle.picture_reader.specs.declared.keep.Keep.TheVariants.{Tree};
 ghost use Rattle.picture_reader.specs.Told.{IsInside};
 ghost use Rattle.picture_reader.specs.Private.Reading.{AllRead, SliceRead};
 ghost use Rattle.picture_reader.specs.Told.{RefusesTold};
-ghost use Rattle.picture_reader.specs.Private.Reading.{HasLeft};
 
 use crate::coverage::Span;
 use crate::keep::Keep;
@@ -88,7 +88,7 @@ fn walk_macroblocks<S: Source>(
     alloc: Global,
 ) -> Result<MacroblocksWalked, SliceFault>
     requires { IsCoding coding.now }
-    ensures gives { (end : ℕ) (bits : List ℕ) → HasLeft from.old end bits →
+    ensures gives { (end : ℕ) (bits : List ℕ) → Rests from.old end bits →
         MatchResult result (λ walked. AllRead seq.now coding.now keep walked end bits from.new)
         (λ fault. RefusesTold (many (next_macroblock seq.now coding.now)) (refusal_told fault) end bits) }
     ensures few { IfOk result (λ walked. walked.span.end ≤ 4096) }

@@ -4,9 +4,10 @@ ghost use Rattle.shelf_io.specs.Causes.{SinkCauses};
 ghost use Rattle.bit_cursor.specs.BitWriter.{AddsBits};
 ghost use Rattle.syntax_types.specs.declared.picture.SeqState.{SeqState};
 ghost use Rattle.picture_grammar.specs.Picture.{IsCoding, IsLawful, SpellsPicture};
-ghost use Rattle.picture_grammar.specs.Written.{written_picture, IsWritten};
+ghost use Rattle.picture_grammar.specs.Written.{IsWritten, written_picture};
+ghost use Rattle.macroblock_writer.specs.Private.WholeSlices.{written_whole_slice};
 ghost use Rattle.picture_writer.specs.WrittenPicture.{AddsFront, written_end};
-ghost use Rattle.picture_writer.specs.Private.Slices.{CanBeWritten, written_whole_slice};
+ghost use Rattle.picture_writer.specs.Private.Slices.{CanBeWritten};
 
 use crate::slices::{write_end, write_slices};
 use bit_cursor::BitWriter;

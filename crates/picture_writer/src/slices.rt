@@ -3,8 +3,9 @@ ghost use Rattle.std.specs.List.{flat_map, AllByRecursion};
 ghost use Rattle.bit_cursor.specs.BitWriter.{is_stopped, odd_bits, Writes};
 ghost use Rattle.picture_grammar.specs.Picture.{IsCoding};
 ghost use Rattle.picture_grammar.specs.StartCode.{start_code_bits};
+ghost use Rattle.macroblock_writer.specs.Private.WholeSlices.{written_whole_slice};
 ghost use Rattle.picture_writer.specs.WrittenPicture.{written_end};
-ghost use Rattle.picture_writer.specs.Private.Slices.{CanBeWritten, written_whole_slice};
+ghost use Rattle.picture_writer.specs.Private.Slices.{CanBeWritten};
 
 use bit_cursor::BitWriter;
 use macroblock_writer::write_slice;

@@ -42,10 +42,11 @@ use Rattle.std.proofs.lemmas.List.Concat.{flat_map-append}
 use Rattle.std.proofs.lemmas.List.Elements.{filter-append}
 use Rattle.ts_packets.specs.declared.adaptation_field.AdaptationField.{AdaptationField}
 use Rattle.ts_packets.specs.Packet.{PacketRecord, written}
+use Rattle.psi_tables.specs.Sections.{section_payload}
 use Rattle.program_maker.specs.declared.output.Carried.{Carried}
 use Rattle.program_maker.specs.declared.output.Carried.TheVariants.{Video, Audio}
 use Rattle.program_maker.specs.declared.output.Output.{Output}
-use Rattle.program_maker.specs.Packets.{payload_packet, stuffing, lone_section_payload, section_packet, payloads_of, pcr_packet, counter_behind, counted}
+use Rattle.program_maker.specs.Packets.{payload_packet, stuffing, section_packet, payloads_of, pcr_packet, counter_behind, counted}
 use Rattle.program_maker.specs.Private.Output.{IsBehind, TakesCounter, pid_of}
 
 abbrev with_counter : PacketRecord → ℕ → PacketRecord
@@ -174,20 +175,20 @@ as-payload carried pid start counter field payload e f =
     ∙ ap (λ (g : Option AdaptationField). written (record { pid = pid_of carried; start = start; counter = counter; field = g; payload = payload })) f
 
 -- a section fills its packet
-pub section-size : (section : List ℕ) → length section < 184 → length (lone_section_payload section) ≡ 184
+pub section-size : (section : List ℕ) → length section < 184 → length (section_payload section) ≡ 184
 section-size section few =
     let rest : List ℕ = replicate (184 - 1 - length section) 0xFF in
     let parts : length (section ++ rest) ≡ length section + length rest = length-append section rest in
     let filled : length rest ≡ 184 - 1 - length section = length-replicate (184 - 1 - length section) 0xFF in
-    let one : length (lone_section_payload section) ≡ suc (length (section ++ rest)) = refl in
+    let one : length (section_payload section) ≡ suc (length (section ++ rest)) = refl in
     omega (arith, parts, filled, one, few)
 
-pub section-as : (pid : ℕ) (section payload : List ℕ) → length section < 184 → payload ≡ lone_section_payload section
+pub section-as : (pid : ℕ) (section payload : List ℕ) → length section < 184 → payload ≡ section_payload section
     → written (record { pid = pid; start = true; counter = 0; field = None; payload = payload }) ≡ written (section_packet pid section)
 section-as pid section payload few is =
     ap (λ (bytes : List ℕ). written (record { pid = pid; start = true; counter = 0; field = None; payload = bytes })) is
-    ∙ ap (λ (field : Option AdaptationField). written (record { pid = pid; start = true; counter = 0; field = field; payload = lone_section_payload section }))
-    (sym (ap (λ (b : Bool). cond b None (Some (record { discontinuity = false; pcr = None }))) (eq-eqb (length (lone_section_payload section)) 184 (section-size section few))))
+    ∙ ap (λ (field : Option AdaptationField). written (record { pid = pid; start = true; counter = 0; field = field; payload = section_payload section }))
+    (sym (ap (λ (b : Bool). cond b None (Some (record { discontinuity = false; pcr = None }))) (eq-eqb (length (section_payload section)) 184 (section-size section few))))
 
 -- what stays behind a section that was copied into its packet
 pub behind-section : (n : ℕ) → n < 184 → drop {A = ℕ} (1 + n - 1) (replicate 183 0xFF) ≡ replicate (184 - 1 - n) 0xFF

@@ -1,5 +1,5 @@
 -- Drawn things that are written one behind the other.
-use Rattle.std.proofs.Common.{◌≡◌, ◌+◌, ℕ, List, [], ◌∷◌, ◌++◌, Ok, Err, OnOk, Result, refl, sym, ap, subst, ◌∙◌, append-nil, Bool, false}
+use Rattle.std.proofs.Common.{◌≡◌, ◌+◌, ℕ, List, [], ◌∷◌, ◌++◌, Ok, Err, OnOk, Result, sym, ap, subst, ◌∙◌, append-nil, Bool}
 use Rattle.std.specs.List.{flat_map, range_with_len}
 use Rattle.std.proofs.lemmas.List.Concat.{flat_map-append}
 use Rattle.shelf_io.specs.declared.fault.Fault.{Fault}
@@ -7,30 +7,22 @@ use Rattle.shelf_io.specs.Sink.{Told, with_bytes}
 use Rattle.shelf_io.specs.Sink.Told.{Bytes, Number, Nothing}
 use Rattle.bit_lists.specs.Fields.{AreBytes, bit_list}
 use Rattle.bit_lists.proofs.ByteLemmas.{AreBytes-append, bit_list-append}
-use Rattle.picture_grammar.specs.Written.{written_picture, IsWritten}
+use Rattle.picture_grammar.specs.Written.{IsWritten, written_picture}
 use Rattle.bit_cursor.specs.declared.bit_writer.BitWriter.{BitWriter}
-use Rattle.bit_cursor.specs.BitWriter.{Gets, AddsBits, Writes, is_stopped, told_by, waiting_in}
-use Rattle.bit_cursor.proofs.Gets.{gets_none}
-use Rattle.bit_cursor.proofs.Composed.{gets_twice, gets_whole}
+use Rattle.bit_cursor.specs.BitWriter.{Gets, AddsBits, Writes, told_by, waiting_in}
+use Rattle.bit_cursor.proofs.Composed.{gets_whole}
+use Rattle.macroblock_writer.specs.Private.Going.{GoesOn}
+use Rattle.macroblock_writer.proofs.Going.{goes-as, goes-then}
+use Rattle.macroblock_writer.specs.Private.WholeSlices.{written_whole_slice}
 use Rattle.program_maker.specs.Draws.{Drawn, draw_each}
 use Rattle.program_maker.specs.Heads.{coding_of, is_predicted, head_of}
 use Rattle.program_maker.specs.Pictures.{drawn_slices, drawn_picture}
-use Rattle.program_maker.specs.Private.Writing.{GoesOn, written_whole_slice}
 use Rattle.program_maker.proofs.HeadBytes.{head-are}
 use Rattle.program_maker.proofs.Drawing.{each-more}
 
 module _ {K : Type 0} {written : K → Told} where
-  pub goes-then : {a b c : BitWriter K} {xs ys : List ℕ} → GoesOn written a b xs → GoesOn written b c ys → GoesOn written a c (xs ++ ys)
-  goes-then first then = record { puts = gets_twice first.puts then.puts; goes = then.goes; same_sink = then.same_sink ∙ first.same_sink }
-
-  pub goes-as : {a b : BitWriter K} {xs ys : List ℕ} → GoesOn written a b xs → xs ≡ ys → GoesOn written a b ys
-  goes-as {a} {b} goes e = subst (λ (bits : List ℕ). GoesOn written a b bits) e goes
-
   pub goes-from : {T : Type 0} {faults : K → ℕ} {keeps : K → K → Type 0} {a b : BitWriter K} {x : T} {xs : List ℕ} → Writes written faults keeps a b (Ok x) xs → GoesOn written a b xs
   goes-from call = record { puts = call.ok; goes = call.stopped; same_sink = call.same_sink }
-
-  pub goes-nowhere : (a : BitWriter K) → is_stopped a ≡ false → GoesOn written a a []
-  goes-nowhere a goes = record { puts = gets_none (written (a.sink.now)) a.waiting [] a.waiting (sym (append-nil a.waiting)); goes = goes; same_sink = refl }
 
   pub goes-on_ok : {T : Type 0} {faults : K → ℕ} {keeps : K → K → Type 0} {a b c : BitWriter K} {xs ys zs : List ℕ} (r : Result T Fault)
       → GoesOn written a b xs → Writes written faults keeps b c r ys → xs ++ ys ≡ zs → OnOk r (GoesOn written a c zs)

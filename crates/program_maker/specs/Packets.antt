@@ -1,11 +1,12 @@
 -- Transport packets of a generated program (ISO/IEC 13818-1, 2.4.3.2 to 2.4.3.5).
-use Rattle.std.specs.Prelude.{ℕ, ◌+◌, ◌-◌, ◌*◌, ◌/◌, ◌%◌, ◌==◌, ◌&&◌, nat_lt, Bool, true, false, Option, Some, None, List, [], ◌∷◌, ◌++◌, length, map, replicate, if◌then◌else◌}
+use Rattle.std.specs.Prelude.{ℕ, ◌+◌, ◌-◌, ◌*◌, ◌/◌, ◌%◌, ◌==◌, ◌&&◌, nat_lt, Bool, true, false, Option, Some, None, List, [], ◌∷◌, ◌++◌, length, map, if◌then◌else◌}
 use Rattle.std.specs.List.{filter, range_with_len}
 use Rattle.std.specs.Fork.{slice_chunk}
 use Rattle.stream_constants.specs.declared.clock.TheConstants.{TICKS_PER_TIME_UNIT}
 use Rattle.stream_constants.specs.declared.packets.TheConstants.{PAYLOAD_BYTES}
 use Rattle.ts_packets.specs.declared.adaptation_field.AdaptationField.{AdaptationField}
 use Rattle.ts_packets.specs.Packet.{PacketRecord}
+use Rattle.psi_tables.specs.Sections.{section_payload}
 use Rattle.program_maker.specs.declared.format.TheConstants.{VIDEO_PID, PCR_LEAD}
 use Rattle.program_maker.specs.Streams.{picture_dts}
 
@@ -19,13 +20,9 @@ stuffing size = if size == PAYLOAD_BYTES then None else Some (record { discontin
 abbrev pub payload_packet : ℕ → Bool → List ℕ → PacketRecord
 payload_packet pid start payload = record { pid = pid; start = start; counter = 0; field = stuffing (length payload); payload = payload }
 
--- a section behind pointer_field 0, and bytes FF (2.4.4.1)
-abbrev pub lone_section_payload : List ℕ → List ℕ
-lone_section_payload section = 0 ∷ section ++ replicate (PAYLOAD_BYTES - 1 - length section) 0xFF
-
 -- a section in a packet of its own
 abbrev pub section_packet : ℕ → List ℕ → PacketRecord
-section_packet pid section = payload_packet pid true (lone_section_payload section)
+section_packet pid section = payload_packet pid true (section_payload section)
 
 -- packets that the bytes of a PES packet fill
 abbrev pub pes_packet_count : ℕ → ℕ

@@ -2,7 +2,8 @@
 ghost use Rattle.std.specs.Prelude.{◌≡◌, ◌≢◌, ◌<◌, ◌≤◌, ◌+◌, ◌*◌, ◌^◌, [], ◌∷◌, ◌++◌, List, length, OnOk};
 ghost use Rattle.std.specs.Fork.{slice_chunk};
 ghost use Rattle.ts_packets.specs.Packet.{PacketRecord, IsWritable, record_of, written};
-ghost use Rattle.program_maker.specs.Packets.{payload_packet, payloads_of, pcr_packet, pes_packets, section_packet, lone_section_payload, stuffing as stuffing_of};
+ghost use Rattle.psi_tables.specs.Sections.{section_payload};
+ghost use Rattle.program_maker.specs.Packets.{payload_packet, payloads_of, pcr_packet, pes_packets, section_packet, stuffing as stuffing_of};
 ghost use Rattle.program_maker.specs.Private.Output.{IsBehind, TakesCounter, pid_of};
 
 use crate::format::{AUDIO_PID, FIRST_TIME, PCR_LEAD, PICTURE_TIME, PICTURES_MOST, VIDEO_PID};
@@ -179,7 +180,7 @@ fn stuffing(size: usize) -> Option<AdaptationField>
 /// A section behind pointer_field 0, and bytes FF.
 fn section_bytes(section: &[u8]) -> [u8; PAYLOAD_BYTES]
     requires { length section.now < PAYLOAD_BYTES }
-    ensures { result ≡ lone_section_payload section.now }
+    ensures { result ≡ section_payload section.now }
 {
     let mut payload = [0xFF; PAYLOAD_BYTES];
     payload[0] = 0;

@@ -4,10 +4,11 @@ ghost use Rattle.std.specs.List.{flat_map};
 ghost use Rattle.bit_cursor.specs.BitWriter.{is_stopped, odd_bits, AddsBits};
 ghost use Rattle.bit_lists.specs.Bits.{bits_of};
 ghost use Rattle.picture_grammar.specs.StartCode.{start_code_bits};
-ghost use Rattle.picture_grammar.specs.Written.{written_macroblock, IsWritten};
+ghost use Rattle.picture_grammar.specs.Written.{IsWritten, written_macroblock};
+ghost use Rattle.macroblock_writer.specs.Private.Going.{GoesOn};
+ghost use Rattle.macroblock_writer.specs.Private.WholeSlices.{written_whole_slice};
 ghost use Rattle.program_maker.specs.Heads.{coding_of, is_predicted as is_predicted_by};
 ghost use Rattle.program_maker.specs.Pictures.{drawn_row, drawn_slice, drawn_slices, drawn_picture};
-ghost use Rattle.program_maker.specs.Private.Writing.{GoesOn, written_whole_slice};
 
 use crate::draws::Draws;
 use crate::format::{COLUMNS, ROWS, SLICE_CODE};

@@ -53,6 +53,7 @@ use Rattle.std.proofs.lemmas.List.{take_more, take_all, drop_more, length-append
 use Rattle.std.proofs.lemmas.List.Elements.{All-push, All-cons, All-tail, All-nil}
 use Rattle.bit_lists.specs.Fields.{bit_list}
 use Rattle.pes_units.specs.declared.times.Times.{Times}
+use Rattle.pes_units.specs.Times.{decoding_time}
 use Rattle.ts_demux.specs.declared.demuxed.PesUnit.{PesUnit}
 use Rattle.picture_grammar.specs.Picture.{IsState}
 use Rattle.picture_grammar.specs.Refusal.{Refusal}
@@ -68,7 +69,7 @@ use Rattle.program_reader.specs.declared.timed_picture.Role.{Role}
 use Rattle.program_reader.specs.declared.timed_picture.Role.TheVariants.{Frame, FirstField, SecondField}
 use Rattle.program_reader.specs.declared.timed_picture.TimedPicture.{TimedPicture}
 use Rattle.program_reader.specs.declared.unit_picture.TimedUnit.{TimedUnit}
-use Rattle.program_reader.specs.Packets.{decoding_time, pes_payload_of, joined, placed_from}
+use Rattle.program_reader.specs.Packets.{pes_payload_of, joined, placed_from}
 use Rattle.program_reader.specs.PictureTimes.{first_picture, is_first_picture_in, no_times, times_at, times_of_unit}
 use Rattle.program_reader.specs.Units.{unit_bytes, state_behind, frame_period, share_of, ticks_behind, IsTimed, IsNext, IsBroken, IsUnitRefused}
 use Rattle.program_reader.specs.Units.{AreInOrder, last_of, is_none_left, IsUnitsFault, AreKept}

@@ -63,8 +63,8 @@ use Rattle.list_types.specs.Spans.{spans}
 use Rattle.audio_frames.proofs.Chains.{some_frame}
 use Rattle.audio_frames.proofs.Formats.{header_long, goes_on_header}
 use Rattle.pes_units.specs.TimeAxis.{IsUnwrapped}
+use Rattle.pes_units.specs.Times.{decoding_time}
 use Rattle.program_reader.specs.declared.pes_packets.PlacedPacket.{PlacedPacket}
-use Rattle.program_reader.specs.Packets.{decoding_time}
 use Rattle.program_reader.specs.Audio.{IsPlacedTime, AreStartsOf}
 use Rattle.program_reader.proofs.OneUnits.{unwrapped_one}
 use Rattle.audio_frames.proofs.Timed.{span}

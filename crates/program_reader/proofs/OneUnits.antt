@@ -39,6 +39,7 @@ use Rattle.std.specs.List.{last_or}
 use Rattle.std.proofs.lemmas.Int.{ints}
 use Rattle.pes_units.specs.declared.times.Times.{Times}
 use Rattle.pes_units.specs.TimeAxis.{IsUnwrapped}
+use Rattle.pes_units.specs.Times.{decoding_time}
 use Rattle.picture_grammar.specs.Refusal.{Refusal}
 use Rattle.syntax_types.specs.declared.picture.PicCoding.{PicCoding}
 use Rattle.syntax_types.specs.declared.picture.SeqState.{SeqState}
@@ -48,7 +49,6 @@ use Rattle.program_reader.specs.declared.program_fault.ProgramFault.TheVariants.
 use Rattle.program_reader.specs.declared.timed_picture.Role.{Role}
 use Rattle.program_reader.specs.declared.timed_picture.TimedPicture.{TimedPicture}
 use Rattle.program_reader.specs.Faults.{source_kind_of}
-use Rattle.program_reader.specs.Packets.{decoding_time}
 use Rattle.program_reader.specs.PictureTimes.{times_of_unit}
 use Rattle.program_reader.specs.Units.{
   unit_size,

@@ -39,8 +39,8 @@ use Rattle.std.proofs.lemmas.List.{take_more}
 use Rattle.std.proofs.lemmas.List.Elements.{All-push}
 use Rattle.audio_frames.specs.declared.pes_start.PesStart.{PesStart}
 use Rattle.pes_units.specs.TimeAxis.{IsUnwrapped}
+use Rattle.pes_units.specs.Times.{decoding_time}
 use Rattle.program_reader.specs.declared.pes_packets.PlacedPacket.{PlacedPacket}
-use Rattle.program_reader.specs.Packets.{decoding_time}
 use Rattle.program_reader.specs.Audio.{IsPlacedTime, AreStartsOf}
 use Rattle.program_reader.specs.Private.AudioStarts.{last_time, IsNear}
 

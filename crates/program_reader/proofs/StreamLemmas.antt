@@ -49,13 +49,14 @@ use Rattle.pes_units.specs.declared.pes_fault.PesFault.TheVariants.{BadLength}
 use Rattle.pes_units.specs.PesHeader.{header_length, pes_refusal}
 use Rattle.pes_units.specs.PesPackets.{is_cut, is_dropped, is_length_sound, packet_refusal}
 use Rattle.pes_units.proofs.Refusals.{passes-header}
+use Rattle.pes_units.specs.Times.{decoding_time}
 use Rattle.ts_demux.specs.declared.demuxed.AudioStream.{AudioStream}
 use Rattle.ts_demux.specs.declared.demuxed.PesUnit.{PesUnit}
 use Rattle.program_reader.specs.declared.pes_packets.PlacedPacket.{PlacedPacket}
 use Rattle.program_reader.specs.declared.pes_packets.TakenPackets.{TakenPackets}
 use Rattle.program_reader.specs.declared.program_fault.ProgramFault.{ProgramFault}
 use Rattle.program_reader.specs.Faults.{of_audio}
-use Rattle.program_reader.specs.Packets.{AreSound, taken, pes_payload_of, joined, packets_dropped, placed_from, decoding_time}
+use Rattle.program_reader.specs.Packets.{AreSound, taken, pes_payload_of, joined, packets_dropped, placed_from}
 use Rattle.program_reader.specs.Audio.{AreStartsOf, IsStreamRefused}
 use Rattle.program_reader.specs.Private.AudioStarts.{IsNear, AreNear, IsStreamRead}
 use Rattle.program_reader.specs.Private.TakenPackets.{AreTaken}

@@ -2,8 +2,7 @@
 use Rattle.std.proofs.Common.{ℕ, ◌+◌, ◌*◌, ◌^◌, ◌<◌, ◌==◌, nat_le, Bool, true, false, List, Option, Some, None, IfSome, if◌then◌else◌, arith}
 use Rattle.bit_lists.specs.Fields.{bits}
 use Rattle.bit_lists.proofs.WordLemmas.{bits_below}
-use Rattle.pes_units.specs.Times.{time_at, times_of, pts_dts_flags}
-use Rattle.program_reader.specs.Packets.{decoding_time, decoding_of}
+use Rattle.pes_units.specs.Times.{decoding_of, decoding_time, pts_dts_flags, time_at, times_of}
 
 below_33 : (a b c : ℕ) → a < 8 → b < 32768 → c < 32768 → 1073741824 * a + 32768 * b + c < 8589934592
 below_33 a b c al bl cl = omega arith

@@ -8,6 +8,7 @@ use Rattle.audio_frames.specs.declared.frame.Frame.{Frame}
 use Rattle.audio_frames.specs.declared.pes_start.PesStart.{PesStart}
 use Rattle.audio_frames.specs.Times.{AreFramesOf, IsAudioRefused}
 use Rattle.pes_units.specs.TimeAxis.{IsUnwrapped}
+use Rattle.pes_units.specs.Times.{decoding_time}
 use Rattle.ts_demux.specs.declared.demuxed.AudioStream.{AudioStream}
 use Rattle.ts_demux.specs.declared.demuxed.PesUnit.{PesUnit}
 use Rattle.program_reader.specs.declared.limits.TheConstants.{PIECE_BYTES}
@@ -16,7 +17,7 @@ use Rattle.program_reader.specs.declared.program.AudioPiece.{AudioPiece}
 use Rattle.program_reader.specs.declared.program.AudioSource.{AudioSource}
 use Rattle.program_reader.specs.declared.program_fault.ProgramFault.{ProgramFault}
 use Rattle.program_reader.specs.Faults.{of_audio}
-use Rattle.program_reader.specs.Packets.{AreSound, IsPacketFault, taken, joined, placed_from, decoding_time}
+use Rattle.program_reader.specs.Packets.{AreSound, IsPacketFault, taken, joined, placed_from}
 
 -- ---- times
 

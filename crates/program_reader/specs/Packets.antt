@@ -3,7 +3,6 @@
 use Rattle.std.specs.Prelude.{◌≡◌, ℕ, ◌+◌, Bool, List, [], ◌∷◌, ◌++◌, length, drop, All, Option, Some, None, if◌then◌else◌}
 use Rattle.std.specs.List.{flat_map}
 use Rattle.pes_units.specs.declared.pes_fault.PesFault.{PesFault}
-use Rattle.pes_units.specs.declared.times.Times.{Times}
 use Rattle.pes_units.specs.PesHeader.{pes_fields_of, header_length}
 use Rattle.pes_units.specs.PesPackets.{packet_refusal, last_refusal, is_dropped}
 use Rattle.ts_demux.specs.declared.demuxed.PesUnit.{PesUnit}
@@ -61,14 +60,3 @@ abbrev pub placed_from : ℕ → List PesUnit → List PlacedPacket
 placed_from from [] = []
 placed_from from (packet ∷ more) =
     record { from = from; end = from + length (pes_payload_of packet); header = pes_fields_of packet.bytes } ∷ placed_from (from + length (pes_payload_of packet)) more
-
--- ---- their times
-
--- the one of two times that stands first
-abbrev pub decoding_of : Option ℕ → Option ℕ → Option ℕ
-decoding_of (Some dts) pts = Some dts
-decoding_of None pts = pts
-
--- the decoding time in units of 1/90,000 s modulo 2^33: the DTS, or the PTS where none stands (2.4.3.7)
-abbrev pub decoding_time : Times → Option ℕ
-decoding_time times = decoding_of times.dts times.pts

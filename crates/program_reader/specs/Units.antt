@@ -8,6 +8,7 @@ use Rattle.syntax_types.specs.declared.picture.PicCoding.{PicCoding}
 use Rattle.syntax_types.specs.declared.picture.Picture.{Picture}
 use Rattle.syntax_types.specs.declared.picture.SeqState.{SeqState}
 use Rattle.pes_units.specs.TimeAxis.{IsUnwrapped}
+use Rattle.pes_units.specs.Times.{decoding_time}
 use Rattle.picture_grammar.specs.Macroblock.{is_frame}
 use Rattle.picture_grammar.specs.Picture.{RefusesPicture}
 use Rattle.picture_grammar.specs.Refusal.{Refusal}
@@ -21,7 +22,6 @@ use Rattle.program_reader.specs.declared.timed_picture.Role.{Role}
 use Rattle.program_reader.specs.declared.timed_picture.Role.TheVariants.{Frame, FirstField, SecondField}
 use Rattle.program_reader.specs.declared.timed_picture.TimedPicture.{TimedPicture}
 use Rattle.program_reader.specs.Faults.{source_kind_of}
-use Rattle.program_reader.specs.Packets.{decoding_time}
 use Rattle.program_reader.specs.PictureTimes.{times_of_unit}
 
 -- ---- a unit

@@ -1,6 +1,6 @@
 //! Where the payloads of audio PES packets begin, with their times on one axis (ISO/IEC 13818-1, 2.4.3.7).
 ghost use Rattle.std.specs.Prelude.{◌≡◌, ◌≤◌, ◌<◌, ◌^◌, length, All, IfOk, IfSome, unwrap_or, pos, neg_ℤ, ◌≤ℤ◌};
-ghost use Rattle.program_reader.specs.Packets.{decoding_time};
+ghost use Rattle.pes_units.specs.Times.{decoding_time};
 ghost use Rattle.program_reader.specs.Audio.{IsPlacedTime, AreStartsOf};
 ghost use Rattle.program_reader.specs.Private.AudioStarts.{IsNear, AreNear};
 

@@ -1,9 +1,9 @@
 //! A coded picture with its time behind the one before.
 ghost use Rattle.std.specs.Prelude.{◌≡◌, ◌≤◌, ◌<◌, ◌^◌, ℕ, List, Bool, true, false, IfSome, MatchOption, MatchResult, Some, None};
 ghost use Rattle.std.specs.Option.{option_copied};
+ghost use Rattle.pes_units.specs.Times.{decoding_time};
 ghost use Rattle.picture_grammar.specs.Macroblock.{is_frame};
 ghost use Rattle.program_reader.specs.declared.pes_packets.PlacedPacket.{PlacedPacket};
-ghost use Rattle.program_reader.specs.Packets.{decoding_time};
 ghost use Rattle.program_reader.specs.PictureTimes.{times_of_unit};
 ghost use Rattle.program_reader.specs.Units.{frame_period, ticks_behind, role_behind, role_of, IsUnpaired, IsTimed, HasNoTime, IsLater, IsCoded, IsNext, IsUnitRefused};
 ghost use Rattle.program_reader.specs.Private.TimedPictures.{IsPossible};

@@ -1,9 +1,9 @@
 //! A unit as a coded picture behind the one before.
 ghost use Rattle.std.specs.Prelude.{◌≡◌, ◌≤◌, ◌<◌, ◌^◌, List, length, IfSome, IfOk, MatchResult};
 ghost use Rattle.std.specs.Option.{option_copied};
+ghost use Rattle.pes_units.specs.Times.{decoding_time};
 ghost use Rattle.program_reader.specs.declared.pes_packets.PlacedPacket.{PlacedPacket};
 ghost use Rattle.picture_reader.specs.PictureFault.{refusal_told};
-ghost use Rattle.program_reader.specs.Packets.{decoding_time};
 ghost use Rattle.program_reader.specs.PictureTimes.{times_of_unit};
 ghost use Rattle.program_reader.specs.Units.{state_behind, unit_bytes};
 ghost use Rattle.program_reader.specs.Private.SizedUnits.{IsSizedFound};

@@ -39,6 +39,10 @@ pub record HasRoom (program : ProgramMap) : Type 0 where
   pub streams : length program.streams.items ≤ STREAMS_MOST
   pub descriptors : All (λ stream. length stream.descriptors.items ≤ DESCRIPTOR_BYTES) program.streams.items
 
+-- the PIDs of the streams of a map
+abbrev pub pids_of : ProgramMap → List ℕ
+pids_of program_map = map (λ stream. stream.pid) program_map.streams.items
+
 -- ---- how it is written
 
 -- what can be written

@@ -32,6 +32,7 @@ use Rattle.std.specs.Prelude.{
   if◌then◌else◌,
 }
 use Rattle.std.specs.List.{list_any}
+use Rattle.stream_constants.specs.declared.packets.TheConstants.{PAYLOAD_BYTES}
 use Rattle.psi_tables.specs.declared.section.TheConstants.{SECTION_LENGTH_LEAST, SECTION_LENGTH_MOST}
 use Rattle.bit_lists.specs.Fields.{bit_list}
 use Rattle.payload_lists.specs.Payload.{Payload, is_start}
@@ -161,6 +162,10 @@ sections_behind before (payload ∷ payloads) =
 -- the sections of payloads, and the errors in their places
 unfoldable pub sections_of : List Payload → List Found
 sections_of payloads = sections_behind [] payloads
+
+-- a section behind a pointer_field of 0, and stuffing bytes to the packet's end (2.4.4.1)
+abbrev pub section_payload : List ℕ → List ℕ
+section_payload section = 0 ∷ section ++ replicate (PAYLOAD_BYTES - 1 - length section) stuffing_byte
 
 -- what a payload adds to the sections of those before it
 abbrev pub added : List Payload → Payload → List Found

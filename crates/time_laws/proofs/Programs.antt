@@ -8,12 +8,14 @@ use Rattle.std.proofs.lemmas.Option.{none-some, same_Some}
 use Rattle.audio_frames.specs.declared.frame.Frame.{Frame}
 use Rattle.psi_tables.specs.declared.program_map.ProgramMap.{ProgramMap}
 use Rattle.psi_tables.specs.declared.stream.Stream.{Stream}
+use Rattle.psi_tables.specs.Pmt.{pids_of}
 use Rattle.syntax_types.specs.declared.picture.SeqState.{SeqState}
 use Rattle.ts_packets.specs.Packet.{PacketRecord}
+use Rattle.pes_units.specs.Times.{decoding_time}
 use Rattle.ts_demux.specs.declared.demuxed.AudioStream.{AudioStream}
 use Rattle.ts_demux.specs.declared.demuxed.Demuxed.{Demuxed}
 use Rattle.ts_demux.specs.declared.demuxed.PesUnit.{PesUnit}
-use Rattle.ts_demux.specs.Demux.{IsDemuxed, pes_packets_on, pids_of}
+use Rattle.ts_demux.specs.Demux.{IsDemuxed, pes_packets_on}
 use Rattle.version_table.specs.declared.table.ProgramRow.{ProgramRow}
 use Rattle.version_table.specs.declared.table.Unit.{Unit as CodedUnit}
 use Rattle.version_table.specs.Choice.{HasVersion}
@@ -26,7 +28,6 @@ use Rattle.program_reader.specs.declared.program.Program.{Program}
 use Rattle.program_reader.specs.declared.program.UnitSource.{UnitSource}
 use Rattle.program_reader.specs.declared.timed_picture.TimedPicture.{TimedPicture}
 use Rattle.program_reader.specs.Audio.{AreAudioSources, HaveFrames}
-use Rattle.program_reader.specs.Packets.{decoding_time}
 use Rattle.program_reader.specs.Programs.{AreUnitSources, IsProgram, video_bytes, video_packets}
 use Rattle.program_reader.specs.Units.{AreInOrder, AreKept, IsTimed}
 use Rattle.version_maker.specs.declared.version.UnitVersion.{UnitVersion}

@@ -14,24 +14,25 @@ use Rattle.pes_units.specs.declared.times.Times.{Times}
 use Rattle.pes_units.specs.declared.pes_fault.PesFault.{PesFault}
 use Rattle.pes_units.specs.declared.pes_fault.PesFault.TheVariants.{BadLength}
 use Rattle.pes_units.specs.declared.pes_header.PesHeader.{PesHeader}
-use Rattle.pes_units.specs.PesHeader.{pes_fields_of, header_length, pes_refusal}
+use Rattle.pes_units.specs.PesHeader.{header_length, pes_refusal}
 use Rattle.pes_units.specs.PesPackets.{is_length_sound}
 use Rattle.pes_units.specs.VideoHeader.{written_pes_header}
 use Rattle.pes_units.proofs.Refusals.{passes-header}
+use Rattle.pes_units.specs.Times.{decoding_time}
 use Rattle.picture_grammar.specs.Macroblock.{is_frame}
 use Rattle.picture_grammar.specs.Picture.{MayPrecede}
 use Rattle.picture_reader.specs.Picture.{IsPictureOf}
 use Rattle.version_table.specs.declared.table.Unit.{Unit as CodedUnit}
 use Rattle.version_table.specs.declared.table.Version.{Version}
 use Rattle.version_table.specs.Choice.{HasVersion, version_at}
-use Rattle.layer_laws.specs.VideoPackets.{IsReadAsVideo, first_of}
+use Rattle.layer_laws.specs.VideoPackets.{IsReadAsVideo}
 use Rattle.ts_demux.specs.declared.demuxed.PesUnit.{PesUnit}
 use Rattle.program_reader.specs.declared.pes_packets.PlacedPacket.{PlacedPacket}
 use Rattle.program_reader.specs.declared.program.UnitSource.{UnitSource}
 use Rattle.program_reader.specs.declared.timed_picture.Role.{Role}
 use Rattle.program_reader.specs.declared.timed_picture.TimedPicture.{TimedPicture}
 use Rattle.program_reader.specs.Audio.{IsDue}
-use Rattle.program_reader.specs.Packets.{decoding_of, decoding_time, pes_payload_of}
+use Rattle.program_reader.specs.Packets.{pes_payload_of}
 use Rattle.program_reader.specs.Programs.{AreUnitSources, IsBase}
 use Rattle.program_reader.specs.Units.{AreInOrder, IsNext, IsTimed, frame_period, role_behind, share_of, state_behind, unit_bytes}
 use Rattle.version_maker.specs.declared.version.UnitVersion.{UnitVersion}
@@ -48,15 +49,9 @@ use Rattle.program_reader.proofs.StreamLemmas.{passes}
 
 -- ---- times
 
-decodes-same : (dts pts : Option ℕ) → decoding_of dts pts ≡ first_of dts pts
-decodes-same (Some dts) pts = refl
-decodes-same None pts = refl
-
 -- the time that a packet is read with is that of the unit that was sent
 pub read-time : (packet : PesUnit) (times : Times) (payload : List ℕ) → IsReadAsVideo times payload packet.bytes → stated_time packet ≡ decoding_time times
-read-time packet times payload read =
-    let said : Times = (let h = pes_fields_of packet.bytes in h.times) in
-    decodes-same said.dts said.pts ∙ read.decoded ∙ sym (decodes-same times.dts times.pts)
+read-time packet times payload read = read.decoded
 
 -- ---- a picture of the stream beside that of the source
 

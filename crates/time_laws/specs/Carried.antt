@@ -4,8 +4,9 @@ use Rattle.std.specs.List.{range_with_len, zip}
 use Rattle.audio_frames.specs.declared.frame.Frame.{Frame}
 use Rattle.ts_packets.specs.Packet.{PacketRecord}
 use Rattle.ts_packets.specs.TransportStream.{packets}
+use Rattle.psi_tables.specs.Pmt.{pids_of}
 use Rattle.ts_demux.specs.declared.demuxed.Demuxed.{Demuxed}
-use Rattle.ts_demux.specs.Demux.{IsDemuxed, pids_of}
+use Rattle.ts_demux.specs.Demux.{IsDemuxed}
 use Rattle.version_table.specs.declared.table.ProgramRow.{ProgramRow}
 use Rattle.version_table.specs.declared.table.Table.{Table}
 use Rattle.version_table.specs.Choice.{Fits, version_at}

@@ -7,11 +7,12 @@ use Rattle.syntax_types.specs.declared.picture.PicCoding.{PicCoding}
 use Rattle.syntax_types.specs.declared.picture.Picture.{Picture}
 use Rattle.syntax_types.specs.declared.picture.SeqState.{SeqState}
 use Rattle.pes_units.specs.PesHeader.{pes_fields_of}
+use Rattle.pes_units.specs.Times.{decoding_time}
 use Rattle.picture_grammar.specs.Macroblock.{is_frame}
 use Rattle.picture_reader.specs.Picture.{IsPictureOf}
 use Rattle.ts_demux.specs.declared.demuxed.PesUnit.{PesUnit}
 use Rattle.program_reader.specs.declared.timed_picture.Role.{Role}
-use Rattle.program_reader.specs.Packets.{decoding_time, pes_payload_of}
+use Rattle.program_reader.specs.Packets.{pes_payload_of}
 use Rattle.program_reader.specs.Units.{frame_period, role_behind, share_of}
 use Rattle.time_laws.specs.Clock.{IsFirstShown}
 

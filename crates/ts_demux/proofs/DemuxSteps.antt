@@ -3,13 +3,13 @@ use Rattle.std.proofs.Common.{◌≡◌, ℕ, ◌*◌, ◌/◌, ◌%◌, ◌<◌
 use Rattle.std.specs.List.{remove}
 use Rattle.psi_tables.specs.declared.program_map.ProgramMap.{ProgramMap}
 use Rattle.psi_tables.specs.declared.stream.Stream.{Stream}
-use Rattle.psi_tables.specs.Pmt.{pmt_length}
+use Rattle.psi_tables.specs.Pmt.{pids_of, pmt_length}
 use Rattle.ts_packets.specs.TransportStream.{rest_of}
 use Rattle.ts_demux.specs.declared.demux_fault.DemuxFault.{DemuxFault}
 use Rattle.ts_demux.specs.declared.demuxed.AudioStream.{AudioStream}
 use Rattle.ts_demux.specs.declared.pes_gatherer.PesGatherer.{PesGatherer}
 use Rattle.ts_demux.specs.Tables.{HasMap}
-use Rattle.ts_demux.specs.Demux.{HasCarriedMap, pids_of, pes_packets_on, IsDemuxRefused, memory, no_video, streams}
+use Rattle.ts_demux.specs.Demux.{HasCarriedMap, pes_packets_on, IsDemuxRefused, memory, no_video, streams}
 use Rattle.ts_demux.specs.Private.PesGatherer.{stream_gathered}
 use Rattle.ts_demux.specs.Private.CarriedStreams.{IsCarryFault}
 use Rattle.ts_demux.specs.Private.StreamWalk.{AreGathered, IsGatherFault}

@@ -5,7 +5,7 @@ use Rattle.ts_packets.specs.TransportStream.{pid_pieces}
 use Rattle.psi_tables.specs.declared.pmt.TheConstants.{PACKET_SECTION_BYTES}
 use Rattle.psi_tables.specs.declared.program_map.ProgramMap.{ProgramMap}
 use Rattle.psi_tables.specs.declared.stream.Stream.{Stream}
-use Rattle.psi_tables.specs.Pmt.{pmt_length}
+use Rattle.psi_tables.specs.Pmt.{pids_of, pmt_length}
 use Rattle.psi_tables.specs.Sections.{Found}
 use Rattle.ts_demux.specs.declared.demux_fault.DemuxFault.{DemuxFault}
 use Rattle.ts_demux.specs.declared.demux_fault.DemuxFault.TheVariants as faults
@@ -20,7 +20,6 @@ use Rattle.ts_demux.specs.Demux.{
   IsCarriedMap,
   HasCarriedMap,
   HasManyStreams,
-  pids_of,
   IsStreamFault,
   IsFirstStreamFault,
   pes_packets_on,

@@ -49,29 +49,14 @@ use Rattle.psi_tables.specs.declared.program_map.ProgramMap.{ProgramMap}
 use Rattle.psi_tables.specs.declared.section.SectionFault.{SectionFault}
 use Rattle.psi_tables.specs.declared.section.SectionFault.TheVariants as section_faults
 use Rattle.psi_tables.specs.declared.stream.Stream.{Stream}
-use Rattle.psi_tables.specs.Pmt.{pmt_length}
+use Rattle.psi_tables.specs.Pmt.{pids_of, pmt_length}
 use Rattle.ts_demux.specs.declared.demux_fault.DemuxFault.{DemuxFault}
 use Rattle.ts_demux.specs.declared.demux_fault.DemuxFault.TheVariants as faults
 use Rattle.ts_demux.specs.declared.demuxed.Demuxed.{Demuxed}
 use Rattle.ts_demux.specs.Faults.{of_packet, of_pid, of_section}
 use Rattle.ts_demux.specs.Streams.{video_of, without_video, audios_of, others_of, is_among}
 use Rattle.ts_demux.specs.Tables.{piece, HasPidFault, refuse, StopsAt, no_sync, pat_packet, pmt_packet, pat_section, pmt_section, map_section, IsTablesFault, HasMap}
-use Rattle.ts_demux.specs.Demux.{
-  most_audios,
-  HasCarriedMap,
-  pids_of,
-  IsStreamFault,
-  IsFirstStreamFault,
-  pes_packets_on,
-  IsDemuxed,
-  IsDemuxRefused,
-  short_file,
-  tables,
-  no_video,
-  audios,
-  long_map,
-  streams,
-}
+use Rattle.ts_demux.specs.Demux.{most_audios, HasCarriedMap, IsStreamFault, IsFirstStreamFault, pes_packets_on, IsDemuxed, IsDemuxRefused, short_file, tables, no_video, audios, long_map, streams}
 use Rattle.ts_demux.proofs.GatherSteps.{AreSoundBefore, fault_within, sound_more, sound_all}
 use Rattle.ts_demux.proofs.OneAnswer.{WhyNot, no_pat, no_program, no_pmt, stopped, why_not}
 

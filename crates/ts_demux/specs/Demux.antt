@@ -8,7 +8,7 @@ use Rattle.ts_packets.specs.Carried.{carried}
 use Rattle.psi_tables.specs.declared.pmt.TheConstants.{PACKET_SECTION_BYTES}
 use Rattle.psi_tables.specs.declared.program_map.ProgramMap.{ProgramMap}
 use Rattle.psi_tables.specs.declared.stream.Stream.{Stream}
-use Rattle.psi_tables.specs.Pmt.{pmt_length}
+use Rattle.psi_tables.specs.Pmt.{pids_of, pmt_length}
 use Rattle.pes_units.specs.PesPackets.{gathered}
 use Rattle.ts_demux.specs.declared.demux_fault.DemuxFault.{DemuxFault}
 use Rattle.ts_demux.specs.declared.demux_fault.DemuxFault.TheVariants.{ShortFile, Sync, NoVideo, ProgramLimit, PmtTooLong, OutOfMemory}
@@ -45,10 +45,6 @@ pub record HasCarriedMap (file : List ℕ) (program : ℕ) (drop : List ℕ) (ca
 -- more than the video and the most audio streams are carried
 abbrev pub HasManyStreams : ProgramMap → Type 0
 HasManyStreams carried_map = 1 + most_audios < length carried_map.streams.items
-
--- the PIDs of its streams
-abbrev pub pids_of : ProgramMap → List ℕ
-pids_of carried_map = map (λ stream. stream.pid) carried_map.streams.items
 
 -- ---- their packets
 

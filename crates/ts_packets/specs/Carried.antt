@@ -3,7 +3,7 @@ use Rattle.std.specs.Prelude.{ℕ, ◌+◌, ◌%◌, ◌==◌, nat_lt, Bool, fal
 use Rattle.std.specs.List.{filter, filter_map, flat_map, last_or}
 use Rattle.std.specs.Option.{option_map, option_map_or, option_or}
 use Rattle.std.specs.Str.{bytes_eq}
-use Rattle.payload_lists.specs.Payload.{CarriedPayload}
+use Rattle.payload_lists.specs.Payload.{CarriedPayload, Payload}
 use Rattle.ts_packets.specs.declared.pid_fault.PidFault.{PidFault}
 use Rattle.ts_packets.specs.declared.pid_fault.PidFault.TheVariants.{Refused, Discontinuity, Gap}
 use Rattle.ts_packets.specs.Packet.{PacketRecord, packet_of, transport_refusal}
@@ -52,6 +52,20 @@ carried pieces = map carried_by (without_repeats (payload_packets pieces))
 -- the payload of a PID in a file, joined
 abbrev pub joined_payload : List ℕ → ℕ → List ℕ
 joined_payload file pid = flat_map (λ carried. carried.payload.bytes) (carried (pid_pieces file pid 0 (piece_count file)))
+
+-- ---- packets as records
+
+-- the packet is of the PID and has payload
+abbrev pub has_payload_on : ℕ → PacketRecord → Bool
+has_payload_on pid packet = (packet.pid == pid) && nat_lt 0 (length packet.payload)
+
+-- a packet's start flag and payload
+abbrev pub payload_of : PacketRecord → Payload
+payload_of packet = record { start = packet.start; bytes = packet.payload }
+
+-- the payloads of a PID, in order
+abbrev pub payloads_on : ℕ → List PacketRecord → List Payload
+payloads_on pid packets = map payload_of (filter (has_payload_on pid) packets)
 
 -- ---- the counter rule
 

@@ -29,10 +29,10 @@ use Rattle.requantiser.proofs.MacroblockSteps.{span_of}
 use Rattle.requantiser.proofs.SpelledPictures.{lawful-walkable}
 use Rattle.requantiser.proofs.StepSums.{steps-add-up}
 use Rattle.version_table.specs.Table.{IsValidVersion}
+use Rattle.macroblock_writer.specs.Private.WholeSlices.{written_whole_slice}
 use Rattle.version_maker.specs.declared.version.UnitVersion.{UnitVersion}
 use Rattle.version_maker.specs.declared.version.VersionSize.{VersionSize}
 use Rattle.version_maker.specs.Versions.{AreSizes, AreVersions, IsCoarserVersion, IsSourceVersion, size_of}
-use Rattle.version_maker.specs.Private.Counts.{written_whole}
 use Rattle.version_maker.proofs.Counts.{few-macroblocks, slice-length}
 use Rattle.version_maker.proofs.Lists.{head-length, source-length}
 use Rattle.version_maker.proofs.Units.{lawful-unit}
@@ -100,37 +100,37 @@ end-length : (sequence_end : Bool) → length (if sequence_end then start_code_b
 end-length true = omega (arith, length-start_code SEQUENCE_END)
 end-length false = omega arith
 
-written-length : (made : Picture) → length (written_picture made) ≤ 8 * length made.head + length (flat_map (written_whole made.coding) made.slices) + 32
+written-length : (made : Picture) → length (written_picture made) ≤ 8 * length made.head + length (flat_map (written_whole_slice made.coding) made.slices) + 32
 unfolding written_picture
 written-length made =
     let end : List ℕ = if made.sequence_end then start_code_bits SEQUENCE_END else [] in
     omega (
       arith,
-      length-append (bit_list made.head ++ flat_map (written_whole made.coding) made.slices) end,
-      length-append (bit_list made.head) (flat_map (written_whole made.coding) made.slices),
+      length-append (bit_list made.head ++ flat_map (written_whole_slice made.coding) made.slices) end,
+      length-append (bit_list made.head) (flat_map (written_whole_slice made.coding) made.slices),
       length-bit_list made.head,
       end-length made.sequence_end,
     )
 
-written-least : (made : Picture) → length (flat_map (written_whole made.coding) made.slices) ≤ length (written_picture made)
+written-least : (made : Picture) → length (flat_map (written_whole_slice made.coding) made.slices) ≤ length (written_picture made)
 unfolding written_picture
 written-least made =
     let end : List ℕ = if made.sequence_end then start_code_bits SEQUENCE_END else [] in
     omega (
       arith,
-      length-append (bit_list made.head ++ flat_map (written_whole made.coding) made.slices) end,
-      length-append (bit_list made.head) (flat_map (written_whole made.coding) made.slices),
+      length-append (bit_list made.head ++ flat_map (written_whole_slice made.coding) made.slices) end,
+      length-append (bit_list made.head) (flat_map (written_whole_slice made.coding) made.slices),
     )
 
-slice-some : (coding : PicCoding) (s : Slice) → 1 ≤ length (written_whole coding s)
+slice-some : (coding : PicCoding) (s : Slice) → 1 ≤ length (written_whole_slice coding s)
 slice-some coding s =
     let bits : List ℕ = start_code_bits (s.row + FIRST_SLICE) ++ written_slice coding s in
     let fill : ℕ = (8 - length bits % 8) % 8 in
     omega (arith, length-append bits (replicate {A = ℕ} fill 0), slice-length coding s)
 
-some-written : (coding : PicCoding) (slices : List Slice) → 0 < length slices → 1 ≤ length (flat_map (written_whole coding) slices)
+some-written : (coding : PicCoding) (slices : List Slice) → 0 < length slices → 1 ≤ length (flat_map (written_whole_slice coding) slices)
 some-written coding [] some = absurd (omega (arith, some))
-some-written coding (s ∷ ss) some = omega (arith, length-append (written_whole coding s) (flat_map (written_whole coding) ss), slice-some coding s)
+some-written coding (s ∷ ss) some = omega (arith, length-append (written_whole_slice coding s) (flat_map (written_whole_slice coding) ss), slice-some coding s)
 
 some-infos : (slices : List Slice) → 0 < length slices → 1 ≤ sum_by info_bits slices
 some-infos [] some = absurd (omega (arith, some))
@@ -156,11 +156,11 @@ bytes-most before picture unit m version lawful spelled short is =
     let has = version-spelled m picture made lawful is.coarser in
     let lawful' : IsLawful made = version-lawful m picture made lawful is.coarser in
     let coding : IsCoding made.coding = coding-of_unit lawful'.before made (bit_list lawful'.bytes) [] lawful'.spelled in
-    let slices : length (flat_map (written_whole made.coding) made.slices) ≤ sum_by info_bits made.slices + 14300 * sum_by coded made.slices =
+    let slices : length (flat_map (written_whole_slice made.coding) made.slices) ≤ sum_by info_bits made.slices + 14300 * sum_by coded made.slices =
     slices-short made.seq made.coding made.slices (columns-few made.seq (lawful-state made lawful')) coding has.0.each (lawful-walkable made lawful').slices in
     let infos : sum_by info_bits made.slices ≡ sum_by info_bits picture.slices = same-infos picture.seq picture.coding m picture.slices made.slices is.coarser.slices in
     let bits : 8 * length version.bytes ≡ length (written_picture made) = sym (length-bit_list version.bytes) ∙ ap length is.written.1 in
-    let some : 1 ≤ length (flat_map (written_whole made.coding) made.slices) = some-written made.coding made.slices has.0.some in
+    let some : 1 ≤ length (flat_map (written_whole_slice made.coding) made.slices) = some-written made.coding made.slices has.0.some in
     record {
       some = omega (arith, bits, some, written-least made);
       few = omega (

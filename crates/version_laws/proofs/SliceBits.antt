@@ -18,7 +18,7 @@ use Rattle.picture_grammar.specs.Written.{written_macroblock, written_slice, wri
 use Rattle.picture_laws.specs.Spellable.{HasSpellableMacroblocks}
 use Rattle.requantiser.specs.Private.Shapes.{IsWalkableSlice}
 use Rattle.requantiser.proofs.MacroblockSteps.{span_of}
-use Rattle.version_maker.specs.Private.Counts.{written_whole}
+use Rattle.macroblock_writer.specs.Private.WholeSlices.{written_whole_slice}
 use Rattle.version_maker.proofs.Counts.{slice-length}
 use Rattle.version_laws.proofs.MacroblockBits.{macroblock-short}
 
@@ -45,14 +45,14 @@ macroblocks-short seq coding s front (m ∷ ms) split is has =
     macroblocks-short seq coding s (front ++ m ∷ []) ms (split ∙ sym (append_assoc front (m ∷ []) ms)) is has in
     omega (arith, length-append (written_macroblock coding m) (flat_map (written_macroblock coding) ms), here, later, sum_by-cons span_of m ms)
 
-whole-short : (coding : PicCoding) (s : Slice) → length (written_whole coding s) ≤ 44 + info_bits s + length (flat_map (written_macroblock coding) s.macroblocks)
+whole-short : (coding : PicCoding) (s : Slice) → length (written_whole_slice coding s) ≤ 44 + info_bits s + length (flat_map (written_macroblock coding) s.macroblocks)
 whole-short coding s =
     let bits : List ℕ = start_code_bits (s.row + FIRST_SLICE) ++ written_slice coding s in
     let fill : ℕ = (8 - length bits % 8) % 8 in
     omega (arith, length-append bits (replicate {A = ℕ} fill 0), length-replicate {A = ℕ} fill 0, slice-length coding s)
 
 slice-short : (seq : SeqState) (coding : PicCoding) (s : Slice) → columns seq ≤ 45 → IsCoding coding → HasSpellableMacroblocks seq coding s → IsWalkableSlice (columns seq) s
-    → length (written_whole coding s) ≤ info_bits s + 14300 * coded s
+    → length (written_whole_slice coding s) ≤ info_bits s + 14300 * coded s
 slice-short seq coding s narrow is has walkable = omega (
   arith,
   whole-short coding s,
@@ -65,11 +65,11 @@ slice-short seq coding s narrow is has walkable = omega (
 -- slices that some bits spell are written in at most 14,300 bits for each macroblock, and what their headers say besides
 pub slices-short : (seq : SeqState) (coding : PicCoding) (slices : List Slice) → columns seq ≤ 45 → IsCoding coding
     → AllByRecursion (λ s. HasSpellableMacroblocks seq coding s × (is_slice (s.row + FIRST_SLICE) ≡ true)) slices → AllByRecursion (IsWalkableSlice (columns seq)) slices
-    → length (flat_map (written_whole coding) slices) ≤ sum_by info_bits slices + 14300 * sum_by coded slices
+    → length (flat_map (written_whole_slice coding) slices) ≤ sum_by info_bits slices + 14300 * sum_by coded slices
 slices-short seq coding [] narrow is all walkable = omega arith
 slices-short seq coding (s ∷ ss) narrow is all walkable = omega (
   arith,
-  length-append (written_whole coding s) (flat_map (written_whole coding) ss),
+  length-append (written_whole_slice coding s) (flat_map (written_whole_slice coding) ss),
   slice-short seq coding s narrow is all.0.0 walkable.0,
   slices-short seq coding ss narrow is all.1 walkable.1,
   sum_by-cons info_bits s ss,

@@ -1,5 +1,5 @@
 -- Slices of a version, written macroblock by macroblock.
-use Rattle.std.proofs.Common.{◌≡◌, ◌==◌, ◌&&◌, ◌⊎◌, ℕ, ◌+◌, ◌-◌, ◌%◌, ◌<◌, ◌^◌, List, [], ◌∷◌, ◌++◌, Option, Some, IfSome, Result, Ok, Err, OnOk, Bool, true, false, not, is_err, refl, sym, ◌∙◌, ap, ap₂, subst, inl, inr, arith, length, replicate, append_assoc, append-nil}
+use Rattle.std.proofs.Common.{◌≡◌, ◌==◌, ◌&&◌, ◌⊎◌, ℕ, ◌+◌, ◌-◌, ◌%◌, ◌<◌, ◌^◌, List, [], ◌∷◌, ◌++◌, Option, Some, IfSome, Result, Ok, Err, OnOk, Bool, true, false, not, is_err, refl, sym, ◌∙◌, ap, ap₂, subst, inl, inr, arith, length, replicate, append_assoc}
 use Rattle.std.specs.List.{flat_map}
 use Rattle.std.specs.Option.{option_to_list}
 use Rattle.std.proofs.lemmas.Bool.{eq-eqb, ne_eqb}
@@ -9,17 +9,15 @@ use Rattle.shelf_io.specs.declared.fault.Fault.{Fault}
 use Rattle.shelf_io.specs.Sink.{Told}
 use Rattle.bit_lists.specs.Bits.{bits_of}
 use Rattle.bit_cursor.specs.declared.bit_writer.BitWriter.{BitWriter}
-use Rattle.bit_cursor.specs.BitWriter.{AddsBits, Gets, Writes, is_stopped, told_by, waiting_in, zeros_to_byte}
-use Rattle.bit_cursor.proofs.Gets.{gets_none}
-use Rattle.bit_cursor.proofs.Composed.{gets_twice, gets_whole}
+use Rattle.bit_cursor.specs.BitWriter.{AddsBits, Gets, Writes, told_by, waiting_in, zeros_to_byte}
+use Rattle.bit_cursor.proofs.Composed.{gets_whole}
 use Rattle.syntax_types.specs.declared.macroblock.Macroblock.{Macroblock}
 use Rattle.syntax_types.specs.declared.picture.PicCoding.{PicCoding}
 use Rattle.syntax_types.specs.declared.picture.SeqState.{SeqState}
 use Rattle.syntax_types.specs.declared.slice.SliceInfo.{SliceInfo}
 use Rattle.stream_constants.specs.declared.start_codes.TheConstants.{FIRST_SLICE}
-use Rattle.picture_grammar.specs.Grammar.{optional}
 use Rattle.picture_grammar.specs.Grammar.Next.{more, last}
-use Rattle.picture_grammar.specs.Slice.{ClosesSlice, next_macroblock, slice_extension}
+use Rattle.picture_grammar.specs.Slice.{ClosesSlice, next_macroblock}
 use Rattle.picture_grammar.specs.StartCode.{start_code_bits}
 use Rattle.picture_grammar.specs.Written.{written_macroblock, written_slice, written_slice_info}
 use Rattle.macroblock_reader.specs.declared.head.SliceHead.{SliceHead}
@@ -29,23 +27,16 @@ use Rattle.macroblock_reader.specs.SliceHead.{slice_head}
 use Rattle.requantiser.specs.declared.version_state.VersionState.{VersionState}
 use Rattle.requantiser.specs.Steps.{AreSteps, IsStep, Step, made_by, state_behind, taken_by}
 use Rattle.requantiser.proofs.Steps.{one-more-step}
-use Rattle.version_maker.specs.Private.Counts.{written_whole}
-use Rattle.version_maker.specs.Private.Making.{AreInOrder, GoesOn}
+use Rattle.macroblock_writer.specs.Private.Going.{GoesOn}
+use Rattle.macroblock_writer.proofs.WritableSlices.{info_fits}
+use Rattle.macroblock_writer.specs.Private.WholeSlices.{written_whole_slice}
+use Rattle.version_maker.specs.Private.Making.{AreInOrder}
 use Rattle.version_maker.proofs.Counts.{made-more}
 use Rattle.macroblock_writer.proofs.WritableSlices.{info_fits}
 
 -- ---- bits that were put
 
 module _ {K : Type 0} {written : K → Told} where
-  pub goes-then : {a b c : BitWriter K} {xs ys : List ℕ} → GoesOn written a b xs → GoesOn written b c ys → GoesOn written a c (xs ++ ys)
-  goes-then first then = record { puts = gets_twice first.puts then.puts; goes = then.goes; same_sink = then.same_sink ∙ first.same_sink }
-
-  pub goes-as : {a b : BitWriter K} {xs ys : List ℕ} → GoesOn written a b xs → xs ≡ ys → GoesOn written a b ys
-  goes-as {a} {b} goes e = subst (λ (bits : List ℕ). GoesOn written a b bits) e goes
-
-  pub goes-nowhere : (a : BitWriter K) → is_stopped a ≡ false → GoesOn written a a []
-  goes-nowhere a goes = record { puts = gets_none (written (a.sink.now)) a.waiting [] a.waiting (sym (append-nil a.waiting)); goes = goes; same_sink = refl }
-
   -- a call that ended well, whose answer was turned into one that says no less
   pub goes-from : {T : Type 0} {faults : K → ℕ} {keeps : K → K → Type 0} {a b : BitWriter K} {xs : List ℕ} (r : Result T Fault) → false ≡ is_err r → Writes written faults keeps a b r xs
       → GoesOn written a b xs
@@ -144,7 +135,7 @@ head-fits head bits rest (code, m, s, (info, m', (extended, m'', s', t), (e, f))
 pub whole-slice : (coding : PicCoding) (row code odd : ℕ) (info : Option SliceInfo) (macroblocks : List Macroblock)
     → odd ≡ length (start_code_bits (row + FIRST_SLICE) ++ (bits_of 5 code ++ written_slice_info info) ++ flat_map (written_macroblock coding) macroblocks) % 8
     → ((start_code_bits (row + FIRST_SLICE) ++ (bits_of 5 code ++ written_slice_info info)) ++ flat_map (written_macroblock coding) macroblocks) ++ zeros_to_byte odd
-    ≡ written_whole coding (record { row = row; code = code; info = info; macroblocks = macroblocks })
+    ≡ written_whole_slice coding (record { row = row; code = code; info = info; macroblocks = macroblocks })
 unfolding written_slice
 whole-slice coding row code odd info macroblocks is =
     let front : List ℕ = start_code_bits (row + FIRST_SLICE) in

@@ -20,6 +20,7 @@ use Rattle.picture_grammar.proofs.HeaderLaws.{exact-head}
 use Rattle.picture_heads.specs.declared.TheConstants.{NO_DELAY}
 use Rattle.picture_heads.specs.Heads.{HasDelay, IsHeadWithoutDelay}
 use Rattle.picture_heads.proofs.ReadHeads.{head-has}
+use Rattle.macroblock_writer.specs.Private.WholeSlices.{written_whole_slice}
 use Rattle.picture_writer.specs.WrittenPicture.{written_end}
 use Rattle.video_headers.specs.declared.head.Headers.{Headers}
 use Rattle.picture_reader.specs.declared.cursor.UnitCursor.{UnitCursor}
@@ -31,7 +32,6 @@ use Rattle.requantiser.proofs.Versions.{lawful-delay}
 use Rattle.version_maker.specs.declared.slice_version.SliceMade.{SliceMade}
 use Rattle.version_maker.specs.Versions.{IsVersionAt}
 use Rattle.version_maker.specs.Private.Bytes.{AreBytesAt, AreCoarserBytes, AreCoarserBytesOf, AreSourceBytes, AreSourceBytesOf, IsHeadOf}
-use Rattle.version_maker.specs.Private.Counts.{written_whole}
 use Rattle.version_maker.specs.Private.Making.{IsMadeSlice, IsMadeSoFar, IsMadeVersion}
 use Rattle.version_maker.proofs.Lists.{bytes-at-later, version-at}
 use Rattle.version_maker.proofs.SizedSlices.{all-zip-more}
@@ -139,7 +139,7 @@ pub one-more-made : (before : Option SeqState) (unit : List ℕ) (m row : ℕ) (
     (was : IsMadeSoFar before unit m cursor told mid) (is : IsMadeSlice cursor.headers.seq cursor.headers.coding m row made bits mid after)
     → StandsBehindSlices before unit (was.slices ++ is.found ∷ []) past → past.headers ≡ cursor.headers → IsMadeSoFar before unit m past told after
 one-more-made before unit m row bits cursor past made told mid after was is stands headers =
-    let written : Slice → List ℕ = written_whole cursor.headers.coding in
+    let written : Slice → List ℕ = written_whole_slice cursor.headers.coding in
     let front : List ℕ = bit_list was.head in
     let all : flat_map written (was.tos ++ is.to ∷ []) ≡ flat_map written was.tos ++ written is.to =
     flat_map-append written was.tos (is.to ∷ []) ∙ ap (λ (xs : List ℕ). flat_map written was.tos ++ xs) (append-nil (written is.to)) in
@@ -153,12 +153,12 @@ one-more-made before unit m row bits cursor past made told mid after was is stan
           (all-zip-more (IsCoarserSlice cursor.headers.seq cursor.headers.coding m) was.slices was.tos is.found is.to was.coarser is.coarser);
       head = was.head;
       without = subst (λ (h : Headers). IsHeadWithoutDelay (take h.slices_at unit) was.head) (sym headers) was.without;
-      adds = subst (λ (h : Headers). AddsBits told after (front ++ flat_map (written_whole h.coding) (was.tos ++ is.to ∷ []))) (sym headers)
+      adds = subst (λ (h : Headers). AddsBits told after (front ++ flat_map (written_whole_slice h.coding) (was.tos ++ is.to ∷ []))) (sym headers)
           (subst (AddsBits told after) bits_are (adds-then told mid after (front ++ flat_map written was.tos) (written is.to) was.adds is.adds));
     }
 
 written-parts : (seq : SeqState) (coding : PicCoding) (head : List ℕ) (tos : List Slice) (sequence_end : Bool)
-    → (bit_list head ++ flat_map (written_whole coding) tos) ++ written_end sequence_end
+    → (bit_list head ++ flat_map (written_whole_slice coding) tos) ++ written_end sequence_end
     ≡ written_picture (record { seq = seq; coding = record coding { vbv_delay = NO_DELAY }; head = head; slices = tos; sequence_end = sequence_end })
 unfolding written_picture
 written-parts seq coding head tos sequence_end = ap (λ (xs : List ℕ). (bit_list head ++ xs) ++ written_end sequence_end) (sym (all-written coding tos))
@@ -176,7 +176,7 @@ all-made before unit m cursor sequence_end told mid after was whole adds =
       made = record { seq = seq; coding = record coding { vbv_delay = NO_DELAY }; head = was.head; slices = was.tos; sequence_end = sequence_end };
       coarser = record { seq = refl; coding = refl; head = was.without; slices = was.coarser; sequence_end = refl };
       adds = subst (AddsBits told after) (written-parts seq coding was.head was.tos sequence_end)
-          (adds-then told mid after (bit_list was.head ++ flat_map (written_whole coding) was.tos) (written_end sequence_end) was.adds adds);
+          (adds-then told mid after (bit_list was.head ++ flat_map (written_whole_slice coding) was.tos) (written_end sequence_end) was.adds adds);
     }
 
 -- the bytes of a sink that held none before

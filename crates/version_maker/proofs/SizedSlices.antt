@@ -9,9 +9,10 @@ use Rattle.syntax_types.specs.declared.picture.PicCoding.{PicCoding}
 use Rattle.syntax_types.specs.declared.picture.SeqState.{SeqState}
 use Rattle.syntax_types.specs.declared.slice.Slice.{Slice}
 use Rattle.requantiser.specs.Steps.{MakeSlice, MakeSlices, Step, distortion_of}
+use Rattle.macroblock_writer.specs.Private.WholeSlices.{written_whole_slice}
 use Rattle.version_maker.specs.declared.slice_count.SliceCount.{SliceCount}
 use Rattle.version_maker.specs.declared.version.VersionSize.{VersionSize}
-use Rattle.version_maker.specs.Private.Counts.{IsCountedSlice, written_whole}
+use Rattle.version_maker.specs.Private.Counts.{IsCountedSlice}
 use Rattle.version_maker.specs.Private.Sized.{AreSized, IsSized, first_size}
 
 -- ---- lists side by side
@@ -73,9 +74,9 @@ pub one-more-sized : (seq : SeqState) (coding : PicCoding) (slices : List Slice)
     → IsCountedSlice seq coding m from count → size.bytes ≡ (before.bytes + count.bytes) % 2 ^ 64 → size.distortion ≡ (before.distortion + count.distortion) % 2 ^ 64
     → IsSized seq coding (slices ++ from ∷ []) m size
 one-more-sized seq coding slices m from count before size was is bytes distortion =
-    let written : flat_map (written_whole coding) (was.tos ++ is.to ∷ []) ≡ flat_map (written_whole coding) was.tos ++ flat_map (written_whole coding) (is.to ∷ []) =
-    flat_map-append (written_whole coding) was.tos (is.to ∷ []) in
-    let one : length (flat_map (written_whole coding) (is.to ∷ [])) ≡ length (written_whole coding is.to) + 0 = length-append (written_whole coding is.to) [] in
+    let written : flat_map (written_whole_slice coding) (was.tos ++ is.to ∷ []) ≡ flat_map (written_whole_slice coding) was.tos ++ flat_map (written_whole_slice coding) (is.to ∷ []) =
+    flat_map-append (written_whole_slice coding) was.tos (is.to ∷ []) in
+    let one : length (flat_map (written_whole_slice coding) (is.to ∷ [])) ≡ length (written_whole_slice coding is.to) + 0 = length-append (written_whole_slice coding is.to) [] in
     let sums : sum_by distortion_of (was.steps ++ is.steps ∷ []) ≡ sum_by distortion_of was.steps + sum_by distortion_of (is.steps ∷ []) =
     sum_by-append distortion_of was.steps (is.steps ∷ []) in
     let last : sum_by distortion_of (is.steps ∷ []) ≡ distortion_of is.steps + 0 = sum_by-cons distortion_of is.steps [] in
@@ -87,7 +88,7 @@ one-more-sized seq coding slices m from count before size was is bytes distortio
       steps = was.steps ++ is.steps ∷ [];
       makes = makes-more seq coding m slices was.tos was.steps from is.to is.steps was.makes is.makes;
       count = was.count + count.bytes;
-      bytes = omega (arith, was.bytes, is.bytes, ap length written, one, length-append (flat_map (written_whole coding) was.tos) (flat_map (written_whole coding) (is.to ∷ [])));
+      bytes = omega (arith, was.bytes, is.bytes, ap length written, one, length-append (flat_map (written_whole_slice coding) was.tos) (flat_map (written_whole_slice coding) (is.to ∷ [])));
       few = omega (arith, was.few, is.few, length-append slices (from ∷ []));
       counted = omega (arith, bytes, was.counted);
       small = omega (arith, was.small, is.small, is.distortion, sums, last, columns, here);

@@ -23,6 +23,7 @@ use Rattle.picture_heads.specs.declared.TheConstants.{NO_DELAY}
 use Rattle.picture_heads.proofs.DelayPlaces.{has-without}
 use Rattle.picture_laws.proofs.SpelledStates.{state-of_unit}
 use Rattle.picture_laws.proofs.WrittenBits.{written-bytes}
+use Rattle.macroblock_writer.specs.Private.WholeSlices.{written_whole_slice}
 use Rattle.picture_reader.specs.Picture.{IsPictureOf}
 use Rattle.requantiser.specs.Distortion.{distortion_between}
 use Rattle.requantiser.specs.Slices.{IsCoarserSlice}
@@ -35,7 +36,6 @@ use Rattle.requantiser.proofs.Versions.{lawful-delay}
 use Rattle.version_maker.specs.declared.version.UnitVersion.{UnitVersion}
 use Rattle.version_maker.specs.declared.version.VersionSize.{VersionSize}
 use Rattle.version_maker.specs.Versions.{AreSizes, IsCoarserVersion, size_of}
-use Rattle.version_maker.specs.Private.Counts.{written_whole}
 use Rattle.version_maker.specs.Private.Sized.{AreSized, IsSized, first_size, with_bytes}
 use Rattle.version_maker.proofs.Counts.{few-macroblocks}
 use Rattle.picture_laws.proofs.WrittenPicture.{length-start_code}
@@ -99,11 +99,11 @@ slices-made seq coding m (s ∷ ss) [] steps make = absurd make
 slices-made seq coding m (s ∷ ss) (t ∷ ts) [] make = absurd make
 slices-made seq coding m (s ∷ ss) (t ∷ ts) (x ∷ xs) make = (steps-make seq coding m s t x make.0, slices-made seq coding m ss ts xs make.1)
 
-same-written : (coding : PicCoding) (slice : Slice) → written_whole (record coding { vbv_delay = NO_DELAY }) slice ≡ written_whole coding slice
+same-written : (coding : PicCoding) (slice : Slice) → written_whole_slice (record coding { vbv_delay = NO_DELAY }) slice ≡ written_whole_slice coding slice
 unfolding written_slice written_macroblock
 same-written coding slice = refl
 
-pub all-written : (coding : PicCoding) (slices : List Slice) → flat_map (written_whole (record coding { vbv_delay = NO_DELAY })) slices ≡ flat_map (written_whole coding) slices
+pub all-written : (coding : PicCoding) (slices : List Slice) → flat_map (written_whole_slice (record coding { vbv_delay = NO_DELAY })) slices ≡ flat_map (written_whole_slice coding) slices
 all-written coding [] = refl
 all-written coding (s ∷ ss) = ap₂ (λ (a b : List ℕ). a ++ b) (same-written coding s) (all-written coding ss)
 
@@ -114,14 +114,14 @@ end-length : (sequence_end : Bool) → length (if sequence_end then start_code_b
 end-length true = length-start_code SEQUENCE_END
 end-length false = refl
 
-written-length : (made : Picture) → length (written_picture made) ≡ 8 * length made.head + length (flat_map (written_whole made.coding) made.slices) + 8 * end_bytes made.sequence_end
+written-length : (made : Picture) → length (written_picture made) ≡ 8 * length made.head + length (flat_map (written_whole_slice made.coding) made.slices) + 8 * end_bytes made.sequence_end
 unfolding written_picture
 written-length made =
     let end : List ℕ = if made.sequence_end then start_code_bits SEQUENCE_END else [] in
     omega (
       arith,
-      length-append (bit_list made.head ++ flat_map (written_whole made.coding) made.slices) end,
-      length-append (bit_list made.head) (flat_map (written_whole made.coding) made.slices),
+      length-append (bit_list made.head ++ flat_map (written_whole_slice made.coding) made.slices) end,
+      length-append (bit_list made.head) (flat_map (written_whole_slice made.coding) made.slices),
       length-bit_list made.head,
       end-length made.sequence_end,
     )

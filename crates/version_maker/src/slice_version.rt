@@ -13,12 +13,13 @@ ghost use Rattle.picture_grammar.specs.Picture.{IsCoding};
 ghost use Rattle.picture_grammar.specs.Slice.{next_macroblock, slice as slice_grammar};
 ghost use Rattle.picture_grammar.specs.StartCode.{start_code_bits};
 ghost use Rattle.picture_grammar.specs.Written.{written_macroblock, written_slice_info};
+ghost use Rattle.video_headers.specs.Private.Reading.{Rests};
 ghost use Rattle.macroblock_reader.specs.SliceFault.{refusal_told};
+ghost use Rattle.macroblock_writer.specs.Private.Going.{GoesOn};
 ghost use Rattle.picture_reader.specs.Told.{IsInside, RefusesTold};
-ghost use Rattle.picture_reader.specs.Private.Reading.{HasLeft};
 ghost use Rattle.requantiser.specs.Levels.{HasWeights};
 ghost use Rattle.requantiser.specs.VersionState.{IsSpelledMacroblock, made_of};
-ghost use Rattle.version_maker.specs.Private.Making.{AreMade, GoesOn, IsMadeBehind, IsMadeSlice, IsWrittenStep};
+ghost use Rattle.version_maker.specs.Private.Making.{AreMade, IsMadeBehind, IsMadeSlice, IsWrittenStep};
 
 use crate::slice_count::is_inner;
 use bit_cursor::{BitReader, BitWriter};
@@ -102,11 +103,11 @@ fn make_behind_head<S: Source, K: Sink>(
 ) -> Result<Span, SliceFault>
     requires coding { IsCoding coding.now }
     requires weights { HasWeights seq.now }
-    requires told { (end : ℕ) × (bits : List ℕ) × HasLeft from.old end bits }
+    requires told { (end : ℕ) × (bits : List ℕ) × Rests from.old end bits }
     requires row { row + FIRST_SLICE < 2 ^ 8 }
     requires code { IsCode head.now.code }
     requires reserved { IfSome head.now.info (λ info. info.reserved < 2 ^ 7) }
-    ensures gives { (end : ℕ) (bits : List ℕ) → HasLeft from.old end bits →
+    ensures gives { (end : ℕ) (bits : List ℕ) → Rests from.old end bits →
         MatchResult result (λ span. IsMadeBehind seq.now coding.now m row head.now span end bits from.new (K.written to.old) (K.written to.new))
         (λ fault. RefusesTold (many (next_macroblock seq.now coding.now)) (refusal_told fault) end bits) }
     ensures few { IfOk result (λ span. span.end ≤ 4096) }
@@ -135,10 +136,10 @@ fn make_macroblocks<S: Source, K: Sink>(
 ) -> Result<Span, SliceFault>
     requires coding { IsCoding coding.now }
     requires weights { HasWeights seq.now }
-    requires told { (end : ℕ) × (bits : List ℕ) × HasLeft from.old end bits }
+    requires told { (end : ℕ) × (bits : List ℕ) × Rests from.old end bits }
     requires none { start.skipped ≡ 0 }
     requires goes { is_stopped to.old ≡ false }
-    ensures gives { (end : ℕ) (bits : List ℕ) → HasLeft from.old end bits →
+    ensures gives { (end : ℕ) (bits : List ℕ) → Rests from.old end bits →
         MatchResult result (λ span. AreMade K.written seq.now coding.now start span end bits from.new to.old to.new)
         (λ fault. RefusesTold (many (next_macroblock seq.now coding.now)) (refusal_told fault) end bits) }
     ensures few { IfOk result (λ span. span.end ≤ 4096) }

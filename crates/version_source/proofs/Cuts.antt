@@ -2,11 +2,11 @@
 use Rattle.std.proofs.Common.{◌≡◌, ℕ, zero, suc, ◌+◌, ◌-◌, ◌*◌, ◌/◌, ◌<◌, ◌≤◌, List, [], ◌∷◌, ◌++◌, length, take, drop, map, replicate, ◌⊎◌, inl, inr, refl, ap, ap₂, subst, sym, ◌∙◌, arith}
 use Rattle.std.proofs.lemmas.List.{length-drop, length-take-le, take_all}
 use Rattle.std.proofs.lemmas.Bool.{cases_lt}
+use Rattle.pes_units.specs.PesPieces.{packets_for, pes_pieces, piece_of}
 use Rattle.mux_writer.specs.Pieces.{HasPayloadSize}
 use Rattle.std.specs.List.{range_with_len}
 use Rattle.payload_lists.specs.Payload.{Payload}
 use Rattle.slot_rule.specs.Queues.{payloads}
-use Rattle.version_source.specs.Pieces.{packets_for, pes_pieces, piece_of}
 
 -- a list over a range whose items are one number, but the last
 cut-from : (f : ℕ → ℕ) (c last from n : ℕ) → ((k : ℕ) → from ≤ k → k < from + n → f k ≡ c) → f (from + n) ≡ last → map f (range_with_len from (suc n)) ≡ replicate n c ++ last ∷ []

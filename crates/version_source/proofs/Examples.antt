@@ -1,10 +1,11 @@
 -- Worked examples of pieces: what a check computes, beside what was counted by hand.
 use Rattle.std.proofs.Common.{◌≡◌, ℕ, Bool, true, false, List, [], ◌∷◌, length, map, replicate, None, refl}
 use Rattle.payload_lists.specs.Payload.{Payload}
+use Rattle.pes_units.specs.PesPieces.{pes_pieces}
 use Rattle.program_reader.specs.declared.program.AudioPiece.{AudioPiece}
 use Rattle.program_reader.specs.declared.program.UnitSource.{UnitSource}
 use Rattle.version_maker.specs.declared.version.UnitVersion.{UnitVersion}
-use Rattle.version_source.specs.Pieces.{audio_payload, pes_packet, pes_pieces, video_items}
+use Rattle.version_source.specs.Pieces.{audio_payload, pes_packet, video_items}
 
 -- the start flags and lengths of pieces
 abbrev cuts : List Payload → List (Bool × ℕ)

@@ -6,11 +6,12 @@ use Rattle.std.specs.List.{range_with_len}
 use Rattle.std.proofs.Math.Logic.{∥∥₁_elim}
 use Rattle.syntax_types.specs.declared.picture.SeqState.{SeqState}
 use Rattle.payload_lists.specs.Payload.{Payload}
+use Rattle.pes_units.specs.PesPieces.{packets_for, pes_pieces, piece_of}
 use Rattle.mux_writer.specs.declared.piece_source.Filled.{Filled}
 use Rattle.mux_writer.specs.Pieces.{IsFilledWith}
 use Rattle.program_reader.specs.declared.program.UnitSource.{UnitSource}
 use Rattle.version_maker.specs.declared.version.UnitVersion.{UnitVersion}
-use Rattle.version_source.specs.Pieces.{packets_for, pes_packet, pes_pieces, piece_of, video_items}
+use Rattle.version_source.specs.Pieces.{pes_packet, video_items}
 use Rattle.version_source.specs.Versions.{AreVideoVersions, chosen_bytes}
 use Rattle.version_source.specs.declared.sent_video.SentVideo.{SentVideo}
 use Rattle.version_source.specs.Private.Kept.{IsKept}

@@ -1,10 +1,9 @@
 -- The pieces of programs in chosen versions: what each packet of their streams carries. Streams have numbers in the order of the
 -- programs, the video of each before its audio streams. (PES packets by ISO/IEC 13818-1, 2.4.3.6 and 2.4.3.7.)
-use Rattle.std.specs.Prelude.{ℕ, ◌+◌, ◌-◌, ◌*◌, ◌/◌, ◌<◌, ◌==◌, false, List, [], ◌∷◌, ◌++◌, length, take, drop, map, slice_range, slice_index_or}
-use Rattle.std.specs.List.{range_with_len}
-use Rattle.stream_constants.specs.declared.packets.TheConstants.{PAYLOAD_BYTES}
+use Rattle.std.specs.Prelude.{ℕ, ◌+◌, ◌<◌, false, List, [], ◌∷◌, ◌++◌, length, drop, map, slice_range, slice_index_or}
 use Rattle.payload_lists.specs.Payload.{Payload}
 use Rattle.pes_units.specs.VideoHeader.{written_pes_header}
+use Rattle.pes_units.specs.PesPieces.{pes_pieces}
 use Rattle.mux_writer.specs.Pieces.{Pieces}
 use Rattle.program_reader.specs.declared.program.AudioPiece.{AudioPiece}
 use Rattle.program_reader.specs.declared.program.AudioSource.{AudioSource}
@@ -18,18 +17,6 @@ use Rattle.version_source.specs.Versions.{chosen_bytes}
 -- the PES packet of a unit in a version: a header with the unit's times, then the version
 abbrev pub pes_packet : UnitSource → (version : List ℕ) → List ℕ
 pes_packet unit version = written_pes_header unit.times ++ version
-
--- how many packets carry so many bytes
-abbrev pub packets_for : (bytes : ℕ) → ℕ
-packets_for bytes = (bytes + (PAYLOAD_BYTES - 1)) / PAYLOAD_BYTES
-
--- what packet k of a PES packet carries: the bytes from 184 k on, as many as a packet has room for; it begins with packet 0
-abbrev pub piece_of : (packet : List ℕ) → (k : ℕ) → Payload
-piece_of packet k = record { start = k == 0; bytes = take PAYLOAD_BYTES (drop (PAYLOAD_BYTES * k) packet) }
-
--- all pieces of a PES packet, in order
-abbrev pub pes_pieces : (packet : List ℕ) → List Payload
-pes_pieces packet = map (piece_of packet) (range_with_len 0 (packets_for (length packet)))
 
 -- of each unit the pieces of its PES packet, in the version that the choice names
 abbrev pub video_items : List UnitSource → List (List UnitVersion) → (choice : List ℕ) → List (List Payload)

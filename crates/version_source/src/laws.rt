@@ -2,6 +2,7 @@
 ghost use Rattle.std.specs.Prelude.{◌≡◌, ◌≤◌, ◌+◌, ℕ, List, All, length, map, slice_index_or};
 ghost use Rattle.bit_lists.specs.Fields.{AreBytes};
 ghost use Rattle.pes_units.specs.VideoHeader.{written_pes_header};
+ghost use Rattle.pes_units.specs.PesPieces.{pes_pieces};
 ghost use Rattle.slot_rule.specs.Queues.{payloads};
 ghost use Rattle.ts_demux.specs.declared.demuxed.Demuxed.{Demuxed};
 ghost use Rattle.program_reader.specs.declared.program.Program.{Program};
@@ -9,7 +10,7 @@ ghost use Rattle.program_reader.specs.declared.program.UnitSource.{UnitSource};
 ghost use Rattle.program_reader.specs.Programs.{IsProgram, IsProgramOfFile};
 ghost use Rattle.version_maker.specs.declared.version.UnitVersion.{UnitVersion};
 ghost use Rattle.version_maker.specs.Versions.{size_of};
-ghost use Rattle.version_source.specs.Pieces.{pes_packet, pes_pieces};
+ghost use Rattle.version_source.specs.Pieces.{pes_packet};
 ghost use Rattle.version_source.specs.Sendable.{IsSendable};
 ghost use Rattle.version_source.specs.Versions.{AreAllVersions, chosen_bytes};
 

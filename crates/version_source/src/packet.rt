@@ -3,10 +3,11 @@ ghost use Rattle.std.specs.Prelude.{◌≡◌, ◌≤◌, ◌<◌, ◌++◌, len
 ghost use Rattle.std.specs.Option.{option_copied};
 ghost use Rattle.syntax_types.specs.declared.picture.SeqState.{SeqState};
 ghost use Rattle.pes_units.specs.VideoHeader.{AreInRange, IsBesidePts, written_pes_header};
+ghost use Rattle.pes_units.specs.PesPieces.{packets_for, piece_of};
 ghost use Rattle.picture_grammar.specs.Picture.{MayPrecede};
 ghost use Rattle.mux_writer.specs.Pieces.{HasPayloadSize, IsFilledWith};
 ghost use Rattle.version_maker.specs.Versions.{IsVersionAt};
-ghost use Rattle.version_source.specs.Pieces.{audio_payload, packets_for, piece_of};
+ghost use Rattle.version_source.specs.Pieces.{audio_payload};
 ghost use Rattle.version_source.specs.Sendable.{IsPieceOf, IsUnitOf, LeavesState, bytes_of_unit};
 ghost use Rattle.version_source.specs.Private.Sending.{IsPacketOf};
 

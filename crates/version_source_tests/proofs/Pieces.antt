@@ -1,30 +1,19 @@
 -- The pieces of items that are kept are pieces of their streams.
-use Rattle.std.proofs.Common.{◌≡◌, ℕ, zero, suc, ◌+◌, ◌*◌, ◌/◌, ◌<◌, List, [], ◌∷◌, ◌++◌, All, length, map, drop, get_or, slice_index_or, Option, Some, None, IfSome, sym, ap, subst, ◌∙◌, arith}
-use Rattle.std.specs.List.{range_with_len}
+use Rattle.std.proofs.Common.{◌≡◌, ℕ, zero, suc, ◌+◌, ◌*◌, ◌<◌, List, [], ◌∷◌, ◌++◌, All, length, map, drop, get_or, slice_index_or, Option, Some, None, IfSome, sym, ap, subst, ◌∙◌, arith}
 use Rattle.std.proofs.lemmas.List.{get_or-append-add, length-append, length-map}
 use Rattle.std.proofs.lemmas.List.Elements.{All-tail}
-use Rattle.std.proofs.lemmas.List.FromFn.{length-range_with_len}
 use Rattle.payload_lists.specs.Payload.{Payload}
 use Rattle.pes_units.specs.VideoHeader.{written_pes_header}
+use Rattle.pes_units.proofs.PesPieces.{piece-within}
 use Rattle.program_reader.specs.declared.program.AudioSource.{AudioSource}
 use Rattle.program_reader.specs.declared.program.Program.{Program}
 use Rattle.program_reader.specs.declared.program.UnitSource.{UnitSource}
 use Rattle.version_maker.specs.declared.version.UnitVersion.{UnitVersion}
-use Rattle.version_source.specs.Pieces.{HasPiece, audio_items, packets_for, pes_packet, pes_pieces, piece_of, stream_items, video_items}
+use Rattle.version_source.specs.Pieces.{HasPiece, audio_items, pes_packet, stream_items, video_items}
 use Rattle.version_source.specs.Sendable.{IsSendable}
 use Rattle.version_source.specs.Versions.{chosen_bytes}
 
 -- ---- a picture
-
--- a PES packet has a piece for each packet's room that its bytes begin
-piece-within : (packet : List ℕ) (k : ℕ) → 184 * k < length packet → k < length (pes_pieces packet)
-piece-within packet k within =
-    let count : length (pes_pieces packet) ≡ length (range_with_len 0 (packets_for (length packet))) = length-map (range_with_len 0 (packets_for (length packet))) (piece_of packet) in
-    let ranged : length (range_with_len 0 (packets_for (length packet))) ≡ packets_for (length packet) = length-range_with_len 0 (packets_for (length packet)) in
-    enough (length packet) k (length (pes_pieces packet)) within (count ∙ ranged)
-  where
-    enough : (bytes k n : ℕ) → 184 * k < bytes → n ≡ (bytes + 183) / 184 → k < n
-    enough bytes k n h e = omega arith
 
 chosen-at : (own : List UnitVersion) (index : ℕ) (version : UnitVersion) → index < length own → version ≡ get_or own index version → chosen_bytes own index ≡ version.bytes
 chosen-at [] index version within is = absurd (let e : index < 0 = within in omega (arith, e))

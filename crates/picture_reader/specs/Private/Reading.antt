@@ -1,17 +1,16 @@
 -- Parts of a unit as they are read, where all bytes are told.
-use Rattle.std.specs.Prelude.{◌≡◌, ◌+◌, ◌≤◌, ℕ, List, [], length, drop, Option, Some, IfSome}
-use Rattle.std.specs.List.{sum_by}
+use Rattle.std.specs.Prelude.{◌≡◌, ◌+◌, ◌≤◌, ℕ, List, [], length, drop}
 use Rattle.shelf_io.specs.declared.source.Source.{Ghosts}
 use Rattle.bit_cursor.specs.declared.bit_reader.BitReader.{BitReader}
-use Rattle.bit_cursor.specs.BitReader.{bits_left, place, KeepsSource}
+use Rattle.bit_cursor.specs.BitReader.{KeepsSource}
 use Rattle.syntax_types.specs.declared.macroblock.Macroblock.{Macroblock}
 use Rattle.syntax_types.specs.declared.picture.PicCoding.{PicCoding}
 use Rattle.syntax_types.specs.declared.picture.SeqState.{SeqState}
 use Rattle.syntax_types.specs.declared.slice.Slice.{Slice}
-use Rattle.picture_grammar.specs.Grammar.{Grammar, many}
+use Rattle.picture_grammar.specs.Grammar.{many}
 use Rattle.picture_grammar.specs.Slice.{columns, next_macroblock, slice}
-use Rattle.grammar_reading.specs.BitsRead.{PlacedRefusal}
 use Rattle.grammar_reading.specs.Several.{SpellsFront}
+use Rattle.video_headers.specs.Private.Reading.{Rests}
 use Rattle.macroblock_reader.specs.declared.cursor.SliceCursor.{SliceCursor}
 use Rattle.macroblock_reader.specs.SliceCursor.{StandsBehind, columns_behind}
 use Rattle.picture_reader.specs.declared.coverage.Span.{Span}
@@ -21,11 +20,6 @@ use Rattle.picture_reader.specs.declared.slice.MacroblocksWalked.{MacroblocksWal
 use Rattle.picture_reader.specs.declared.slice.SliceWalked.{SliceWalked}
 use Rattle.picture_reader.specs.Coverage.{IsSpan, IsSpanSoFar}
 
--- what a reader has left, which is told, up to an end place
-pub record HasLeft {S : Type 0} {g : Ghosts S} (reader : BitReader S g) (end : ℕ) (bits : List ℕ) : Type 0 where
-  pub told : bits_left reader ≡ Some bits
-  pub ends : place reader + length bits ≡ end
-
 -- the first macroblocks of a slice were read, and kept where they are to be
 pub record MacroblocksRead {S : Type 0} {g : Ghosts S} (seq : SeqState) (coding : PicCoding) (keep : Keep) (list : List Macroblock) (span : Span)
     (cursor : SliceCursor) (old now : BitReader S g) : Type 0 where
@@ -34,7 +28,7 @@ pub record MacroblocksRead {S : Type 0} {g : Ghosts S} (seq : SeqState) (coding 
   pub counted : span.end + columns_behind cursor ≡ columns seq
   pub spans : IsSpanSoFar macroblocks span
   pub kept : keep ≡ Tree → list ≡ macroblocks
-  pub read : (end : ℕ) (bits : List ℕ) → HasLeft old end bits → (middle : List ℕ) × SpellsFront (next_macroblock seq coding) [] macroblocks bits middle × HasLeft now end middle
+  pub read : (end : ℕ) (bits : List ℕ) → Rests old end bits → (middle : List ℕ) × SpellsFront (next_macroblock seq coding) [] macroblocks bits middle × Rests now end middle
   pub keeps : KeepsSource old now
 
 -- all macroblocks of a slice were read, up to its close
@@ -42,7 +36,7 @@ pub record AllRead {S : Type 0} {g : Ghosts S} (seq : SeqState) (coding : PicCod
   pub macroblocks : List Macroblock
   pub rest : List ℕ
   pub spelled : (many (next_macroblock seq coding)).Spells (macroblocks, tt) bits rest
-  pub left : HasLeft new end rest
+  pub left : Rests new end rest
   pub spans : IsSpan macroblocks walked.span
   pub kept : keep ≡ Tree → walked.macroblocks ≡ macroblocks
 

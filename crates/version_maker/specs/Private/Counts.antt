@@ -1,5 +1,5 @@
 -- A version of a slice while it is counted, and behind that.
-use Rattle.std.specs.Prelude.{◌≡◌, ◌<◌, ◌≤◌, ◌+◌, ◌++◌, ◌*◌, ◌^◌, ℕ, List, length, unwrap_or, Bool, true, false}
+use Rattle.std.specs.Prelude.{◌≡◌, ◌<◌, ◌≤◌, ◌+◌, ◌*◌, ◌^◌, ℕ, List, length, unwrap_or, Bool, true, false}
 use Rattle.std.specs.List.{flat_map, sum_by}
 use Rattle.std.specs.Option.{option_to_list}
 use Rattle.quant_math.specs.Scales.{IsMappedCode}
@@ -7,13 +7,12 @@ use Rattle.syntax_types.specs.declared.macroblock.Macroblock.{Macroblock}
 use Rattle.syntax_types.specs.declared.picture.PicCoding.{PicCoding}
 use Rattle.syntax_types.specs.declared.picture.SeqState.{SeqState}
 use Rattle.syntax_types.specs.declared.slice.Slice.{Slice}
-use Rattle.stream_constants.specs.declared.start_codes.TheConstants.{FIRST_SLICE}
-use Rattle.picture_grammar.specs.StartCode.{start_code_bits}
-use Rattle.picture_grammar.specs.Written.{to_whole_bytes, written_macroblock, written_slice}
+use Rattle.picture_grammar.specs.Written.{written_macroblock}
 use Rattle.requantiser.specs.declared.version_state.VersionState.{VersionState}
 use Rattle.requantiser.specs.declared.tally.Tally.{Tally}
 use Rattle.requantiser.specs.Tallies.{IsTallyOf}
 use Rattle.requantiser.specs.Steps.{AreSteps, IsStep, MakeSlice, Step, distortion_of, made_by, state_behind, taken_by}
+use Rattle.macroblock_writer.specs.Private.WholeSlices.{written_whole_slice}
 use Rattle.version_maker.specs.declared.slice_count.SliceCount.{SliceCount}
 use Rattle.version_maker.specs.declared.slice_count.VersionCount.{VersionCount}
 
@@ -84,16 +83,12 @@ pub record AreAllCounted (seq : SeqState) (coding : PicCoding) (m : ℕ) (slice 
   pub skipped : start.skipped ≡ 0
   pub counted : AreCounted seq coding start slice.macroblocks true count
 
--- a slice behind its start code as it is written, up to a whole byte
-abbrev pub written_whole : PicCoding → Slice → List ℕ
-written_whole coding slice = to_whole_bytes (start_code_bits (slice.row + FIRST_SLICE) ++ written_slice coding slice)
-
 -- the slice of the version at m sixteenths was counted
 pub record IsCountedSlice (seq : SeqState) (coding : PicCoding) (m : ℕ) (from : Slice) (count : SliceCount) : Type 0 where
   pub to : Slice
   pub steps : List Step
   pub makes : MakeSlice seq coding m from to steps
-  pub bytes : 8 * count.bytes ≡ length (written_whole coding to)
+  pub bytes : 8 * count.bytes ≡ length (written_whole_slice coding to)
   pub few : count.bytes ≤ 2 ^ 40
   pub distortion : count.distortion ≡ distortion_of steps
   pub small : count.distortion ≤ length from.macroblocks * 2 ^ 41

@@ -1,5 +1,5 @@
 -- A version that is written while its source is read: macroblock by macroblock, slice by slice, and the whole unit.
-use Rattle.std.specs.Prelude.{◌≡◌, ◌≤◌, ◌<◌, ◌+◌, ◌==◌, ◌++◌, ℕ, Bool, false, Option, List, [], length, take, drop}
+use Rattle.std.specs.Prelude.{◌≡◌, ◌≤◌, ◌<◌, ◌+◌, ◌==◌, ◌++◌, ℕ, Bool, Option, List, [], length, take, drop}
 use Rattle.std.specs.Option.{option_to_list}
 use Rattle.std.specs.List.{AllZip, flat_map}
 use Rattle.shelf_io.specs.declared.source.Source.{Ghosts}
@@ -8,7 +8,7 @@ use Rattle.bit_lists.specs.Fields.{bit_list}
 use Rattle.bit_cursor.specs.declared.bit_reader.BitReader.{BitReader}
 use Rattle.bit_cursor.specs.declared.bit_writer.BitWriter.{BitWriter}
 use Rattle.bit_cursor.specs.BitReader.{KeepsSource}
-use Rattle.bit_cursor.specs.BitWriter.{AddsBits, Puts, is_stopped, sink_of}
+use Rattle.bit_cursor.specs.BitWriter.{AddsBits}
 use Rattle.syntax_types.specs.declared.macroblock.Macroblock.{Macroblock}
 use Rattle.syntax_types.specs.declared.picture.PicCoding.{PicCoding}
 use Rattle.syntax_types.specs.declared.picture.Picture.{Picture}
@@ -19,27 +19,22 @@ use Rattle.picture_grammar.specs.Slice.{ClosesSlice, columns, next_macroblock, s
 use Rattle.picture_grammar.specs.Written.{written_macroblock, written_picture}
 use Rattle.picture_heads.specs.Heads.{IsHeadWithoutDelay}
 use Rattle.grammar_reading.specs.Several.{SpellsFront}
+use Rattle.video_headers.specs.Private.Reading.{Rests}
 use Rattle.macroblock_reader.specs.declared.cursor.SliceCursor.{SliceCursor}
 use Rattle.macroblock_reader.specs.declared.head.SliceHead.{SliceHead}
 use Rattle.macroblock_reader.specs.SliceCursor.{StandsBehind, columns_behind}
+use Rattle.macroblock_writer.specs.Private.Going.{GoesOn}
+use Rattle.macroblock_writer.specs.Private.WholeSlices.{written_whole_slice}
 use Rattle.picture_reader.specs.declared.coverage.Span.{Span}
 use Rattle.picture_reader.specs.declared.cursor.UnitCursor.{UnitCursor}
 use Rattle.picture_reader.specs.Coverage.{IsSpan, IsSpanSoFar}
 use Rattle.picture_reader.specs.Picture.{IsPictureOf}
 use Rattle.picture_reader.specs.UnitCursor.{StandsBehindSlices}
-use Rattle.picture_reader.specs.Private.Reading.{HasLeft}
 use Rattle.requantiser.specs.declared.version_state.VersionState.{VersionState}
 use Rattle.requantiser.specs.Slices.{IsCoarserSlice}
 use Rattle.requantiser.specs.Steps.{AreSteps, IsStep, Step, made_by, state_behind, taken_by}
 use Rattle.requantiser.specs.Version.{IsVersion}
 use Rattle.version_maker.specs.declared.slice_version.SliceMade.{SliceMade}
-use Rattle.version_maker.specs.Private.Counts.{written_whole}
-
--- these bits were put, and more may follow
-pub record GoesOn {K : Type 0} (written : K → Told) (old new : BitWriter K) (bits : List ℕ) : Type 0 where
-  pub puts : Puts written old new bits
-  pub goes : is_stopped new ≡ false
-  pub same_sink : (sink_of new).ghost_name ≡ (sink_of old).ghost_name
 
 -- ---- macroblocks
 
@@ -69,8 +64,8 @@ pub record AreMadeSoFar {K S : Type 0} {g : Ghosts S} (written : K → Told) (se
   pub counted : span.end + columns_behind cursor ≡ columns seq
   pub spans : IsSpanSoFar (taken_by steps) span
   pub room : state.skipped + columns_behind cursor ≤ columns seq
-  pub read : (end : ℕ) (bits : List ℕ) → HasLeft old end bits
-      → (middle : List ℕ) × SpellsFront (next_macroblock seq coding) [] (taken_by steps) bits middle × HasLeft now end middle × AreInOrder seq coding start steps middle
+  pub read : (end : ℕ) (bits : List ℕ) → Rests old end bits
+      → (middle : List ℕ) × SpellsFront (next_macroblock seq coding) [] (taken_by steps) bits middle × Rests now end middle × AreInOrder seq coding start steps middle
   pub keeps : KeepsSource old now
   pub goes : GoesOn written put put_now (flat_map (written_macroblock coding) (made_by steps))
 
@@ -80,7 +75,7 @@ pub record AreMade {K S : Type 0} {g : Ghosts S} (written : K → Told) (seq : S
   pub steps : List Step
   pub rest : List ℕ
   pub spelled : (many (next_macroblock seq coding)).Spells (taken_by steps, tt) bits rest
-  pub left : HasLeft new end rest
+  pub left : Rests new end rest
   pub spans : IsSpan (taken_by steps) span
   pub in_order : AreSteps seq coding (length (taken_by steps)) 0 start steps
   pub goes : GoesOn written put put_now (flat_map (written_macroblock coding) (made_by steps))
@@ -97,11 +92,11 @@ pub record IsMadeBehind {S : Type 0} {g : Ghosts S} (seq : SeqState) (coding : P
   pub macroblocks : List Macroblock
   pub rest : List ℕ
   pub spelled : (many (next_macroblock seq coding)).Spells (macroblocks, tt) bits rest
-  pub left : HasLeft new end rest
+  pub left : Rests new end rest
   pub spans : IsSpan macroblocks span
   pub to : Slice
   pub coarser : IsCoarserSlice seq coding m (slice_of row head macroblocks) to
-  pub adds : AddsBits told told_after (written_whole coding to)
+  pub adds : AddsBits told told_after (written_whole_slice coding to)
 
 -- so many of the bits spell a slice of this row, and the slice of the version was written
 pub record IsMadeSlice (seq : SeqState) (coding : PicCoding) (m row : ℕ) (made : SliceMade) (bits : List ℕ) (told told_after : Told) : Type 0 where
@@ -113,7 +108,7 @@ pub record IsMadeSlice (seq : SeqState) (coding : PicCoding) (m row : ℕ) (made
   pub few : made.span.end ≤ 4096
   pub to : Slice
   pub coarser : IsCoarserSlice seq coding m found to
-  pub adds : AddsBits told told_after (written_whole coding to)
+  pub adds : AddsBits told told_after (written_whole_slice coding to)
 
 -- ---- the unit
 
@@ -125,7 +120,7 @@ pub record IsMadeSoFar (before : Option SeqState) (unit : List ℕ) (m : ℕ) (c
   pub coarser : AllZip (IsCoarserSlice cursor.headers.seq cursor.headers.coding m) slices tos
   pub head : List ℕ
   pub without : IsHeadWithoutDelay (take cursor.headers.slices_at unit) head
-  pub adds : AddsBits told now (bit_list head ++ flat_map (written_whole cursor.headers.coding) tos)
+  pub adds : AddsBits told now (bit_list head ++ flat_map (written_whole_slice cursor.headers.coding) tos)
 
 -- the unit spells a picture, whose version was written
 pub record IsMadeVersion (before : Option SeqState) (unit : List ℕ) (m : ℕ) (told told_after : Told) : Type 0 where

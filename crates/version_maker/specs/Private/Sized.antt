@@ -5,10 +5,10 @@ use Rattle.syntax_types.specs.declared.picture.PicCoding.{PicCoding}
 use Rattle.syntax_types.specs.declared.picture.SeqState.{SeqState}
 use Rattle.syntax_types.specs.declared.slice.Slice.{Slice}
 use Rattle.requantiser.specs.Steps.{MakeSlices, Step, distortion_of}
+use Rattle.macroblock_writer.specs.Private.WholeSlices.{written_whole_slice}
 use Rattle.picture_reader.specs.declared.cursor.UnitCursor.{UnitCursor}
 use Rattle.picture_reader.specs.UnitCursor.{StandsBehindSlices}
 use Rattle.version_maker.specs.declared.version.VersionSize.{VersionSize}
-use Rattle.version_maker.specs.Private.Counts.{written_whole}
 
 -- The slices of the version at m sixteenths behind these of the source were counted, with sums that go round at 2 ^ 64,
 -- where those of a covered picture never come.
@@ -17,7 +17,7 @@ pub record IsSized (seq : SeqState) (coding : PicCoding) (slices : List Slice) (
   pub steps : List (List Step)
   pub makes : MakeSlices seq coding m slices tos steps
   pub count : ℕ
-  pub bytes : 8 * count ≡ length (flat_map (written_whole coding) tos)
+  pub bytes : 8 * count ≡ length (flat_map (written_whole_slice coding) tos)
   pub few : count ≤ length slices * 2 ^ 40
   pub counted : size.bytes ≡ count % 2 ^ 64
   pub small : sum_by distortion_of steps ≤ sum_by (λ s. length s.macroblocks) slices * 2 ^ 41

@@ -5,11 +5,11 @@ use Rattle.payload_lists.specs.Payload.{Payload}
 use Rattle.ts_packets.specs.TransportStream.{piece_count}
 use Rattle.version_table.specs.declared.table.ProgramRow.{ProgramRow}
 use Rattle.version_table.specs.Choice.{HasVersion}
+use Rattle.psi_tables.specs.Pmt.{pids_of}
 use Rattle.version_source.specs.Pieces.{pieces_of, stream_items}
 use Rattle.version_source.specs.Versions.{ratios_of}
 use Rattle.program_table.specs.Table.{program_rows}
 use Rattle.mux_writer.specs.declared.layout.Layout.{Layout}
-use Rattle.mux_writer.specs.Layout.{map_pids}
 use Rattle.mux_writer.specs.Output.{output_stream}
 use Rattle.mux_writer.specs.Pieces.{Pieces}
 use Rattle.job_stream.specs.Stream.{layout_of, output_maps}
@@ -37,9 +37,9 @@ returns c job contents programs table choice slots versions valid programs_are o
     let count : piece_count (output_stream layout job.slot pieces slots.rows) ≡ length slots.rows =
     as-many c.packets_stand_in_order.ensures.count c.packets_stand_in_order.ensures.packet c.read_as_written.ensures layout job.slot pieces slots.rows are in
     let fit = subst (λ (rows : List ProgramRow). AllZip HasVersion (flat_map (λ (row : ProgramRow). row.units) rows) choice) rows fits in
-    let sizes : length items ≡ length (flat_map map_pids (output_maps 0 job.programs programs)) = streams-count 0 job.programs programs versions choice are_versions ready.out in
-    let carry : AllCarry (output_stream layout job.slot pieces slots.rows) (length slots.rows) (flat_map map_pids (output_maps 0 job.programs programs)) items =
-    all-carry (output_stream layout job.slot pieces slots.rows) (length slots.rows) (flat_map map_pids (output_maps 0 job.programs programs)) items (sym sizes)
+    let sizes : length items ≡ length (flat_map pids_of (output_maps 0 job.programs programs)) = streams-count 0 job.programs programs versions choice are_versions ready.out in
+    let carry : AllCarry (output_stream layout job.slot pieces slots.rows) (length slots.rows) (flat_map pids_of (output_maps 0 job.programs programs)) items =
+    all-carry (output_stream layout job.slot pieces slots.rows) (length slots.rows) (flat_map pids_of (output_maps 0 job.programs programs)) items (sym sizes)
     (λ stream within.
     c.streams_carry_their_items.ensures job contents programs table choice slots versions stream valid programs_are of table_valid fits list are_versions within
     (subst (λ (n : ℕ). stream < n) sizes within)) in

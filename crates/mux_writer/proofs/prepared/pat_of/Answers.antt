@@ -1,6 +1,7 @@
 use Rattle.std.proofs.Common.{◌≤◌, ℕ, List, All, length, ap, subst, sym, ◌∙◌, ◌<◌, ◌^◌, arith}
 use Rattle.psi_tables.specs.Pat.{written_pat}
-use Rattle.mux_writer.specs.Tables.{programs_from, section_payload, with_crc}
+use Rattle.psi_tables.specs.Sections.{section_payload}
+use Rattle.mux_writer.specs.Tables.{programs_from, with_crc}
 use Rattle.mux_writer.proofs.Sections.{length-programs_from, pat-fits, programs-pids, with_crc-is}
 use Rattle.mux_writer.proofs.prepared.pat_of.Goals as goal
 

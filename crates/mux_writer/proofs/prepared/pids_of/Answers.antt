@@ -2,7 +2,8 @@ use Rattle.std.proofs.Common.{ℕ, List, [], ◌++◌, length, take, get_or, ap,
 use Rattle.std.specs.List.{flat_map}
 use Rattle.std.proofs.lemmas.List.{flat_map_more, length-map, take_more}
 use Rattle.psi_tables.specs.declared.program_map.ProgramMap.{ProgramMap}
-use Rattle.mux_writer.specs.Layout.{IsOutputMap, map_pids}
+use Rattle.psi_tables.specs.Pmt.{pids_of}
+use Rattle.mux_writer.specs.Layout.{IsOutputMap}
 use Rattle.mux_writer.proofs.Pids.{map-read}
 use Rattle.mux_writer.proofs.prepared.pids_of.Goals as goal
 
@@ -24,13 +25,13 @@ loop-map-preserved c =
         is.few,
         c.loop-map.invariant.size,
         ap length c.put_pids.ensures,
-        length-append c.loop-map.pids.items (map_pids read),
+        length-append c.loop-map.pids.items (pids_of read),
         length-map read.streams.items (λ stream. stream.pid),
       );
       pids =
           c.put_pids.ensures
-          ∙ ap (λ (bytes : List ℕ). bytes ++ map_pids read) c.loop-map.invariant.pids
-          ∙ ap (λ (m : ProgramMap). flat_map map_pids (take n maps) ++ map_pids m) c.map-item.is
-          ∙ flat_map_more map_pids [] (take n maps) (get_or maps n read)
-          ∙ ap (λ (front : List ProgramMap). flat_map map_pids front) (sym (take_more maps n read c.loop-map-test.true));
+          ∙ ap (λ (bytes : List ℕ). bytes ++ pids_of read) c.loop-map.invariant.pids
+          ∙ ap (λ (m : ProgramMap). flat_map pids_of (take n maps) ++ pids_of m) c.map-item.is
+          ∙ flat_map_more pids_of [] (take n maps) (get_or maps n read)
+          ∙ ap (λ (front : List ProgramMap). flat_map pids_of front) (sym (take_more maps n read c.loop-map-test.true));
     }

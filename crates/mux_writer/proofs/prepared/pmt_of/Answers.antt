@@ -1,6 +1,6 @@
 use Rattle.std.proofs.Common.{ap, ◌∙◌}
 use Rattle.psi_tables.specs.Pmt.{written_pmt}
-use Rattle.mux_writer.specs.Tables.{section_payload}
+use Rattle.psi_tables.specs.Sections.{section_payload}
 use Rattle.mux_writer.proofs.Sections.{with_crc-is}
 use Rattle.mux_writer.proofs.prepared.pmt_of.Goals as goal
 

@@ -1,8 +1,9 @@
 use Rattle.std.proofs.Common.{ℕ, List, [], ◌∷◌, ◌++◌, map, take, ap, sym, ◌∙◌, arith, length, length-append}
 use Rattle.std.proofs.lemmas.List.{map_more}
 use Rattle.psi_tables.specs.declared.program_map.ProgramMap.{ProgramMap}
+use Rattle.psi_tables.specs.Sections.{section_payload}
 use Rattle.mux_writer.specs.Layout.{IsOutputMap}
-use Rattle.mux_writer.specs.Tables.{pmt_section, section_payload}
+use Rattle.mux_writer.specs.Tables.{pmt_section}
 use Rattle.mux_writer.proofs.Pids.{map-read}
 use Rattle.mux_writer.proofs.prepared.pmts_of.Goals as goal
 

@@ -1,5 +1,6 @@
 use Rattle.std.proofs.Common.{◌≡◌, length, map, take}
-use Rattle.mux_writer.specs.Tables.{pmt_section, section_payload}
+use Rattle.psi_tables.specs.Sections.{section_payload}
+use Rattle.mux_writer.specs.Tables.{pmt_section}
 use Rattle.mux_writer.proofs.prepared.pmts_of.Given as goal
 
 abbrev pub invariant-loop-map : goal.invariant-loop-map

@@ -7,9 +7,9 @@ use Rattle.picture_grammar.specs.Head.{head}
 use Rattle.grammar_reading.specs.BitsRead.{PlacedRefusal}
 use Rattle.video_headers.specs.HeadFault.{refusal_told as head_told}
 use Rattle.video_headers.specs.HeadRead.{HeadRead}
+use Rattle.video_headers.specs.Private.Reading.{Rests}
 use Rattle.picture_reader.specs.PictureFault.{refusal_told}
 use Rattle.picture_reader.specs.Told.{RefusesTold}
-use Rattle.picture_reader.specs.Private.Reading.{HasLeft}
 use Rattle.picture_reader.proofs.Told.{explains-told}
 use Rattle.picture_reader.proofs.Units.{head-stands}
 use Rattle.picture_reader.proofs.head.head_of.Goals as goal
@@ -27,7 +27,7 @@ pub returns-in-Err : goal.returns-in-Err
 returns-in-Err c =
     let bits = bit_list c.args.unit.now in
     let grammar = head (option_copied c.args.before) in
-    let has : HasLeft c.new-reader.result (length bits) bits = record
+    let has : Rests c.new-reader.result (length bits) bits = record
     { told = c.new-reader.ensures.left ∙ ap (λ b. Some (bit_list b)) c.new-source.ensures; ends = omega (arith, c.new-reader.ensures.place) } in
     let told = head_told c.in-Err.fault in
     let refused = explains-told grammar c.new-reader.result (length bits) bits told c.in-Err.ensures.refused has in

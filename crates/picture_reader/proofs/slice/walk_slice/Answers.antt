@@ -6,9 +6,9 @@ use Rattle.syntax_types.specs.declared.macroblock.Macroblock.{Macroblock}
 use Rattle.syntax_types.specs.declared.slice.Slice.{Slice}
 use Rattle.picture_grammar.specs.Slice.{slice}
 use Rattle.picture_grammar.proofs.MacroblockLaws.{exact-slice}
+use Rattle.video_headers.specs.Private.Reading.{Rests}
 use Rattle.macroblock_reader.specs.SliceHead.{slice_head}
 use Rattle.macroblock_reader.specs.SliceFault.{refusal_told}
-use Rattle.picture_reader.specs.Private.Reading.{HasLeft}
 use Rattle.picture_reader.proofs.Told.{reads-told, explains-told}
 use Rattle.picture_reader.proofs.Slices.{inside-when, rest-dropped, head-told, rest-told, slice-spelled}
 use Rattle.shelf_io.proofs.Counted.{none-rose}
@@ -17,7 +17,7 @@ use Rattle.picture_reader.proofs.slice.walk_slice.Goals as goal
 pub returns-in_err-head-clause-gives : goal.returns-in_err-head-clause-gives
 returns-in_err-head-clause-gives c =
     let bits = bit_list c.args.bytes.now in
-    let has : HasLeft c.new-reader.result (length bits) bits = record
+    let has : Rests c.new-reader.result (length bits) bits = record
     { told = c.new-reader.ensures.left ∙ ap (λ b. Some (bit_list b)) c.new-source.ensures; ends = omega (arith, c.new-reader.ensures.place) } in
     let told = refusal_told c.in_err-head.field-0.0 in
     let p = err_from_is_err_and c.from_residual.result c.from_residual.ensures.1 in
@@ -32,7 +32,7 @@ returns-in_err-head-clause-inside c =
 pub returns-in_err-walked-clause-gives : goal.returns-in_err-walked-clause-gives
 returns-in_err-walked-clause-gives c =
     let bits = bit_list c.args.bytes.now in
-    let has : HasLeft c.new-reader.result (length bits) bits = record
+    let has : Rests c.new-reader.result (length bits) bits = record
     { told = c.new-reader.ensures.left ∙ ap (λ b. Some (bit_list b)) c.new-source.ensures; ends = omega (arith, c.new-reader.ensures.place) } in
     let (middle, s, left) = reads-told slice_head c.new-reader.result (length bits) bits c.read_slice_head.new.from c.in_ok-head.head c.in_ok-head.ensures.ok has in
     let told = refusal_told c.in_err-walked.field-0.0 in
@@ -51,7 +51,7 @@ returns-clause-gives c =
     let coding = c.args.coding.now in
     let row = c.args.row in
     let head = c.in_ok-head.head in
-    let has : HasLeft c.new-reader.result (length bits) bits = record
+    let has : Rests c.new-reader.result (length bits) bits = record
     { told = c.new-reader.ensures.left ∙ ap (λ b. Some (bit_list b)) c.new-source.ensures; ends = omega (arith, c.new-reader.ensures.place) } in
     let (middle, s, left) = reads-told slice_head c.new-reader.result (length bits) bits c.read_slice_head.new.from head c.in_ok-head.ensures.ok has in
     let all = c.in_ok-walked.ensures.gives (length bits) middle left in

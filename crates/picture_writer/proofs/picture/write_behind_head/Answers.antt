@@ -2,8 +2,9 @@ use Rattle.std.proofs.Common.{rules, [], refl, ap, sym, subst, append-nil}
 use Rattle.std.specs.List.{flat_map, AllByRecursion}
 use Rattle.bit_cursor.proofs.Composed.{writes_then, writes_exit, finished}
 use Rattle.block_coeffs.proofs.Writing.{writes_as}
+use Rattle.macroblock_writer.specs.Private.WholeSlices.{written_whole_slice}
 use Rattle.picture_writer.specs.WrittenPicture.{written_end}
-use Rattle.picture_writer.specs.Private.Slices.{CanBeWritten, written_whole_slice}
+use Rattle.picture_writer.specs.Private.Slices.{CanBeWritten}
 use Rattle.picture_writer.proofs.Finished.{no_ok, writer_causes, writer_front, writer_keeps, finish_causes, finish_front, finish_keeps}
 use Rattle.picture_writer.proofs.picture.write_behind_head.Goals as goal
 

@@ -8,10 +8,10 @@ use Rattle.bit_cursor.specs.BitWriter.{AddsBits}
 use Rattle.syntax_types.specs.declared.picture.Picture.{Picture}
 use Rattle.syntax_types.specs.declared.picture.SeqState.{SeqState}
 use Rattle.picture_grammar.specs.Picture.{SpellsPicture}
-use Rattle.picture_grammar.specs.Written.{written_picture, IsWritten}
+use Rattle.picture_grammar.specs.Written.{IsWritten, written_picture}
 use Rattle.picture_laws.proofs.WrittenPicture.{slices-of_picture, picture-read}
+use Rattle.macroblock_writer.specs.Private.WholeSlices.{written_whole_slice}
 use Rattle.picture_writer.specs.WrittenPicture.{AddsFront, written_end}
-use Rattle.picture_writer.specs.Private.Slices.{written_whole_slice}
 use Rattle.picture_writer.proofs.Finished.{no_ok, same_fault, same_causes, causes_behind, adds_behind, front_behind, front_within}
 use Rattle.picture_writer.proofs.Writable.{lawful_fits}
 use Rattle.picture_writer.proofs.picture.write_picture.Goals as goal

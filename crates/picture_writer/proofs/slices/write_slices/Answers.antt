@@ -3,7 +3,8 @@ use Rattle.std.specs.List.{flat_map}
 use Rattle.bit_cursor.proofs.Composed.{writes_none, writes_then, writes_exit}
 use Rattle.block_coeffs.proofs.Writing.{writes_as}
 use Rattle.macroblock_writer.proofs.Writing.{one_more, none_more, this_one, other_ones}
-use Rattle.picture_writer.specs.Private.Slices.{CanBeWritten, written_whole_slice}
+use Rattle.macroblock_writer.specs.Private.WholeSlices.{written_whole_slice}
+use Rattle.picture_writer.specs.Private.Slices.{CanBeWritten}
 use Rattle.picture_writer.proofs.slices.write_slices.Goals as goal
 
 pub loop-slice-init : goal.loop-slice-init

@@ -1,7 +1,8 @@
 use Rattle.std.proofs.Common.{◌≡◌, ℕ, List, Ok, ◌++◌, drop}
 use Rattle.std.specs.List.{flat_map, AllByRecursion}
 use Rattle.bit_cursor.specs.BitWriter.{odd_bits, Writes}
-use Rattle.picture_writer.specs.Private.Slices.{CanBeWritten, written_whole_slice}
+use Rattle.macroblock_writer.specs.Private.WholeSlices.{written_whole_slice}
+use Rattle.picture_writer.specs.Private.Slices.{CanBeWritten}
 use Rattle.picture_writer.proofs.slices.write_slices.Given as goal
 
 abbrev pub invariant-loop-slice : goal.invariant-loop-slice

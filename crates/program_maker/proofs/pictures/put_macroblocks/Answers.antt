@@ -5,14 +5,15 @@ use Rattle.syntax_types.specs.declared.picture.PicCoding.{PicCoding}
 use Rattle.picture_grammar.specs.Macroblock.{macroblock}
 use Rattle.picture_grammar.specs.Written.{written_macroblock}
 use Rattle.picture_laws.specs.Spellable.{IsSpellable}
+use Rattle.macroblock_writer.specs.Private.Going.{GoesOn}
+use Rattle.macroblock_writer.proofs.Going.{goes-as, goes-then}
 use Rattle.program_maker.specs.Draws.{draw_each}
 use Rattle.program_maker.specs.Heads.{coding_of}
 use Rattle.program_maker.specs.Macroblocks.{drawn_macroblock}
 use Rattle.program_maker.specs.Pictures.{drawn_row}
-use Rattle.program_maker.specs.Private.Writing.{GoesOn}
 use Rattle.program_maker.proofs.Drawing.{state-more}
 use Rattle.program_maker.proofs.Spelled.{drawn-spelled}
-use Rattle.program_maker.proofs.Writing.{goes-then, goes-as, goes-from, bits-more}
+use Rattle.program_maker.proofs.Writing.{goes-from, bits-more}
 use Rattle.program_maker.proofs.pictures.put_macroblocks.Goals as goal
 
 pub write_macroblock-requires-clause-spelled : goal.write_macroblock-requires-clause-spelled

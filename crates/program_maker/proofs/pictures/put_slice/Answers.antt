@@ -5,9 +5,10 @@ use Rattle.bit_cursor.specs.BitWriter.{odd_bits}
 use Rattle.bit_cursor.proofs.Composed.{gets_odd}
 use Rattle.picture_grammar.specs.StartCode.{start_code_bits}
 use Rattle.picture_grammar.specs.Written.{written_macroblock, written_slice}
+use Rattle.macroblock_writer.proofs.Going.{goes-as, goes-then}
 use Rattle.program_maker.specs.Heads.{coding_of}
 use Rattle.program_maker.specs.Pictures.{drawn_row, drawn_slice}
-use Rattle.program_maker.proofs.Writing.{goes-then, goes-as, goes-on_ok, on_ok}
+use Rattle.program_maker.proofs.Writing.{goes-on_ok, on_ok}
 use Rattle.program_maker.proofs.pictures.put_slice.Goals as goal
 
 pub returns-clause-written : goal.returns-clause-written

@@ -2,7 +2,8 @@ use Rattle.std.proofs.Common.{◌≡◌, ◌+◌, ◌<◌, ◌^◌, ◌*◌, ℕ
 use Rattle.bit_lists.specs.Bits.{bits_of}
 use Rattle.bit_lists.proofs.JoinedLemmas.{bits_of-put}
 use Rattle.picture_grammar.specs.StartCode.{start_code_bits}
-use Rattle.program_maker.proofs.Writing.{goes-as, goes-from, goes-on_ok}
+use Rattle.macroblock_writer.proofs.Going.{goes-as}
+use Rattle.program_maker.proofs.Writing.{goes-from, goes-on_ok}
 use Rattle.picture_laws.proofs.StartCodes.{code_bits}
 use Rattle.program_maker.proofs.pictures.put_slice_header.Goals as goal
 

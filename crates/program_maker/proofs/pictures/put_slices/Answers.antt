@@ -1,11 +1,13 @@
 use Rattle.std.proofs.Common.{◌≡◌, sym, ap, subst, ◌∙◌, arith}
 use Rattle.std.specs.List.{flat_map, range_with_len}
+use Rattle.macroblock_writer.specs.Private.Going.{GoesOn}
+use Rattle.macroblock_writer.proofs.Going.{goes-as, goes-then}
+use Rattle.macroblock_writer.specs.Private.WholeSlices.{written_whole_slice}
 use Rattle.program_maker.specs.Draws.{draw_each}
 use Rattle.program_maker.specs.Heads.{coding_of}
 use Rattle.program_maker.specs.Pictures.{drawn_slice, drawn_slices}
-use Rattle.program_maker.specs.Private.Writing.{GoesOn, written_whole_slice}
 use Rattle.program_maker.proofs.Drawing.{state-more}
-use Rattle.program_maker.proofs.Writing.{goes-then, goes-as, bits-more}
+use Rattle.program_maker.proofs.Writing.{bits-more}
 use Rattle.program_maker.proofs.pictures.put_slices.Goals as goal
 
 pub loop-row-preserved : goal.loop-row-preserved

@@ -1,10 +1,10 @@
 use Rattle.std.proofs.Common.{◌+◌, ◌==◌, List, None, map, Option, length, get_or, IfSome, refl, sym, subst}
 use Rattle.std.specs.Option.{option_copied}
 use Rattle.pes_units.specs.declared.times.Times.{Times}
+use Rattle.pes_units.specs.Times.{decoding_time}
 use Rattle.program_reader.specs.declared.timed_picture.TimedPicture.{TimedPicture}
 use Rattle.program_reader.specs.declared.unit_picture.TimedUnit.{TimedUnit}
 use Rattle.program_reader.specs.declared.unit_sizes.UnitSizes.{UnitSizes}
-use Rattle.program_reader.specs.Packets.{decoding_time}
 use Rattle.program_reader.specs.Sizes.{AreUnitSizes}
 use Rattle.program_reader.specs.Units.{state_behind, unit_bytes}
 use Rattle.program_reader.specs.Private.SizedUnits.{kept_at}

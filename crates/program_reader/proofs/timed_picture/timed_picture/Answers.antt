@@ -1,7 +1,7 @@
 use Rattle.std.proofs.Common.{subst, refl}
 use Rattle.std.specs.Option.{option_copied}
 use Rattle.pes_units.specs.declared.times.Times.{Times}
-use Rattle.program_reader.specs.Packets.{decoding_time}
+use Rattle.pes_units.specs.Times.{decoding_time}
 use Rattle.program_reader.specs.Units.{IsUnitRefused, HasNoTime, IsTimed}
 use Rattle.program_reader.proofs.timed_picture.timed_picture.Goals as goal
 

@@ -8,9 +8,9 @@ use Rattle.picture_grammar.specs.Grammar.{many}
 use Rattle.picture_grammar.specs.Grammar.Next.{more, last}
 use Rattle.picture_grammar.specs.Slice.{next_macroblock}
 use Rattle.grammar_reading.proofs.Several.{several-more, several-end}
+use Rattle.video_headers.specs.Private.Reading.{Rests}
 use Rattle.macroblock_reader.specs.SliceFault.{refusal_told}
 use Rattle.macroblock_reader.specs.SliceCursor.{next_of}
-use Rattle.picture_reader.specs.Private.Reading.{HasLeft}
 use Rattle.picture_reader.specs.Told.{RefusesTold}
 use Rattle.picture_reader.proofs.Told.{reads-told, explains-told, list-refused, span-whole}
 use Rattle.requantiser.proofs.MacroblockSteps.{span_of}
@@ -49,7 +49,7 @@ returns-in_err-is_more-clause-gives g c = λ bits told_bits.
     let end : ℕ = place c.args.from.now + length bits in
     let both : Some bits ≡ Some inv.bits = sym told_bits ∙ inv.told in
     let same : bits ≡ inv.bits = cc in
-    let has : HasLeft c.macroblocks.from end inv.middle = record { told = inv.left; ends = omega (arith, inv.ends, ap length same) } in
+    let has : Rests c.macroblocks.from end inv.middle = record { told = inv.left; ends = omega (arith, inv.ends, ap length same) } in
     let told = refusal_told c.in_err-is_more.field-0.0 in
     let refused = explains-told (next inv.macroblocks) c.macroblocks.from end inv.middle told (c.in_err-is_more.ensures.refused c.args.seq.now inv.macroblocks inv.stands) has in
     let p = err_from_is_err_and c.from_residual.result c.from_residual.ensures.1 in
@@ -71,7 +71,7 @@ returns-then-not-is_more-clause-gives g c = λ bits told_bits.
     let end : ℕ = place c.args.from.now + length bits in
     let both : Some bits ≡ Some inv.bits = sym told_bits ∙ inv.told in
     let same : bits ≡ inv.bits = cc in
-    let has : HasLeft c.macroblocks.from end inv.middle = record { told = inv.left; ends = omega (arith, inv.ends, ap length same) } in
+    let has : Rests c.macroblocks.from end inv.middle = record { told = inv.left; ends = omega (arith, inv.ends, ap length same) } in
     let (rest, s, behind) = reads-told (next ms) c.macroblocks.from end inv.middle c.next.new.from (next_of c.next.new.into c.in_ok-is_more.is_more)
     (c.in_ok-is_more.ensures.ok seq ms inv.stands) has in
     let closed : (next ms).Spells (last tt) inv.middle rest = subst (λ (b : Bool). (next ms).Spells (next_of c.next.new.into b) inv.middle rest) c.if-not-is_more.true s in
@@ -97,7 +97,7 @@ count_next-in_force-requires-clause-spelled g c =
     let inv = c.macroblocks.invariant in
     let ms = inv.macroblocks in
     let m = c.next.new.into in
-    let has : HasLeft c.macroblocks.from (place c.args.from.now + length inv.bits) inv.middle = record { told = inv.left; ends = inv.ends } in
+    let has : Rests c.macroblocks.from (place c.args.from.now + length inv.bits) inv.middle = record { told = inv.left; ends = inv.ends } in
     let (rest, s, behind) = reads-told (next ms) c.macroblocks.from (place c.args.from.now + length inv.bits) inv.middle c.next.new.from (next_of m c.in_ok-is_more.is_more)
     (c.in_ok-is_more.ensures.ok seq ms inv.stands) has in
     let one : (next ms).Spells (more m) inv.middle rest = subst (λ (b : Bool). (next ms).Spells (next_of m b) inv.middle rest) c.if-not-is_more.false s in
@@ -132,7 +132,7 @@ macroblocks-preserved g c =
     let ms = inv.macroblocks in
     let m = c.next.new.into in
     let end : ℕ = place c.args.from.now + length inv.bits in
-    let has : HasLeft c.macroblocks.from end inv.middle = record { told = inv.left; ends = inv.ends } in
+    let has : Rests c.macroblocks.from end inv.middle = record { told = inv.left; ends = inv.ends } in
     let (rest, s, behind) = reads-told (next ms) c.macroblocks.from end inv.middle c.next.new.from (next_of m c.in_ok-is_more.is_more)
     (c.in_ok-is_more.ensures.ok seq ms inv.stands) has in
     let one : (next ms).Spells (more m) inv.middle rest = subst (λ (b : Bool). (next ms).Spells (next_of m b) inv.middle rest) c.if-not-is_more.false s in

@@ -7,9 +7,9 @@ use Rattle.syntax_types.specs.declared.slice.Slice.{Slice}
 use Rattle.picture_grammar.specs.Grammar.{many}
 use Rattle.picture_grammar.specs.Slice.{next_macroblock, slice}
 use Rattle.picture_grammar.proofs.MacroblockLaws.{exact-slice}
+use Rattle.video_headers.specs.Private.Reading.{Rests}
 use Rattle.macroblock_reader.specs.SliceHead.{slice_head}
 use Rattle.macroblock_reader.specs.SliceFault.{refusal_told}
-use Rattle.picture_reader.specs.Private.Reading.{HasLeft}
 use Rattle.picture_reader.proofs.Told.{reads-told, explains-told}
 use Rattle.picture_reader.proofs.Slices.{inside-when, rest-dropped, head-told, rest-told, slice-spelled}
 use Rattle.picture_reader.specs.Told.{RefusesTold}
@@ -21,7 +21,7 @@ use Rattle.version_maker.proofs.slice_read.read_and_count.Goals as goal
 pub returns-in_err-head-clause-gives : goal.returns-in_err-head-clause-gives
 returns-in_err-head-clause-gives c = λ row.
     let bits = bit_list c.args.bytes.now in
-    let has : HasLeft c.new-reader.result (length bits) bits = record
+    let has : Rests c.new-reader.result (length bits) bits = record
     { told = c.new-reader.ensures.left ∙ ap (λ b. Some (bit_list b)) c.new-source.ensures; ends = omega (arith, c.new-reader.ensures.place) } in
     let told = refusal_told c.in_err-head.field-0.0 in
     let p = err_from_is_err_and c.from_residual.result c.from_residual.ensures.1 in
@@ -36,7 +36,7 @@ returns-in_err-head-clause-inside c =
 pub start_counts-requires-clause-code : goal.start_counts-requires-clause-code
 start_counts-requires-clause-code c =
     let bits = bit_list c.args.bytes.now in
-    let has : HasLeft c.new-reader.result (length bits) bits = record
+    let has : Rests c.new-reader.result (length bits) bits = record
     { told = c.new-reader.ensures.left ∙ ap (λ b. Some (bit_list b)) c.new-source.ensures; ends = omega (arith, c.new-reader.ensures.place) } in
     let (middle, s, left) = reads-told slice_head c.new-reader.result (length bits) bits c.read_slice_head.new.from c.in_ok-head.head c.in_ok-head.ensures.ok has in
     head-code c.in_ok-head.head bits middle s
@@ -44,7 +44,7 @@ start_counts-requires-clause-code c =
 pub count_macroblocks-requires-clause-code : goal.count_macroblocks-requires-clause-code
 count_macroblocks-requires-clause-code c =
     let bits = bit_list c.args.bytes.now in
-    let has : HasLeft c.new-reader.result (length bits) bits = record
+    let has : Rests c.new-reader.result (length bits) bits = record
     { told = c.new-reader.ensures.left ∙ ap (λ b. Some (bit_list b)) c.new-source.ensures; ends = omega (arith, c.new-reader.ensures.place) } in
     let (middle, s, left) = reads-told slice_head c.new-reader.result (length bits) bits c.read_slice_head.new.from c.in_ok-head.head c.in_ok-head.ensures.ok has in
     head-code c.in_ok-head.head bits middle s
@@ -52,7 +52,7 @@ count_macroblocks-requires-clause-code c =
 pub count_macroblocks-requires-clause-told : goal.count_macroblocks-requires-clause-told
 count_macroblocks-requires-clause-told c =
     let bits = bit_list c.args.bytes.now in
-    let has : HasLeft c.new-reader.result (length bits) bits = record
+    let has : Rests c.new-reader.result (length bits) bits = record
     { told = c.new-reader.ensures.left ∙ ap (λ b. Some (bit_list b)) c.new-source.ensures; ends = omega (arith, c.new-reader.ensures.place) } in
     let (middle, s, left) = reads-told slice_head c.new-reader.result (length bits) bits c.read_slice_head.new.from c.in_ok-head.head c.in_ok-head.ensures.ok has in
     (middle, left.told)
@@ -62,7 +62,7 @@ returns-in_err-span-clause-gives c = λ row.
     let bits = bit_list c.args.bytes.now in
     let seq = c.args.seq.now in
     let coding = c.args.coding.now in
-    let has : HasLeft c.new-reader.result (length bits) bits = record
+    let has : Rests c.new-reader.result (length bits) bits = record
     { told = c.new-reader.ensures.left ∙ ap (λ b. Some (bit_list b)) c.new-source.ensures; ends = omega (arith, c.new-reader.ensures.place) } in
     let (middle, s, left) = reads-told slice_head c.new-reader.result (length bits) bits c.read_slice_head.new.from c.in_ok-head.head c.in_ok-head.ensures.ok has in
     let told = refusal_told c.in_err-span.field-0.0 in
@@ -78,7 +78,7 @@ returns-in_err-span-clause-inside c =
 pub info_bits-slice-requires : goal.info_bits-slice-requires
 info_bits-slice-requires c =
     let bits = bit_list c.args.bytes.now in
-    let has : HasLeft c.new-reader.result (length bits) bits = record
+    let has : Rests c.new-reader.result (length bits) bits = record
     { told = c.new-reader.ensures.left ∙ ap (λ b. Some (bit_list b)) c.new-source.ensures; ends = omega (arith, c.new-reader.ensures.place) } in
     let (middle, s, left) = reads-told slice_head c.new-reader.result (length bits) bits c.read_slice_head.new.from c.in_ok-head.head c.in_ok-head.ensures.ok has in
     head-info-few c.in_ok-head.head bits middle (2 ^ 32) (omega (arith, length-bit_list c.args.bytes.now, c.requires.length)) s
@@ -89,7 +89,7 @@ returns-clause-gives c = λ row.
     let seq = c.args.seq.now in
     let coding = c.args.coding.now in
     let head = c.in_ok-head.head in
-    let has : HasLeft c.new-reader.result (length bits) bits = record
+    let has : Rests c.new-reader.result (length bits) bits = record
     { told = c.new-reader.ensures.left ∙ ap (λ b. Some (bit_list b)) c.new-source.ensures; ends = omega (arith, c.new-reader.ensures.place) } in
     let (middle, s, left) = reads-told slice_head c.new-reader.result (length bits) bits c.read_slice_head.new.from head c.in_ok-head.ensures.ok has in
     let all = c.in_ok-span.ensures.gives middle left.told in

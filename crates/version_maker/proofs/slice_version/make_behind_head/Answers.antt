@@ -10,8 +10,9 @@ use Rattle.picture_grammar.specs.StartCode.{start_code_bits}
 use Rattle.picture_grammar.specs.Written.{written_macroblock, written_slice_info}
 use Rattle.requantiser.specs.Steps.{MakeSlice, made_by, taken_by}
 use Rattle.requantiser.proofs.Steps.{steps-make}
+use Rattle.macroblock_writer.proofs.Going.{goes-as, goes-then}
 use Rattle.version_maker.specs.Private.Making.{slice_of}
-use Rattle.version_maker.proofs.MadeSlices.{goes-as, goes-finished, goes-then, whole-slice}
+use Rattle.version_maker.proofs.MadeSlices.{goes-finished, whole-slice}
 use Rattle.version_maker.proofs.slice_version.make_behind_head.Goals as goal
 
 pub write_front-requires-clause-code : goal.write_front-requires-clause-code

@@ -7,15 +7,16 @@ use Rattle.picture_grammar.specs.Grammar.Next.{more, last}
 use Rattle.picture_grammar.specs.Slice.{next_macroblock}
 use Rattle.grammar_reading.proofs.Several.{several-more, several-end}
 use Rattle.grammar_reading.specs.Several.{SpellsFront}
+use Rattle.video_headers.specs.Private.Reading.{Rests}
 use Rattle.macroblock_reader.specs.SliceFault.{refusal_told}
 use Rattle.macroblock_reader.specs.SliceCursor.{StandsBehind, next_of}
+use Rattle.macroblock_writer.proofs.Going.{goes-as, goes-nowhere, goes-then}
 use Rattle.picture_reader.specs.Coverage.{IsSpan}
-use Rattle.picture_reader.specs.Private.Reading.{HasLeft}
 use Rattle.picture_reader.proofs.Told.{reads-told, explains-told, list-refused, span-whole}
 use Rattle.requantiser.specs.Steps.{IsStep, taken_by, state_behind, AreSteps}
 use Rattle.requantiser.proofs.Steps.{length-taken}
 use Rattle.version_maker.proofs.Counts.{skipped-behind, state-behind}
-use Rattle.version_maker.proofs.MadeSlices.{closes-last, closing-kept, goes-as, goes-nowhere, goes-then, later-state, none-in-order, one-more-in-order, taken-more, written-more}
+use Rattle.version_maker.proofs.MadeSlices.{closes-last, closing-kept, later-state, none-in-order, one-more-in-order, taken-more, written-more}
 use Rattle.version_maker.proofs.SliceSteps.{spelled-next}
 use Rattle.version_maker.proofs.slice_version.make_macroblocks.Goals as goal
 
@@ -126,7 +127,7 @@ macroblocks-preserved g c =
           let (rest, s, behind) = reads-told (next ms) c.macroblocks.from end middle c.next.new.from (next_of m c.in_ok-is_more.is_more)
           (c.in_ok-is_more.ensures.ok seq ms inv.stands) left in
           let one : (next ms).Spells (more m) middle rest = subst (λ (b : Bool). (next ms).Spells (next_of m b) middle rest) c.if-not-is_more.false s in
-          let now : HasLeft c.is_closed.new.from end rest = record {
+          let now : Rests c.is_closed.new.from end rest = record {
             told = c.in_ok-is_last.ensures.left ∙ behind.told;
             ends = omega (arith, c.in_ok-is_last.ensures.place, behind.ends);
           } in

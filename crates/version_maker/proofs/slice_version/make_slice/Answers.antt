@@ -5,9 +5,9 @@ use Rattle.bit_lists.specs.Fields.{bit_list}
 use Rattle.syntax_types.specs.declared.slice.Slice.{Slice}
 use Rattle.picture_grammar.specs.Slice.{slice}
 use Rattle.picture_grammar.proofs.MacroblockLaws.{exact-slice}
+use Rattle.video_headers.specs.Private.Reading.{Rests}
 use Rattle.macroblock_reader.specs.SliceHead.{slice_head}
 use Rattle.macroblock_reader.specs.SliceFault.{refusal_told}
-use Rattle.picture_reader.specs.Private.Reading.{HasLeft}
 use Rattle.picture_reader.proofs.Told.{reads-told, explains-told}
 use Rattle.picture_reader.proofs.Slices.{inside-when, rest-dropped, head-told, rest-told, slice-spelled}
 use Rattle.version_maker.specs.Private.Making.{slice_of}
@@ -19,7 +19,7 @@ use Rattle.version_maker.proofs.slice_version.make_slice.Goals as goal
 pub returns-in_err-head-clause-gives : goal.returns-in_err-head-clause-gives
 returns-in_err-head-clause-gives g c =
     let bits = bit_list c.args.bytes.now in
-    let has : HasLeft c.new-reader.result (length bits) bits = record
+    let has : Rests c.new-reader.result (length bits) bits = record
     { told = c.new-reader.ensures.left ∙ ap (λ b. Some (bit_list b)) c.new-source.ensures; ends = omega (arith, c.new-reader.ensures.place) } in
     let told = refusal_told c.in_err-head.field-0.0 in
     let p = err_from_is_err_and c.from_residual.result c.from_residual.ensures.1 in
@@ -34,7 +34,7 @@ returns-in_err-head-clause-inside g c =
 pub returns-in_err-span-clause-gives : goal.returns-in_err-span-clause-gives
 returns-in_err-span-clause-gives g c =
     let bits = bit_list c.args.bytes.now in
-    let has : HasLeft c.new-reader.result (length bits) bits = record
+    let has : Rests c.new-reader.result (length bits) bits = record
     { told = c.new-reader.ensures.left ∙ ap (λ b. Some (bit_list b)) c.new-source.ensures; ends = omega (arith, c.new-reader.ensures.place) } in
     let (middle, s, left) = reads-told slice_head c.new-reader.result (length bits) bits c.read_slice_head.new.from c.in_ok-head.head c.in_ok-head.ensures.ok has in
     let told = refusal_told c.in_err-span.field-0.0 in
@@ -53,7 +53,7 @@ returns-clause-gives g c =
     let coding = c.args.coding.now in
     let row = c.args.row in
     let head = c.in_ok-head.head in
-    let has : HasLeft c.new-reader.result (length bits) bits = record
+    let has : Rests c.new-reader.result (length bits) bits = record
     { told = c.new-reader.ensures.left ∙ ap (λ b. Some (bit_list b)) c.new-source.ensures; ends = omega (arith, c.new-reader.ensures.place) } in
     let (middle, s, left) = reads-told slice_head c.new-reader.result (length bits) bits c.read_slice_head.new.from head c.in_ok-head.ensures.ok has in
     let all = c.in_ok-span.ensures.gives (length bits) middle left in
@@ -76,7 +76,7 @@ returns-clause-gives g c =
 pub make_behind_head-requires-clause-told : goal.make_behind_head-requires-clause-told
 make_behind_head-requires-clause-told g c =
     let bits = bit_list c.args.bytes.now in
-    let has : HasLeft c.new-reader.result (length bits) bits = record
+    let has : Rests c.new-reader.result (length bits) bits = record
     { told = c.new-reader.ensures.left ∙ ap (λ b. Some (bit_list b)) c.new-source.ensures; ends = omega (arith, c.new-reader.ensures.place) } in
     let (middle, s, left) = reads-told slice_head c.new-reader.result (length bits) bits c.read_slice_head.new.from c.in_ok-head.head c.in_ok-head.ensures.ok has in
     (length bits, middle, left)
@@ -84,7 +84,7 @@ make_behind_head-requires-clause-told g c =
 pub make_behind_head-requires-clause-code : goal.make_behind_head-requires-clause-code
 make_behind_head-requires-clause-code g c =
     let bits = bit_list c.args.bytes.now in
-    let has : HasLeft c.new-reader.result (length bits) bits = record
+    let has : Rests c.new-reader.result (length bits) bits = record
     { told = c.new-reader.ensures.left ∙ ap (λ b. Some (bit_list b)) c.new-source.ensures; ends = omega (arith, c.new-reader.ensures.place) } in
     let (middle, s, left) = reads-told slice_head c.new-reader.result (length bits) bits c.read_slice_head.new.from c.in_ok-head.head c.in_ok-head.ensures.ok has in
     head-code c.in_ok-head.head bits middle s
@@ -92,7 +92,7 @@ make_behind_head-requires-clause-code g c =
 pub make_behind_head-requires-clause-reserved : goal.make_behind_head-requires-clause-reserved
 make_behind_head-requires-clause-reserved g c =
     let bits = bit_list c.args.bytes.now in
-    let has : HasLeft c.new-reader.result (length bits) bits = record
+    let has : Rests c.new-reader.result (length bits) bits = record
     { told = c.new-reader.ensures.left ∙ ap (λ b. Some (bit_list b)) c.new-source.ensures; ends = omega (arith, c.new-reader.ensures.place) } in
     let (middle, s, left) = reads-told slice_head c.new-reader.result (length bits) bits c.read_slice_head.new.from c.in_ok-head.head c.in_ok-head.ensures.ok has in
     head-fits c.in_ok-head.head bits middle s

@@ -1,5 +1,6 @@
 use Rattle.std.proofs.lemmas.Result.{on_ok_weaker}
-use Rattle.version_maker.proofs.MadeSlices.{goes-from, goes-then, goes-when}
+use Rattle.macroblock_writer.proofs.Going.{goes-then}
+use Rattle.version_maker.proofs.MadeSlices.{goes-from, goes-when}
 use Rattle.version_maker.proofs.slice_version.write_front.Goals as goal
 
 pub returns : goal.returns

@@ -3,8 +3,9 @@ use Rattle.std.specs.List.{flat_map}
 use Rattle.std.specs.Option.{option_to_list}
 use Rattle.picture_grammar.specs.Written.{written_macroblock}
 use Rattle.requantiser.specs.VersionState.{made_of}
-use Rattle.version_maker.specs.Private.Making.{GoesOn}
-use Rattle.version_maker.proofs.MadeSlices.{goes-as, goes-nowhere, goes-when}
+use Rattle.macroblock_writer.specs.Private.Going.{GoesOn}
+use Rattle.macroblock_writer.proofs.Going.{goes-as, goes-nowhere}
+use Rattle.version_maker.proofs.MadeSlices.{goes-when}
 use Rattle.version_maker.proofs.slice_version.write_where_coded.Goals as goal
 
 pub returns-then-not-coded : goal.returns-then-not-coded
