@@ -5,7 +5,8 @@ ghost use Rattle.bit_cursor.specs.Shown.{IsFirstNumber};
 
 use crate::same::assert_same;
 use bit_cursor::{BitFault, BitReader};
-use shelf_io::{Fault, MemShelf, Reading, SliceSource, Source};
+use shelf_io::{Fault, Reading, SliceSource, Source};
+use shelf_kinds::MemShelf;
 use std::process::Abort;
 use std::test::Fail;
 

@@ -4,7 +4,8 @@ ghost use Rattle.bit_cursor.specs.BitWriter.{is_stopped, AddsBits};
 
 use crate::same::assert_same;
 use bit_cursor::BitWriter;
-use shelf_io::{Fault, MemSink, Sink, VecSink};
+use shelf_io::{Fault, Sink, VecSink};
+use shelf_kinds::MemSink;
 use std::process::Abort;
 use std::test::Fail;
 

@@ -1,7 +1,8 @@
 use arrayvec::ArrayVec;
 use bit_cursor::BitReader;
 use block_coeffs::{BlockFault, read_block};
-use shelf_io::{Fault, MemShelf, Reading, SliceSource};
+use shelf_io::{Fault, Reading, SliceSource};
+use shelf_kinds::MemShelf;
 use std::test::Fail;
 use syntax_types::{Block, BlockWay, Dc};
 

@@ -5,7 +5,7 @@ ghost use Rattle.remux_core.specs.Status.{code_of};
 ghost use Rattle.remux_core.specs.declared.status.Status.{Status as AnyStatus};
 
 use crate::exit::exit_status;
-use shelf_io::{FileShelf, OutSink};
+use shelf_kinds::{FileShelf, OutSink};
 use std::rt::Files;
 
 /// Runs a command over the working folder and standard output. The exit status is 2 exactly for words of no command, but for a

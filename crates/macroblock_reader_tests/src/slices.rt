@@ -4,7 +4,8 @@
 use crate::fixtures::{Coded, bit_count, bytes_of, coding, seq, slice_of};
 use bit_cursor::BitReader;
 use macroblock_reader::{SliceFault, read_slice, read_slice_head};
-use shelf_io::{Fault, MemShelf, Reading, SliceSource};
+use shelf_io::{Fault, Reading, SliceSource};
+use shelf_kinds::MemShelf;
 use std::test::Fail;
 use syntax_types::{Macroblock, Slice};
 

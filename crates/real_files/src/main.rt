@@ -3,7 +3,8 @@
 //! It makes a file, adds to it and puts what stands at some places of it, one line each; `rt ci` compares the lines.
 #![tactic(auto)]
 
-use shelf_io::{Fault, FileShelf, OutSink, Shelf, Sink, Writing, put_all, write_file};
+use shelf_io::{Fault, Shelf, Sink, Writing, put_all, write_file};
+use shelf_kinds::{FileShelf, OutSink};
 use std::process::ExitCode;
 
 /// The file that is written, in the working folder.

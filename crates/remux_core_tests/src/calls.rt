@@ -1,5 +1,6 @@
 use remux_core::run;
-use shelf_io::{MemSink, Shelf, VecSink};
+use shelf_io::{Shelf, VecSink};
+use shelf_kinds::MemSink;
 use std::alloc::{AllocError, Global};
 
 /// The words of a command.

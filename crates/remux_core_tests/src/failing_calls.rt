@@ -2,7 +2,7 @@
 use crate::calls::{ends_so, ends_unreported, words_of};
 use program_maker::make_program;
 use remux_core::run;
-use shelf_io::{MemShelf, MemSink};
+use shelf_kinds::{MemShelf, MemSink};
 use std::alloc::Global;
 use std::test::Fail;
 

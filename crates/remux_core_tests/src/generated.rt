@@ -1,7 +1,7 @@
 use crate::calls::{ends_unreported, words_of};
 use psi_tables::crc32;
 use remux_core::run;
-use shelf_io::{CalmShelf, MemShelf, MemSink};
+use shelf_kinds::{CalmShelf, MemShelf, MemSink};
 use std::alloc::Global;
 use std::test::Fail;
 

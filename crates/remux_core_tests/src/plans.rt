@@ -1,6 +1,6 @@
 use crate::calls::{ends_so, ends_unreported, words_of};
 use remux_core::run;
-use shelf_io::{CalmShelf, MemShelf, MemSink};
+use shelf_kinds::{CalmShelf, MemShelf, MemSink};
 use std::alloc::Global;
 use std::test::Fail;
 

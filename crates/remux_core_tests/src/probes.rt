@@ -1,6 +1,6 @@
 use crate::calls::ends_so;
 use program_maker::make_program;
-use shelf_io::CalmShelf;
+use shelf_kinds::CalmShelf;
 use std::alloc::Global;
 use std::test::Fail;
 

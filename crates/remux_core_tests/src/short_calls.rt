@@ -4,7 +4,8 @@ ghost use Rattle.std.specs.Prelude.{◌≤◌};
 use crate::calls::words_of;
 use program_maker::make_program;
 use remux_core::run;
-use shelf_io::{CalmShelf, Shelf, ShortShelf, VecSink};
+use shelf_io::{Shelf, VecSink};
+use shelf_kinds::{CalmShelf, ShortShelf};
 use std::alloc::Global;
 use std::test::Fail;
 

@@ -1,5 +1,5 @@
 use crate::calls::ends_so;
-use shelf_io::CalmShelf;
+use shelf_kinds::CalmShelf;
 use std::test::Fail;
 
 /// Words that are no command.

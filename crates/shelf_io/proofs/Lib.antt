@@ -1,9 +1,7 @@
 pub mod Counted
-pub mod Held
 pub mod Infallible
 pub mod Numbers
 pub mod OneFile
-pub mod Short
 pub mod Started
 pub mod Taken
 pub mod Whole

@@ -1,15 +1,9 @@
 pub mod Asked
 pub mod Buffer
-pub mod CalmShelf
 pub mod Causes
-pub mod CountSink
-pub mod Counted
 pub mod Counts
 pub mod Files
-pub mod MemShelf
-pub mod MemSink
 pub mod Reading
-pub mod ShortShelf
 pub mod Sink
 pub mod Source
 pub mod WholeFile

@@ -5,23 +5,14 @@
 //! rose in that call, and `Missing` only where its count of absences rose, so every refusal has a cause that can be
 //! shown; want of memory alone is free. A call that answers a fault leaves files, sinks and sources as they were.
 //! `Reading` and `Writing` are one file of a shelf as a source and a sink, and pass on its contents and counts.
-//! `FileShelf` and `OutSink` are the edge to the real outside: nothing is proved of what a real file holds.
+//! Shelves and sinks themselves, in memory and real, stand in `shelf_kinds`.
 //! Stands on `list_types`.
 #![tactic(auto)]
 
 mod buffer;
-mod calm_shelf;
-mod count_sink;
 mod fault;
-mod file_shelf;
-mod file_table;
-mod mem_shelf;
-mod mem_sink;
-mod numbered_calls;
-mod out_sink;
 mod reading;
 mod shelf;
-mod short_shelf;
 mod sink;
 mod slice_source;
 mod source;
@@ -29,20 +20,13 @@ mod vec_sink;
 mod whole_file;
 mod writing;
 
-pub use buffer::copy_front;
-pub use calm_shelf::CalmShelf;
-pub use count_sink::CountSink;
+pub use buffer::{bytes_from, copy_front};
 pub use fault::Fault;
-pub use file_shelf::FileShelf;
-pub use mem_shelf::MemShelf;
-pub use mem_sink::MemSink;
-pub use out_sink::OutSink;
 pub use reading::Reading;
 pub use shelf::Shelf;
-pub use short_shelf::ShortShelf;
 pub use sink::{Sink, put_all};
 pub use slice_source::SliceSource;
 pub use source::{SOURCE_BYTES_MOST, Source, take_full};
 pub use vec_sink::VecSink;
-pub use whole_file::{read_file, write_file};
+pub use whole_file::{PIECE_BYTES, read_file, write_file};
 pub use writing::Writing;

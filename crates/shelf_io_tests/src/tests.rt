@@ -3,9 +3,10 @@ ghost use Rattle.std.specs.Str.{bytes_eq};
 ghost use Rattle.shelf_io.specs.Sink.{with_bytes};
 
 use shelf_io::{
-    CalmShelf, CountSink, Fault, FileShelf, MemShelf, MemSink, OutSink, Reading, Shelf, ShortShelf,
-    Sink, SliceSource, Source, VecSink, Writing, put_all, read_file, take_full, write_file,
+    Fault, Reading, Shelf, Sink, SliceSource, Source, VecSink, Writing, put_all, read_file,
+    take_full, write_file,
 };
+use shelf_kinds::{CalmShelf, CountSink, FileShelf, MemShelf, MemSink, OutSink, ShortShelf};
 use std::alloc::Global;
 use std::fmt::Display;
 use std::test::Fail;

@@ -2,7 +2,8 @@
 
 use program_maker::make_program;
 use remux_core::run;
-use shelf_io::{CalmShelf, Fault, MemShelf, MemSink, VecSink};
+use shelf_io::{Fault, VecSink};
+use shelf_kinds::{CalmShelf, MemShelf, MemSink};
 use std::alloc::{AllocError, Global};
 use std::test::Fail;
 

@@ -1,0 +1,2 @@
+-- What private functions and types of the crate stand on.
+pub mod FileTable
