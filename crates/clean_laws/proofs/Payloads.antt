@@ -4,7 +4,7 @@ use Rattle.std.specs.Prelude.{◌&&◌, slice_get}
 use Rattle.std.specs.List.{AllZip, filter}
 use Rattle.std.proofs.lemmas.Bool.{cases_eq}
 use Rattle.std.proofs.lemmas.Option.{same_Some, slice_get_within}
-use Rattle.payload_lists.specs.Payload.{Payload}
+use Rattle.bit_lists.specs.Payload.{Payload}
 use Rattle.ts_packets.specs.Packet.{PacketRecord}
 use Rattle.ts_packets.specs.Carried.{has_payload_on, payload_of, payloads_on}
 use Rattle.slot_rule.specs.declared.sent.Sent.{Sent}

@@ -1,6 +1,6 @@
 -- What the packets of a stream bring to a decoder (ISO/IEC 13818-1, 2.4.2 and 2.4.3), read from the packets alone.
 use Rattle.std.specs.Prelude.{ℕ, ◌+◌, ◌==◌, min, Bool, ◌||◌, List, [], ◌∷◌, ◌++◌, length, if◌then◌else◌}
-use Rattle.payload_lists.specs.Payload.{Payload}
+use Rattle.bit_lists.specs.Payload.{Payload}
 use Rattle.pes_units.specs.PesHeader.{header_length}
 use Rattle.ts_packets.specs.Packet.{PacketRecord}
 use Rattle.ts_packets.specs.Carried.{payload_of}

@@ -1,7 +1,7 @@
 -- The bytes of a stream are clean: read by themselves, they give no decoder of the stream a fault (ISO/IEC 13818-1, 2.4.2).
 use Rattle.std.specs.Prelude.{◌≡◌, ℕ, ◌+◌, ◌<◌, List, [], length, map, slice_get, Some}
 use Rattle.std.specs.List.{AllZip}
-use Rattle.payload_lists.specs.Payload.{Payload}
+use Rattle.bit_lists.specs.Payload.{Payload}
 use Rattle.ts_packets.specs.Packet.{PacketRecord}
 use Rattle.ts_packets.specs.TransportStream.{packets, rest_of}
 use Rattle.ts_packets.specs.Carried.{payloads_on}

@@ -2,10 +2,10 @@
 use Rattle.std.proofs.Common.{◌≡◌, ℕ, zero, suc, ◌+◌, ◌-◌, ◌<◌, ◌≤◌, Bool, true, false, not, ◌&&◌, ◌||◌, List, [], ◌∷◌, refl, ap, ◌∙◌, arith}
 use Rattle.std.specs.List.{list_any, list_all, range_with_len}
 use Rattle.std.proofs.lemmas.List.Folds.{list_all-append, list_any-append}
-use Rattle.start_codes.specs.StartCodes.{is_start_code_at, is_unit_start, has_code}
+use Rattle.es_units.specs.StartCodes.{is_start_code_at, is_unit_start, has_code}
 use Rattle.stream_constants.specs.SliceCodes.{is_slice}
 use Rattle.es_units.specs.Units.{places, is_behind_slice}
-use Rattle.start_codes.proofs.Codes.{no_code}
+use Rattle.es_units.proofs.Codes.{no_code}
 use Rattle.es_units.proofs.Places.{places_more, places_none}
 
 distribute : (a b c : Bool) → ((a && c) || (b && c)) ≡ ((a || b) && c)

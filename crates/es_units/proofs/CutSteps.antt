@@ -2,10 +2,10 @@
 use Rattle.std.proofs.Common.{◌≡◌, ℕ, ◌+◌, ◌<◌, ◌≤◌, Bool, true, false, not, ◌&&◌, ◌||◌, List, Option, Some, None, refl, sym, subst, ◌∙◌, arith, inl, inr}
 use Rattle.std.specs.Option.{option_map_or}
 use Rattle.std.proofs.lemmas.Bool.{and_left, and_right, and_from, and_parts, or_cases, eqb-true, cases_lt}
-use Rattle.start_codes.specs.StartCodes.{is_start_code_at, start_code_at, is_unit_start, has_code}
+use Rattle.es_units.specs.StartCodes.{is_start_code_at, start_code_at, is_unit_start, has_code}
 use Rattle.stream_constants.specs.SliceCodes.{is_slice}
 use Rattle.es_units.specs.Units.{is_behind_slice, is_unit_cut}
-use Rattle.start_codes.proofs.Codes.{no_code, code_is}
+use Rattle.es_units.proofs.Codes.{no_code, code_is}
 use Rattle.es_units.proofs.BehindSlice.{behind_more, behind_same}
 
 -- no header with which a unit may begin is a slice

@@ -1,4 +1,5 @@
 pub mod BehindSlice
+pub mod Codes
 pub mod CutSteps
 pub mod Examples
 pub mod Places

@@ -1,1 +1,2 @@
+pub mod StartCodes
 pub mod Units

@@ -4,7 +4,7 @@ use Rattle.std.specs.List.{find, list_any, list_all, range_with_len}
 use Rattle.std.specs.Option.{option_map}
 use Rattle.list_types.specs.Spans.{spans}
 use Rattle.es_units.specs.declared.units.Units.{Units}
-use Rattle.start_codes.specs.StartCodes.{is_sequence_header, is_unit_start, has_code}
+use Rattle.es_units.specs.StartCodes.{is_sequence_header, is_unit_start, has_code}
 use Rattle.stream_constants.specs.SliceCodes.{is_slice}
 
 -- the places from one up to another, which isn't one of them

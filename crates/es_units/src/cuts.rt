@@ -1,8 +1,8 @@
 ghost use Rattle.std.specs.Prelude.{◌≡◌, ℕ, true, false, ◌+◌, ◌<◌, ◌≤◌, length, Some, None, IfSome, MatchOption};
-ghost use Rattle.start_codes.specs.StartCodes.{has_code, is_sequence_header};
+ghost use Rattle.es_units.specs.StartCodes.{has_code, is_sequence_header};
 ghost use Rattle.es_units.specs.Units.{is_behind_slice, is_unit_cut, first_sequence};
 
-use start_codes::next_start_code;
+use crate::start_code::next_start_code;
 
 /// The place of the first sequence header.
 pub fn find_sequence(es: &[u8]) -> Option<usize>

@@ -3,7 +3,7 @@ use Rattle.std.proofs.Common.{◌≡◌, ℕ, List, [], ◌∷◌, ◌++◌, All
 use Rattle.std.specs.List.{flat_map}
 use Rattle.std.proofs.lemmas.List.{length-drop}
 use Rattle.std.proofs.lemmas.List.Elements.{All-head, All-tail}
-use Rattle.payload_lists.specs.Payload.{CarriedPayload, Payload}
+use Rattle.bit_lists.specs.Payload.{CarriedPayload, Payload}
 use Rattle.audio_frames.specs.declared.frame.Frame.{Frame}
 use Rattle.pes_units.specs.PesHeader.{header_length}
 use Rattle.pes_units.specs.PesPieces.{pes_pieces}

@@ -4,7 +4,7 @@ use Rattle.std.specs.Prelude.{slice_get}
 use Rattle.std.specs.List.{AllZip, flat_map}
 use Rattle.std.proofs.lemmas.List.{length-map}
 use Rattle.std.proofs.lemmas.List.Elements.{All-append, All-cons, All-from_get_or, All-head, All-nil, All-tail, All-weaker}
-use Rattle.payload_lists.specs.Payload.{CarriedPayload}
+use Rattle.bit_lists.specs.Payload.{CarriedPayload}
 use Rattle.bit_lists.specs.Fields.{AreBytes}
 use Rattle.ts_packets.specs.TransportStream.{piece_count, pid_pieces as packets_on}
 use Rattle.ts_packets.specs.Carried.{carried}

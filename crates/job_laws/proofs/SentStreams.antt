@@ -5,7 +5,7 @@ use Rattle.std.specs.List.{AllZip, flat_map, zip}
 use Rattle.std.specs.Option.{option_map_or}
 use Rattle.std.proofs.lemmas.List.{get_or-map, length-map}
 use Rattle.std.proofs.lemmas.Option.{slice_get-get_or}
-use Rattle.payload_lists.specs.Payload.{Payload}
+use Rattle.bit_lists.specs.Payload.{Payload}
 use Rattle.pes_units.specs.VideoHeader.{written_pes_header}
 use Rattle.pes_units.specs.PesPieces.{pes_pieces}
 use Rattle.version_table.specs.declared.table.AudioPacket.{AudioPacket}

@@ -7,7 +7,7 @@ use Rattle.std.proofs.lemmas.List.Elements.{All-cons, All-get_or, All-nil}
 use Rattle.std.proofs.lemmas.Option.{slice_get-get_or}
 use Rattle.bit_lists.specs.Fields.{AreBytes}
 use Rattle.syntax_types.specs.declared.picture.SeqState.{SeqState}
-use Rattle.start_codes.specs.StartCodes.{has_code, is_sequence_header}
+use Rattle.es_units.specs.StartCodes.{has_code, is_sequence_header}
 use Rattle.picture_grammar.specs.Picture.{SpellsPicture}
 use Rattle.es_units.specs.Units.{cut_units}
 use Rattle.version_table.specs.declared.table.Unit.{Unit as CodedUnit}

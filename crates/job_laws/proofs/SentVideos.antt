@@ -5,7 +5,7 @@ use Rattle.std.specs.Option.{option_map_or}
 use Rattle.std.proofs.lemmas.List.{length-map}
 use Rattle.std.proofs.lemmas.List.Elements.{All-cons, All-get_or, All-head, All-nil, All-tail}
 use Rattle.std.proofs.lemmas.Option.{slice_get-get_or}
-use Rattle.payload_lists.specs.Payload.{Payload, CarriedPayload}
+use Rattle.bit_lists.specs.Payload.{Payload, CarriedPayload}
 use Rattle.ts_packets.specs.TransportStream.{pid_pieces as packets_on}
 use Rattle.ts_packets.specs.Carried.{carried}
 use Rattle.pes_units.specs.VideoHeader.{written_pes_header}

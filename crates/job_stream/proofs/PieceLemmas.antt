@@ -6,7 +6,7 @@ use Rattle.std.specs.List.{AllZip}
 use Rattle.std.proofs.lemmas.List.{drop-drop, drop_at, get_or-append-add, length-map}
 use Rattle.std.proofs.lemmas.List.Sums.{sum_by-cons}
 use Rattle.std.proofs.lemmas.Option.{none-some, same_Some}
-use Rattle.payload_lists.specs.Payload.{Payload}
+use Rattle.bit_lists.specs.Payload.{Payload}
 use Rattle.pes_units.specs.VideoHeader.{written_pes_header}
 use Rattle.pes_units.proofs.PesPieces.{piece-within}
 use Rattle.job_report.specs.declared.job.ProgramJob.{ProgramJob}

@@ -4,8 +4,8 @@ use Rattle.std.specs.Prelude.{slice_index}
 use Rattle.std.proofs.Math.ListN.{get_or-append}
 use Rattle.std.proofs.lemmas.List.{get_or-append-add, get_or-drop, take-append-drop}
 use Rattle.std.proofs.lemmas.Bool.{and_parts, and_left, lt-ltb, le-ltb, ltb-true, eqb-true, cases_lt}
-use Rattle.start_codes.specs.StartCodes.{is_start_code_at, has_code}
-use Rattle.start_codes.proofs.Codes.{no_code}
+use Rattle.es_units.specs.StartCodes.{is_start_code_at, has_code}
+use Rattle.es_units.proofs.Codes.{no_code}
 
 -- ---- tests on places
 

@@ -48,7 +48,7 @@ use Rattle.std.proofs.Math.Seq.{take-suc}
 use Rattle.std.proofs.lemmas.List.Elements.{filter-append}
 use Rattle.std.proofs.lemmas.List.FromFn.{get_or-map-range_with_len, length-map-range_with_len}
 use Rattle.stream_constants.specs.declared.packets.TheConstants.{PACKET_BYTES}
-use Rattle.payload_lists.specs.Payload.{Payload, CarriedPayload}
+use Rattle.bit_lists.specs.Payload.{Payload, CarriedPayload}
 use Rattle.ts_packets.specs.declared.packet_fault.PacketFault.{PacketFault}
 use Rattle.ts_packets.specs.declared.pid_fault.PidFault.TheVariants.{Refused}
 use Rattle.ts_packets.specs.Packet.{PacketRecord, fields_of, packet_identifier, packet_of, transport_refusal}

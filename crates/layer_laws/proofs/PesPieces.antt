@@ -35,7 +35,7 @@ use Rattle.std.proofs.Common.{
 use Rattle.std.specs.List.{concat, flat_map, range_with_len}
 use Rattle.std.proofs.lemmas.Bool.{lt-ltb, eqb-true}
 use Rattle.std.proofs.lemmas.List.{append-nil, take-append-drop, drop_all, drop-drop}
-use Rattle.payload_lists.specs.Payload.{Payload, CarriedPayload, is_start}
+use Rattle.bit_lists.specs.Payload.{Payload, CarriedPayload, is_start}
 use Rattle.pes_units.specs.PesPackets.{Gathered, up_to_start, gathered}
 use Rattle.pes_units.specs.PesPieces.{pes_pieces, piece_of}
 use Rattle.psi_tables.specs.Sections.{going}

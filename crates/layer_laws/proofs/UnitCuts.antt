@@ -39,7 +39,7 @@ use Rattle.std.specs.List.{concat}
 use Rattle.std.proofs.lemmas.Bool.{and_left, and_right, and_from, or_right, lt-ltb, le-ltb, lt-leb, cases_lt}
 use Rattle.std.proofs.lemmas.List.{append-nil, drop_at, take_at}
 use Rattle.std.proofs.lemmas.List.Elements.{All-head, All-tail}
-use Rattle.start_codes.specs.StartCodes.{is_sequence_header, is_unit_start, has_code}
+use Rattle.es_units.specs.StartCodes.{is_sequence_header, is_unit_start, has_code}
 use Rattle.stream_constants.specs.SliceCodes.{is_slice}
 use Rattle.es_units.specs.Units.{places, is_behind_slice, is_unit_cut, first_sequence, cuts_up_to, cuts_behind, cut_units}
 use Rattle.list_types.specs.Spans.{spans}

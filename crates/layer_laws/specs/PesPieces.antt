@@ -1,7 +1,7 @@
 -- PES packets in the payloads of transport packets (ISO/IEC 13818-1, 2.4.3.3).
 use Rattle.std.specs.Prelude.{◌≡◌, ℕ, ◌+◌, ◌<◌, true, List, [], ◌∷◌, ◌++◌, length, map}
 use Rattle.std.specs.List.{concat}
-use Rattle.payload_lists.specs.Payload.{Payload}
+use Rattle.bit_lists.specs.Payload.{Payload}
 use Rattle.psi_tables.specs.Sections.{going}
 
 -- payloads that carry one PES packet: the first one has bytes and the start flag, the others no flag

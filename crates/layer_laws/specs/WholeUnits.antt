@@ -1,6 +1,6 @@
 -- Units that keep to themselves where they are joined (start codes by ISO/IEC 13818-2, 6.2.1).
 use Rattle.std.specs.Prelude.{◌≡◌, ◌≢◌, ℕ, ◌+◌, ◌<◌, true, false, List, [], ◌∷◌, ◌++◌, length}
-use Rattle.start_codes.specs.StartCodes.{is_sequence_header, is_unit_start, has_code}
+use Rattle.es_units.specs.StartCodes.{is_sequence_header, is_unit_start, has_code}
 use Rattle.stream_constants.specs.SliceCodes.{is_slice}
 
 -- A unit by its own bytes: a header with which a unit may begin stands first, a slice comes, and no such header behind its

@@ -2,7 +2,7 @@
 
 ghost use Rattle.std.specs.Prelude.{◌≡◌, ℕ, ◌+◌, ◌-◌, ◌*◌, ◌<◌, ◌≤◌, true, List, [], ◌∷◌, ◌++◌, length, map, take, drop, replicate, slice_get, None, Some, Ok};
 ghost use Rattle.stream_constants.specs.declared.packets.TheConstants.{PACKET_BYTES};
-ghost use Rattle.payload_lists.specs.Payload.{Payload};
+ghost use Rattle.bit_lists.specs.Payload.{Payload};
 ghost use Rattle.ts_packets.specs.Packet.{PacketRecord, packet_identifier, packet_of};
 ghost use Rattle.ts_packets.specs.TransportStream.{is_of_pid, packets, piece_at, piece_count, pid_pieces};
 ghost use Rattle.ts_packets.specs.Carried.{carried, payloads_on, pid_fault};

@@ -2,7 +2,7 @@
 
 ghost use Rattle.std.specs.Prelude.{◌≡◌, ℕ, ◌<◌, ◌↔◌, ◌++◌, false, List, None, length, map};
 ghost use Rattle.std.specs.List.{flat_map};
-ghost use Rattle.payload_lists.specs.Payload.{CarriedPayload, Payload};
+ghost use Rattle.bit_lists.specs.Payload.{CarriedPayload, Payload};
 ghost use Rattle.pes_units.specs.declared.times.Times.{Times};
 ghost use Rattle.pes_units.specs.PesPackets.{gathered, is_dropped, last_refusal, packet_refusal};
 ghost use Rattle.pes_units.specs.VideoHeader.{AreInRange, IsBesidePts, written_pes_header};

@@ -1,7 +1,7 @@
 -- The payloads of the packets of streams, and how a buffer holds one.
 use Rattle.std.specs.Prelude.{◌≡◌, ℕ, ◌≤◌, List, length, take}
 use Rattle.stream_constants.specs.declared.packets.TheConstants.{PAYLOAD_BYTES}
-use Rattle.payload_lists.specs.Payload.{Payload}
+use Rattle.bit_lists.specs.Payload.{Payload}
 use Rattle.mux_writer.specs.declared.piece_source.Filled.{Filled}
 
 -- for each stream, item of it and piece of the item, the payload with its start flag

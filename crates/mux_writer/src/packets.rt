@@ -1,5 +1,5 @@
 ghost use Rattle.std.specs.Prelude.{◌≡◌, ◌^◌, ◌<◌, true, take};
-ghost use Rattle.payload_lists.specs.Payload.{Payload};
+ghost use Rattle.bit_lists.specs.Payload.{Payload};
 ghost use Rattle.ts_packets.specs.Packet.{written};
 ghost use Rattle.mux_writer.specs.Output.{null_record, full_record, piece_record};
 ghost use Rattle.mux_writer.specs.Pieces.{HasPayloadSize};

@@ -1,7 +1,7 @@
 -- A stream's items, which its queue sends piece by piece: of video the PES packets of its units, of audio single packets' payloads.
 use Rattle.std.specs.Prelude.{◌≡◌, ℕ, ◌+◌, false, List, [], ◌∷◌, ◌++◌, length, map, All, slice_index_or}
 use Rattle.std.specs.List.{range_with_len}
-use Rattle.payload_lists.specs.Payload.{Payload}
+use Rattle.bit_lists.specs.Payload.{Payload}
 use Rattle.slot_rule.specs.declared.queue_kind.QueueKind.TheVariants.{Audio}
 use Rattle.slot_rule.specs.Queues.{Queue}
 

@@ -1,7 +1,7 @@
 -- What is sent on a PID in the slots of an output stream (ISO/IEC 13818-1, 2.4.3.3).
 use Rattle.std.specs.Prelude.{ℕ, ◌-◌, ◌≤◌, ◌==◌, Bool, true, false, ◌&&◌, List, [], All, filter, length, map, replicate, take, drop, slice_index_or}
 use Rattle.stream_constants.specs.declared.packets.TheConstants.{PAYLOAD_BYTES}
-use Rattle.payload_lists.specs.Payload.{Payload}
+use Rattle.bit_lists.specs.Payload.{Payload}
 use Rattle.slot_rule.specs.declared.sent.Sent.{Sent}
 use Rattle.slot_rule.specs.declared.sent.Sent.TheVariants.{Null, Pat, Pmt, Pcr, Video, Audio}
 use Rattle.mux_writer.specs.declared.layout.Layout.{Layout}

@@ -2,7 +2,7 @@
 
 ghost use Rattle.std.specs.Prelude.{◌≡◌, ℕ, ◌<◌, List, Some, length, map, slice_get};
 ghost use Rattle.std.specs.List.{flat_map, zip};
-ghost use Rattle.payload_lists.specs.Payload.{Payload};
+ghost use Rattle.bit_lists.specs.Payload.{Payload};
 ghost use Rattle.version_table.specs.declared.table.AudioPacket.{AudioPacket};
 ghost use Rattle.version_table.specs.declared.table.ProgramRow.{ProgramRow};
 ghost use Rattle.version_table.specs.declared.table.Table.{Table};

@@ -37,7 +37,7 @@ use Rattle.std.specs.List.{range_with_len}
 use Rattle.std.proofs.lemmas.List.FromFn.{length-map-range_with_len}
 use Rattle.std.proofs.lemmas.List.Elements.{All-get_or}
 use Rattle.std.proofs.lemmas.Option.{get_or_from_slice_get, none-some, slice_get-get_or, slice_get_within}
-use Rattle.payload_lists.specs.Payload.{CarriedPayload}
+use Rattle.bit_lists.specs.Payload.{CarriedPayload}
 use Rattle.ts_packets.specs.Packet.{PacketRecord, packet_identifier, packet_of, sync_byte}
 use Rattle.ts_packets.specs.TransportStream.{Piece, is_of_pid, packets, piece_at, piece_count, pid_pieces}
 use Rattle.ts_packets.specs.Carried.{carried, pid_fault}

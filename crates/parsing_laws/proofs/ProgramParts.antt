@@ -2,7 +2,7 @@
 use Rattle.std.proofs.Common.{◌≡◌, ℕ, ◌<◌, List, [], ◌∷◌, ◌++◌, All, length, map, drop, Some, refl, sym, ap, ap₂, ◌∙◌, subst}
 use Rattle.std.specs.List.{concat, flat_map}
 use Rattle.std.proofs.lemmas.List.Elements.{All-head, All-tail}
-use Rattle.payload_lists.specs.Payload.{CarriedPayload, Payload}
+use Rattle.bit_lists.specs.Payload.{CarriedPayload, Payload}
 use Rattle.pes_units.specs.declared.times.Times.{Times}
 use Rattle.pes_units.specs.PesHeader.{header_length}
 use Rattle.pes_units.specs.PesPackets.{Gathered, gathered}

@@ -1,7 +1,7 @@
 -- What it is that a program was read back: its map, its coded units with their times, and its audio PES packets (ISO/IEC 13818-1, 2.4).
 use Rattle.std.specs.Prelude.{◌≡◌, ℕ, ◌<◌, List, [], ◌∷◌, ◌++◌, length, drop, map}
 use Rattle.std.specs.List.{flat_map}
-use Rattle.payload_lists.specs.Payload.{Payload}
+use Rattle.bit_lists.specs.Payload.{Payload}
 use Rattle.pes_units.specs.declared.times.Times.{Times}
 use Rattle.pes_units.specs.PesHeader.{header_length}
 use Rattle.pes_units.specs.VideoHeader.{AreInRange, IsBesidePts, written_pes_header}

@@ -3,7 +3,7 @@ use Rattle.std.proofs.Common.{◌≡◌, ℕ, ◌<◌, nat_lt, Bool, true, false
 use Rattle.std.specs.List.{flat_map}
 use Rattle.std.proofs.lemmas.Bool.{and_left, lt-ltb}
 use Rattle.std.proofs.lemmas.List.{append-nil}
-use Rattle.payload_lists.specs.Payload.{CarriedPayload, is_start}
+use Rattle.bit_lists.specs.Payload.{CarriedPayload, is_start}
 use Rattle.pes_units.specs.PesPackets.{Gathered, up_to_start, gathered, IsCut, AreCuts}
 
 abbrev joined : List (List CarriedPayload) → List CarriedPayload

@@ -2,7 +2,7 @@
 use Rattle.std.proofs.Common.{◌≡◌, ℕ, ◌^◌, ◌-◌, Bool, true, false, List, [], ◌∷◌, ◌++◌, Some, None, refl, pos, arith}
 use Rattle.std.proofs.lemmas.Int.{ints}
 use Rattle.bit_lists.specs.Fields.{bit, bits}
-use Rattle.payload_lists.specs.Payload.{CarriedPayload}
+use Rattle.bit_lists.specs.Payload.{CarriedPayload}
 use Rattle.pes_units.specs.declared.pes_fault.PesFault.TheVariants.{BadPrefix, Short, Scrambled, BadMarker, BadLength}
 use Rattle.pes_units.specs.declared.pes_header.PesHeader.{PesHeader}
 use Rattle.pes_units.specs.declared.times.Times.{Times}

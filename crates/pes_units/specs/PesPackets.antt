@@ -1,7 +1,7 @@
 -- The PES packets of a PID (ISO/IEC 13818-1, 2.4.3.3 and 2.4.3.6).
 use Rattle.std.specs.Prelude.{ℕ, ◌+◌, ◌==◌, ◌≡◌, ◌<◌, nat_lt, Bool, true, false, not, ◌&&◌, ◌||◌, List, [], ◌∷◌, ◌++◌, length, drop, All, Option, Some, None, is_some, if◌then◌else◌}
 use Rattle.std.specs.List.{find, flat_map}
-use Rattle.payload_lists.specs.Payload.{CarriedPayload, is_start}
+use Rattle.bit_lists.specs.Payload.{CarriedPayload, is_start}
 use Rattle.pes_units.specs.declared.pes_fault.PesFault.{PesFault}
 use Rattle.pes_units.specs.declared.pes_fault.PesFault.TheVariants.{BadPrefix, Scrambled, BadMarker, BadLength}
 use Rattle.pes_units.specs.declared.pes_header.PesHeader.{PesHeader}

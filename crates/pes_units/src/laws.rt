@@ -2,7 +2,7 @@
 
 ghost use Rattle.std.specs.Prelude.{◌≡◌, ℕ, ℤ, List};
 ghost use Rattle.std.specs.List.{flat_map};
-ghost use Rattle.payload_lists.specs.Payload.{CarriedPayload};
+ghost use Rattle.bit_lists.specs.Payload.{CarriedPayload};
 ghost use Rattle.pes_units.specs.PesPackets.{Gathered, gathered, AreCuts};
 ghost use Rattle.pes_units.specs.TimeAxis.{IsUnwrapped};
 

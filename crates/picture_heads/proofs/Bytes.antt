@@ -43,7 +43,7 @@ use Rattle.bit_lists.proofs.ByteLemmas.{bit_list-take, length-bit_list}
 use Rattle.bit_lists.proofs.JoinedLemmas.{bits_of-byte}
 use Rattle.bit_lists.proofs.PrefixLemmas.{bit_list-same}
 use Rattle.picture_grammar.specs.StartCode.{start_code_prefix, start_code_bits}
-use Rattle.start_codes.specs.StartCodes.{is_start_code_at}
+use Rattle.es_units.specs.StartCodes.{is_start_code_at}
 use Rattle.picture_heads.specs.Private.Walk.{IsFirstCode}
 use Rattle.picture_heads.proofs.Clear.{behind_front}
 

@@ -40,7 +40,7 @@ use Rattle.stream_constants.specs.declared.start_codes.TheConstants.{PICTURE, GR
 use Rattle.picture_grammar.specs.declared.limits.TheConstants.{VBV_DELAY_BITS}
 use Rattle.picture_heads.specs.declared.TheConstants.{NO_DELAY}
 use Rattle.picture_heads.specs.Heads.{HasDelay, IsHeadWithoutDelay}
-use Rattle.start_codes.specs.StartCodes.{is_start_code_at}
+use Rattle.es_units.specs.StartCodes.{is_start_code_at}
 use Rattle.picture_heads.specs.Private.Walk.{LeadsIn, with_ones}
 use Rattle.picture_heads.proofs.Bytes.{same_parts, IsFound}
 use Rattle.picture_heads.proofs.LeadingCodes.{head-leads}

@@ -6,7 +6,7 @@ use Rattle.bit_lists.specs.Fields.{AreBytes, bit_list}
 use Rattle.bit_lists.proofs.ByteLemmas.{bit_list-take, length-bit_list}
 use Rattle.stream_constants.specs.declared.start_codes.TheConstants.{PICTURE, GROUP}
 use Rattle.picture_grammar.specs.StartCode.{start_code_bits}
-use Rattle.start_codes.specs.StartCodes.{is_start_code_at}
+use Rattle.es_units.specs.StartCodes.{is_start_code_at}
 use Rattle.picture_heads.specs.Private.Walk.{IsFirstCode, GoesOn, LeadsIn}
 use Rattle.picture_heads.proofs.Bytes.{same_parts, IsFound, found-at}
 

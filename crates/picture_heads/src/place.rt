@@ -2,7 +2,7 @@ ghost use Rattle.std.specs.Prelude.{◌≡◌, ℕ, true, false, ◌+◌, ◌*�
 ghost use Rattle.bit_lists.specs.Fields.{AreBytes, bit_list};
 ghost use Rattle.picture_heads.specs.Private.Walk.{LeadsIn};
 
-use start_codes::next_start_code;
+use es_units::next_start_code;
 use stream_constants::start_codes::{GROUP, GROUP_HEADER_BYTES, PICTURE, START_CODE_BYTES};
 
 /// Bytes of a group of pictures header behind its start code, with the zero bits that close it (ISO/IEC 13818-2, 6.2.2.6).

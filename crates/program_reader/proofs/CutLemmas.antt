@@ -5,7 +5,7 @@ use Rattle.std.specs.Option.{option_map}
 use Rattle.std.proofs.lemmas.Bool.{and_parts, ltb-true}
 use Rattle.std.proofs.lemmas.List.FromFn.{length-range_with_len}
 use Rattle.audio_frames.proofs.Places.{found_passes}
-use Rattle.start_codes.specs.StartCodes.{is_sequence_header, has_code}
+use Rattle.es_units.specs.StartCodes.{is_sequence_header, has_code}
 use Rattle.es_units.specs.declared.units.Units.{Units}
 use Rattle.es_units.specs.Units.{is_unit_cut, first_sequence, cuts_up_to, cuts_behind, cut_units}
 use Rattle.list_types.specs.Spans.{spans}

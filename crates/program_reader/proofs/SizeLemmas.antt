@@ -41,7 +41,7 @@ use Rattle.std.proofs.lemmas.List.Elements.{All-map, All-cons, All-nil, All-tail
 use Rattle.std.proofs.lemmas.List.FromFn.{length-range_with_len}
 use Rattle.std.proofs.lemmas.List.Sums.{sum_by-cons}
 use Rattle.stream_constants.specs.declared.packets.TheConstants.{PACKET_BYTES}
-use Rattle.payload_lists.specs.Payload.{CarriedPayload, is_start}
+use Rattle.bit_lists.specs.Payload.{CarriedPayload, is_start}
 use Rattle.pes_units.specs.PesPackets.{Gathered, up_to_start, gathered}
 use Rattle.psi_tables.specs.declared.stream.Stream.{Stream}
 use Rattle.ts_demux.specs.declared.demuxed.AudioStream.{AudioStream}

@@ -3,7 +3,7 @@ use Rattle.std.specs.Prelude.{ℕ, ◌+◌, ◌-◌, ◌==◌, Bool, false, not,
 use Rattle.std.specs.List.{find, list_any}
 use Rattle.std.specs.Option.{option_map_or}
 use Rattle.stream_constants.specs.declared.start_codes.TheConstants.{PICTURE, GROUP, GROUP_HEADER_BYTES}
-use Rattle.start_codes.specs.StartCodes.{has_code}
+use Rattle.es_units.specs.StartCodes.{has_code}
 use Rattle.es_units.specs.Units.{places}
 use Rattle.pes_units.specs.declared.times.Times.{Times}
 use Rattle.program_reader.specs.declared.pes_packets.PlacedPacket.{PlacedPacket}

@@ -1,6 +1,6 @@
 //! Where pictures begin in a video stream.
 ghost use Rattle.std.specs.Prelude.{◌≡◌, ◌==◌, ◌≤◌, ◌<◌, length};
-ghost use Rattle.start_codes.specs.StartCodes.{has_code};
+ghost use Rattle.es_units.specs.StartCodes.{has_code};
 ghost use Rattle.program_reader.specs.PictureTimes.{is_in_group, begins_picture, first_picture};
 
 use stream_constants::start_codes::{GROUP, GROUP_HEADER_BYTES, PICTURE};

@@ -1,6 +1,6 @@
 -- A section in a payload of its own, with stuffing behind it.
 use Rattle.std.proofs.Common.{◌≡◌, ℕ, zero, suc, true, false, List, [], ◌∷◌, ◌++◌, replicate, Ok, refl, ap, ◌∙◌}
-use Rattle.payload_lists.specs.Payload.{Payload}
+use Rattle.bit_lists.specs.Payload.{Payload}
 use Rattle.psi_tables.specs.Sections.{Found, found_at, found_from, sections_of}
 use Rattle.psi_tables.specs.SectionBuilder.{payloads_of}
 use Rattle.psi_tables.specs.Private.SectionFront.{IsFront, is_settled, is_bad}

@@ -38,7 +38,7 @@ use Rattle.psi_tables.specs.declared.section.SectionFault.{SectionFault}
 use Rattle.psi_tables.specs.declared.section.SectionFault.TheVariants.{BadSection}
 use Rattle.psi_tables.specs.declared.section_front.SectionFront.{SectionFront}
 use Rattle.psi_tables.specs.declared.section_builder.SectionBuilder.TheInside.{Inside}
-use Rattle.payload_lists.specs.Payload.{Payload}
+use Rattle.bit_lists.specs.Payload.{Payload}
 use Rattle.psi_tables.specs.Sections.{Found, has_pointer, points_past, before_pointer, behind_pointer, bytes_on, checked, found_at, found_from, found_in, until_error, sections_behind, sections_of}
 use Rattle.psi_tables.specs.Private.SectionFront.{front_bytes, is_settled, is_bad, IsHeld, GoesOn, ReadsOn}
 use Rattle.psi_tables.specs.SectionBuilder.{payloads_of, pointing_past, waiting_bytes, payloads_held, IsInOrder}

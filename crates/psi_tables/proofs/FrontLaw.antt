@@ -33,7 +33,7 @@ use Rattle.std.proofs.Common.{
 use Rattle.std.specs.Prelude.{◌==◌}
 use Rattle.std.proofs.lemmas.List.{append-nil, drop_at}
 use Rattle.psi_tables.specs.declared.section.SectionFault.TheVariants.{BadSection}
-use Rattle.payload_lists.specs.Payload.{Payload}
+use Rattle.bit_lists.specs.Payload.{Payload}
 use Rattle.psi_tables.specs.Sections.{
   Found,
   has_pointer,

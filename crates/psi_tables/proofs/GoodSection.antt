@@ -37,7 +37,7 @@ use Rattle.std.specs.Prelude.{slice_index}
 use Rattle.std.specs.List.{concat}
 use Rattle.std.proofs.Math.ListN.{get_or-append}
 use Rattle.std.proofs.lemmas.Bool.{and_from, and_right, or_cases, or_parts, or_right, not-false, eqb-true, ltb-false, le-leb, cases_lt}
-use Rattle.payload_lists.specs.Payload.{Payload}
+use Rattle.bit_lists.specs.Payload.{Payload}
 use Rattle.psi_tables.specs.declared.section.SectionFault.TheVariants.{BadSection, BadCrc}
 use Rattle.psi_tables.specs.Section.{table_id}
 use Rattle.psi_tables.specs.Sections.{Found, length_end, is_read, has_bad_length, section_size, crc_over, checked, found_at, sections_of, going}

@@ -4,7 +4,7 @@ use Rattle.std.specs.Prelude.{nat_lt, nat_le}
 use Rattle.std.proofs.lemmas.List.{append-nil}
 use Rattle.std.proofs.lemmas.Bool.Decides.{nat_tests}
 use Rattle.psi_tables.specs.declared.section.SectionFault.{SectionFault}
-use Rattle.payload_lists.specs.Payload.{Payload}
+use Rattle.bit_lists.specs.Payload.{Payload}
 use Rattle.psi_tables.specs.Sections.{Found, bytes_on, found_from, found_in, found_in_all, has_error, until_error, sections_behind}
 use Rattle.psi_tables.specs.SectionBuilder.{payloads_of}
 use Rattle.psi_tables.proofs.Reading.{until_error-none, behind-same, next-same, behind-none, behind-error}

@@ -2,7 +2,7 @@
 use Rattle.std.proofs.Common.{◌≡◌, ℕ, ◌<◌, true, false, List, [], ◌∷◌, ◌++◌, length, map, Ok, Err, refl, sym, ap, ◌∙◌, append_assoc}
 use Rattle.std.specs.List.{concat}
 use Rattle.std.proofs.lemmas.List.{append-nil}
-use Rattle.payload_lists.specs.Payload.{Payload}
+use Rattle.bit_lists.specs.Payload.{Payload}
 use Rattle.psi_tables.specs.Sections.{Found, bytes_on, found_at, found_from, found_in_all, has_error, sections_behind, sections_of, going}
 use Rattle.psi_tables.specs.SectionBuilder.{payloads_of}
 use Rattle.psi_tables.specs.Private.SectionFront.{IsFront, is_settled}

@@ -2,7 +2,7 @@
 use Rattle.std.proofs.Common.{◌≡◌, ℕ, true, false, List, [], ◌∷◌, ◌++◌, take, drop, replicate, Ok, Err, refl}
 use Rattle.psi_tables.specs.declared.section.SectionFault.TheVariants.{BadSection, BadCrc}
 use Rattle.bit_lists.specs.Fields.{bit, bits}
-use Rattle.payload_lists.specs.Payload.{Payload}
+use Rattle.bit_lists.specs.Payload.{Payload}
 use Rattle.psi_tables.specs.Sections.{crc_over, sections_of}
 
 -- the PAT section of stream 1 with program 1 on PID 0x100

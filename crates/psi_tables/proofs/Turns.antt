@@ -1,7 +1,7 @@
 -- Reading in turn.
 use Rattle.std.proofs.Common.{◌≡◌, List, [], ◌∷◌, ◌++◌, refl, sym, ap, ◌∙◌, append_assoc, ◌+◌, length, arith}
 use Rattle.std.proofs.lemmas.List.{append-nil}
-use Rattle.payload_lists.specs.Payload.{Payload}
+use Rattle.bit_lists.specs.Payload.{Payload}
 use Rattle.psi_tables.specs.Sections.{Found, sections_of, GivesInTurn}
 
 pub turn-start : GivesInTurn [] [] []

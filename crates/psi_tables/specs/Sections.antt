@@ -35,7 +35,7 @@ use Rattle.std.specs.List.{list_any}
 use Rattle.stream_constants.specs.declared.packets.TheConstants.{PAYLOAD_BYTES}
 use Rattle.psi_tables.specs.declared.section.TheConstants.{SECTION_LENGTH_LEAST, SECTION_LENGTH_MOST}
 use Rattle.bit_lists.specs.Fields.{bit_list}
-use Rattle.payload_lists.specs.Payload.{Payload, is_start}
+use Rattle.bit_lists.specs.Payload.{Payload, is_start}
 use Rattle.psi_tables.specs.declared.section.SectionFault.{SectionFault}
 use Rattle.psi_tables.specs.declared.section.SectionFault.TheVariants.{BadSection, BadCrc}
 use Rattle.psi_tables.specs.Crc.{crc_polynomial, inverted}

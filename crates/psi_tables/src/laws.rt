@@ -4,7 +4,7 @@ ghost use Rattle.std.specs.Prelude.{◌≡◌, ℕ, ◌<◌, ◌↔◌, List, []
 ghost use Rattle.std.specs.List.{concat};
 ghost use Rattle.psi_tables.specs.declared.program_map.ProgramMap.{ProgramMap};
 ghost use Rattle.psi_tables.specs.Crc.{IsCrcOf, HasRightCrc};
-ghost use Rattle.payload_lists.specs.Payload.{Payload};
+ghost use Rattle.bit_lists.specs.Payload.{Payload};
 ghost use Rattle.psi_tables.specs.Pmt.{IsPmt, HasRoom};
 ghost use Rattle.psi_tables.specs.Pat.{IsPat};
 ghost use Rattle.psi_tables.specs.PatOf.{pat_of};

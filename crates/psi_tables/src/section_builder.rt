@@ -1,5 +1,5 @@
 ghost use Rattle.std.specs.Prelude.{◌≡◌, ◌≤◌, [], ◌∷◌, ◌++◌, List, length, Err, IfNone, IfSome, IfErr};
-ghost use Rattle.payload_lists.specs.Payload.{Payload};
+ghost use Rattle.bit_lists.specs.Payload.{Payload};
 ghost use Rattle.psi_tables.specs.Sections.{sections_of};
 
 use crate::section::{Section, SectionFault};
@@ -27,7 +27,7 @@ pub struct SectionBuilder {
 impl Model for SectionBuilder {
     ghost use Rattle.std.specs.Prelude.{List};
     ghost use Rattle.std.specs.Coded.{coded_list};
-    ghost use Rattle.payload_lists.specs.Payload.{Payload, payload_code};
+    ghost use Rattle.bit_lists.specs.Payload.{Payload, payload_code};
 
     ghost Value = { List Payload };
 

@@ -1,7 +1,7 @@
 //! Sections from payloads, with expected values by hand and by a bitwise CRC in another language.
 
 ghost use Rattle.std.specs.Prelude.{◌≡◌, ℕ, ◌<◌, ◌≤◌, Bool, List, [], length, map, All, IfOk, OnOk};
-ghost use Rattle.payload_lists.specs.Payload.{Payload};
+ghost use Rattle.bit_lists.specs.Payload.{Payload};
 ghost use Rattle.psi_tables.specs.Sections.{sections_of, GivesInTurn};
 ghost use Rattle.std.specs.Borrow.{Bor};
 ghost use Rattle.psi_tables.specs.SectionBuilder.{found_of};

@@ -36,7 +36,7 @@ use Rattle.std.proofs.Common.{
 }
 use Rattle.std.proofs.lemmas.Bool.Decides.{nat_tests}
 use Rattle.std.proofs.lemmas.List.{append-nil}
-use Rattle.payload_lists.specs.Payload.{CarriedPayload, is_start}
+use Rattle.bit_lists.specs.Payload.{CarriedPayload, is_start}
 use Rattle.ts_packets.specs.declared.pid_fault.PidFault.{PidFault}
 use Rattle.ts_packets.specs.TransportStream.{Piece, piece_at, piece_count, is_of_pid, pid_pieces}
 use Rattle.ts_packets.specs.Carried.{carried, pid_fault}

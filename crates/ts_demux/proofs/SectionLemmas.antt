@@ -3,7 +3,7 @@ use Rattle.std.proofs.Common.{◌≡◌, ℕ, ◌+◌, ◌<◌, List, [], ◌∷
 use Rattle.std.specs.Prelude.{IfNone}
 use Rattle.std.proofs.lemmas.List.{map-append, append-nil}
 use Rattle.arrayvec.specs.ArrayVec.{ArrayVec}
-use Rattle.payload_lists.specs.Payload.{Payload, CarriedPayload}
+use Rattle.bit_lists.specs.Payload.{Payload, CarriedPayload}
 use Rattle.ts_packets.specs.declared.packet.Packet.{Packet}
 use Rattle.ts_packets.specs.TransportStream.{Piece}
 use Rattle.ts_packets.specs.Carried.{carried}

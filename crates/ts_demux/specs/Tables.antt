@@ -2,7 +2,7 @@
 -- project's).
 use Rattle.std.specs.Prelude.{◌≡◌, ◌≢◌, ℕ, ◌+◌, ◌*◌, ◌<◌, ◌≤◌, ◌==◌, ◌⊎◌, true, List, length, drop, map, slice_get, Some, None, Ok, Err, if◌then◌else◌}
 use Rattle.stream_constants.specs.declared.packets.TheConstants.{PACKET_BYTES}
-use Rattle.payload_lists.specs.Payload.{Payload}
+use Rattle.bit_lists.specs.Payload.{Payload}
 use Rattle.ts_packets.specs.declared.pid_fault.PidFault.{PidFault}
 use Rattle.ts_packets.specs.Packet.{sync_byte}
 use Rattle.ts_packets.specs.TransportStream.{Piece, piece_at, piece_count, is_of_pid, pid_pieces}

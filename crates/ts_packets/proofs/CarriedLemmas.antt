@@ -45,7 +45,7 @@ use Rattle.std.specs.List.{filter_map, cons_option, last_or}
 use Rattle.std.specs.Option.{option_map, option_map_or}
 use Rattle.std.proofs.lemmas.List.{map-append, append-nil}
 use Rattle.std.proofs.lemmas.List.Elements.{filter-append, filter_map-append}
-use Rattle.payload_lists.specs.Payload.{CarriedPayload}
+use Rattle.bit_lists.specs.Payload.{CarriedPayload}
 use Rattle.ts_packets.specs.declared.packet.Packet.{Packet}
 use Rattle.ts_packets.specs.declared.pid_reader.PidReader.{PidReader}
 use Rattle.ts_packets.specs.Packet.{PacketRecord, record_of, packet_of, IsPacket, has_field, adaptation_field_length}

@@ -3,7 +3,7 @@ use Rattle.std.specs.Prelude.{ℕ, ◌+◌, ◌%◌, ◌==◌, nat_lt, Bool, fal
 use Rattle.std.specs.List.{filter, filter_map, flat_map, last_or}
 use Rattle.std.specs.Option.{option_map, option_map_or, option_or}
 use Rattle.std.specs.Str.{bytes_eq}
-use Rattle.payload_lists.specs.Payload.{CarriedPayload, Payload}
+use Rattle.bit_lists.specs.Payload.{CarriedPayload, Payload}
 use Rattle.ts_packets.specs.declared.pid_fault.PidFault.{PidFault}
 use Rattle.ts_packets.specs.declared.pid_fault.PidFault.TheVariants.{Refused, Discontinuity, Gap}
 use Rattle.ts_packets.specs.Packet.{PacketRecord, packet_of, transport_refusal}

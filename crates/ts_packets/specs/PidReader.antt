@@ -1,7 +1,7 @@
 -- Where a reader of the packets of a PID stands.
 use Rattle.std.specs.Prelude.{◌≡◌, ℕ, Bool, true, false, List, [], ◌∷◌, Option, Some, None}
 use Rattle.std.specs.Option.{option_map}
-use Rattle.payload_lists.specs.Payload.{CarriedPayload}
+use Rattle.bit_lists.specs.Payload.{CarriedPayload}
 use Rattle.ts_packets.specs.declared.packet.Packet.{Packet}
 use Rattle.ts_packets.specs.declared.pid_reader.PidReader.{PidReader}
 use Rattle.ts_packets.specs.Packet.{record_of}

@@ -4,8 +4,8 @@ use Rattle.std.proofs.lemmas.Bool.{and_parts, and_from, eqb-true, lt-ltb, ltb-tr
 use Rattle.std.proofs.lemmas.List.{drop-drop, length-take}
 use Rattle.bit_lists.specs.Fields.{bit_list, bits_of_byte}
 use Rattle.bit_lists.proofs.ByteLemmas.{bit_list-take, length-bit_list}
-use Rattle.start_codes.specs.StartCodes.{is_start_code_at, start_code_at, has_code}
-use Rattle.start_codes.proofs.Codes.{no_code, code_is}
+use Rattle.es_units.specs.StartCodes.{is_start_code_at, start_code_at, has_code}
+use Rattle.es_units.proofs.Codes.{no_code, code_is}
 use Rattle.picture_grammar.specs.StartCode.{start_code_prefix}
 use Rattle.picture_heads.proofs.Bytes.{code-bits}
 use Rattle.unit_laws.proofs.SliceCodes.{PrefixStands}

@@ -7,7 +7,7 @@ use Rattle.bit_lists.specs.Fields.{AreBytes, bit_list}
 use Rattle.bit_lists.proofs.ByteLemmas.{AreBytes-append, AreBytes-take}
 use Rattle.syntax_types.specs.declared.picture.Picture.{Picture}
 use Rattle.syntax_types.specs.declared.picture.SeqState.{SeqState}
-use Rattle.start_codes.specs.StartCodes.{has_code, is_sequence_header}
+use Rattle.es_units.specs.StartCodes.{has_code, is_sequence_header}
 use Rattle.picture_grammar.specs.Picture.{MayPrecede, SpellsPicture}
 use Rattle.picture_grammar.proofs.HeaderLaws.{exact-picture_unit}
 use Rattle.picture_laws.proofs.SpelledStates.{state-of_unit}

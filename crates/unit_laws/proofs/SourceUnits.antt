@@ -6,7 +6,7 @@ use Rattle.std.specs.Option.{option_map}
 use Rattle.std.proofs.lemmas.Bool.{and_parts, and_from, cases_lt, lt-ltb, ltb-true}
 use Rattle.std.proofs.lemmas.List.{get_or-drop, get_or-take, length-drop, length-take}
 use Rattle.std.proofs.lemmas.List.Elements.{All-cons, All-nil}
-use Rattle.start_codes.specs.StartCodes.{is_sequence_header, is_unit_start, has_code}
+use Rattle.es_units.specs.StartCodes.{is_sequence_header, is_unit_start, has_code}
 use Rattle.stream_constants.specs.SliceCodes.{is_slice}
 use Rattle.es_units.specs.declared.units.Units.{Units}
 use Rattle.es_units.specs.Units.{is_behind_slice, is_unit_cut, first_sequence, cuts_up_to, cuts_behind, cut_units}

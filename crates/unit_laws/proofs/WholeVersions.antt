@@ -14,7 +14,7 @@ use Rattle.syntax_types.specs.declared.picture.Picture.{Picture}
 use Rattle.syntax_types.specs.declared.picture.SeqState.{SeqState}
 use Rattle.syntax_types.specs.declared.slice.Slice.{Slice}
 use Rattle.stream_constants.specs.declared.start_codes.TheConstants.{GROUP, PICTURE, SEQUENCE_END, SEQUENCE_HEADER}
-use Rattle.start_codes.specs.StartCodes.{is_sequence_header, is_unit_start, has_code}
+use Rattle.es_units.specs.StartCodes.{is_sequence_header, is_unit_start, has_code}
 use Rattle.stream_constants.specs.SliceCodes.{is_slice}
 use Rattle.layer_laws.specs.WholeUnits.{IsWholeUnit}
 use Rattle.picture_grammar.specs.Grammar.{SpellsList}

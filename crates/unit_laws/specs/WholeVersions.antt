@@ -1,7 +1,7 @@
 -- What each version of a unit is by its own bytes (ISO/IEC 13818-2, 6.1.2 and 6.2).
 use Rattle.std.specs.Prelude.{◌≡◌, true, List, [], ◌∷◌, All, Option, Some}
 use Rattle.syntax_types.specs.declared.picture.SeqState.{SeqState}
-use Rattle.start_codes.specs.StartCodes.{has_code, is_sequence_header}
+use Rattle.es_units.specs.StartCodes.{has_code, is_sequence_header}
 use Rattle.layer_laws.specs.WholeUnits.{IsWholeUnit}
 use Rattle.version_maker.specs.declared.version.UnitVersion.{UnitVersion}
 use Rattle.unit_laws.specs.OwnCodes.{HasNoCodeInSlices}

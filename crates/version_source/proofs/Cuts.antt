@@ -5,7 +5,7 @@ use Rattle.std.proofs.lemmas.Bool.{cases_lt}
 use Rattle.pes_units.specs.PesPieces.{packets_for, pes_pieces, piece_of}
 use Rattle.mux_writer.specs.Pieces.{HasPayloadSize}
 use Rattle.std.specs.List.{range_with_len}
-use Rattle.payload_lists.specs.Payload.{Payload}
+use Rattle.bit_lists.specs.Payload.{Payload}
 use Rattle.slot_rule.specs.Queues.{payloads}
 
 -- a list over a range whose items are one number, but the last

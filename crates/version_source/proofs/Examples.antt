@@ -1,6 +1,6 @@
 -- Worked examples of pieces: what a check computes, beside what was counted by hand.
 use Rattle.std.proofs.Common.{◌≡◌, ℕ, Bool, true, false, List, [], ◌∷◌, length, map, replicate, None, refl}
-use Rattle.payload_lists.specs.Payload.{Payload}
+use Rattle.bit_lists.specs.Payload.{Payload}
 use Rattle.pes_units.specs.PesPieces.{pes_pieces}
 use Rattle.program_reader.specs.declared.program.AudioPiece.{AudioPiece}
 use Rattle.program_reader.specs.declared.program.UnitSource.{UnitSource}

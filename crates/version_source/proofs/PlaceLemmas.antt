@@ -1,7 +1,7 @@
 -- The streams of programs, at their places.
 use Rattle.std.proofs.Common.{◌≡◌, ℕ, zero, suc, ◌+◌, ◌-◌, ◌<◌, ◌≤◌, List, [], ◌∷◌, ◌++◌, length, map, take, drop, get_or, slice_index_or, refl, ap, subst, sym, ◌∙◌, arith}
 use Rattle.std.proofs.lemmas.List.{get_or_append_left, get_or-append-add, length-append, length-map}
-use Rattle.payload_lists.specs.Payload.{Payload}
+use Rattle.bit_lists.specs.Payload.{Payload}
 use Rattle.program_reader.specs.declared.program.Program.{Program}
 use Rattle.version_maker.specs.declared.version.UnitVersion.{UnitVersion}
 use Rattle.version_source.specs.Pieces.{audio_items, stream_items, video_items}

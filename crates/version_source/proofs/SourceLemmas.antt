@@ -5,7 +5,7 @@ use Rattle.std.specs.Coded.{le_prop}
 use Rattle.std.proofs.Math.Logic.{∥∥₁_elim}
 use Rattle.std.proofs.Props.{props}
 use Rattle.shelf_io.specs.declared.fault.Fault.{Fault}
-use Rattle.payload_lists.specs.Payload.{Payload}
+use Rattle.bit_lists.specs.Payload.{Payload}
 use Rattle.mux_writer.specs.declared.piece_source.Filled.{Filled}
 use Rattle.mux_writer.specs.Pieces.{IsFilledWith}
 use Rattle.program_reader.specs.declared.program.AudioPiece.{AudioPiece}

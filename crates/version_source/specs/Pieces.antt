@@ -1,7 +1,7 @@
 -- The pieces of programs in chosen versions: what each packet of their streams carries. Streams have numbers in the order of the
 -- programs, the video of each before its audio streams. (PES packets by ISO/IEC 13818-1, 2.4.3.6 and 2.4.3.7.)
 use Rattle.std.specs.Prelude.{ℕ, ◌+◌, ◌<◌, false, List, [], ◌∷◌, ◌++◌, length, drop, map, slice_range, slice_index_or}
-use Rattle.payload_lists.specs.Payload.{Payload}
+use Rattle.bit_lists.specs.Payload.{Payload}
 use Rattle.pes_units.specs.VideoHeader.{written_pes_header}
 use Rattle.pes_units.specs.PesPieces.{pes_pieces}
 use Rattle.mux_writer.specs.Pieces.{Pieces}

@@ -1,6 +1,6 @@
 -- What a source of pieces tells, and what it has, by the items of all its streams.
 use Rattle.std.specs.Prelude.{ℕ, List, Option, Some}
-use Rattle.payload_lists.specs.Payload.{Payload}
+use Rattle.bit_lists.specs.Payload.{Payload}
 use Rattle.mux_writer.specs.Pieces.{Pieces}
 use Rattle.version_source.specs.Pieces.{HasPiece, pieces_of}
 

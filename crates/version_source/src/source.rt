@@ -46,7 +46,7 @@ pub struct VersionSource<'a> {
 
 impl<'a> Model for VersionSource<'a> {
     ghost use Rattle.std.specs.Prelude.{List};
-    ghost use Rattle.payload_lists.specs.Payload.{Payload};
+    ghost use Rattle.bit_lists.specs.Payload.{Payload};
     ghost use Rattle.version_source.specs.Private.SourceFields.{IsSource, items_of};
 
     ghost Value = { List (List (List Payload)) };

@@ -1,6 +1,6 @@
 -- What a source of pieces stands for, and what it keeps.
 use Rattle.std.specs.Prelude.{List}
-use Rattle.payload_lists.specs.Payload.{Payload}
+use Rattle.bit_lists.specs.Payload.{Payload}
 use Rattle.version_source.specs.declared.source.VersionSource.TheInside.{Inside}
 use Rattle.version_source.specs.Pieces.{stream_items}
 use Rattle.version_source.specs.Private.Kept.{AreSent}

@@ -1,6 +1,6 @@
 -- Programs with every version of their pictures kept, and what a source of their pieces has.
 use Rattle.std.specs.Prelude.{◌≡◌, ℕ, List, ◌++◌, All, length, Option, None}
-use Rattle.payload_lists.specs.Payload.{Payload}
+use Rattle.bit_lists.specs.Payload.{Payload}
 use Rattle.syntax_types.specs.declared.picture.SeqState.{SeqState}
 use Rattle.picture_grammar.specs.Picture.{MayPrecede}
 use Rattle.job_report.specs.declared.job.ProgramJob.{ProgramJob}

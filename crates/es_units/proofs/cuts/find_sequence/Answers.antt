@@ -1,8 +1,8 @@
 use Rattle.std.proofs.Common.{◌∙◌, inl, inr, sym, arith}
 use Rattle.std.proofs.lemmas.Bool.{cases_lt}
 use Rattle.std.specs.Prelude.{length}
-use Rattle.start_codes.specs.StartCodes.{has_code, is_sequence_header}
-use Rattle.start_codes.proofs.Codes.{no_code, code_is}
+use Rattle.es_units.specs.StartCodes.{has_code, is_sequence_header}
+use Rattle.es_units.proofs.Codes.{no_code, code_is}
 use Rattle.es_units.proofs.Places.{find_place, no_place}
 use Rattle.es_units.proofs.cuts.find_sequence.Goals as goal
 

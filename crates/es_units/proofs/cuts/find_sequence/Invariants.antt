@@ -1,5 +1,5 @@
 use Rattle.std.proofs.Common.{◌≡◌, ℕ, false, ◌<◌, ◌≤◌, length, ◌-◌}
-use Rattle.start_codes.specs.StartCodes.{has_code, is_sequence_header}
+use Rattle.es_units.specs.StartCodes.{has_code, is_sequence_header}
 use Rattle.es_units.proofs.cuts.find_sequence.Given as goal
 
 abbrev pub invariant-loop-code : goal.invariant-loop-code

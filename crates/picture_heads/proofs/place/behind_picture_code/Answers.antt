@@ -1,5 +1,5 @@
 use Rattle.std.proofs.Common.{◌+◌, refl}
-use Rattle.start_codes.proofs.Codes.{code_stands}
+use Rattle.es_units.proofs.Codes.{code_stands}
 use Rattle.picture_heads.proofs.Bytes.{bytes-are}
 use Rattle.picture_heads.proofs.WalkSteps.{IsFirstAt, walk-none, walk-here, walk-on}
 use Rattle.picture_heads.proofs.place.behind_picture_code.Goals as goal

@@ -1,6 +1,6 @@
 use Rattle.std.proofs.Common.{◌-◌, ◌+◌, ◌==◌, sym, ◌∙◌, arith}
 use Rattle.stream_constants.specs.declared.start_codes.TheConstants.{GROUP}
-use Rattle.start_codes.specs.StartCodes.{has_code}
+use Rattle.es_units.specs.StartCodes.{has_code}
 use Rattle.program_reader.proofs.PlaceLemmas.{some_place, none_passes}
 use Rattle.program_reader.proofs.picture_places.is_in_group.Goals as goal
 

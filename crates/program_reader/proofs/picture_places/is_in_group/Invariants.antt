@@ -1,6 +1,6 @@
 use Rattle.std.proofs.Common.{◌≡◌, ◌==◌, ℕ, false, ◌<◌, ◌≤◌}
 use Rattle.stream_constants.specs.declared.start_codes.TheConstants.{GROUP}
-use Rattle.start_codes.specs.StartCodes.{has_code}
+use Rattle.es_units.specs.StartCodes.{has_code}
 use Rattle.program_reader.proofs.picture_places.is_in_group.Given as goal
 
 abbrev pub invariant-loop-group : goal.invariant-loop-group

@@ -1,5 +1,5 @@
 use Rattle.std.proofs.Common.{List, length, map}
-use Rattle.payload_lists.specs.Payload.{Payload}
+use Rattle.bit_lists.specs.Payload.{Payload}
 use Rattle.psi_tables.specs.Sections.{sections_of, GivesInTurn}
 use Rattle.psi_tables.specs.SectionBuilder.{found_of}
 use Rattle.psi_tables_tests.proofs.section_tests.pull_all.Given as goal

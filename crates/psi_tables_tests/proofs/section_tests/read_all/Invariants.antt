@@ -1,6 +1,6 @@
 use Rattle.std.proofs.Common.{◌≡◌, ℕ, Bool, List, [], map, take}
 use Rattle.std.specs.Borrow.{Bor}
-use Rattle.payload_lists.specs.Payload.{Payload}
+use Rattle.bit_lists.specs.Payload.{Payload}
 use Rattle.psi_tables.specs.Sections.{sections_of, GivesInTurn}
 use Rattle.psi_tables.specs.SectionBuilder.{found_of}
 use Rattle.psi_tables_tests.proofs.section_tests.read_all.Given as goal

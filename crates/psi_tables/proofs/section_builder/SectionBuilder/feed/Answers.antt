@@ -2,7 +2,7 @@
 use Rattle.std.proofs.Common.{◌≡◌, ℕ, ◌+◌, ◌-◌, ◌≢◌, Bool, true, false, List, ◌∷◌, ◌++◌, length, take, drop, get_or, refl, sym, ap, ◌∙◌, arith}
 use borrow.Rule.Slice.PartMut.{post_of}
 use Rattle.std.proofs.lemmas.Bool.{eqb-true, eqb-false, le-leb, lt-leb}
-use Rattle.payload_lists.specs.Payload.{Payload}
+use Rattle.bit_lists.specs.Payload.{Payload}
 use Rattle.psi_tables.specs.Sections.{has_pointer, points_past, sections_of}
 use Rattle.psi_tables.proofs.Building.{nothing-settled, feeds-on, feeds-past, feeds-pointed, feeds-ending, waits-from, no-bytes, some-pointer, before-is, behind-is}
 use Rattle.psi_tables.proofs.section_builder.SectionBuilder.feed.Goals as goal

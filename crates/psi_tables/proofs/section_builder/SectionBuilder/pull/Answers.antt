@@ -5,7 +5,7 @@ use Rattle.psi_tables.specs.declared.section.SectionFault.{SectionFault}
 use Rattle.psi_tables.specs.SectionBuilder.{found_of}
 use Rattle.psi_tables.specs.declared.section.SectionFault.TheVariants.{BadSection}
 use Rattle.psi_tables.specs.declared.section_front.SectionFront.{SectionFront}
-use Rattle.payload_lists.specs.Payload.{Payload}
+use Rattle.bit_lists.specs.Payload.{Payload}
 use Rattle.psi_tables.specs.Sections.{found_at, sections_of}
 use Rattle.psi_tables.specs.Private.SectionFront.{front_bytes}
 use Rattle.psi_tables.proofs.Building.{pulls-past, pulls-none, pulls-error, pulls-section, no-fault}

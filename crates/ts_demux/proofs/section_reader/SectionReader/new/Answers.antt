@@ -1,5 +1,5 @@
 use Rattle.std.proofs.Common.{List, [], refl}
-use Rattle.payload_lists.specs.Payload.{Payload}
+use Rattle.bit_lists.specs.Payload.{Payload}
 use Rattle.ts_demux.proofs.section_reader.SectionReader.new.Goals as goal
 
 pub returns : goal.returns

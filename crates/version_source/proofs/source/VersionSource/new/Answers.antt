@@ -1,5 +1,5 @@
 use Rattle.std.proofs.Common.{List, ap, subst, sym}
-use Rattle.payload_lists.specs.Payload.{Payload}
+use Rattle.bit_lists.specs.Payload.{Payload}
 use Rattle.version_source.specs.Pieces.{HasPiece}
 use Rattle.version_source.specs.Source.{told_of}
 use Rattle.version_source.proofs.SourceLemmas.{new-items, new-sent}

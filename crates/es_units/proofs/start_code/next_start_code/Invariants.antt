@@ -1,6 +1,6 @@
 use Rattle.std.proofs.Common.{◌≡◌, ℕ, false, ◌<◌, ◌≤◌, length, ◌-◌}
-use Rattle.start_codes.specs.StartCodes.{is_start_code_at}
-use Rattle.start_codes.proofs.start_code.next_start_code.Given as goal
+use Rattle.es_units.specs.StartCodes.{is_start_code_at}
+use Rattle.es_units.proofs.start_code.next_start_code.Given as goal
 
 abbrev pub invariant-loop-at : goal.invariant-loop-at
 invariant-loop-at l = record {

@@ -1,5 +1,5 @@
 ghost use Rattle.std.specs.Prelude.{◌≡◌, ℕ, true, false, ◌+◌, ◌<◌, ◌≤◌, length, Some, None, IfSome, MatchOption};
-ghost use Rattle.start_codes.specs.StartCodes.{is_start_code_at, start_code_at, is_sequence_header, is_unit_start};
+ghost use Rattle.es_units.specs.StartCodes.{is_start_code_at, start_code_at, is_sequence_header, is_unit_start};
 ghost use Rattle.stream_constants.specs.SliceCodes.{is_slice};
 
 use stream_constants::start_codes::{

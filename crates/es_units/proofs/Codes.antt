@@ -1,6 +1,6 @@
 -- Kinds of start codes by their values.
 use Rattle.std.proofs.Common.{◌≡◌, ℕ, Bool, true, false, List, Some, None, ◌+◌, ◌∙◌, sym, refl, slice_index}
-use Rattle.start_codes.specs.StartCodes.{is_start_code_at, start_code_at, has_code}
+use Rattle.es_units.specs.StartCodes.{is_start_code_at, start_code_at, has_code}
 
 -- no start code, none of any kind
 pub no_code : (test : ℕ → Bool) (es : List ℕ) (at : ℕ) → is_start_code_at es at ≡ false → has_code test es at ≡ false
