@@ -75,6 +75,7 @@ use Rattle.buffer_windows.specs.Values.{byte_parts, cost, least_cost, least_cost
 use Rattle.buffer_windows.proofs.VersionsFit.{versions_fit}
 use Rattle.buffer_windows.proofs.Weights.{own, unit_charged}
 use Rattle.buffer_windows.proofs.WindowLaw.{windows_hold}
+use Rattle.dual_bounds.proofs.Charges.{fold-from}
 
 -- a unit with the number of its version
 abbrev Chosen : Type 0
@@ -209,13 +210,6 @@ charged-more slot window windows (one ∷ chosen) =
     )
 
 -- ---- the worth of the windows' room, window by window
-fold-from : (a : ℤ) (numbers : List ℤ) → fold ◌+ℤ◌ a numbers ≡ a +ℤ fold ◌+ℤ◌ (pos 0) numbers
-fold-from a [] = omega (arith, ints)
-fold-from a (n ∷ numbers) =
-    let first : fold ◌+ℤ◌ (a +ℤ n) numbers ≡ (a +ℤ n) +ℤ fold ◌+ℤ◌ (pos 0) numbers = fold-from (a +ℤ n) numbers in
-    let second : fold ◌+ℤ◌ (pos 0 +ℤ n) numbers ≡ (pos 0 +ℤ n) +ℤ fold ◌+ℤ◌ (pos 0) numbers = fold-from (pos 0 +ℤ n) numbers in
-    omega (arith, ints)
-
 pub worth-more : (table : Table) (window : BufferWindow) (windows : List BufferWindow) → worth table (window ∷ windows) ≡ pos window.lambda *ℤ room table window +ℤ worth table windows
 unfolding worth
 worth-more table window windows =

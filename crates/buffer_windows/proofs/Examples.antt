@@ -15,12 +15,11 @@ use Rattle.buffer_windows.specs.Charges.{charges}
 use Rattle.buffer_windows.specs.Room.{audio_slots, buffer_bytes, free_slots, longest_before, mb_bytes, room}
 use Rattle.buffer_windows.specs.Values.{least_cost, least_costs, price, value_of_windows, worth}
 use Rattle.buffer_windows.specs.Windows.{IsWindow, is_fresh, is_held, stop, without_buffers}
+use Rattle.dual_bounds.proofs.Examples.{unit, packet}
+use Rattle.slot_rule.proofs.RuleExamples.{rows_in}
 
 abbrev version : (bytes : ℕ) → Version
 version bytes = record { bytes = bytes; distortion = 0 }
-
-abbrev unit : (due : ℕ) → List Version → CodedUnit
-unit due versions = record { due = due; versions = record { items = versions } }
 
 -- a table of one program, whose elementary buffer has 2,048 bytes
 abbrev table_of : (slot : ℕ) → List CodedUnit → List (List AudioPacket) → Table
@@ -28,11 +27,6 @@ table_of slot units audios = record { slot = slot; nodes = 1; evaluations = 0; p
 
 abbrev window_of : (first due programs tail : ℕ) → BufferWindow
 window_of first due programs tail = record { first = first; due = due; programs = programs; tail = tail; lambda = 1 }
-
--- the rows of a run
-abbrev rows_in : Run → List Row
-rows_in (Clean rows) = rows
-rows_in (Missed earlier last found) = earlier
 
 -- ---- slots of 40,000 ticks, of which 0 to 2 and 27 to 29 are reserved
 -- a unit that fills the buffer until slot 30 begins, and one that has slots 30 and 31 alone: of 368 bytes, or of one byte more
@@ -118,9 +112,6 @@ unfolding free_slots audio_slots buffer_bytes room
 without_tail = refl
 
 -- ---- audio
-abbrev packet : (due : ℕ) → AudioPacket
-packet due = record { due = due; gone = due; bytes = 184 }
-
 -- two packets that are gone when slot 30 begins, and others that are wanted when slots up to 31 have ended
 abbrev audio_packets : (others : ℕ) → List AudioPacket
 audio_packets others = packet 1200000 ∷ packet 1200000 ∷ replicate others (packet 1287200)

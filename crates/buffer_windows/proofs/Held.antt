@@ -51,7 +51,7 @@ use Rattle.slot_rule.specs.Queues.{Queue, queues_of}
 use Rattle.slot_rule.specs.Schedule.{FollowRule, IsHead}
 use Rattle.slot_rule.proofs.RuleFronts.{by_push}
 use Rattle.slot_rule.proofs.RuleRows.{IsNext, FollowRule-front, FollowRule-last}
-use Rattle.slot_rule.proofs.RuleSent.{packet_of, packets_sent, payload_after}
+use Rattle.slot_rule.proofs.RuleSent.{packet_of, packets_sent, payload_after, outstanding-sent}
 
 -- ---- later, fewer bytes are still in the buffer
 after_le : (same : Bool) (time later gone payload : ℕ) → time ≤ later → cond (same && ltb later gone) payload 0 ≤ cond (same && ltb time gone) payload 0
@@ -120,19 +120,3 @@ held_fits table choice stream kind packets time got =
     let earlier : length rows * table.slot ≤ time = omega arith in
     one_more table choice stream kind packets time rows row got (FollowRule-last table choice rows row follows) earlier
     (before (FollowRule-front table choice rows (row ∷ []) follows) earlier))
-
--- ---- the same packet by packet
-outstanding_in-is : (stream time : ℕ) (row : Row) → outstanding_in stream time row ≡ sum_by (payload_after time) (packet_of stream row)
-outstanding_in-is stream time (Reserved sent) = refl
-outstanding_in-is stream time Empty = refl
-outstanding_in-is stream time (Carries s packet) =
-    elim (cases_Bool (eqb s stream)) as (λ _. outstanding_in stream time (Carries s packet) ≡ sum_by (payload_after time) (packet_of stream (Carries s packet))) [
-      | inl e ↦ rw e (sym (zero-add (payload_after time packet)))
-      | inr e ↦ rw e refl
-    ]
-
-pub outstanding-sent : (stream time : ℕ) (rows : List Row) → outstanding stream time rows ≡ sum_by (payload_after time) (packets_sent stream rows)
-outstanding-sent stream time [] = refl
-outstanding-sent stream time (row ∷ rows) =
-    sum_by-cons (outstanding_in stream time) row rows ∙ ap₂ ◌+◌ (outstanding_in-is stream time row) (outstanding-sent stream time rows)
-    ∙ sym (sum_by-append (payload_after time) (packet_of stream row) (packets_sent stream rows))

@@ -79,7 +79,7 @@ use Rattle.slot_rule.specs.Buffers.{is_of, outstanding}
 use Rattle.slot_rule.specs.Queues.{Queue, audio_of, queues_of, video_queue}
 use Rattle.slot_rule.specs.Schedule.{AllSent, FollowRule, IsSchedule, NoMiss}
 use Rattle.slot_rule.proofs.RuleRows.{FollowRule-take}
-use Rattle.slot_rule.proofs.RuleSent.{FollowRule-sent, SentFirst, packet_of, packets_sent, payload_after}
+use Rattle.slot_rule.proofs.RuleSent.{FollowRule-sent, SentFirst, packet_of, packets_sent, payload_after, outstanding-sent}
 use Rattle.slot_rule.proofs.RuleUnits.{IsOfUnit}
 use Rattle.slot_rule.proofs.RuleVideo.{HasSizes, packets_from, packets_from-each}
 use Rattle.dual_bounds.specs.declared.constants.TheConstants.{MARGIN_TICKS}
@@ -87,7 +87,7 @@ use Rattle.buffer_windows.specs.declared.windows.BufferWindow.{BufferWindow}
 use Rattle.buffer_windows.specs.Room.{eb_bytes, is_counted, last_due, longest_before, mb_bytes, slots_taken}
 use Rattle.buffer_windows.specs.Windows.{counts_buffer, is_fresh, is_held, latest, stop}
 use Rattle.buffer_windows.proofs.AudioBefore.{bytes_after, front_fits, is_late}
-use Rattle.buffer_windows.proofs.Held.{held_fits, outstanding-sent}
+use Rattle.buffer_windows.proofs.Held.{held_fits}
 use Rattle.buffer_windows.proofs.Rows.{EachFrom, EachFrom-drop, EachFrom-take, Stands, StandsIn, schedule_stands, sum_of_none, sums_le}
 use Rattle.buffer_windows.proofs.Tail.{Gives, bytes_by, payload_by, tail_gives}
 use Rattle.buffer_windows.proofs.Weights.{audio_counted, audio_weight, counted_due, numbered, pick, sum-numbered, take-numbered, video_weight}

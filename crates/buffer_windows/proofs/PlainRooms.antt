@@ -75,7 +75,7 @@ use Rattle.slot_rule.specs.Timetable.{reserved}
 use Rattle.dual_bounds.specs.declared.constants.TheConstants.{MARGIN_TICKS}
 use Rattle.dual_bounds.specs.declared.windows.Window.{Window}
 use Rattle.dual_bounds.specs.Room.{audio_due, is_within, serves, free_slots as free_slots_of_time}
-use Rattle.dual_bounds.proofs.Ranges.{count_below, count_below-more, count_below-within}
+use Rattle.dual_bounds.proofs.Ranges.{count_below, count_below-more, count_below-within, range_more}
 use Rattle.buffer_windows.specs.declared.windows.BufferWindow.{BufferWindow}
 use Rattle.buffer_windows.specs.Room.{audio_slots, buffer_bytes, eb_bytes, fit_before, free_slots, is_counted, last_due, longest_before, mb_bytes, slots_taken}
 use Rattle.buffer_windows.specs.Windows.{counts_buffer, latest, stop, without_buffers}
@@ -207,12 +207,6 @@ pub fresh_from : (slot : ℕ) (window : Window) (time : ℕ) → 0 < slot → 0 
 fresh_from slot window time some later low =
     let before : (div_ceil (window.from - HOLD_TICKS) slot - 1) * slot < window.from - HOLD_TICKS = ceil_below (window.from - HOLD_TICKS) slot some later in
     omega arith
-
-range_more : (a n : ℕ) → range_with_len a (suc n) ≡ range_with_len a n ++ (a + n) ∷ []
-range_more a zero = ap (λ k. k ∷ []) (sym (add-zero a))
-range_more a (suc n) =
-    let place : (a + 1) + n ≡ a + suc n = omega arith in
-    ap (λ (rest : List ℕ). a ∷ rest) (range_more (a + 1) n ∙ ap (λ k. range_with_len (a + 1) n ++ k ∷ []) place)
 
 -- the greatest of the numbers up to n that passes is at least as many as pass
 last_passing : (p : ℕ → Bool) (n : ℕ) → (k : ℕ) × (k ≤ n) × (count_by p (range_with_len 1 n) ≤ k) × (0 < k → p k ≡ true)

@@ -61,6 +61,7 @@ use Rattle.slot_rule.proofs.RuleRows.{IsNext, NoneMisses, FollowRule-front, Foll
 use Rattle.slot_rule.proofs.RuleSent.{packet_of, packet_of-carried, packet_of-other, packets_sent, packets_sent-push}
 use Rattle.dual_bounds.specs.declared.constants.TheConstants.{MARGIN_TICKS}
 use Rattle.buffer_windows.specs.Windows.{stop}
+use Rattle.dual_bounds.proofs.Carried.{NoMiss-front}
 
 -- the payload of a packet that is due by a time
 abbrev pub payload_by : (due : ℕ) → QueuedPacket → ℕ
@@ -217,10 +218,6 @@ one_more table choice stream program vbv due last tail packets before rows (Carr
                 ])
           ])
     ]
-
-NoMiss-front : (slot : ℕ) (queues : List Queue) (rows more : List Row) → NoMiss slot queues (rows ++ more) → NoMiss slot queues rows
-NoMiss-front slot queues rows more none before row after stream packet e =
-    AtEach-front (NoneMisses slot queues) rows more (λ before' row' after' e' stream' packet'. none before' row' after' stream' packet' e') before row after e stream packet
 
 -- the bytes of a program's video from the tail on that are due by a time: none, or as many as MB can give until the last of them is due
 pub tail_gives : (table : Table) (choice : List ℕ) (stream program vbv due last tail : ℕ) (packets : List QueuedPacket) (before : List Row) → 0 < table.slot

@@ -61,12 +61,12 @@ use Rattle.slot_rule.specs.Queues.{Queue, audio_of, payloads, queues_from, queue
 use Rattle.slot_rule.specs.Schedule.{IsSchedule, IsScheduled}
 use Rattle.slot_rule.proofs.RuleQueues.{fits_rest, units_in}
 use Rattle.slot_rule.proofs.RuleRows.{FollowRule-take}
-use Rattle.slot_rule.proofs.RuleSent.{packet_of, packets_sent, payload_after}
+use Rattle.slot_rule.proofs.RuleSent.{packet_of, packets_sent, payload_after, outstanding-sent}
 use Rattle.slot_rule.proofs.RuleUnits.{piece_of}
 use Rattle.slot_rule.proofs.RuleVideo.{packets_from}
 use Rattle.dual_bounds.specs.declared.constants.TheConstants.{MARGIN_TICKS}
 use Rattle.buffer_windows.specs.Charges.{FitsBuffer, OwnedUnit, owned_from, owned_units}
-use Rattle.buffer_windows.proofs.Held.{held_fits, outstanding-sent}
+use Rattle.buffer_windows.proofs.Held.{held_fits}
 use Rattle.buffer_windows.proofs.Parts.{all_sent}
 use Rattle.buffer_windows.proofs.Rows.{EachFrom, EachFrom-drop, EachFrom-take, Stands, StandsIn, schedule_stands, sum_of_none, sums_le}
 use Rattle.buffer_windows.proofs.Weights.{own, sum-payloads}

@@ -25,6 +25,7 @@ use Rattle.version_source.specs.Versions.{chosen_bytes}
 use Rattle.program_table.specs.Table.{row_version, unit_row, unit_rows}
 use Rattle.clean_laws.specs.Arrivals.{header_bytes}
 use Rattle.version_source.proofs.VersionBytes.{HasBytes, HaveBytes}
+use Rattle.program_table.proofs.UnitLimits.{header-spelled}
 
 -- pieces by the item and the place in it
 abbrev pub ItemPieces : Type 0
@@ -53,11 +54,6 @@ zip-append R (x ∷ xs) more [] others first second = absurd first
 zip-append R (x ∷ xs) more (y ∷ ys) others first second = (first.0, zip-append R xs more ys others first.1 second)
 
 -- ---- the header of a PES packet
-
-header-spelled : (pts dts : Option ℕ) → length (spelled pts dts) ≤ 19
-header-spelled None dts = omega arith
-header-spelled (Some pts) None = omega arith
-header-spelled (Some pts) (Some dts) = omega arith
 
 -- its ninth byte says how long it is
 header-told : (pts dts : Option ℕ) (version : List ℕ) → header_length (take 184 (spelled pts dts ++ version)) ≡ length (spelled pts dts)

@@ -25,11 +25,12 @@ use Rattle.job_stream.proofs.LayoutLemmas.{maps-count}
 use Rattle.job_stream.proofs.PieceSizes.{pieces-sized}
 use Rattle.job_stream.proofs.ReadPrograms.{AreReady}
 use Rattle.job_stream.proofs.RowLemmas.{SlotsNameTable, program_rows-count, rows-there}
-use Rattle.job_stream.proofs.StreamSize.{OneListOfVersions, is-layout}
+use Rattle.job_stream.proofs.StreamSize.{is-layout}
 use Rattle.clean_laws.specs.Clean.{IsCleanStream}
 use Rattle.clean_laws.proofs.SectionsBrought.{AreSections}
 use Rattle.clean_laws.proofs.Pids.{no-map, no-pat}
 use Rattle.clean_laws.proofs.Cleanness.{IsMade, audio-clean, sections-clean, video-clean}
+use Rattle.program_table.proofs.Rows.{HaveOneList}
 
 -- a schedule is clean
 abbrev pub SchedulesAreClean : Type 0
@@ -72,7 +73,7 @@ module _ (job : Job) (programs : List Program) (table : Table) (choice : List �
   of-layout = rows-there job programs table choice slots Has of is.made.fits is.ready (λ s i p there. there) is.named
 
   -- the stream's bytes are read as its packets
-  pub stream-read : (one : OneListOfVersions) (stream : List ℕ) → IsStreamIn job programs choice slots stream
+  pub stream-read : (one : HaveOneList) (stream : List ℕ) → IsStreamIn job programs choice slots stream
       → packets stream ≡ map Some (output_packets (layout_of job programs) job.slot (pieces_of (stream_items programs of.versions choice)) slots.rows)
   stream-read one stream in_slots =
       ap packets
@@ -94,7 +95,7 @@ module _ (job : Job) (programs : List Program) (table : Table) (choice : List �
     no_map = no-map job programs table choice of.versions is.made.valid is.ready.out of.rows;
   }
 
-  pub stream-clean : (one : OneListOfVersions) (stream : List ℕ) → IsStreamIn job programs choice slots stream → length stream ≡ 188 * slots.slots → IsCleanStream table choice stream
+  pub stream-clean : (one : HaveOneList) (stream : List ℕ) → IsStreamIn job programs choice slots stream → length stream ≡ 188 * slots.slots → IsCleanStream table choice stream
   stream-clean one stream in_slots size = record {
     stream = output_packets (layout_of job programs) job.slot (pieces_of (stream_items programs of.versions choice)) slots.rows;
     read = stream-read one stream in_slots;

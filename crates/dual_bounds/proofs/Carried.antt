@@ -98,7 +98,7 @@ row_serves table choice valid fits from due rows (Carries stream packet) next no
           serves_there table from due (length rows) packet.gone packet.due next.0 next.1.permitted.hold limited.due within (omega arith))
     ]
 
-NoMiss-front : (slot : ℕ) (queues : List Queue) (rows more : List Row) → NoMiss slot queues (rows ++ more) → NoMiss slot queues rows
+pub NoMiss-front : (slot : ℕ) (queues : List Queue) (rows more : List Row) → NoMiss slot queues (rows ++ more) → NoMiss slot queues rows
 NoMiss-front slot queues rows more none before row after stream packet e =
     AtEach-front (NoneMisses slot queues) rows more (λ before' row' after' e' stream' packet'. none before' row' after' stream' packet' e') before row after e stream packet
 

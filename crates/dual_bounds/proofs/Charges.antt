@@ -126,7 +126,7 @@ charged-more window windows (one ∷ chosen) =
     )
 
 -- ---- the worth of the windows' room, window by window
-fold-from : (a : ℤ) (numbers : List ℤ) → fold ◌+ℤ◌ a numbers ≡ a +ℤ fold ◌+ℤ◌ (pos 0) numbers
+pub fold-from : (a : ℤ) (numbers : List ℤ) → fold ◌+ℤ◌ a numbers ≡ a +ℤ fold ◌+ℤ◌ (pos 0) numbers
 fold-from a [] = omega (arith, ints)
 fold-from a (n ∷ numbers) =
     let first : fold ◌+ℤ◌ (a +ℤ n) numbers ≡ (a +ℤ n) +ℤ fold ◌+ℤ◌ (pos 0) numbers = fold-from (a +ℤ n) numbers in

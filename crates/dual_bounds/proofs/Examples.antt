@@ -14,7 +14,7 @@ use Rattle.dual_bounds.specs.Bounds.{bound_of_value}
 abbrev pub version : (bytes distortion : ℕ) → Version
 version bytes distortion = record { bytes = bytes; distortion = distortion }
 
-abbrev unit : (due : ℕ) → List Version → CodedUnit
+abbrev pub unit : (due : ℕ) → List Version → CodedUnit
 unit due versions = record { due = due; versions = record { items = versions } }
 
 abbrev table_of : (slot : ℕ) → List ProgramRow → Table
@@ -137,7 +137,7 @@ unfolding price least_cost
 equal_value = refl
 
 -- ---- audio: two of three packets are due by 27,200, and one before 27,000
-abbrev packet : (due : ℕ) → AudioPacket
+abbrev pub packet : (due : ℕ) → AudioPacket
 packet due = record { due = due; gone = due; bytes = 184 }
 
 abbrev with_audio : Table

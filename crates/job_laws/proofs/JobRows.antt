@@ -18,17 +18,14 @@ kinds-kept pid [] kinds = All-nil HasKind
 kinds-kept pid (stream ∷ streams) kinds =
     All-cons HasKind (record stream { pid = pid }) (with_pids_from (pid + 1) streams) (All-head HasKind stream streams kinds) (kinds-kept (pid + 1) streams (All-tail HasKind stream streams kinds))
 
-abbrev HaveKinds : Program → Type 0
-HaveKinds program = All (λ (stream : Stream). stream.kind < 2 ^ 8) program.map.streams.items
-
-maps-in-range : (first : ℕ) (jobs : List ProgramJob) (programs : List Program) → All IsValidProgramJob jobs → All HaveKinds programs → All IsMapInRange (output_maps first jobs programs)
+maps-in-range : (first : ℕ) (jobs : List ProgramJob) (programs : List Program) → All IsValidProgramJob jobs → All HasKinds programs → All IsMapInRange (output_maps first jobs programs)
 maps-in-range first [] programs valid kinds = All-nil IsMapInRange
 maps-in-range first (job ∷ jobs) [] valid kinds = All-nil IsMapInRange
 maps-in-range first (job ∷ jobs) (program ∷ programs) valid kinds =
     let number : job.number ≤ 65535 = (All-head IsValidProgramJob job jobs valid).number in
     All-cons IsMapInRange (with_output_pids first job.number program.map) (output_maps (first + 1) jobs programs)
-    (record { number = omega (arith, number); kinds = kinds-kept (video_pid first) program.map.streams.items (All-head HaveKinds program programs kinds) })
-    (maps-in-range (first + 1) jobs programs (All-tail IsValidProgramJob job jobs valid) (All-tail HaveKinds program programs kinds))
+    (record { number = omega (arith, number); kinds = kinds-kept (video_pid first) program.map.streams.items (All-head HasKinds program programs kinds) })
+    (maps-in-range (first + 1) jobs programs (All-tail IsValidProgramJob job jobs valid) (All-tail HasKinds program programs kinds))
 
 pub in-range : (job : Job) (programs : List Program) → IsValidJob job → All (λ (program : Program). All (λ (stream : Stream). stream.kind < 2 ^ 8) program.map.streams.items) programs
     → HaveNumbersInRange (layout_of job programs)
@@ -36,3 +33,4 @@ in-range job programs valid kinds = record {
   stream_id = omega (arith, valid.stream_id);
   maps = maps-in-range 0 job.programs programs valid.programs kinds;
 }
+use Rattle.job_stream.proofs.LayoutRows.{HasKinds}

@@ -24,7 +24,8 @@ use Rattle.job_stream.proofs.Maps.{carried-kinds}
 use Rattle.job_stream.proofs.PieceSizes.{pieces-sized}
 use Rattle.job_stream.proofs.ReadPrograms.{AreReady}
 use Rattle.job_stream.proofs.RowLemmas.{SlotsNameTable, rows-there}
-use Rattle.job_stream.proofs.StreamSize.{OneListOfVersions, is-layout}
+use Rattle.job_stream.proofs.StreamSize.{is-layout}
+use Rattle.program_table.proofs.Rows.{HaveOneList}
 
 pub layout-is-one : (job : Job) (programs : List Program) → length job.programs ≤ 8 → AreReady job.programs programs
     → IsLayout (layout_of job programs) × (length (layout_of job programs).maps.items ≤ 8)
@@ -33,7 +34,7 @@ layout-is-one job programs few ready =
 
 -- ---- stream types
 
-abbrev HasKinds : Program → Type 0
+abbrev pub HasKinds : Program → Type 0
 HasKinds program = All (λ (stream : Stream). stream.kind < 2 ^ 8) program.map.streams.items
 
 kinds-of : (file : List ℕ) (number : ℕ) (dropped : List ℕ) (start : ℕ) (program : Program) → IsProgramOfFile file number dropped start program → HasKinds program
@@ -57,7 +58,7 @@ kinds-are job contents programs are = next-kinds job.slot job.start [] [] job.pr
 
 -- ---- slots
 
-pub slots-are : OneListOfVersions → (job : Job) (programs : List Program) (table : Table) (choice : List ℕ) (slots : SlotList) (versions : List (List (List UnitVersion)))
+pub slots-are : HaveOneList → (job : Job) (programs : List Program) (table : Table) (choice : List ℕ) (slots : SlotList) (versions : List (List (List UnitVersion)))
     → AreReady job.programs programs → IsTableOf job programs table → Fits table choice → SlotsNameTable table choice slots → AreAllVersions programs (ratios_of job.programs) versions
     → All (IsOfLayout (layout_of job programs) (IsPayload (pieces_of (stream_items programs versions choice)))) slots.rows
 slots-are one job programs table choice slots versions ready of fits named are =

@@ -10,13 +10,13 @@ use Rattle.version_source.specs.Pieces.{pieces_of, stream_items}
 use Rattle.version_source.specs.Versions.{ratios_of}
 use Rattle.mux_writer.specs.Output.{output_stream}
 use Rattle.job_stream.specs.Stream.{IsStreamIn, IsStreamOf, layout_of}
-use Rattle.job_stream.proofs.StreamSize.{OneListOfVersions}
+use Rattle.program_table.proofs.Rows.{HaveOneList}
 
 -- a table has one list of slots under a choice
 abbrev pub OneSlotList : Type 0
 OneSlotList = (table : Table) (choice : List ℕ) (a b : SlotList) → IsSlotList table choice a → IsSlotList table choice b → a ≡ b
 
-in-slots : OneListOfVersions → (job : Job) (programs : List Program) (choice : List ℕ) (slots : SlotList) (a b : List ℕ)
+in-slots : HaveOneList → (job : Job) (programs : List Program) (choice : List ℕ) (slots : SlotList) (a b : List ℕ)
     → IsStreamIn job programs choice slots a → IsStreamIn job programs choice slots b → a ≡ b
 in-slots one job programs choice slots a b first second =
     first.stream_is
@@ -24,7 +24,7 @@ in-slots one job programs choice slots a b first second =
     (one programs (ratios_of job.programs) first.versions second.versions first.are_versions second.are_versions)
     ∙ sym second.stream_is
 
-pub one-stream : OneListOfVersions → OneSlotList → (job : Job) (programs : List Program) (table : Table) (choice a b : List ℕ) → IsStreamOf job programs table choice a
+pub one-stream : HaveOneList → OneSlotList → (job : Job) (programs : List Program) (table : Table) (choice a b : List ℕ) → IsStreamOf job programs table choice a
     → IsStreamOf job programs table choice b → a ≡ b
 one-stream one lists job programs table choice a b first second =
     in-slots one job programs choice second.slots a b

@@ -35,6 +35,7 @@ use Rattle.job_stream.proofs.LayoutLemmas.{maps-count}
 use Rattle.job_stream.proofs.PieceSizes.{pieces-sized}
 use Rattle.job_stream.proofs.ReadPrograms.{AreReady}
 use Rattle.job_stream.proofs.RowLemmas.{SlotsNameTable, one-row-each, rows-there}
+use Rattle.program_table.proofs.Rows.{HaveOneList}
 
 -- ---- the layout
 
@@ -89,12 +90,8 @@ bytes-of (p ∷ ps) sized =
 
 -- ---- the stream
 
--- versions of programs are the only ones
-abbrev pub OneListOfVersions : Type 0
-OneListOfVersions = (programs : List Program) (ratios : List (List ℕ)) (a b : List (List (List UnitVersion))) → AreAllVersions programs ratios a → AreAllVersions programs ratios b → a ≡ b
-
 -- the stream of a job has the bytes of a packet for each slot
-pub stream-size : OneListOfVersions → (job : Job) (programs : List Program) (table : Table) (choice : List ℕ) (slots : SlotList) (stream : List ℕ) → length job.programs ≤ 8
+pub stream-size : HaveOneList → (job : Job) (programs : List Program) (table : Table) (choice : List ℕ) (slots : SlotList) (stream : List ℕ) → length job.programs ≤ 8
     → AreReady job.programs programs → IsTableOf job programs table → Fits table choice → SlotsNameTable table choice slots → IsSlotList table choice slots
     → IsStreamIn job programs choice slots stream → length stream ≡ 188 * slots.slots
 stream-size one job programs table choice slots stream few ready of fits named are is =

@@ -25,7 +25,7 @@ counters-begin layout = record {
   at = λ pid within. get_or-replicate {A = ℕ} PIDS pid 0 0 within;
 }
 
-eqb-same : (a b : ℕ) → a ≡ b → eqb a b ≡ true
+pub eqb-same : (a b : ℕ) → a ≡ b → eqb a b ≡ true
 eqb-same a b same = grind (arith, same)
 
 -- a count behind one more packet with payload

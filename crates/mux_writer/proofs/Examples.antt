@@ -37,13 +37,13 @@ null_packet = refl
 
 -- ---- two programs, the second with one audio stream: what stands in some slots, and the heads of their packets
 
-abbrev stream_of : (kind pid : ℕ) → Stream
+abbrev pub stream_of : (kind pid : ℕ) → Stream
 stream_of kind pid = record { kind = kind; pid = pid; descriptors = record { items = [] } }
 
-abbrev map_of : (number pcr_pid : ℕ) → List Stream → ProgramMap
+abbrev pub map_of : (number pcr_pid : ℕ) → List Stream → ProgramMap
 map_of number pcr_pid streams = record { number = number; pcr_pid = pcr_pid; streams = record { items = streams }; dropped = 0 }
 
-abbrev layout : Layout
+abbrev pub layout : Layout
 layout = record {
   stream_id = 1;
   maps = record { items = map_of 2 0x101 (stream_of 2 0x101 ∷ []) ∷ map_of 1 0x111 (stream_of 2 0x111 ∷ stream_of 3 0x112 ∷ []) ∷ [] };

@@ -11,9 +11,6 @@ use Rattle.mux_writer.specs.Tables.{pat_payload, pat_section, pmt_section}
 abbrev stream_of : (kind pid : ℕ) → (descriptors : List ℕ) → Stream
 stream_of kind pid descriptors = record { kind = kind; pid = pid; descriptors = record { items = descriptors } }
 
-abbrev map_of : (number pcr_pid : ℕ) → List Stream → ProgramMap
-map_of number pcr_pid streams = record { number = number; pcr_pid = pcr_pid; streams = record { items = streams }; dropped = 0 }
-
 -- ---- the PAT of eight programs, whose numbers fall
 
 abbrev video_alone : ℕ → ProgramMap
@@ -25,6 +22,7 @@ eight = record {
   maps = record { items = map video_alone (80 ∷ 70 ∷ 60 ∷ 50 ∷ 40 ∷ 30 ∷ 20 ∷ 10 ∷ []) };
   bases = record { items = replicate 8 0 };
 }
+use Rattle.mux_writer.proofs.Examples.{map_of}
 
 abbrev eight_pat : List ℕ
 eight_pat =

@@ -27,6 +27,7 @@ use Rattle.mux_writer.specs.Pieces.{HasPayloadSize, Pieces}
 use Rattle.mux_writer.specs.Tables.{pat_payload, pat_section, pmt_payloads, pmt_section, programs_from, with_crc}
 use Rattle.mux_writer.proofs.Pids.{layout-counted, map-of, no_map}
 use Rattle.mux_writer.proofs.Sections.{length-programs_from}
+use Rattle.mux_writer.proofs.Counting.{eqb-same}
 
 -- ---- payloads of sections
 
@@ -35,7 +36,7 @@ payload-size section fits =
     let rest : length (replicate {A = ℕ} (183 - length section) 0xFF) ≡ 183 - length section = length-replicate (183 - length section) 0xFF in
     omega (arith, fits, rest, length-append section (replicate (183 - length section) 0xFF))
 
-crc-size : (front : List ℕ) → length (with_crc front) ≡ length front + 4
+pub crc-size : (front : List ℕ) → length (with_crc front) ≡ length front + 4
 crc-size front = length-append front (to_be_bytes w32 (crc_over front))
 
 pat-size : (layout : Layout) → length layout.maps.items ≤ 8 → length (pat_payload layout) ≡ 184
@@ -62,9 +63,6 @@ pmts-size layout is =
 
 -- ---- packets
 
-same-eqb : (a b : ℕ) → a ≡ b → eqb a b ≡ true
-same-eqb a b same = grind (arith, same)
-
 abbrev stuffed_record : (pid counter : ℕ) → Payload → PacketRecord
 stuffed_record pid counter payload = record { pid = pid; start = payload.start; counter = counter; field = Some stuffing_field; payload = payload.bytes }
 
@@ -77,7 +75,7 @@ piece-writable pid counter payload low small size =
       | inl full ↦
           let none : piece_record pid counter payload ≡ full_record pid payload.start counter payload.bytes =
           ap (λ (b : Bool). record { pid = pid; start = payload.start; counter = counter; field = cond b None (Some stuffing_field); payload = payload.bytes })
-          (same-eqb (length payload.bytes) 184 full) in
+          (eqb-same (length payload.bytes) 184 full) in
           subst IsWritable (sym none) (full-writable pid payload.start counter payload.bytes low small full)
       | inr less ↦
           let some : piece_record pid counter payload ≡ stuffed_record pid counter payload =

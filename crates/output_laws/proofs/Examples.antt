@@ -8,19 +8,7 @@ use Rattle.mux_writer.specs.declared.layout.Layout.{Layout}
 use Rattle.mux_writer.specs.Layout.{stream_pids}
 use Rattle.mux_writer.specs.Pieces.{Pieces}
 use Rattle.output_laws.specs.SentOn.{payloads_sent_on, slots_between}
-
-abbrev stream_of : (kind pid : ℕ) → Stream
-stream_of kind pid = record { kind = kind; pid = pid; descriptors = record { items = [] } }
-
-abbrev map_of : (number pcr_pid : ℕ) → List Stream → ProgramMap
-map_of number pcr_pid streams = record { number = number; pcr_pid = pcr_pid; streams = record { items = streams }; dropped = 0 }
-
-abbrev layout : Layout
-layout = record {
-  stream_id = 1;
-  maps = record { items = map_of 2 0x101 (stream_of 2 0x101 ∷ []) ∷ map_of 1 0x111 (stream_of 2 0x111 ∷ stream_of 3 0x112 ∷ []) ∷ [] };
-  bases = record { items = 0 ∷ 300 ∷ [] };
-}
+use Rattle.mux_writer.proofs.Examples.{stream_of, map_of, layout}
 
 -- a payload names its stream, item and piece, and begins a PES packet where the piece is 0
 abbrev pieces : Pieces

@@ -57,6 +57,7 @@ use Rattle.mux_writer.specs.Output.{IsOfLayout, payload_count}
 use Rattle.mux_writer.specs.Pieces.{IsPayload, Pieces}
 use Rattle.mux_writer.specs.Tables.{pat_payload, pmt_payloads, pmt_section}
 use Rattle.output_laws.specs.SentOn.{AreRowsOf, is_sent_on, payload_sent, payloads_sent_on}
+use Rattle.mux_writer.proofs.Pids.{no_map}
 
 -- ---- PIDs of streams
 
@@ -67,9 +68,6 @@ record IsStreamPid (pid : ℕ) : Type 0 where
   pub is : pid ≡ 257 + 16 * program + place
   pub programs : program < 8
   pub places : place < 9
-
-no_map : ProgramMap
-no_map = record { number = 0; pcr_pid = 0; streams = record { items = [] }; dropped = 0 }
 
 pids-in-map : (program : ℕ) (program_map : ProgramMap) → program < 8 → IsOutputMap program program_map → All IsStreamPid (pids_of program_map)
 pids-in-map program program_map low is =

@@ -58,6 +58,7 @@ use Rattle.mux_writer.specs.Pieces.{HasPayloadSize, IsPayload, Pieces}
 use Rattle.mux_writer.specs.Tables.{pmt_payloads, pmt_section}
 use Rattle.layer_laws.specs.Counted.{AreCounted, RiseByOne}
 use Rattle.output_laws.specs.SentOn.{is_sent_on, payload_sent, payloads_sent_on, slots_between}
+use Rattle.mux_writer.proofs.Pids.{no_map}
 
 -- ---- one packet
 
@@ -85,9 +86,6 @@ piece-sent layout pieces count pid payload sent size same some is = record {
   counter = λ has other. refl;
   continuous = piece-continuous pid (count % 16) payload;
 }
-
-no_map : ProgramMap
-no_map = record { number = 0; pcr_pid = 0; streams = record { items = [] }; dropped = 0 }
 
 pmt-some : (layout : Layout) (program : ℕ) → program < length layout.maps.items → nat_lt 0 (length (slice_index_or (pmt_payloads layout) program [])) ≡ true
 pmt-some layout program within =

@@ -24,14 +24,12 @@ use Rattle.mux_writer.specs.Tables.{pat_section, pmt_section, programs_from, wit
 use Rattle.mux_writer.proofs.Sections.{length-programs_from, programs-pids}
 use Rattle.layer_laws.proofs.Sections.{found_whole}
 use Rattle.output_laws.specs.Fields.{HaveNumbersInRange, IsMapInRange}
+use Rattle.mux_writer.proofs.Written.{crc-size}
 
 -- ---- any section with its CRC
 
 crc_behind : (front : List ℕ) → IsWithCrc front (with_crc front)
 crc_behind front = record { crc = crc_over front; crc_is = crc_over-is front; joined = refl }
-
-crc-size : (front : List ℕ) → length (with_crc front) ≡ length front + 4
-crc-size front = length-append front (to_be_bytes w32 (crc_over front))
 
 pat_is_read : (section : List ℕ) → table_id section ≡ 0 → is_read section ≡ true
 pat_is_read section is = ap (λ (first : Bool). first || (table_id section == 2)) (eq-eqb (table_id section) 0 is)

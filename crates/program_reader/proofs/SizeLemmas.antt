@@ -50,6 +50,7 @@ use Rattle.ts_demux.specs.Demux.{units_in, pes_packets_on}
 use Rattle.ts_packets.specs.Carried.{PlacedPacket, placed, has_payload, payload_packets, is_repeat, not_repeated, without_repeats, carried_by, carried}
 use Rattle.ts_packets.specs.Packet.{PacketRecord, packet_of, transport_refusal, fields_of, has_field, adaptation_field_length}
 use Rattle.ts_packets.specs.TransportStream.{Piece, piece_at, piece_count, is_of_pid, pid_pieces}
+use Rattle.ts_demux.specs.Tables.{piece as piece_of}
 
 -- ---- PES packets of payloads
 
@@ -156,10 +157,6 @@ filter_count test (k ∷ ks) = by_test (test k) (filter_count test ks)
     by_test : (some : Bool) → length (filter test ks) ≤ length ks → length (cond some (k ∷ filter test ks) (filter test ks)) ≤ suc (length ks)
     by_test true rest = omega (arith, rest)
     by_test false rest = omega (arith, rest)
-
--- the n-th piece of a file
-abbrev piece_of : List ℕ → ℕ → Piece
-piece_of file n = record { at = PACKET_BYTES * n; bytes = piece_at file n }
 
 map_count : (file : List ℕ) (ks : List ℕ) → length (map (piece_of file) ks) ≡ length ks
 map_count file [] = refl

@@ -54,7 +54,7 @@ pub rows-of-sizes : (weight : ℕ) (unit : UnitSource) (versions : List UnitVers
 rows-of-sizes weight unit [] = refl
 rows-of-sizes weight unit (v ∷ vs) = ap (λ (rows : List Version). row_version weight unit v ∷ rows) (rows-of-sizes weight unit vs)
 
-abbrev unit_with : ℕ → List Version → CodedUnit
+abbrev pub unit_with : ℕ → List Version → CodedUnit
 unit_with due items = record { due = due; versions = record { items = items } }
 
 -- versions of these sizes with a header before each are those of the unit

@@ -59,10 +59,7 @@ use Rattle.version_source.specs.Versions.{AreVideoVersions}
 use Rattle.version_source.proofs.StateLemmas.{state-left}
 use Rattle.program_table.specs.Table.{IsRowOf, audio_row, unit_rows}
 use Rattle.program_table.specs.Private.Rows.{AreBounded, AreUnitRows, CanBeSaid, IsBounded, sized_row, sized_rows, with_header}
-use Rattle.program_table.proofs.Rows.{rows-of-sizes}
-
-abbrev pub unit_with : ℕ → List Version → CodedUnit
-unit_with due items = record { due = due; versions = record { items = items } }
+use Rattle.program_table.proofs.Rows.{rows-of-sizes, unit_with}
 
 abbrev pub row_with : ℕ → List CodedUnit → List (List AudioPacket) → ProgramRow
 row_with vbv units audios = record { vbv = vbv; units = units; audios = audios }

@@ -119,7 +119,7 @@ rows-few weight (u ∷ us) (v ∷ vs) = let rest : length (unit_rows weight us v
 
 -- ---- versions
 
-header-spelled : (pts dts : Option ℕ) → length (spelled pts dts) ≤ 19
+pub header-spelled : (pts dts : Option ℕ) → length (spelled pts dts) ≤ 19
 header-spelled None dts = omega arith
 header-spelled (Some pts) None = omega arith
 header-spelled (Some pts) (Some dts) = omega arith

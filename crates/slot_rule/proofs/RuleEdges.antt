@@ -11,6 +11,7 @@ use Rattle.slot_rule.specs.Schedule.{IsSchedule}
 use Rattle.slot_rule.specs.SlotList.{slots_of}
 use Rattle.slot_rule.proofs.RuleRun.{Run, Clean, Missed, clean_rows, first_rows, nothing_left, IsSchedule-from_run}
 use Rattle.slot_rule.proofs.RuleSchedules.{slots_of-same}
+use Rattle.slot_rule.proofs.RuleExamples.{rows_in}
 
 -- a table of one program
 abbrev table_of : (slot : ℕ) → ProgramRow → Table
@@ -22,10 +23,6 @@ unit_of due bytes = record { due = due; versions = record { items = record { byt
 
 abbrev units_alone : (vbv : ℕ) → List CodedUnit → ProgramRow
 units_alone vbv units = record { vbv = vbv; units = units; audios = [] }
-
-abbrev rows_in : Run → List Row
-rows_in (Clean rows) = rows
-rows_in (Missed earlier last found) = earlier
 
 -- the slots of a queue in a schedule are those in the rows of the first slots, where these are clean and all is sent in them
 from_run : (table : Table) (choice : List ℕ) (count stream : ℕ) (slots : List ℕ)

@@ -36,7 +36,7 @@ three_packets due =
     record { vbv = 112; units = []; audios = (packet ∷ packet ∷ packet ∷ []) ∷ [] }
 
 -- the rows of a run
-abbrev rows_in : Run → List Row
+abbrev pub rows_in : Run → List Row
 rows_in (Clean rows) = rows
 rows_in (Missed earlier last found) = earlier
 

@@ -171,7 +171,7 @@ outstanding_in-is stream time (Carries s packet) =
       | inr e ↦ rw e refl
     ]
 
-outstanding-sent : (stream time : ℕ) (rows : List Row) → outstanding stream time rows ≡ sum_by (payload_after time) (packets_sent stream rows)
+pub outstanding-sent : (stream time : ℕ) (rows : List Row) → outstanding stream time rows ≡ sum_by (payload_after time) (packets_sent stream rows)
 outstanding-sent stream time [] = refl
 outstanding-sent stream time (row ∷ rows) =
     sum_by-cons (outstanding_in stream time) row rows ∙ ap₂ ◌+◌ (outstanding_in-is stream time row) (outstanding-sent stream time rows)

@@ -39,6 +39,7 @@ use Rattle.tstd_bridge.proofs.AudioB.{HasParts, has_parts-none, has_parts-one}
 use Rattle.tstd_bridge.proofs.AudioTimes.{all_sent}
 use Rattle.tstd_bridge.proofs.KeptBytes.{kept-append, length-kept_data, parts-push, spaced-from}
 use Rattle.tstd_bridge.proofs.ZipLaws.{AllZip-append, zip_within, zip_within-then, zip-get}
+use Rattle.tstd_bridge.proofs.VideoGone.{data_gone}
 
 -- when the data of the packets comes
 abbrev data_comes_of : (slot : ℕ) → List Arrival → List ℕ
@@ -47,19 +48,16 @@ data_comes_of slot arrivals = kept is_data (parts arrivals) (arrives slot arriva
 abbrev data_comes : (slot stream program vbv : ℕ) → Headers → List Row → List ℕ
 data_comes slot stream program vbv headers rows = data_comes_of slot (arrivals_from 0 stream (Video program vbv) headers rows)
 
-abbrev data_gones : (stream program vbv : ℕ) → Headers → List Row → List ℕ
-data_gones stream program vbv headers rows = gone_of_each (Video program vbv) headers (packets_sent stream rows)
-
-data_gones-push : (stream program vbv : ℕ) (headers : Headers) (rows : List Row) (row : Row)
-    → data_gones stream program vbv headers (rows ++ row ∷ []) ≡ data_gones stream program vbv headers rows ++ gone_of_each (Video program vbv) headers (packet_of stream row)
-data_gones-push stream program vbv headers rows row =
+data_gone-push : (stream program vbv : ℕ) (headers : Headers) (rows : List Row) (row : Row)
+    → data_gone stream program vbv headers (rows ++ row ∷ []) ≡ data_gone stream program vbv headers rows ++ gone_of_each (Video program vbv) headers (packet_of stream row)
+data_gone-push stream program vbv headers rows row =
     ap (λ packets. gone_of_each (Video program vbv) headers packets) (packets_sent-push stream rows row)
     ∙ flat_map-append (λ (packet : QueuedPacket). replicate (packet.payload - headers packet) (SUBTICKS_PER_TICK * packet.gone)) (packets_sent stream rows) (packet_of stream row)
 
 -- each byte of data is gone before it was held too long
 record IsShort (slot stream program vbv : ℕ) (headers : Headers) (rows : List Row) : Type 0 where
   pub has : HasParts slot stream (Video program vbv) headers rows
-  pub short : AllZip (λ come gone. gone ≤ come + hold_subticks) (data_comes slot stream program vbv headers rows) (data_gones stream program vbv headers rows)
+  pub short : AllZip (λ come gone. gone ≤ come + hold_subticks) (data_comes slot stream program vbv headers rows) (data_gone stream program vbv headers rows)
 
 short-nil : (slot stream program vbv : ℕ) (headers : Headers) → IsShort slot stream program vbv headers []
 unfolding arrivals_from parts arrives kept
@@ -69,9 +67,9 @@ short-none : (slot stream program vbv : ℕ) (headers : Headers) (rows : List Ro
     → IsShort slot stream program vbv headers rows → IsShort slot stream program vbv headers (rows ++ row ∷ [])
 short-none slot stream program vbv headers rows row none no_packet before =
     let kind : QueueKind = Video program vbv in
-    let same_gone : data_gones stream program vbv headers (rows ++ row ∷ []) ≡ data_gones stream program vbv headers rows =
-    data_gones-push stream program vbv headers rows row ∙ ap (λ packets. data_gones stream program vbv headers rows ++ gone_of_each (Video program vbv) headers packets) no_packet
-    ∙ append-nil (data_gones stream program vbv headers rows) in
+    let same_gone : data_gone stream program vbv headers (rows ++ row ∷ []) ≡ data_gone stream program vbv headers rows =
+    data_gone-push stream program vbv headers rows row ∙ ap (λ packets. data_gone stream program vbv headers rows ++ gone_of_each (Video program vbv) headers packets) no_packet
+    ∙ append-nil (data_gone stream program vbv headers rows) in
     let same : data_comes slot stream program vbv headers (rows ++ row ∷ []) ≡ data_comes slot stream program vbv headers rows =
     ap (λ arrivals. data_comes_of slot arrivals) (arrivals_from-none stream (Video program vbv) headers rows row none) in
     record {
@@ -90,8 +88,8 @@ short-one slot stream program vbv headers rows row count gone one own_gone count
     let arrival = arrival_of stream (length rows) headers row in
     let come = spaced start (byte_subticks slot) PACKET_BYTES in
     let own = kept is_data (parts_of arrival) come in
-    let same_gone : data_gones stream program vbv headers (rows ++ row ∷ []) ≡ data_gones stream program vbv headers rows ++ replicate count gone =
-    data_gones-push stream program vbv headers rows row ∙ ap (λ more. data_gones stream program vbv headers rows ++ more) own_gone in
+    let same_gone : data_gone stream program vbv headers (rows ++ row ∷ []) ≡ data_gone stream program vbv headers rows ++ replicate count gone =
+    data_gone-push stream program vbv headers rows row ∙ ap (λ more. data_gone stream program vbv headers rows ++ more) own_gone in
     let same : data_comes slot stream program vbv headers (rows ++ row ∷ []) ≡ data_comes slot stream program vbv headers rows ++ own =
     rw (arrivals_from-one stream (Video program vbv) headers rows row one, parts-push arrivals arrival, arrives-push slot arrivals arrival)
     (kept-append is_data (parts arrivals) (parts_of arrival) (arrives slot arrivals) come before.has) in
@@ -102,7 +100,7 @@ short-one slot stream program vbv headers rows row count gone one own_gone count
       has = has_parts-one slot stream (Video program vbv) headers rows row one fits before.has;
       short = rw (same, same_gone)
           (AllZip-append (λ come gone. gone ≤ come + hold_subticks) (data_comes slot stream program vbv headers rows)
-          (data_gones stream program vbv headers rows) own (replicate count gone) before.short short);
+          (data_gone stream program vbv headers rows) own (replicate count gone) before.short short);
     }
 
 short-carried : (table : Table) (choice : List ℕ) (stream s program vbv : ℕ) (packets : List QueuedPacket) (headers : Headers) (rows : List Row)

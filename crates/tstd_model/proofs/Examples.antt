@@ -58,10 +58,10 @@ abbrev packets_each : (payload step first count : ℕ) → List Arrival
 packets_each payload step first zero = []
 packets_each payload step first (suc count) = record { slot_no = first; header = 0; payload = payload } ∷ packets_each payload step (first + step) count
 
-abbrev packet : (slot_no header payload : ℕ) → List Arrival
+abbrev pub packet : (slot_no header payload : ℕ) → List Arrival
 packet slot_no header payload = record { slot_no = slot_no; header = header; payload = payload } ∷ []
 
-abbrev removal : (due bytes : ℕ) → List Removal
+abbrev pub removal : (due bytes : ℕ) → List Removal
 removal due bytes = record { due = due; bytes = bytes } ∷ []
 
 packets_each-rise : (payload step first count least : ℕ) → least ≤ first → 1 ≤ step → Rising least (map (λ a. a.slot_no) (packets_each payload step first count))
@@ -75,7 +75,7 @@ then-rise payload step first (suc count) least slot_no header payload' le apart 
     (le, then-rise payload step (first + step) count (first + 1) slot_no header payload' (omega arith) apart (omega arith))
 
 -- what the walks find decides the first fault
-abbrev Decided : (slot : ℕ) → BufferKind → List Arrival → List Removal → Option TstdFault → Type 0
+abbrev pub Decided : (slot : ℕ) → BufferKind → List Arrival → List Removal → Option TstdFault → Type 0
 Decided slot kind arrivals removals fault =
     IsEarliest (late_found slot kind arrivals removals) (excess_found slot kind arrivals removals) (old_found slot kind arrivals removals) fault
 

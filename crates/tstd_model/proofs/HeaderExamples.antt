@@ -8,26 +8,17 @@ use Rattle.tstd_model.specs.Private.Scans.{first_over, first_late, is_held, firs
 use Rattle.tstd_model.specs.Private.Walks.{IsEarliest, late_found, excess_found, old_found}
 use Rattle.tstd_model.proofs.RisingLaws.{Rising}
 use Rattle.tstd_model.proofs.FaultLaws.{first_fault-rises}
+use Rattle.tstd_model.proofs.Examples.{packet, removal, Decided}
 
 -- packets of PES header bytes alone, in each third of so many slots
 abbrev headers_each : (first count : ℕ) → List Arrival
 headers_each first zero = []
 headers_each first (suc count) = record { slot_no = first; header = 184; payload = 184 } ∷ headers_each (first + 3) count
 
-abbrev packet : (slot_no header payload : ℕ) → List Arrival
-packet slot_no header payload = record { slot_no = slot_no; header = header; payload = payload } ∷ []
-
-abbrev removal : (due bytes : ℕ) → List Removal
-removal due bytes = record { due = due; bytes = bytes } ∷ []
-
 headers-rise : (first count least last bytes : ℕ) → least ≤ first → first + 3 * count ≤ last
     → Rising least (map (λ a. a.slot_no) (headers_each first count ++ packet last bytes bytes))
 headers-rise first zero least last bytes le after = (omega arith, tt)
 headers-rise first (suc count) least last bytes le after = (le, headers-rise (first + 3) count (first + 1) last bytes (omega arith) (omega arith))
-
-abbrev Decided : (slot : ℕ) → BufferKind → List Arrival → List Removal → Option TstdFault → Type 0
-Decided slot kind arrivals removals fault =
-    IsEarliest (late_found slot kind arrivals removals) (excess_found slot kind arrivals removals) (old_found slot kind arrivals removals) fault
 
 -- ---- headers that wait in MB for data: 54 * 184 bytes and 64 more fill an MB of 239,376 less 112 * 2,048 bytes
 mb_full : IsFirstOrNone 1080 (Video 112) (headers_each 0 54 ++ packet 162 64 64) [] None

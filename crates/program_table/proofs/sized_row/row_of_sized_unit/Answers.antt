@@ -2,8 +2,8 @@ use Rattle.std.proofs.Common.{ℕ, List, length, map, ap, ◌∙◌}
 use Rattle.pes_units.specs.VideoHeader.{written_pes_header}
 use Rattle.version_maker.specs.declared.version.VersionSize.{VersionSize}
 use Rattle.program_table.specs.Private.Rows.{with_header}
-use Rattle.program_table.proofs.SizedRows.{unit_with}
 use Rattle.program_table.proofs.sized_row.row_of_sized_unit.Goals as goal
+use Rattle.program_table.proofs.Rows.{unit_with}
 
 pub returns : goal.returns
 returns c =

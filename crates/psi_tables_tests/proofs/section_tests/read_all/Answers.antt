@@ -7,9 +7,7 @@ use Rattle.psi_tables.specs.Sections.{sections_of}
 use Rattle.psi_tables.specs.SectionBuilder.{found_of}
 use Rattle.psi_tables.proofs.Turns.{turn-all}
 use Rattle.psi_tables_tests.proofs.section_tests.read_all.Goals as goal
-
-abbrev fed_as : Bool × Bor (List ℕ) → Payload
-fed_as fed = record { start = fed.0; bytes = fed.1.now }
+use Rattle.psi_tables_tests.proofs.section_tests.read_all.Invariants.{fed_as}
 
 pub returns : goal.returns
 returns c =

@@ -5,7 +5,7 @@ use Rattle.psi_tables.specs.Sections.{sections_of, GivesInTurn}
 use Rattle.psi_tables.specs.SectionBuilder.{found_of}
 use Rattle.psi_tables_tests.proofs.section_tests.read_all.Given as goal
 
-abbrev fed_as : Bool × Bor (List ℕ) → Payload
+abbrev pub fed_as : Bool × Bor (List ℕ) → Payload
 fed_as fed = record { start = fed.0; bytes = fed.1.now }
 
 abbrev pub invariant-loop-fed : goal.invariant-loop-fed
