@@ -4,8 +4,7 @@ use Rattle.std.proofs.lemmas.List.{append-nil}
 use Rattle.std.proofs.lemmas.List.Elements.{All-nil, All-cons, All-head, All-tail}
 use Rattle.std.proofs.lemmas.List.Sums.{sum_by-append, sum_by-cons, sum_by_push}
 use Rattle.job_report.specs.declared.job.ProgramJob.{ProgramJob}
-use Rattle.version_table.specs.declared.limits.TheConstants.{UNITS_MOST}
-use Rattle.program_reader.specs.declared.limits.TheConstants.{FILE_BYTES_MOST}
+use Rattle.program_reader.specs.declared.limits.TheConstants.{FILE_BYTES_MOST, UNITS_MOST}
 use Rattle.program_reader.specs.declared.program.Program.{Program}
 use Rattle.program_reader.specs.declared.program_fault.SourceKind.{SourceKind}
 use Rattle.job_programs.specs.Programs.{AreNextPrograms, IsNextProgram, IsNextRefused, IsWithinTime, bytes_of_files, units_of_programs}

@@ -4,8 +4,7 @@ use Rattle.std.specs.List.{sum_by}
 use Rattle.std.proofs.lemmas.List.Elements.{All-head, All-tail}
 use Rattle.std.proofs.lemmas.List.Sums.{sum_by-append, sum_by-cons}
 use Rattle.job_report.specs.declared.job.ProgramJob.{ProgramJob}
-use Rattle.version_table.specs.declared.limits.TheConstants.{UNITS_MOST}
-use Rattle.program_reader.specs.declared.limits.TheConstants.{FILE_BYTES_MOST}
+use Rattle.program_reader.specs.declared.limits.TheConstants.{FILE_BYTES_MOST, UNITS_MOST}
 use Rattle.program_reader.specs.declared.program.Program.{Program}
 use Rattle.program_reader.specs.declared.program_fault.ProgramFault.{ProgramFault}
 use Rattle.program_reader.specs.declared.program_fault.ProgramFault.TheVariants.{Refused, OutOfMemory}

@@ -9,8 +9,7 @@ use Rattle.shelf_io.specs.Files.{Files}
 use Rattle.shelf_io.proofs.Counted.{rose_later}
 use Rattle.job_report.specs.declared.job.Job.{Job}
 use Rattle.job_report.specs.declared.job.ProgramJob.{ProgramJob}
-use Rattle.version_table.specs.declared.limits.TheConstants.{UNITS_MOST}
-use Rattle.program_reader.specs.declared.limits.TheConstants.{FILE_BYTES_MOST}
+use Rattle.program_reader.specs.declared.limits.TheConstants.{FILE_BYTES_MOST, UNITS_MOST}
 use Rattle.program_reader.specs.declared.program.Program.{Program}
 use Rattle.program_reader.specs.declared.program_fault.SourceKind.{SourceKind}
 use Rattle.program_reader.specs.Programs.{IsProgramOfFile}

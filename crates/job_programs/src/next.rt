@@ -13,13 +13,13 @@ ghost use Rattle.job_programs.specs.Private.Next.{IsContentFault, IsNextOn, HasN
 use crate::source_fault::{ProgramsFault, SourceFault};
 use crate::times::is_within_time;
 use list_types::ListOf;
-use program_reader::limits::FILE_BYTES_MOST;
+use program_reader::limits::{FILE_BYTES_MOST, UNITS_MOST};
 use program_reader::{
     Program, ProgramFault, SizedProgram, SourceKind, UnitSizes, read_program, read_sized_program,
 };
 use shelf_io::{Fault, Shelf, read_file};
 use std::alloc::Global;
-use version_table::limits::{UNITS_MOST, VERSIONS_MOST};
+use version_table::limits::VERSIONS_MOST;
 
 /// A program that is wanted, and what stands before it in its job.
 #[derive(Clone, Copy)]

@@ -11,7 +11,7 @@ ghost use Rattle.program_reader.specs.Private.Sources.{IsVideoRead, with_video};
 use crate::audio_sources::audio_sources;
 use crate::audio_stream::ReadStream;
 use crate::due::due_units;
-use crate::limits::PACKETS_MOST;
+use crate::limits::{PACKETS_MOST, UNITS_MOST};
 use crate::program::Program;
 use crate::video_stream::ReadVideo;
 use list_types::{ListOf, OutOfMemory};
@@ -19,7 +19,6 @@ use psi_tables::ProgramMap;
 use std::alloc::Global;
 use stream_constants::limits::AUDIOS_MOST;
 use ts_demux::AudioStream;
-use version_table::limits::UNITS_MOST;
 
 /// What is taken out of a file beside the PES packets of the video.
 #[derive(Drop)]

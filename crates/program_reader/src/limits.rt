@@ -1,9 +1,20 @@
 //! What a program's file may be, beside the limits of tables.
 
 use stream_constants::packets::{PACKET_BYTES, PAYLOAD_BYTES};
+use version_table::limits;
 
 /// Bytes of a file, at most: 512 megabytes.
 pub const FILE_BYTES_MOST: usize = 536_870_912;
+/// Units of all programs of a job, at most: fewer than a table may have, so that their distortions may be any.
+pub const UNITS_MOST: usize = 32_768;
+
+const _: () = prove!(UNITS_MOST <= limits::UNITS_OF_ANY_DISTORTION);
+
+/// Due and gone times of a job are at most this many slots: fewer than those of a table may be.
+pub const TIME_SLOTS_MOST: u64 = 4_194_304;
+
+const _: () = prove!(TIME_SLOTS_MOST <= limits::TIME_SLOTS_MOST);
+
 /// Bytes of a unit, at most: a megabyte, as many as a unit that has versions may have.
 pub const UNIT_BYTES_MOST: u64 = 1_048_576;
 

@@ -7,7 +7,7 @@ ghost use Rattle.program_reader.specs.Sizes.{AreProgramSizes};
 
 use crate::audio_stream::read_streams;
 use crate::due_program::{BesideVideo, due_program};
-use crate::limits::{FILE_BYTES_MOST, PACKETS_MOST};
+use crate::limits::{FILE_BYTES_MOST, PACKETS_MOST, UNITS_MOST};
 use crate::program::Program;
 use crate::program_fault::{ProgramFault, SourceKind, demux_refused};
 use crate::stream_sizes::stream_sizes;
@@ -18,7 +18,7 @@ use list_types::ListOf;
 use std::alloc::Global;
 use stream_constants::limits::AUDIOS_MOST;
 use ts_demux::{Demuxed, demux};
-use version_table::limits::{UNITS_MOST, VERSIONS_MOST};
+use version_table::limits::VERSIONS_MOST;
 
 /// What is said of a limit that is passed.
 const PROGRAM_LIMIT: ProgramFault = ProgramFault::Refused {

@@ -118,7 +118,6 @@ pub record IsValidStream (slot : ℕ) (stream : Queue) : Type 0 where
   pub each : All (IsLimited slot) stream.packets
   pub dues : IsNonDecreasingBy (λ packet. packet.due) stream.packets
   pub gones : IsNonDecreasingBy (λ packet. packet.gone) stream.packets
-  pub few : length stream.packets < 2 ^ 32
 
 -- a choice that fits has a version with bytes for each unit
 pub HasSizes-from_fits : (slot : ℕ) (units others : List CodedUnit) (choice : List ℕ) → All (IsValidUnit slot) units
@@ -152,7 +151,6 @@ IsValidStream-video slot program row choice valid sizes few =
           });
       dues = packets_from-dues 0 row.units choice sizes rises;
       gones = packets_from-gones 0 row.units choice sizes rises;
-      few = omega (arith, length-packets_from 0 row.units choice sizes);
     }
 
 abbrev pub audio_packet : ℕ × AudioPacket → QueuedPacket
@@ -203,7 +201,6 @@ IsValidStream-audio slot packets valid few = record {
       }));
   dues = audio_rises packets (λ packet. packet.due) (λ packet. packet.due) (λ n packet. refl) valid.dues;
   gones = audio_rises packets (λ packet. packet.gone) (λ packet. packet.gone) (λ n packet. refl) valid.gones;
-  few = omega (arith, length-audio_of packets);
 }
 
 audios_valid : (slot : ℕ) (audios : List (List AudioPacket)) → All (IsValidAudio slot) audios → length (packets_of audios) < AUDIO_PACKETS_LIMIT

@@ -1,18 +1,19 @@
 -- Choices, unit by unit.
-use Rattle.std.proofs.Common.{◌≡◌, ℕ, ◌+◌, ◌-◌, ◌*◌, ◌^◌, ◌<◌, ◌≤◌, List, [], ◌∷◌, ◌++◌, length, take, drop, get_or, sum, map, All, refl, sym, ap, subst, ◌∙◌, append_assoc, arith, inl, inr}
+use Rattle.std.proofs.Common.{◌≡◌, ℕ, ◌+◌, ◌-◌, ◌^◌, ◌<◌, ◌≤◌, List, [], ◌∷◌, ◌++◌, length, take, drop, get_or, sum, sum_by, map, All, refl, sym, ap, subst, ◌∙◌, append_assoc, arith, inl, inr}
 use Rattle.std.specs.List.{AllZip, flat_map}
 use Rattle.std.proofs.lemmas.List.{drop_more, drop_all, take_more, take_all, append-nil}
 use Rattle.std.proofs.lemmas.List.Concat.{flat_map-append}
 use Rattle.std.proofs.lemmas.List.Elements.{All-head, All-tail}
 use Rattle.std.proofs.lemmas.Bool.{cases_eq}
 use Rattle.std.proofs.lemmas.List.Sums.{sum_by-cons}
-use Rattle.version_table.specs.declared.limits.TheConstants.{DISTORTION_LIMIT, VERSIONS_MOST}
+use Rattle.version_table.specs.declared.limits.TheConstants.{VERSIONS_MOST}
 use Rattle.version_table.specs.declared.table.Unit.{Unit as CodedUnit}
 use Rattle.version_table.specs.declared.table.ProgramRow.{ProgramRow}
 use Rattle.version_table.specs.declared.table.Table.{Table}
-use Rattle.version_table.specs.Table.{IsValidTable, IsValidUnit, units_of}
+use Rattle.version_table.specs.Table.{IsValidTable, greatest_distortion, units_of}
 use Rattle.version_table.specs.Private.Choices.{AppendsEach, HasFewVersions}
 use Rattle.version_table.specs.Choice.{HasVersion, Fits, IsSmallestVersion, IsSmallestChoice, version_at, chosen_distortions, distortion_of_choice, level_version, level_choice}
+use Rattle.version_table.proofs.Greatest.{version-le-greatest}
 use Rattle.version_table.proofs.ValidUnits.{valid_units, few_versions}
 
 -- the numbers for some units, and those for others after them, from the numbers for all
@@ -78,20 +79,23 @@ parts_at R programs i program choice lt is fits first n front back first-is long
     let parts = in_parts R program.units others choice (subst (λ (whole : List CodedUnit). AllZip R whole choice) e fits) in
     rw (e, first-is, front-is, back-is, long) parts
 
--- each version's distortion is below the limit, so the sum is too, so many times
-chosen_small : (slot : ℕ) (units : List CodedUnit) (choice : List ℕ) → All (IsValidUnit slot) units → AllZip HasVersion units choice
-    → sum (chosen_distortions units choice) ≤ length units * (DISTORTION_LIMIT - 1)
-chosen_small slot [] choice valid fits = omega arith
-chosen_small slot (unit ∷ units) [] valid fits = absurd fits
-chosen_small slot (unit ∷ units) (k ∷ choice) valid fits =
-    let rest = chosen_small slot units choice (All-tail (IsValidUnit slot) unit units valid) fits.1 in
-    let here = (All-head (IsValidUnit slot) unit units valid).versions k (record { bytes = 0; distortion = 0 }) fits.0 in
-    omega (arith, rest, here.distortion, sum_by-cons (λ x. x) (version_at unit k).distortion (chosen_distortions units choice))
+-- a choice costs at most what the units do
+pub chosen-le-greatest : (units : List CodedUnit) (choice : List ℕ) → AllZip HasVersion units choice → sum (chosen_distortions units choice) ≤ sum_by greatest_distortion units
+chosen-le-greatest [] [] fits = omega arith
+chosen-le-greatest [] (k ∷ choice) fits = absurd fits
+chosen-le-greatest (unit ∷ units) [] fits = absurd fits
+chosen-le-greatest (unit ∷ units) (k ∷ choice) fits =
+    omega (
+      arith,
+      version-le-greatest unit k fits.0,
+      chosen-le-greatest units choice fits.1,
+      sum_by-cons greatest_distortion unit units,
+      sum_by-cons (λ x. x) (version_at unit k).distortion (chosen_distortions units choice),
+    )
 
--- the distortion of a choice is a number of 64 bits
-pub distortion_fits : (table : Table) (choice : List ℕ) → IsValidTable table → Fits table choice → distortion_of_choice table choice < 2 ^ 64
-distortion_fits table choice valid fits =
-    omega (arith, chosen_small table.slot (units_of table) choice (valid_units table valid) fits, valid.units)
+-- the distortion of a choice is a number of 63 bits
+pub distortion_fits : (table : Table) (choice : List ℕ) → IsValidTable table → Fits table choice → distortion_of_choice table choice < 2 ^ 63
+distortion_fits table choice valid fits = omega (arith, chosen-le-greatest (units_of table) choice fits, valid.distortions)
 
 pub AllZip-append : (R : CodedUnit → ℕ → Type 0) (first others : List CodedUnit) (front back : List ℕ) → AllZip R first front → AllZip R others back → AllZip R (first ++ others) (front ++ back)
 AllZip-append R [] others [] back f b = b

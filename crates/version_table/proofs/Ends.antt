@@ -12,7 +12,7 @@ use Rattle.version_table.specs.declared.line.Stage.TheVariants as stages
 use Rattle.version_table.specs.Lines.{text_of_line}
 use Rattle.version_table.specs.Order.{LineMayStand, IsOpening, IsForm}
 use Rattle.version_table.specs.Limits.{KeepLimits}
-use Rattle.version_table.specs.Text.{text_of_lines, IsTableSyntaxRefusal, TextReading, Holds, RefusedAt, RefusedFor, IsTableRead}
+use Rattle.version_table.specs.Text.{table_spelling, text_of_lines, IsTableSyntaxRefusal, TextReading, Holds, RefusedAt, RefusedFor, IsTableRead}
 use Rattle.version_table.specs.Private.Reading.{line_at}
 use Rattle.version_table.specs.Private.Draft.{stage_after, Allows, is_whole}
 use Rattle.version_table.proofs.Openings.{stage_of, stage_of_push, opening_walk, opening_push, no_lines_open, no_lines_kept, Stuck}
@@ -134,8 +134,9 @@ form_reading text lines short parts form =
     elim (kept_or_broken [] lines no_lines_kept) [
       | inl kept ↦
           let same = form_table lines form in
-          let valid = kept_table (table_of lines) (subst IsForm (sym same) form) (subst KeepLimits (sym same) kept) in
-          (Holds (table_of lines), (short, valid, parts ∙ ap text_of_lines (sym same)))
+          let spelled : text ≡ table_spelling (table_of lines) = parts ∙ ap text_of_lines (sym same) in
+          let valid = kept_table (table_of lines) (subst (λ (t : List ℕ). length t ≤ TABLE_TEXT_MOST) spelled short) (subst IsForm (sym same) form) (subst KeepLimits (sym same) kept) in
+          (Holds (table_of lines), (short, valid, spelled))
       | inr broken ↦ (RefusedFor broken.0, inr (short, record { lines = lines; spelled = parts; form = form; first = broken.1 }))
     ]
 

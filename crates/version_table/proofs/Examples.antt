@@ -1,7 +1,8 @@
 -- Worked examples, computed from the definitions.
-use Rattle.std.proofs.Common.{◌≡◌, [], ◌∷◌, Some, None, codes, refl}
+use Rattle.std.proofs.Common.{◌≡◌, List, [], ◌∷◌, Some, None, codes, refl}
 use Rattle.std.specs.Fmt.{digits}
 use Rattle.version_table.specs.declared.fault.Limit.TheVariants as limits
+use Rattle.version_table.specs.declared.line.Line.{Line}
 use Rattle.version_table.specs.declared.line.Line.TheVariants.{Title, Slot, Nodes, Evaluations, Program, Unit as UnitLine, Audio, Packet}
 use Rattle.version_table.specs.declared.table.Table.{Table}
 use Rattle.version_table.specs.Lines.{text_of_line}
@@ -50,3 +51,31 @@ equal_dues : first_limit (Title ∷ Slot 4000 ∷ Nodes 1 ∷ Evaluations 0 ∷ 
     (UnitLine 10 (record { items = record { bytes = 1; distortion = 0 } ∷ [] })) ≡ Some limits.Due
 unfolding tests_of
 equal_dues = refl
+
+-- the greatest distortion of a unit counts, whichever of its versions has it: with those of the units before it, it stays below 2^63
+behind_large : List Line
+behind_large =
+    Title ∷ Slot 4000 ∷ Nodes 1 ∷ Evaluations 0 ∷ Program 112
+    ∷ UnitLine 10 (record { items = record { bytes = 9; distortion = 0 } ∷ record { bytes = 5; distortion = 9223372036854775798 } ∷ record { bytes = 4; distortion = 7 } ∷ [] }) ∷ []
+
+most_distortions : first_limit behind_large (UnitLine 11 (record { items = record { bytes = 2; distortion = 9 } ∷ record { bytes = 1; distortion = 1 } ∷ [] })) ≡ None
+unfolding tests_of behind_large
+most_distortions = refl
+
+distortions_too_many : first_limit behind_large (UnitLine 11 (record { items = record { bytes = 2; distortion = 1 } ∷ record { bytes = 1; distortion = 10 } ∷ [] })) ≡ Some limits.Distortions
+unfolding tests_of behind_large
+distortions_too_many = refl
+
+-- the limits of the unit's versions come first
+distortion_before_distortions : first_limit behind_large (UnitLine 11 (record { items = record { bytes = 1; distortion = 281474976710656 } ∷ [] })) ≡ Some limits.Distortion
+unfolding tests_of behind_large
+distortion_before_distortions = refl
+
+-- a due time is at most 2,147,483,648 slots
+latest_due : first_limit (Title ∷ Slot 4000 ∷ Nodes 1 ∷ Evaluations 0 ∷ Program 112 ∷ []) (UnitLine 8589934592000 (record { items = record { bytes = 1; distortion = 0 } ∷ [] })) ≡ None
+unfolding tests_of
+latest_due = refl
+
+later_due : first_limit (Title ∷ Slot 4000 ∷ Nodes 1 ∷ Evaluations 0 ∷ Program 112 ∷ []) (UnitLine 8589934592001 (record { items = record { bytes = 1; distortion = 0 } ∷ [] })) ≡ Some limits.Due
+unfolding tests_of
+later_due = refl

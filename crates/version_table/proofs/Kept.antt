@@ -1,5 +1,5 @@
 -- What a line that breaks no limit keeps, as facts on its numbers.
-use Rattle.std.proofs.Common.{◌≡◌, ℕ, ◌<◌, ◌≤◌, Bool, true, false, ◌&&◌, nat_lt, nat_le, List, [], ◌∷◌, count_by, All, None, refl}
+use Rattle.std.proofs.Common.{◌≡◌, ℕ, ◌+◌, ◌<◌, ◌≤◌, Bool, true, false, ◌&&◌, nat_lt, nat_le, List, [], ◌∷◌, count_by, sum_by, map, All, None, refl, sym, ◌∙◌}
 use Rattle.std.specs.List.{flat_map}
 use Rattle.std.proofs.lemmas.Bool.{and_parts, and_from, leb-true, le-leb, ltb-true, lt-ltb}
 use Rattle.std.proofs.lemmas.List.Elements.{All-nil, All-cons, All-head, All-tail}
@@ -13,6 +13,7 @@ use Rattle.version_table.specs.declared.limits.TheConstants.{
   UNITS_MOST,
   VERSION_BYTES_MOST,
   DISTORTION_LIMIT,
+  DISTORTIONS_LIMIT,
   TEXT_AUDIO_PACKETS_MOST,
 }
 use Rattle.stream_constants.specs.declared.packets.TheConstants.{PAYLOAD_BYTES}
@@ -27,6 +28,7 @@ use Rattle.version_table.specs.Limits.{
   Test,
   test,
   version_tests,
+  versions_tests,
   tests_of,
   first_failing,
   first_limit,
@@ -35,11 +37,14 @@ use Rattle.version_table.specs.Limits.{
   is_packet,
   is_in_range,
   audios_here,
+  greatest_stated,
   time_most,
   is_due_later,
   packet_due,
   packet_gone,
 }
+use Rattle.version_table.specs.Table.{greatest}
+use Rattle.version_table.proofs.Greatest.{failing_behind, none_failing}
 
 -- a version within the limits
 pub record KeepsVersion (version : StatedVersion) : Type 0 where
@@ -57,6 +62,7 @@ pub record KeepsUnit (before : List Line) (due : ℕ) (versions : List StatedVer
   pub time : due ≤ time_most before
   pub rising : is_due_later (last_line before) due ≡ true
   pub each : All KeepsVersion versions
+  pub distortions : sum_by greatest_stated before + greatest (map (λ version. version.distortion) versions) < DISTORTIONS_LIMIT
 
 pub record KeepsPacket (before : List Line) (due gone bytes : ℕ) : Type 0 where
   pub packets : count_by is_packet before < TEXT_AUDIO_PACKETS_MOST
@@ -113,12 +119,23 @@ keeps_from before (Program vbv) h =
     let (some, most) = within 1 VBV_MOST vbv (first_kept limits.Vbv (is_in_range 1 VBV_MOST vbv) [] more).0 in
     record { programs = ltb-true (count_by is_program before) PROGRAMS_MOST programs; some = some; vbv_most = most }
 keeps_from before (UnitLine due versions) h =
-    let others = flat_map version_tests versions.items in
+    let own = flat_map version_tests versions.items in
+    let sum = sum_by greatest_stated before + greatest (map (λ (version : StatedVersion). version.distortion) versions.items) in
+    let last = test limits.Distortions (nat_lt sum DISTORTIONS_LIMIT) ∷ [] in
+    let others = versions_tests before versions.items in
     let due_test = nat_le due (time_most before) && is_due_later (last_line before) due in
     let (units, more) = first_kept limits.Units (nat_lt (count_by is_unit before) UNITS_MOST) (test limits.Due due_test ∷ others) h in
     let (due_kept, rest) = first_kept limits.Due due_test others more in
     let (time, rising) = and_parts (nat_le due (time_most before)) (is_due_later (last_line before) due) due_kept in
-    record { units = ltb-true (count_by is_unit before) UNITS_MOST units; time = leb-true due (time_most before) time; rising = rising; each = versions_kept versions.items rest }
+    let each = none_failing own last rest in
+    let behind = first_kept limits.Distortions (nat_lt sum DISTORTIONS_LIMIT) [] (sym (failing_behind own last each) ∙ rest) in
+    record {
+      units = ltb-true (count_by is_unit before) UNITS_MOST units;
+      time = leb-true due (time_most before) time;
+      rising = rising;
+      each = versions_kept versions.items each;
+      distortions = ltb-true sum DISTORTIONS_LIMIT behind.0;
+    }
 keeps_from before Audio h = ltb-true (audios_here before) AUDIOS_MOST (first_kept limits.Audios (nat_lt (audios_here before) AUDIOS_MOST) [] h).0
 keeps_from before (Packet due gone bytes) h =
     let due_test = is_in_range (packet_due (last_line before)) (time_most before) due in
@@ -161,8 +178,10 @@ keeps_to before (Nodes n) h = rw (is_within-true 1 NODES_MOST n h.0 h.1) refl
 keeps_to before (Evaluations n) h = rw (le-leb n EVALUATIONS_MOST h) refl
 keeps_to before (Program vbv) h = rw (lt-ltb (count_by is_program before) PROGRAMS_MOST h.programs, is_within-true 1 VBV_MOST vbv h.some h.vbv_most) refl
 keeps_to before (UnitLine due versions) h =
+    let sum = sum_by greatest_stated before + greatest (map (λ (version : StatedVersion). version.distortion) versions.items) in
+    let last = test limits.Distortions (nat_lt sum DISTORTIONS_LIMIT) ∷ [] in
     rw (lt-ltb (count_by is_unit before) UNITS_MOST h.units, and_from (nat_le due (time_most before)) (is_due_later (last_line before) due) (le-leb due (time_most before) h.time) h.rising)
-    (versions_pass versions.items h.each)
+    (failing_behind (flat_map version_tests versions.items) last (versions_pass versions.items h.each) ∙ rw (lt-ltb sum DISTORTIONS_LIMIT h.distortions) refl)
 keeps_to before Audio h = rw (lt-ltb (audios_here before) AUDIOS_MOST h) refl
 keeps_to before (Packet due gone bytes) h =
     rw (

@@ -1,17 +1,18 @@
 -- The least distortions, and that no choice costs less.
-use Rattle.std.proofs.Common.{◌≡◌, ℕ, suc, zero, ◌+◌, ◌-◌, ◌^◌, ◌<◌, ◌≤◌, List, [], ◌∷◌, length, get_or, fold, min, map, sum, sum_by, ap, ◌∙◌, arith}
+use Rattle.std.proofs.Common.{◌≡◌, ℕ, suc, zero, ◌+◌, ◌^◌, ◌<◌, ◌≤◌, List, [], ◌∷◌, length, get_or, fold, min, map, sum, sum_by, All, ap, ◌∙◌, arith}
 use Rattle.std.specs.List.{AllZip}
 use Rattle.std.proofs.lemmas.List.{get_or-map, length-map}
-use Rattle.std.proofs.lemmas.List.Elements.{All-weaker}
-use Rattle.std.proofs.lemmas.List.Sums.{sum_by-cons, sum_by-append, sum_by-le, sum-map}
-use Rattle.version_table.specs.declared.limits.TheConstants.{DISTORTION_LIMIT}
+use Rattle.std.proofs.lemmas.List.Elements.{All-head, All-tail}
+use Rattle.std.proofs.lemmas.List.Sums.{sum_by-cons, sum_by-append, sum-map}
 use Rattle.version_table.specs.declared.table.Version.{Version}
 use Rattle.version_table.specs.declared.table.Unit.{Unit as CodedUnit}
 use Rattle.version_table.specs.declared.table.ProgramRow.{ProgramRow}
 use Rattle.version_table.specs.declared.table.Table.{Table}
-use Rattle.version_table.specs.Table.{IsValidTable, IsValidUnit, units_of}
+use Rattle.version_table.specs.Table.{IsValidTable, greatest_distortion, units_of}
 use Rattle.version_table.specs.Choice.{HasVersion, Fits, version_at, chosen_distortions, distortion_of_choice, least, least_distortion, least_distortions}
-use Rattle.version_table.proofs.ValidUnits.{valid_units}
+use Rattle.version_table.specs.Private.Choices.{HasFewVersions}
+use Rattle.version_table.proofs.Greatest.{version-le-greatest}
+use Rattle.version_table.proofs.ValidUnits.{few_versions, valid_units}
 use Rattle.version_table.proofs.Chosen.{units_from, units_from_more}
 
 fold-min-le-start : (a : ℕ) (numbers : List ℕ) → fold min a numbers ≤ a
@@ -55,17 +56,26 @@ least-le-chosen (unit ∷ units) (k ∷ choice) fits =
 pub least_distortions-le : (table : Table) (choice : List ℕ) → Fits table choice → least_distortions table ≤ distortion_of_choice table choice
 least_distortions-le table choice fits = least-le-chosen (units_of table) choice fits
 
-small_least : (slot : ℕ) (unit : CodedUnit) → IsValidUnit slot unit → least_distortion unit ≤ DISTORTION_LIMIT - 1
-small_least slot unit valid =
-    let first = valid.versions 0 (record { bytes = 0; distortion = 0 }) (omega (arith, valid.some_version)) in
-    omega (arith, first.distortion, least_distortion-le unit 0 (omega (arith, valid.some_version)))
+-- the least distortions together are at most the greatest together
+least-le-greatest : (units : List CodedUnit) → All HasFewVersions units → sum_by least_distortion units ≤ sum_by greatest_distortion units
+least-le-greatest [] some = omega arith
+least-le-greatest (unit ∷ units) some =
+    let here = (All-head HasFewVersions unit units some).0 in
+    omega (
+      arith,
+      least_distortion-le unit 0 here,
+      version-le-greatest unit 0 here,
+      least-le-greatest units (All-tail HasFewVersions unit units some),
+      sum_by-cons least_distortion unit units,
+      sum_by-cons greatest_distortion unit units,
+    )
 
--- the least distortions together are a number of 64 bits
-pub least_distortions_fit : (table : Table) → IsValidTable table → least_distortions table < 2 ^ 64
+-- the least distortions together are a number of 63 bits
+pub least_distortions_fit : (table : Table) → IsValidTable table → least_distortions table < 2 ^ 63
 least_distortions_fit table valid =
     let units = units_of table in
-    let each = All-weaker (IsValidUnit table.slot) (λ unit. least_distortion unit ≤ DISTORTION_LIMIT - 1) (small_least table.slot) units (valid_units table valid) in
-    omega (arith, sum-map least_distortion units, sum_by-le least_distortion (DISTORTION_LIMIT - 1) units each, valid.units)
+    let few = few_versions table.slot units (valid_units table valid) in
+    omega (arith, sum-map least_distortion units, least-le-greatest units few, valid.distortions)
 
 -- one program's share of what is still to come
 pub least-units_from_more : (programs : List ProgramRow) (i : ℕ) (program : ProgramRow) → i < length programs → program ≡ get_or programs i program

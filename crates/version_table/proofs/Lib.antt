@@ -5,6 +5,7 @@ pub mod DraftLines
 pub mod Drafts
 pub mod Ends
 mod Examples
+pub mod Greatest
 pub mod Kept
 pub mod Least
 pub mod LineReading

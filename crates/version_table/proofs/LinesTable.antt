@@ -1,21 +1,23 @@
 -- A table whose lines stand in order and keep all limits is one that a text may hold.
-use Rattle.std.proofs.Common.{◌≡◌, ℕ, ◌+◌, ◌<◌, ◌≤◌, true, List, [], ◌∷◌, ◌++◌, length, map, count_by, All, Option, Some, refl, sym, ap, ◌∙◌, arith}
+use Rattle.std.proofs.Common.{◌≡◌, ℕ, ◌+◌, ◌<◌, ◌≤◌, true, List, [], ◌∷◌, ◌++◌, length, map, count_by, sum_by, All, Option, Some, refl, sym, ap, ◌∙◌, arith}
 use Rattle.std.specs.List.{flat_map}
 use Rattle.std.proofs.lemmas.Bool.{ltb-true}
 use Rattle.std.proofs.lemmas.List.{length-append, length-map}
+use Rattle.std.proofs.lemmas.List.Sums.{sum_by-cons, sum_by-append, sum_by_push}
 use Rattle.std.proofs.lemmas.List.Elements.{All-nil, All-cons, All-head, All-tail, All-weaker}
-use Rattle.version_table.specs.declared.limits.TheConstants.{PROGRAMS_MOST, AUDIOS_MOST, UNITS_MOST, TEXT_AUDIO_PACKETS_MOST}
+use Rattle.version_table.specs.declared.limits.TheConstants.{PROGRAMS_MOST, AUDIOS_MOST, UNITS_MOST, DISTORTIONS_LIMIT, TABLE_TEXT_MOST, TEXT_AUDIO_PACKETS_MOST}
 use Rattle.version_table.specs.declared.line.Line.{Line}
 use Rattle.version_table.specs.declared.line.Line.TheVariants.{Nodes, Evaluations, Program, Audio}
 use Rattle.version_table.specs.declared.table.Unit.{Unit as CodedUnit}
 use Rattle.version_table.specs.declared.table.AudioPacket.{AudioPacket}
 use Rattle.version_table.specs.declared.table.ProgramRow.{ProgramRow}
 use Rattle.version_table.specs.declared.table.Table.{Table}
-use Rattle.version_table.specs.Table.{IsValidVersion, IsValidUnit, IsValidPacket, IsValidAudio, IsValidProgram}
+use Rattle.version_table.specs.Table.{greatest_distortion, IsValidVersion, IsValidUnit, IsValidPacket, IsValidAudio, IsValidProgram}
 use Rattle.version_table.specs.Lines.{stated, line_of_unit, line_of_packet, lines_of_audio, lines_of_program, lines_of_table}
 use Rattle.version_table.specs.Order.{last_line, HasSyntax, IsForm}
-use Rattle.version_table.specs.Limits.{is_program, is_unit, begins_audio, is_packet, audios_here, is_due_later, packet_due, packet_gone, KeepLimits}
-use Rattle.version_table.specs.Text.{IsTextTable}
+use Rattle.version_table.specs.Limits.{is_program, is_unit, begins_audio, is_packet, audios_here, is_due_later, packet_due, packet_gone, greatest_stated, KeepLimits}
+use Rattle.version_table.specs.Text.{IsTextTable, table_spelling}
+use Rattle.version_table.proofs.Greatest.{greatest_of_unit}
 use Rattle.version_table.proofs.Kept.{KeepsVersion, keeps_from}
 use Rattle.version_table.proofs.Counts.{last_line_push, count-append, count_push, count_none, audios_here-append, audios_here_push}
 use Rattle.version_table.proofs.Openings.{Walk, walk_from, walk_parts}
@@ -33,6 +35,7 @@ record UnitsKept (slot : ℕ) (before : List Line) (units : List CodedUnit) : Ty
   first : RisesTo (last_line before) units
   rising : Adjacent ◌<◌ (map (λ unit. unit.due) units)
   few : count_by is_unit before + length units ≤ UNITS_MOST
+  room : sum_by greatest_stated before + sum_by greatest_distortion units < DISTORTIONS_LIMIT
 
 one_unit_kept : (slot : ℕ) (more : List Line) (unit : CodedUnit) → Good (behind slot more) (line_of_unit unit) → IsValidUnit slot unit
 unfolding HasSyntax
@@ -50,20 +53,23 @@ one_unit_kept slot more unit good =
     }
 
 units_kept : (slot : ℕ) (more : List Line) (units : List CodedUnit) → Walk Good (behind slot more) (map line_of_unit units)
-    → count_by is_unit (behind slot more) ≤ UNITS_MOST → UnitsKept slot (behind slot more) units
-units_kept slot more [] walk few = record { each = All-nil (IsValidUnit slot); first = tt; rising = tt; few = omega arith }
-units_kept slot more (unit ∷ units) walk few =
+    → count_by is_unit (behind slot more) ≤ UNITS_MOST → sum_by greatest_stated (behind slot more) < DISTORTIONS_LIMIT → UnitsKept slot (behind slot more) units
+units_kept slot more [] walk few room = record { each = All-nil (IsValidUnit slot); first = tt; rising = tt; few = omega arith; room = omega (arith, room) }
+units_kept slot more (unit ∷ units) walk few room =
     let before = behind slot more in
     let line = line_of_unit unit in
     let here = one_unit_kept slot more unit walk.0 in
     let count = count_push is_unit before line in
     let keeps = walk.0.1 in
-    let rest = units_kept slot (more ++ line ∷ []) units walk.1 (omega (arith, keeps.units)) in
+    let own = greatest_of_unit unit in
+    let more_sum = sum_by_push greatest_stated before line in
+    let rest = units_kept slot (more ++ line ∷ []) units walk.1 (omega (arith, keeps.units)) (omega (arith, more_sum, keeps.distortions)) in
     record {
       each = All-cons (IsValidUnit slot) unit units here rest.each;
       first = keeps.rising;
       rising = risen units rest.first rest.rising;
       few = omega (arith, rest.few);
+      room = omega (arith, rest.room, own, more_sum, sum_by-cons greatest_distortion unit units);
     }
   where
     risen : (units : List CodedUnit) → RisesTo (last_line (behind slot (more ++ line_of_unit unit ∷ []))) units
@@ -148,11 +154,12 @@ record ProgramKept (slot : ℕ) (before : List Line) (program : ProgramRow) : Ty
   valid : IsValidProgram slot program
   few : count_by is_program before < PROGRAMS_MOST
   few_units : count_by is_unit before + length program.units ≤ UNITS_MOST
+  room : sum_by greatest_stated before + sum_by greatest_distortion program.units < DISTORTIONS_LIMIT
   few_packets : count_by is_packet before + length (packets_of program.audios) ≤ TEXT_AUDIO_PACKETS_MOST
 
 program_kept : (slot : ℕ) (more : List Line) (program : ProgramRow) → Walk Good (behind slot more) (lines_of_program program) → count_by is_unit (behind slot more) ≤ UNITS_MOST
-    → count_by is_packet (behind slot more) ≤ TEXT_AUDIO_PACKETS_MOST → ProgramKept slot (behind slot more) program
-program_kept slot more program walk few_units few_packets =
+    → count_by is_packet (behind slot more) ≤ TEXT_AUDIO_PACKETS_MOST → sum_by greatest_stated (behind slot more) < DISTORTIONS_LIMIT → ProgramKept slot (behind slot more) program
+program_kept slot more program walk few_units few_packets room =
     let before = behind slot more in
     let line = Program program.vbv in
     let units = map line_of_unit program.units in
@@ -164,10 +171,11 @@ program_kept slot more program walk few_units few_packets =
     let none_yet : audios_here (begun ++ units) ≡ 0 = audios_here-append begun units no_program ∙ omega (arith, no_audios, count_none begins_audio line_of_unit (λ _. refl) program.units) in
     let unit_count = count_push is_unit before line in
     let packet_count = count_push is_packet before line in
+    let more_sum = sum_by_push greatest_stated before line in
     let packets_behind : count_by is_packet (begun ++ units)
     ≡ count_by is_packet before = omega (arith, count-append is_packet begun units, count_none is_packet line_of_unit (λ _. refl) program.units)
     in
-    let unit_facts = units_kept slot (more ++ line ∷ []) program.units front (omega arith) in
+    let unit_facts = units_kept slot (more ++ line ∷ []) program.units front (omega arith) (omega (arith, more_sum, room)) in
     let audio_facts = audios_kept slot (more ++ line ∷ [] ++ units) program.audios others (omega arith) (omega arith) in
     record {
       valid = record {
@@ -180,6 +188,7 @@ program_kept slot more program walk few_units few_packets =
       };
       few = keeps.programs;
       few_units = omega (arith, unit_facts.few);
+      room = omega (arith, unit_facts.room, more_sum);
       few_packets = omega (arith, audio_facts.few_packets);
     }
 
@@ -187,35 +196,44 @@ record ProgramsKept (slot : ℕ) (before : List Line) (programs : List ProgramRo
   each : All (IsValidProgram slot) programs
   few : count_by is_program before + length programs ≤ PROGRAMS_MOST
   few_units : count_by is_unit before + length (units_in programs) ≤ UNITS_MOST
+  room : sum_by greatest_stated before + sum_by greatest_distortion (units_in programs) < DISTORTIONS_LIMIT
   few_packets : count_by is_packet before + length (packets_in programs) ≤ TEXT_AUDIO_PACKETS_MOST
 
 programs_kept : (slot : ℕ) (more : List Line) (programs : List ProgramRow) → Walk Good (behind slot more) (flat_map lines_of_program programs) → count_by is_program (behind slot more) ≤ PROGRAMS_MOST
-    → count_by is_unit (behind slot more) ≤ UNITS_MOST → count_by is_packet (behind slot more) ≤ TEXT_AUDIO_PACKETS_MOST → ProgramsKept slot (behind slot more) programs
-programs_kept slot more [] walk few few_units few_packets = record { each = All-nil (IsValidProgram slot); few = omega arith; few_units = omega arith; few_packets = omega arith }
-programs_kept slot more (program ∷ programs) walk few few_units few_packets =
+    → count_by is_unit (behind slot more) ≤ UNITS_MOST → count_by is_packet (behind slot more) ≤ TEXT_AUDIO_PACKETS_MOST
+    → sum_by greatest_stated (behind slot more) < DISTORTIONS_LIMIT → ProgramsKept slot (behind slot more) programs
+programs_kept slot more [] walk few few_units few_packets room = record {
+  each = All-nil (IsValidProgram slot);
+  few = omega arith;
+  few_units = omega arith;
+  room = omega (arith, room);
+  few_packets = omega arith;
+}
+programs_kept slot more (program ∷ programs) walk few few_units few_packets room =
     let before = behind slot more in
     let lines = lines_of_program program in
     let (front, others) = walk_parts Good before lines (flat_map lines_of_program programs) walk in
-    let here = program_kept slot more program front few_units few_packets in
+    let here = program_kept slot more program front few_units few_packets room in
     let adds = program_adds before program in
     let rest = programs_kept slot (more ++ lines) programs others (omega (arith, adds.programs, here.few)) (omega (arith, adds.units, here.few_units))
-    (omega (arith, adds.packets, here.few_packets)) in
+    (omega (arith, adds.packets, here.few_packets)) (omega (arith, adds.distortions, here.room)) in
     record {
       each = All-cons (IsValidProgram slot) program programs here.valid rest.each;
       few = omega (arith, rest.few, adds.programs);
       few_units = omega (arith, rest.few_units, adds.units, length-append program.units (units_in programs));
+      room = omega (arith, rest.room, adds.distortions, sum_by-append greatest_distortion program.units (units_in programs));
       few_packets = omega (arith, rest.few_packets, adds.packets, length-append (packets_of program.audios) (packets_in programs));
     }
 
 -- ---- the table
 
-pub kept_table : (table : Table) → IsForm (lines_of_table table) → KeepLimits (lines_of_table table) → IsTextTable table
-kept_table table form kept =
+pub kept_table : (table : Table) → length (table_spelling table) ≤ TABLE_TEXT_MOST → IsForm (lines_of_table table) → KeepLimits (lines_of_table table) → IsTextTable table
+kept_table table short form kept =
     let walk = walk_from Good [] (lines_of_table table) (λ front line rest e. (form.0 front line rest e, keeps_from front line (kept front line rest e))) in
     let slot = walk.1.0.1 in
     let nodes = walk.1.1.0.1 in
     let evaluations = walk.1.1.1.0.1 in
-    let programs = programs_kept table.slot (Nodes table.nodes ∷ Evaluations table.evaluations ∷ []) table.programs walk.1.1.1.1 (omega arith) (omega arith) (omega arith) in
+    let programs = programs_kept table.slot (Nodes table.nodes ∷ Evaluations table.evaluations ∷ []) table.programs walk.1.1.1.1 (omega arith) (omega arith) (omega arith) (omega arith) in
     record {
       valid = record {
         slot_least = slot.0;
@@ -227,6 +245,8 @@ kept_table table form kept =
         programs = programs.each;
         units = omega (arith, programs.few_units);
         audio_packets = omega (arith, programs.few_packets);
+        distortions = omega (arith, programs.room);
       };
       few_packets = omega (arith, programs.few_packets);
+      short = short;
     }

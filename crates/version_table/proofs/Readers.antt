@@ -16,7 +16,7 @@ use Rattle.version_table.specs.declared.table.Table.{Table}
 use Rattle.version_table.specs.Lines.{text_of_line}
 use Rattle.version_table.specs.Order.{IsOpening, IsForm}
 use Rattle.version_table.specs.Limits.{first_limit, KeepLimits, BreakFirst}
-use Rattle.version_table.specs.Text.{text_of_lines, IsTableSyntaxRefusal, TextReading, Holds, RefusedAt, RefusedFor, IsTableRead, IsFaultOf, Says}
+use Rattle.version_table.specs.Text.{table_spelling, text_of_lines, IsTableSyntaxRefusal, TextReading, Holds, RefusedAt, RefusedFor, IsTableRead, IsFaultOf, Says}
 use Rattle.version_table.specs.Private.Reading.{line_at}
 use Rattle.version_table.specs.Private.Draft.{stage_after, Allows, is_whole, lines_of_draft, IsDraft}
 use Rattle.version_table.specs.Private.Reader.{IsLimitFault, TestsLine, TakesLine, IsTableOf, IsRefusedFor, Finishes}
@@ -117,8 +117,9 @@ pub record Answered (text : List ℕ) (answer : Result Table TableFault) : Type 
 table_answer : (text : List ℕ) (before : List Line) (answer : Result Table TableFault) → length text ≤ TABLE_TEXT_MOST → text ≡ text_of_lines before
     → IsForm before → KeepLimits before → IsTableOf before answer → Answered text answer
 table_answer text before (Ok table) short parts form kept is =
-    let valid = kept_table table (subst IsForm (sym is) form) (subst KeepLimits (sym is) kept) in
-    record { table = (short, valid, parts ∙ ap text_of_lines (sym is)); refusal = tt }
+    let spelled : text ≡ table_spelling table = parts ∙ ap text_of_lines (sym is) in
+    let valid = kept_table table (subst (λ (t : List ℕ). length t ≤ TABLE_TEXT_MOST) spelled short) (subst IsForm (sym is) form) (subst KeepLimits (sym is) kept) in
+    record { table = (short, valid, spelled); refusal = tt }
 table_answer text before (Err fault) short parts form kept is = record { table = tt; refusal = subst (IsFaultOf text) (sym is) tt }
 
 limit_answer : (text : List ℕ) (before : List Line) (limit : Limit) (answer : Result Table TableFault) → length text ≤ TABLE_TEXT_MOST

@@ -1,11 +1,11 @@
--- The text of a table that a text may hold is never too long.
+-- How long the text of a table is at most.
 use Rattle.std.proofs.Common.{◌≡◌, ℕ, ◌+◌, ◌*◌, ◌^◌, ◌<◌, ◌≤◌, List, [], ◌∷◌, ◌++◌, length, map, codes, decimal, All, refl, ap, ◌∙◌, arith}
 use Rattle.std.specs.List.{flat_map}
 use Rattle.std.proofs.lemmas.List.{length-append}
 use Rattle.std.proofs.lemmas.List.Elements.{All-head, All-tail}
 use Rattle.std.proofs.lemmas.List.Concat.{flat_map-append, flat_map-cons}
 use Rattle.std.proofs.lemmas.Fmt.{length-decimal-le}
-use Rattle.version_table.specs.declared.limits.TheConstants.{SLOT_MOST, TABLE_TEXT_MOST}
+use Rattle.version_table.specs.declared.limits.TheConstants.{SLOT_MOST}
 use Rattle.version_table.specs.declared.line.Line.{Line}
 use Rattle.version_table.specs.declared.line.Line.TheVariants.{Title, Slot, Nodes, Evaluations, Program, Audio}
 use Rattle.version_table.specs.declared.table.Version.{Version}
@@ -13,9 +13,9 @@ use Rattle.version_table.specs.declared.table.Unit.{Unit as CodedUnit}
 use Rattle.version_table.specs.declared.table.AudioPacket.{AudioPacket}
 use Rattle.version_table.specs.declared.table.ProgramRow.{ProgramRow}
 use Rattle.version_table.specs.declared.table.Table.{Table}
-use Rattle.version_table.specs.Table.{IsValidVersion, IsValidUnit, IsValidPacket, IsValidAudio, IsValidProgram}
+use Rattle.version_table.specs.Table.{IsValidVersion, IsValidUnit, IsValidPacket, IsValidAudio, IsValidProgram, IsValidTable, units_of, audio_packets_of}
 use Rattle.version_table.specs.Lines.{line_end, stated, text_of_version, text_of_line, line_of_unit, line_of_packet, lines_of_audio, lines_of_program}
-use Rattle.version_table.specs.Text.{text_of_lines, table_spelling, IsTextTable}
+use Rattle.version_table.specs.Text.{text_of_lines, table_spelling}
 use Rattle.version_table.proofs.TableLines.{packets_of, units_in, packets_in}
 
 -- ---- lines
@@ -46,7 +46,7 @@ versions_size (version ∷ versions) valid =
       versions_size versions (All-tail IsValidVersion version versions valid),
     )
 
-unit_size : (slot : ℕ) (unit : CodedUnit) → slot ≤ SLOT_MOST → IsValidUnit slot unit → length (text_of_line (line_of_unit unit)) ≤ 210
+unit_size : (slot : ℕ) (unit : CodedUnit) → slot ≤ SLOT_MOST → IsValidUnit slot unit → length (text_of_line (line_of_unit unit)) ≤ 212
 unfolding text_of_line
 unit_size slot unit small valid =
     let due = decimal unit.due in
@@ -56,12 +56,12 @@ unit_size slot unit small valid =
       length-append (codes "unit " ++ due ++ versions) line_end,
       length-append (codes "unit " ++ due) versions,
       length-append (codes "unit ") due,
-      length-decimal-le 12 unit.due (omega arith) (omega (arith, valid.due)) (omega (arith, valid.due)),
+      length-decimal-le 14 unit.due (omega arith) (omega (arith, valid.due)) (omega (arith, valid.due)),
       versions_size unit.versions.items valid.versions,
       valid.few_versions,
     )
 
-packet_size : (slot : ℕ) (packet : AudioPacket) → slot ≤ SLOT_MOST → IsValidPacket slot packet → length (text_of_line (line_of_packet packet)) ≤ 37
+packet_size : (slot : ℕ) (packet : AudioPacket) → slot ≤ SLOT_MOST → IsValidPacket slot packet → length (text_of_line (line_of_packet packet)) ≤ 41
 unfolding text_of_line
 packet_size slot packet small valid =
     let due = decimal packet.due in
@@ -78,8 +78,8 @@ packet_size slot packet small valid =
       length-append (first ++ space) gone,
       length-append first space,
       length-append (codes "packet ") due,
-      length-decimal-le 12 packet.due (omega arith) (omega (arith, valid.due, valid.gone)) (omega (arith, valid.due, valid.gone)),
-      length-decimal-le 12 packet.gone (omega arith) (omega (arith, valid.gone)) (omega (arith, valid.gone)),
+      length-decimal-le 14 packet.due (omega arith) (omega (arith, valid.due, valid.gone)) (omega (arith, valid.due, valid.gone)),
+      length-decimal-le 14 packet.gone (omega arith) (omega (arith, valid.gone)) (omega (arith, valid.gone)),
       length-decimal-le 3 packet.bytes (omega arith) (omega (arith, valid.bytes)) (omega (arith, valid.bytes)),
     )
 
@@ -91,7 +91,7 @@ size-append front behind = ap length (flat_map-append text_of_line front behind)
 size-cons : (line : Line) (lines : List Line) → length (text_of_lines (line ∷ lines)) ≡ length (text_of_line line) + length (text_of_lines lines)
 size-cons line lines = ap length (flat_map-cons text_of_line line lines) ∙ length-append (text_of_line line) (text_of_lines lines)
 
-units_size : (slot : ℕ) (units : List CodedUnit) → slot ≤ SLOT_MOST → All (IsValidUnit slot) units → length (text_of_lines (map line_of_unit units)) ≤ 210 * length units
+units_size : (slot : ℕ) (units : List CodedUnit) → slot ≤ SLOT_MOST → All (IsValidUnit slot) units → length (text_of_lines (map line_of_unit units)) ≤ 212 * length units
 units_size slot [] small valid = omega arith
 units_size slot (unit ∷ units) small valid =
     omega (
@@ -101,7 +101,7 @@ units_size slot (unit ∷ units) small valid =
       units_size slot units small (All-tail (IsValidUnit slot) unit units valid),
     )
 
-packets_size : (slot : ℕ) (packets : List AudioPacket) → slot ≤ SLOT_MOST → All (IsValidPacket slot) packets → length (text_of_lines (map line_of_packet packets)) ≤ 37 * length packets
+packets_size : (slot : ℕ) (packets : List AudioPacket) → slot ≤ SLOT_MOST → All (IsValidPacket slot) packets → length (text_of_lines (map line_of_packet packets)) ≤ 41 * length packets
 packets_size slot [] small valid = omega arith
 packets_size slot (packet ∷ packets) small valid =
     omega (
@@ -116,7 +116,7 @@ unfolding text_of_line
 audio_line_size = refl
 
 audios_size : (slot : ℕ) (audios : List (List AudioPacket)) → slot ≤ SLOT_MOST → All (IsValidAudio slot) audios
-    → length (text_of_lines (flat_map lines_of_audio audios)) ≤ 6 * length audios + 37 * length (packets_of audios)
+    → length (text_of_lines (flat_map lines_of_audio audios)) ≤ 6 * length audios + 41 * length (packets_of audios)
 audios_size slot [] small valid = omega arith
 audios_size slot (packets ∷ audios) small valid =
     let here = All-head (IsValidAudio slot) packets audios valid in
@@ -135,7 +135,7 @@ unfolding text_of_line
 program_line_size vbv small = word_line_size (codes "program ") vbv 3 (omega arith) small (omega arith)
 
 program_size : (slot : ℕ) (program : ProgramRow) → slot ≤ SLOT_MOST → IsValidProgram slot program
-    → length (text_of_lines (lines_of_program program)) ≤ 60 + 210 * length program.units + 37 * length (packets_of program.audios)
+    → length (text_of_lines (lines_of_program program)) ≤ 60 + 212 * length program.units + 41 * length (packets_of program.audios)
 program_size slot program small valid =
     let units = map line_of_unit program.units in
     omega (
@@ -149,7 +149,7 @@ program_size slot program small valid =
     )
 
 programs_size : (slot : ℕ) (programs : List ProgramRow) → slot ≤ SLOT_MOST → All (IsValidProgram slot) programs
-    → length (text_of_lines (flat_map lines_of_program programs)) ≤ 60 * length programs + 210 * length (units_in programs) + 37 * length (packets_in programs)
+    → length (text_of_lines (flat_map lines_of_program programs)) ≤ 60 * length programs + 212 * length (units_in programs) + 41 * length (packets_in programs)
 programs_size slot [] small valid = omega arith
 programs_size slot (program ∷ programs) small valid =
     omega (
@@ -177,9 +177,9 @@ head_size slot nodes evaluations s n e =
       word_line_size (codes "evaluations ") evaluations 7 (omega arith) e (omega arith),
     )
 
-pub spelling_is_short : (table : Table) → IsTextTable table → length (table_spelling table) ≤ TABLE_TEXT_MOST
-spelling_is_short table h =
-    let valid = h.valid in
+pub spelling_size : (table : Table) → IsValidTable table
+    → length (table_spelling table) ≤ 600 + 212 * length (units_of table) + 41 * length (audio_packets_of table)
+spelling_size table valid =
     let head = Title ∷ Slot table.slot ∷ Nodes table.nodes ∷ Evaluations table.evaluations ∷ [] in
     omega (
       arith,
@@ -187,6 +187,4 @@ spelling_is_short table h =
       head_size table.slot table.nodes table.evaluations (omega (arith, valid.slot_most)) (omega (arith, valid.nodes)) (omega (arith, valid.evaluations)),
       programs_size table.slot table.programs valid.slot_most valid.programs,
       valid.few_programs,
-      valid.units,
-      h.few_packets,
     )

@@ -1,9 +1,10 @@
 -- The lines of a table that a text may hold stand in order and keep all limits.
-use Rattle.std.proofs.Common.{◌≡◌, ℕ, ◌+◌, ◌<◌, ◌≤◌, true, List, [], ◌∷◌, ◌++◌, length, map, count_by, All, Option, refl, sym, ap, subst, ◌∙◌, append_assoc, arith, lt-ltb}
+use Rattle.std.proofs.Common.{◌≡◌, ℕ, ◌+◌, ◌<◌, ◌≤◌, true, List, [], ◌∷◌, ◌++◌, length, map, count_by, sum_by, All, Option, refl, sym, ap, subst, ◌∙◌, append_assoc, arith, lt-ltb}
 use Rattle.std.specs.List.{flat_map}
 use Rattle.std.proofs.lemmas.List.{append-nil, length-append, length-map}
+use Rattle.std.proofs.lemmas.List.Sums.{sum_by-cons, sum_by-append, sum_by_push}
 use Rattle.std.proofs.lemmas.List.Elements.{All-head, All-tail, All-map, All-weaker}
-use Rattle.version_table.specs.declared.limits.TheConstants.{SLOT_MOST, PROGRAMS_MOST, AUDIOS_MOST, UNITS_MOST, TEXT_AUDIO_PACKETS_MOST}
+use Rattle.version_table.specs.declared.limits.TheConstants.{SLOT_MOST, PROGRAMS_MOST, AUDIOS_MOST, UNITS_MOST, DISTORTIONS_LIMIT, TEXT_AUDIO_PACKETS_MOST}
 use Rattle.version_table.specs.declared.line.Line.{Line}
 use Rattle.version_table.specs.declared.line.Line.TheVariants.{Title, Slot, Nodes, Evaluations, Program, Audio}
 use Rattle.version_table.specs.declared.line.Stage.{Stage}
@@ -12,12 +13,13 @@ use Rattle.version_table.specs.declared.table.Unit.{Unit as CodedUnit}
 use Rattle.version_table.specs.declared.table.AudioPacket.{AudioPacket}
 use Rattle.version_table.specs.declared.table.ProgramRow.{ProgramRow}
 use Rattle.version_table.specs.declared.table.Table.{Table}
-use Rattle.version_table.specs.Table.{IsValidVersion, IsValidUnit, IsValidPacket, IsValidAudio, IsValidProgram}
+use Rattle.version_table.specs.Table.{greatest_distortion, IsValidVersion, IsValidUnit, IsValidPacket, IsValidAudio, IsValidProgram}
 use Rattle.version_table.specs.Lines.{stated, line_of_unit, line_of_packet, lines_of_audio, lines_of_program, lines_of_table}
 use Rattle.version_table.specs.Order.{last_line, IsStatedVersion, HasSyntax, MayFollow, LineMayStand, IsForm}
-use Rattle.version_table.specs.Limits.{is_program, is_unit, begins_audio, is_packet, audios_here, is_due_later, packet_due, packet_gone, KeepLimits}
+use Rattle.version_table.specs.Limits.{is_program, is_unit, begins_audio, is_packet, audios_here, is_due_later, packet_due, packet_gone, greatest_stated, KeepLimits}
 use Rattle.version_table.specs.Text.{IsTextTable}
 use Rattle.version_table.specs.Private.Draft.{stage_after, Allows}
+use Rattle.version_table.proofs.Greatest.{greatest_of_program, greatest_of_unit}
 use Rattle.version_table.proofs.Kept.{KeepsVersion, Keeps, keeps_to}
 use Rattle.version_table.proofs.Counts.{last_line_push, count-append, count-cons, count_push, count_none, count_each, programs_in_audios, audios_here-append, audios_here_push}
 use Rattle.version_table.proofs.LineTexts.{any_program}
@@ -65,16 +67,26 @@ unit_versions slot unit valid =
 
 units_good : (slot : ℕ) (more : List Line) (units : List CodedUnit) → slot ≤ SLOT_MOST → stage_of (behind slot more) ≡ stages.Units → All (IsValidUnit slot) units
     → RisesTo (last_line (behind slot more)) units → Adjacent ◌<◌ (map (λ unit. unit.due) units) → count_by is_unit (behind slot more) + length units ≤ UNITS_MOST
-    → Walk Good (behind slot more) (map line_of_unit units)
-units_good slot more [] small at valid first rising few = tt
-units_good slot more (unit ∷ units) small at valid first rising few =
+    → sum_by greatest_stated (behind slot more) + sum_by greatest_distortion units < DISTORTIONS_LIMIT → Walk Good (behind slot more) (map line_of_unit units)
+units_good slot more [] small at valid first rising few room = tt
+units_good slot more (unit ∷ units) small at valid first rising few room =
     let before = behind slot more in
     let here = All-head (IsValidUnit slot) unit units valid in
     let line = line_of_unit unit in
-    let keeps : Keeps before line = record { units = omega arith; time = here.due; rising = first; each = unit_versions slot unit here } in
+    let own = greatest_of_unit unit in
+    let sum = sum_by-cons greatest_distortion unit units in
+    let keeps : Keeps before line = record {
+      units = omega arith;
+      time = here.due;
+      rising = first;
+      each = unit_versions slot unit here;
+      distortions = omega (arith, own, sum, room);
+    } in
+    let more_sum = sum_by_push greatest_stated before line in
     let count = count_push is_unit before line in (
       (may_stand before line stages.Units at tt (unit_syntax slot unit small here), keeps),
-      units_good slot (more ++ line ∷ []) units small (stage_of_push before line) (All-tail (IsValidUnit slot) unit units valid) (next units rising) (rest units rising) (omega arith),
+      units_good slot (more ++ line ∷ []) units small (stage_of_push before line) (All-tail (IsValidUnit slot) unit units valid) (next units rising) (rest units rising) (omega arith)
+          (omega (arith, own, sum, more_sum, room)),
     )
   where
     next : (units : List CodedUnit) → Adjacent ◌<◌ (unit.due ∷ map (λ c. c.due) units) → RisesTo (last_line (behind slot (more ++ line_of_unit unit ∷ []))) units
@@ -219,6 +231,7 @@ pub record ProgramAdds (before : List Line) (program : ProgramRow) : Type 0 wher
   pub units : count_by is_unit (before ++ lines_of_program program) ≡ count_by is_unit before + length program.units
   pub packets : count_by is_packet (before ++ lines_of_program program) ≡ count_by is_packet before + length (packets_of program.audios)
   pub programs : count_by is_program (before ++ lines_of_program program) ≡ count_by is_program before + 1
+  pub distortions : sum_by greatest_stated (before ++ lines_of_program program) ≡ sum_by greatest_stated before + sum_by greatest_distortion program.units
 
 pub program_adds : (before : List Line) (program : ProgramRow) → ProgramAdds before program
 program_adds before program =
@@ -249,13 +262,15 @@ program_adds before program =
         count_none is_program line_of_unit (λ _. refl) program.units,
         programs_in_audios program.audios,
       );
+      distortions = greatest_of_program before program;
     }
 
 program_good : (slot : ℕ) (more : List Line) (program : ProgramRow) → slot ≤ SLOT_MOST → Allows (stage_of (behind slot more)) (Program 0) → IsValidProgram slot program
     → count_by is_program (behind slot more) < PROGRAMS_MOST → count_by is_unit (behind slot more) + length program.units ≤ UNITS_MOST
-    → count_by is_packet (behind slot more) + length (packets_of program.audios) ≤ TEXT_AUDIO_PACKETS_MOST → Walk Good (behind slot more) (lines_of_program program)
+    → count_by is_packet (behind slot more) + length (packets_of program.audios) ≤ TEXT_AUDIO_PACKETS_MOST
+    → sum_by greatest_stated (behind slot more) + sum_by greatest_distortion program.units < DISTORTIONS_LIMIT → Walk Good (behind slot more) (lines_of_program program)
 unfolding HasSyntax
-program_good slot more program small allows valid few few_units few_packets =
+program_good slot more program small allows valid few few_units few_packets room =
     let before = behind slot more in
     let line = Program program.vbv in
     let units = map line_of_unit program.units in
@@ -273,7 +288,8 @@ program_good slot more program small allows valid few few_units few_packets =
     let keeps : Keeps before line = record { programs = few; some = valid.some_vbv; vbv_most = valid.vbv } in (
       ((allows_follows (last_line before) line (any_program (stage_of before) program.vbv allows), omega (arith, valid.vbv)), keeps),
       walk_append Good begun units (flat_map lines_of_audio program.audios)
-          (units_good slot (more ++ line ∷ []) program.units small at valid.units (begins program.units) (rising_adjacent (map (λ c. c.due) program.units) valid.dues) (omega arith))
+          (units_good slot (more ++ line ∷ []) program.units small at valid.units (begins program.units) (rising_adjacent (map (λ c. c.due) program.units) valid.dues) (omega arith)
+          (omega (arith, room, sum_by_push greatest_stated before line)))
           (audios_good slot (more ++ line ∷ [] ++ units) program.audios small (subst (λ (s : Stage). Allows s Audio) (sym with_units) tt) valid.audios (omega (arith, valid.few_audios)) (omega arith)),
     )
   where
@@ -301,25 +317,27 @@ packets_in programs = flat_map (λ program. packets_of program.audios) programs
 
 programs_good : (slot : ℕ) (more : List Line) (programs : List ProgramRow) → slot ≤ SLOT_MOST → Allows (stage_of (behind slot more)) (Program 0) → All (IsValidProgram slot) programs
     → count_by is_program (behind slot more) + length programs ≤ PROGRAMS_MOST → count_by is_unit (behind slot more) + length (units_in programs) ≤ UNITS_MOST
-    → count_by is_packet (behind slot more) + length (packets_in programs) ≤ TEXT_AUDIO_PACKETS_MOST → Walk Good (behind slot more) (flat_map lines_of_program programs)
-programs_good slot more [] small allows valid few few_units few_packets = tt
-programs_good slot more (program ∷ programs) small allows valid few few_units few_packets =
+    → count_by is_packet (behind slot more) + length (packets_in programs) ≤ TEXT_AUDIO_PACKETS_MOST
+    → sum_by greatest_stated (behind slot more) + sum_by greatest_distortion (units_in programs) < DISTORTIONS_LIMIT → Walk Good (behind slot more) (flat_map lines_of_program programs)
+programs_good slot more [] small allows valid few few_units few_packets room = tt
+programs_good slot more (program ∷ programs) small allows valid few few_units few_packets room =
     let before = behind slot more in
     let lines = lines_of_program program in
     let adds = program_adds before program in
     let units = length-append program.units (units_in programs) in
     let packets = length-append (packets_of program.audios) (packets_in programs) in
+    let sum = sum_by-append greatest_distortion program.units (units_in programs) in
     walk_append Good before lines (flat_map lines_of_program programs)
-    (program_good slot more program small allows (All-head (IsValidProgram slot) program programs valid) (omega arith) (omega arith) (omega arith))
+    (program_good slot more program small allows (All-head (IsValidProgram slot) program programs valid) (omega arith) (omega arith) (omega arith) (omega (arith, sum, room)))
     (programs_good slot (more ++ lines) programs small (stage_program before program) (All-tail (IsValidProgram slot) program programs valid)
-    (omega (arith, adds.programs)) (omega (arith, adds.units)) (omega (arith, adds.packets)))
+    (omega (arith, adds.programs)) (omega (arith, adds.units)) (omega (arith, adds.packets)) (omega (arith, adds.distortions, sum, room)))
 
 table_good : (table : Table) → IsTextTable table → Walk Good [] (lines_of_table table)
 unfolding HasSyntax MayFollow
 table_good table h =
     let valid = h.valid in
     let head = Nodes table.nodes ∷ Evaluations table.evaluations ∷ [] in
-    let programs = programs_good table.slot head table.programs valid.slot_most tt valid.programs (omega (arith, valid.few_programs)) (omega (arith, valid.units)) (omega (arith, h.few_packets)) in (
+    let programs = programs_good table.slot head table.programs valid.slot_most tt valid.programs (omega (arith, valid.few_programs)) (omega (arith, valid.units)) (omega (arith, h.few_packets)) (omega (arith, valid.distortions)) in (
       ((tt, tt), tt),
       (
         ((tt, omega (arith, valid.slot_most)), (valid.slot_least, valid.slot_most)),

@@ -1,5 +1,5 @@
 -- Which limits the lines of a table text keep.
-use Rattle.std.specs.Prelude.{◌≡◌, ℕ, ◌*◌, Bool, true, false, not, ◌&&◌, nat_lt, nat_le, if◌then◌else◌, List, [], ◌∷◌, ◌++◌, count_by, reverse, codes, Option, Some, None}
+use Rattle.std.specs.Prelude.{◌≡◌, ℕ, ◌+◌, ◌*◌, Bool, true, false, not, ◌&&◌, nat_lt, nat_le, if◌then◌else◌, List, [], ◌∷◌, ◌++◌, count_by, sum_by, map, reverse, codes, Option, Some, None}
 use Rattle.std.specs.List.{flat_map, take_while}
 use Rattle.version_table.specs.declared.limits.TheConstants.{
   SLOT_LEAST,
@@ -11,6 +11,7 @@ use Rattle.version_table.specs.declared.limits.TheConstants.{
   UNITS_MOST,
   VERSION_BYTES_MOST,
   DISTORTION_LIMIT,
+  DISTORTIONS_LIMIT,
   TIME_SLOTS_MOST,
   TEXT_AUDIO_PACKETS_MOST,
 }
@@ -22,6 +23,7 @@ use Rattle.version_table.specs.declared.line.Line.{Line}
 use Rattle.version_table.specs.declared.line.Line.TheVariants.{Title, Slot, Nodes, Evaluations, Program, Unit as UnitLine, Audio, Packet}
 use Rattle.version_table.specs.declared.line.StatedVersion.{StatedVersion}
 use Rattle.version_table.specs.Order.{last_line}
+use Rattle.version_table.specs.Table.{greatest}
 
 -- the name of a limit in refusals
 abbrev pub limit_name : Limit → List ℕ
@@ -37,6 +39,7 @@ limit_name limits.Gone = codes "gone"
 limit_name limits.Audios = codes "audios"
 limit_name limits.Units = codes "units"
 limit_name limits.Packets = codes "packets"
+limit_name limits.Distortions = codes "distortions"
 
 -- the line begins a program
 abbrev pub is_program : Line → Bool
@@ -57,6 +60,11 @@ begins_audio line = false
 abbrev pub is_packet : Line → Bool
 is_packet (Packet due gone bytes) = true
 is_packet line = false
+
+-- the greatest distortion that the line states; 0 where it isn't that of a unit
+abbrev pub greatest_stated : Line → ℕ
+greatest_stated (UnitLine due versions) = greatest (map (λ version. version.distortion) versions.items)
+greatest_stated line = 0
 
 -- how many audio streams the last program has: the audio lines behind the last line of a program
 abbrev pub audios_here : List Line → ℕ
@@ -103,12 +111,18 @@ test limit kept = record { limit = limit; kept = kept }
 abbrev pub version_tests : StatedVersion → List Test
 version_tests version = test limits.Bytes (is_in_range 1 VERSION_BYTES_MOST version.bytes) ∷ test limits.Distortion (nat_lt version.distortion DISTORTION_LIMIT) ∷ []
 
+-- the tests of the versions of a unit behind other lines: each by itself, then its greatest distortion with those of the units before it
+abbrev pub versions_tests : List Line → List StatedVersion → List Test
+versions_tests before versions =
+    flat_map version_tests versions
+    ++ test limits.Distortions (nat_lt (sum_by greatest_stated before + greatest (map (λ version. version.distortion) versions)) DISTORTIONS_LIMIT) ∷ []
+
 -- the tests of a unit behind other lines: first whether there may be one more, then its due time, then its versions
 abbrev pub unit_tests : List Line → ℕ → List StatedVersion → List Test
 unit_tests before due versions =
     test limits.Units (nat_lt (count_by is_unit before) UNITS_MOST)
     ∷ test limits.Due (nat_le due (time_most before) && is_due_later (last_line before) due)
-    ∷ flat_map version_tests versions
+    ∷ versions_tests before versions
 
 -- the tests of a line behind others, in reading order: first whether there may be one more of its kind
 unfoldable pub tests_of : List Line → Line → List Test

@@ -1,5 +1,5 @@
 -- What a table holds, and which tables are valid.
-use Rattle.std.specs.Prelude.{ℕ, ◌*◌, ◌<◌, ◌≤◌, List, length, map, All}
+use Rattle.std.specs.Prelude.{ℕ, ◌*◌, ◌<◌, ◌≤◌, List, length, map, All, fold, max, sum_by}
 use Rattle.std.specs.List.{flat_map}
 use Rattle.std.specs.List.Sorted.{IsNonDecreasing, IsStrictlyIncreasing}
 use Rattle.version_table.specs.declared.limits.TheConstants.{
@@ -13,6 +13,7 @@ use Rattle.version_table.specs.declared.limits.TheConstants.{
   VERSIONS_MOST,
   VERSION_BYTES_MOST,
   DISTORTION_LIMIT,
+  DISTORTIONS_LIMIT,
   TIME_SLOTS_MOST,
   AUDIO_PACKETS_LIMIT,
 }
@@ -31,6 +32,18 @@ units_of table = flat_map (λ program. program.units) table.programs
 -- the audio packets of all streams, in stream order
 abbrev pub audio_packets_of : Table → List AudioPacket
 audio_packets_of table = flat_map (λ program. flat_map (λ packets. packets) program.audios) table.programs
+
+-- the greatest of these numbers; of none 0
+abbrev pub greatest : List ℕ → ℕ
+greatest numbers = fold max 0 numbers
+
+-- the greatest distortion of a unit, over its versions
+abbrev pub greatest_distortion : CodedUnit → ℕ
+greatest_distortion unit = greatest (map (λ version. version.distortion) unit.versions.items)
+
+-- what the units of a table cost at most: the sum of their greatest distortions
+abbrev pub greatest_distortions : Table → ℕ
+greatest_distortions table = sum_by greatest_distortion (units_of table)
 
 -- a version has bytes, and its bytes and distortion are within the limits
 pub record IsValidVersion (version : Version) : Type 0 where
@@ -78,3 +91,4 @@ pub record IsValidTable (table : Table) : Type 0 where
   pub programs : All (IsValidProgram table.slot) table.programs
   pub units : length (units_of table) ≤ UNITS_MOST
   pub audio_packets : length (audio_packets_of table) < AUDIO_PACKETS_LIMIT
+  pub distortions : greatest_distortions table < DISTORTIONS_LIMIT

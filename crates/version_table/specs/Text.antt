@@ -25,6 +25,7 @@ table_spelling table = text_of_lines (lines_of_table table)
 pub record IsTextTable (table : Table) : Type 0 where
   pub valid : IsValidTable table
   pub few_packets : length (audio_packets_of table) ≤ TEXT_AUDIO_PACKETS_MOST
+  pub short : length (table_spelling table) ≤ TABLE_TEXT_MOST
 
 -- line n, counted from 1, is the first that no table has there: no line that may stand behind those before it comes,
 -- and it isn't that the text ends as a table's may

@@ -1,4 +1,5 @@
 ghost use Rattle.std.specs.Prelude.{◌≡◌, ◌<◌, ◌^◌, All, map};
+ghost use Rattle.version_table.specs.Table.{greatest};
 ghost use Rattle.version_table.specs.Private.Draft.{kept};
 
 use crate::limits::{TEXT_AUDIO_PACKETS_MOST, UNITS_MOST, VERSIONS_MOST};
@@ -32,10 +33,14 @@ pub struct Draft {
     pub unit_count: usize,
     /// Audio packets of all streams.
     pub packet_count: usize,
+    /// The sum of the greatest distortions of all units.
+    pub distortions: u64,
 }
 
 impl Draft {
-    ghost use Rattle.std.specs.Prelude.{◌≡◌, ◌<◌, ◌^◌, [], None, All, OnOk, IfOk};
+    ghost use Rattle.std.specs.Prelude.{◌≡◌, ◌+◌, ◌<◌, ◌^◌, [], None, All, OnOk, IfOk, map};
+    ghost use Rattle.version_table.specs.Table.{greatest};
+    ghost use Rattle.version_table.specs.declared.limits.TheConstants.{DISTORTIONS_LIMIT};
     ghost use Rattle.version_table.specs.Lines.{lines_of_table, stated};
     ghost use Rattle.version_table.specs.Limits.{first_limit};
     ghost use Rattle.version_table.specs.Private.Draft.{Allows, AddsLine, IsDraft, lines_of_draft, with_audio_closed, with_program_closed, with_unit, with_packet};
@@ -56,6 +61,7 @@ impl Draft {
             packets: ListOf::new(alloc),
             unit_count: 0,
             packet_count: 0,
+            distortions: 0,
         }
     }
 
@@ -97,6 +103,7 @@ impl Draft {
             packets: _,
             unit_count: _,
             packet_count: _,
+            distortions: _,
         } = self;
         Ok(Table {
             slot,
@@ -123,11 +130,13 @@ impl Draft {
     ) -> Result<(), OutOfMemory>
         requires few { self.old.unit_count < UNITS_MOST }
         requires small { All (λ version. version.bytes < 2 ^ 32) stated.now.items }
+        requires room { self.old.distortions + greatest (map (λ version. version.distortion) stated.now.items) < DISTORTIONS_LIMIT }
         ensures { OnOk result (self.new ≡ with_unit self.old due stated.now.items) }
     {
         let versions = kept_versions(stated);
         self.units.push(Unit { due, versions })?;
         self.unit_count += 1;
+        self.distortions += greatest_distortion(stated.as_slice());
         Ok(())
     }
 
@@ -169,6 +178,17 @@ impl Draft {
         }
         Ok(())
     }
+}
+
+/// The greatest distortion of these versions; 0 where there is none.
+pub fn greatest_distortion(versions: &[StatedVersion]) -> u64
+    ensures { result ≡ greatest (map (λ version. version.distortion) versions.now) }
+{
+    let mut most = 0;
+    for version in versions {
+        most = most.max(version.distortion);
+    }
+    most
 }
 
 /// The versions whose numbers are within the limits.

@@ -22,6 +22,7 @@ pub enum Limit {
     Audios,
     Units,
     Packets,
+    Distortions,
 }
 
 impl Limit {
@@ -43,6 +44,7 @@ impl Limit {
             Limit::Audios => "audios",
             Limit::Units => "units",
             Limit::Packets => "packets",
+            Limit::Distortions => "distortions",
         }
     }
 }

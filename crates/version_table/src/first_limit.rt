@@ -3,10 +3,10 @@
 ghost use Rattle.std.specs.Prelude.{◌≡◌, ◌+◌, ◌*◌, [], ◌∷◌, ◌&&◌, nat_le, nat_lt, count_by, List};
 ghost use Rattle.std.specs.List.{flat_map};
 ghost use Rattle.version_table.specs.Order.{last_line};
-ghost use Rattle.version_table.specs.Limits.{is_in_range, first_failing, test, version_tests, unit_tests, first_limit, is_program, audios_here, time_most, is_due_later, packet_due, packet_gone};
+ghost use Rattle.version_table.specs.Limits.{is_in_range, first_failing, test, version_tests, versions_tests, unit_tests, first_limit, is_program, audios_here, time_most, is_due_later, packet_due, packet_gone};
 ghost use Rattle.version_table.specs.Private.Draft.{Allows, IsDraft, lines_of_draft};
 
-use crate::draft::Draft;
+use crate::draft::{Draft, greatest_distortion};
 use crate::fault::Limit;
 use crate::limits::*;
 use crate::line::{Line, Stage, StatedVersion};
@@ -62,7 +62,21 @@ impl Draft {
         if due > self.time_most() || !self.is_due_later(due) {
             return Some(Limit::Due);
         }
-        versions_limit(versions)
+        self.versions_limit(versions)
+    }
+
+    /// The first limit that the versions of a unit break in the open program.
+    fn versions_limit(&self, versions: &[StatedVersion]) -> Option<Limit>
+        requires { IsDraft Stage.Units self.now }
+        ensures { result ≡ first_failing (versions_tests (lines_of_draft Stage.Units self.now) versions.now) }
+    {
+        match limit_of_versions(versions) {
+            Some(limit) => Some(limit),
+            None => {
+                let room = DISTORTIONS_LIMIT - self.distortions;
+                unless(greatest_distortion(versions) < room, Limit::Distortions)
+            }
+        }
     }
 
     /// The first limit that a packet breaks in the open audio stream.
@@ -140,8 +154,8 @@ impl Draft {
     }
 }
 
-/// The first limit that the versions of a unit break.
-fn versions_limit(versions: &[StatedVersion]) -> Option<Limit>
+/// The first limit that the versions of a unit break, each by itself.
+fn limit_of_versions(versions: &[StatedVersion]) -> Option<Limit>
     ensures { result ≡ first_failing (flat_map version_tests versions.now) }
 {
     for version in versions {

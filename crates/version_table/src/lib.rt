@@ -21,8 +21,8 @@ mod wording;
 mod write;
 
 pub use choice_laws::{
-    least_distortions_bound, level_choices_end, level_choices_fit, smallest_choice_fits,
-    smallest_choice_is_one,
+    few_units_cost_little, least_distortions_bound, level_choices_end,
+    level_choices_fit, smallest_choice_fits, smallest_choice_is_one,
 };
 pub use choices::{distortion_of, least_total, level, smallest};
 pub use fault::{Limit, TableFault};
@@ -30,5 +30,5 @@ pub use line::{Line, StatedVersion};
 pub use list_types::{ListOf, OutOfMemory};
 pub use read::read_table;
 pub use table::{AudioPacket, Choice, ProgramRow, Table, Unit, Version};
-pub use text_laws::{one_reading, some_reading, spelling_is_read};
+pub use text_laws::{one_reading, some_reading, spelling_is_read, spelling_is_short};
 pub use write::write_table;

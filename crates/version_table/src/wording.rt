@@ -1,8 +1,8 @@
 //! What is allowed where a table text breaks a limit, for people. No contract rests on these words.
 
 use crate::limits::{
-    AUDIOS_MOST, DISTORTION_LIMIT, EVALUATIONS_MOST, NODES_MOST, PROGRAMS_MOST, SLOT_LEAST,
-    SLOT_MOST, TABLE_TEXT_MOST, TEXT_AUDIO_PACKETS_MOST, TIME_SLOTS_MOST, UNITS_MOST,
+    AUDIOS_MOST, DISTORTION_LIMIT, DISTORTIONS_LIMIT, EVALUATIONS_MOST, NODES_MOST, PROGRAMS_MOST,
+    SLOT_LEAST, SLOT_MOST, TABLE_TEXT_MOST, TEXT_AUDIO_PACKETS_MOST, TIME_SLOTS_MOST, UNITS_MOST,
     VERSION_BYTES_MOST,
 };
 use arrayvec::ArrayString;
@@ -37,6 +37,10 @@ impl fmt::Display for Allowed<'_> {
                 "1 to {VERSION_BYTES_MOST} in a version, 1 to {PAYLOAD_BYTES} in a packet, and at most {TABLE_TEXT_MOST} in the text"
             ),
             "distortion" => write!(f, "below {DISTORTION_LIMIT}"),
+            "distortions" => write!(
+                f,
+                "below {DISTORTIONS_LIMIT} in the sum of the greatest distortion of each unit"
+            ),
             "due" | "gone" => write_time(f, self.name),
             _ => write_count(f, self.name),
         }

@@ -47,7 +47,7 @@ pub record KeepsPlace (packets : List QueuedPacket) (state : QueueState) : Type 
 pub record IsSmall (state : QueueState) : Type 0 where
   pub tb : state.tb_empty < 2 ^ 60
   pub mb : state.mb_empty < 2 ^ 60
-  pub sent : state.sent < 2 ^ 30
+  pub sent : state.sent ≤ 2 ^ 31
   pub held : state.held < 2 ^ 60
 
 -- the state's head packet can be tested

@@ -1,5 +1,5 @@
 -- A table while its lines are read: what the private reader keeps.
-use Rattle.std.specs.Prelude.{◌≡◌, ℕ, ◌+◌, Bool, true, false, List, [], ◌∷◌, ◌++◌, map, count_by}
+use Rattle.std.specs.Prelude.{◌≡◌, ℕ, ◌+◌, ◌<◌, Bool, true, false, List, [], ◌∷◌, ◌++◌, map, count_by, sum_by}
 use Rattle.std.specs.List.{flat_map}
 use Rattle.version_table.specs.declared.draft.Draft.{Draft}
 use Rattle.version_table.specs.declared.line.Line.{Line}
@@ -9,7 +9,9 @@ use Rattle.version_table.specs.declared.line.StatedVersion.{StatedVersion}
 use Rattle.version_table.specs.declared.table.Version.{Version}
 use Rattle.version_table.specs.declared.line.Stage.TheVariants as stages
 use Rattle.version_table.specs.Lines.{line_of_unit, lines_of_audio, lines_of_program}
-use Rattle.version_table.specs.Limits.{is_unit, is_packet}
+use Rattle.version_table.specs.Limits.{is_unit, is_packet, greatest_stated}
+use Rattle.version_table.specs.Table.{greatest}
+use Rattle.version_table.specs.declared.limits.TheConstants.{DISTORTIONS_LIMIT}
 
 -- which lines may come behind a line
 abbrev pub stage_after : Line → Stage
@@ -74,6 +76,8 @@ pub record IsDraft (stage : Stage) (draft : Draft) : Type 0 where
   pub tidy : IsTidy stage draft
   pub unit_count : draft.unit_count ≡ count_by is_unit (lines_of_draft stage draft)
   pub packet_count : draft.packet_count ≡ count_by is_packet (lines_of_draft stage draft)
+  pub distortions : draft.distortions ≡ sum_by greatest_stated (lines_of_draft stage draft)
+  pub few_distortions : draft.distortions < DISTORTIONS_LIMIT
 
 -- the new draft has one line more
 pub record AddsLine (stage : Stage) (old : Draft) (line : Line) (new : Draft) : Type 0 where
@@ -103,6 +107,7 @@ abbrev pub with_unit : Draft → ℕ → List StatedVersion → Draft
 with_unit draft due versions = record draft {
   units = draft.units ++ record { due = due; versions = record { items = map kept versions } } ∷ [];
   unit_count = draft.unit_count + 1;
+  distortions = draft.distortions + greatest (map (λ version. version.distortion) versions);
 }
 
 abbrev pub with_packet : Draft → ℕ → ℕ → ℕ → Draft

@@ -35,6 +35,11 @@ add_unit-requires-clause-small c =
     let keeps = rw c.in-Unit.is at (keeps_from (lines_of_draft c.args.stage c.args.self.now) c.args.line.now c.requires.kept) in
     All-weaker KeepsVersion (λ version. version.bytes < 2 ^ 32) (λ version h. omega (arith, h.bytes)) c.in-Unit.versions.items keeps.each
 
+pub add_unit-requires-clause-room : goal.add_unit-requires-clause-room
+add_unit-requires-clause-room c =
+    let keeps = rw c.in-Unit.is at (keeps_from (lines_of_draft c.args.stage c.args.self.now) c.args.line.now c.requires.kept) in
+    omega (arith, keeps.distortions, c.requires.draft.distortions)
+
 pub overflow_cast-bytes : goal.overflow_cast-bytes
 overflow_cast-bytes c =
     let keeps = rw c.in-Packet.is at (keeps_from (lines_of_draft c.args.stage c.args.self.now) c.args.line.now c.requires.kept) in
@@ -75,7 +80,8 @@ pub returns-in_ok-add_unit-in-Unit : goal.returns-in_ok-add_unit-in-Unit
 returns-in_ok-add_unit-in-Unit c =
     let is = c.in-Unit.is in
     let new = c.in_ok-add_unit-in-Unit.ensures in
-    rw (is, new) (adds_unit c.args.self.now c.args.stage c.in-Unit.due c.in-Unit.versions (rw is at c.requires.stands) c.requires.draft)
+    let keeps = rw c.in-Unit.is at (keeps_from (lines_of_draft c.args.stage c.args.self.now) c.args.line.now c.requires.kept) in
+    rw (is, new) (adds_unit c.args.self.now c.args.stage c.in-Unit.due c.in-Unit.versions (rw is at c.requires.stands) c.requires.draft (omega (arith, keeps.distortions, c.requires.draft.distortions)))
 
 pub returns-in_ok-close_audio-in-Audio : goal.returns-in_ok-close_audio-in-Audio
 returns-in_ok-close_audio-in-Audio c =

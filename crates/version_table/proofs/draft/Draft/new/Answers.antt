@@ -8,4 +8,4 @@ unfolding lines_of_draft
 returns-clause-empty c = refl
 
 pub returns-clause-draft : goal.returns-clause-draft
-returns-clause-draft c = no_lines _ c.new.ensures c.new-2.ensures c.new-3.ensures c.new-4.ensures refl refl
+returns-clause-draft c = no_lines _ c.new.ensures c.new-2.ensures c.new-3.ensures c.new-4.ensures refl refl refl
