@@ -1,3 +1,4 @@
+pub mod Passing
 pub mod PayloadLemmas
 mod PidTests
 pub mod Readings

@@ -1,3 +1,4 @@
+pub mod PacketBuffer
 pub mod Payloads
 pub mod Faults
 pub mod Streams

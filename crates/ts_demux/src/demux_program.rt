@@ -62,7 +62,7 @@ pub fn demux(alloc: Global, file: &[u8], program: u16, drop: &[u16]) -> Result<D
 
 /// The streams that are gathered, in order.
 fn all_streams(alloc: Global, gatherers: Vec<PesGatherer>) -> Result<Vec<AudioStream>, DemuxFault>
-    ensures ok { IfOk result (λ streams. streams.items ≡ map stream_gathered gatherers.entry.items) }
+    ensures ok { IfOk result (λ streams. streams.items ≡ map stream_gathered gatherers.items) }
     ensures memory { IfErr result (λ fault. fault ≡ OutOfMemory) }
 {
     let mut gatherers = gatherers;

@@ -15,9 +15,9 @@ use ts_packets::PidReader;
 
 /// Gathers the PES packets of one PID (ISO/IEC 13818-1, 2.4.3.3).
 #[derive(Drop)]
-pub struct PesGatherer<'a> {
+pub struct PesGatherer {
     pub pid: u16,
-    packets: PidReader<'a>,
+    packets: PidReader,
     /// The PES packets before the last one.
     whole: Vec<PesUnit>,
     /// The place where the last one begins, once one has begun.
@@ -26,7 +26,7 @@ pub struct PesGatherer<'a> {
     bytes: Vec<u8>,
 }
 
-impl<'a> PesGatherer<'a> {
+impl PesGatherer {
     ghost use Rattle.std.specs.Prelude.{List, ℕ};
 
     /// A gatherer of no packet.
@@ -50,7 +50,7 @@ impl<'a> PesGatherer<'a> {
         file: &[u8],
         n: usize,
         pid: u16,
-        bytes: &'a [u8; PACKET_BYTES],
+        bytes: &[u8; PACKET_BYTES],
     ) -> Result<(), DemuxFault>
         requires within { n < piece_count file.now }
         requires bytes { bytes.now ≡ piece_at file.now n }
@@ -135,7 +135,7 @@ impl<'a> PesGatherer<'a> {
 
     /// All PES packets.
     pub fn into_units(self, alloc: Global) -> Result<ListOf<PesUnit>, DemuxFault>
-        ensures ok { IfOk result (λ units. units ≡ gathered_of self.entry) }
+        ensures ok { IfOk result (λ units. units ≡ gathered_of self) }
         ensures memory { IfErr result (λ fault. fault ≡ OutOfMemory) }
     {
         let mut gatherer = self;

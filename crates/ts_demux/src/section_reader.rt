@@ -9,12 +9,12 @@ use ts_packets::{PidFault, PidReader};
 
 /// Reads the sections in the packets of one PID (ISO/IEC 13818-1, 2.4.4).
 #[derive(Drop)]
-pub struct SectionReader<'a> {
-    packets: PidReader<'a>,
+pub struct SectionReader {
+    packets: PidReader,
     builder: SectionBuilder,
 }
 
-impl<'a> SectionReader<'a> {
+impl SectionReader {
     /// A reader of no packet.
     pub fn new() -> Self
         ensures { Waits [] [] result }
@@ -26,7 +26,7 @@ impl<'a> SectionReader<'a> {
     }
 
     /// Takes the next packet of the PID. It needs that no section waits.
-    pub fn take(&mut self, bytes: &'a [u8; PACKET_BYTES]) -> Result<(), PidFault>
+    pub fn take(&mut self, bytes: &[u8; PACKET_BYTES]) -> Result<(), PidFault>
         requires { sections_of self.old.builder ≡ [] }
         ensures { (before : List Piece) (at : ℕ) → Waits before [] self.old →
             TakesPiece before (record { at = at; bytes = bytes.now }) result self.new }

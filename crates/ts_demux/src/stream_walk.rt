@@ -16,11 +16,11 @@ use ts_packets::pid_of;
 
 /// Gathers the PES packets of some streams from all packets of a file, in the streams' order. An error is the first
 /// packet's that is refused.
-pub fn gather_streams<'a>(
+pub fn gather_streams(
     alloc: Global,
-    file: &'a [u8],
+    file: &[u8],
     streams: &[Stream],
-) -> Result<Vec<PesGatherer<'a>>, DemuxFault>
+) -> Result<Vec<PesGatherer>, DemuxFault>
     ensures { MatchResult result (λ gatherers. AreGathered file.now (map (λ stream. stream.pid) streams.now) gatherers.items) (IsGatherFault file.now (map (λ stream. stream.pid) streams.now)) }
 {
     let mut gatherers = match new_gatherers(alloc, file, streams) {
@@ -38,11 +38,11 @@ pub fn gather_streams<'a>(
 }
 
 /// A gatherer for each of some streams.
-fn new_gatherers<'a>(
+fn new_gatherers(
     alloc: Global,
-    file: &'a [u8],
+    file: &[u8],
     streams: &[Stream],
-) -> Result<Vec<PesGatherer<'a>>, DemuxFault>
+) -> Result<Vec<PesGatherer>, DemuxFault>
     ensures { MatchResult result (λ gatherers. AllGather file.now 0 gatherers.items × (gatherer_pids gatherers.items ≡ map (λ stream. stream.pid) streams.now)) IsMemory }
 {
     let mut gatherers = Vec::new(alloc);
@@ -53,12 +53,12 @@ fn new_gatherers<'a>(
 }
 
 /// Takes the n-th packet of a file into the gatherers of its PID.
-fn take_packet<'a>(
+fn take_packet(
     alloc: Global,
-    gatherers: &mut [PesGatherer<'a>],
+    gatherers: &mut [PesGatherer],
     file: &[u8],
     n: usize,
-    bytes: &'a [u8; PACKET_BYTES],
+    bytes: &[u8; PACKET_BYTES],
 ) -> Result<(), DemuxFault>
     requires within { n < piece_count file.now }
     requires bytes { bytes.now ≡ piece_at file.now n }

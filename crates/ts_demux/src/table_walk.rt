@@ -65,16 +65,16 @@ pub enum Reading {
 
 /// Goes over the packets of a file and reads the tables of a program.
 #[derive(Drop)]
-pub struct TableWalk<'a> {
+pub struct TableWalk {
     program: u16,
     known: Known,
     /// The sections of PID 0.
-    pat: SectionReader<'a>,
+    pat: SectionReader,
     /// Those of the PMT's PID, where that is another.
-    map: SectionReader<'a>,
+    map: SectionReader,
 }
 
-impl<'a> TableWalk<'a> {
+impl TableWalk {
     ghost use Rattle.std.specs.Prelude.{List, ℕ};
 
     /// A walk before the first packet.
@@ -95,7 +95,7 @@ impl<'a> TableWalk<'a> {
         &mut self,
         file: &[u8],
         n: usize,
-        bytes: &'a [u8; PACKET_BYTES],
+        bytes: &[u8; PACKET_BYTES],
     ) -> Result<Option<ProgramMap>, DemuxFault>
         requires within { n < piece_count file.now }
         requires bytes { bytes.now ≡ piece_at file.now n }
@@ -120,7 +120,7 @@ impl<'a> TableWalk<'a> {
         &mut self,
         file: &[u8],
         n: usize,
-        bytes: &'a [u8; PACKET_BYTES],
+        bytes: &[u8; PACKET_BYTES],
     ) -> Result<Option<ProgramMap>, DemuxFault>
         requires within { n < piece_count file.now }
         requires bytes { bytes.now ≡ piece_at file.now n }
@@ -157,7 +157,7 @@ impl<'a> TableWalk<'a> {
         &mut self,
         file: &[u8],
         n: usize,
-        bytes: &'a [u8; PACKET_BYTES],
+        bytes: &[u8; PACKET_BYTES],
     ) -> Result<Option<ProgramMap>, DemuxFault>
         requires within { n < piece_count file.now }
         requires bytes { bytes.now ≡ piece_at file.now n }

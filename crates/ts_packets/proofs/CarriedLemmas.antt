@@ -51,8 +51,9 @@ use Rattle.ts_packets.specs.declared.pid_reader.PidReader.{PidReader}
 use Rattle.ts_packets.specs.Packet.{PacketRecord, record_of, packet_of, IsPacket, has_field, adaptation_field_length}
 use Rattle.ts_packets.specs.TransportStream.{Piece}
 use Rattle.ts_packets.specs.Carried.{PlacedPacket, placed, has_payload, payload_packets, is_repeat, not_repeated, without_repeats, carried_by, carried, last_payload}
+use Rattle.ts_packets.specs.LastPayload.{Numbered, numbered}
 use Rattle.ts_packets.specs.PidReader.{is_none_there, IsBehind, carried_at}
-use Rattle.ts_packets.specs.Private.PidReader.{taken_packet}
+use Rattle.ts_packets.specs.Private.PidReader.{repeats, taken_packet}
 
 pub payload_packets-append : (xs ys : List Piece) → payload_packets (xs ++ ys) ≡ payload_packets xs ++ payload_packets ys
 payload_packets-append xs ys = ap (filter has_payload) (filter_map-append placed xs ys) ∙ filter-append has_payload (filter_map placed xs) (filter_map placed ys)
@@ -78,8 +79,8 @@ last-append o (y ∷ xs) x = last-append (Some y) xs x
 
 -- ---- repeats
 
-repeats : Option PlacedPacket → PlacedPacket → Bool
-repeats last x = option_map_or (λ (before : PlacedPacket). is_repeat x.packet before.packet) last false
+is_again : Option PlacedPacket → PlacedPacket → Bool
+is_again last x = option_map_or (λ (before : PlacedPacket). is_repeat x.packet before.packet) last false
 
 not_repeated-append : (before : PlacedPacket) (xs : List PlacedPacket) (x : PlacedPacket)
     → not_repeated before (xs ++ x ∷ []) ≡ not_repeated before xs ++ cond (is_repeat x.packet (last_of before xs).packet) [] (x ∷ [])
@@ -93,12 +94,12 @@ not_repeated-append before (y ∷ xs) x = by_test (is_repeat y.packet before.pac
     by_test true same = same
     by_test false same = ap (λ (zs : List PlacedPacket). y ∷ zs) same
 
-without-append : (xs : List PlacedPacket) (x : PlacedPacket) → without_repeats (xs ++ x ∷ []) ≡ without_repeats xs ++ cond (repeats (last_or None xs) x) [] (x ∷ [])
-unfolding repeats
+without-append : (xs : List PlacedPacket) (x : PlacedPacket) → without_repeats (xs ++ x ∷ []) ≡ without_repeats xs ++ cond (is_again (last_or None xs) x) [] (x ∷ [])
+unfolding is_again
 without-append [] x = refl
 without-append (y ∷ xs) x =
     ap (λ (zs : List PlacedPacket). y ∷ zs) (not_repeated-append y xs x)
-    ∙ ap (λ (last : Option PlacedPacket). (y ∷ not_repeated y xs) ++ cond (repeats last x) [] (x ∷ [])) (sym (last_is y xs))
+    ∙ ap (λ (last : Option PlacedPacket). (y ∷ not_repeated y xs) ++ cond (is_again last x) [] (x ∷ [])) (sym (last_is y xs))
 
 -- ---- one piece more
 
@@ -114,13 +115,13 @@ pub carried_more : (before : List Piece) (piece : Piece) (x : PlacedPacket) → 
     → (carried (before ++ piece ∷ []) ≡ carried before ++ map carried_by
     (cond (option_map_or (λ (last : PlacedPacket). is_repeat x.packet last.packet) (last_payload before) false) [] (x ∷ [])))
     × (last_payload (before ++ piece ∷ []) ≡ Some x)
-unfolding repeats
+unfolding is_again
 carried_more before piece x one =
     let more : payload_packets (before ++ piece ∷ []) ≡ payload_packets before ++ x ∷ [] =
     payload_packets-append before (piece ∷ []) ∙ ap (λ (packets : List PlacedPacket). payload_packets before ++ packets) one in (
       ap (λ (packets : List PlacedPacket). map carried_by (without_repeats packets)) more
           ∙ ap (map carried_by) (without-append (payload_packets before) x)
-          ∙ map-append carried_by (without_repeats (payload_packets before)) (cond (repeats (last_or None (payload_packets before)) x) [] (x ∷ [])),
+          ∙ map-append carried_by (without_repeats (payload_packets before)) (cond (is_again (last_or None (payload_packets before)) x) [] (x ∷ [])),
       ap (last_or None) more ∙ last-append None (payload_packets before) x,
     )
 
@@ -142,16 +143,16 @@ pub behind_nothing : (before : List Piece) (piece : Piece) (reader next : PidRea
     → next.is_first ≡ false → next.last ≡ reader.last → IsBehind (before ++ piece ∷ []) next
 behind_nothing before piece reader next behind none first last = record {
   first = first ∙ sym (some_there before piece);
-  last = ap (option_map record_of) last ∙ behind.last ∙ sym (ap (option_map (λ (placed : PlacedPacket). placed.packet)) (carried_nothing before piece none).1);
+  last = last ∙ behind.last ∙ sym (ap (option_map (λ (placed : PlacedPacket). numbered placed.packet)) (carried_nothing before piece none).1);
 }
 
 -- a reader behind a packet with payload
 pub behind_packet : (before : List Piece) (piece : Piece) (packet : PacketRecord) (next : PidReader)
-    → payload_packets (piece ∷ []) ≡ placed_at piece.at packet ∷ [] → next.is_first ≡ false → option_map record_of next.last ≡ Some packet
+    → payload_packets (piece ∷ []) ≡ placed_at piece.at packet ∷ [] → next.is_first ≡ false → next.last ≡ Some (numbered packet)
     → IsBehind (before ++ piece ∷ []) next
 behind_packet before piece packet next one first last = record {
   first = first ∙ sym (some_there before piece);
-  last = last ∙ sym (ap (option_map (λ (placed : PlacedPacket). placed.packet)) (carried_more before piece (placed_at piece.at packet) one).1);
+  last = last ∙ sym (ap (option_map (λ (placed : PlacedPacket). numbered placed.packet)) (carried_more before piece (placed_at piece.at packet) one).1);
 }
 
 abbrev carried_of : ℕ → Option PacketRecord → List CarriedPayload
@@ -163,20 +164,20 @@ carried_at-is at None = refl
 carried_at-is at (Some packet) = refl
 
 repeat_of : (packet : PacketRecord) (last : Option PlacedPacket)
-    → option_map_or (is_repeat packet) (option_map (λ (p : PlacedPacket). p.packet) last) false
+    → option_map_or (repeats packet) (option_map (λ (p : PlacedPacket). numbered p.packet) last) false
     ≡ option_map_or (λ (p : PlacedPacket). is_repeat packet p.packet) last false
 repeat_of packet None = refl
 repeat_of packet (Some p) = refl
 
 -- what is taken of a packet is what it adds to what is carried
-pub carried_taken : (before : List Piece) (piece : Piece) (packet : PacketRecord) (last : Option PacketRecord) (taken : Option Packet)
-    → packet_of piece.bytes ≡ Some packet → last ≡ option_map (λ (p : PlacedPacket). p.packet) (last_payload before)
+pub carried_taken : (before : List Piece) (piece : Piece) (packet : PacketRecord) (last : Option Numbered) (taken : Option Packet)
+    → packet_of piece.bytes ≡ Some packet → last ≡ option_map (λ (p : PlacedPacket). numbered p.packet) (last_payload before)
     → option_map record_of taken ≡ taken_packet packet last → carried (before ++ piece ∷ []) ≡ carried before ++ carried_at piece.at taken
 carried_taken before piece packet last taken is last_is taken_is =
     by_payload (nat_lt 0 (length packet.payload)) refl (option_map_or (λ (p : PlacedPacket). is_repeat packet p.packet) (last_payload before) false) refl
   where
-    again_is : option_map_or (is_repeat packet) last false ≡ option_map_or (λ (p : PlacedPacket). is_repeat packet p.packet) (last_payload before) false
-    again_is = ap (λ (last : Option PacketRecord). option_map_or (is_repeat packet) last false) last_is ∙ repeat_of packet (last_payload before)
+    again_is : option_map_or (repeats packet) last false ≡ option_map_or (λ (p : PlacedPacket). is_repeat packet p.packet) (last_payload before) false
+    again_is = ap (λ (last : Option Numbered). option_map_or (repeats packet) last false) last_is ∙ repeat_of packet (last_payload before)
 
     taken_of : (some again : Bool) → nat_lt 0 (length packet.payload) ≡ some
         → option_map_or (λ (p : PlacedPacket). is_repeat packet p.packet) (last_payload before) false ≡ again
@@ -225,10 +226,10 @@ payload_size packet bytes is = subst (λ (p : PacketRecord). length p.payload �
     by_field false n size = omega (arith, length-drop 4 bytes)
 
 -- what is taken has some payload, and no more than that
-pub taken_fits : (packet : PacketRecord) (last : Option PacketRecord) (taken : Option Packet) → length packet.payload ≤ 184
+pub taken_fits : (packet : PacketRecord) (last : Option Numbered) (taken : Option Packet) → length packet.payload ≤ 184
     → option_map record_of taken ≡ taken_packet packet last → IfSome taken (λ (p : Packet). (0 < length p.payload.now) × (length p.payload.now ≤ 184))
 taken_fits packet last None size is = tt
-taken_fits packet last (Some p) size is = by_test (nat_lt 0 (length packet.payload)) refl (not (option_map_or (is_repeat packet) last false)) is
+taken_fits packet last (Some p) size is = by_test (nat_lt 0 (length packet.payload)) refl (not (option_map_or (repeats packet) last false)) is
   where
     by_test : (some : Bool) → nat_lt 0 (length packet.payload) ≡ some → (new : Bool) → Some (record_of p) ≡ cond (some && new) (Some packet) None
         → (0 < length p.payload.now) × (length p.payload.now ≤ 184)

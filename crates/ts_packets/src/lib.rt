@@ -7,6 +7,7 @@
 #![tactic(auto)]
 
 mod adaptation_field;
+mod last_payload;
 pub mod laws;
 mod packet;
 mod packet_fault;
