@@ -14,7 +14,7 @@ use Rattle.buffer_windows.specs.Bounds.{bound_of_value, bound_of_windows}
 use Rattle.buffer_windows.specs.Charges.{charges}
 use Rattle.buffer_windows.specs.Room.{audio_slots, buffer_bytes, free_slots, longest_before, mb_bytes, room}
 use Rattle.buffer_windows.specs.Values.{least_cost, least_costs, price, value_of_windows, worth}
-use Rattle.buffer_windows.specs.Windows.{IsWindow, is_fresh, is_held, stop, without_buffers}
+use Rattle.buffer_windows.specs.Windows.{IsBufferWindow, is_fresh, is_held, stop, without_buffers}
 use Rattle.dual_bounds.proofs.Examples.{unit, packet}
 use Rattle.slot_rule.proofs.RuleExamples.{rows_in}
 
@@ -37,7 +37,7 @@ held_table = table_of 40000 (unit 1200000 (version 2048 ∷ []) ∷ unit 1287200
 abbrev held_window : BufferWindow
 held_window = window_of 27 1287200 1 32
 
-held_window_is : IsWindow 40000 held_window
+held_window_is : IsBufferWindow 40000 held_window
 held_window_is = record { from = omega arith; upto = omega arith; begins = λ some. omega arith }
 
 -- both units may have packets before slot 27
@@ -86,7 +86,7 @@ tail_table = table_of 1016 (unit 15548 (version 368 ∷ version 369 ∷ []) ∷ 
 abbrev tail_window : BufferWindow
 tail_window = window_of 0 15548 0 3
 
-tail_window_is : IsWindow 1016 tail_window
+tail_window_is : IsBufferWindow 1016 tail_window
 tail_window_is = record { from = omega arith; upto = omega arith; begins = λ some. absurd (omega arith) }
 
 tail_room : room tail_table tail_window ≡ pos 368

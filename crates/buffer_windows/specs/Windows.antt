@@ -31,7 +31,7 @@ is_held slot window program due =
     nat_lt 0 window.first && counts_buffer window program && nat_lt (window.first * slot) due && nat_le due (latest slot window)
 
 -- the window's tail stands between its first slot and the last that ends in time, and some due time is left behind its beginning
-pub record IsWindow (slot : ℕ) (window : BufferWindow) : Type 0 where
+pub record IsBufferWindow (slot : ℕ) (window : BufferWindow) : Type 0 where
   pub from : window.first ≤ window.tail
   pub upto : window.tail ≤ max window.first (stop slot window.due)
   pub begins : 0 < window.first → window.first * slot < window.due
