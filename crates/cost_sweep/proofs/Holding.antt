@@ -32,7 +32,7 @@ module _ (prices : List ℕ) (from place price k amount : ℕ) (before : IsPlace
   ]
 
 -- an empty tree
-pub holds-none : (prices : List ℕ) (amount : CostStep → ℕ) (tree : SumTree) (height : ℕ) → tree.height ≡ height → height ≤ 32 → length prices < 2 ^ height
+pub holds-none : (prices : List ℕ) (amount : CostStep → ℕ) (tree : SumTree) (height : ℕ) → tree.height ≡ height → height ≤ 40 → length prices < 2 ^ height
     → IsSumTree tree.height 0 tree.first tree.nodes.items → ((k : ℕ) → first_sum tree.first tree.nodes.items k ≡ 0) → Holds prices amount [] tree
 holds-none prices amount tree height same few room is none =
     let power : 2 ^ tree.height ≡ 2 ^ height = ap (λ n. 2 ^ n) same in

@@ -24,7 +24,7 @@ spared_by due price step = spared (price_by due price step) step
 
 -- steps so few, and so small together, that no sum of theirs is too great for 127 bits
 pub record AreSmall (steps : List CostStep) : Type 0 where
-  pub count : length steps < 2 ^ 31
+  pub count : length steps < 2 ^ 39
   pub rises : sum_by (λ step. step.rise) steps < 2 ^ 100
   pub packets : sum_by (λ step. step.packets) steps < 2 ^ 60
   pub fewer : sum_by (λ step. step.fewer) steps < 2 ^ 60

@@ -15,7 +15,7 @@ counted amount price step = cond (nat_le step.from price) (amount step) 0
 
 -- a tree has the amounts of some steps, each at the place of the price from which on it counts
 pub record Holds (prices : List ℕ) (amount : CostStep → ℕ) (steps : List CostStep) (tree : SumTree) : Type 0 where
-  pub height : tree.height ≤ 32
+  pub height : tree.height ≤ 40
   pub room : length prices < tree.first
   pub is_tree : IsSumTree tree.height (sum_by amount steps) tree.first tree.nodes.items
   pub sums : (price k : ℕ) → IsPlaceBehind prices price k → first_sum tree.first tree.nodes.items k ≡ sum_by (counted amount price) steps

@@ -51,8 +51,8 @@ pub fn price_at(prices: &[u64], place: usize) -> Option<u64>
 
 /// Levels of a tree with more places than these.
 pub fn height_for(places: usize) -> u32
-    requires { places < 2 ^ 31 }
-    ensures few { result ≤ 32 }
+    requires { places < 2 ^ 39 }
+    ensures few { result ≤ 40 }
     ensures room { places < 2 ^ result }
 {
     let mut height = 0;

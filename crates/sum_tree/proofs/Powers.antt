@@ -8,8 +8,8 @@ two_more n = let next : n + 1 ≡ suc n = omega arith in ap (λ m. 2 ^ m) next �
 pub two_le : (n m : ℕ) → n ≤ m → 2 ^ n ≤ 2 ^ m
 two_le n m le = pow-le-pow_right {n = 2} (omega arith) {i = n} {j = m} le
 
-pub two_most : (n : ℕ) → n ≤ 32 → 2 ^ n ≤ 4294967296
-two_most n le = two_le n 32 le
+pub two_most : (n : ℕ) → n ≤ 40 → 2 ^ n ≤ 1099511627776
+two_most n le = two_le n 40 le
 
 pub two_least : (n : ℕ) → 1 ≤ 2 ^ n
 two_least n = two_le 0 n (omega arith)

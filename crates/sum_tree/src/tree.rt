@@ -18,8 +18,9 @@ pub struct SumTree {
 
 impl SumTree {
     /// Zeros at 2 to the power of `height` places. Fails only for want of memory.
+    #[tactic(auto, using(crate::proofs::Powers::two_most))]
     pub fn new(alloc: Global, height: u32) -> Result<SumTree, OutOfMemory>
-        requires { height ≤ 32 }
+        requires { height ≤ 40 }
         ensures tree { IfOk result (λ tree. IsSumTree tree.height 0 tree.first tree.nodes.items) }
         ensures height { IfOk result (λ tree. tree.height ≡ height) }
         ensures sums { IfOk result (λ tree. (k : ℕ) → first_sum tree.first tree.nodes.items k ≡ 0) }
@@ -35,7 +36,7 @@ impl SumTree {
 
     /// The sum of the numbers at the first `count` places, fewer than all.
     pub fn sum_of_first(&self, count: usize) -> u128
-        requires height { self.now.height ≤ 32 }
+        requires height { self.now.height ≤ 40 }
         requires tree { (total : ℕ) × IsSumTree self.now.height total self.now.first self.now.nodes.items × (total < 2 ^ 128) }
         requires count { count < self.now.first }
         ensures { result ≡ first_sum self.now.first self.now.nodes.items count }
@@ -50,8 +51,9 @@ impl SumTree {
     }
 
     /// How many first numbers have a sum of at most this: the most of them, or all but the last.
+    #[tactic(auto, using(crate::proofs::Powers::two_most))]
     pub fn count_within(&self, most: u128) -> usize
-        requires height { self.now.height ≤ 32 }
+        requires height { self.now.height ≤ 40 }
         requires tree { (total : ℕ) × IsSumTree self.now.height total self.now.first self.now.nodes.items × (total < 2 ^ 128) }
         ensures count { result < self.now.first }
         ensures within { first_sum self.now.first self.now.nodes.items result ≤ most }
@@ -72,8 +74,9 @@ impl SumTree {
     }
 
     /// Adds to the number at a place.
+    #[tactic(auto, using(crate::proofs::Powers::two_most))]
     pub fn add(&mut self, place: usize, amount: u128)
-        requires height { self.old.height ≤ 32 }
+        requires height { self.old.height ≤ 40 }
         requires place { place < self.old.first }
         requires tree { (total : ℕ) × IsSumTree self.old.height total self.old.first self.old.nodes.items × (total + amount < 2 ^ 128) }
         ensures height { self.new.height ≡ self.old.height }
@@ -95,7 +98,7 @@ impl SumTree {
 
 /// 2 to a power.
 fn power_of_two(power: u32) -> usize
-    requires { power ≤ 32 }
+    requires { power ≤ 40 }
     ensures { result ≡ 2 ^ power }
 {
     let mut product = 1;

@@ -3,11 +3,11 @@ use Rattle.std.proofs.lemmas.Bool.{cases_lt}
 use Rattle.sum_tree.proofs.Powers.{two_le, two_more}
 use Rattle.cost_sweep.proofs.sorted.height_for.Goals as goal
 
--- a power of 2 below 2 ^ 31 has a lesser exponent
-lesser : (height : ℕ) → 2 ^ height < 2 ^ 31 → height < 31
-lesser height less = elim (cases_lt height 31) as (λ _. height < 31) [
+-- a power of 2 below 2 ^ 39 has a lesser exponent
+lesser : (height : ℕ) → 2 ^ height < 2 ^ 39 → height < 39
+lesser height less = elim (cases_lt height 39) as (λ _. height < 39) [
   | inl is ↦ is
-  | inr most ↦ absurd (omega (arith, two_le 31 height most))
+  | inr most ↦ absurd (omega (arith, two_le 39 height most))
 ]
 
 pub loop-room-preserved : goal.loop-room-preserved

@@ -5,7 +5,7 @@ abbrev pub invariant-loop-room : goal.invariant-loop-room
 invariant-loop-room l = record {
   power : l.room ≡ 2 ^ l.height;
   some : 1 ≤ l.room;
-  few : l.height ≤ 31;
+  few : l.height ≤ 39;
 }
 
 abbrev pub decreases-loop-room : goal.decreases-loop-room
