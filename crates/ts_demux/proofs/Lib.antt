@@ -1,6 +1,7 @@
 pub mod Passing
 pub mod PayloadLemmas
 mod PidTests
+pub mod ReadCases
 pub mod Readings
 pub mod SectionLemmas
 pub mod TableLemmas

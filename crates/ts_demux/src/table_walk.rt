@@ -5,7 +5,7 @@ ghost use Rattle.ts_packets.specs.TransportStream.{piece_at, piece_count, is_of_
 ghost use Rattle.psi_tables.specs.Sections.{sections_of};
 ghost use Rattle.ts_demux.specs.declared.table_walk.Reading.TheVariants.{GoesOn};
 ghost use Rattle.ts_demux.specs.Tables.{HasMap, IsTablesFault};
-ghost use Rattle.ts_demux.specs.Private.TableWalk.{IsBetween, IsInPat, IsInMap, IsOnMapPid, Reads, Ends, ReadsPat, ReadsMap, missing_of, is_on_pat_pid, is_map_on};
+ghost use Rattle.ts_demux.specs.Private.TableWalk.{StandsBefore, IsBetween, IsInPat, IsInMap, IsOnMapPid, Reads, Ends, ReadsPat, ReadsMap, missing_of, is_on_pat_pid, is_map_on};
 
 use crate::demux_fault::{DemuxFault, pid_refused, section_refused};
 use crate::file_packets::{packet_at, place_of};
@@ -90,27 +90,25 @@ impl TableWalk {
         }
     }
 
-    /// Reads the n-th packet of a file.
-    fn take(
+    /// Reads the n-th packet of every file in which the walk stands before it.
+    pub fn take(
         &mut self,
-        file: &[u8],
         n: usize,
         bytes: &[u8; PACKET_BYTES],
     ) -> Result<Option<ProgramMap>, DemuxFault>
-        requires within { n < piece_count file.now }
-        requires bytes { bytes.now ≡ piece_at file.now n }
         requires place { PACKET_BYTES * n < 2 ^ 64 }
-        requires between { IsBetween file.now n self.old }
-        ensures { Ends file.now self.old.program result (IsBetween file.now (n + 1) self.new × (self.new.program ≡ self.old.program)) }
+        requires stands { StandsBefore n bytes.now self.old }
+        ensures { (file : List ℕ) → n < piece_count file → bytes.now ≡ piece_at file n → IsBetween file n self.old →
+            Ends file self.old.program result (IsBetween file (n + 1) self.new × (self.new.program ≡ self.old.program)) }
     {
         let Ok(pid) = pid_of(bytes) else {
             return Err(DemuxFault::Sync { at: place_of(n) });
         };
         if pid == PAT_PID {
-            return self.take_pat_packet(file, n, bytes);
+            return self.take_pat_packet(n, bytes);
         }
         if self.known.is_map_on(pid) {
-            return self.take_map_packet(file, n, bytes);
+            return self.take_map_packet(n, bytes);
         }
         Ok(None)
     }
@@ -118,32 +116,30 @@ impl TableWalk {
     /// Reads a packet of PID 0.
     fn take_pat_packet(
         &mut self,
-        file: &[u8],
         n: usize,
         bytes: &[u8; PACKET_BYTES],
     ) -> Result<Option<ProgramMap>, DemuxFault>
-        requires within { n < piece_count file.now }
-        requires bytes { bytes.now ≡ piece_at file.now n }
         requires place { PACKET_BYTES * n < 2 ^ 64 }
+        requires stands { StandsBefore n bytes.now self.old }
         requires sync { sync_byte bytes.now ≡ 0x47 }
-        requires of_pid { is_of_pid file.now 0 n ≡ true }
-        requires between { IsBetween file.now n self.old }
-        ensures { Ends file.now self.old.program result (IsBetween file.now (n + 1) self.new × (self.new.program ≡ self.old.program)) }
+        requires of_pid { (file : List ℕ) → bytes.now ≡ piece_at file n → is_of_pid file 0 n ≡ true }
+        ensures { (file : List ℕ) → n < piece_count file → bytes.now ≡ piece_at file n → IsBetween file n self.old →
+            Ends file self.old.program result (IsBetween file (n + 1) self.new × (self.new.program ≡ self.old.program)) }
     {
         match self.pat.take(bytes) {
-            Ok(()) => self.read_pat_sections(file, n),
+            Ok(()) => self.read_pat_sections(n),
             Err(fault) => Err(pid_refused(place_of(n), fault)),
         }
     }
 
     /// Reads the sections of PID 0 that wait behind the n-th packet.
-    fn read_pat_sections(&mut self, file: &[u8], n: usize) -> Result<Option<ProgramMap>, DemuxFault>
+    fn read_pat_sections(&mut self, n: usize) -> Result<Option<ProgramMap>, DemuxFault>
         requires place { PACKET_BYTES * n < 2 ^ 64 }
-        requires within { IsInPat file.now n self.old }
-        ensures { Ends file.now self.old.program result (IsBetween file.now (n + 1) self.new × (self.new.program ≡ self.old.program)) }
+        ensures { (file : List ℕ) → IsInPat file n self.old →
+            Ends file self.old.program result (IsBetween file (n + 1) self.new × (self.new.program ≡ self.old.program)) }
     {
         loop {
-            match self.read_pat_section(file, n) {
+            match self.read_pat_section(n) {
                 Ok(Reading::AllRead) => return Ok(None),
                 Ok(Reading::GoesOn) => {}
                 Ok(Reading::Map(map)) => return Ok(Some(map)),
@@ -155,32 +151,30 @@ impl TableWalk {
     /// Reads a packet of the PMT's PID, which isn't PID 0.
     fn take_map_packet(
         &mut self,
-        file: &[u8],
         n: usize,
         bytes: &[u8; PACKET_BYTES],
     ) -> Result<Option<ProgramMap>, DemuxFault>
-        requires within { n < piece_count file.now }
-        requires bytes { bytes.now ≡ piece_at file.now n }
         requires place { PACKET_BYTES * n < 2 ^ 64 }
+        requires stands { StandsBefore n bytes.now self.old }
         requires sync { sync_byte bytes.now ≡ 0x47 }
-        requires of_pid { IsOnMapPid file.now n self.old.known }
-        requires between { IsBetween file.now n self.old }
-        ensures { Ends file.now self.old.program result (IsBetween file.now (n + 1) self.new × (self.new.program ≡ self.old.program)) }
+        requires of_pid { (file : List ℕ) → bytes.now ≡ piece_at file n → IsOnMapPid file n self.old.known }
+        ensures { (file : List ℕ) → n < piece_count file → bytes.now ≡ piece_at file n → IsBetween file n self.old →
+            Ends file self.old.program result (IsBetween file (n + 1) self.new × (self.new.program ≡ self.old.program)) }
     {
         match self.map.take(bytes) {
-            Ok(()) => self.read_map_sections(file, n),
+            Ok(()) => self.read_map_sections(n),
             Err(fault) => Err(pid_refused(place_of(n), fault)),
         }
     }
 
     /// Reads the sections of the PMT's PID that wait behind the n-th packet.
-    fn read_map_sections(&mut self, file: &[u8], n: usize) -> Result<Option<ProgramMap>, DemuxFault>
+    fn read_map_sections(&mut self, n: usize) -> Result<Option<ProgramMap>, DemuxFault>
         requires place { PACKET_BYTES * n < 2 ^ 64 }
-        requires within { IsInMap file.now n self.old }
-        ensures { Ends file.now self.old.program result (IsBetween file.now (n + 1) self.new × (self.new.program ≡ self.old.program)) }
+        ensures { (file : List ℕ) → IsInMap file n self.old →
+            Ends file self.old.program result (IsBetween file (n + 1) self.new × (self.new.program ≡ self.old.program)) }
     {
         loop {
-            match self.read_map_section(file, n) {
+            match self.read_map_section(n) {
                 Ok(Reading::AllRead) => return Ok(None),
                 Ok(Reading::GoesOn) => {}
                 Ok(Reading::Map(map)) => return Ok(Some(map)),
@@ -190,10 +184,10 @@ impl TableWalk {
     }
 
     /// Reads the next section of PID 0 that waits behind the n-th packet.
-    fn read_pat_section(&mut self, file: &[u8], n: usize) -> Result<Reading, DemuxFault>
+    fn read_pat_section(&mut self, n: usize) -> Result<Reading, DemuxFault>
         requires place { PACKET_BYTES * n < 2 ^ 64 }
-        requires within { IsInPat file.now n self.old }
-        ensures read { Reads file.now self.old.program result (IsInPat file.now n self.new × (self.new.program ≡ self.old.program)) (IsBetween file.now (n + 1) self.new × (self.new.program ≡ self.old.program)) }
+        ensures read { (file : List ℕ) → IsInPat file n self.old →
+            Reads file self.old.program result (IsInPat file n self.new × (self.new.program ≡ self.old.program)) (IsBetween file (n + 1) self.new × (self.new.program ≡ self.old.program)) }
         ensures fewer { result ≡ Ok GoesOn → length (sections_of self.new.pat.builder) < length (sections_of self.old.pat.builder) }
     {
         let Some(found) = self.pat.next() else {
@@ -215,10 +209,10 @@ impl TableWalk {
     }
 
     /// Reads the next section of the PMT's PID that waits behind the n-th packet.
-    fn read_map_section(&mut self, file: &[u8], n: usize) -> Result<Reading, DemuxFault>
+    fn read_map_section(&mut self, n: usize) -> Result<Reading, DemuxFault>
         requires place { PACKET_BYTES * n < 2 ^ 64 }
-        requires within { IsInMap file.now n self.old }
-        ensures read { Reads file.now self.old.program result (IsInMap file.now n self.new × (self.new.program ≡ self.old.program)) (IsBetween file.now (n + 1) self.new × (self.new.program ≡ self.old.program)) }
+        ensures read { (file : List ℕ) → IsInMap file n self.old →
+            Reads file self.old.program result (IsInMap file n self.new × (self.new.program ≡ self.old.program)) (IsBetween file (n + 1) self.new × (self.new.program ≡ self.old.program)) }
         ensures fewer { result ≡ Ok GoesOn → length (sections_of self.new.map.builder) < length (sections_of self.old.map.builder) }
     {
         let Some(found) = self.map.next() else {
@@ -296,7 +290,7 @@ pub fn read_map(file: &[u8], program: u16) -> Result<ProgramMap, DemuxFault>
     let mut walk = TableWalk::new(program);
     let mut n = 0;
     while let Some(bytes) = packet_at(file, n) {
-        match walk.take(file, n, bytes) {
+        match walk.take(n, bytes) {
             Ok(None) => n += 1,
             Ok(Some(map)) => return Ok(map),
             Err(fault) => return Err(fault),

@@ -1,6 +1,6 @@
 -- Where a walk over the packets of a file stands that reads the tables of a program.
 use Rattle.std.specs.Prelude.{◌≡◌, ◌≢◌, ℕ, ◌+◌, ◌<◌, ◌≤◌, ◌==◌, Bool, true, false, List, [], drop, Option, Some, None, Result, Ok, Err}
-use Rattle.ts_packets.specs.TransportStream.{piece_count, is_of_pid, pid_pieces}
+use Rattle.ts_packets.specs.TransportStream.{piece_at, piece_count, is_of_pid, pid_pieces}
 use Rattle.psi_tables.specs.declared.program_map.ProgramMap.{ProgramMap}
 use Rattle.psi_tables.specs.Sections.{Found}
 use Rattle.psi_tables.specs.declared.section.SectionFault.{SectionFault}
@@ -56,6 +56,13 @@ pub record IsBetween (file : List ℕ) (packet : ℕ) (walk : TableWalk) : Type 
   pub known : IsKnown file walk.program packet 0 walk.known
   pub pat : Waits (pid_pieces file pat_pid 0 packet) [] walk.pat
   pub map : IsMapReader file packet walk.known walk.map
+
+-- a walk stands before the n-th packet of some file, which has these bytes
+pub record StandsBefore (n : ℕ) (bytes : List ℕ) (walk : TableWalk) : Type 0 where
+  pub file : List ℕ
+  pub within : n < piece_count file
+  pub bytes_are : bytes ≡ piece_at file n
+  pub between : IsBetween file n walk
 
 -- the sections of a packet of PID 0 are read, the first ones done
 pub record IsInPat (file : List ℕ) (packet : ℕ) (walk : TableWalk) : Type 0 where

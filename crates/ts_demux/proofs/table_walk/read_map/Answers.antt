@@ -7,6 +7,14 @@ use Rattle.ts_demux.proofs.table_walk.read_map.Goals as goal
 pub loop-bytes-init : goal.loop-bytes-init
 loop-bytes-init c = record { between = c.new-walk.ensures.between c.args.file.now; program = c.new-walk.ensures.program }
 
+pub take-requires-clause-stands : goal.take-requires-clause-stands
+take-requires-clause-stands c = record {
+  file = c.args.file.now;
+  within = c.in-Some.ensures.some.0;
+  bytes_are = c.in-Some.ensures.some.1;
+  between = c.loop-bytes.invariant.between;
+}
+
 pub returns : goal.returns
 returns c =
     let walk = c.loop-bytes.walk in

@@ -10,28 +10,25 @@ use Rattle.ts_demux.proofs.WalkSteps.{map_there, map_all_read, map_refuses, map_
 use Rattle.ts_demux.proofs.table_walk.TableWalk.read_map_section.Goals as goal
 
 pub returns-in_default-clause-read : goal.returns-in_default-clause-read
-returns-in_default-clause-read c =
-    let within = c.requires.within in
-    let reads = c.next.ensures.read (pid_pieces c.args.file.now within.pid within.from (c.args.n + 1)) within.waiting within.map in (
-      map_all_read c.args.file.now c.args.n c.args.self.now c.next.new.self within
+returns-in_default-clause-read c file within =
+    let reads = c.next.ensures.read (pid_pieces file within.pid within.from (c.args.n + 1)) within.waiting within.map in (
+      map_all_read file c.args.n c.args.self.now c.next.new.self within
           (subst (λ (found : Option (Result (ArrayVec ℕ) SectionFault)). ReadsNext
-          (pid_pieces c.args.file.now within.pid within.from (c.args.n + 1)) within.waiting found c.next.new.self) c.in_default.is reads),
+          (pid_pieces file within.pid within.from (c.args.n + 1)) within.waiting found c.next.new.self) c.in_default.is reads),
       refl,
     )
 
 pub returns-in-Err-clause-read : goal.returns-in-Err-clause-read
-returns-in-Err-clause-read c =
-    let within = c.requires.within in
-    let reads = c.in-Some.ensures.read (pid_pieces c.args.file.now within.pid within.from (c.args.n + 1)) within.waiting within.map in
-    let there = map_there c.args.file.now c.args.n c.args.self.now c.in-Some.found c.next.new.self within reads in
+returns-in-Err-clause-read c file within =
+    let reads = c.in-Some.ensures.read (pid_pieces file within.pid within.from (c.args.n + 1)) within.waiting within.map in
+    let there = map_there file c.args.n c.args.self.now c.in-Some.found c.next.new.self within reads in
     let bad : IsBadPmt (found_of c.in-Some.found) c.in-Err.fault = subst (λ (found : Result (ArrayVec ℕ) SectionFault). IsBadPmt (found_of found) c.in-Err.fault) (sym c.in-Err.is) refl in
-    subst (λ fault. StopsFirst c.args.file.now c.args.self.now.program (refuse fault)) (sym (c.section_refused.ensures ∙ ap (λ at. of_section at c.in-Err.fault) c.place_of.ensures))
-    (map_refuses c.args.file.now c.args.n c.args.self.now (found_of c.in-Some.found) c.in-Err.fault within there bad)
+    subst (λ fault. StopsFirst file c.args.self.now.program (refuse fault)) (sym (c.section_refused.ensures ∙ ap (λ at. of_section at c.in-Err.fault) c.place_of.ensures))
+    (map_refuses file c.args.n c.args.self.now (found_of c.in-Some.found) c.in-Err.fault within there bad)
 
 pub returns-clause-read : goal.returns-clause-read
-returns-clause-read c =
-    let within = c.requires.within in
-    let reads = c.in-Some.ensures.read (pid_pieces c.args.file.now within.pid within.from (c.args.n + 1)) within.waiting within.map in
+returns-clause-read c file within =
+    let reads = c.in-Some.ensures.read (pid_pieces file within.pid within.from (c.args.n + 1)) within.waiting within.map in
     let reads_it = subst (λ (found : Result (ArrayVec ℕ) SectionFault). ReadsNext
-    (pid_pieces c.args.file.now within.pid within.from (c.args.n + 1)) within.waiting (Some found) c.next.new.self) c.in-Ok.is reads in
-    map_read c.args.file.now c.args.n c.args.self.now c.in-Ok.section c.next.new.self c.read_program_map.result within reads_it c.read_program_map.ensures
+    (pid_pieces file within.pid within.from (c.args.n + 1)) within.waiting (Some found) c.next.new.self) c.in-Ok.is reads in
+    map_read file c.args.n c.args.self.now c.in-Ok.section c.next.new.self c.read_program_map.result within reads_it c.read_program_map.ensures

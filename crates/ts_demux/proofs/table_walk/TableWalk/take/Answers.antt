@@ -16,23 +16,23 @@ yes_test : (pid : ℕ) → pid ≡ 0 → (pid == 0) ≡ true
 yes_test pid same = grind (arith, nat_tests)
 
 pub returns-in_default : goal.returns-in_default
-returns-in_default c =
-    subst (λ at. StopsFirst c.args.file.now c.args.self.now.program (refuse (Sync at))) (sym c.place_of.ensures)
-    (sync_refuses c.args.file.now c.args.n c.args.self.now c.args.bytes.now c.requires.within c.requires.bytes c.in_default.ensures.sync.1 c.requires.between)
+returns-in_default c file within bytes_are between =
+    subst (λ at. StopsFirst file c.args.self.now.program (refuse (Sync at))) (sym c.place_of.ensures)
+    (sync_refuses file c.args.n c.args.self.now c.args.bytes.now within bytes_are c.in_default.ensures.sync.1 between)
 
 pub take_pat_packet-requires-clause-of_pid : goal.take_pat_packet-requires-clause-of_pid
-take_pat_packet-requires-clause-of_pid c = is_of c.args.file.now c.args.n c.in-Ok.pid pat_pid c.args.bytes.now true c.requires.bytes
+take_pat_packet-requires-clause-of_pid c file bytes_are = is_of file c.args.n c.in-Ok.pid pat_pid c.args.bytes.now true bytes_are
     c.in-Ok.ensures.pid.1 (yes_test c.in-Ok.pid c.if-pid-eq-PAT_PID.true)
 
 pub take_map_packet-requires-clause-of_pid : goal.take_map_packet-requires-clause-of_pid
-take_map_packet-requires-clause-of_pid c = on_map c.args.file.now c.args.n c.in-Ok.pid c.args.bytes.now c.args.self.now.known c.requires.bytes
+take_map_packet-requires-clause-of_pid c file bytes_are = on_map file c.args.n c.in-Ok.pid c.args.bytes.now c.args.self.now.known bytes_are
     c.in-Ok.ensures.pid.1 c.if-pid-eq-PAT_PID.false (sym c.is_map_on.ensures ∙ c.if-is_map_on.true)
 
 pub returns : goal.returns
-returns c = (
-  other_goes_on c.args.file.now c.args.n c.args.self.now c.args.bytes.now c.requires.bytes c.in-Ok.ensures.pid.0
-      (is_of c.args.file.now c.args.n c.in-Ok.pid pat_pid c.args.bytes.now false c.requires.bytes c.in-Ok.ensures.pid.1 (no_test c.in-Ok.pid c.if-pid-eq-PAT_PID.false))
-      (not_on_map c.args.file.now c.args.n c.in-Ok.pid c.args.bytes.now c.args.self.now.known c.requires.bytes c.in-Ok.ensures.pid.1
-      (sym c.is_map_on.ensures ∙ c.if-is_map_on.false)) c.requires.between,
+returns c file within bytes_are between = (
+  other_goes_on file c.args.n c.args.self.now c.args.bytes.now bytes_are c.in-Ok.ensures.pid.0
+      (is_of file c.args.n c.in-Ok.pid pat_pid c.args.bytes.now false bytes_are c.in-Ok.ensures.pid.1 (no_test c.in-Ok.pid c.if-pid-eq-PAT_PID.false))
+      (not_on_map file c.args.n c.in-Ok.pid c.args.bytes.now c.args.self.now.known bytes_are c.in-Ok.ensures.pid.1
+      (sym c.is_map_on.ensures ∙ c.if-is_map_on.false)) between,
   refl,
 )

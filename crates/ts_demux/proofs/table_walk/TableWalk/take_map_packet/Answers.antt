@@ -5,15 +5,16 @@ use Rattle.ts_demux.proofs.WalkSteps.{map_pulled, map_begins, map_refuses_packet
 use Rattle.ts_demux.proofs.table_walk.TableWalk.take_map_packet.Goals as goal
 
 pub take-requires : goal.take-requires
-take-requires c = map_pulled c.args.file.now c.args.n c.args.self.now.known c.args.self.now.map c.requires.of_pid c.requires.between.map
+take-requires c = map_pulled c.requires.stands.file c.args.n c.args.self.now.known c.args.self.now.map (c.requires.of_pid c.requires.stands.file c.requires.stands.bytes_are) c.requires.stands.between.map
 
-pub read_map_sections-requires-clause-within : goal.read_map_sections-requires-clause-within
-read_map_sections-requires-clause-within c =
-    map_begins c.args.file.now c.args.n c.args.self.now c.args.self.now.known c.args.bytes.now c.take.new.self refl c.requires.within c.requires.bytes
-    c.requires.sync c.requires.of_pid c.requires.between c.in-Ok.ensures
+pub returns-in-Ok : goal.returns-in-Ok
+returns-in-Ok c file within bytes_are between =
+    c.read_map_sections.ensures file
+    (map_begins file c.args.n c.args.self.now c.args.self.now.known c.args.bytes.now c.take.new.self refl within bytes_are
+    c.requires.sync (c.requires.of_pid file bytes_are) between c.in-Ok.ensures)
 
 pub returns-in-Err : goal.returns-in-Err
-returns-in-Err c =
-    subst (λ fault. StopsFirst c.args.file.now c.args.self.now.program (refuse fault)) (sym (c.pid_refused.ensures ∙ ap (λ at. of_pid at c.in-Err.fault) c.place_of.ensures))
-    (map_refuses_packet c.args.file.now c.args.n c.args.self.now c.args.self.now.known c.args.bytes.now c.in-Err.fault c.take.new.self refl
-    c.requires.within c.requires.bytes c.requires.of_pid c.requires.between c.in-Err.ensures)
+returns-in-Err c file within bytes_are between =
+    subst (λ fault. StopsFirst file c.args.self.now.program (refuse fault)) (sym (c.pid_refused.ensures ∙ ap (λ at. of_pid at c.in-Err.fault) c.place_of.ensures))
+    (map_refuses_packet file c.args.n c.args.self.now c.args.self.now.known c.args.bytes.now c.in-Err.fault c.take.new.self refl
+    within bytes_are (c.requires.of_pid file bytes_are) between c.in-Err.ensures)
