@@ -8,7 +8,8 @@ ghost use Rattle.std.specs.Prelude.{◌≤◌, ◌^◌, length};
 
 use bit_cursor::BitReader;
 use block_coeffs::read_block_into;
-use shelf_io::{FileShelf, SliceSource, read_file};
+use shelf_io::{SliceSource, read_file};
+use shelf_kinds::FileShelf;
 use std::{env, io};
 use syntax_types::{Block, BlockWay};
 

@@ -12,7 +12,8 @@ ghost use Rattle.std.specs.Prelude.{◌≤◌, ◌^◌, length};
 
 use crate::slices::{RATIOS_MOST, Tally, coarsen_slices};
 use arrayvec::ArrayVec;
-use shelf_io::{FileShelf, read_file};
+use shelf_io::read_file;
+use shelf_kinds::FileShelf;
 use std::{env, io};
 
 /// The most bytes that are read of a file.

@@ -13,7 +13,8 @@ use crate::made_layout::made_layout;
 use crate::made_pieces::MadePieces;
 use crate::made_rows::made_rows;
 use mux_writer::write_stream;
-use shelf_io::{CountSink, FileShelf, Shelf, Writing};
+use shelf_io::{Shelf, Writing};
+use shelf_kinds::{CountSink, FileShelf};
 use std::{env, io};
 
 /// Ticks of a slot, for a stream of 37.6 Mbit/s.

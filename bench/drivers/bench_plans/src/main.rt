@@ -7,7 +7,8 @@
 ghost use Rattle.version_table.specs.Table.{IsValidTable};
 
 use branch_plan::{PlanFault, plan};
-use shelf_io::{FileShelf, read_file};
+use shelf_io::read_file;
+use shelf_kinds::FileShelf;
 use std::alloc::Global;
 use std::{env, io};
 use version_table::limits::{EVALUATIONS_MOST, NODES_MOST};

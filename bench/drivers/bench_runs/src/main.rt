@@ -8,7 +8,8 @@
 ghost use Rattle.version_table.specs.Table.{IsValidTable};
 
 use list_types::OutOfMemory;
-use shelf_io::{FileShelf, read_file};
+use shelf_io::read_file;
+use shelf_kinds::FileShelf;
 use slot_rule::{Miss, SlotRun, first_miss};
 use std::alloc::Global;
 use std::{env, io};
