@@ -21,8 +21,8 @@ mod wording;
 mod write;
 
 pub use choice_laws::{
-    few_units_cost_little, least_distortions_bound, level_choices_end,
-    level_choices_fit, smallest_choice_fits, smallest_choice_is_one,
+    few_units_cost_little, least_distortions_bound, level_choices_end, level_choices_fit,
+    smallest_choice_fits, smallest_choice_is_one,
 };
 pub use choices::{distortion_of, least_total, level, smallest};
 pub use fault::{Limit, TableFault};
