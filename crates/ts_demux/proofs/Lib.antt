@@ -1,4 +1,6 @@
 pub mod Passing
+pub mod PassSteps
+pub mod MapSteps
 pub mod PayloadLemmas
 mod PidTests
 pub mod ReadCases

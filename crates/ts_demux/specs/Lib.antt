@@ -4,4 +4,5 @@ pub mod Faults
 pub mod Streams
 pub mod Tables
 pub mod Demux
+pub mod Pass
 pub mod Private

@@ -68,7 +68,7 @@ impl PacketBuffer {
 
     /// The packet that stands first, where it is whole.
     pub fn first(&self) -> Option<&[u8; PACKET_BYTES]>
-        ensures some { IfSome result (λ packet. packet.now ≡ take PACKET_BYTES self.now) }
+        ensures some { IfSome result (λ packet. (PACKET_BYTES ≤ length self.now) × (packet.now ≡ take PACKET_BYTES self.now)) }
         ensures none { IfNone result (length self.now < PACKET_BYTES) }
     {
         self.room[self.from..self.to].first_chunk()

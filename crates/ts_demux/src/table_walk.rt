@@ -78,7 +78,7 @@ impl TableWalk {
     ghost use Rattle.std.specs.Prelude.{List, ℕ};
 
     /// A walk before the first packet.
-    fn new(program: u16) -> Self
+    pub fn new(program: u16) -> Self
         ensures between { (file : List ℕ) → IsBetween file 0 result }
         ensures program { result.program ≡ program }
     {
@@ -226,7 +226,7 @@ impl TableWalk {
     }
 
     /// Why no PMT section was taken, at the file's end.
-    fn missing(&self) -> DemuxFault
+    pub fn missing(&self) -> DemuxFault
         ensures { result ≡ missing_of self.now.known }
     {
         match self.known {

@@ -1,12 +1,12 @@
 -- Where a walk over the packets of a file stands that reads the tables of a program.
-use Rattle.std.specs.Prelude.{◌≡◌, ◌≢◌, ℕ, ◌+◌, ◌<◌, ◌≤◌, ◌==◌, Bool, true, false, List, [], drop, Option, Some, None, Result, Ok, Err}
+use Rattle.std.specs.Prelude.{◌≡◌, ◌≢◌, ℕ, ◌+◌, ◌<◌, ◌≤◌, ◌==◌, Bool, true, false, List, [], drop, Option, Some, None, Result, Ok, Err, if◌then◌else◌}
 use Rattle.ts_packets.specs.TransportStream.{piece_at, piece_count, is_of_pid, pid_pieces}
 use Rattle.psi_tables.specs.declared.program_map.ProgramMap.{ProgramMap}
 use Rattle.psi_tables.specs.Sections.{Found}
 use Rattle.psi_tables.specs.declared.section.SectionFault.{SectionFault}
 use Rattle.psi_tables.specs.Section.{IsCurrent}
 use Rattle.ts_demux.specs.declared.demux_fault.DemuxFault.{DemuxFault}
-use Rattle.ts_demux.specs.declared.demux_fault.DemuxFault.TheVariants.{NoPat, NoProgram, NoPmt}
+use Rattle.ts_demux.specs.declared.demux_fault.DemuxFault.TheVariants.{ShortFile, NoPat, NoProgram, NoPmt}
 use Rattle.ts_demux.specs.Faults.{of_section}
 use Rattle.ts_demux.specs.declared.section_reader.SectionReader.{SectionReader}
 use Rattle.ts_demux.specs.declared.table_walk.Known.{Known}
@@ -129,6 +129,10 @@ abbrev pub missing_of : Known → DemuxFault
 missing_of Nothing = NoPat 0
 missing_of OtherPrograms = NoProgram 0
 missing_of (MapOn pid from) = NoPmt 0
+
+-- why there is no map behind so many packets, which are all
+abbrev pub missing_behind : ℕ → Known → DemuxFault
+missing_behind packets known = if packets == 0 then ShortFile 0 else missing_of known
 
 -- ---- what a section says
 
