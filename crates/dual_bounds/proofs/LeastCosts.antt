@@ -192,6 +192,6 @@ least_costs-fit windows slot (unit ∷ units) (entry ∷ fixed) charging valid n
 
 -- the costs of all units are few enough bits
 pub all_costs-fit : (windows : List Window) (table : Table) (fixed : List (Option ℕ)) → AreCharging windows → IsValidTable table → FixesVersions table fixed
-    → least_costs windows (units_of table) fixed < 2 ^ 80
+    → least_costs windows (units_of table) fixed < 2 ^ 85
 all_costs-fit windows table fixed charging valid names =
     omega (arith, least_costs-fit windows table.slot (units_of table) fixed charging (valid_units table valid) names, valid.units)

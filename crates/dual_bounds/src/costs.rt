@@ -19,7 +19,7 @@ pub fn least_costs(table: &Table, fixed: &Fixed, windows: &[Window]) -> u128
     requires fixed { FixesVersions table.now fixed.now }
     requires charging { AreCharging windows.now }
     ensures value { result ≡ least_costs windows.now (units_of table.now) fixed.now }
-    ensures small { result < 2 ^ 80 }
+    ensures small { result < 2 ^ 85 }
 {
     let mut rest = fixed.as_slice();
     let mut total = 0;
@@ -36,7 +36,7 @@ fn costs_of_units(units: &[Unit], fixed: &[Option<u8>], windows: &[Window], slot
     requires valid { All (IsValidUnit slot) units.now }
     requires names { AllZip NamesVersion units.now fixed.now }
     requires charging { AreCharging windows.now }
-    requires small { least_costs windows.now units.now fixed.now < 2 ^ 80 }
+    requires small { least_costs windows.now units.now fixed.now < 2 ^ 85 }
     ensures { result ≡ least_costs windows.now units.now fixed.now }
 {
     let mut total = 0;

@@ -4,8 +4,8 @@ ghost use Rattle.std.specs.Prelude.{◌≡◌, ◌≤◌, ◌<◌, ◌^◌, ◌�
 ghost use Rattle.version_table.specs.declared.limits.TheConstants.{SLOT_MOST};
 ghost use Rattle.job_programs.specs.Private.Behind.{IsPieceBy, KeepsTime};
 
+use program_reader::limits::TIME_SLOTS_MOST;
 use program_reader::{AudioPiece, AudioSource, Program, UnitSource};
-use version_table::limits::TIME_SLOTS_MOST;
 
 /// True where no unit of a program is due, and no audio packet due or gone, past the last time that a stream of such slots
 /// reaches.

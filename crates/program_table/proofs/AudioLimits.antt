@@ -70,7 +70,7 @@ packets-valid slot low (p ∷ ps) in_order gones =
     All-cons (IsValidPacket slot) p.packet (packets_in ps)
     (record {
       due = in_order.3;
-      gone = All-head (λ (piece : AudioPiece). piece.packet.gone ≤ 4194304 * slot) p ps gones;
+      gone = omega (arith, All-head (λ (piece : AudioPiece). piece.packet.gone ≤ 4194304 * slot) p ps gones);
       some_bytes = in_order.0;
       bytes = in_order.1;
     })

@@ -1,9 +1,9 @@
 -- The table of the programs of a job keeps the limits of tables.
-use Rattle.std.proofs.Common.{◌≡◌, ℕ, suc, ◌+◌, ◌*◌, ◌<◌, ◌≤◌, List, [], ◌∷◌, ◌++◌, length, map, All, None, ap, subst, sym, ◌∙◌, arith, append_assoc, append-nil}
+use Rattle.std.proofs.Common.{◌≡◌, ℕ, suc, ◌+◌, ◌*◌, ◌<◌, ◌≤◌, List, [], ◌∷◌, ◌++◌, length, map, sum_by, All, None, ap, subst, sym, ◌∙◌, arith, append_assoc, append-nil}
 use Rattle.std.specs.List.{flat_map}
 use Rattle.std.specs.List.Sorted.{IsStrictlyIncreasing}
 use Rattle.std.proofs.lemmas.List.{length-append, length-map}
-use Rattle.std.proofs.lemmas.List.Elements.{All-cons, All-head, All-nil, All-tail}
+use Rattle.std.proofs.lemmas.List.Elements.{All-cons, All-head, All-nil, All-tail, All-weaker}
 use Rattle.std.proofs.lemmas.List.Sums.{sum_by-append, sum_by-cons}
 use Rattle.bit_lists.specs.Fields.{AreBytes}
 use Rattle.picture_grammar.specs.Picture.{IsState}
@@ -16,7 +16,9 @@ use Rattle.job_report.specs.ValidJob.{IsValidJob, IsValidProgramJob}
 use Rattle.version_table.specs.declared.table.AudioPacket.{AudioPacket}
 use Rattle.version_table.specs.declared.table.ProgramRow.{ProgramRow}
 use Rattle.version_table.specs.declared.table.Table.{Table}
-use Rattle.version_table.specs.Table.{IsValidProgram, IsValidTable, audio_packets_of, units_of}
+use Rattle.version_table.specs.Table.{IsValidProgram, IsValidTable, IsValidUnit, audio_packets_of, greatest_distortion, units_of}
+use Rattle.version_table.proofs.Greatest.{greatest_together}
+use Rattle.version_table.proofs.ValidUnits.{All-flat_map}
 use Rattle.program_reader.specs.declared.program.Program.{Program}
 use Rattle.program_reader.specs.Programs.{IsProgram, IsProgramOfFile, video_bytes, video_packets}
 use Rattle.program_reader.specs.Units.{AreInOrder}
@@ -85,6 +87,7 @@ program-fine places slot start number weight content drop coarser program versio
 pub row-valid : HavePlaces → (slot start number weight : ℕ) (content drop coarser : List ℕ) (program : Program) (row : ProgramRow) → weight ≤ 100 → length coarser ≤ 7
     → IsProgramOfFile content number drop start program → IsWithinTime slot program → AreBytes program.video → IsRowOf program coarser weight row
     → IsValidProgram slot row × (length row.units ≤ 32768) × (length (flat_map (λ packets. packets) row.audios) < 4294967296)
+    × (sum_by greatest_distortion row.units < 9223372036854775808)
 row-valid places slot start number weight content drop coarser program row light few_ratios holds within are is =
     let fine : IsFine slot row =
     subst (IsFine slot) (sym is.row_is) (program-fine places slot start number weight content drop coarser program is.versions light few_ratios holds within are is.are_versions) in
@@ -92,7 +95,8 @@ row-valid places slot start number weight content drop coarser program row light
     let read : IsProgram start holds.demuxed program = holds.program_is in
     let count : length program.units ≡ length read.kept = sources-many start read.earliest read.kept read.pictures program.units read.units_are in
     let most : length read.kept ≤ 32768 = read.few in
-    (fine.valid, omega (arith, rows, rows-few weight program.units is.versions, count, most), omega (arith, fine.few))
+    let few : length row.units ≤ 32768 = omega (arith, rows, rows-few weight program.units is.versions, count, most) in
+    (fine.valid, few, omega (arith, fine.few), omega (arith, greatest_together slot row.units fine.valid.units, few))
 
 -- ---- all programs
 
@@ -204,6 +208,9 @@ table-valid places job contents programs table valid next are is =
     let nodes : table.nodes ≡ job.nodes = is.nodes in
     let evaluations : table.evaluations ≡ job.evaluations = is.evaluations in
     let eight : length job.programs ≤ 8 = valid.few_programs in
+    let all_units : All (IsValidUnit table.slot) (units_of table) =
+    All-flat_map (IsValidUnit table.slot) (λ program. program.units) table.programs
+    (All-weaker (IsValidProgram table.slot) (λ program. All (IsValidUnit table.slot) program.units) (λ program h. h.units) table.programs (all-valid table.slot table.programs fine_table)) in
     record {
       slot_least = omega (arith, slot, valid.slot_least);
       slot_most = omega (arith, slot, valid.slot_most);
@@ -213,5 +220,6 @@ table-valid places job contents programs table valid next are is =
       few_programs = omega (arith, count, fewer, eight);
       programs = all-valid table.slot table.programs fine_table;
       units = omega (arith, units, some, most);
+      distortions = omega (arith, greatest_together table.slot (units_of table) all_units, units, some, most);
       audio_packets = omega (arith, packets, count, fewer, eight);
     }

@@ -147,7 +147,7 @@ unit-valid places slot weight es coarser before unit versions light few are may 
     let valid : All (λ version. IsValidVersion (row_version weight unit version)) versions =
     places before (bytes_of_unit es unit) coarser versions (length (written_pes_header unit.times)) weight may bytes (bytes-short es unit short) is (header-few unit.times) room in
     record {
-      due = due;
+      due = omega (arith, due);
       some_version = omega (arith, count, same);
       few_versions = omega (arith, count, same, few);
       versions = All-map IsValidVersion (row_version weight unit) versions valid;

@@ -1,5 +1,5 @@
 //! What holds of the tables of programs.
-ghost use Rattle.std.specs.Prelude.{◌≡◌, ◌≤◌, ◌<◌, ℕ, List, All, length};
+ghost use Rattle.std.specs.Prelude.{◌≡◌, ◌≤◌, ◌<◌, ℕ, List, All, length, sum_by};
 ghost use Rattle.std.specs.List.{flat_map};
 ghost use Rattle.bit_lists.specs.Fields.{AreBytes};
 ghost use Rattle.job_report.specs.declared.job.Job.{Job};
@@ -8,14 +8,15 @@ ghost use Rattle.program_reader.specs.declared.program.Program.{Program};
 ghost use Rattle.program_reader.specs.Programs.{IsProgramOfFile};
 ghost use Rattle.version_table.specs.declared.table.ProgramRow.{ProgramRow};
 ghost use Rattle.version_table.specs.declared.table.Table.{Table};
-ghost use Rattle.version_table.specs.Table.{IsValidProgram, IsValidTable};
+ghost use Rattle.version_table.specs.Table.{IsValidProgram, IsValidTable, greatest_distortion};
 ghost use Rattle.job_programs.specs.Programs.{ArePrograms, IsWithinTime};
 ghost use Rattle.program_table.specs.Table.{IsRowOf, IsTableOf};
 
 use job_report::limits::{COARSER_MOST, WEIGHT_MOST};
+use program_reader::limits::UNITS_MOST;
 use version_laws::laws::versions_have_places;
 use version_source::laws::one_list_of_versions;
-use version_table::limits::{AUDIO_PACKETS_LIMIT, UNITS_MOST};
+use version_table::limits::{AUDIO_PACKETS_LIMIT, DISTORTIONS_LIMIT};
 
 /// The programs of a job have one table.
 pub fn one_table()
@@ -36,7 +37,8 @@ pub fn table_is_valid()
 pub fn row_is_valid()
     ensures { (slot start number weight : ℕ) (content drop coarser : List ℕ) (program : Program) (row : ProgramRow) → weight ≤ WEIGHT_MOST → length coarser ≤ COARSER_MOST
         → IsProgramOfFile content number drop start program → IsWithinTime slot program → AreBytes program.video → IsRowOf program coarser weight row
-        → IsValidProgram slot row × (length row.units ≤ UNITS_MOST) × (length (flat_map (λ packets. packets) row.audios) < AUDIO_PACKETS_LIMIT) }
+        → IsValidProgram slot row × (length row.units ≤ UNITS_MOST) × (length (flat_map (λ packets. packets) row.audios) < AUDIO_PACKETS_LIMIT)
+        × (sum_by greatest_distortion row.units < DISTORTIONS_LIMIT) }
 {
     versions_have_places();
 }

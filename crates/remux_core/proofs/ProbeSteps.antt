@@ -17,7 +17,7 @@ use Rattle.program_reader.specs.Programs.{IsProgramOfFile}
 use Rattle.program_table.specs.Table.{IsRowOf, audio_row}
 use Rattle.shelf_io.specs.Files.{Files, with_content}
 use Rattle.shelf_io.specs.WholeFile.{HoldsPrefix}
-use Rattle.version_table.specs.declared.limits.TheConstants.{AUDIO_PACKETS_LIMIT, TEXT_AUDIO_PACKETS_MOST, UNITS_MOST}
+use Rattle.version_table.specs.declared.limits.TheConstants.{AUDIO_PACKETS_LIMIT, DISTORTIONS_LIMIT, TEXT_AUDIO_PACKETS_MOST}
 use Rattle.version_table.specs.declared.table.AudioPacket.{AudioPacket}
 use Rattle.version_table.specs.declared.table.ProgramRow.{ProgramRow}
 use Rattle.version_table.specs.declared.table.Table.{Table}
@@ -53,6 +53,7 @@ abbrev pub RowsArePlaced : Type 0
 RowsArePlaced = (slot start number weight : ℕ) (content drop coarser : List ℕ) (program : Program) (row : ProgramRow) → weight ≤ WEIGHT_MOST → length coarser ≤ COARSER_MOST
     → IsProgramOfFile content number drop start program → IsWithinTime slot program → AreBytes program.video → IsRowOf program coarser weight row
     → IsValidProgram slot row × (length row.units ≤ UNITS_MOST) × (length (flat_map (λ packets. packets) row.audios) < AUDIO_PACKETS_LIMIT)
+    × (sum_by greatest_distortion row.units < DISTORTIONS_LIMIT)
 
 -- the table of a program that is probed
 abbrev pub table_of_row : ProgramRow → Table

@@ -1,7 +1,8 @@
 //! What is reported of plans, programs and refusals, as `job_report` prints it.
 
 ghost use Rattle.std.specs.Prelude.{◌≡◌, ◌≤◌, length, map, IfOk};
-ghost use Rattle.version_table.specs.declared.limits.TheConstants.{NODES_MOST, TEXT_AUDIO_PACKETS_MOST, UNITS_MOST};
+ghost use Rattle.version_table.specs.declared.limits.TheConstants.{NODES_MOST, TEXT_AUDIO_PACKETS_MOST};
+ghost use Rattle.program_reader.specs.declared.limits.TheConstants.{UNITS_MOST};
 ghost use Rattle.job_programs.specs.Probe.{audio_packets};
 ghost use Rattle.job_report.specs.Report.{report_line};
 ghost use Rattle.remux_core.specs.Report as spec;

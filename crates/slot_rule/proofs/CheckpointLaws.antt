@@ -1,60 +1,28 @@
--- What is kept at checkpoints, their number at the end of a run, and the work that they tell.
-use Rattle.std.proofs.Common.{
-  ◌≡◌,
-  ℕ,
-  zero,
-  suc,
-  ◌+◌,
-  ◌-◌,
-  ◌*◌,
-  ◌/◌,
-  ◌<◌,
-  ◌≤◌,
-  ◌⊎◌,
-  List,
-  [],
-  ◌∷◌,
-  ◌++◌,
-  length,
-  map,
-  get_or,
-  take,
-  slice_get,
-  Some,
-  None,
-  refl,
-  sym,
-  ap,
-  subst,
-  ◌∙◌,
-  inl,
-  inr,
-  zero-le,
-  arith,
-}
+-- What is kept at checkpoints, and their number at the end of a run.
+use Rattle.std.proofs.Common.{◌≡◌, ℕ, zero, suc, ◌+◌, ◌-◌, ◌*◌, ◌<◌, ◌≤◌, ◌⊎◌, List, [], ◌∷◌, ◌++◌, length, map, get_or, take, slice_get, Some, None, refl, sym, ap, subst, ◌∙◌, inl, inr, zero-le, mul-le-mul_left, drop, arith}
 use Rattle.std.proofs.lemmas.Bool.{cases_lt}
 use Rattle.std.proofs.lemmas.List.{length_push, length-map, get_or_push, get_or_append_left}
-use Rattle.std.proofs.lemmas.Option.{none-some, slice_get_past, slice_get_within, slice_get-get_or, get_or_from_slice_get}
-use Rattle.version_table.specs.declared.limits.TheConstants.{TIME_SLOTS_MOST}
+use Rattle.std.proofs.lemmas.Option.{none-some, slice_get_cases, slice_get_past, slice_get_within, slice_get-get_or, get_or_from_slice_get}
 use Rattle.version_table.specs.declared.table.Table.{Table}
 use Rattle.version_table.specs.Table.{IsValidTable}
-use Rattle.version_table.specs.Choice.{Fits}
 use Rattle.slot_rule.specs.declared.queue_state.QueueState.{QueueState}
 use Rattle.slot_rule.specs.declared.run_state.RunState.{RunState}
 use Rattle.slot_rule.specs.declared.states.TheConstants.{QUEUES_MOST}
 use Rattle.slot_rule.specs.declared.sent.Miss.{Miss}
 use Rattle.slot_rule.specs.declared.turns.Turn.{Turn}
 use Rattle.slot_rule.specs.Queues.{QueuedPacket, Queue, queues_of}
-use Rattle.slot_rule.specs.Schedule.{AllSent, IsFirstMiss, IsScheduled}
-use Rattle.slot_rule.specs.SlotRun.{CountsCheckpoints, IsLastCarried, slots_apart}
-use Rattle.slot_rule.specs.Private.Checkpoints.{AreCheckpoints, IsCheckpoint}
+use Rattle.slot_rule.specs.Buffers.{Row}
+use Rattle.slot_rule.specs.Schedule.{AllSent, IsFirstMiss, IsHead, IsSchedule, IsScheduled}
+use Rattle.slot_rule.specs.SlotRun.{CountsCheckpoints, StillWaits, slots_apart}
+use Rattle.slot_rule.specs.Private.Checkpoints.{AreCheckpoints, IsCheckpoint, reach}
+use Rattle.slot_rule.proofs.LatestDue.{apart-some, next_place, place_below}
+use Rattle.slot_rule.proofs.RuleUnique.{FollowRule-longer, IsHead-before, miss_after}
 use Rattle.slot_rule.specs.Private.Heads.{IsFirst, IsFirstHead, NoneGoneBefore, Passes}
-use Rattle.slot_rule.specs.Private.Runs.{EndsWithin, IsFirstRun, Reached, Waits}
+use Rattle.slot_rule.specs.Private.Runs.{EndsWithin, IsFirstRun}
 use Rattle.slot_rule.specs.Private.Slots.{HasRun}
 use Rattle.slot_rule.specs.Private.States.{queue_of}
 use Rattle.slot_rule.specs.Private.Turns.{AreTurns}
 use Rattle.slot_rule.proofs.MissLaws.{HasRun-first, Reached-first}
-use Rattle.slot_rule.proofs.RuleEnd.{AllSent-at_end}
 use Rattle.slot_rule.proofs.RuleQueues.{queues_of-few}
 use Rattle.slot_rule.proofs.RuleRows.{FollowRule-nil, NoMiss-nil}
 use Rattle.slot_rule.proofs.TrackLaws.{head_from_state, state_from_head}
@@ -83,11 +51,11 @@ push_last xs x =
     slice_get-get_or (xs ++ x ∷ []) (length xs) x (omega (arith, length_push xs x)) ∙ ap Some (get_or_push xs x x (length xs) refl)
 
 pub AreCheckpoints-push : (table : Table) (choice : List ℕ) (checkpoints : List RunState) (run : RunState) → AreCheckpoints table choice checkpoints
-    → IsCheckpoint table choice (slots_apart * length checkpoints) run → AreCheckpoints table choice (checkpoints ++ run ∷ [])
+    → IsCheckpoint table choice (slots_apart table * length checkpoints) run → AreCheckpoints table choice (checkpoints ++ run ∷ [])
 AreCheckpoints-push table choice checkpoints run are is k other there =
-    elim (push_cases checkpoints run other k there) as (λ _. IsCheckpoint table choice (slots_apart * k) other) [
+    elim (push_cases checkpoints run other k there) as (λ _. IsCheckpoint table choice (slots_apart table * k) other) [
       | inl earlier ↦ are k other earlier.1
-      | inr last ↦ subst (λ (r : RunState). IsCheckpoint table choice (slots_apart * k) r) last.1 (subst (λ n. IsCheckpoint table choice (slots_apart * n) run) (sym last.0) is)
+      | inr last ↦ subst (λ (r : RunState). IsCheckpoint table choice (slots_apart table * k) r) last.1 (subst (λ n. IsCheckpoint table choice (slots_apart table * n) run) (sym last.0) is)
     ]
 
 -- what is kept, copied
@@ -110,37 +78,100 @@ IsCheckpoint-copy table choice slots run copy states turns gone is =
     }
 
 -- ---- how far a run comes
--- where a packet waits, the last slot in which one can be due isn't reached
-pub Waits-before_end : (table : Table) (choice : List ℕ) (n : ℕ) (run : RunState) → IsValidTable table → Fits table choice → Reached table choice n run → Waits run
-    → n < TIME_SLOTS_MOST
-Waits-before_end table choice n run valid fits reached waits =
-    elim (cases_lt n TIME_SLOTS_MOST) as (λ _. n < TIME_SLOTS_MOST) [
+-- a checkpoint stands where a packet still waits
+pub StillWaits-from : (table : Table) (choice : List ℕ) (n : ℕ) (run : RunState) → IsCheckpoint table choice n run → StillWaits table choice n
+StillWaits-from table choice n run is =
+    let reached = is.reached in
+    let waits = is.waits.2 in
+    record {
+      rows = reached.rows;
+      many = reached.slots_are;
+      follows = reached.run.states.follows;
+      in_time = reached.in_time;
+      waits = λ sent. sent is.waits.0 waits.state.kind is.waits.1
+          (head_from_state table choice reached.rows run.states.items reached.run.states is.waits.0 waits.state is.waits.1 waits.there waits.head);
+    }
+
+-- it stands before a schedule's end, and no later than a first miss
+pub StillWaits-before : (table : Table) (choice : List ℕ) (n : ℕ) (rows : List Row) → IsSchedule table choice rows → StillWaits table choice n → n < length rows
+StillWaits-before table choice n rows schedule still =
+    elim (cases_lt n (length rows)) as (λ _. n < length rows) [
       | inl before ↦ before
       | inr past ↦
-          (let is = waits.2 in
-          let sent = AllSent-at_end table choice reached.rows valid fits reached.run.states.follows reached.in_time (omega (arith, reached.slots_are)) in
-          absurd (sent waits.0 is.state.kind waits.1 (head_from_state table choice reached.rows run.states.items reached.run.states waits.0 is.state waits.1 is.there is.head)))
+          (let longer = FollowRule-longer table choice rows still.rows schedule.follows still.follows (omega (arith, past, still.many)) in
+          absurd (still.waits (λ stream kind packet head.
+          (let earlier = IsHead-before (queues_of table choice) rows (drop (length rows) still.rows) stream kind packet
+          (subst (λ (list : List Row). IsHead (queues_of table choice) list stream kind packet) longer head) in
+          schedule.sent stream kind earlier.0 earlier.1))))
     ]
 
--- the number of the checkpoint before a slot
-checkpoint_before : (n count : ℕ) → slots_apart * (count - 1) ≤ n → n < slots_apart * count → count ≡ n / slots_apart + 1
-checkpoint_before n count from upto = omega arith
+pub StillWaits-missed : (table : Table) (choice : List ℕ) (n : ℕ) (miss : Miss) → IsFirstMiss table choice miss → StillWaits table choice n → n ≤ miss.slot
+StillWaits-missed table choice n miss first still =
+    omega (
+      arith,
+      miss_after table choice still.rows first.earlier first.last miss.stream first.packet still.follows still.in_time first.follows first.misses,
+      still.many,
+      first.slot_is,
+    )
 
-pub CountsCheckpoints-missed : (table : Table) (choice : List ℕ) (count : ℕ) (miss : Miss) → IsFirstMiss table choice miss
-    → slots_apart * (count - 1) ≤ miss.slot → miss.slot < slots_apart * count → CountsCheckpoints table choice count
-CountsCheckpoints-missed table choice count miss first from upto = inr (miss.slot, inl (miss, first, refl), checkpoint_before miss.slot count from upto)
+-- all checkpoints stand that do up to a slot, where no packet still waits at the next one
+counts-of : (table : Table) (choice : List ℕ) (checkpoints : List RunState) (upto : ℕ) → AreCheckpoints table choice checkpoints → 1 ≤ length checkpoints
+    → slots_apart table * (length checkpoints - 1) ≤ upto
+    → ((k : ℕ) → slots_apart table * k ≤ upto → StillWaits table choice (slots_apart table * k) → slots_apart table * k < slots_apart table * length checkpoints)
+    → CountsCheckpoints table choice upto (length checkpoints)
+counts-of table choice checkpoints upto are some within only k = (
+  λ below. (
+    (let low : k ≤ length checkpoints - 1 = omega (arith, below) in
+        let by : slots_apart table * k ≤ slots_apart table * (length checkpoints - 1) = mul-le-mul_left (slots_apart table) low in
+        omega (arith, within, by)),
+    elim (slice_get_cases checkpoints k).1 as (λ _. StillWaits table choice (slots_apart table * k)) [
+      | inl at ↦ StillWaits-from table choice (slots_apart table * k) at.0 (are k at.0 at.2)
+      | inr past ↦ (let end = past.0 in absurd (omega (arith, end, below)))
+    ],
+  ),
+  λ stands. place_below (slots_apart table) k (length checkpoints) (only k stands.0 stands.1),
+)
 
-pub CountsCheckpoints-sent : (table : Table) (choice : List ℕ) (count first end : ℕ) (before : RunState) → EndsWithin table choice first end before → Waits before
-    → slots_apart * (count - 1) ≤ first → end ≤ slots_apart * count → CountsCheckpoints table choice count
-CountsCheckpoints-sent table choice count first end before ends waits from upto =
-    let last = length ends.rows in
-    let carried : IsLastCarried (ends.rows ++ ends.last ∷ []) (length ends.rows) = record {
-      row = ends.last;
-      there = push_last ends.rows ends.last;
-      carries = ends.carries waits;
-      last = λ m later there carries. omega (arith, slice_get_within (ends.rows ++ ends.last ∷ []) m later there, length_push ends.rows ends.last);
-    } in
-    inr (last, inr (ends.rows ++ ends.last ∷ [], ends.schedule, carried), checkpoint_before last count (omega (arith, ends.from)) (omega (arith, ends.upto)))
+-- a run that ended before the next checkpoint
+pub counts-until : (table : Table) (choice : List ℕ) (checkpoints : List RunState) (end : ℕ) → AreCheckpoints table choice checkpoints → 1 ≤ length checkpoints
+    → slots_apart table * (length checkpoints - 1) ≤ end
+    → ((k : ℕ) → slots_apart table * k ≤ end → StillWaits table choice (slots_apart table * k) → slots_apart table * k < slots_apart table * length checkpoints)
+    → CountsCheckpoints table choice (reach table end (length checkpoints)) (length checkpoints)
+counts-until table choice checkpoints end are some within only =
+    let at : reach table end (length checkpoints) ≡ end = omega (arith, within) in
+    subst (λ n. CountsCheckpoints table choice n (length checkpoints)) (sym at) (counts-of table choice checkpoints end are some within only)
+
+-- one whose last checkpoint stands at the end or behind it
+pub counts-past : (table : Table) (choice : List ℕ) (checkpoints : List RunState) (end : ℕ) → AreCheckpoints table choice checkpoints → 1 ≤ length checkpoints
+    → end ≤ slots_apart table * (length checkpoints - 1) → CountsCheckpoints table choice (reach table end (length checkpoints)) (length checkpoints)
+counts-past table choice checkpoints end are some past =
+    let last = slots_apart table * (length checkpoints - 1) in
+    let at : reach table end (length checkpoints) ≡ last = omega (arith, past) in
+    subst (λ n. CountsCheckpoints table choice n (length checkpoints)) (sym at)
+    (counts-of table choice checkpoints last are some (omega arith)
+    (λ k within still. omega (arith, within, next_place (slots_apart table) (length checkpoints) some, apart-some table)))
+
+-- one that ended in a miss
+pub counts-missed : (table : Table) (choice : List ℕ) (checkpoints : List RunState) (end : ℕ) (miss : Miss) → AreCheckpoints table choice checkpoints → 1 ≤ length checkpoints
+    → slots_apart table * (length checkpoints - 1) ≤ end → IsFirstMiss table choice miss → miss.slot < slots_apart table * length checkpoints
+    → CountsCheckpoints table choice (reach table end (length checkpoints)) (length checkpoints)
+counts-missed table choice checkpoints end miss are some within first before =
+    counts-until table choice checkpoints end are some within
+    (λ k upto still. omega (arith, before, StillWaits-missed table choice (slots_apart table * k) miss first still))
+
+-- one that ended with all sent
+pub counts-sent : (table : Table) (choice : List ℕ) (checkpoints : List RunState) (end first stop : ℕ) (before : RunState) → AreCheckpoints table choice checkpoints
+    → 1 ≤ length checkpoints → slots_apart table * (length checkpoints - 1) ≤ end → EndsWithin table choice first stop before → stop ≤ slots_apart table * length checkpoints
+    → CountsCheckpoints table choice (reach table end (length checkpoints)) (length checkpoints)
+counts-sent table choice checkpoints end first stop before are some within ends upto =
+    counts-until table choice checkpoints end are some within
+    (λ k by still. omega (
+      arith,
+      upto,
+      ends.upto,
+      length_push ends.rows ends.last,
+      StillWaits-before table choice (slots_apart table * k) (ends.rows ++ ends.last ∷ []) ends.schedule still,
+    ))
 
 -- ---- before the first slot
 pub states_few_first : (table : Table) (choice : List ℕ) (states : List QueueState) → IsValidTable table → map (queue_of table choice) states ≡ queues_of table choice → length states ≤ QUEUES_MOST
@@ -158,13 +189,14 @@ module _ (table : Table) (choice : List ℕ) (run : RunState) (first : IsFirstRu
       let found = state_from_head table choice [] run.states.items (HasRun-first table choice run.states.items first.queues first.places first.first) stream kind packet head in
       none stream found.0 packet found.1 found.3 tt
 
+  none_sent : IsSchedule table choice []
+  none_sent = record { follows = FollowRule-nil table choice; in_time = NoMiss-nil table.slot (queues_of table choice); sent = none_waits }
+
   pub IsScheduled-empty : IsScheduled table choice
-  IsScheduled-empty = ([], record { follows = FollowRule-nil table choice; in_time = NoMiss-nil table.slot (queues_of table choice); sent = none_waits })
+  IsScheduled-empty = ([], none_sent)
 
-  no_packets : (stream : ℕ) (queue : Queue) → slice_get (queues_of table choice) stream ≡ Some queue → (packets : List QueuedPacket) → queue.packets ≡ packets → queue.packets ≡ []
-  no_packets stream queue there [] e = e
-  no_packets stream queue there (packet ∷ packets) e = absurd (none_waits stream queue.kind packet (queue.packets, there, ap (λ (list : List QueuedPacket). slice_get list 0) e))
-
-  pub CountsCheckpoints-empty : CountsCheckpoints table choice 0
-  CountsCheckpoints-empty =
-      inl ((λ i d within. no_packets i (get_or (queues_of table choice) i d) (slice_get-get_or (queues_of table choice) i d within) (get_or (queues_of table choice) i d).packets refl), refl)
+  pub CountsCheckpoints-empty : (end : ℕ) → CountsCheckpoints table choice (reach table end 0) 0
+  CountsCheckpoints-empty end k = (
+    λ below. absurd (omega (arith, below)),
+    λ stands. absurd (let before = StillWaits-before table choice (slots_apart table * k) [] none_sent stands.1 in omega (arith, before)),
+  )

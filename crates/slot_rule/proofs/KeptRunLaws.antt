@@ -1,58 +1,19 @@
 -- A kept run under another choice, the number of its checkpoints, and the work that they tell.
-use Rattle.std.proofs.Common.{
-  ◌≡◌,
-  ℕ,
-  ◌+◌,
-  ◌-◌,
-  ◌*◌,
-  ◌/◌,
-  ◌<◌,
-  ◌≤◌,
-  Bool,
-  true,
-  false,
-  List,
-  [],
-  ◌∷◌,
-  ◌++◌,
-  length,
-  map,
-  get_or,
-  take,
-  drop,
-  count_by,
-  slice_get,
-  Some,
-  None,
-  if◌then◌else◌,
-  refl,
-  sym,
-  ap,
-  ap₂,
-  subst,
-  ◌∙◌,
-  inl,
-  inr,
-  zero-le,
-  arith,
-}
+use Rattle.std.proofs.Common.{◌≡◌, ℕ, ◌-◌, ◌*◌, ◌<◌, ◌≤◌, ◌↔◌, Bool, true, false, List, [], length, map, get_or, slice_get, Some, None, if◌then◌else◌, refl, sym, ap, ap₂, subst, ◌∙◌, inl, inr, zero-le, arith}
 use Rattle.std.specs.Option.{option_map}
 use Rattle.std.proofs.lemmas.Bool.{cases_lt}
-use Rattle.std.proofs.lemmas.List.{length-map, length-take-le, take_more, same_from_push}
-use Rattle.std.proofs.lemmas.Option.{none-some, same_Some, slice_get-map, slice_get_past, slice_get_within, slice_get-get_or, get_or_from_slice_get}
+use Rattle.std.proofs.lemmas.List.{length-map}
+use Rattle.std.proofs.lemmas.Option.{none-some, same_Some, slice_get-map, slice_get_past, slice_get_within, slice_get-get_or}
 use Rattle.version_table.specs.declared.table.Table.{Table}
 use Rattle.stream_constants.specs.declared.clock.TheConstants.{SUBTICKS_PER_TICK}
 use Rattle.slot_rule.specs.declared.fronts.Front.{Front}
 use Rattle.slot_rule.specs.declared.queue_items.QueueItems.{QueueItems}
 use Rattle.slot_rule.specs.declared.queue_state.QueueState.{QueueState}
 use Rattle.slot_rule.specs.declared.run_state.RunState.{RunState}
-use Rattle.slot_rule.specs.declared.sent.Miss.{Miss}
 use Rattle.slot_rule.specs.declared.slot_run.SlotRun.TheInside.{Inside}
-use Rattle.slot_rule.specs.Buffers.{Row, Reserved, Carries, Empty, is_of, mb_work, tb_work}
-use Rattle.slot_rule.specs.Queues.{QueueKind, Video, Audio, QueuedPacket, Queue, queues_of}
-use Rattle.slot_rule.specs.Schedule.{IsHead, IsSchedule, Misses}
-use Rattle.slot_rule.specs.SlotList.{CarriesPacket}
-use Rattle.slot_rule.specs.SlotRun.{CountsCheckpoints, CountsKept, HasNoPacket, IsCheckpointCount, IsKeptWork, IsLastCarried, IsLastSlot, IsWorkAt, slots_apart, streams_of, work_of}
+use Rattle.slot_rule.specs.Buffers.{Row, mb_work, tb_work}
+use Rattle.slot_rule.specs.Queues.{QueueKind, Video, Audio, Queue, queues_of}
+use Rattle.slot_rule.specs.SlotRun.{CountsCheckpoints, CountsKept, IsCheckpointCount, IsKeptWork, IsWorkAt, StillWaits, slots_apart, streams_of, work_of}
 use Rattle.slot_rule.specs.Private.Checkpoints.{AreFronts, AreWithin, IsCheckpoint, IsFrontOf, IsWholeOf}
 use Rattle.slot_rule.specs.Private.QueueItems.{IsPlace}
 use Rattle.slot_rule.specs.Private.QueueState.{work_of_kind, work_of_state}
@@ -65,8 +26,6 @@ use Rattle.slot_rule.proofs.FrontPackets.{SameSoFar-within}
 use Rattle.slot_rule.proofs.Places.{All-at_place}
 use Rattle.slot_rule.proofs.Resume.{HasRun-same, SameSoFar, heads_same}
 use Rattle.slot_rule.proofs.RuleQueues.{length-queues_from}
-use Rattle.slot_rule.proofs.RuleRows.{FollowRule-at, FollowRule-take, IsNext}
-use Rattle.slot_rule.proofs.RuleUnique.{FollowRule-longer, FollowRule-unique, IsFirstMiss-same, IsHead-before, IsScheduled-no_miss}
 use Rattle.slot_rule.proofs.SameHeads.{NoMiss-same}
 use Rattle.slot_rule.proofs.TrackLaws.{stream_there}
 
@@ -127,88 +86,24 @@ module _ (table : Table) (old new : List ℕ) (first : RunState) (fronts : List 
         waits = is.waits;
       }
 
--- ---- the last slot of a run is one
--- a packet that is carried was the head of its queue
-carried_head : (table : Table) (choice : List ℕ) (rows : List Row) (row : Row) → IsNext table choice rows row → CarriesPacket row
-    → (stream : ℕ) × (kind : QueueKind) × (packet : QueuedPacket) × IsHead (queues_of table choice) rows stream kind packet
-carried_head table choice rows (Carries stream packet) next carries = (stream, next.1.kind, packet, next.1.head)
-carried_head table choice rows (Reserved sent) next carries = absurd carries
-carried_head table choice rows Empty next carries = absurd carries
-
--- in the longer of two schedules no packet stands after the last one of the other
-last_carried-le : (table : Table) (choice : List ℕ) (rows rows' : List Row) (n m : ℕ) → IsSchedule table choice rows → IsSchedule table choice rows'
-    → IsLastCarried rows n → IsLastCarried rows' m → m ≤ n
-last_carried-le table choice rows rows' n m schedule schedule' last last' =
-    let within' : m < length rows' = slice_get_within rows' m last'.row last'.there in
-    let long' : length (take m rows') ≡ m = length-take-le m rows' (omega arith) in
-    elim (cases_lt m (length rows)) as (λ _. m ≤ n) [
-      | inl within ↦
-          (let long : length (take m rows) ≡ m = length-take-le m rows (omega arith) in
-          let d = last'.row in
-          let more = take_more rows m d within in
-          let more' = take_more rows' m d within' in
-          let same : take (m + 1) rows ≡ take (m + 1) rows' = FollowRule-unique table choice (take (m + 1) rows) (take (m + 1) rows')
-          (FollowRule-take table choice (m + 1) rows schedule.follows) (FollowRule-take table choice (m + 1) rows' schedule'.follows)
-          (length-take-le (m + 1) rows (omega arith) ∙ sym (length-take-le (m + 1) rows' (omega arith))) in
-          let rows_same : get_or rows m last'.row ≡ get_or rows' m last'.row = (same_from_push (take m rows) (take m rows') (get_or rows m d) (get_or rows' m d) (sym more ∙ same ∙ more')).1 in
-          let is : get_or rows m last'.row ≡ last'.row = rows_same ∙ get_or_from_slice_get rows' m last'.row last'.row last'.there in
-          last.last m last'.row (slice_get-get_or rows m d within ∙ ap Some is) last'.carries)
-      | inr past ↦
-          (let front = take m rows' in
-          let longer = FollowRule-longer table choice rows front schedule.follows (FollowRule-take table choice m rows' schedule'.follows) (omega (arith, long')) in
-          let is : get_or rows' m last'.row ≡ last'.row = get_or_from_slice_get rows' m last'.row last'.row last'.there in
-          let next : IsNext table choice (take m rows') last'.row = subst (λ (r : Row). IsNext table choice (take m rows') r) is
-          (FollowRule-at table choice rows' schedule'.follows m last'.row within') in
-          let head = carried_head table choice front last'.row next last'.carries in
-          let earlier = IsHead-before (queues_of table choice) rows (drop (length rows) front) head.0 head.1 head.2
-          (subst (λ (list : List Row). IsHead (queues_of table choice) list head.0 head.1 head.2) longer head.3) in
-          absurd (schedule.sent head.0 head.1 earlier.0 earlier.1))
+-- ---- there is one number of checkpoints
+-- numbers below which the same ones are
+same-below : (P : ℕ → Type 0) (a b : ℕ) → ((k : ℕ) → (k < a) ↔ P k) → ((k : ℕ) → (k < b) ↔ P k) → a ≤ b
+same-below P a b first second =
+    elim (cases_lt b a) as (λ _. a ≤ b) [
+      | inl less ↦ (let below : b < b = (second b).1 ((first b).0 less) in absurd (omega (arith, below)))
+      | inr upto ↦ upto
     ]
 
-pub IsLastSlot-one : (table : Table) (choice : List ℕ) (n m : ℕ) → IsLastSlot table choice n → IsLastSlot table choice m → n ≡ m
-IsLastSlot-one table choice n m (inl a) (inl b) = sym a.2 ∙ ap (λ (miss : Miss). miss.slot) (IsFirstMiss-same table choice a.0 b.0 a.1 b.1) ∙ b.2
-IsLastSlot-one table choice n m (inl a) (inr b) = absurd (IsScheduled-no_miss table choice a.0 (b.0, b.1) a.1)
-IsLastSlot-one table choice n m (inr a) (inl b) = absurd (IsScheduled-no_miss table choice b.0 (a.0, a.1) b.1)
-IsLastSlot-one table choice n m (inr a) (inr b) =
-    let below = last_carried-le table choice a.0 b.0 n m a.1 b.1 a.2 b.2 in
-    let above = last_carried-le table choice b.0 a.0 m n b.1 a.1 b.2 a.2 in
-    omega arith
-
--- a table that has no packet has no last slot
-no_head : (table : Table) (choice : List ℕ) (rows : List Row) (stream : ℕ) (kind : QueueKind)
-    (packet : QueuedPacket) → HasNoPacket table choice → IsHead (queues_of table choice) rows stream kind packet → ⊥
-no_head table choice rows stream kind packet none head =
-    let empty = All-at_place (λ (queue : Queue). queue.packets ≡ []) (queues_of table choice) none stream (record { kind = kind; packets = head.0 }) head.1 in
-    none-some packet (sym (ap (λ (list : List QueuedPacket). slice_get list (count_by (is_of stream) rows)) empty ∙ slice_get_past [] (count_by (is_of stream) rows) zero-le) ∙ head.2)
-
-missed_head : (slot : ℕ) (queues : List Queue) (rows : List Row) (stream : ℕ) (packet : QueuedPacket) → Misses slot queues rows stream packet
-    → (before : List Row) × (kind : QueueKind) × IsHead queues before stream kind packet
-missed_head slot queues rows stream packet (inl late) = (late.before, late.kind, late.head)
-missed_head slot queues rows stream packet (inr over) = (rows, over.1.kind, over.1.head)
-
-no_last_slot : (table : Table) (choice : List ℕ) (n : ℕ) → HasNoPacket table choice → IsLastSlot table choice n → ⊥
-no_last_slot table choice n none (inl miss) =
-    let head = missed_head table.slot (queues_of table choice) (miss.1.earlier ++ miss.1.last ∷ []) miss.0.stream miss.1.packet miss.1.misses in
-    no_head table choice head.0 miss.0.stream head.1 miss.1.packet none head.2
-no_last_slot table choice n none (inr sent) =
-    let rows = sent.0 in
-    let last = sent.2 in
-    let within = slice_get_within sent.0 n last.row last.there in
-    let is : get_or sent.0 n last.row ≡ last.row = get_or_from_slice_get sent.0 n last.row last.row last.there in
-    let next : IsNext table choice (take n sent.0) last.row = subst (λ (r : Row). IsNext table choice (take n sent.0) r) is (FollowRule-at table choice rows sent.1.follows n last.row within) in
-    let head = carried_head table choice (take n sent.0) last.row next last.carries in
-    no_head table choice (take n sent.0) head.0 head.1 head.2 none head.3
-
-pub CountsCheckpoints-one : (table : Table) (choice : List ℕ) (a b : ℕ) → CountsCheckpoints table choice a → CountsCheckpoints table choice b → a ≡ b
-CountsCheckpoints-one table choice a b (inl none) (inl none') = none.1 ∙ sym none'.1
-CountsCheckpoints-one table choice a b (inl none) (inr some) = absurd (no_last_slot table choice some.0 none.0 some.1)
-CountsCheckpoints-one table choice a b (inr some) (inl none) = absurd (no_last_slot table choice some.0 none.0 some.1)
-CountsCheckpoints-one table choice a b (inr x) (inr y) = x.2 ∙ ap (λ n. n / slots_apart + 1) (IsLastSlot-one table choice x.0 y.0 x.1 y.1) ∙ sym y.2
+pub CountsCheckpoints-one : (table : Table) (choice : List ℕ) (upto a b : ℕ) → CountsCheckpoints table choice upto a → CountsCheckpoints table choice upto b → a ≡ b
+CountsCheckpoints-one table choice upto a b first second =
+    let stands = λ (k : ℕ). (slots_apart table * k ≤ upto) × StillWaits table choice (slots_apart table * k) in
+    omega (arith, same-below stands a b first second, same-below stands b a second first)
 
 -- ---- what a kept run tells
-count_cases : (run : Inside) (count : ℕ) → KeepsRun run → (b : Bool) → run.has_run ≡ b → CountsKept run.table.now (if b then Some run.choice.items else None) count
+count_cases : (run : Inside) (count : ℕ) → KeepsRun run → (b : Bool) → run.has_run ≡ b → CountsKept run.table.now (if b then Some run.choice.items else None) run.upto count
     → count ≡ length run.checkpoints.items
-count_cases run count keeps true e is = CountsCheckpoints-one run.table.now run.choice.items count (length run.checkpoints.items) is (keeps.counts e)
+count_cases run count keeps true e is = CountsCheckpoints-one run.table.now run.choice.items run.upto count (length run.checkpoints.items) is (keeps.counts e)
 count_cases run count keeps false e is = is ∙ sym (ap (λ (list : List RunState). length list) (keeps.fresh e))
 
 -- the number of checkpoints is that of those that are kept
@@ -252,7 +147,7 @@ kept_cases run k n stream work checkpoint keeps there is false e =
 -- the work that a kept state tells is that of the kept choice
 pub IsKeptWork-state : (run : Inside) (k stream : ℕ) (checkpoint : RunState) (state : QueueState) → KeepsRun run → slice_get run.checkpoints.items k ≡ Some checkpoint
     → slice_get checkpoint.states.items stream ≡ Some state
-    → IsKeptWork (kept_run run) (slots_apart * k) stream (work_of_state state (SUBTICKS_PER_TICK * (slots_apart * k * run.table.now.slot)))
+    → IsKeptWork (kept_run run) (slots_apart run.table.now * k) stream (work_of_state state (SUBTICKS_PER_TICK * (slots_apart run.table.now * k * run.table.now.slot)))
 IsKeptWork-state run k stream checkpoint state keeps there at =
-    kept_cases run k (slots_apart * k) stream (work_of_state state (SUBTICKS_PER_TICK * (slots_apart * k * run.table.now.slot))) checkpoint keeps there
-    (IsWorkAt-state run.table.now run.choice.items (slots_apart * k) stream checkpoint state (keeps.are k checkpoint there).reached at) run.has_run refl
+    kept_cases run k (slots_apart run.table.now * k) stream (work_of_state state (SUBTICKS_PER_TICK * (slots_apart run.table.now * k * run.table.now.slot))) checkpoint keeps there
+    (IsWorkAt-state run.table.now run.choice.items (slots_apart run.table.now * k) stream checkpoint state (keeps.are k checkpoint there).reached at) run.has_run refl

@@ -4,6 +4,7 @@ pub mod BringLaws
 pub mod CheckpointLaws
 pub mod FrontPackets
 pub mod KeptRunLaws
+pub mod LatestDue
 pub mod FirstStates
 pub mod HeadLaws
 pub mod IdleLaws
@@ -31,6 +32,7 @@ pub mod RuleUnique
 pub mod RuleUnits
 pub mod RuleVideo
 pub mod RuleWork
+pub mod RunTo
 pub mod RunLaws
 pub mod SameHeads
 pub mod SendLaws

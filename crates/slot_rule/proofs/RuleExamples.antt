@@ -1,23 +1,23 @@
 -- The worked examples, computed from the definitions.
-use Rattle.std.proofs.Common.{◌≡◌, ℕ, ◌+◌, ◌*◌, ◌/◌, ◌≤◌, ◌⊎◌, take, get_or, length, map, List, [], ◌∷◌, ◌++◌, refl, ◌∙◌, inl, inr, lit≤, arith}
-use Rattle.std.proofs.lemmas.List.Elements.{All-nil}
-use Rattle.std.proofs.lemmas.Option.{slice_get_within}
+use Rattle.std.proofs.Common.{◌≡◌, ℕ, ◌*◌, ◌≤◌, ◌⊎◌, take, drop, get_or, length, map, List, [], ◌∷◌, ◌++◌, refl, ap, ◌∙◌, append_assoc, inl, inr, lit≤, arith}
 use Rattle.version_table.specs.declared.table.AudioPacket.{AudioPacket}
 use Rattle.version_table.specs.declared.table.ProgramRow.{ProgramRow}
 use Rattle.version_table.specs.declared.table.Table.{Table}
 use Rattle.stream_constants.specs.declared.decoder.TheConstants.{AUDIO_TB_SUBTICKS}
 use Rattle.slot_rule.specs.declared.sent.Sent.TheVariants.{Null, Pat, Pmt, Pcr, Video as VideoPiece, Audio as AudioPiece}
 use Rattle.slot_rule.specs.declared.slot_list.SlotList.{SlotList}
-use Rattle.slot_rule.specs.Queues.{Audio, Queue, queues_of, video_queue}
+use Rattle.slot_rule.specs.Queues.{Audio, Video, Queue, queues_of, unit_packets, video_queue}
 use Rattle.slot_rule.specs.Buffers.{Row, Reserved, Empty, tb_work}
 use Rattle.slot_rule.specs.Private.IdleSlots.{FillsPeriod, idle_slots}
 use Rattle.slot_rule.specs.Timetable.{period}
-use Rattle.slot_rule.specs.Schedule.{IsSchedule, IsScheduled, IsFirstMiss}
+use Rattle.slot_rule.specs.declared.sent.Miss.{Miss}
+use Rattle.slot_rule.specs.Schedule.{HasNoMissBefore, IsFirstMiss, IsFirstMissBefore, IsSchedule, IsScheduled, NoMiss}
 use Rattle.slot_rule.specs.SlotList.{CarriesPacket, IsSlotList, sent_of, slots_of}
-use Rattle.slot_rule.specs.SlotRun.{CountsCheckpoints, IsLastSlot, IsWorkAt, slots_apart}
-use Rattle.slot_rule.proofs.KeptRunLaws.{CountsCheckpoints-one}
-use Rattle.slot_rule.proofs.RuleRows.{FollowRule-nil, FollowRule-take}
+use Rattle.slot_rule.specs.SlotRun.{IsWorkAt, StillWaits, slots_apart}
+use Rattle.slot_rule.proofs.CheckpointLaws.{StillWaits-before}
+use Rattle.slot_rule.proofs.RuleRows.{FollowRule-front, FollowRule-nil, FollowRule-take}
 use Rattle.slot_rule.proofs.RuleRun.{Run, Clean, Missed, first_rows, IsSchedule-from_run, IsFirstMiss-from_run}
+use Rattle.slot_rule.proofs.RunTo.{no_miss_before}
 use Rattle.slot_rule.proofs.RuleSchedules.{slots_of-same}
 use Rattle.slot_rule.proofs.SlotListLaws.{IsSlotList-filled, IsSlotList-same}
 
@@ -147,33 +147,57 @@ no_packets idle e list is =
     (record { whole = refl; idle = idle; ends = omega arith; rows_are = refl }) is
 
 -- ---- kept runs
--- the run of the unit ends in slot 22
-unit_ends : IsLastSlot just_in_time (0 ∷ []) 22
-unit_ends =
+NoMiss-front : (slot : ℕ) (queues : List Queue) (rows more : List Row) → NoMiss slot queues (rows ++ more) → NoMiss slot queues rows
+NoMiss-front slot queues rows more none before row after stream packet parts =
+    none before row (after ++ more) stream packet (ap (λ (list : List Row). list ++ more) parts ∙ append_assoc before (row ∷ after) more)
+
+-- the unit's last packet goes in slot 22: a packet waits before that slot, and none after it
+unit_waits : StillWaits just_in_time (0 ∷ []) 22
+unit_waits =
     let rows = rows_in (first_rows just_in_time (0 ∷ []) 23) in
+    record {
+      rows = take 22 rows;
+      many = refl;
+      follows = FollowRule-take just_in_time (0 ∷ []) 22 rows unit_schedule.follows;
+      in_time = NoMiss-front just_in_time.slot (queues_of just_in_time (0 ∷ [])) (take 22 rows) (drop 22 rows) unit_schedule.in_time;
+      waits = λ sent. sent 0 (Video 0 112) (record { item = 0; piece = 9; payload = 184; due = 36936; gone = 36936 }) (unit_packets 0 36936 1840, refl, refl);
+    }
+
+unit_waits_no_more : StillWaits just_in_time (0 ∷ []) 23 → ⊥
+unit_waits_no_more still =
+    let before = StillWaits-before just_in_time (0 ∷ []) 23 (rows_in (first_rows just_in_time (0 ∷ []) 23)) unit_schedule still in
     let many : length (rows_in (first_rows just_in_time (0 ∷ []) 23)) ≡ 23 = refl in
-    inr (
-      rows,
-      unit_schedule,
-      record { row = get_or rows 22 Empty; there = refl; carries = tt; last = λ m later there carries. omega (arith, slice_get_within rows m later there, many) },
-    )
+    omega (arith, before, many)
 
--- so it has one checkpoint
-pub unit_checkpoints : (count : ℕ) → CountsCheckpoints just_in_time (0 ∷ []) count → count ≡ 1
-unit_checkpoints count is = CountsCheckpoints-one just_in_time (0 ∷ []) count 1 is (inr (22, unit_ends, refl))
+-- 1,024 checkpoints 4,096 slots apart suffice where the last slot that begins before the latest due time is 4,194,303, and not where it is the next
+apart_at_4194303 : slots_apart (table_of (one_unit 4529848320 1 ∷ [])) ≡ 4096
+apart_at_4194303 = refl
 
--- and so where it misses in slot 22
-pub miss_checkpoints : (count : ℕ) → CountsCheckpoints (table_of (one_unit 36935 1840 ∷ [])) (0 ∷ []) count → count ≡ 1
-miss_checkpoints count is = CountsCheckpoints-one (table_of (one_unit 36935 1840 ∷ [])) (0 ∷ []) count 1 is
-    (inr (22, inl (record { stream = 0; unit = 0; slot = 22; due = 36935 }, unit_misses, refl), refl))
+apart_at_4194304 : slots_apart (table_of (one_unit 4529848321 1 ∷ [])) ≡ 8192
+apart_at_4194304 = refl
 
--- where no table has a packet, none
-pub empty_checkpoints : (count : ℕ) → CountsCheckpoints (table_of []) [] count → count ≡ 0
-empty_checkpoints count is = CountsCheckpoints-one (table_of []) [] count 0 is (inl (All-nil (λ (queue : Queue). queue.packets ≡ []), refl))
+-- the latest due time may be that of an audio packet, and a table without packets has one of 0
+apart_of_audio : slots_apart (table_of (one_unit 10 1 ∷ three_packets 9059696641 ∷ [])) ≡ 12288
+apart_of_audio = refl
 
--- a run that ends in slot 4,095 has one, and one that ends in the next slot two
-pub checkpoints_at_4095 : (4095 / slots_apart + 1 ≡ 1) × (4096 / slots_apart + 1 ≡ 2)
-checkpoints_at_4095 = (refl, refl)
+apart_of_none : slots_apart (table_of []) ≡ 4096
+apart_of_none = refl
+
+-- ---- runs up to a slot
+-- a miss in slot 22 is found before slot 23, and nothing misses before slot 22
+abbrev one_tick_less : Table
+one_tick_less = table_of (one_unit 36935 1840 ∷ [])
+
+missed_before_23 : IsFirstMissBefore one_tick_less (0 ∷ []) 23 (record { stream = 0; unit = 0; slot = 22; due = 36935 })
+missed_before_23 = (unit_misses, lit≤ tt)
+
+none_missed_before_22 : HasNoMissBefore one_tick_less (0 ∷ []) 22
+none_missed_before_22 =
+    let first = unit_misses in
+    inr (first.earlier, omega (arith, first.slot_is), FollowRule-front one_tick_less (0 ∷ []) first.earlier (first.last ∷ []) first.follows, first.in_time)
+
+not_missed_before_22 : (miss : Miss) → IsFirstMissBefore one_tick_less (0 ∷ []) 22 miss → ⊥
+not_missed_before_22 miss = no_miss_before one_tick_less (0 ∷ []) 22 miss none_missed_before_22
 
 -- before the first slot no work waits
 pub unit_work_first : IsWorkAt just_in_time (0 ∷ []) 0 0 (0, 0)

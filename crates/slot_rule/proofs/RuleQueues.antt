@@ -61,7 +61,7 @@ use Rattle.slot_rule.specs.Queues.{QueueKind, QueuedPacket, Queue, video_queue, 
 use Rattle.version_table.proofs.TableLines.{packets_of}
 -- the units of these programs
 pub use Rattle.version_table.proofs.TableLines.{units_in}
-use Rattle.slot_rule.proofs.RuleVideo.{packets_from-each, packets_from-dues, packets_from-gones, length-packets_from, DuesRise-from_increasing, HasSizes}
+use Rattle.slot_rule.proofs.RuleVideo.{packets_from-each, packets_from-dues, packets_from-gones, DuesRise-from_increasing, HasSizes}
 
 -- the streams of a program: the video, then its audio streams
 abbrev pub queues_in : (program : ℕ) → ProgramRow → List ℕ → List Queue

@@ -116,3 +116,12 @@ pub record IsFirstMiss (table : Table) (choice : List ℕ) (miss : Miss) : Type 
   pub unit_is : miss.unit ≡ packet.item
   pub slot_is : miss.slot ≡ length earlier
   pub due_is : miss.due ≡ packet.due
+
+-- the first miss, where it is found in a slot before slot n
+abbrev pub IsFirstMissBefore : Table → List ℕ → (n : ℕ) → Miss → Type 0
+IsFirstMissBefore table choice n miss = IsFirstMiss table choice miss × (miss.slot < n)
+
+-- nothing misses in a slot before slot n: the choice is scheduled, or so many slots and maybe more pass without a miss
+abbrev pub HasNoMissBefore : Table → List ℕ → (n : ℕ) → Type 0
+HasNoMissBefore table choice n =
+    IsScheduled table choice ⊎ ((rows : List Row) × (n ≤ length rows) × FollowRule table choice rows × NoMiss table.slot (queues_of table choice) rows)

@@ -1,53 +1,50 @@
--- A run of the slot rule that is kept: how far it came, and the work that waits in the buffers at each checkpoint.
-use Rattle.std.specs.Prelude.{◌≡◌, ℕ, suc, ◌+◌, ◌/◌, ◌≤◌, ◌⊎◌, All, List, [], length, sum_by, slice_get, Option, Some, None}
+-- A run of the slot rule that is kept: the choice, how far its checkpoints go, and the work that waits in the buffers at each.
+use Rattle.std.specs.Prelude.{◌≡◌, ℕ, suc, ◌+◌, ◌-◌, ◌*◌, ◌/◌, ◌<◌, ◌≤◌, ◌↔◌, List, length, map, max, sum_by, slice_get, Option, Some, None}
 use Rattle.version_table.specs.declared.table.Table.{Table}
-use Rattle.slot_rule.specs.declared.checkpoints.TheConstants.{SLOTS_APART}
-use Rattle.slot_rule.specs.declared.sent.Miss.{Miss}
+use Rattle.version_table.specs.Table.{audio_packets_of, greatest, units_of}
+use Rattle.slot_rule.specs.declared.checkpoints.TheConstants.{CHECKPOINTS_MOST, SLOTS_APART}
 use Rattle.slot_rule.specs.Queues.{QueueKind, Video, Audio, Queue, queues_of}
 use Rattle.slot_rule.specs.Buffers.{Row, tb_work, mb_work}
-use Rattle.slot_rule.specs.Schedule.{FollowRule, IsFirstMiss, IsSchedule}
-use Rattle.slot_rule.specs.SlotList.{CarriesPacket}
+use Rattle.slot_rule.specs.Schedule.{AllSent, FollowRule, NoMiss}
 
--- what is kept: the table, and the choice of the last run; none before the first run
+-- what is kept: the table, the choice of the last run (none before the first), and the slot up to which its checkpoints stand
 pub record KeptRun : Type 0 where
   pub table : Table
   pub kept : Option (List ℕ)
+  pub upto : ℕ
 
--- slots from one checkpoint to the next
-abbrev pub slots_apart : ℕ
-slots_apart = SLOTS_APART
+-- the latest due time of the packets of a table; 0 where it has none
+abbrev pub latest_due : Table → ℕ
+latest_due table = max (greatest (map (λ unit. unit.due) (units_of table))) (greatest (map (λ packet. packet.due) (audio_packets_of table)))
 
--- no queue has a packet
-abbrev pub HasNoPacket : Table → List ℕ → Type 0
-HasNoPacket table choice = All (λ (queue : Queue). queue.packets ≡ []) (queues_of table choice)
+-- the last slot that begins before the latest due time
+abbrev pub last_begun : Table → ℕ
+last_begun table = (latest_due table - 1) / table.slot
 
--- a packet stands in the row of this slot, and in none of a later slot
-pub record IsLastCarried (rows : List Row) (n : ℕ) : Type 0 where
-  pub row : Row
-  pub there : slice_get rows n ≡ Some row
-  pub carries : CarriesPacket row
-  pub last : (m : ℕ) (later : Row) → slice_get rows m ≡ Some later → CarriesPacket later → m ≤ n
+-- slots from one checkpoint to the next: the least multiple of 4,096 at which 1,024 checkpoints suffice up to that slot
+abbrev pub slots_apart : Table → ℕ
+slots_apart table = SLOTS_APART * (last_begun table / (CHECKPOINTS_MOST * SLOTS_APART) + 1)
 
--- the slot with which a run ends: that of the first miss, or that of the last packet where nothing misses
-abbrev pub IsLastSlot : Table → List ℕ → ℕ → Type 0
-IsLastSlot table choice n =
-    ((miss : Miss) × IsFirstMiss table choice miss × (miss.slot ≡ n))
-    ⊎ ((rows : List Row) × IsSchedule table choice rows × IsLastCarried rows n)
+-- so many slots pass without a miss, and a packet waits for a later one
+pub record StillWaits (table : Table) (choice : List ℕ) (n : ℕ) : Type 0 where
+  pub rows : List Row
+  pub many : length rows ≡ n
+  pub follows : FollowRule table choice rows
+  pub in_time : NoMiss table.slot (queues_of table choice) rows
+  pub waits : AllSent (queues_of table choice) rows → ⊥
 
--- the number of checkpoints that stand at the last slot of a run or before it; none where the table has no packet
-abbrev pub CountsCheckpoints : Table → List ℕ → (count : ℕ) → Type 0
-CountsCheckpoints table choice count =
-    (HasNoPacket table choice × (count ≡ 0))
-    ⊎ ((last : ℕ) × IsLastSlot table choice last × (count ≡ last / slots_apart + 1))
+-- checkpoint k stands where that multiple of the distance comes no later than a slot, and a packet still waits there
+abbrev pub CountsCheckpoints : Table → List ℕ → (upto count : ℕ) → Type 0
+CountsCheckpoints table choice upto count = (k : ℕ) → (k < count) ↔ ((slots_apart table * k ≤ upto) × StillWaits table choice (slots_apart table * k))
 
 -- the same where a choice is kept; without one none
-abbrev pub CountsKept : Table → Option (List ℕ) → (count : ℕ) → Type 0
-CountsKept table None count = count ≡ 0
-CountsKept table (Some choice) count = CountsCheckpoints table choice count
+abbrev pub CountsKept : Table → Option (List ℕ) → (upto count : ℕ) → Type 0
+CountsKept table None upto count = count ≡ 0
+CountsKept table (Some choice) upto count = CountsCheckpoints table choice upto count
 
 -- the number of checkpoints of a kept run
 abbrev pub IsCheckpointCount : KeptRun → (count : ℕ) → Type 0
-IsCheckpointCount run count = CountsKept run.table run.kept count
+IsCheckpointCount run count = CountsKept run.table run.kept run.upto count
 
 -- the number of elementary streams of a table: of each program the video and the audio streams
 abbrev pub streams_of : Table → ℕ

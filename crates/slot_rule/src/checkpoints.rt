@@ -1,9 +1,10 @@
 ghost use Rattle.std.specs.Prelude.{◌≡◌, ℕ, ◌+◌, ◌<◌, ◌≤◌, ◌⊎◌, [], ◌∷◌, ◌++◌, Some, length, slice_get, vec_len, vec_capacity};
 ghost use Rattle.version_table.specs.Table.{IsValidTable};
 ghost use Rattle.version_table.specs.Choice.{Fits};
+ghost use Rattle.version_table.specs.declared.limits.TheConstants.{TIME_SLOTS_MOST};
 ghost use Rattle.slot_rule.specs.declared.run_state.RunState.{RunState};
-ghost use Rattle.slot_rule.specs.SlotRun.{CountsCheckpoints};
-ghost use Rattle.slot_rule.specs.Private.Checkpoints.{AreCheckpoints, AreWithin, TellsMiss};
+ghost use Rattle.slot_rule.specs.SlotRun.{CountsCheckpoints, slots_apart};
+ghost use Rattle.slot_rule.specs.Private.Checkpoints.{AreCheckpoints, AreWithin, TellsUpto, reach};
 ghost use Rattle.slot_rule.specs.Private.Runs.{IsFirstRun};
 
 use crate::after::After;
@@ -13,14 +14,11 @@ use crate::run_state::RunState;
 use crate::sent::Miss;
 use crate::slots::run_slots;
 use version_table::Table;
-use version_table::limits::TIME_SLOTS_MOST;
 
-/// Slots from one checkpoint to the next.
+/// Slots from one checkpoint to the next, or a multiple of so many where a table is long.
 pub const SLOTS_APART: u32 = 4_096;
-/// Checkpoints of a run, at most: no packet is due in a slot after 1,024 times as many.
+/// Checkpoints of a run, at most.
 pub const CHECKPOINTS_MOST: usize = 1_024;
-
-const _: () = prove!(CHECKPOINTS_MOST as u64 * SLOTS_APART as u64 == TIME_SLOTS_MOST);
 
 /// Leaves those checkpoints of one choice that stand under another one too, from the first on; `first` is what is kept
 /// before the first slot under the other.
@@ -61,61 +59,81 @@ fn still_right(checkpoints: &[RunState], fronts: &[Front]) -> usize
     checkpoints.len()
 }
 
-/// Runs a choice from its last checkpoint on, or from the first slot, and adds the checkpoints that it comes to; `first`
-/// is what is kept before the first slot.
+/// The first miss before slot `end`, from the last checkpoint on or from the first slot, with the checkpoints added that
+/// the run comes to, `apart` slots each from the next; `first` is what is kept before the first slot.
 pub fn run_on(
     table: &Table,
     choice: &[u8],
     first: RunState,
+    apart: u32,
+    end: u32,
     checkpoints: &mut Vec<RunState>,
 ) -> Option<Miss>
     requires valid { IsValidTable table.now }
     requires fits { Fits table.now choice.now }
     requires first { IsFirstRun table.now choice.now first }
+    requires apart { apart ≡ slots_apart table.now }
+    requires end { end ≤ TIME_SLOTS_MOST }
     requires room { CHECKPOINTS_MOST ≤ vec_capacity checkpoints.old }
     requires few { vec_len checkpoints.old ≤ CHECKPOINTS_MOST }
     requires are { AreCheckpoints table.now choice.now checkpoints.old.items }
-    ensures tells { TellsMiss table.now choice.now result }
+    ensures tells { TellsUpto table.now choice.now end result }
     ensures room { vec_capacity checkpoints.old ≤ vec_capacity checkpoints.new }
     ensures few { vec_len checkpoints.new ≤ CHECKPOINTS_MOST }
     ensures are { AreCheckpoints table.now choice.now checkpoints.new.items }
-    ensures counts { CountsCheckpoints table.now choice.now (length checkpoints.new.items) }
+    ensures counts { CountsCheckpoints table.now choice.now (reach table.now end (length checkpoints.new.items)) (length checkpoints.new.items) }
 {
     if !checkpoints.is_empty() {
-        return run_from_last(table, choice, checkpoints);
+        return run_from_last(table, choice, apart, end, checkpoints);
     }
     match due_head(first.states.as_slice(), first.turns.as_slice()) {
         None => None,
         Some(_) => {
             keep(checkpoints, first);
-            run_from_last(table, choice, checkpoints)
+            run_from_last(table, choice, apart, end, checkpoints)
         }
     }
 }
 
-/// Runs a choice from its last checkpoint on, and adds the checkpoints that it comes to.
-fn run_from_last(table: &Table, choice: &[u8], checkpoints: &mut Vec<RunState>) -> Option<Miss>
+/// The same, from the last checkpoint on.
+fn run_from_last(
+    table: &Table,
+    choice: &[u8],
+    apart: u32,
+    end: u32,
+    checkpoints: &mut Vec<RunState>,
+) -> Option<Miss>
     requires valid { IsValidTable table.now }
     requires fits { Fits table.now choice.now }
+    requires apart { apart ≡ slots_apart table.now }
+    requires end { end ≤ TIME_SLOTS_MOST }
     requires room { CHECKPOINTS_MOST ≤ vec_capacity checkpoints.old }
     requires some { 1 ≤ vec_len checkpoints.old }
     requires few { vec_len checkpoints.old ≤ CHECKPOINTS_MOST }
     requires are { AreCheckpoints table.now choice.now checkpoints.old.items }
-    ensures tells { TellsMiss table.now choice.now result }
+    ensures tells { TellsUpto table.now choice.now end result }
     ensures room { vec_capacity checkpoints.old ≤ vec_capacity checkpoints.new }
     ensures few { vec_len checkpoints.new ≤ CHECKPOINTS_MOST }
     ensures are { AreCheckpoints table.now choice.now checkpoints.new.items }
-    ensures counts { CountsCheckpoints table.now choice.now (length checkpoints.new.items) }
+    ensures counts { CountsCheckpoints table.now choice.now (reach table.now end (length checkpoints.new.items)) (length checkpoints.new.items) }
 {
-    let mut run = checkpoints[checkpoints.len() - 1].copy();
-    loop {
-        let end = SLOTS_APART * checkpoints.len() as u32;
-        match run_slots(table, choice, &mut run, end - SLOTS_APART, end) {
+    let last = checkpoints.len() - 1;
+    let mut from = apart * last as u32;
+    let mut run = checkpoints[last].copy();
+    while from < end {
+        let next = from + apart;
+        match run_slots(table, choice, &mut run, from, next.min(end)) {
             After::Missed(miss) => return Some(miss),
             After::AllSent => return None,
-            After::Waiting => keep(checkpoints, run.copy()),
+            After::Waiting => {}
         }
+        if end < next {
+            return None;
+        }
+        keep(checkpoints, run.copy());
+        from = next;
     }
+    None
 }
 
 /// Adds a checkpoint, for which there is room.

@@ -9,6 +9,7 @@
 mod after;
 mod checkpoints;
 pub mod constants;
+mod distance;
 mod fronts;
 mod heads;
 mod idle;

@@ -1,5 +1,5 @@
 -- What is kept at checkpoints, and what of it stands under another choice.
-use Rattle.std.specs.Prelude.{◌≡◌, ℕ, ◌*◌, ◌<◌, ◌≤◌, List, length, take, drop, slice_get, Option, Some, MatchOption, true, ◌⊎◌}
+use Rattle.std.specs.Prelude.{◌≡◌, ℕ, ◌-◌, ◌*◌, ◌<◌, max, ◌≤◌, List, length, take, drop, slice_get, Option, Some, MatchOption, true, ◌⊎◌}
 use Rattle.version_table.specs.declared.table.Table.{Table}
 use Rattle.slot_rule.specs.declared.sent.Miss.{Miss}
 use Rattle.slot_rule.specs.declared.fronts.Front.{Front}
@@ -8,8 +8,8 @@ use Rattle.slot_rule.specs.declared.queue_items.QueueItems.TheVariants.{Units, P
 use Rattle.slot_rule.specs.declared.queue_state.QueueState.{QueueState}
 use Rattle.slot_rule.specs.declared.run_state.RunState.{RunState}
 use Rattle.slot_rule.specs.Queues.{QueuedPacket}
-use Rattle.slot_rule.specs.Schedule.{IsFirstMiss, IsScheduled}
-use Rattle.slot_rule.specs.SlotRun.{slots_apart}
+use Rattle.slot_rule.specs.Schedule.{IsFirstMissBefore, IsScheduled}
+use Rattle.slot_rule.specs.SlotRun.{StillWaits, slots_apart}
 use Rattle.slot_rule.specs.Private.QueueItems.{program_at}
 use Rattle.slot_rule.specs.Private.Runs.{Reached, Waits}
 
@@ -20,11 +20,19 @@ pub record IsCheckpoint (table : Table) (choice : List ℕ) (slots : ℕ) (run :
 
 -- each is what is kept at its checkpoint
 abbrev pub AreCheckpoints : Table → List ℕ → List RunState → Type 0
-AreCheckpoints table choice checkpoints = (k : ℕ) (run : RunState) → slice_get checkpoints k ≡ Some run → IsCheckpoint table choice (slots_apart * k) run
+AreCheckpoints table choice checkpoints = (k : ℕ) (run : RunState) → slice_get checkpoints k ≡ Some run → IsCheckpoint table choice (slots_apart table * k) run
 
--- the answer of a run
-abbrev pub TellsMiss : Table → List ℕ → Option Miss → Type 0
-TellsMiss table choice result = MatchOption result (IsScheduled table choice) (IsFirstMiss table choice)
+-- all is sent without a miss, or a packet still waits where so many slots or more passed without one
+abbrev pub IsClearUpto : Table → List ℕ → (end : ℕ) → Type 0
+IsClearUpto table choice end = IsScheduled table choice ⊎ ((n : ℕ) × (end ≤ n) × StillWaits table choice n)
+
+-- the answer of a run up to a slot
+abbrev pub TellsUpto : Table → List ℕ → (end : ℕ) → Option Miss → Type 0
+TellsUpto table choice end result = MatchOption result (IsClearUpto table choice end) (IsFirstMissBefore table choice end)
+
+-- the slot up to which so many checkpoints stand after a run up to a slot: that slot, or the last checkpoint's where this is later
+abbrev pub reach : Table → (end count : ℕ) → ℕ
+reach table end count = max end (slots_apart table * (count - 1))
 
 -- the units of a front have the same versions under both choices; it is whole where it has all units of its queue
 abbrev pub IsFrontOf : Table → (choice choice' : List ℕ) → QueueItems → (same : ℕ) → Type 0

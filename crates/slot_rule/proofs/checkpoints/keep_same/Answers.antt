@@ -1,4 +1,4 @@
-use Rattle.std.proofs.Common.{◌≡◌, ℕ, ◌*◌, List, length, vec_len, slice_get, sym, ap, subst, ◌∙◌, inl, inr, arith}
+use Rattle.std.proofs.Common.{◌≡◌, ◌*◌, List, length, vec_len, slice_get, sym, ap, subst, ◌∙◌, inl, inr, arith}
 use Rattle.std.proofs.lemmas.Bool.{eqb-false}
 use Rattle.std.proofs.lemmas.Slice.Zip.{AllZip-long}
 use Rattle.version_table.specs.Choice.{HasVersion}
@@ -33,4 +33,4 @@ returns-clause-are c =
     let at = take_there c.still_right-right.result c.args.checkpoints.now.items k run (ap (λ (list : List RunState). slice_get list k) (sym c.truncate.ensures.items) ∙ there) in
     let within : AreWithin c.fronts_of-fronts.result.items run.states.items = subst (λ (list : List Front). AreWithin list run.states.items) c.as_slice-3.ensures.value
     (c.still_right-right.ensures.right k run at.0 (ap (λ (list : List RunState). slice_get list k) c.as_slice-2.ensures.value ∙ at.1)) in
-    IsCheckpoint-under table old new c.args.first.now fronts c.requires.first are (slots_apart * k) run within (c.requires.are k run at.1)
+    IsCheckpoint-under table old new c.args.first.now fronts c.requires.first are (slots_apart table * k) run within (c.requires.are k run at.1)
