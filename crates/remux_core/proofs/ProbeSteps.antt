@@ -1,5 +1,5 @@
 -- What `probe` makes of a program, and what it calls for.
-use Rattle.std.proofs.Common.{◌≡◌, ◌+◌, ◌<◌, ◌≤◌, ℕ, List, [], ◌∷◌, ◌++◌, length, map, take, get_or, Option, Some, None, refl, sym, ap, subst, ◌∙◌, inl, inr, arith, append-nil}
+use Rattle.std.proofs.Common.{◌≡◌, ◌+◌, ◌<◌, ◌≤◌, ℕ, List, [], ◌∷◌, ◌++◌, length, map, sum_by, take, get_or, Option, Some, None, refl, sym, ap, subst, ◌∙◌, inl, inr, arith, append-nil}
 use Rattle.std.specs.FinMap.{get, insert}
 use Rattle.std.specs.List.{flat_map}
 use Rattle.std.proofs.lemmas.List.{length-append, length-map}
@@ -14,6 +14,7 @@ use Rattle.job_report.specs.declared.limits.TheConstants.{COARSER_DEFAULT, COARS
 use Rattle.program_reader.specs.declared.program.AudioSource.{AudioSource}
 use Rattle.program_reader.specs.declared.program.Program.{Program}
 use Rattle.program_reader.specs.Programs.{IsProgramOfFile}
+use Rattle.program_reader.specs.declared.limits.TheConstants.{UNITS_MOST}
 use Rattle.program_table.specs.Table.{IsRowOf, audio_row}
 use Rattle.shelf_io.specs.Files.{Files, with_content}
 use Rattle.shelf_io.specs.WholeFile.{HoldsPrefix}
@@ -21,8 +22,9 @@ use Rattle.version_table.specs.declared.limits.TheConstants.{AUDIO_PACKETS_LIMIT
 use Rattle.version_table.specs.declared.table.AudioPacket.{AudioPacket}
 use Rattle.version_table.specs.declared.table.ProgramRow.{ProgramRow}
 use Rattle.version_table.specs.declared.table.Table.{Table}
-use Rattle.version_table.specs.Table.{IsValidProgram}
+use Rattle.version_table.specs.Table.{IsValidProgram, IsValidTable, greatest_distortion}
 use Rattle.version_table.specs.Text.{IsTextTable, table_spelling}
+use Rattle.version_table.proofs.Sizes.{spelling_size}
 use Rattle.remux_core.specs.declared.ended.Ended.{Ended}
 use Rattle.remux_core.specs.declared.probe_command.Probed.{Probed}
 use Rattle.remux_core.specs.declared.status.Status.{Status}
@@ -73,19 +75,25 @@ row_is_text law number content program row probed bytes is =
     let units : length (row.units ++ []) ≡ length row.units = ap length (append-nil row.units) in
     let packets : length (flat_map (λ (p : List AudioPacket). p) row.audios ++ []) ≡ length (flat_map (λ (p : List AudioPacket). p) row.audios) =
     ap length (append-nil (flat_map (λ (p : List AudioPacket). p) row.audios)) in
+    let few : length row.units ≤ UNITS_MOST = placed.1 in
+    let sum : sum_by greatest_distortion (row.units ++ []) ≡ sum_by greatest_distortion row.units = ap (sum_by greatest_distortion) (append-nil row.units) in
+    let valid : IsValidTable (table_of_row row) = record {
+      slot_least = omega arith;
+      slot_most = omega arith;
+      some_nodes = omega arith;
+      nodes = omega arith;
+      evaluations = omega arith;
+      few_programs = omega arith;
+      programs = All-cons (IsValidProgram PROBE_SLOT) row [] placed.0 (All-nil (IsValidProgram PROBE_SLOT));
+      units = omega (arith, units, few);
+      audio_packets = omega (arith, packets, placed.2);
+      distortions = omega (arith, sum, placed.3);
+    } in
+    let few_packets : length (flat_map (λ (p : List AudioPacket). p) row.audios ++ []) ≤ TEXT_AUDIO_PACKETS_MOST = omega (arith, packets, same, probed.few_packets) in
     record {
-      valid = record {
-        slot_least = omega arith;
-        slot_most = omega arith;
-        some_nodes = omega arith;
-        nodes = omega arith;
-        evaluations = omega arith;
-        few_programs = omega arith;
-        programs = All-cons (IsValidProgram PROBE_SLOT) row [] placed.0 (All-nil (IsValidProgram PROBE_SLOT));
-        units = omega (arith, units, placed.1);
-        audio_packets = omega (arith, packets, placed.2);
-      };
-      few_packets = omega (arith, packets, same, probed.few_packets);
+      valid = valid;
+      few_packets = few_packets;
+      short = omega (arith, spelling_size (table_of_row row) valid, units, few, few_packets);
     }
 
 pub is_text_table : RowsArePlaced → (number : ℕ) (content : List ℕ) (program : Program) (row : ProgramRow) (programs : List ProgramRow)
