@@ -106,7 +106,7 @@ pub record AreSmall (table : Table) (fixed : List (Option ℕ)) (tally : Tally) 
   pub is : least_costs windows (units_of table) fixed
       ≡ sum_from (free_cost table tally.order.items fixed windows) 0 (length tally.order.items) + DISTORTION_PARTS * sum_from (number_at tally.distortions) 0 (length tally.order.items)
       + sum_from (charged_at tally windows) 0 (length tally.order.items)
-  pub small : least_costs windows (units_of table) fixed < 2 ^ 80
+  pub small : least_costs windows (units_of table) fixed < 2 ^ 85
 
 pub parts_small : (table : Table) (fixed : List (Option ℕ)) (innermost : List ℕ) (tally : Tally) (windows : List PricedWindow) → IsTally table fixed innermost tally → FixesVersions table fixed
     → IsValidTable table → AreCharging windows → AreSmall table fixed tally windows

@@ -144,7 +144,7 @@ all_free table order =
     at_place p =
         unfixed_cost table (unit_at order p) ∙ ap (λ (e : Option ℕ). where_free e (free_least table (unit_at order p))) (sym (unfixed_at (units_of table) (unit_at order p)))
 
-pub free_fits : (table : Table) (order : List DueUnit) (fixed : List (Option ℕ)) → IsValidTable table → IsDueOrder table order → free_sum table order fixed < 2 ^ 80
+pub free_fits : (table : Table) (order : List DueUnit) (fixed : List (Option ℕ)) → IsValidTable table → IsDueOrder table order → free_sum table order fixed < 2 ^ 85
 free_fits table order fixed valid is =
     omega (
       arith,

@@ -101,7 +101,7 @@ has_at_number table choice unit fits within = all_zip_at HasVersion (units_of ta
 -- what is summed so far and one more fits
 pub costs_fit : (table : Table) (order : List DueUnit) (windows : List PricedWindow) (fixed : List (Option ℕ)) (i : ℕ) (d : DueUnit) → IsValidTable table → IsDueOrder table order
     → FixesVersions table fixed → AreCharging windows → i < length order
-    → sum_by (λ at. cost_of_number table windows fixed at.unit) (take i order) + cost_of_number table windows fixed (get_or order i d).unit < 2 ^ 80
+    → sum_by (λ at. cost_of_number table windows fixed at.unit) (take i order) + cost_of_number table windows fixed (get_or order i d).unit < 2 ^ 85
 costs_fit table order windows fixed i d valid is fixes charging within =
     omega (
       arith,

@@ -57,7 +57,7 @@ fn least_costs(table: &Table, tally: &Tally, fixed: &[Option<u8>], windows: &[Wi
     requires few { length windows.now ≤ WINDOWS_MOST }
     requires right { AreRight windows.now }
     ensures value { result ≡ least_costs windows.now (units_of table.now) fixed.now }
-    ensures small { result < 2 ^ 80 }
+    ensures small { result < 2 ^ 85 }
 {
     let distortion = tally.distortions.between(0, tally.order.len());
     least_of_free(table, tally, fixed, windows)
@@ -112,7 +112,7 @@ fn charges(tally: &Tally, windows: &[Window]) -> u128
     requires rising { IsNonDecreasingBy (λ at. at.due) tally.now.order.items }
     requires packets { AreSums tally.now.packets × (tally.now.packets.count ≡ length tally.now.order.items) }
     requires some { NoneEmpty windows.now }
-    requires small { sum_from (charged_at tally.now windows.now) 0 (length tally.now.order.items) < 2 ^ 80 }
+    requires small { sum_from (charged_at tally.now windows.now) 0 (length tally.now.order.items) < 2 ^ 85 }
     ensures { result ≡ sum_from (charged_at tally.now windows.now) 0 (length tally.now.order.items) }
 {
     let mut total = 0;
