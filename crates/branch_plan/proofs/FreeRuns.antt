@@ -41,7 +41,7 @@ free_used table evaluations free used is few = record {
 }
 
 -- a round behind each change is a number of 64 bits
-pub small_rounds : (changes : ℕ) → changes ≤ 262144 → (changes + 1) * changes ≤ 68719738880
+pub small_rounds : (changes : ℕ) → changes ≤ 33554432 → (changes + 1) * changes ≤ 1125899940397056
 small_rounds changes few =
-    let up : (changes + 1) * changes ≤ 262145 * changes = mul-le-mul_right changes (omega (arith, few)) in
+    let up : (changes + 1) * changes ≤ 33554433 * changes = mul-le-mul_right changes (omega (arith, few)) in
     omega (arith, up, few)

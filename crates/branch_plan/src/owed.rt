@@ -45,7 +45,7 @@ pub(crate) fn after_owed(
 /// Whether runs are too few for a whole round behind each of so many changes, and a distortion lies below a start, by one for
 /// each whole round.
 fn are_gained(changes: u64, evaluations: u32, start: u64, distortion: u64) -> bool
-    requires few { changes ≤ 262144 }
+    requires few { changes ≤ 33554432 }
     requires kept { distortion ≤ start }
     ensures few { result ≡ true → evaluations < 1 + (changes + 1) * changes }
     ensures gained { result ≡ true → changes ≢ 0 → distortion + evaluations / changes ≤ start }
