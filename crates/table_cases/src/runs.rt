@@ -1,12 +1,14 @@
 //! Runs of one table that are kept, one choice after another.
 
 ghost use Rattle.std.specs.Prelude.{◌≡◌};
+ghost use Rattle.version_table.specs.Choice.{Fits};
 ghost use Rattle.version_table.specs.Table.{IsValidTable};
 
 use crate::slots::words_of;
 use slot_rule::{Miss, SlotRun, first_miss};
 use std::alloc::Global;
-use version_table::{OutOfMemory, Table, level};
+use version_table::limits::TIME_SLOTS_MOST;
+use version_table::{Choice, OutOfMemory, Table, level};
 
 /// The level choices that are run, in order: coarser ones, one again, and back.
 const LEVELS: [u8; 7] = [0, 1, 2, 3, 3, 2, 0];
@@ -37,12 +39,29 @@ fn run_once(alloc: Global, table: &Table, run: &mut SlotRun, k: u8) -> Result<St
     let mut other = SlotRun::new(alloc, table)?;
     let agrees = run.run(&choice) == miss
         && other.run(&choice) == miss
-        && has_same_work(run, &other);
+        && has_same_work(run, &other)
+        && stops_right(run, &choice, miss);
     match miss {
         _ if !agrees => Ok(String::from_str(alloc, "runs that don't agree")?),
         Some(miss) => words_of(alloc, miss),
         None => Ok(String::from_str(alloc, "scheduled")?),
     }
+}
+
+/// Whether a run up to a slot finds this first miss before the slot behind its own, and none before its own slot; or none
+/// at all. The run keeps what the next one resumes.
+fn stops_right(run: &mut SlotRun, choice: &Choice, miss: Option<Miss>) -> bool
+    requires fits { Fits run.old.table choice.now }
+    ensures { run.new.table ≡ run.old.table }
+{
+    let last = TIME_SLOTS_MOST as u32 - 1;
+    let slot = match miss {
+        Some(miss) => miss.slot.min(last),
+        None => last,
+    };
+    let before = run.run_to(choice, slot);
+    let behind = run.run_to(choice, slot + 1);
+    before == None && behind == miss
 }
 
 /// Whether two runs have the same checkpoints, and at each the same work of the first streams.
