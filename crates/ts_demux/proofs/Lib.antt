@@ -10,6 +10,7 @@ pub mod TableLemmas
 pub mod TableSteps
 pub mod WalkSteps
 pub mod CarrySteps
+pub mod CarriedSteps
 pub mod DemuxSteps
 pub mod Gathering
 pub mod GatherSteps

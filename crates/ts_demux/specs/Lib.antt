@@ -5,4 +5,5 @@ pub mod Streams
 pub mod Tables
 pub mod Demux
 pub mod Pass
+pub mod CarriedPackets
 pub mod Private

@@ -6,6 +6,7 @@
 //! Stands on `shelf_io`, `ts_packets`, `psi_tables` and `pes_units`.
 #![tactic(auto)]
 
+mod carried_packets;
 mod carried_streams;
 mod demux_fault;
 mod demux_program;
@@ -22,6 +23,7 @@ mod section_reader;
 mod stream_walk;
 mod table_walk;
 
+pub use carried_packets::{CarriedPackets, CarriedPid, StreamPayload};
 pub use demux_fault::DemuxFault;
 pub use demux_program::demux;
 pub use demuxed::{AudioStream, Demuxed, PesUnit};
