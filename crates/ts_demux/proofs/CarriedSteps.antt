@@ -57,7 +57,7 @@ use Rattle.ts_demux.specs.declared.demux_fault.DemuxFault.{DemuxFault}
 use Rattle.ts_demux.specs.declared.demux_fault.DemuxFault.TheVariants.{Sync}
 use Rattle.ts_demux.specs.Faults.{of_pid}
 use Rattle.ts_demux.specs.Streams.{is_among}
-use Rattle.ts_demux.specs.Tables.{HasNoSync, HasPidFault, piece}
+use Rattle.ts_demux.specs.Tables.{HasPidFault, piece}
 use Rattle.ts_demux.specs.Demux.{IsStreamFault}
 use Rattle.ts_demux.specs.CarriedPackets.{AreDistinct, AddsFound, added_to, as_carried, carried_before}
 use Rattle.ts_demux.proofs.TableLemmas.{pieces_more, pieces_other}

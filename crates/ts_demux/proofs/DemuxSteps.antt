@@ -1,5 +1,5 @@
 -- What is answered, from what the parts of the reading answer.
-use Rattle.std.proofs.Common.{◌≡◌, ℕ, ◌*◌, ◌/◌, ◌%◌, ◌<◌, ◌≤◌, inl, inr, List, ◌∷◌, length, map, get_or, sym, ap, ◌∙◌, subst, arith, length-drop}
+use Rattle.std.proofs.Common.{◌≡◌, ℕ, ◌*◌, ◌/◌, ◌%◌, ◌<◌, ◌≤◌, ◌⊎◌, inl, inr, List, ◌∷◌, length, map, get_or, sym, ap, ◌∙◌, subst, arith, length-drop}
 use Rattle.std.specs.List.{remove}
 use Rattle.psi_tables.specs.declared.program_map.ProgramMap.{ProgramMap}
 use Rattle.psi_tables.specs.declared.stream.Stream.{Stream}
@@ -9,11 +9,17 @@ use Rattle.ts_demux.specs.declared.demux_fault.DemuxFault.{DemuxFault}
 use Rattle.ts_demux.specs.declared.demuxed.AudioStream.{AudioStream}
 use Rattle.ts_demux.specs.declared.pes_gatherer.PesGatherer.{PesGatherer}
 use Rattle.ts_demux.specs.Tables.{HasMap}
-use Rattle.ts_demux.specs.Demux.{HasCarriedMap, pes_packets_on, IsDemuxRefused, memory, no_video, streams}
+use Rattle.ts_demux.specs.Demux.{HasCarriedMap, pes_packets_on, IsDemuxRefused, memory, no_video, short_file, streams, tables}
+use Rattle.ts_demux.specs.Pass.{IsFrontRefused}
 use Rattle.ts_demux.specs.Private.PesGatherer.{stream_gathered}
 use Rattle.ts_demux.specs.Private.CarriedStreams.{IsCarryFault}
-use Rattle.ts_demux.specs.Private.StreamWalk.{AreGathered, IsGatherFault}
+use Rattle.ts_demux.specs.Private.StreamWalk.{AreGathered, IsGatherFault, IsMemory}
 use Rattle.ts_demux.proofs.GatherSteps.{streams_gathered}
+
+pub front_refused : (file : List ℕ) (program : ℕ) (drop_pids : List ℕ) (fault : DemuxFault) → IsMemory fault ⊎ IsFrontRefused program fault file → IsDemuxRefused file program drop_pids fault
+front_refused file program drop_pids fault (inl is) = memory is
+front_refused file program drop_pids fault (inr (inl is)) = short_file is.0 is.1
+front_refused file program drop_pids fault (inr (inr is)) = tables is.0 is.1
 
 pub carry_refused : (file : List ℕ) (program : ℕ) (drop_pids : List ℕ) (whole : ProgramMap) (fault : DemuxFault) → 188 ≤ length file → HasMap file program whole →
     IsCarryFault whole fault → IsDemuxRefused file program drop_pids fault

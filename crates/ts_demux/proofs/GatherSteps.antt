@@ -1,58 +1,24 @@
 -- Gatherers of some PIDs, one gatherer or one packet further.
-use Rattle.std.proofs.Common.{
-  ◌≡◌,
-  ◌≢◌,
-  ℕ,
-  zero,
-  suc,
-  ◌+◌,
-  ◌*◌,
-  ◌<◌,
-  ◌≤◌,
-  ◌==◌,
-  ◌⊎◌,
-  inl,
-  inr,
-  Bool,
-  true,
-  false,
-  ◌||◌,
-  List,
-  [],
-  ◌∷◌,
-  ◌++◌,
-  length,
-  map,
-  take,
-  get_or,
-  set,
-  slice_get,
-  Some,
-  Ok,
-  refl,
-  sym,
-  ap,
-  ◌∙◌,
-  subst,
-  arith,
-}
+use Rattle.std.proofs.Common.{◌≡◌, ℕ, zero, suc, ◌+◌, ◌*◌, ◌<◌, ◌≤◌, ◌==◌, inl, inr, Bool, true, false, List, [], ◌∷◌, ◌++◌, length, map, take, get_or, set, slice_get, Some, None, Result, Ok, Err, OnOk, length-append, append_assoc, refl, sym, ap, ◌∙◌, subst, arith}
 use Rattle.std.proofs.lemmas.Bool.{cases_lt}
 use Rattle.std.proofs.lemmas.Option.{same_Some, slice_get-get_or, slice_get_within}
 use Rattle.std.proofs.lemmas.Bool.Decides.{nat_tests}
-use Rattle.ts_packets.specs.declared.pid_fault.PidFault.{PidFault}
-use Rattle.ts_packets.specs.Packet.{sync_byte}
-use Rattle.ts_packets.specs.TransportStream.{piece_at, piece_count}
+use Rattle.std.proofs.lemmas.List.{length-map}
+use Rattle.ts_packets.specs.TransportStream.{piece_count}
 use Rattle.psi_tables.specs.declared.stream.Stream.{Stream}
 use Rattle.ts_demux.specs.declared.demux_fault.DemuxFault.{DemuxFault}
-use Rattle.ts_demux.specs.declared.demux_fault.DemuxFault.TheVariants.{Sync, OutOfMemory}
 use Rattle.ts_demux.specs.declared.demuxed.AudioStream.{AudioStream}
 use Rattle.ts_demux.specs.declared.pes_gatherer.PesGatherer.{PesGatherer}
-use Rattle.ts_demux.specs.Faults.{of_pid}
-use Rattle.ts_demux.specs.Streams.{is_among}
-use Rattle.ts_demux.specs.Tables.{HasPidFault}
-use Rattle.ts_demux.specs.Demux.{IsStreamFault, AreStreamsSound, pes_packets_on}
-use Rattle.ts_demux.specs.Private.PesGatherer.{Gathers, AllGather, gatherer_pids, AllGatherMore, stream_gathered}
-use Rattle.ts_demux.specs.Private.StreamWalk.{IsGatherFault}
+use Rattle.ts_demux.specs.Demux.{IsStreamFault, IsFirstStreamFault, AreStreamsSound, pes_packets_on}
+use Rattle.ts_demux.specs.Private.PesGatherer.{Gathers, AllGather, IsInOrder, gathered_of, gathered_more, gatherer_pids, stream_gathered}
+use Rattle.ts_demux.specs.Private.StreamWalk.{AreSoundBefore, AreBeside, GathersUpTo, AreGathered}
+use Rattle.bit_lists.specs.Payload.{CarriedPayload}
+use Rattle.ts_demux.specs.declared.carried_packets.StreamPayload.{StreamPayload}
+use Rattle.ts_demux.specs.declared.stream_walk.StreamGatherers.{StreamGatherers}
+use Rattle.ts_demux.specs.CarriedPackets.{pids_read, AddsFound, carried_before, as_carried}
+use Rattle.ts_demux.proofs.CarriedSteps.{own_added, other_added}
+use Rattle.ts_demux.proofs.Gathering.{gathers_same, gathers_added}
+use Rattle.ts_demux.proofs.PidTests.{yes_test}
 use Rattle.list_types.proofs.Lists.{slice_get-set_same, slice_get-set_other}
 
 pids_same : (xs : List PesGatherer) (n : ℕ) (d x : PesGatherer) → n < length xs → x.pid ≡ (get_or xs n d).pid → gatherer_pids (set xs n x) ≡ gatherer_pids xs
@@ -60,105 +26,7 @@ pids_same [] n d x within same = absurd (omega arith)
 pids_same (y ∷ xs) zero d x within same = ap (λ (p : ℕ). p ∷ gatherer_pids xs) same
 pids_same (y ∷ xs) (suc n) d x within same = ap (λ (ps : List ℕ). y.pid ∷ ps) (pids_same xs n d x (omega arith) same)
 
--- the first gatherers have taken the n-th packet, which has no fault for them; the others are as they were
-pub record FirstGather (file : List ℕ) (n i : ℕ) (olds news : List PesGatherer) : Type 0 where
-  pub each : (k : ℕ) (g : PesGatherer) → k < i → slice_get news k ≡ Some g → Gathers file (n + 1) g
-  pub others : (k : ℕ) → i ≤ k → slice_get news k ≡ slice_get olds k
-  pub pids : gatherer_pids news ≡ gatherer_pids olds
-  pub sound : (k : ℕ) (g : PesGatherer) → k < i → slice_get olds k ≡ Some g → (found : PidFault) → HasPidFault file g.pid 0 n found → ⊥
-
-pub first_before : (file : List ℕ) (n i : ℕ) (olds news : List PesGatherer) (d : PesGatherer) → FirstGather file n i olds news → i < length news → AllGather file n olds →
-    Gathers file n (get_or news i d)
-first_before file n i olds news d first within all = all i (get_or news i d) (sym (first.others i (omega arith)) ∙ slice_get-get_or news i d within)
-
-pub first_more : (file : List ℕ) (n i : ℕ) (olds news : List PesGatherer) (d new : PesGatherer) → FirstGather file n i olds news → i < length news →
-    Gathers file (n + 1) new × (new.pid ≡ (get_or news i d).pid) × ((found : PidFault) → HasPidFault file (get_or news i d).pid 0 n found → ⊥) → FirstGather file n (i + 1) olds (set news i new)
-first_more file n i olds news d new first within more = record {
-  each = λ k g below there. elim (cases_lt k i) [
-    | inl before ↦ first.each k g before (sym (slice_get-set_other news i k new (λ e. absurd (omega arith))) ∙ there)
-    | inr here ↦
-        (let same : k ≡ i = omega arith in
-        let at : slice_get (set news i new) i ≡ Some g = ap (λ j. slice_get (set news i new) j) (sym same) ∙ there in
-        let is : new ≡ g = same_Some new g (sym (slice_get-set_same news i new within) ∙ at) in
-        subst (λ (h : PesGatherer). Gathers file (n + 1) h) is more.0)
-  ];
-  others = λ k from. slice_get-set_other news i k new (λ e. absurd (omega arith)) ∙ first.others k (omega arith);
-  pids = pids_same news i d new within more.1 ∙ first.pids;
-  sound = λ k g below there. elim (cases_lt k i) [
-    | inl before ↦ first.sound k g before there
-    | inr here ↦
-        (let same : k ≡ i = omega arith in
-        let was : get_or news i d ≡ g = same_Some (get_or news i d) g (sym (slice_get-get_or news i d within) ∙ first.others i (omega arith) ∙ ap (λ j. slice_get olds j) (sym same) ∙ there) in
-        subst (λ (h : PesGatherer). (found : PidFault) → HasPidFault file h.pid 0 n found → ⊥) was more.2)
-  ];
-}
-
--- ---- which PIDs are among them
-
-record IsThere (gs : List PesGatherer) (pid : ℕ) : Type 0 where
-  at : ℕ
-  gatherer : PesGatherer
-  there : slice_get gs at ≡ Some gatherer
-  pid_is : gatherer.pid ≡ pid
-
-among_there : (gs : List PesGatherer) (pid : ℕ) → is_among (gatherer_pids gs) pid ≡ true → IsThere gs pid
-among_there [] pid is = absurd cc
-among_there (g ∷ gs) pid is = by_test (among_there gs pid) (g.pid == pid) refl is
-  where
-    by_test : (is_among (gatherer_pids gs) pid ≡ true → IsThere gs pid) → (same : Bool) → (g.pid == pid) ≡ same → (same || is_among (gatherer_pids gs) pid) ≡ true → IsThere (g ∷ gs) pid
-    by_test others true same_is is = record { at = 0; gatherer = g; there = refl; pid_is = grind (arith, nat_tests) }
-    by_test others false same_is is = let found = others is in record { at = suc found.at; gatherer = found.gatherer; there = found.there; pid_is = found.pid_is }
-
-there_among : (gs : List PesGatherer) (k : ℕ) (g : PesGatherer) → slice_get gs k ≡ Some g → is_among (gatherer_pids gs) g.pid ≡ true
-there_among [] k g there = absurd cc
-there_among (x ∷ gs) zero g there =
-    let same : x ≡ g = cc in ap (λ (p : ℕ). (p == g.pid) || is_among (gatherer_pids gs) g.pid) (ap (λ (h : PesGatherer). h.pid) same)
-    ∙ ap (λ (b : Bool). b || is_among (gatherer_pids gs) g.pid) (itself g.pid)
-  where
-    itself : (p : ℕ) → (p == p) ≡ true
-    itself p = grind (arith, nat_tests)
-there_among (x ∷ gs) (suc k) g there = by_test (x.pid == g.pid) (there_among gs k g there)
-  where
-    by_test : (same : Bool) → is_among (gatherer_pids gs) g.pid ≡ true → (same || is_among (gatherer_pids gs) g.pid) ≡ true
-    by_test true is = refl
-    by_test false is = is
-
--- ---- a packet
-
-pub all_taken : (file : List ℕ) (n i : ℕ) (bytes : List ℕ) (olds news : List PesGatherer) → bytes ≡ piece_at file n → sync_byte bytes ≡ 0x47 → FirstGather file n i olds news →
-    length news ≤ i → length olds ≤ i → AllGatherMore file n olds (Ok tt) news
-all_taken file n i bytes olds news bytes_are sync first all all_olds = (
-  λ k g there. first.each k g (omega (arith, slice_get_within news k g there)) there,
-  first.pids,
-  λ fault is. elim is [
-    | inl none ↦ none.0.no_sync (subst (λ (b : List ℕ). sync_byte b ≡ 0x47) bytes_are sync)
-    | inr has ↦ by_pid fault has.0 has.1 has.2 has.3
-  ],
-)
-  where
-    by_pid : (fault : DemuxFault) (pid : ℕ) (found : PidFault) → is_among (gatherer_pids olds) pid ≡ true → HasPidFault file pid 0 n found → ⊥
-    by_pid fault pid found among has =
-        let there = among_there olds pid among in
-        first.sound there.at there.gatherer (omega (arith, slice_get_within olds there.at there.gatherer there.there)) there.there found
-        (subst (λ (p : ℕ). HasPidFault file p 0 n found) (sym there.pid_is) has)
-
-pub one_fault : (file : List ℕ) (n i : ℕ) (olds news : List PesGatherer) (d : PesGatherer) (fault : DemuxFault) → FirstGather file n i olds news → i < length news →
-    (fault ≡ OutOfMemory) ⊎ ((found : PidFault) × HasPidFault file (get_or news i d).pid 0 n found × (fault ≡ of_pid (188 * n) found)) →
-    (fault ≡ OutOfMemory) ⊎ IsStreamFault file (gatherer_pids olds) n fault
-one_fault file n i olds news d fault first within is = elim is [
-  | inl memory ↦ inl memory
-  | inr has ↦ inr (inr ((get_or news i d).pid, has.0, there_among olds i (get_or news i d) (sym (first.others i (omega arith)) ∙ slice_get-get_or news i d within), has.1, has.2))
-]
-
-pub sync_fault : (file : List ℕ) (n : ℕ) (bytes : List ℕ) (olds : List PesGatherer) → n < piece_count file → bytes ≡ piece_at file n → sync_byte bytes ≢ 0x47 →
-    IsStreamFault file (gatherer_pids olds) n (Sync (188 * n))
-sync_fault file n bytes olds within bytes_are none = inl (record { within = within; no_sync = subst (λ (b : List ℕ). sync_byte b ≢ 0x47) bytes_are none }, refl)
-
 -- ---- all packets
-
--- no packet before the n-th is refused
-abbrev pub AreSoundBefore : List ℕ → List ℕ → ℕ → Type 0
-AreSoundBefore file pids n = (m : ℕ) (fault : DemuxFault) → m < n → IsStreamFault file pids m fault → ⊥
 
 pub sound_more : (file pids : List ℕ) (n : ℕ) → AreSoundBefore file pids n → ((fault : DemuxFault) → IsStreamFault file pids n fault → ⊥) → AreSoundBefore file pids (n + 1)
 sound_more file pids n sound here m fault below is = elim (cases_lt m n) [
@@ -216,7 +84,72 @@ pub pids_more : (gs : List PesGatherer) (g : PesGatherer) (streams : List Stream
 pids_more gs g streams i d same within pid =
     pids_push gs g ∙ ap (λ (p : ℕ). gatherer_pids gs ++ p ∷ []) pid ∙ ap (λ (ps : List ℕ). ps ++ (get_or streams i d).pid ∷ []) same ∙ sym (pids_next streams i d within)
 
-pub first_fault : (file pids others : List ℕ) (n : ℕ) (fault : DemuxFault) → others ≡ pids → AreSoundBefore file pids n → (fault ≡ OutOfMemory) ⊎ IsStreamFault file others n fault →
-    IsGatherFault file pids fault
-first_fault file pids others n fault same sound (inl memory) = inl memory
-first_fault file pids others n fault same sound (inr is) = inr (record { packet = n; stands = subst (λ (ps : List ℕ). IsStreamFault file ps n fault) same is; first = sound })
+-- ---- one packet more
+
+-- the PIDs and their places
+pub there_pid : (gs : List PesGatherer) (k : ℕ) (g : PesGatherer) → slice_get gs k ≡ Some g → slice_get (gatherer_pids gs) k ≡ Some g.pid
+there_pid [] k g there = absurd cc
+there_pid (x ∷ gs) zero g there = ap (λ (y : PesGatherer). Some y.pid) (same_Some x g there)
+there_pid (x ∷ gs) (suc k) g there = there_pid gs k g there
+
+-- a packet that adds nothing
+pub all_same : (file pids : List ℕ) (n : ℕ) (gs : List PesGatherer) → gatherer_pids gs ≡ pids → AddsFound file pids n None → AllGather file n gs → AllGather file (n + 1) gs
+all_same file pids n gs beside adds all k g there =
+    gathers_same file n g (adds.each k g.pid (ap (λ (ps : List ℕ). slice_get ps k) (sym beside) ∙ there_pid gs k g there)) (all k g there)
+
+-- a packet that adds a payload
+pub all_added : (file pids : List ℕ) (n : ℕ) (gs : List PesGatherer) (found : StreamPayload) (item after : PesGatherer) → gatherer_pids gs ≡ pids →
+    AddsFound file pids n (Some found) → 0 < length found.payload.now → slice_get gs found.index ≡ Some item →
+    gathered_of after ≡ gathered_more (gathered_of item) found.at found.start found.payload.now → IsInOrder after → after.pid ≡ item.pid → AllGather file n gs →
+    AllGather file (n + 1) (set gs found.index after)
+all_added file pids n gs found item after beside adds some item_is more order pid_is all k g there = by_test (found.index == k) refl
+  where
+    own : carried_before file item.pid (n + 1) ≡ carried_before file item.pid n ++ as_carried found ∷ []
+    own = adds.each found.index item.pid (ap (λ (ps : List ℕ). slice_get ps found.index) (sym beside) ∙ there_pid gs found.index item item_is)
+        ∙ ap (λ (xs : List CarriedPayload). carried_before file item.pid n ++ xs) (own_added found)
+
+    by_test : (same : Bool) → (found.index == k) ≡ same → Gathers file (n + 1) g
+    by_test true same_is =
+        let k_is : found.index ≡ k = grind (arith, nat_tests) in
+        let is : after ≡ g = same_Some after g (sym (slice_get-set_same gs found.index after (slice_get_within gs found.index item item_is)) ∙ ap (slice_get (set gs found.index after)) k_is ∙ there) in
+        subst (λ (x : PesGatherer). Gathers file (n + 1) x) is (gathers_added file n item after found some own more order pid_is (all found.index item item_is))
+    by_test false same_is =
+        let apart : found.index ≡ k → ⊥ = λ e. (let t : (found.index == k) ≡ true = yes_test found.index k e in absurd cc) in
+        let was : slice_get gs k ≡ Some g = sym (slice_get-set_other gs found.index k after (λ e. apart (sym e))) ∙ there in
+        gathers_same file n g (adds.each k g.pid (ap (λ (ps : List ℕ). slice_get ps k) (sym beside) ∙ there_pid gs k g was)
+        ∙ ap (λ (xs : List CarriedPayload). carried_before file g.pid n ++ xs) (other_added found k apart)) (all k g was)
+
+-- the PIDs stay
+pub set_pids : (gs : List PesGatherer) (index : ℕ) (item after : PesGatherer) → slice_get gs index ≡ Some item → after.pid ≡ item.pid → gatherer_pids (set gs index after) ≡ gatherer_pids gs
+set_pids gs index item after there same = pids_same gs index item after (slice_get_within gs index item there) (same ∙ ap (λ (g : PesGatherer). g.pid) (same_Some item (get_or gs index item) (sym there ∙ slice_get-get_or gs index item (slice_get_within gs index item there))))
+
+-- the first packet that is refused
+pub first_fault : (file pids : List ℕ) (n : ℕ) (fault : DemuxFault) → AreSoundBefore file pids n → IsStreamFault file pids n fault → IsFirstStreamFault file pids fault
+first_fault file pids n fault sound is = record { packet = n; stands = is; first = sound }
+
+-- a number of a PID is that of its gatherer
+pub beside_within : (gs : List PesGatherer) (pids : List ℕ) (k : ℕ) → gatherer_pids gs ≡ pids → k < length pids → k < length gs
+beside_within gs pids k beside within = omega (arith, within, ap length beside, length-map gs (λ (g : PesGatherer). g.pid))
+
+-- facts of an answer that are so together
+pub on_ok : {T E : Type 0} (result : Result T E) (A B C D : Type 0) → OnOk result A → OnOk result B → OnOk result C → (A → B → C → D) → OnOk result D
+on_ok (Ok x) A B C D a b c f = f a b c
+on_ok (Err e) A B C D a b c f = tt
+
+-- ---- all packets of a source
+
+pub gathered_at_end : (seen rest : List ℕ) (n : ℕ) (pids : List ℕ) (walk : StreamGatherers) → length seen ≡ 188 * n → length rest < 188 → pids_read walk.packets ≡ pids → AreBeside walk →
+    GathersUpTo (seen ++ rest) n walk → AreGathered (seen ++ rest) pids walk.gatherers.items
+gathered_at_end seen rest n pids walk count short pids_are beside gathers =
+    let end : n ≡ piece_count (seen ++ rest) = omega (arith, count, short, length-append seen rest) in
+    record {
+      all = all_at_end (seen ++ rest) n walk.gatherers.items end gathers.all;
+      pids_are = beside ∙ pids_are;
+      sound = sound_all (seen ++ rest) pids n (omega (arith, end)) (subst (λ (ps : List ℕ). AreSoundBefore (seen ++ rest) ps n) pids_are gathers.sound);
+    }
+
+pub refused_early : (seen packet more pids streams : List ℕ) (fault : DemuxFault) → pids ≡ streams → IsFirstStreamFault (seen ++ (packet ++ more)) pids fault →
+    IsFirstStreamFault ((seen ++ packet) ++ more) streams fault
+refused_early seen packet more pids streams fault same first =
+    subst (λ (ps : List ℕ). IsFirstStreamFault ((seen ++ packet) ++ more) ps fault) same
+    (subst (λ (file : List ℕ). IsFirstStreamFault file pids fault) (sym (append_assoc seen packet more)) first)

@@ -1,55 +1,15 @@
 -- The PES packets that a PID carries, one payload further.
-use Rattle.std.proofs.Common.{
-  ◌≡◌,
-  ℕ,
-  ◌+◌,
-  ◌*◌,
-  ◌<◌,
-  inl,
-  Bool,
-  true,
-  false,
-  cond,
-  ◌&&◌,
-  nat_lt,
-  List,
-  [],
-  ◌∷◌,
-  ◌++◌,
-  length,
-  map,
-  Option,
-  Some,
-  None,
-  Result,
-  Ok,
-  Err,
-  IfErr,
-  OnOk,
-  refl,
-  sym,
-  ap,
-  ◌∙◌,
-  subst,
-  append_assoc,
-  arith,
-}
+use Rattle.std.proofs.Common.{◌≡◌, ℕ, ◌+◌, ◌<◌, Bool, true, false, cond, ◌&&◌, nat_lt, List, [], ◌∷◌, ◌++◌, length, map, Option, Some, refl, sym, ap, ◌∙◌, append_assoc, arith}
 use Rattle.std.proofs.lemmas.Bool.Decides.{nat_tests}
 use Rattle.std.proofs.lemmas.List.{append-nil}
 use Rattle.bit_lists.specs.Payload.{CarriedPayload, is_start}
-use Rattle.ts_packets.specs.declared.pid_fault.PidFault.{PidFault}
-use Rattle.ts_packets.specs.TransportStream.{Piece, piece_at, piece_count, is_of_pid, pid_pieces}
-use Rattle.ts_packets.specs.Carried.{carried, pid_fault}
-use Rattle.ts_packets.specs.PidReader.{IsBehind}
+use Rattle.ts_packets.specs.Carried.{carried}
 use Rattle.pes_units.specs.PesPackets.{Gathered, gathered, up_to_start}
-use Rattle.ts_demux.specs.declared.demux_fault.DemuxFault.{DemuxFault}
-use Rattle.ts_demux.specs.declared.demux_fault.DemuxFault.TheVariants.{OutOfMemory}
 use Rattle.ts_demux.specs.declared.demuxed.PesUnit.{PesUnit}
 use Rattle.ts_demux.specs.declared.pes_gatherer.PesGatherer.{PesGatherer}
-use Rattle.ts_demux.specs.Tables.{piece, HasPidFault}
-use Rattle.ts_demux.specs.Demux.{units_in}
-use Rattle.ts_demux.specs.Private.PesGatherer.{last_of, gathered_of, longer, gathered_more, IsInOrder, IsSame, Gathers, GathersMore}
-use Rattle.ts_demux.proofs.TableLemmas.{pieces_more, pieces_other}
+use Rattle.ts_demux.specs.declared.carried_packets.StreamPayload.{StreamPayload}
+use Rattle.ts_demux.specs.CarriedPackets.{carried_before, as_carried}
+use Rattle.ts_demux.specs.Private.PesGatherer.{last_of, gathered_of, longer, gathered_more, IsInOrder, Gathers}
 
 abbrev unit_of : Gathered → PesUnit
 unit_of packet = record { at = packet.at; bytes = packet.bytes }
@@ -150,76 +110,23 @@ pub goes_on : (whole : List PesUnit) (begun : Option ℕ) (at : ℕ) (bytes more
     whole ++ last_of begun more ≡ longer (whole ++ last_of begun bytes) payload
 goes_on whole begun at bytes more payload is same = rw (is, same) (sym (longer_last whole (record { at = at; bytes = bytes }) payload))
 
--- a packet of another PID
-pub gathers_other : (file : List ℕ) (n : ℕ) (gatherer : PesGatherer) → is_of_pid file gatherer.pid n ≡ false → Gathers file n gatherer → Gathers file (n + 1) gatherer
-gathers_other file n gatherer other gathers = record {
+-- ---- a packet
+
+-- one that adds nothing to its PID
+pub gathers_same : (file : List ℕ) (n : ℕ) (gatherer : PesGatherer) → carried_before file gatherer.pid (n + 1) ≡ carried_before file gatherer.pid n ++ [] →
+    Gathers file n gatherer → Gathers file (n + 1) gatherer
+gathers_same file n gatherer same gathers = record {
   order = gathers.order;
-  packets = subst (λ (ps : List Piece). IsBehind ps gatherer.packets) (sym (pieces_other file gatherer.pid 0 n other)) gathers.packets;
-  units = gathers.units ∙ ap units_in (sym (pieces_other file gatherer.pid 0 n other));
+  units = gathers.units ∙ sym (ap units_of (same ∙ append-nil (carried_before file gatherer.pid n)));
 }
 
-pieces_with : (file : List ℕ) (pid n : ℕ) (bytes : List ℕ) → bytes ≡ piece_at file n → is_of_pid file pid n ≡ true →
-    pid_pieces file pid 0 (n + 1) ≡ pid_pieces file pid 0 n ++ record { at = 188 * n; bytes = bytes } ∷ []
-pieces_with file pid n bytes bytes_are of_pid = pieces_more file pid 0 n (omega arith) of_pid ∙ ap (λ (b : List ℕ). pid_pieces file pid 0 n ++ record { at = 188 * n; bytes = b } ∷ []) (sym bytes_are)
-
--- one that carries nothing
-pub gathers_nothing : (file : List ℕ) (n : ℕ) (bytes : List ℕ) (gatherer after : PesGatherer) → bytes ≡ piece_at file n → is_of_pid file gatherer.pid n ≡ true → after.pid ≡ gatherer.pid →
-    after.begun ≡ gatherer.begun → after.whole ≡ gatherer.whole → after.bytes ≡ gatherer.bytes →
-    carried (pid_pieces file gatherer.pid 0 n ++ record { at = 188 * n; bytes = bytes } ∷ []) ≡ carried (pid_pieces file gatherer.pid 0 n) ++ [] →
-    IsBehind (pid_pieces file gatherer.pid 0 n ++ record { at = 188 * n; bytes = bytes } ∷ []) after.packets → Gathers file n gatherer → Gathers file (n + 1) after
-gathers_nothing file n bytes gatherer after bytes_are of_pid pid begun whole own none behind gathers = record {
-  order = rw (begun, whole) gathers.order;
-  packets = rw (pid, pieces_with file gatherer.pid n bytes bytes_are of_pid) behind;
-  units = rw (begun, whole, own, pid) (gathers.units ∙ sym (ap units_in (pieces_with file gatherer.pid n bytes bytes_are of_pid)
-      ∙ ap units_of (none ∙ append-nil (carried (pid_pieces file gatherer.pid 0 n)))));
-}
-
--- one that carries a payload
-pub gathers_more : (file : List ℕ) (n : ℕ) (bytes : List ℕ) (gatherer between after : PesGatherer) (start : Bool) (payload : List ℕ) (result : Result Unit DemuxFault) →
-    bytes ≡ piece_at file n → is_of_pid file gatherer.pid n ≡ true → 0 < length payload →
-    carried (pid_pieces file gatherer.pid 0 n ++ record {
-      at =
-          188 * n;
-      bytes = bytes;
-    } ∷ []) ≡ carried (pid_pieces file gatherer.pid 0 n) ++ record { at = 188 * n; payload = record { start = start; bytes = payload } } ∷ [] →
-    IsBehind (pid_pieces file gatherer.pid 0 n ++ record { at = 188 * n; bytes = bytes } ∷ []) between.packets →
-    gathered_of between ≡ gathered_of gatherer → between.pid ≡ gatherer.pid →
-    OnOk result (gathered_of after ≡ gathered_more (gathered_of between) (188 * n) start payload) → OnOk result (IsInOrder after)
-    → OnOk result (IsSame between after) → IfErr result (λ (fault : DemuxFault). fault ≡ OutOfMemory) →
-    ((found : PidFault) → HasPidFault file gatherer.pid 0 n found → ⊥) → Gathers file n gatherer → GathersMore file n gatherer result after
-gathers_more file n bytes gatherer between after start payload (Err fault) bytes_are of_pid some one behind same pid ok order kept memory sound gathers = inl memory
-gathers_more file n bytes gatherer between after start payload (Ok _) bytes_are of_pid some one behind same pid ok order kept memory sound gathers =
-    let pid_is : after.pid ≡ gatherer.pid = kept.pid ∙ pid in
-    let now : units_in (pid_pieces file gatherer.pid 0 (n + 1)) ≡ gathered_more (units_in (pid_pieces file gatherer.pid 0 n)) (188 * n) start payload =
-    ap units_in (pieces_with file gatherer.pid n bytes bytes_are of_pid) ∙ ap units_of one
-    ∙ units_more (carried (pid_pieces file gatherer.pid 0 n))
-    (record { at = 188 * n; payload = record { start = start; bytes = payload } }) some in (
-      record {
-        order = order;
-        packets = rw (pid_is, kept.packets, pieces_with file gatherer.pid n bytes bytes_are of_pid) behind;
-        units = rw pid_is (ok ∙ ap (λ (units : List PesUnit). gathered_more units (188 * n) start payload) (same ∙ gathers.units) ∙ sym now);
-      },
-      pid_is,
-      sound,
-    )
-
--- no fault
-pub gathers_sound : (file : List ℕ) (n pid : ℕ) (bytes : List ℕ) → bytes ≡ piece_at file n → pid_fault (pid_pieces file pid 0 n) (record { at = 188 * n; bytes = bytes }) ≡ None →
-    (found : PidFault) → HasPidFault file pid 0 n found → ⊥
-gathers_sound file n pid bytes bytes_are none found has =
-    let there : pid_fault (pid_pieces file pid 0 n) (piece file n) ≡ None = subst (λ (b : List ℕ). pid_fault (pid_pieces file pid 0 n) (record { at = 188 * n; bytes = b }) ≡ None) bytes_are none in
-    let e : None ≡ Some found = sym there ∙ has.fault_is in
-    absurd cc
-
-pub other_sound : (file : List ℕ) (n pid : ℕ) → is_of_pid file pid n ≡ false → (found : PidFault) → HasPidFault file pid 0 n found → ⊥
-other_sound file n pid other found has = let e : is_of_pid file pid n ≡ true = has.of_pid in absurd cc
-
--- one that has a fault
-pub gathers_fault : (file : List ℕ) (n : ℕ) (bytes : List ℕ) (gatherer : PesGatherer) (fault : PidFault) → n < piece_count file → bytes ≡ piece_at file n →
-    is_of_pid file gatherer.pid n ≡ true → pid_fault (pid_pieces file gatherer.pid 0 n) (record { at = 188 * n; bytes = bytes }) ≡ Some fault → HasPidFault file gatherer.pid 0 n fault
-gathers_fault file n bytes gatherer fault within bytes_are on_pid is = record {
-  within = within;
-  behind = omega arith;
-  of_pid = on_pid;
-  fault_is = subst (λ (b : List ℕ). pid_fault (pid_pieces file gatherer.pid 0 n) (record { at = 188 * n; bytes = b }) ≡ Some fault) bytes_are is;
+-- one that adds a payload
+pub gathers_added : (file : List ℕ) (n : ℕ) (gatherer after : PesGatherer) (found : StreamPayload) → 0 < length found.payload.now →
+    carried_before file gatherer.pid (n + 1) ≡ carried_before file gatherer.pid n ++ as_carried found ∷ [] →
+    gathered_of after ≡ gathered_more (gathered_of gatherer) found.at found.start found.payload.now → IsInOrder after → after.pid ≡ gatherer.pid →
+    Gathers file n gatherer → Gathers file (n + 1) after
+gathers_added file n gatherer after found some added more order pid_is gathers = record {
+  order = order;
+  units = rw pid_is (more ∙ ap (λ (units : List PesUnit). gathered_more units found.at found.start found.payload.now) gathers.units
+      ∙ sym (ap units_of added ∙ units_more (carried_before file gatherer.pid n) (as_carried found) some));
 }

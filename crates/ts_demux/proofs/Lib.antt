@@ -11,6 +11,7 @@ pub mod TableSteps
 pub mod WalkSteps
 pub mod CarrySteps
 pub mod CarriedSteps
+pub mod DistinctPids
 pub mod DemuxSteps
 pub mod Gathering
 pub mod GatherSteps

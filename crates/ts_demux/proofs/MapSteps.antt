@@ -1,58 +1,16 @@
 -- The map of a program, out of the packets of a source.
-use Rattle.std.proofs.Common.{
-  ◌≡◌,
-  ◌≢◌,
-  ℕ,
-  ◌+◌,
-  ◌*◌,
-  ◌/◌,
-  ◌<◌,
-  ◌≤◌,
-  ◌==◌,
-  Bool,
-  true,
-  false,
-  cond,
-  inl,
-  inr,
-  List,
-  [],
-  ◌++◌,
-  Option,
-  Some,
-  None,
-  Ok,
-  Err,
-  Result,
-  length,
-  take,
-  drop,
-  refl,
-  sym,
-  ap,
-  ◌∙◌,
-  subst,
-  arith,
-  rules,
-  append_assoc,
-  length-append,
-  length-drop,
-  length-take-le,
-  append-nil,
-}
+use Rattle.std.proofs.Common.{◌≡◌, ℕ, ◌+◌, ◌*◌, ◌<◌, ◌≤◌, ◌==◌, Bool, true, false, cond, inl, inr, List, [], ◌++◌, Option, Some, None, Ok, Result, length, refl, sym, ◌∙◌, subst, arith, rules, append_assoc, length-append}
 use Rattle.std.proofs.lemmas.Bool.Decides.{nat_tests}
 use Rattle.ts_packets.specs.TransportStream.{piece_at, piece_count}
 use Rattle.psi_tables.specs.declared.program_map.ProgramMap.{ProgramMap}
 use Rattle.ts_demux.specs.declared.demux_fault.DemuxFault.{DemuxFault}
-use Rattle.ts_demux.specs.declared.demux_fault.DemuxFault.TheVariants.{ShortFile, NoPat, NoProgram, NoPmt}
-use Rattle.ts_demux.specs.declared.table_walk.Known.{Known}
+use Rattle.ts_demux.specs.declared.demux_fault.DemuxFault.TheVariants.{ShortFile}
 use Rattle.ts_demux.specs.declared.table_walk.TableWalk.{TableWalk}
 use Rattle.ts_demux.specs.Tables.{IsTablesFault, StopsFirst, refuse, take as take_map}
-use Rattle.ts_demux.specs.PacketBuffer.{Passes}
-use Rattle.ts_demux.specs.Pass.{HasMapOf, IsFrontRefused}
+use Rattle.ts_demux.specs.Pass.{IsFrontRefused}
 use Rattle.ts_demux.specs.Private.TableWalk.{IsBetween, StandsBefore, Ends, missing_of, missing_behind}
 use Rattle.ts_demux.proofs.WalkSteps.{ends_missing}
-use Rattle.ts_demux.proofs.PassSteps.{next_within, next_piece, next_count}
+use Rattle.ts_demux.proofs.PassSteps.{next_within, next_piece}
 
 -- what stops the reading of the tables is a fault of theirs
 pub tables_stop : (file : List ℕ) (program : ℕ) (fault : DemuxFault) → StopsFirst file program (refuse fault) → IsTablesFault file program fault

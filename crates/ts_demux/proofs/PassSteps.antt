@@ -1,32 +1,12 @@
 -- A pass over the packets of a source, one packet further.
-use Rattle.std.proofs.Common.{
-  ◌≡◌,
-  ℕ,
-  ◌+◌,
-  ◌*◌,
-  ◌/◌,
-  ◌<◌,
-  ◌≤◌,
-  List,
-  [],
-  ◌++◌,
-  Option,
-  length,
-  take,
-  drop,
-  refl,
-  sym,
-  ap,
-  ◌∙◌,
-  arith,
-  append_assoc,
-  length-append,
-  append-nil,
-  subst,
-}
+use Rattle.std.proofs.Common.{◌≡◌, ℕ, ◌+◌, ◌*◌, ◌<◌, List, [], ◌++◌, Option, Some, inl, inr, length, take, drop, sym, ap, ◌∙◌, arith, append_assoc, length-append, append-nil, subst}
 use Rattle.std.proofs.lemmas.List.{take_at, drop_at, take-append-drop}
 use Rattle.ts_packets.specs.TransportStream.{piece_at, piece_count}
-use Rattle.ts_demux.specs.PacketBuffer.{Passes}
+use Rattle.ts_demux.specs.declared.demux_fault.DemuxFault.{DemuxFault}
+use Rattle.ts_demux.specs.declared.pass_fault.PassFault.{PassFault}
+use Rattle.ts_demux.specs.declared.pass_fault.PassFault.TheVariants.{Refused}
+use Rattle.ts_demux.specs.PacketBuffer.{Passes, IsAtEnd}
+use Rattle.ts_demux.specs.Pass.{IsEarly, IsWhole, HoldsOfFile, OnRefused}
 use Rattle.ts_demux.proofs.Passing.{passes_twice}
 
 -- the packet that stands first is passed too
@@ -63,3 +43,35 @@ pub passes_filled : (left mid after : Option (List ℕ)) (most most_mid most_aft
 passes_filled left mid after most most_mid most_after seen held held_after first then =
     subst (λ (passed : List ℕ). Passes left after most most_after [] passed held_after) (append-nil seen)
     (passes_twice left mid after most most_mid most_after [] seen held [] held_after first then)
+
+-- ---- where the source told the file
+
+-- what was read is its front
+told_front : (file : List ℕ) (after : Option (List ℕ)) (most most_after : ℕ) (seen held : List ℕ) → Passes (Some file) after most most_after [] seen held →
+    (rest : List ℕ) × ((seen ++ held) ++ rest ≡ file) × (after ≡ Some rest)
+told_front file after most most_after seen held passes =
+    let count = length passes.bytes in (
+      drop count file,
+      ap (λ (xs : List ℕ). xs ++ drop count file) (sym passes.in_order ∙ sym passes.taken.told) ∙ take-append-drop count file,
+      passes.taken.takes.rest,
+    )
+
+pub told_early : (file : List ℕ) (after : Option (List ℕ)) (most most_after : ℕ) (held : List ℕ) (P : List ℕ → Type 0) → IsEarly (Some file) after most most_after held P → P file
+told_early file after most most_after held P early =
+    let front = told_front file after most most_after early.seen held early.passes in
+    subst P (sym (append_assoc early.seen held front.0) ∙ front.1) (early.every (held ++ front.0))
+
+pub told_whole : (file : List ℕ) (after : Option (List ℕ)) (most most_after : ℕ) (held : List ℕ) (P : List ℕ → Type 0) → IsWhole (Some file) after most most_after held P → P file
+told_whole file after most most_after held P whole =
+    let front = told_front file after most most_after whole.seen held whole.passes in
+    let ended : front.0 ≡ [] = subst (λ (told : Option (List ℕ)). IsAtEnd told) front.2 whole.end in
+    subst P (sym (append-nil (whole.seen ++ held)) ∙ ap (λ (xs : List ℕ). (whole.seen ++ held) ++ xs) (sym ended) ∙ front.1) whole.whole
+
+-- what holds of the file that is read holds of the one that the source told
+pub told_file : (file : List ℕ) (after : Option (List ℕ)) (most most_after : ℕ) (held : List ℕ) (P : List ℕ → Type 0) → HoldsOfFile (Some file) after most most_after held P → P file
+told_file file after most most_after held P (inl early) = told_early file after most most_after held P early
+told_file file after most most_after held P (inr whole) = told_whole file after most most_after held P whole
+
+-- what is said of a refusal
+pub on_refused : (fault : PassFault) (refusal : DemuxFault) (P : DemuxFault → Type 0) → fault ≡ Refused refusal → OnRefused fault P → P refusal
+on_refused fault refusal P is said = subst (λ (f : PassFault). OnRefused f P) is said

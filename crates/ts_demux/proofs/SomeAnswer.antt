@@ -57,7 +57,8 @@ use Rattle.ts_demux.specs.Faults.{of_packet, of_pid, of_section}
 use Rattle.ts_demux.specs.Streams.{video_of, without_video, audios_of, others_of, is_among}
 use Rattle.ts_demux.specs.Tables.{piece, HasPidFault, refuse, StopsAt, no_sync, pat_packet, pmt_packet, pat_section, pmt_section, map_section, IsTablesFault, HasMap}
 use Rattle.ts_demux.specs.Demux.{most_audios, HasCarriedMap, IsStreamFault, IsFirstStreamFault, pes_packets_on, IsDemuxed, IsDemuxRefused, short_file, tables, no_video, audios, long_map, streams}
-use Rattle.ts_demux.proofs.GatherSteps.{AreSoundBefore, fault_within, sound_more, sound_all}
+use Rattle.ts_demux.specs.Private.StreamWalk.{AreSoundBefore}
+use Rattle.ts_demux.proofs.GatherSteps.{fault_within, sound_more, sound_all}
 use Rattle.ts_demux.proofs.OneAnswer.{WhyNot, no_pat, no_program, no_pmt, stopped, why_not}
 
 -- ---- no refusal of the file is want of memory

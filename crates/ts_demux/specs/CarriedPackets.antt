@@ -1,6 +1,5 @@
 -- What the packets of a file carry on some PIDs, packet by packet (ISO/IEC 13818-1, 2.4.3.3).
-use Rattle.std.specs.Prelude.{◌≡◌, ℕ, ◌+◌, ◌*◌, ◌==◌, List, [], ◌∷◌, ◌++◌, map, slice_get, Option, Some, None, Result, Ok, Err, if◌then◌else◌}
-use Rattle.stream_constants.specs.declared.packets.TheConstants.{PACKET_BYTES}
+use Rattle.std.specs.Prelude.{◌≡◌, ℕ, ◌+◌, ◌==◌, List, [], ◌∷◌, ◌++◌, map, slice_get, Option, Some, None, Result, Ok, Err, if◌then◌else◌}
 use Rattle.bit_lists.specs.Payload.{CarriedPayload}
 use Rattle.ts_packets.specs.TransportStream.{pid_pieces}
 use Rattle.ts_packets.specs.Carried.{carried}

@@ -67,6 +67,7 @@ impl CarriedPackets {
         ensures taken { (file : List ℕ) → n < piece_count file → bytes.now ≡ piece_at file n → StandsAt file n self.old → TakesPacket file (pids_read self.old) n result }
         ensures behind { (file : List ℕ) → n < piece_count file → bytes.now ≡ piece_at file n → StandsAt file n self.old → IfOk result (λ _. StandsAt file (n + 1) self.new) }
         ensures fits { IfOk result (λ found. IfSome found (λ payload. (0 < length payload.payload.now) × (length payload.payload.now ≤ PAYLOAD_BYTES))) }
+        ensures index { IfOk result (λ found. IfSome found (λ payload. payload.index < length (pids_read self.old))) }
         ensures pids { pids_read self.new ≡ pids_read self.old }
     {
         let Ok(pid) = pid_of(bytes) else {

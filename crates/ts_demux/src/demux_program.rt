@@ -1,22 +1,31 @@
-ghost use Rattle.std.specs.Prelude.{◌≡◌, map, [], ◌∷◌, ◌++◌, MatchResult, IfErr, IfOk};
+ghost use Rattle.std.specs.Prelude.{◌≡◌, ◌≤◌, ◌^◌, ◌⊎◌, map, [], ◌∷◌, ◌++◌, length, MatchResult, IfErr, IfOk};
 ghost use Rattle.ts_demux.specs.declared.demux_fault.DemuxFault.TheVariants.{OutOfMemory};
 ghost use Rattle.ts_demux.specs.Demux.{IsDemuxed, IsDemuxRefused};
+ghost use Rattle.ts_demux.specs.CarriedPackets.{AreDistinct};
+ghost use Rattle.ts_demux.specs.Pass.{HasMapOf, IsFrontRefused};
 ghost use Rattle.ts_demux.specs.Private.PesGatherer.{stream_gathered};
+ghost use Rattle.ts_demux.specs.Private.StreamWalk.{AreGathered, IsGatherFault, IsMemory};
 
 use crate::carried_streams::carry_streams;
 use crate::demux_fault::DemuxFault;
 use crate::demuxed::{AudioStream, Demuxed};
+use crate::map_pass::read_map;
+use crate::packet_buffer::PacketBuffer;
+use crate::pass_fault::PassFault;
 use crate::pes_gatherer::PesGatherer;
 use crate::stream_walk::gather_streams;
-use crate::table_walk::read_map;
 use list_types::ListOf;
-use psi_tables::{PACKET_SECTION_BYTES, pmt_length};
+use psi_tables::{PACKET_SECTION_BYTES, ProgramMap, Stream, pmt_length};
+use shelf_io::{SOURCE_BYTES_MOST, SliceSource};
 use std::alloc::Global;
 use stream_constants::limits::AUDIOS_MOST;
 use stream_constants::packets::PACKET_BYTES;
 
 /// The most streams that are carried: the video and the audio streams.
 const STREAMS_CARRIED: usize = 1 + AUDIOS_MOST;
+
+/// The bytes that are taken from a file at once.
+const ROOM_BYTES: usize = 65_536;
 
 /// Takes a program out of a transport stream (ISO/IEC 13818-1, 2.4.3 and 2.4.4): the PES packets of its first video stream
 /// and of its audio streams, but for those whose PIDs are in `drop`. An error is the first refusal in the order of reading:
@@ -25,10 +34,11 @@ const STREAMS_CARRIED: usize = 1 + AUDIOS_MOST;
 pub fn demux(alloc: Global, file: &[u8], program: u16, drop: &[u16]) -> Result<Demuxed, DemuxFault>
     ensures { MatchResult result (IsDemuxed file.now program drop.now) (IsDemuxRefused file.now program drop.now) }
 {
-    if file.len() < PACKET_BYTES {
-        return Err(DemuxFault::ShortFile { at: 0 });
+    if file.len() as u64 > SOURCE_BYTES_MOST {
+        return Err(DemuxFault::OutOfMemory);
     }
-    let whole = match read_map(file, program) {
+    let mut buffer = PacketBuffer::new(vec![in alloc; 0u8; ROOM_BYTES]?);
+    let whole = match map_in(&mut buffer, file, program) {
         Ok(whole) => whole,
         Err(fault) => return Err(fault),
     };
@@ -42,7 +52,8 @@ pub fn demux(alloc: Global, file: &[u8], program: u16, drop: &[u16]) -> Result<D
     if pmt_length(&carried.map) > PACKET_SECTION_BYTES {
         return Err(DemuxFault::PmtTooLong { at: 0 });
     }
-    let gatherers = match gather_streams(alloc, file, carried.map.streams.as_slice()) {
+    let streams = carried.map.streams.as_slice();
+    let gatherers = match gather_in(alloc, &mut buffer, file, streams) {
         Ok(gatherers) => gatherers,
         Err(fault) => return Err(fault),
     };
@@ -58,6 +69,38 @@ pub fn demux(alloc: Global, file: &[u8], program: u16, drop: &[u16]) -> Result<D
         rest: (file.len() % PACKET_BYTES) as u8,
         not_carried: carried.others,
     })
+}
+
+/// The map of a program of a file, as `read_map` reads it of a source.
+fn map_in(buffer: &mut PacketBuffer, file: &[u8], program: u16) -> Result<ProgramMap, DemuxFault>
+    requires few { length file.now ≤ 2 ^ 60 }
+    requires empty { buffer.old ≡ [] }
+    ensures { MatchResult result (λ map. HasMapOf program map file.now) (λ fault. IsMemory fault ⊎ IsFrontRefused program fault file.now) }
+{
+    match read_map(buffer, &mut SliceSource::new(file), program) {
+        Ok(map) => Ok(map),
+        Err(PassFault::Refused(fault)) => Err(fault),
+        Err(PassFault::Outside(_)) => Err(DemuxFault::OutOfMemory),
+    }
+}
+
+/// The PES packets of some streams of a file, as `gather_streams` gathers them of a source.
+fn gather_in(
+    alloc: Global,
+    buffer: &mut PacketBuffer,
+    file: &[u8],
+    streams: &[Stream],
+) -> Result<Vec<PesGatherer>, DemuxFault>
+    requires few { length file.now ≤ 2 ^ 60 }
+    requires distinct { AreDistinct (map (λ stream. stream.pid) streams.now) }
+    ensures { MatchResult result (λ gatherers. AreGathered file.now (map (λ stream. stream.pid) streams.now) gatherers.items) (IsGatherFault file.now (map (λ stream. stream.pid) streams.now)) }
+{
+    buffer.clear();
+    match gather_streams(alloc, buffer, &mut SliceSource::new(file), streams) {
+        Ok(gatherers) => Ok(gatherers),
+        Err(PassFault::Refused(fault)) => Err(fault),
+        Err(PassFault::Outside(_)) => Err(DemuxFault::OutOfMemory),
+    }
 }
 
 /// The streams that are gathered, in order.

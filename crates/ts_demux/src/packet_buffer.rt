@@ -42,6 +42,14 @@ impl PacketBuffer {
         }
     }
 
+    /// Forgets the bytes that it holds, so that another source can be read.
+    pub fn clear(&mut self)
+        ensures { self.new ≡ [] }
+    {
+        self.from = 0;
+        self.to = 0;
+    }
+
     /// The bytes that were taken from the source and aren't passed yet: at its end those behind the last whole packet.
     pub fn rest(&self) -> &[u8]
         ensures { result.now ≡ self.now }

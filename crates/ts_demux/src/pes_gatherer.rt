@@ -1,23 +1,16 @@
-ghost use Rattle.std.specs.Prelude.{◌≡◌, ℕ, [], ◌∷◌, ◌++◌, ◌+◌, ◌*◌, ◌^◌, ◌<◌, OnOk, IfOk, IfErr};
-ghost use Rattle.stream_constants.specs.declared.packets.TheConstants.{PACKET_BYTES};
-ghost use Rattle.ts_packets.specs.Packet.{packet_identifier};
-ghost use Rattle.ts_packets.specs.TransportStream.{piece_at, piece_count};
+ghost use Rattle.std.specs.Prelude.{◌≡◌, [], ◌∷◌, ◌++◌, OnOk, IfOk, IfErr};
 ghost use Rattle.ts_demux.specs.declared.demux_fault.DemuxFault.TheVariants.{OutOfMemory};
-ghost use Rattle.ts_demux.specs.Private.PesGatherer.{gathered_of, longer, gathered_more, IsInOrder, IsSame, IsClosed, Gathers, GathersMore};
+ghost use Rattle.ts_demux.specs.Private.PesGatherer.{gathered_of, longer, gathered_more, IsInOrder, IsSame, IsClosed, Gathers};
 
-use crate::demux_fault::{DemuxFault, pid_refused};
+use crate::demux_fault::DemuxFault;
 use crate::demuxed::PesUnit;
-use crate::file_packets::place_of;
 use list_types::ListOf;
 use std::alloc::Global;
-use stream_constants::packets::PACKET_BYTES;
-use ts_packets::PidReader;
 
 /// Gathers the PES packets of one PID (ISO/IEC 13818-1, 2.4.3.3).
 #[derive(Drop)]
 pub struct PesGatherer {
     pub pid: u16,
-    packets: PidReader,
     /// The PES packets before the last one.
     whole: Vec<PesUnit>,
     /// The place where the last one begins, once one has begun.
@@ -36,44 +29,20 @@ impl PesGatherer {
     {
         PesGatherer {
             pid,
-            packets: PidReader::new(),
             whole: Vec::new(alloc),
             begun: None,
             bytes: Vec::new(alloc),
         }
     }
 
-    /// Takes the n-th packet of a file, which is of the PID `pid`. Any other PID than the gatherer's is passed over.
-    pub fn take(
+    /// Adds a payload, which isn't empty, of the packet at a place.
+    pub fn add(
         &mut self,
         alloc: Global,
-        file: &[u8],
-        n: usize,
-        pid: u16,
-        bytes: &[u8; PACKET_BYTES],
+        at: u64,
+        start: bool,
+        payload: &[u8],
     ) -> Result<(), DemuxFault>
-        requires within { n < piece_count file.now }
-        requires bytes { bytes.now ≡ piece_at file.now n }
-        requires pid { pid ≡ packet_identifier bytes.now }
-        requires place { PACKET_BYTES * n < 2 ^ 64 }
-        requires before { Gathers file.now n self.old }
-        ensures { GathersMore file.now n self.old result self.new }
-    {
-        if pid != self.pid {
-            return Ok(());
-        }
-        let taken = match self.packets.take(bytes) {
-            Ok(taken) => taken,
-            Err(fault) => return Err(pid_refused(place_of(n), fault)),
-        };
-        let Some(packet) = taken else {
-            return Ok(());
-        };
-        self.add(alloc, place_of(n), packet.start, packet.payload)
-    }
-
-    /// Adds a payload, which isn't empty, of the packet at a place.
-    fn add(&mut self, alloc: Global, at: u64, start: bool, payload: &[u8]) -> Result<(), DemuxFault>
         requires { IsInOrder self.old }
         ensures ok { OnOk result (gathered_of self.new ≡ gathered_more (gathered_of self.old) at start payload.now) }
         ensures order { OnOk result (IsInOrder self.new) }
@@ -142,7 +111,6 @@ impl PesGatherer {
         gatherer.close(alloc)?;
         let PesGatherer {
             pid: _,
-            packets: _,
             whole,
             begun: _,
             bytes: _,

@@ -1,49 +1,81 @@
-ghost use Rattle.std.specs.Prelude.{◌≡◌, ℕ, ◌+◌, ◌*◌, ◌^◌, ◌<◌, map, IfErr, MatchResult};
+ghost use Rattle.std.specs.Prelude.{◌≡◌, ℕ, ◌+◌, ◌*◌, ◌^◌, ◌<◌, ◌⊎◌, List, [], map, IfOk, IfErr, OnOk, IsErrOf, MatchResult};
 ghost use Rattle.stream_constants.specs.declared.packets.TheConstants.{PACKET_BYTES};
+ghost use Rattle.shelf_io.specs.Causes.{SourceCauses};
 ghost use Rattle.ts_packets.specs.TransportStream.{piece_at, piece_count};
-ghost use Rattle.ts_demux.specs.Private.PesGatherer.{AllGather, AllGatherMore, gatherer_pids};
-ghost use Rattle.ts_demux.specs.Private.StreamWalk.{AreGathered, IsGatherFault, IsMemory};
+ghost use Rattle.ts_demux.specs.declared.pass_fault.PassFault.TheVariants.{Outside};
+ghost use Rattle.ts_demux.specs.CarriedPackets.{AreDistinct};
+ghost use Rattle.ts_demux.specs.Pass.{IsEarly, IsWhole, OnRefused};
+ghost use Rattle.ts_demux.specs.Demux.{IsFirstStreamFault};
+ghost use Rattle.ts_demux.specs.Private.PesGatherer.{AllGather, gatherer_pids};
+ghost use Rattle.ts_demux.specs.Private.StreamWalk.{AreGathered, IsMemory};
 
+use crate::carried_packets::CarriedPackets;
 use crate::demux_fault::DemuxFault;
-use crate::demuxed::AudioStream;
-use crate::file_packets::{packet_at, place_of};
+use crate::packet_buffer::PacketBuffer;
+use crate::pass_fault::PassFault;
 use crate::pes_gatherer::PesGatherer;
-use list_types::ListOf;
 use psi_tables::Stream;
+use shelf_io::{Fault, Source};
 use std::alloc::Global;
 use stream_constants::packets::PACKET_BYTES;
-use ts_packets::pid_of;
 
-/// Gathers the PES packets of some streams from all packets of a file, in the streams' order. An error is the first
-/// packet's that is refused.
-pub fn gather_streams(
-    alloc: Global,
-    file: &[u8],
-    streams: &[Stream],
-) -> Result<Vec<PesGatherer>, DemuxFault>
-    ensures { MatchResult result (λ gatherers. AreGathered file.now (map (λ stream. stream.pid) streams.now) gatherers.items) (IsGatherFault file.now (map (λ stream. stream.pid) streams.now)) }
-{
-    let mut gatherers = match new_gatherers(alloc, file, streams) {
-        Ok(gatherers) => gatherers,
-        Err(fault) => return Err(fault),
-    };
-    let mut n = 0;
-    while let Some(bytes) = packet_at(file, n) {
-        match take_packet(alloc, gatherers.as_mut_slice(), file, n, bytes) {
-            Ok(()) => n += 1,
+/// Gathers the PES packets of some streams, packet by packet.
+#[derive(Drop)]
+pub struct StreamGatherers {
+    packets: CarriedPackets,
+    /// One for each stream, in order.
+    pub gatherers: Vec<PesGatherer>,
+}
+
+impl StreamGatherers {
+    ghost use Rattle.ts_demux.specs.CarriedPackets.{pids_read};
+    ghost use Rattle.ts_demux.specs.Private.StreamWalk.{AreBeside, GathersUpTo};
+
+    /// Those of some streams, before the first packet of every file. An error is want of memory.
+    pub fn new(alloc: Global, streams: &[Stream]) -> Result<StreamGatherers, DemuxFault>
+        ensures { MatchResult result (λ walk. (pids_read walk.packets ≡ map (λ stream. stream.pid) streams.now) × AreBeside walk × ((file : List ℕ) → GathersUpTo file 0 walk)) IsMemory }
+    {
+        let packets = match CarriedPackets::new(alloc, streams) {
+            Ok(packets) => packets,
             Err(fault) => return Err(fault),
-        }
+        };
+        let gatherers = match new_gatherers(alloc, streams) {
+            Ok(gatherers) => gatherers,
+            Err(fault) => return Err(fault),
+        };
+        Ok(StreamGatherers { packets, gatherers })
     }
-    Ok(gatherers)
+
+    /// Takes the n-th packet of every file in which they stand before it.
+    pub fn take(
+        &mut self,
+        alloc: Global,
+        n: usize,
+        bytes: &[u8; PACKET_BYTES],
+    ) -> Result<(), DemuxFault>
+        requires place { PACKET_BYTES * n < 2 ^ 64 }
+        requires distinct { AreDistinct (pids_read self.old.packets) }
+        requires beside { AreBeside self.old }
+        requires stands { (file : List ℕ) × GathersUpTo file n self.old }
+        ensures taken { (file : List ℕ) → n < piece_count file → bytes.now ≡ piece_at file n → GathersUpTo file n self.old → OnOk result (GathersUpTo file (n + 1) self.new) }
+        ensures refused { IfErr result (λ fault. IsMemory fault ⊎ ((file : List ℕ) → n < piece_count file → bytes.now ≡ piece_at file n → GathersUpTo file n self.old →
+            IsFirstStreamFault file (pids_read self.old.packets) fault)) }
+        ensures pids { OnOk result ((pids_read self.new.packets ≡ pids_read self.old.packets) × AreBeside self.new) }
+    {
+        let found = match self.packets.take(n, bytes) {
+            Ok(found) => found,
+            Err(fault) => return Err(fault),
+        };
+        let Some(found) = found else {
+            return Ok(());
+        };
+        self.gatherers[found.index].add(alloc, found.at, found.start, found.payload)
+    }
 }
 
 /// A gatherer for each of some streams.
-fn new_gatherers(
-    alloc: Global,
-    file: &[u8],
-    streams: &[Stream],
-) -> Result<Vec<PesGatherer>, DemuxFault>
-    ensures { MatchResult result (λ gatherers. AllGather file.now 0 gatherers.items × (gatherer_pids gatherers.items ≡ map (λ stream. stream.pid) streams.now)) IsMemory }
+fn new_gatherers(alloc: Global, streams: &[Stream]) -> Result<Vec<PesGatherer>, DemuxFault>
+    ensures { MatchResult result (λ gatherers. ((file : List ℕ) → AllGather file 0 gatherers.items) × (gatherer_pids gatherers.items ≡ map (λ stream. stream.pid) streams.now)) IsMemory }
 {
     let mut gatherers = Vec::new(alloc);
     for stream in streams {
@@ -52,28 +84,39 @@ fn new_gatherers(
     Ok(gatherers)
 }
 
-/// Takes the n-th packet of a file into the gatherers of its PID.
-fn take_packet(
+/// Gathers the PES packets of some streams, whose PIDs differ, from all packets of a source, in the streams' order. An
+/// error is the source's fault, want of memory, or the first packet's that is refused.
+pub fn gather_streams<S: Source>(
     alloc: Global,
-    gatherers: &mut [PesGatherer],
-    file: &[u8],
-    n: usize,
-    bytes: &[u8; PACKET_BYTES],
-) -> Result<(), DemuxFault>
-    requires within { n < piece_count file.now }
-    requires bytes { bytes.now ≡ piece_at file.now n }
-    requires place { PACKET_BYTES * n < 2 ^ 64 }
-    requires before { AllGather file.now n gatherers.old }
-    ensures { AllGatherMore file.now n gatherers.old result gatherers.new }
+    buffer: &mut PacketBuffer,
+    source: &mut S,
+    streams: &[Stream],
+) -> Result<Vec<PesGatherer>, PassFault>
+    requires empty { buffer.old ≡ [] }
+    requires distinct { AreDistinct (map (λ stream. stream.pid) streams.now) }
+    ensures gathered { IfOk result (λ gatherers. IsWhole (S.left source.old) (S.left source.new) (S.most source.old) (S.most source.new) buffer.new (λ file. AreGathered file (map (λ stream. stream.pid) streams.now) gatherers.items)) }
+    ensures refused { IfErr result (λ fault. OnRefused fault (λ refusal. IsMemory refusal ⊎ IsEarly (S.left source.old) (S.left source.new) (S.most source.old) (S.most source.new) buffer.new (λ file. IsFirstStreamFault file (map (λ stream. stream.pid) streams.now) refusal))) }
+    ensures causes { SourceCauses S.faults S.absences (IsErrOf result (Outside Fault.Failed)) (IsErrOf result (Outside Fault.Missing)) source.old source.new }
+    ensures keeps { S.keeps source.old source.new }
 {
-    let Ok(pid) = pid_of(bytes) else {
-        return Err(DemuxFault::Sync { at: place_of(n) });
+    let mut walk = match StreamGatherers::new(alloc, streams) {
+        Ok(walk) => walk,
+        Err(fault) => return Err(PassFault::Refused(fault)),
     };
-    for gatherer in gatherers.iter_mut() {
-        match gatherer.take(alloc, file, n, pid, bytes) {
+    let mut n = 0;
+    loop {
+        match buffer.fill(source) {
             Ok(()) => {}
-            Err(fault) => return Err(fault),
+            Err(fault) => return Err(PassFault::Outside(fault)),
+        }
+        let Some(packet) = buffer.first() else {
+            return Ok(walk.gatherers);
+        };
+        let taken = walk.take(alloc, n, packet);
+        buffer.pass();
+        match taken {
+            Ok(()) => n += 1,
+            Err(fault) => return Err(PassFault::Refused(fault)),
         }
     }
-    Ok(())
 }

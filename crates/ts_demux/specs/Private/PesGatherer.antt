@@ -1,16 +1,10 @@
 -- What a gatherer of PES packets has gathered.
-use Rattle.std.specs.Prelude.{◌≡◌, ℕ, ◌+◌, ◌*◌, ◌⊎◌, Bool, List, [], ◌∷◌, ◌++◌, map, slice_get, Option, Some, None, Result, Ok, Err, if◌then◌else◌}
-use Rattle.ts_packets.specs.declared.pid_fault.PidFault.{PidFault}
+use Rattle.std.specs.Prelude.{◌≡◌, ℕ, Bool, List, [], ◌∷◌, ◌++◌, map, slice_get, Option, Some, None, if◌then◌else◌}
 use Rattle.ts_packets.specs.TransportStream.{pid_pieces}
-use Rattle.ts_packets.specs.PidReader.{IsBehind}
-use Rattle.ts_demux.specs.declared.demux_fault.DemuxFault.{DemuxFault}
-use Rattle.ts_demux.specs.declared.demux_fault.DemuxFault.TheVariants.{OutOfMemory}
 use Rattle.ts_demux.specs.declared.demuxed.AudioStream.{AudioStream}
 use Rattle.ts_demux.specs.declared.demuxed.PesUnit.{PesUnit}
 use Rattle.ts_demux.specs.declared.pes_gatherer.PesGatherer.{PesGatherer}
-use Rattle.ts_demux.specs.Faults.{of_pid}
-use Rattle.ts_demux.specs.Tables.{HasPidFault}
-use Rattle.ts_demux.specs.Demux.{units_in, IsStreamFault}
+use Rattle.ts_demux.specs.Demux.{units_in}
 
 -- the last PES packet, where one has begun
 abbrev pub last_of : Option ℕ → List ℕ → List PesUnit
@@ -38,7 +32,6 @@ IsInOrder gatherer = gatherer.begun ≡ None → gatherer.whole.items ≡ []
 -- nothing but the PES packets changes
 pub record IsSame (gatherer after : PesGatherer) : Type 0 where
   pub pid : after.pid ≡ gatherer.pid
-  pub packets : after.packets ≡ gatherer.packets
 
 -- the last PES packet is among the whole ones, and no bytes are left of it
 pub record IsClosed (gatherer after : PesGatherer) : Type 0 where
@@ -46,16 +39,10 @@ pub record IsClosed (gatherer after : PesGatherer) : Type 0 where
   pub whole : after.whole.items ≡ gathered_of gatherer
   pub begun : after.begun ≡ None
 
--- the gatherer stands before a packet of the file
+-- the gatherer has gathered what its PID carries before a packet of the file
 pub record Gathers (file : List ℕ) (packet : ℕ) (gatherer : PesGatherer) : Type 0 where
   pub order : IsInOrder gatherer
-  pub packets : IsBehind (pid_pieces file gatherer.pid 0 packet) gatherer.packets
   pub units : gathered_of gatherer ≡ units_in (pid_pieces file gatherer.pid 0 packet)
-
--- what comes of a packet: the gatherer stands behind it, and it has no fault; or it has one
-abbrev pub GathersMore : List ℕ → ℕ → PesGatherer → Result Unit DemuxFault → PesGatherer → Type 0
-GathersMore file packet gatherer (Ok _) after = Gathers file (packet + 1) after × (after.pid ≡ gatherer.pid) × ((found : PidFault) → HasPidFault file gatherer.pid 0 packet found → ⊥)
-GathersMore file packet gatherer (Err fault) after = (fault ≡ OutOfMemory) ⊎ ((found : PidFault) × HasPidFault file gatherer.pid 0 packet found × (fault ≡ of_pid (188 * packet) found))
 
 -- each of these gatherers stands before a packet of the file
 abbrev pub AllGather : List ℕ → ℕ → List PesGatherer → Type 0
@@ -64,12 +51,6 @@ AllGather file packet gatherers = (k : ℕ) (gatherer : PesGatherer) → slice_g
 -- their PIDs
 abbrev pub gatherer_pids : List PesGatherer → List ℕ
 gatherer_pids gatherers = map (λ gatherer. gatherer.pid) gatherers
-
--- what comes of a packet for all of them
-abbrev pub AllGatherMore : List ℕ → ℕ → List PesGatherer → Result Unit DemuxFault → List PesGatherer → Type 0
-AllGatherMore file packet gatherers (Ok _) after = AllGather file (packet + 1) after × (gatherer_pids after ≡ gatherer_pids gatherers)
-    × ((fault : DemuxFault) → IsStreamFault file (gatherer_pids gatherers) packet fault → ⊥)
-AllGatherMore file packet gatherers (Err fault) after = (fault ≡ OutOfMemory) ⊎ IsStreamFault file (gatherer_pids gatherers) packet fault
 
 -- the stream that a gatherer has gathered
 abbrev pub stream_gathered : PesGatherer → AudioStream

@@ -1,4 +1,4 @@
-use Rattle.std.proofs.Common.{ℕ, Some, sym, ap, ◌∙◌, arith}
+use Rattle.std.proofs.Common.{Some, sym, ap, ◌∙◌, arith}
 use Rattle.ts_demux.specs.declared.carried_packets.CarriedPid.{CarriedPid}
 use Rattle.ts_demux.proofs.CarriedSteps.{none_more, none_at_all, pid_at}
 use Rattle.ts_demux.proofs.carried_packets.index_of.Goals as goal

@@ -1,49 +1,51 @@
-use Rattle.std.proofs.Common.{◌≤◌, ◌<◌, List, ℕ, length, map, refl, ap, ◌∙◌, subst, arith}
+use Rattle.std.proofs.Common.{◌≤◌, ◌<◌, List, ℕ, length, map, refl, sym, ap, ◌∙◌, subst, arith}
 use Rattle.psi_tables.specs.declared.stream.Stream.{Stream}
 use Rattle.ts_demux.specs.declared.demuxed.AudioStream.{AudioStream}
 use Rattle.ts_demux.specs.Demux.{HasCarriedMap, audios, long_map}
 use Rattle.ts_demux.specs.Private.StreamWalk.{AreGathered, IsGatherFault}
-use Rattle.ts_demux.proofs.DemuxSteps.{carry_refused, gather_refused, all_of, some_of, first_of, others_of_first, rest_size}
+use Rattle.ts_demux.proofs.DemuxSteps.{front_refused, carry_refused, gather_refused, all_of, some_of, first_of, others_of_first, rest_size}
+use Rattle.ts_demux.specs.CarriedPackets.{AreDistinct}
+use Rattle.ts_demux.proofs.DistinctPids.{carried_distinct}
 use Rattle.ts_demux.proofs.demux_program.demux.Goals as goal
 
 pub returns-in-Err-carry_streams : goal.returns-in-Err-carry_streams
 returns-in-Err-carry_streams c = carry_refused c.args.file.now c.args.program c.args.drop.now c.in-Ok.whole c.in-Err-carry_streams.fault
-    c.if-file-lt-PACKET_BYTES.false c.in-Ok.ensures c.in-Err-carry_streams.ensures
+    c.in-Ok.ensures.0 c.in-Ok.ensures.1 c.in-Err-carry_streams.ensures
 
 pub returns-then-len-gt-STREAMS_CARRIED : goal.returns-then-len-gt-STREAMS_CARRIED
 returns-then-len-gt-STREAMS_CARRIED c =
     let carried = c.in-Ok-carry_streams.carried in
     let has : HasCarriedMap c.args.file.now c.args.program c.args.drop.now carried.map carried.others = record
-    { long = c.if-file-lt-PACKET_BYTES.false; whole = c.in-Ok.whole; tables = c.in-Ok.ensures; carried_is = c.in-Ok-carry_streams.ensures } in
+    { long = c.in-Ok.ensures.0; whole = c.in-Ok.whole; tables = c.in-Ok.ensures.1; carried_is = c.in-Ok-carry_streams.ensures } in
     audios carried.map carried.others has (omega (arith, c.len.ensures.value, c.if-len-gt-STREAMS_CARRIED.true)) refl
 
 pub returns-then-pmt_length-gt-PACKET_SECTION_BYTES : goal.returns-then-pmt_length-gt-PACKET_SECTION_BYTES
 returns-then-pmt_length-gt-PACKET_SECTION_BYTES c =
     let carried = c.in-Ok-carry_streams.carried in
     let has : HasCarriedMap c.args.file.now c.args.program c.args.drop.now carried.map carried.others = record
-    { long = c.if-file-lt-PACKET_BYTES.false; whole = c.in-Ok.whole; tables = c.in-Ok.ensures; carried_is = c.in-Ok-carry_streams.ensures } in
+    { long = c.in-Ok.ensures.0; whole = c.in-Ok.whole; tables = c.in-Ok.ensures.1; carried_is = c.in-Ok-carry_streams.ensures } in
     long_map carried.map carried.others has (omega (arith, c.len.ensures.value, c.if-len-gt-STREAMS_CARRIED.false))
     (subst (λ (n : ℕ). 183 < n) c.pmt_length.ensures c.if-pmt_length-gt-PACKET_SECTION_BYTES.true) refl
 
-pub returns-in-Err-gather_streams : goal.returns-in-Err-gather_streams
-returns-in-Err-gather_streams c =
+pub returns-in-Err-gather_in : goal.returns-in-Err-gather_in
+returns-in-Err-gather_in c =
     let carried = c.in-Ok-carry_streams.carried in
     let has : HasCarriedMap c.args.file.now c.args.program c.args.drop.now carried.map carried.others = record
-    { long = c.if-file-lt-PACKET_BYTES.false; whole = c.in-Ok.whole; tables = c.in-Ok.ensures; carried_is = c.in-Ok-carry_streams.ensures } in
-    gather_refused c.args.file.now c.args.program c.args.drop.now carried.map carried.others c.in-Err-gather_streams.fault has
+    { long = c.in-Ok.ensures.0; whole = c.in-Ok.whole; tables = c.in-Ok.ensures.1; carried_is = c.in-Ok-carry_streams.ensures } in
+    gather_refused c.args.file.now c.args.program c.args.drop.now carried.map carried.others c.in-Err-gather_in.fault has
     (omega (arith, c.len.ensures.value, c.if-len-gt-STREAMS_CARRIED.false))
     (subst (λ (n : ℕ). n ≤ 183) c.pmt_length.ensures c.if-pmt_length-gt-PACKET_SECTION_BYTES.false)
-    (subst (λ (items : List Stream). IsGatherFault c.args.file.now (map (λ (stream : Stream). stream.pid) items) c.in-Err-gather_streams.fault)
-    c.as_slice.ensures.value c.in-Err-gather_streams.ensures)
+    (subst (λ (items : List Stream). IsGatherFault c.args.file.now (map (λ (stream : Stream). stream.pid) items) c.in-Err-gather_in.fault)
+    c.as_slice-streams.ensures.value c.in-Err-gather_in.ensures)
 
 pub remove-video-requires : goal.remove-video-requires
 remove-video-requires c =
     let carried = c.in-Ok-carry_streams.carried in
     let is = c.in-Ok-carry_streams.ensures in
-    let gathered : AreGathered c.args.file.now (map (λ (stream : Stream). stream.pid) carried.map.streams.items) c.in-Ok-gather_streams.gatherers.items =
-    subst (λ (items : List Stream). AreGathered c.args.file.now (map (λ (stream : Stream). stream.pid) items) c.in-Ok-gather_streams.gatherers.items)
-    c.as_slice.ensures.value c.in-Ok-gather_streams.ensures in
-    let all = all_of c.args.file.now carried.map.streams.items is.video _ c.in-Ok-all_streams.streams.items c.in-Ok-gather_streams.gatherers.items is.streams gathered c.in-Ok-all_streams.ensures.ok in
+    let gathered : AreGathered c.args.file.now (map (λ (stream : Stream). stream.pid) carried.map.streams.items) c.in-Ok-gather_in.gatherers.items =
+    subst (λ (items : List Stream). AreGathered c.args.file.now (map (λ (stream : Stream). stream.pid) items) c.in-Ok-gather_in.gatherers.items)
+    c.as_slice-streams.ensures.value c.in-Ok-gather_in.ensures in
+    let all = all_of c.args.file.now carried.map.streams.items is.video _ c.in-Ok-all_streams.streams.items c.in-Ok-gather_in.gatherers.items is.streams gathered c.in-Ok-all_streams.ensures.ok in
     let some : 0 < length c.in-Ok-all_streams.streams.items = some_of c.in-Ok-all_streams.streams.items _ _ all in
     omega arith
 
@@ -52,11 +54,11 @@ returns c =
     let carried = c.in-Ok-carry_streams.carried in
     let is = c.in-Ok-carry_streams.ensures in
     let has : HasCarriedMap c.args.file.now c.args.program c.args.drop.now carried.map carried.others = record
-    { long = c.if-file-lt-PACKET_BYTES.false; whole = c.in-Ok.whole; tables = c.in-Ok.ensures; carried_is = is } in
-    let gathered : AreGathered c.args.file.now (map (λ (stream : Stream). stream.pid) carried.map.streams.items) c.in-Ok-gather_streams.gatherers.items =
-    subst (λ (items : List Stream). AreGathered c.args.file.now (map (λ (stream : Stream). stream.pid) items) c.in-Ok-gather_streams.gatherers.items)
-    c.as_slice.ensures.value c.in-Ok-gather_streams.ensures in
-    let all = all_of c.args.file.now carried.map.streams.items is.video _ c.in-Ok-all_streams.streams.items c.in-Ok-gather_streams.gatherers.items is.streams gathered c.in-Ok-all_streams.ensures.ok in
+    { long = c.in-Ok.ensures.0; whole = c.in-Ok.whole; tables = c.in-Ok.ensures.1; carried_is = is } in
+    let gathered : AreGathered c.args.file.now (map (λ (stream : Stream). stream.pid) carried.map.streams.items) c.in-Ok-gather_in.gatherers.items =
+    subst (λ (items : List Stream). AreGathered c.args.file.now (map (λ (stream : Stream). stream.pid) items) c.in-Ok-gather_in.gatherers.items)
+    c.as_slice-streams.ensures.value c.in-Ok-gather_in.ensures in
+    let all = all_of c.args.file.now carried.map.streams.items is.video _ c.in-Ok-all_streams.streams.items c.in-Ok-gather_in.gatherers.items is.streams gathered c.in-Ok-all_streams.ensures.ok in
     record {
       tables = has;
       few = omega (arith, c.len.ensures.value, c.if-len-gt-STREAMS_CARRIED.false);
@@ -69,3 +71,12 @@ returns c =
       audio_packets = c.from_vec.ensures ∙ c.remove-video.ensures.items ∙ others_of_first c.in-Ok-all_streams.streams.items _ _ all;
       rest_is = rest_size c.args.file.now;
     }
+
+pub gather_in-requires-clause-distinct : goal.gather_in-requires-clause-distinct
+gather_in-requires-clause-distinct c =
+    let carried = c.in-Ok-carry_streams.carried in
+    subst (λ (items : List Stream). AreDistinct (map (λ (stream : Stream). stream.pid) items)) (sym c.as_slice-streams.ensures.value)
+    (carried_distinct c.args.drop.now c.in-Ok.whole carried.map carried.others c.in-Ok-carry_streams.ensures)
+
+pub returns-in-Err : goal.returns-in-Err
+returns-in-Err c = front_refused c.args.file.now c.args.program c.args.drop.now c.in-Err.fault c.in-Err.ensures

@@ -1,51 +1,89 @@
-use Rattle.std.proofs.Common.{◌≡◌, ◌≤◌, ◌<◌, ◌++◌, ℕ, List, map, length, take, drop, sym, ap, ◌∙◌, ◌+◌, subst, arith}
-use Rattle.std.proofs.lemmas.List.{take_at}
+use Rattle.std.proofs.Common.{◌≡◌, ◌<◌, ◌+◌, ◌∙◌, ◌++◌, [], ℕ, List, inl, inr, length, map, take, refl, sym, ap, subst, arith, length-drop, length-take-le, append_assoc}
 use Rattle.psi_tables.specs.declared.stream.Stream.{Stream}
-use Rattle.ts_packets.specs.TransportStream.{piece_count}
-use Rattle.ts_demux.specs.declared.demux_fault.DemuxFault.{DemuxFault}
-use Rattle.ts_demux.specs.declared.pes_gatherer.PesGatherer.{PesGatherer}
-use Rattle.ts_demux.specs.Demux.{IsStreamFault}
-use Rattle.ts_demux.specs.Private.PesGatherer.{AllGather, gatherer_pids}
-use Rattle.ts_demux.proofs.GatherSteps.{sound_more, sound_all, all_at_end, first_fault}
+use Rattle.ts_demux.specs.PacketBuffer.{Passes}
+use Rattle.ts_demux.specs.CarriedPackets.{AreDistinct, pids_read}
+use Rattle.ts_demux.specs.Private.StreamWalk.{GathersUpTo}
+use Rattle.ts_demux.proofs.Passing.{passes_none}
+use Rattle.ts_demux.proofs.PassSteps.{passes_filled, passes_packet, passes_size, next_count, next_within, next_piece}
+use Rattle.ts_demux.proofs.GatherSteps.{gathered_at_end, refused_early}
 use Rattle.ts_demux.proofs.stream_walk.gather_streams.Goals as goal
 
-pub loop-bytes-init : goal.loop-bytes-init
-loop-bytes-init c = record { within = omega arith; all = c.in-Ok.ensures.0; pids = c.in-Ok.ensures.1; sound = λ m fault below is. absurd (omega arith) }
+pub loop-fault-init : goal.loop-fault-init
+loop-fault-init g c = record {
+  seen = [];
+  passes = subst (λ (held : List ℕ). Passes (g.S.Source.left c.args.source.now) (g.S.Source.left c.args.source.now) (g.S.Source.most c.args.source.now) (g.S.Source.most c.args.source.now) [] [] held)
+      (sym c.requires.empty) (passes_none (g.S.Source.left c.args.source.now) (g.S.Source.most c.args.source.now) []);
+  count = refl;
+  pids = c.in-Ok.ensures.0;
+  beside = c.in-Ok.ensures.1;
+  gathers = λ more. c.in-Ok.ensures.2 more;
+  faults = omega arith;
+  absences = omega arith;
+  keeps = g.met.S.Source.keeps_itself c.args.source.now;
+}
 
-pub take_packet-requires-clause-before : goal.take_packet-requires-clause-before
-take_packet-requires-clause-before c = subst (λ (gs : List PesGatherer). AllGather c.args.file.now c.loop-bytes.n gs) (sym c.as_mut_slice.ensures.value) c.loop-bytes.invariant.all
-
-pub loop-bytes-preserved : goal.loop-bytes-preserved
-loop-bytes-preserved c =
-    let file = c.args.file.now in
-    let n = c.loop-bytes.n in
-    let new = c.take_packet.new.gatherers in
-    let pids : List ℕ = map (λ (stream : Stream). stream.pid) c.args.streams.now in
-    let size : length new ≡ c.loop-bytes.gatherers.len = c.take_packet.auto.gatherers ∙ c.as_mut_slice.ensures.len in
-    let same : take c.loop-bytes.gatherers.len (new ++ drop (length new) c.loop-bytes.gatherers.items)
-    ≡ new = take_at new (drop (length new) c.loop-bytes.gatherers.items) c.loop-bytes.gatherers.len size in
-    let before : gatherer_pids c.as_mut_slice.result.now ≡ pids = ap gatherer_pids c.as_mut_slice.ensures.value ∙ c.loop-bytes.invariant.pids in
-    let within : n < piece_count file = c.in-Some.ensures.some.0 in
+pub returns-in_default-clause-gathered : goal.returns-in_default-clause-gathered
+returns-in_default-clause-gathered g c =
+    let was = c.loop-fault.invariant in
+    let short : length c.fill.new.self < 188 = c.in_default.ensures.none in
     record {
-      within = omega arith;
-      all = subst (λ (gs : List PesGatherer). AllGather file (n + 1) gs) (sym same) c.in-Ok-take_packet.ensures.0;
-      pids = ap gatherer_pids same ∙ c.in-Ok-take_packet.ensures.1 ∙ before;
-      sound = sound_more file pids n c.loop-bytes.invariant.sound (subst (λ (ps : List ℕ). (fault : DemuxFault) → IsStreamFault file ps n fault → ⊥) before c.in-Ok-take_packet.ensures.2);
+      seen = was.seen;
+      passes = passes_filled _ _ _ _ _ _ was.seen c.loop-fault.buffer c.fill.new.self was.passes c.in-Ok-fill.ensures.passes;
+      end = c.in-Ok-fill.ensures.full short;
+      whole = gathered_at_end was.seen c.fill.new.self c.loop-fault.n (map (λ (stream : Stream). stream.pid) c.args.streams.now) c.loop-fault.walk was.count short was.pids was.beside (was.gathers c.fill.new.self);
     }
 
-pub returns-in-Err-take_packet : goal.returns-in-Err-take_packet
-returns-in-Err-take_packet c =
-    let pids : List ℕ = map (λ (stream : Stream). stream.pid) c.args.streams.now in
-    first_fault c.args.file.now pids (gatherer_pids c.as_mut_slice.result.now) c.loop-bytes.n c.in-Err-take_packet.fault
-    (ap gatherer_pids c.as_mut_slice.ensures.value ∙ c.loop-bytes.invariant.pids) c.loop-bytes.invariant.sound c.in-Err-take_packet.ensures
+pub take-taken-requires-clause-distinct : goal.take-taken-requires-clause-distinct
+take-taken-requires-clause-distinct g c = subst (λ (pids : List ℕ). AreDistinct pids) (sym c.loop-fault.invariant.pids) c.requires.distinct
 
-pub returns : goal.returns
-returns c =
-    let pids : List ℕ = map (λ (stream : Stream). stream.pid) c.args.streams.now in
-    let end : piece_count c.args.file.now ≤ c.loop-bytes.n = c.packet_at.ensures.none c.in_default.is in
-    let at_end : c.loop-bytes.n ≡ piece_count c.args.file.now = omega (arith, c.loop-bytes.invariant.within) in
+pub take-taken-requires-clause-stands : goal.take-taken-requires-clause-stands
+take-taken-requires-clause-stands g c = (c.loop-fault.invariant.seen ++ [], c.loop-fault.invariant.gathers [])
+
+pub overflow_add-n : goal.overflow_add-n
+overflow_add-n g c =
+    let was = c.loop-fault.invariant in
+    let size = passes_size (g.S.Source.left c.args.source.now) (g.S.Source.left c.loop-fault.source) (g.S.Source.most c.args.source.now) (g.S.Source.most c.loop-fault.source)
+    [] was.seen c.loop-fault.buffer was.passes in
+    let most = g.met.S.Source.most_fits c.args.source.now in
+    omega (arith, size, most, was.count)
+
+pub loop-fault-smaller : goal.loop-fault-smaller
+loop-fault-smaller g c =
+    let size = passes_size (g.S.Source.left c.loop-fault.source) (g.S.Source.left c.fill.new.source) (g.S.Source.most c.loop-fault.source) (g.S.Source.most c.fill.new.source)
+    c.loop-fault.buffer [] c.fill.new.self c.in-Ok-fill.ensures.passes in
+    omega (arith, size, ap length c.pass.ensures, length-drop 188 c.fill.new.self, c.in-Some.ensures.some.0)
+
+pub loop-fault-preserved : goal.loop-fault-preserved
+loop-fault-preserved g c =
+    let was = c.loop-fault.invariant in
+    let packet = take 188 c.fill.new.self in
+    let size : length packet ≡ 188 = length-take-le 188 c.fill.new.self c.in-Some.ensures.some.0 in
     record {
-      all = all_at_end c.args.file.now c.loop-bytes.n c.loop-bytes.gatherers.items at_end c.loop-bytes.invariant.all;
-      pids_are = c.loop-bytes.invariant.pids;
-      sound = sound_all c.args.file.now pids c.loop-bytes.n end c.loop-bytes.invariant.sound;
+      seen = was.seen ++ packet;
+      passes = rw c.pass.ensures (passes_packet _ _ _ _ was.seen c.fill.new.self (passes_filled _ _ _ _ _ _ was.seen c.loop-fault.buffer c.fill.new.self was.passes c.in-Ok-fill.ensures.passes));
+      count = next_count was.seen packet c.loop-fault.n was.count size;
+      pids = c.in-Ok-taken.ensures.pids.0 ∙ was.pids;
+      beside = c.in-Ok-taken.ensures.pids.1;
+      gathers = λ more. subst (λ (file : List ℕ). GathersUpTo file (c.loop-fault.n + 1) c.take-taken.new.self) (sym (append_assoc was.seen packet more))
+          (c.in-Ok-taken.ensures.taken (was.seen ++ (packet ++ more)) (next_within was.seen packet more c.loop-fault.n was.count size)
+          (c.in-Some.ensures.some.1 ∙ next_piece was.seen packet more c.loop-fault.n was.count size) (was.gathers (packet ++ more)));
+      faults = omega (arith, was.faults, c.in-Ok-fill.ensures.causes.faults_grow);
+      absences = omega (arith, was.absences, c.in-Ok-fill.ensures.causes.absences_grow);
+      keeps = g.met.S.Source.keeps_on _ _ _ was.keeps c.in-Ok-fill.ensures.keeps;
     }
+
+pub returns-in-Err-taken-clause-refused : goal.returns-in-Err-taken-clause-refused
+returns-in-Err-taken-clause-refused g c =
+    let was = c.loop-fault.invariant in
+    let packet = take 188 c.fill.new.self in
+    let size : length packet ≡ 188 = length-take-le 188 c.fill.new.self c.in-Some.ensures.some.0 in
+    elim c.in-Err-taken.ensures.refused [
+      | inl memory ↦ inl memory
+      | inr first ↦ inr (record {
+        seen = was.seen ++ packet;
+        passes = rw c.pass.ensures (passes_packet _ _ _ _ was.seen c.fill.new.self (passes_filled _ _ _ _ _ _ was.seen c.loop-fault.buffer c.fill.new.self was.passes c.in-Ok-fill.ensures.passes));
+        every = λ more. refused_early was.seen packet more (pids_read c.loop-fault.walk.packets) (map (λ (stream : Stream). stream.pid) c.args.streams.now) c.in-Err-taken.fault was.pids
+            (first (was.seen ++ (packet ++ more)) (next_within was.seen packet more c.loop-fault.n was.count size)
+            (c.in-Some.ensures.some.1 ∙ next_piece was.seen packet more c.loop-fault.n was.count size) (was.gathers (packet ++ more)));
+      })
+    ]

@@ -1,17 +1,22 @@
-use Rattle.std.proofs.Common.{◌≡◌, ◌≤◌, ◌-◌, map}
+use Rattle.std.proofs.Common.{◌≡◌, ◌+◌, ◌*◌, ◌≤◌, [], ◌++◌, ℕ, List, length, map}
 use Rattle.psi_tables.specs.declared.stream.Stream.{Stream}
-use Rattle.ts_packets.specs.TransportStream.{piece_count}
-use Rattle.ts_demux.specs.Private.PesGatherer.{AllGather, gatherer_pids}
-use Rattle.ts_demux.proofs.GatherSteps.{AreSoundBefore}
+use Rattle.ts_demux.specs.CarriedPackets.{pids_read}
+use Rattle.ts_demux.specs.PacketBuffer.{Passes}
+use Rattle.ts_demux.specs.Private.StreamWalk.{AreBeside, GathersUpTo}
 use Rattle.ts_demux.proofs.stream_walk.gather_streams.Given as goal
 
-abbrev pub invariant-loop-bytes : goal.invariant-loop-bytes
-invariant-loop-bytes l = record {
-  within : l.n ≤ piece_count l.file;
-  all : AllGather l.file l.n l.gatherers.items;
-  pids : gatherer_pids l.gatherers.items ≡ map (λ (stream : Stream). stream.pid) l.streams;
-  sound : AreSoundBefore l.file (map (λ (stream : Stream). stream.pid) l.streams) l.n;
+abbrev pub invariant-loop-fault : goal.invariant-loop-fault
+invariant-loop-fault g l = record {
+  seen : List ℕ;
+  passes : Passes (g.S.Source.left l.fn.source) (g.S.Source.left l.source) (g.S.Source.most l.fn.source) (g.S.Source.most l.source) [] seen l.buffer;
+  count : length seen ≡ 188 * l.n;
+  pids : pids_read l.walk.packets ≡ map (λ (stream : Stream). stream.pid) l.streams;
+  beside : AreBeside l.walk;
+  gathers : (more : List ℕ) → GathersUpTo (seen ++ more) l.n l.walk;
+  faults : g.S.Source.faults l.fn.source ≤ g.S.Source.faults l.source;
+  absences : g.S.Source.absences l.fn.source ≤ g.S.Source.absences l.source;
+  keeps : g.S.Source.keeps l.fn.source l.source;
 }
 
-abbrev pub decreases-loop-bytes : goal.decreases-loop-bytes
-decreases-loop-bytes l = piece_count l.file - l.n
+abbrev pub decreases-loop-fault : goal.decreases-loop-fault
+decreases-loop-fault g l = g.S.Source.most l.source + length l.buffer

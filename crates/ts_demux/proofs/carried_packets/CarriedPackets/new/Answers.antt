@@ -1,8 +1,8 @@
-use Rattle.std.proofs.Common.{◌≡◌, ◌<◌, ◌++◌, ◌∷◌, [], ℕ, List, length, map, take, ap, ◌∙◌, arith}
+use Rattle.std.proofs.Common.{◌≡◌, ◌<◌, ◌++◌, ◌∷◌, [], length, map, ap, ◌∙◌, arith}
 use Rattle.std.proofs.lemmas.List.{take_all}
 use Rattle.psi_tables.specs.declared.stream.Stream.{Stream}
 use Rattle.ts_demux.specs.declared.carried_packets.CarriedPid.{CarriedPid}
-use Rattle.ts_demux.proofs.CarriedSteps.{stand_push, pids_push, pids_in}
+use Rattle.ts_demux.proofs.CarriedSteps.{stand_push, pids_push}
 use Rattle.ts_demux.proofs.carried_packets.CarriedPackets.new.Goals as goal
 
 pub loop-stream-preserved : goal.loop-stream-preserved

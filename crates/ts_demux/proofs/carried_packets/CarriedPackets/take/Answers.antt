@@ -1,22 +1,16 @@
-use Rattle.std.proofs.Common.{◌≡◌, ◌≢◌, ◌<◌, ◌*◌, ◌++◌, ◌∷◌, [], ℕ, List, Option, Some, None, length, map, slice_get, get_or, true, false, ap, sym, subst, refl, ◌∙◌, arith, rules}
-use Rattle.std.proofs.lemmas.Bool.Decides.{nat_tests}
+use Rattle.std.proofs.Common.{◌≡◌, ◌<◌, ◌*◌, ◌++◌, ◌∷◌, [], ℕ, Option, Some, None, length, slice_get, ap, sym, subst, refl, ◌∙◌, rules}
 use Rattle.std.proofs.lemmas.List.{places}
-use Rattle.std.proofs.lemmas.Option.{slice_get-get_or}
-use Rattle.bit_lists.specs.Payload.{CarriedPayload}
+use Rattle.std.proofs.lemmas.Option.{slice_get-get_or, slice_get_within}
 use Rattle.ts_packets.specs.declared.packet.Packet.{Packet}
-use Rattle.ts_packets.specs.declared.pid_reader.PidReader.{PidReader}
 use Rattle.ts_packets.specs.Packet.{packet_identifier}
-use Rattle.ts_packets.specs.TransportStream.{Piece, pid_pieces, piece_count, piece_at}
+use Rattle.ts_packets.specs.TransportStream.{Piece, pid_pieces}
 use Rattle.ts_packets.specs.Carried.{carried}
 use Rattle.ts_packets.specs.PidReader.{IsBehind, carried_at}
-use Rattle.ts_demux.specs.declared.carried_packets.CarriedPid.{CarriedPid}
 use Rattle.ts_demux.specs.declared.carried_packets.StreamPayload.{StreamPayload}
-use Rattle.ts_demux.specs.declared.demux_fault.DemuxFault.{DemuxFault}
 use Rattle.ts_demux.specs.declared.demux_fault.DemuxFault.TheVariants.{Sync}
 use Rattle.ts_demux.specs.Faults.{of_pid}
 use Rattle.ts_demux.specs.Demux.{IsStreamFault}
-use Rattle.ts_demux.specs.CarriedPackets.{pids_read, StandsAt, added_to, as_carried}
-use Rattle.ts_demux.proofs.PidTests.{no_test, yes_test}
+use Rattle.ts_demux.specs.CarriedPackets.{pids_read}
 use Rattle.ts_demux.proofs.CarriedSteps.{pids_in, none_found, none_stand, no_sync, has_fault, adds, stand_next, set_pids, pid_within, item_pid, item_behind, other_added, here_added}
 use Rattle.ts_demux.proofs.carried_packets.CarriedPackets.take.Goals as goal
 
@@ -144,3 +138,8 @@ returns-clause-pids c =
     let there : slice_get (pids_in streams) index ≡ Some of_it = rw c.as_slice.ensures.value at c.in-Some.ensures in
     let item_is : slice_get streams index ≡ Some item = slice_get-get_or streams index item (pid_within streams index of_it there) ∙ ap Some (sym c.index_mut.ensures.value) in
     set_pids streams index item (record { pid = item.pid; packets = c.take.new.self }) item_is refl
+
+pub returns-clause-index : goal.returns-clause-index
+returns-clause-index c =
+    let there : slice_get (pids_in c.args.self.now.streams.items) c.in-Some.index ≡ Some c.in-Ok.pid = rw c.as_slice.ensures.value at c.in-Some.ensures in
+    slice_get_within (pids_in c.args.self.now.streams.items) c.in-Some.index c.in-Ok.pid there

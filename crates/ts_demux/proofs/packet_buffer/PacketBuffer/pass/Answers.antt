@@ -1,4 +1,4 @@
-use Rattle.std.proofs.Common.{◌≤◌, ◌-◌, ◌∙◌, length, drop, ap, subst, sym, arith, List, ℕ}
+use Rattle.std.proofs.Common.{◌≤◌, ◌-◌, ◌∙◌, drop, ap}
 use Rattle.ts_demux.proofs.Passing.{passed_over, held_size}
 use Rattle.ts_demux.proofs.packet_buffer.PacketBuffer.pass.Goals as goal
 
