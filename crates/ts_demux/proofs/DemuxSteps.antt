@@ -13,7 +13,8 @@ use Rattle.ts_demux.specs.Demux.{HasCarriedMap, pes_packets_on, IsDemuxRefused, 
 use Rattle.ts_demux.specs.Pass.{IsFrontRefused}
 use Rattle.ts_demux.specs.Private.PesGatherer.{stream_gathered}
 use Rattle.ts_demux.specs.Private.CarriedStreams.{IsCarryFault}
-use Rattle.ts_demux.specs.Private.StreamWalk.{AreGathered, IsGatherFault, IsMemory}
+use Rattle.ts_demux.specs.Private.StreamWalk.{AreGathered, IsGatherFault}
+use Rattle.ts_demux.specs.Faults.{IsMemory}
 use Rattle.ts_demux.proofs.GatherSteps.{streams_gathered}
 
 pub front_refused : (file : List ℕ) (program : ℕ) (drop_pids : List ℕ) (fault : DemuxFault) → IsMemory fault ⊎ IsFrontRefused program fault file → IsDemuxRefused file program drop_pids fault

@@ -8,7 +8,8 @@ use Rattle.ts_demux.specs.declared.demux_fault.DemuxFault.TheVariants.{ShortFile
 use Rattle.ts_demux.specs.declared.table_walk.TableWalk.{TableWalk}
 use Rattle.ts_demux.specs.Tables.{IsTablesFault, StopsFirst, refuse, take as take_map}
 use Rattle.ts_demux.specs.Pass.{IsFrontRefused}
-use Rattle.ts_demux.specs.Private.TableWalk.{IsBetween, StandsBefore, Ends, missing_of, missing_behind}
+use Rattle.ts_demux.specs.TableWalk.{IsBetween, StandsBefore, Ends, missing_of}
+use Rattle.ts_demux.specs.Private.TableWalk.{missing_behind}
 use Rattle.ts_demux.proofs.WalkSteps.{ends_missing}
 use Rattle.ts_demux.proofs.PassSteps.{next_within, next_piece}
 

@@ -56,16 +56,26 @@ told_front file after most most_after seen held passes =
       passes.taken.takes.rest,
     )
 
+pub told_seen : (file : List ℕ) (after : Option (List ℕ)) (most most_after : ℕ) (seen held : List ℕ) → Passes (Some file) after most most_after [] seen held →
+    (more : List ℕ) × (seen ++ more ≡ file)
+told_seen file after most most_after seen held passes =
+    let front = told_front file after most most_after seen held passes in
+    (held ++ front.0, sym (append_assoc seen held front.0) ∙ front.1)
+
+pub told_all : (file : List ℕ) (after : Option (List ℕ)) (most most_after : ℕ) (seen held : List ℕ) → Passes (Some file) after most most_after [] seen held →
+    IsAtEnd after → seen ++ held ≡ file
+told_all file after most most_after seen held passes end =
+    let front = told_front file after most most_after seen held passes in
+    let ended : front.0 ≡ [] = subst (λ (told : Option (List ℕ)). IsAtEnd told) front.2 end in
+    sym (append-nil (seen ++ held)) ∙ ap (λ (xs : List ℕ). (seen ++ held) ++ xs) (sym ended) ∙ front.1
+
 pub told_early : (file : List ℕ) (after : Option (List ℕ)) (most most_after : ℕ) (held : List ℕ) (P : List ℕ → Type 0) → IsEarly (Some file) after most most_after held P → P file
 told_early file after most most_after held P early =
-    let front = told_front file after most most_after early.seen held early.passes in
-    subst P (sym (append_assoc early.seen held front.0) ∙ front.1) (early.every (held ++ front.0))
+    let seen = told_seen file after most most_after early.seen held early.passes in
+    subst P seen.1 (early.every seen.0)
 
 pub told_whole : (file : List ℕ) (after : Option (List ℕ)) (most most_after : ℕ) (held : List ℕ) (P : List ℕ → Type 0) → IsWhole (Some file) after most most_after held P → P file
-told_whole file after most most_after held P whole =
-    let front = told_front file after most most_after whole.seen held whole.passes in
-    let ended : front.0 ≡ [] = subst (λ (told : Option (List ℕ)). IsAtEnd told) front.2 whole.end in
-    subst P (sym (append-nil (whole.seen ++ held)) ∙ ap (λ (xs : List ℕ). (whole.seen ++ held) ++ xs) (sym ended) ∙ front.1) whole.whole
+told_whole file after most most_after held P whole = subst P (told_all file after most most_after whole.seen held whole.passes whole.end) whole.whole
 
 -- what holds of the file that is read holds of the one that the source told
 pub told_file : (file : List ℕ) (after : Option (List ℕ)) (most most_after : ℕ) (held : List ℕ) (P : List ℕ → Type 0) → HoldsOfFile (Some file) after most most_after held P → P file

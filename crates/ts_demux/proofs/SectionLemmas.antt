@@ -13,7 +13,8 @@ use Rattle.psi_tables.specs.Sections.{Found, sections_of, GivesInTurn}
 use Rattle.psi_tables.specs.SectionBuilder.{found_of}
 use Rattle.ts_demux.specs.declared.section_reader.SectionReader.{SectionReader}
 use Rattle.ts_demux.specs.Tables.{payloads_in, sections_in}
-use Rattle.ts_demux.specs.Private.SectionReader.{Waits, added_by, ReadsNext}
+use Rattle.ts_demux.specs.SectionReader.{Waits}
+use Rattle.ts_demux.specs.Private.SectionReader.{added_by, ReadsNext}
 
 -- what was given and what waits are all sections
 pub all_given : (before : List Piece) (given waiting : List Found) (held : List Payload) → GivesInTurn (payloads_in before) given held → sections_of held ≡ waiting →

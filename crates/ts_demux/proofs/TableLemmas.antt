@@ -41,7 +41,7 @@ use Rattle.std.specs.List.{range_with_len}
 use Rattle.ts_packets.specs.TransportStream.{Piece, is_of_pid, pid_pieces}
 use Rattle.psi_tables.specs.Sections.{Found}
 use Rattle.ts_demux.specs.Tables.{piece, IsBefore, IsSection, Stop, StopsAt, StopsFirst, sections_at, sections_in}
-use Rattle.ts_demux.specs.Private.TableWalk.{IsQuiet}
+use Rattle.ts_demux.specs.TableWalk.{IsQuiet}
 
 -- ---- places
 

@@ -39,7 +39,8 @@ use Rattle.ts_demux.specs.Tables.{
   NothingStops,
   sections_at,
 }
-use Rattle.ts_demux.specs.Private.TableWalk.{IsQuiet, IsUnnamed, IsWithoutPat, IsNamed, IsKnown, NamesNone, IsKnownBehind, is_on_pat_pid}
+use Rattle.ts_demux.specs.TableWalk.{IsQuiet, IsUnnamed, IsWithoutPat, IsNamed, IsKnown}
+use Rattle.ts_demux.specs.Private.TableWalk.{NamesNone, IsKnownBehind, is_on_pat_pid}
 use Rattle.ts_demux.proofs.TableLemmas.{further, next_packet, ordered, rank_before, before_rank, later, behind_before, of_one, of_no_other, none_there, same_section, none_behind}
 
 -- ---- what is known of the PAT

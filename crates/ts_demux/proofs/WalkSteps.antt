@@ -39,8 +39,10 @@ use Rattle.ts_demux.specs.Tables.{
   sections_in,
   sections_at,
 }
-use Rattle.ts_demux.specs.Private.SectionReader.{Waits, added_by, TakesPiece, ReadsNext}
-use Rattle.ts_demux.specs.Private.TableWalk.{IsNamed, IsKnown, IsMapReader, IsBetween, IsInPat, IsInMap, Reads, IsKnownBehind, ReadsPat, ReadsMap, IsOnMapPid, is_on_pat_pid, is_map_on, missing_of}
+use Rattle.ts_demux.specs.SectionReader.{Waits}
+use Rattle.ts_demux.specs.Private.SectionReader.{added_by, TakesPiece, ReadsNext}
+use Rattle.ts_demux.specs.TableWalk.{IsNamed, IsKnown, IsMapReader, IsBetween, missing_of}
+use Rattle.ts_demux.specs.Private.TableWalk.{IsInPat, IsInMap, Reads, IsKnownBehind, ReadsPat, ReadsMap, IsOnMapPid, is_on_pat_pid, is_map_on}
 use Rattle.ts_demux.proofs.TableLemmas.{pieces_more, pieces_other, pieces_none, of_no_other, none_there, next_there, none_behind, stops, quiet_further, quiet_next}
 use Rattle.ts_demux.proofs.TableSteps.{
   first_pat,

@@ -1,5 +1,5 @@
 -- A fault of a packet or of a section, at its place in the file.
-use Rattle.std.specs.Prelude.{ℕ}
+use Rattle.std.specs.Prelude.{◌≡◌, ℕ}
 use Rattle.ts_packets.specs.declared.packet_fault.PacketFault.{PacketFault}
 use Rattle.ts_packets.specs.declared.packet_fault.PacketFault.TheVariants as packet_faults
 use Rattle.ts_packets.specs.declared.pid_fault.PidFault.{PidFault}
@@ -7,7 +7,7 @@ use Rattle.ts_packets.specs.declared.pid_fault.PidFault.TheVariants as pid_fault
 use Rattle.psi_tables.specs.declared.section.SectionFault.{SectionFault}
 use Rattle.psi_tables.specs.declared.section.SectionFault.TheVariants as section_faults
 use Rattle.ts_demux.specs.declared.demux_fault.DemuxFault.{DemuxFault}
-use Rattle.ts_demux.specs.declared.demux_fault.DemuxFault.TheVariants.{Sync, ErrorFlag, Scrambled, BadField, Discontinuity, Gap, BadSection, BadCrc}
+use Rattle.ts_demux.specs.declared.demux_fault.DemuxFault.TheVariants.{Sync, ErrorFlag, Scrambled, BadField, Discontinuity, Gap, BadSection, BadCrc, OutOfMemory}
 
 -- what a packet is refused for
 abbrev pub of_packet : ℕ → PacketFault → DemuxFault
@@ -27,3 +27,7 @@ abbrev pub of_section : ℕ → SectionFault → DemuxFault
 of_section at section_faults.BadSection = BadSection at
 of_section at section_faults.BadCrc = BadCrc at
 of_section at section_faults.TooLong = BadSection at
+
+-- memory was wanted
+abbrev pub IsMemory : DemuxFault → Type 0
+IsMemory fault = fault ≡ OutOfMemory

@@ -6,4 +6,6 @@ pub mod Tables
 pub mod Demux
 pub mod Pass
 pub mod CarriedPackets
+pub mod SectionReader
+pub mod TableWalk
 pub mod Private

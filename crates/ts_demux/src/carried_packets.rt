@@ -1,7 +1,7 @@
 ghost use Rattle.std.specs.Prelude.{◌≡◌, ◌≢◌, ℕ, ◌+◌, ◌*◌, ◌^◌, ◌<◌, ◌≤◌, List, Some, map, length, slice_get, IfOk, IfSome, MatchOption, MatchResult};
 ghost use Rattle.stream_constants.specs.declared.packets.TheConstants.{PACKET_BYTES, PAYLOAD_BYTES};
 ghost use Rattle.ts_packets.specs.TransportStream.{piece_at, piece_count};
-ghost use Rattle.ts_demux.specs.Private.StreamWalk.{IsMemory};
+ghost use Rattle.ts_demux.specs.Faults.{IsMemory};
 
 use crate::demux_fault::{DemuxFault, pid_refused};
 use crate::file_packets::place_of;

@@ -4,7 +4,8 @@ ghost use Rattle.ts_demux.specs.Demux.{IsDemuxed, IsDemuxRefused};
 ghost use Rattle.ts_demux.specs.CarriedPackets.{AreDistinct};
 ghost use Rattle.ts_demux.specs.Pass.{HasMapOf, IsFrontRefused};
 ghost use Rattle.ts_demux.specs.Private.PesGatherer.{stream_gathered};
-ghost use Rattle.ts_demux.specs.Private.StreamWalk.{AreGathered, IsGatherFault, IsMemory};
+ghost use Rattle.ts_demux.specs.Private.StreamWalk.{AreGathered, IsGatherFault};
+ghost use Rattle.ts_demux.specs.Faults.{IsMemory};
 
 use crate::carried_streams::carry_streams;
 use crate::demux_fault::DemuxFault;
@@ -24,8 +25,8 @@ use stream_constants::packets::PACKET_BYTES;
 /// The most streams that are carried: the video and the audio streams.
 const STREAMS_CARRIED: usize = 1 + AUDIOS_MOST;
 
-/// The bytes that are taken from a file at once.
-const ROOM_BYTES: usize = 65_536;
+/// The bytes that are taken from a file in memory at once: sixteen packets, which stay in the nearest cache.
+const ROOM_BYTES: usize = 16 * PACKET_BYTES;
 
 /// Takes a program out of a transport stream (ISO/IEC 13818-1, 2.4.3 and 2.4.4): the PES packets of its first video stream
 /// and of its audio streams, but for those whose PIDs are in `drop`. An error is the first refusal in the order of reading:

@@ -2,6 +2,8 @@
 //!
 //! `demux` answers the PES packets of one program's video and audio streams, or the first refusal with its place in the file.
 //! That is one answer alone: `laws::one_answer`.
+//! It reads a file as it reads any source: `PacketBuffer` gives the packets, `read_map` the program's map, `CarriedPackets` what the packets of some
+//! PIDs carry. Each is a step that is right for every file that can begin so, so that no file needs to be held whole.
 //! `Payloads` is a source over the joined payload of a PID in a file, and takes no memory.
 //! Stands on `shelf_io`, `ts_packets`, `psi_tables` and `pes_units`.
 #![tactic(auto)]
@@ -31,3 +33,4 @@ pub use map_pass::read_map;
 pub use packet_buffer::PacketBuffer;
 pub use pass_fault::PassFault;
 pub use payloads::Payloads;
+pub use table_walk::TableWalk;

@@ -1,7 +1,8 @@
 ghost use Rattle.std.specs.Prelude.{◌≡◌, ◌<◌, ℕ, List, [], length, IfSome};
 ghost use Rattle.ts_packets.specs.TransportStream.{Piece};
 ghost use Rattle.psi_tables.specs.Sections.{Found, sections_of};
-ghost use Rattle.ts_demux.specs.Private.SectionReader.{Waits, TakesPiece, ReadsNext};
+ghost use Rattle.ts_demux.specs.SectionReader.{Waits};
+ghost use Rattle.ts_demux.specs.Private.SectionReader.{TakesPiece, ReadsNext};
 
 use psi_tables::{Section, SectionBuilder, SectionFault, laws};
 use stream_constants::packets::PACKET_BYTES;

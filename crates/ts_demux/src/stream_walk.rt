@@ -7,7 +7,8 @@ ghost use Rattle.ts_demux.specs.CarriedPackets.{AreDistinct};
 ghost use Rattle.ts_demux.specs.Pass.{IsEarly, IsWhole, OnRefused};
 ghost use Rattle.ts_demux.specs.Demux.{IsFirstStreamFault};
 ghost use Rattle.ts_demux.specs.Private.PesGatherer.{AllGather, gatherer_pids};
-ghost use Rattle.ts_demux.specs.Private.StreamWalk.{AreGathered, IsMemory};
+ghost use Rattle.ts_demux.specs.Private.StreamWalk.{AreGathered};
+ghost use Rattle.ts_demux.specs.Faults.{IsMemory};
 
 use crate::carried_packets::CarriedPackets;
 use crate::demux_fault::DemuxFault;

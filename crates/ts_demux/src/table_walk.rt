@@ -5,7 +5,8 @@ ghost use Rattle.ts_packets.specs.TransportStream.{piece_at, piece_count, is_of_
 ghost use Rattle.psi_tables.specs.Sections.{sections_of};
 ghost use Rattle.ts_demux.specs.declared.table_walk.Reading.TheVariants.{GoesOn};
 ghost use Rattle.ts_demux.specs.Tables.{HasMap, IsTablesFault};
-ghost use Rattle.ts_demux.specs.Private.TableWalk.{StandsBefore, IsBetween, IsInPat, IsInMap, IsOnMapPid, Reads, Ends, ReadsPat, ReadsMap, missing_of, is_on_pat_pid, is_map_on};
+ghost use Rattle.ts_demux.specs.TableWalk.{StandsBefore, IsBetween, Ends, missing_of};
+ghost use Rattle.ts_demux.specs.Private.TableWalk.{IsInPat, IsInMap, IsOnMapPid, Reads, ReadsPat, ReadsMap, is_on_pat_pid, is_map_on};
 
 use crate::demux_fault::{DemuxFault, pid_refused, section_refused};
 use crate::file_packets::{packet_at, place_of};

@@ -8,6 +8,8 @@ mod files;
 #[cfg(test)]
 mod packet_tests;
 #[cfg(test)]
+mod pass_tests;
+#[cfg(test)]
 mod payload_tests;
 #[cfg(test)]
 mod sections;

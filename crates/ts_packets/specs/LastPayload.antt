@@ -1,5 +1,5 @@
 -- What is kept of the last packet with payload of a PID (ISO/IEC 13818-1, 2.4.3.3).
-use Rattle.std.specs.Prelude.{ℕ, nat_lt, List, take, Option, Some, None, if◌then◌else◌}
+use Rattle.std.specs.Prelude.{ℕ, List}
 use Rattle.ts_packets.specs.Packet.{PacketRecord}
 
 -- counter and payload of a packet, by which the next one with payload is judged
@@ -10,7 +10,3 @@ pub record Numbered : Type 0 where
 -- those of a packet
 abbrev pub numbered : PacketRecord → Numbered
 numbered packet = record { counter = packet.counter; payload = packet.payload }
-
--- what fields hold: the front of the bytes, or nothing where its length is 0
-abbrev pub last_kept : ℕ → ℕ → List ℕ → Option Numbered
-last_kept counter count bytes = if nat_lt 0 count then Some (record { counter = counter; payload = take count bytes }) else None

@@ -1,2 +1,3 @@
+pub mod LastPayload
 pub mod Packet
 pub mod PidReader

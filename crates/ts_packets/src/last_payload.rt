@@ -24,7 +24,8 @@ pub struct LastPayload {
 
 impl Model for LastPayload {
     ghost use Rattle.std.specs.Prelude.{Option, ◌≤◌};
-    ghost use Rattle.ts_packets.specs.LastPayload.{Numbered, last_kept};
+    ghost use Rattle.ts_packets.specs.LastPayload.{Numbered};
+    ghost use Rattle.ts_packets.specs.Private.LastPayload.{last_kept};
 
     ghost Value = { Option Numbered };
 

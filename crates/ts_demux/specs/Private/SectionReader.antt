@@ -1,22 +1,15 @@
--- Where a reader of the sections of a PID stands.
+-- What a reader of the sections of a PID does.
 use Rattle.std.specs.Prelude.{◌≡◌, ℕ, List, [], ◌∷◌, ◌++◌, length, drop, Option, Some, None, Result, Ok, Err}
 use Rattle.arrayvec.specs.ArrayVec.{ArrayVec}
 use Rattle.ts_packets.specs.declared.pid_fault.PidFault.{PidFault}
 use Rattle.ts_packets.specs.TransportStream.{Piece}
 use Rattle.ts_packets.specs.Carried.{pid_fault}
-use Rattle.ts_packets.specs.PidReader.{IsBehind}
 use Rattle.psi_tables.specs.declared.section.SectionFault.{SectionFault}
-use Rattle.psi_tables.specs.Sections.{Found, sections_of, GivesInTurn}
+use Rattle.psi_tables.specs.Sections.{Found}
 use Rattle.psi_tables.specs.SectionBuilder.{found_of}
 use Rattle.ts_demux.specs.declared.section_reader.SectionReader.{SectionReader}
-use Rattle.ts_demux.specs.Tables.{payloads_in, sections_in}
-
--- the reader has taken these pieces, and of their sections the last ones wait to be read
-pub record Waits (before : List Piece) (waiting : List Found) (reader : SectionReader) : Type 0 where
-  pub packets : IsBehind before reader.packets
-  pub given : List Found
-  pub in_turn : GivesInTurn (payloads_in before) given reader.builder
-  pub waiting_is : sections_of reader.builder ≡ waiting
+use Rattle.ts_demux.specs.Tables.{sections_in}
+use Rattle.ts_demux.specs.SectionReader.{Waits}
 
 -- what a piece adds to the sections in those before it
 abbrev pub added_by : List Piece → Piece → List Found

@@ -1,68 +1,21 @@
 -- Where a walk over the packets of a file stands that reads the tables of a program.
-use Rattle.std.specs.Prelude.{◌≡◌, ◌≢◌, ℕ, ◌+◌, ◌<◌, ◌≤◌, ◌==◌, Bool, true, false, List, [], drop, Option, Some, None, Result, Ok, Err, if◌then◌else◌}
-use Rattle.ts_packets.specs.TransportStream.{piece_at, piece_count, is_of_pid, pid_pieces}
+use Rattle.std.specs.Prelude.{◌≡◌, ◌≢◌, ℕ, ◌+◌, ◌<◌, ◌≤◌, ◌==◌, Bool, true, false, List, [], drop, Result, Ok, Err, if◌then◌else◌}
+use Rattle.ts_packets.specs.TransportStream.{piece_count, is_of_pid, pid_pieces}
 use Rattle.psi_tables.specs.declared.program_map.ProgramMap.{ProgramMap}
 use Rattle.psi_tables.specs.Sections.{Found}
 use Rattle.psi_tables.specs.declared.section.SectionFault.{SectionFault}
 use Rattle.psi_tables.specs.Section.{IsCurrent}
 use Rattle.ts_demux.specs.declared.demux_fault.DemuxFault.{DemuxFault}
-use Rattle.ts_demux.specs.declared.demux_fault.DemuxFault.TheVariants.{ShortFile, NoPat, NoProgram, NoPmt}
+use Rattle.ts_demux.specs.declared.demux_fault.DemuxFault.TheVariants.{ShortFile}
 use Rattle.ts_demux.specs.Faults.{of_section}
-use Rattle.ts_demux.specs.declared.section_reader.SectionReader.{SectionReader}
 use Rattle.ts_demux.specs.declared.table_walk.Known.{Known}
 use Rattle.ts_demux.specs.declared.table_walk.Known.TheVariants.{Nothing, OtherPrograms, MapOn}
 use Rattle.ts_demux.specs.declared.table_walk.Reading.{Reading}
 use Rattle.ts_demux.specs.declared.table_walk.Reading.TheVariants.{AllRead, GoesOn, Map}
 use Rattle.ts_demux.specs.declared.table_walk.TableWalk.{TableWalk}
-use Rattle.ts_demux.specs.Tables.{pat_pid, IsBefore, IsSection, Names, TakesPat, HasPat, IsPatSection, IsBadPat, IsBadPmt, IsMapOf, Stop, refuse, take, StopsAt, StopsFirst, sections_at}
-use Rattle.ts_demux.specs.Private.SectionReader.{Waits}
-
--- nothing ends the reading of the tables before a place
-abbrev pub IsQuiet : List ℕ → ℕ → ℕ → ℕ → Type 0
-IsQuiet file program packet rank = (n other : ℕ) (stop : Stop) → IsBefore n other packet rank → StopsAt file program n other stop → ⊥
-
--- no section of PID 0 before a place names the program; the k-th section of a packet has rank k + 1
-abbrev pub IsUnnamed : List ℕ → ℕ → ℕ → ℕ → Type 0
-IsUnnamed file program packet rank = (n k pid : ℕ) (found : Found) → IsBefore n (k + 1) packet rank → IsSection file pat_pid 0 n k found → Names program found pid → ⊥
-
--- no current PAT section is before a place
-abbrev pub IsWithoutPat : List ℕ → ℕ → ℕ → Type 0
-IsWithoutPat file packet rank = (n k : ℕ) (found : Found) → IsBefore n (k + 1) packet rank → IsSection file pat_pid 0 n k found → IsPatSection found → ⊥
-
--- the PAT section that is taken stands before a place, and says this PID; packets count from the one behind it
-pub record IsNamed (file : List ℕ) (program packet rank pid from : ℕ) : Type 0 where
-  pub at : ℕ
-  pub index : ℕ
-  pub takes : TakesPat file program at index pid
-  pub before : IsBefore at (index + 1) packet rank
-  pub from_is : from ≡ at + 1
-  pub only : (n k other : ℕ) → TakesPat file program n k other → (n ≡ at) × (k ≡ index) × (other ≡ pid)
-
--- what is known before a place
-abbrev pub IsKnown : List ℕ → ℕ → ℕ → ℕ → Known → Type 0
-IsKnown file program packet rank Nothing = IsUnnamed file program packet rank × IsWithoutPat file packet rank
-IsKnown file program packet rank OtherPrograms = IsUnnamed file program packet rank × HasPat file
-IsKnown file program packet rank (MapOn pid from) = IsNamed file program packet rank pid from
-
--- where the reader of the PMT's PID stands, before a packet; it isn't used before the PID is known, nor where that is PID 0
-abbrev pub IsMapReader : List ℕ → ℕ → Known → SectionReader → Type 0
-IsMapReader file packet Nothing reader = Waits [] [] reader
-IsMapReader file packet OtherPrograms reader = Waits [] [] reader
-IsMapReader file packet (MapOn pid from) reader = pid ≢ pat_pid → (from ≤ packet) × Waits (pid_pieces file pid from packet) [] reader
-
--- a walk stands before a packet
-pub record IsBetween (file : List ℕ) (packet : ℕ) (walk : TableWalk) : Type 0 where
-  pub quiet : IsQuiet file walk.program packet 0
-  pub known : IsKnown file walk.program packet 0 walk.known
-  pub pat : Waits (pid_pieces file pat_pid 0 packet) [] walk.pat
-  pub map : IsMapReader file packet walk.known walk.map
-
--- a walk stands before the n-th packet of some file, which has these bytes
-pub record StandsBefore (n : ℕ) (bytes : List ℕ) (walk : TableWalk) : Type 0 where
-  pub file : List ℕ
-  pub within : n < piece_count file
-  pub bytes_are : bytes ≡ piece_at file n
-  pub between : IsBetween file n walk
+use Rattle.ts_demux.specs.Tables.{pat_pid, Names, IsBadPat, IsBadPmt, IsMapOf, refuse, take, StopsFirst, sections_at}
+use Rattle.ts_demux.specs.SectionReader.{Waits}
+use Rattle.ts_demux.specs.TableWalk.{IsQuiet, IsNamed, IsKnown, IsMapReader, missing_of}
 
 -- the sections of a packet of PID 0 are read, the first ones done
 pub record IsInPat (file : List ℕ) (packet : ℕ) (walk : TableWalk) : Type 0 where
@@ -100,12 +53,6 @@ Reads file program (Ok GoesOn) on behind = on
 Reads file program (Ok (Map map)) on behind = StopsFirst file program (take map)
 Reads file program (Err fault) on behind = StopsFirst file program (refuse fault)
 
--- what comes of a packet, behind which a walk stands as `on` says
-abbrev pub Ends : List ℕ → ℕ → Result (Option ProgramMap) DemuxFault → Type 0 → Type 0
-Ends file program (Ok None) on = on
-Ends file program (Ok (Some map)) on = StopsFirst file program (take map)
-Ends file program (Err fault) on = StopsFirst file program (refuse fault)
-
 -- the n-th packet is of the PMT's PID, which isn't PID 0
 abbrev pub IsOnMapPid : List ℕ → ℕ → Known → Type 0
 IsOnMapPid file packet Nothing = ⊥
@@ -123,12 +70,6 @@ abbrev pub is_map_on : Known → ℕ → Bool
 is_map_on Nothing other = false
 is_map_on OtherPrograms other = false
 is_map_on (MapOn pid from) other = other == pid
-
--- why no PMT section was taken
-abbrev pub missing_of : Known → DemuxFault
-missing_of Nothing = NoPat 0
-missing_of OtherPrograms = NoProgram 0
-missing_of (MapOn pid from) = NoPmt 0
 
 -- why there is no map behind so many packets, which are all
 abbrev pub missing_behind : ℕ → Known → DemuxFault

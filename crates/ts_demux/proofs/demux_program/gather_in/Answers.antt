@@ -3,7 +3,8 @@ use Rattle.psi_tables.specs.declared.stream.Stream.{Stream}
 use Rattle.ts_demux.specs.declared.demux_fault.DemuxFault.{DemuxFault}
 use Rattle.ts_demux.specs.Demux.{IsFirstStreamFault}
 use Rattle.ts_demux.specs.Pass.{IsEarly}
-use Rattle.ts_demux.specs.Private.StreamWalk.{AreGathered, IsGatherFault, IsMemory}
+use Rattle.ts_demux.specs.Private.StreamWalk.{AreGathered, IsGatherFault}
+use Rattle.ts_demux.specs.Faults.{IsMemory}
 use Rattle.ts_demux.proofs.PassSteps.{told_whole, told_early, on_refused}
 use Rattle.ts_demux.proofs.demux_program.gather_in.Goals as goal
 

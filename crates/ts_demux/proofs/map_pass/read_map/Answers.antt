@@ -1,7 +1,7 @@
 use Rattle.std.proofs.Common.{◌≡◌, ◌<◌, ◌+◌, ◌∙◌, ◌++◌, [], ℕ, List, inl, inr, Ok, Err, length, take, refl, sym, ap, subst, arith, length-drop, length-take-le}
 use Rattle.ts_demux.specs.PacketBuffer.{Passes}
 use Rattle.ts_demux.specs.Tables.{HasMap, StopsFirst, refuse}
-use Rattle.ts_demux.specs.Private.TableWalk.{IsBetween}
+use Rattle.ts_demux.specs.TableWalk.{IsBetween}
 use Rattle.ts_demux.proofs.Passing.{passes_none}
 use Rattle.ts_demux.proofs.PassSteps.{passes_filled, passes_packet, passes_size, next_count}
 use Rattle.ts_demux.proofs.MapSteps.{tables_stop, stands, ends_every, ends_on, ends_map, long_behind, front_missing}

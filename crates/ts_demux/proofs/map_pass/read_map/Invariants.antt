@@ -1,6 +1,6 @@
 use Rattle.std.proofs.Common.{◌≡◌, ◌+◌, ◌*◌, ◌≤◌, [], ◌++◌, ℕ, List, length}
 use Rattle.ts_demux.specs.PacketBuffer.{Passes}
-use Rattle.ts_demux.specs.Private.TableWalk.{IsBetween}
+use Rattle.ts_demux.specs.TableWalk.{IsBetween}
 use Rattle.ts_demux.proofs.map_pass.read_map.Given as goal
 
 abbrev pub invariant-loop-fault : goal.invariant-loop-fault

@@ -1,5 +1,5 @@
 use Rattle.std.proofs.Common.{ℕ, subst, sym, refl}
-use Rattle.ts_demux.specs.Private.TableWalk.{missing_of}
+use Rattle.ts_demux.specs.TableWalk.{missing_of}
 use Rattle.ts_demux.specs.Tables.{IsTablesFault}
 use Rattle.ts_demux.proofs.WalkSteps.{ends_missing}
 use Rattle.ts_demux.proofs.table_walk.read_map.Goals as goal

@@ -1,6 +1,6 @@
 use Rattle.std.proofs.Common.{◌≡◌, ◌-◌}
 use Rattle.ts_packets.specs.TransportStream.{piece_count}
-use Rattle.ts_demux.specs.Private.TableWalk.{IsBetween}
+use Rattle.ts_demux.specs.TableWalk.{IsBetween}
 use Rattle.ts_demux.proofs.table_walk.read_map.Given as goal
 
 abbrev pub invariant-loop-bytes : goal.invariant-loop-bytes
